@@ -1,0 +1,51 @@
+//! Reading everything, and writing everything.
+
+ghost use Rattle.std.specs.Prelude.{◌<◌, ◌^◌, length};
+ghost use Rattle.gs_io.specs.Moves.{ReadsAll, WritesAll};
+
+use crate::{ReadStop, Sink, Source, WriteStop};
+use std::alloc::Global;
+
+// how many bytes one read asks for
+const PIECE: usize = 8192;
+
+/// All the bytes that are left, of which there may be `limit`.
+///
+/// At `Fault` and at `TooLong` the source has given a prefix of its bytes, which is dropped: at
+/// `TooLong` just one byte more than the limit, whatever is left behind it.
+pub fn read_all<S: Source>(alloc: Global, source: &mut S, limit: u64) -> Result<Vec<u8>, ReadStop>
+    requires { limit < 2 ^ 32 }
+    ensures { ReadsAll (λ v. v.items) limit (S.left source.old) (S.left source.new) (S.faults source.old) (S.faults source.new) result }
+{
+    let most = limit as usize + 1;
+    let mut bytes = Vec::new(alloc);
+    let mut piece = [0; PIECE];
+    while bytes.len() < most {
+        let room = (most - bytes.len()).min(PIECE);
+        let into = &mut piece[..room];
+        match source.take(into) {
+            Ok(0) => return Ok(bytes),
+            Ok(count) => {
+                if bytes.extend_from_slice(&into[..count]).is_err() {
+                    return Err(ReadStop::Memory);
+                }
+            }
+            Err(_) => return Err(ReadStop::Fault),
+        }
+    }
+    Err(ReadStop::TooLong)
+}
+
+/// Gives all the bytes. At `Fault` just the first `written` of them went out.
+pub fn write_all<K: Sink>(sink: &mut K, bytes: &[u8]) -> Result<(), WriteStop>
+    ensures { WritesAll bytes.now (K.given sink.old) (K.given sink.new) (K.faults sink.old) (K.faults sink.new) result }
+{
+    let mut written = 0;
+    while written < bytes.len() {
+        match sink.give(&bytes[written..]) {
+            Ok(count) => written += count,
+            Err(_) => return Err(WriteStop::Fault { written }),
+        }
+    }
+    Ok(())
+}
