@@ -1,0 +1,7 @@
+pub mod DeckLaws
+pub mod GroupLaws
+pub mod GroupOrder
+pub mod KindLaws
+pub mod Letters
+pub mod Ranges
+pub mod TakenCards

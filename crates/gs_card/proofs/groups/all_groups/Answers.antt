@@ -1,0 +1,5 @@
+use Rattle.gs_model.proofs.GroupSteps.{map_none}
+use Rattle.gs_card.proofs.groups.all_groups.Goals as goal
+
+pub returns : goal.returns
+returns c = rw (c.in_ok-push_groups.ensures.found, c.new-out.ensures.items, c.in_ok-front.ensures.items, c.in_ok-rest.ensures.items) (map_none _)

@@ -1,0 +1,5 @@
+pub mod DeckFaults
+pub mod Decks
+pub mod Groups
+pub mod Kinds
+pub mod Rankings

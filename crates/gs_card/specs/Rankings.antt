@@ -1,0 +1,10 @@
+-- The rankings of hands, as the words on games have them.
+use Rattle.gs_model.specs.Game.{Ranking as GameRanking, High as by_high, Pair as by_pair, Three as by_three}
+use Rattle.gs_card.specs.declared.rankings.Ranking.{Ranking}
+use Rattle.gs_card.specs.declared.rankings.Ranking.TheVariants.{High, Pair, Three}
+
+-- the ranking that a value of the program names
+abbrev pub ranking_of : Ranking → GameRanking
+ranking_of High = by_high
+ranking_of Pair = by_pair
+ranking_of Three = by_three

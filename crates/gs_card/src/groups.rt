@@ -1,0 +1,90 @@
+ghost use Rattle.std.specs.Prelude.{◌≡◌, ◌≤◌, ◌++◌, All, IfOk, OnOk, length, map, vec_len};
+ghost use Rattle.std.specs.List.Sorted.{IsNonDecreasing};
+ghost use Rattle.gs_model.specs.Cards.{groups, groups_above};
+
+use crate::cards::Card;
+use std::alloc::{AllocError, Global};
+use std::marker::Model;
+
+/// A group of cards, in ascending order. A card stands in it as often as the group has copies of it.
+#[derive(Drop, Debug)]
+pub struct Group {
+    cards: Vec<Card>,
+}
+
+impl Model for Group {
+    ghost use Rattle.std.specs.Prelude.{ℕ, List};
+    ghost use Rattle.std.specs.List.Sorted.{IsNonDecreasing};
+
+    ghost Value = { List ℕ };
+
+    ghost view = { λ g. g.cards.items };
+
+    ghost invariant = { λ g. IsNonDecreasing g.cards.items };
+}
+
+impl Group {
+    /// The group of some cards in ascending order.
+    pub fn of(alloc: Global, cards: &[Card]) -> Result<Group, AllocError>
+        requires { IsNonDecreasing cards.now }
+        ensures { IfOk result (λ group. group ≡ cards.now) }
+    {
+        let cards = Vec::from_slice(alloc, cards)?;
+        Ok(Group { cards })
+    }
+
+    /// The cards, in ascending order.
+    pub fn cards(&self) -> &[Card]
+        ensures cards { result.now ≡ self.now }
+        ensures ascending { IsNonDecreasing self.now }
+    {
+        self.cards.as_slice()
+    }
+}
+
+/// Adds to `out` the cards of `front` followed by each group of `size` cards of the kinds from `least` on that `left` allows, in order.
+fn push_groups(
+    alloc: Global,
+    left: &mut Vec<u8>,
+    least: usize,
+    size: u8,
+    front: &mut Vec<Card>,
+    out: &mut Vec<Group>,
+) -> Result<(), AllocError>
+    requires few { vec_len left.old ≤ 52 }
+    requires within { least ≤ vec_len left.old }
+    requires ascending { IsNonDecreasing front.old.items }
+    requires below { All (λ card. card ≤ least) front.old.items }
+    ensures found { OnOk result (out.new.items ≡ out.old.items ++ map (λ g. front.old.items ++ g) (groups_above size left.old.items least)) }
+    ensures kept { OnOk result (front.new.items ≡ front.old.items) }
+    ensures left_kept { OnOk result (left.new.items ≡ left.old.items) }
+    ensures same_len { vec_len left.new ≡ vec_len left.old }
+{
+    if size == 0 {
+        let group = Group::of(alloc, front)?;
+        out.push(group)?;
+        return Ok(());
+    }
+    for card in least..left.len() {
+        if left[card] > 0 {
+            left[card] -= 1;
+            front.push(Card::new(card as u8))?;
+            push_groups(alloc, left, card, size - 1, front, out)?;
+            front.pop();
+            left[card] += 1;
+        }
+    }
+    Ok(())
+}
+
+/// All groups of `size` cards that `left` allows, in order.
+pub(crate) fn all_groups(alloc: Global, left: &[u8], size: u8) -> Result<Vec<Group>, AllocError>
+    requires { length left.now ≤ 52 }
+    ensures { IfOk result (λ found. found.items ≡ groups left.now size) }
+{
+    let mut out = Vec::new(alloc);
+    let mut front = Vec::with_capacity(alloc, usize::from(size))?;
+    let mut rest = Vec::from_slice(alloc, left)?;
+    push_groups(alloc, &mut rest, 0, size, &mut front, &mut out)?;
+    Ok(out)
+}

@@ -1,0 +1,33 @@
+//! Cards, groups of cards and decks: the kinds of cards that a game is played with, how many copies of each there are, all groups of a size and
+//! the ways of taking one.
+//!
+//! A card is the number of its kind. Kinds are numbered from 0, rank by rank and within a rank by suit.
+#![tactic(auto)]
+
+ghost use Rattle.gs_card.specs.Groups.{GroupsAreAll, GroupsAscend};
+
+mod cards;
+mod counting;
+mod decks;
+mod faults;
+mod groups;
+mod rankings;
+#[cfg(test)]
+mod tests;
+
+pub use cards::{Card, Cards};
+pub use counting::ways;
+pub use decks::Deck;
+pub use faults::DeckFault;
+pub use groups::Group;
+pub use rankings::Ranking;
+
+/// Exactly the groups of the size that the copies allow are listed.
+pub fn groups_are_all()
+    ensures { GroupsAreAll }
+{}
+
+/// The list of groups ascends strictly, so each group stands in it once.
+pub fn groups_ascend()
+    ensures { GroupsAscend }
+{}
