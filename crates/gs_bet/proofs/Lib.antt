@@ -1,0 +1,13 @@
+pub mod Steps
+pub mod TreeLaws
+pub mod ReadingLaws
+pub mod ReadsAsCut
+pub mod CutText
+pub mod Letters
+pub mod Runs
+pub mod Whole
+pub mod Parsing
+pub mod Printing
+pub mod LimitLaws
+pub mod Players
+pub mod Worked

@@ -1,0 +1,24 @@
+use Rattle.std.proofs.Common.{◌≡◌, ℕ, List, [], ◌∷◌, refl, ◌∙◌, ap, map}
+use Rattle.std.specs.Global.{Vec}
+use Rattle.gs_bet.specs.declared.shape.Tree.{fold_out-Tree}
+use Rattle.gs_bet.specs.declared.shape.Tree.TheVariants.{Act, Fold, outs-Act, outs-Fold}
+use Rattle.gs_bet.specs.declared.shape.Act.{Act as Choice, fold_out-Act, fold-roll-Act, roll-Act, out-Act}
+use Rattle.gs_bet.specs.declared.shape.Move.{Move, fold-Move, fold_out-Move}
+use Rattle.gs_model.specs.Betting.{Bet, act, fold}
+use Rattle.gs_bet.specs.TreeView.{plain, plain_act, plain_moves, moves_of, tree_step, act_step, move_step, PlainMove}
+
+pub plain-act : (a : Choice) → plain (Act a) ≡ plain_act a
+plain-act a = fold_out-Tree Bet Bet PlainMove tree_step act_step move_step (Act a) ∙ rw (outs-Act a) refl
+
+pub plain-fold : plain Fold ≡ fold
+plain-fold = fold_out-Tree Bet Bet PlainMove tree_step act_step move_step Fold ∙ rw outs-Fold refl
+
+same_moves : (ms : List Move) → moves_of (map (fold-Move Bet Bet PlainMove tree_step act_step move_step) ms) ≡ plain_moves ms
+same_moves [] = refl
+same_moves (m ∷ ms) = cc (fold_out-Move Bet Bet PlainMove tree_step act_step move_step m, same_moves ms)
+
+pub plain_act-out : (a : Choice) → plain_act a ≡ act (out-Act a).player (plain_moves (out-Act a).moves.items)
+plain_act-out a = fold_out-Act Bet Bet PlainMove tree_step act_step move_step a ∙ ap (act (out-Act a).player) (same_moves (out-Act a).moves.items)
+
+pub plain-made : (p : ℕ) (ms : Vec Move) → plain (Act (roll-Act record { player = p; moves = ms })) ≡ act p (plain_moves ms.items)
+plain-made p ms = plain-act (roll-Act record { player = p; moves = ms }) ∙ fold-roll-Act Bet Bet PlainMove tree_step act_step move_step record { player = p; moves = ms } ∙ ap (act p) (same_moves ms.items)

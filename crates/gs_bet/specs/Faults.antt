@@ -1,0 +1,45 @@
+-- Which fault a text has.
+use Rattle.std.specs.Prelude.{ℕ, ◌≡◌, List, take, slice_get, Option, Some, Result, Ok, Err, ◌&&◌, ◌||◌, ◌==◌, if◌then◌else◌, length}
+use Rattle.gs_bet.specs.declared.fault.Mistake.{Mistake}
+use Rattle.gs_bet.specs.declared.fault.Mistake.TheVariants.{RepeatedLetter, TooDeep, Syntax}
+use Rattle.gs_bet.specs.declared.fault.TreeFault.{TreeFault}
+use Rattle.gs_bet.specs.declared.fault.TreeFault.TheVariants as faults
+use Rattle.gs_bet.specs.declared.shape.BetTree.{BetTree}
+use Rattle.gs_bet.specs.TreeView.{plain}
+use Rattle.gs_model.specs.Betting.{Bet}
+use Rattle.gs_bet.specs.MoveLists.{has_letter}
+use Rattle.gs_bet.specs.Grammar.{IsLongest, is_letter}
+use Rattle.gs_bet.specs.Cuts.{Cut, at_tree, at_letter, cut_text, IsCut}
+
+-- what is wrong with a byte that cannot stand at a place, or with the end of the text there
+abbrev pub mistake_at : Cut → Option ℕ → Mistake
+mistake_at (at_letter player moves outer) (Some b) = if is_letter b && has_letter moves b then RepeatedLetter else Syntax
+mistake_at (at_tree outer) (Some b) = if (b == 49 || b == 50) && length outer == 16 then TooDeep else Syntax
+mistake_at _ _ = Syntax
+
+-- the longest prefix that begins a tree's text, and what stands behind it
+pub record IsMistake (text : List ℕ) (at : ℕ) (m : Mistake) : Type 0 where
+  pub longest : IsLongest text at
+  pub place : Cut
+  pub is : IsCut place
+  pub reached : cut_text place ≡ take at text
+  pub mistake : m ≡ mistake_at place (slice_get text at)
+
+abbrev pub IsFaultOf : List ℕ → TreeFault → Type 0
+IsFaultOf text (faults.RepeatedLetter at) = IsMistake text at RepeatedLetter
+IsFaultOf text (faults.TooDeep at) = IsMistake text at TooDeep
+IsFaultOf text (faults.Syntax at) = IsMistake text at Syntax
+IsFaultOf text faults.Memory = Unit {0}
+
+abbrev pub fault_of : Mistake → ℕ → TreeFault
+fault_of RepeatedLetter at = faults.RepeatedLetter at
+fault_of TooDeep at = faults.TooDeep at
+fault_of Syntax at = faults.Syntax at
+
+-- the tree, unless memory ran out
+abbrev pub ReadsAs : Result BetTree TreeFault → Bet → Type 0
+ReadsAs (Ok tree) t = plain tree.tree ≡ t
+ReadsAs (Err faults.Memory) t = Unit {0}
+ReadsAs (Err (faults.RepeatedLetter at)) t = ⊥
+ReadsAs (Err (faults.TooDeep at)) t = ⊥
+ReadsAs (Err (faults.Syntax at)) t = ⊥

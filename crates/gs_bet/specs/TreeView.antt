@@ -1,0 +1,38 @@
+use Rattle.std.specs.Prelude.{ℕ, List, [], ◌∷◌}
+use Rattle.gs_bet.specs.declared.shape.Tree.{Tree, Tree-F, fold-Tree}
+use Rattle.gs_bet.specs.declared.shape.Tree.TheOpen.{Act, Fold, Even}
+use Rattle.gs_bet.specs.declared.shape.Act.{Act as Choice, Act-F, fold-Act}
+use Rattle.gs_bet.specs.declared.shape.Move.{Move, Move-F}
+use Rattle.gs_model.specs.Betting.{Bet, Moves, act, fold, even, none, move}
+
+pub record PlainMove : Type 0 where
+  pub letter : ℕ
+  pub chips : ℕ
+  pub next : Bet
+
+abbrev pub moves_of : List PlainMove → Moves
+moves_of [] = none
+moves_of (m ∷ ms) = move m.letter m.chips m.next (moves_of ms)
+
+abbrev pub tree_step : Tree-F Bet Bet PlainMove → Bet
+tree_step (Act a) = a
+tree_step Fold = fold
+tree_step Even = even
+
+abbrev pub act_step : Act-F Bet Bet PlainMove → Bet
+act_step a = act a.player (moves_of a.moves.items)
+
+abbrev pub move_step : Move-F Bet Bet PlainMove → PlainMove
+move_step m = record { letter = m.letter; chips = m.chips; next = m.next }
+
+-- a tree of the program, as the definitions see it
+abbrev pub plain : Tree → Bet
+plain = fold-Tree Bet Bet PlainMove tree_step act_step move_step
+
+abbrev pub plain_act : Choice → Bet
+plain_act = fold-Act Bet Bet PlainMove tree_step act_step move_step
+
+-- moves of the program
+abbrev pub plain_moves : List Move → Moves
+plain_moves [] = none
+plain_moves (m ∷ ms) = move m.letter m.chips (plain m.next) (plain_moves ms)
