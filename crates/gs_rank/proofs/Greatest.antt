@@ -1,0 +1,186 @@
+-- The category of three cards is the greatest that applies.
+use Rattle.std.proofs.Common.{◌≡◌, ◌≢◌, ℕ, ◌+◌, ◌-◌, ◌*◌, ◌/◌, ◌<◌, ◌≤◌, max, min, refl, arith, Bool, true, false, cond, ⊎_elim, inl, inr}
+use Rattle.std.specs.Prelude.{◌==◌, ◌&&◌, ◌⊎◌}
+use Rattle.std.proofs.lemmas.Bool.{eqb-true, eq-eqb, and_parts, and_from, cases_eq}
+use Rattle.gs_model.specs.Game.{Three}
+use Rattle.gs_model.specs.Outcome.{rank_of, suit_of, three_strength, category}
+use Rattle.gs_rank.specs.ThreeCards.{Cards, Category, HighCard, OnePair, Flush, Straight, ThreeOfAKind, StraightFlush, number, Applies, IsPair, IsFlush, IsStraight, IsThreeOfAKind, IsGreatest}
+
+-- the category by the tests: straight, flush, three of a kind, a high pair, a low pair
+abbrev chosen : Bool → Bool → Bool → Bool → Bool → ℕ
+chosen s f e p q = cond (s && f) 5 (cond e 4 (cond s 3 (cond f 2 (cond p 1 (cond q 1 0)))))
+
+chosen_is : (high middle low : ℕ) (s f e p q : Bool) → high < 64 → middle < 64 → low < 64 →
+    cond (s && f) (5 * 262144 + high * 4096) (cond e (4 * 262144 + high * 4096) (cond s (3 * 262144 + high * 4096) (cond f (2 * 262144 + high * 4096 + middle * 64 + low) (cond p (262144 + high * 4096 + low * 64) (cond q (262144 + middle * 4096 + high * 64) (high * 4096 + middle * 64 + low)))))) / 262144 ≡ chosen s f e p q
+chosen_is h m l true true e p q a b c = omega arith
+chosen_is h m l true false true p q a b c = omega arith
+chosen_is h m l true false false p q a b c = omega arith
+chosen_is h m l false f true p q a b c = omega arith
+chosen_is h m l false true false p q a b c = omega arith
+chosen_is h m l false false false true q a b c = omega arith
+chosen_is h m l false false false false true a b c = omega arith
+chosen_is h m l false false false false false a b c = omega arith
+
+-- the ranks in order
+record InOrder (x y z high middle low : ℕ) : Type 0 where
+  top : high ≡ max x (max y z)
+  bottom : low ≡ min x (min y z)
+  between : middle ≡ x + y + z - high - low
+
+either : (a b c d e f : ℕ) → ((a ≡ d → ⊥) → (b ≡ e → ⊥) → (c ≡ f → ⊥) → ⊥) → (a ≡ d) ⊎ (b ≡ e) ⊎ (c ≡ f)
+either a b c d e f k = ⊎_elim inl (λ p. ⊎_elim (λ x. inr (inl x)) (λ q. ⊎_elim (λ x. inr (inr x)) (λ r. absurd (k p q r)) (cases_eq c f)) (cases_eq b e)) (cases_eq a d)
+
+-- some rank of three is this one
+abbrev Some : ℕ → ℕ → ℕ → ℕ → Type 0
+Some x y z rank = (x ≡ rank) ⊎ (y ≡ rank) ⊎ (z ≡ rank)
+
+straight_ranks : (x y z : ℕ) (h m l : ℕ) → InOrder x y z h m l → h ≡ m + 1 → m ≡ l + 1 → Some x y z l × Some x y z (l + 1) × Some x y z (l + 2)
+straight_ranks x y z h m l o e f = (
+  either x y z l l l (λ (p : x ≢ l) (q : y ≢ l) (r : z ≢ l). absurd (omega arith)),
+  either x y z (l + 1) (l + 1) (l + 1) (λ (p : x ≢ l + 1) (q : y ≢ l + 1) (r : z ≢ l + 1). absurd (omega arith)),
+  either x y z (l + 2) (l + 2) (l + 2) (λ (p : x ≢ l + 2) (q : y ≢ l + 2) (r : z ≢ l + 2). absurd (omega arith)),
+)
+
+ranks_straight : (x y z : ℕ) (h m l low : ℕ) → InOrder x y z h m l → Some x y z low → Some x y z (low + 1) → Some x y z (low + 2) → (h ≡ m + 1) × (m ≡ l + 1)
+ranks_straight x y z h m l low o a b c = (grind (arith, o.top, o.bottom, o.between, a, b, c), grind (arith, o.top, o.bottom, o.between, a, b, c))
+
+some_pair : (x y z : ℕ) (h m l : ℕ) → InOrder x y z h m l → (h ≡ m) ⊎ (m ≡ l) → (x ≡ y) ⊎ (y ≡ z) ⊎ (x ≡ z)
+some_pair x y z h m l o e = either x y x y z z (λ (p : x ≢ y) (q : y ≢ z) (r : x ≢ z). ⊎_elim (λ (k : h ≡ m). absurd (omega arith)) (λ (k : m ≡ l). absurd (omega arith)) e)
+
+pair_some : (x y z : ℕ) (h m l : ℕ) → InOrder x y z h m l → (x ≡ y) ⊎ (y ≡ z) ⊎ (x ≡ z) → (h ≡ m) ⊎ (m ≡ l)
+pair_some x y z h m l o e =
+    ⊎_elim inl
+    (λ (p : h ≢ m). ⊎_elim inr (λ (q : m ≢ l). absurd (grind (arith, o.top, o.bottom, o.between, e, p, q))) (cases_eq m l))
+    (cases_eq h m)
+
+all_same : (x y z : ℕ) (h m l : ℕ) → InOrder x y z h m l → h ≡ l → (x ≡ y) × (y ≡ z)
+all_same x y z h m l o e = (omega arith, omega arith)
+
+same_all : (x y z : ℕ) (h m l : ℕ) → InOrder x y z h m l → (x ≡ y) × (y ≡ z) → h ≡ l
+same_all x y z h m l o e = omega arith
+
+-- what the tests say where a category is chosen
+at_pair : (s f e p q : Bool) → 1 ≡ chosen s f e p q → (p ≡ true) ⊎ (q ≡ true)
+at_pair s f e true q h = inl refl
+at_pair s f e false true h = inr refl
+at_pair true true e false false h = absurd (omega arith)
+at_pair true false true false false h = absurd (omega arith)
+at_pair true false false false false h = absurd (omega arith)
+at_pair false f true false false h = absurd (omega arith)
+at_pair false true false false false h = absurd (omega arith)
+at_pair false false false false false h = absurd (omega arith)
+
+at_flush : (s f e p q : Bool) → 2 ≡ chosen s f e p q → f ≡ true
+at_flush s true e p q h = refl
+at_flush true false true p q h = absurd (omega arith)
+at_flush true false false p q h = absurd (omega arith)
+at_flush false false true p q h = absurd (omega arith)
+at_flush false false false true q h = absurd (omega arith)
+at_flush false false false false true h = absurd (omega arith)
+at_flush false false false false false h = absurd (omega arith)
+
+at_straight : (s f e p q : Bool) → 3 ≡ chosen s f e p q → s ≡ true
+at_straight true f e p q h = refl
+at_straight false f true p q h = absurd (omega arith)
+at_straight false true false p q h = absurd (omega arith)
+at_straight false false false true q h = absurd (omega arith)
+at_straight false false false false true h = absurd (omega arith)
+at_straight false false false false false h = absurd (omega arith)
+
+at_three : (s f e p q : Bool) → 4 ≡ chosen s f e p q → e ≡ true
+at_three s f true p q h = refl
+at_three true true false p q h = absurd (omega arith)
+at_three true false false p q h = absurd (omega arith)
+at_three false true false p q h = absurd (omega arith)
+at_three false false false true q h = absurd (omega arith)
+at_three false false false false true h = absurd (omega arith)
+at_three false false false false false h = absurd (omega arith)
+
+at_straight_flush : (s f e p q : Bool) → 5 ≡ chosen s f e p q → (s ≡ true) × (f ≡ true)
+at_straight_flush true true e p q h = (refl, refl)
+at_straight_flush true false true p q h = absurd (omega arith)
+at_straight_flush true false false p q h = absurd (omega arith)
+at_straight_flush false f true p q h = absurd (omega arith)
+at_straight_flush false true false p q h = absurd (omega arith)
+at_straight_flush false false false true q h = absurd (omega arith)
+at_straight_flush false false false false true h = absurd (omega arith)
+at_straight_flush false false false false false h = absurd (omega arith)
+
+-- and what is chosen where the tests hold
+from_pair : (s f e p q : Bool) → (p ≡ true) ⊎ (q ≡ true) → 1 ≤ chosen s f e p q
+from_pair true true e p q h = omega arith
+from_pair true false true p q h = omega arith
+from_pair true false false p q h = omega arith
+from_pair false f true p q h = omega arith
+from_pair false true false p q h = omega arith
+from_pair false false false true q h = omega arith
+from_pair false false false false true h = omega arith
+from_pair false false false false false h = ⊎_elim (λ (n : false ≡ true). absurd (cc)) (λ (n : false ≡ true). absurd (cc)) h
+
+from_flush : (s f e p q : Bool) → f ≡ true → 2 ≤ chosen s f e p q
+from_flush s false e p q h = absurd (cc)
+from_flush true true e p q h = omega arith
+from_flush false true true p q h = omega arith
+from_flush false true false p q h = omega arith
+
+from_straight : (s f e p q : Bool) → s ≡ true → 3 ≤ chosen s f e p q
+from_straight false f e p q h = absurd (cc)
+from_straight true true e p q h = omega arith
+from_straight true false true p q h = omega arith
+from_straight true false false p q h = omega arith
+
+from_three : (s f e p q : Bool) → e ≡ true → 4 ≤ chosen s f e p q
+from_three s f false p q h = absurd (cc)
+from_three true true true p q h = omega arith
+from_three true false true p q h = omega arith
+from_three false f true p q h = omega arith
+
+from_straight_flush : (s f e p q : Bool) → s ≡ true → f ≡ true → 5 ≤ chosen s f e p q
+from_straight_flush false f e p q h k = absurd (cc)
+from_straight_flush true false e p q h k = absurd (cc)
+from_straight_flush true true e p q h k = omega arith
+
+-- the category is the greatest that applies
+pub is_greatest : (suits : ℕ) (h : Cards) → rank_of suits h.first < 64 → rank_of suits h.second < 64 → rank_of suits h.third < 64 → IsGreatest suits h (category Three (three_strength suits h.first h.second h.third))
+is_greatest suits h a b c =
+    let x = rank_of suits h.first in
+    let y = rank_of suits h.second in
+    let z = rank_of suits h.third in
+    let high = max x (max y z) in
+    let low = min x (min y z) in
+    let middle = x + y + z - high - low in
+    let s = (high == middle + 1) && (middle == low + 1) in
+    let f = (suit_of suits h.first == suit_of suits h.second) && (suit_of suits h.second == suit_of suits h.third) in
+    let e = high == low in
+    let p = high == middle in
+    let q = middle == low in
+    let o : InOrder x y z high middle low = record { top = refl; bottom = refl; between = refl } in
+    let is : category Three (three_strength suits h.first h.second h.third) ≡ chosen s f e p q = chosen_is high middle low s f e p q (omega arith) (omega arith) (omega arith) in
+    let straight : s ≡ true → IsStraight suits h = λ t. let k = and_parts (high == middle + 1) (middle == low + 1) t in let r = straight_ranks x y z high middle low o (eqb-true _ _ k.0) (eqb-true _ _ k.1) in (low, r.0, r.1, r.2) in
+    let straight_back : IsStraight suits h → s ≡ true = λ t. let k = ranks_straight x y z high middle low t.0 o t.1 t.2 t.3 in and_from (high == middle + 1) (middle == low + 1) (eq-eqb _ _ k.0) (eq-eqb _ _ k.1) in
+    let flush : f ≡ true → IsFlush suits h = λ t. let k = and_parts (suit_of suits h.first == suit_of suits h.second) (suit_of suits h.second == suit_of suits h.third) t in (eqb-true _ _ k.0, eqb-true _ _ k.1) in
+    let flush_back : IsFlush suits h → f ≡ true = λ t. and_from (suit_of suits h.first == suit_of suits h.second) (suit_of suits h.second == suit_of suits h.third) (eq-eqb _ _ t.0) (eq-eqb _ _ t.1) in
+    let three : e ≡ true → IsThreeOfAKind suits h = λ t. all_same x y z high middle low o (eqb-true _ _ t) in
+    let three_back : IsThreeOfAKind suits h → e ≡ true = λ t. eq-eqb _ _ (same_all x y z high middle low o t) in
+    let pair : (p ≡ true) ⊎ (q ≡ true) → IsPair suits h = λ t. some_pair x y z high middle low o (⊎_elim (λ (k : p ≡ true). inl (eqb-true _ _ k)) (λ (k : q ≡ true). inr (eqb-true _ _ k)) t) in
+    let pair_back : IsPair suits h → (p ≡ true) ⊎ (q ≡ true) = λ t. ⊎_elim (λ (k : high ≡ middle). inl (eq-eqb _ _ k)) (λ (k : middle ≡ low). inr (eq-eqb _ _ k)) (pair_some x y z high middle low o t) in
+    rw is (by suits h s f e p q straight straight_back flush flush_back three three_back pair pair_back)
+  where
+    by : (suits : ℕ) (h : Cards) (s f e p q : Bool) → (s ≡ true → IsStraight suits h) → (IsStraight suits h → s ≡ true) → (f ≡ true → IsFlush suits h) → (IsFlush suits h → f ≡ true) → (e ≡ true → IsThreeOfAKind suits h) → (IsThreeOfAKind suits h → e ≡ true) → ((p ≡ true) ⊎ (q ≡ true) → IsPair suits h) → (IsPair suits h → (p ≡ true) ⊎ (q ≡ true)) → IsGreatest suits h (chosen s f e p q)
+    by suits h s f e p q straight straight_back flush flush_back three three_back pair pair_back = record { applies = applies; greatest = greatest }
+      where
+        applies : (c : Category) → number c ≡ chosen s f e p q → Applies suits h c
+        applies HighCard n = tt
+        applies OnePair n = pair (at_pair s f e p q n)
+        applies Flush n = flush (at_flush s f e p q n)
+        applies Straight n = straight (at_straight s f e p q n)
+        applies ThreeOfAKind n = three (at_three s f e p q n)
+        applies StraightFlush n = let k = at_straight_flush s f e p q n in (straight k.0, flush k.1)
+
+        greatest : (c : Category) → Applies suits h c → number c ≤ chosen s f e p q
+        greatest HighCard a = omega arith
+        greatest OnePair a = from_pair s f e p q (pair_back a)
+        greatest Flush a = from_flush s f e p q (flush_back a)
+        greatest Straight a = from_straight s f e p q (straight_back a)
+        greatest ThreeOfAKind a = from_three s f e p q (three_back a)
+        greatest StraightFlush a = from_straight_flush s f e p q (straight_back a.0) (flush_back a.1)

@@ -1,0 +1,105 @@
+ghost use Rattle.std.specs.Prelude.{◌≡◌, ◌<◌, ◌+◌, ◌*◌, ◌++◌, ◌≤◌, length, slice_index, ◌∷◌, [], max, min, ◌==◌, ◌&&◌, All};
+ghost use Rattle.std.specs.List.{list_any};
+ghost use Rattle.gs_model.specs.Game.{High, Pair, Three};
+ghost use Rattle.gs_model.specs.Outcome.{rank_of, suit_of, strength, three_ranks, three_strength};
+ghost use Rattle.gs_card.specs.Decks.{kinds};
+ghost use Rattle.gs_card.specs.Rankings.{ranking_of};
+ghost use Rattle.gs_rank.specs.Hands.{IsHand, IsStrength};
+
+use gs_card::{Card, Deck, Ranking};
+
+/// The place of the category in a strength; the three places after it hold ranks, each below 64.
+const CATEGORY: u32 = 262144;
+
+/// The strength of three ranks, the highest first: the category, then the ranks that decide within it.
+fn three_ranks(high: u32, middle: u32, low: u32, flush: bool) -> u32
+    requires high_fits { high < 64 }
+    requires middle_fits { middle < 64 }
+    requires low_fits { low < 64 }
+    ensures value { result ≡ three_ranks high middle low flush }
+    ensures within { IsStrength Three result }
+{
+    let straight = high == middle + 1 && middle == low + 1;
+    if straight && flush {
+        5 * CATEGORY + high * 4096
+    } else if high == low {
+        4 * CATEGORY + high * 4096
+    } else if straight {
+        3 * CATEGORY + high * 4096
+    } else if flush {
+        2 * CATEGORY + high * 4096 + middle * 64 + low
+    } else if high == middle {
+        CATEGORY + high * 4096 + low * 64
+    } else if middle == low {
+        CATEGORY + middle * 4096 + high * 64
+    } else {
+        high * 4096 + middle * 64 + low
+    }
+}
+
+/// The strength of three cards, in any order.
+fn three_strength(deck: &Deck, a: Card, b: Card, c: Card) -> u32
+    requires a_of_deck { a < kinds deck.now }
+    requires b_of_deck { b < kinds deck.now }
+    requires c_of_deck { c < kinds deck.now }
+    ensures value { result ≡ three_strength (length deck.now.suits) a b c }
+    ensures within { IsStrength Three result }
+{
+    let _kinds = deck.kinds();
+    let x = u32::from(deck.rank(a));
+    let y = u32::from(deck.rank(b));
+    let z = u32::from(deck.rank(c));
+    let high = x.max(y.max(z));
+    let low = x.min(y.min(z));
+    let flush = deck.suit(a) == deck.suit(b) && deck.suit(b) == deck.suit(c);
+    three_ranks(high, x + y + z - high - low, low, flush)
+}
+
+/// The strength of an own card with public cards: its rank, and 64 more where some public card has the same rank.
+fn pair_strength(deck: &Deck, own: Card, public: &[Card]) -> u32
+    requires own_of_deck { own < kinds deck.now }
+    requires public_of_deck { All (λ card. card < kinds deck.now) public.now }
+    ensures value { result ≡ strength (length deck.now.suits) Pair (own ∷ []) public.now }
+    ensures within { IsStrength Pair result }
+{
+    let _kinds = deck.kinds();
+    let rank = deck.rank(own);
+    let strength = u32::from(rank);
+    for card in public {
+        if deck.rank(*card) == rank {
+            return strength + 64;
+        }
+    }
+    strength
+}
+
+/// The card at a place of the own cards followed by the public ones.
+fn card_at(own: &[Card], public: &[Card], place: usize) -> Card
+    requires { place < length own.now + length public.now }
+    ensures { result ≡ slice_index (own.now ++ public.now) place }
+{
+    if place < own.len() {
+        own[place]
+    } else {
+        public[place - own.len()]
+    }
+}
+
+/// The strength of a hand of own and public cards: more wins. By the own card it is the card's rank; by a pair 64 more where some public card has
+/// that rank; by three cards it is `category * 262144` and then the ranks that decide, the first times 4096 and the second times 64.
+pub fn strength(deck: &Deck, ranking: Ranking, own: &[Card], public: &[Card]) -> u32
+    requires { IsHand deck.now (ranking_of ranking) own.now public.now }
+    ensures value { result ≡ strength (length deck.now.suits) (ranking_of ranking) own.now public.now }
+    ensures within { IsStrength (ranking_of ranking) result }
+{
+    match ranking {
+        Ranking::High => u32::from(deck.rank(own[0])),
+        Ranking::Pair => pair_strength(deck, own[0], public),
+        Ranking::Three => three_strength(
+            deck,
+            card_at(own, public, 0),
+            card_at(own, public, 1),
+            card_at(own, public, 2),
+        ),
+    }
+}

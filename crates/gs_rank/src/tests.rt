@@ -1,0 +1,54 @@
+use crate::{category, outcome, strength};
+use gs_card::{Deck, Ranking};
+use std::process::Abort;
+use std::test::Fail;
+
+/// The strengths of an own card with two public ones, by three cards, by a pair and by the own card.
+fn strengths(
+    rt: &impl Abort,
+    deck: &Deck,
+    own: &str,
+    first: &str,
+    second: &str,
+) -> (u32, u32, u32) {
+    let own = [deck.card_of(own).expect(rt, "an own card")];
+    let public = [
+        deck.card_of(first).expect(rt, "a public card"),
+        deck.card_of(second).expect(rt, "a public card"),
+    ];
+    (
+        strength(deck, Ranking::Three, &own, &public),
+        strength(deck, Ranking::Pair, &own, &public),
+        strength(deck, Ranking::High, &own, &public),
+    )
+}
+
+#[test]
+fn hands_have_strengths(rt: HostRuntime) -> Result<(), Fail> {
+    let deck = Deck::new(rt.alloc(), "23456789TJQKA", "shdc", "")?;
+    for (own, first, second, want) in [
+        ("Qs", "Ks", "As", (1359872, 10, 10)),
+        ("As", "3h", "2s", (49216, 12, 12)),
+        ("2s", "2h", "Ah", (262912, 64, 0)),
+        ("9d", "Tc", "8s", (819200, 7, 7)),
+        ("2h", "4h", "9h", (553088, 0, 0)),
+        ("7s", "7h", "7d", (1069056, 69, 5)),
+        ("Kc", "Ah", "Kd", (307968, 75, 11)),
+        ("5c", "9s", "Jd", (37315, 3, 3)),
+    ] {
+        assert_eq!(rt; strengths(&rt, &deck, own, first, second), want, "at {own}");
+    }
+    Ok(())
+}
+
+#[test]
+fn bonuses_are_of_the_winner(rt: HostRuntime) {
+    let bonus = [1, 2, 3, 4, 5, 9];
+    assert_eq!(rt; category(Ranking::Three, 1359872), 5);
+    assert_eq!(rt; outcome(&bonus, Ranking::Three, 1359872, 49216), 9);
+    assert_eq!(rt; outcome(&bonus, Ranking::Three, 49216, 1359872), -9);
+    assert_eq!(rt; outcome(&bonus, Ranking::Three, 262912, 262912), 0);
+    assert_eq!(rt; outcome(&bonus, Ranking::Three, 262912, 49216), 2);
+    assert_eq!(rt; outcome(&[1, 3], Ranking::Pair, 12, 64), -3);
+    assert_eq!(rt; outcome(&[7], Ranking::High, 12, 0), 7);
+}
