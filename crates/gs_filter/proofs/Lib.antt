@@ -1,0 +1,4 @@
+pub mod TallyLaws
+pub mod RowLaws
+pub mod ClassLaws
+pub mod ApartLaws

@@ -1,0 +1,100 @@
+-- The rules that class lists are held to, in their order, and the first place that breaks one.
+use Rattle.std.specs.Prelude.{ℕ, ◌-◌, ◌<◌, ◌≤◌, ◌≡◌, ◌==◌, ◌⊎◌, List, length, get_or}
+use Rattle.std.specs.List.{position_or_len}
+use Rattle.gs_model.specs.Numbering.{IsNumbered}
+use Rattle.gs_model.specs.Classes.{ClassLists, list_of}
+use Rattle.gs_filter.specs.Tallies.{IsFirstUnseenIn}
+use Rattle.gs_filter.specs.declared.fault.ClassFault.{ClassFault}
+use Rattle.gs_filter.specs.declared.fault.ClassFault.TheVariants.{Length, NotFirstSeen, ParentsApart, Memory}
+
+-- ---- lengths
+
+-- both sides have a list for the round, of one length
+pub record AgreeIn (parents : List (List ℕ)) (lists : ClassLists) (round : ℕ) : Type 0 where
+  pub with_parents : round ≤ length parents
+  pub with_classes : round ≤ length lists
+  pub lengths : length (list_of lists round) ≡ length (list_of parents round)
+
+-- as many lists as rounds, each as long as its round has signals
+pub record Agree (parents : List (List ℕ)) (lists : ClassLists) : Type 0 where
+  pub rounds : length lists ≡ length parents
+  pub lengths : (round : ℕ) → 0 < round → round ≤ length parents → length (list_of lists round) ≡ length (list_of parents round)
+
+-- the first round that some side has and in which they do not agree
+pub record IsFirstLength (parents : List (List ℕ)) (lists : ClassLists) (round : ℕ) : Type 0 where
+  pub some : 0 < round
+  pub with_one : (round ≤ length parents) ⊎ (round ≤ length lists)
+  pub before : (r : ℕ) → 0 < r → r < round → AgreeIn parents lists r
+  pub here : ¬ AgreeIn parents lists round
+
+-- ---- numbers
+
+-- every round is numbered by first member
+abbrev pub AllNumbered : ClassLists → Type 0
+AllNumbered lists = (round : ℕ) → 0 < round → round ≤ length lists → IsNumbered (list_of lists round)
+
+-- the first number, by round and place, that is 0 or more than one above the greatest before it in its round
+pub record IsFirstUnseen (lists : ClassLists) (round at : ℕ) : Type 0 where
+  pub some : 0 < round
+  pub top : round ≤ length lists
+  pub before : (r : ℕ) → 0 < r → r < round → IsNumbered (list_of lists r)
+  pub here : IsFirstUnseenIn (list_of lists round) at
+
+-- ---- parents: `parents` and `list` are of one round, `above` has the classes of the round before
+
+-- the class of a signal's parent
+abbrev pub class_above : List ℕ → List ℕ → ℕ → ℕ
+class_above parents above s = get_or above (get_or parents s 0) 0
+
+-- the first member of a signal's class
+abbrev pub first_beside : List ℕ → ℕ → ℕ
+first_beside list s = position_or_len (λ x. x == get_or list s 0) list
+
+-- a signal's parent is of the class of the parent of its class's first member
+abbrev pub StaysTogether : List ℕ → List ℕ → List ℕ → ℕ → Type 0
+StaysTogether parents above list s = class_above parents above (first_beside list s) ≡ class_above parents above s
+
+-- every signal's is
+abbrev pub AreTogether : List ℕ → List ℕ → List ℕ → Type 0
+AreTogether parents above list = (s : ℕ) → s < length list → StaysTogether parents above list s
+
+-- `b` is the first signal whose parent's class differs from that of the first member `a` of its class
+pub record AreFirstApartIn (parents above list : List ℕ) (a b : ℕ) : Type 0 where
+  pub within : b < length list
+  pub first : a ≡ first_beside list b
+  pub before : (s : ℕ) → s < b → StaysTogether parents above list s
+  pub here : ¬ StaysTogether parents above list b
+
+-- so in every round from the second
+abbrev pub AllTogether : List (List ℕ) → ClassLists → Type 0
+AllTogether parents lists = (round : ℕ) → 1 < round → round ≤ length lists → AreTogether (list_of parents round) (list_of lists (round - 1)) (list_of lists round)
+
+-- the first two, by round
+pub record AreFirstApart (parents : List (List ℕ)) (lists : ClassLists) (round a b : ℕ) : Type 0 where
+  pub some : 1 < round
+  pub top : round ≤ length lists
+  pub before : (r : ℕ) → 1 < r → r < round → AreTogether (list_of parents r) (list_of lists (r - 1)) (list_of lists r)
+  pub here : AreFirstApartIn (list_of parents round) (list_of lists (round - 1)) (list_of lists round) a b
+
+-- ---- faults
+
+-- a fault is the first in the order of the rules: lengths, then numbers, then parents
+abbrev pub IsFaultOf : List (List ℕ) → ClassLists → ClassFault → Type 0
+IsFaultOf parents lists (Length round) = IsFirstLength parents lists round
+IsFaultOf parents lists (NotFirstSeen round at) = Agree parents lists × IsFirstUnseen lists round at
+IsFaultOf parents lists (ParentsApart round a b) = Agree parents lists × AllNumbered lists × AreFirstApart parents lists round a b
+IsFaultOf parents lists Memory = Unit {0}
+
+-- what can be found while the numbers are read
+abbrev pub IsUnseen : ClassLists → ClassFault → Type 0
+IsUnseen lists (NotFirstSeen round at) = IsFirstUnseen lists round at
+IsUnseen lists Memory = Unit {0}
+IsUnseen lists (Length round) = ⊥
+IsUnseen lists (ParentsApart round a b) = ⊥
+
+-- what can be found while the parents are compared
+abbrev pub IsApart : List (List ℕ) → ClassLists → ClassFault → Type 0
+IsApart parents lists (ParentsApart round a b) = AreFirstApart parents lists round a b
+IsApart parents lists (NotFirstSeen round at) = ⊥
+IsApart parents lists Memory = ⊥
+IsApart parents lists (Length round) = ⊥

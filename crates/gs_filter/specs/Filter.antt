@@ -1,0 +1,33 @@
+-- An information filter, with the parents that it stands on. Source: information filters (Gilpin and Sandholm 2007).
+use Rattle.std.specs.Prelude.{ℕ, ◌-◌, ◌^◌, ◌<◌, ◌≤◌, ◌≡◌, List, length, get_or, map}
+use Rattle.std.specs.List.{range_with_len}
+use Rattle.gs_model.specs.Classes.{ClassLists, list_of, class_of, IsClasses}
+
+-- for each round the parent of each signal, and the class of each signal
+pub record Filter : Type 0 where
+  pub parents : List (List ℕ)
+  pub lists : ClassLists
+
+-- each list is shorter than 2^32
+abbrev pub AreShort : List (List ℕ) → Type 0
+AreShort lists = (round : ℕ) → 0 < round → round ≤ length lists → length (list_of lists round) < 2 ^ 32
+
+-- parents of at most 4 rounds, each with fewer than 2^32 signals; a parent is a signal of the round before
+pub record AreParents (parents : List (List ℕ)) : Type 0 where
+  pub few : length parents ≤ 4
+  pub short : AreShort parents
+  pub in_range : (round s : ℕ) → 1 < round → round ≤ length parents → s < length (list_of parents round) → get_or (list_of parents round) s 0 < length (list_of parents (round - 1))
+
+-- what holds of every value: the parents are parents, and the lists are classes over them
+pub record IsSound (f : Filter) : Type 0 where
+  pub forest : AreParents f.parents
+  pub classes : IsClasses f.parents f.lists
+
+-- the class of the parents of a class's members, all of which have parents of one class
+abbrev pub IsParentClass : Filter → ℕ → ℕ → ℕ → Type 0
+IsParentClass f round class above =
+    (s : ℕ) → s < length (list_of f.lists round) → class_of f.lists round s ≡ class → class_of f.lists (round - 1) (get_or (list_of f.parents round) s 0) ≡ above
+
+-- each signal a class of its own
+abbrev pub single_classes : List (List ℕ) → ClassLists
+single_classes parents = map (λ l. range_with_len 1 (length l)) parents

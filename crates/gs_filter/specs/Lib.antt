@@ -1,0 +1,5 @@
+pub mod Rows
+pub mod Filter
+pub mod Tallies
+pub mod Faults
+pub mod FaultText

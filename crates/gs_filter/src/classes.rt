@@ -1,0 +1,202 @@
+//! Classes of signals.
+
+ghost use Rattle.std.specs.Prelude.{◌≡◌, ◌-◌, ◌<◌, ◌≤◌, ◌^◌, length, IfOk, IfErr, get_or};
+ghost use Rattle.gs_model.specs.Classes.{list_of, class_of, class_count, class_size, first_member, IsClass, IsClasses};
+ghost use Rattle.gs_filter.specs.Rows.{rows};
+ghost use Rattle.gs_filter.specs.Filter.{AreParents, IsSound, IsParentClass, single_classes};
+
+use crate::apart::first_apart;
+use crate::fault::ClassFault;
+use crate::rows::{copy_of, counted, first_length, of_round};
+use crate::tally::{Tally, tally_lists};
+use std::alloc::{AllocError, Global};
+use std::marker::Model;
+
+/// An information filter: for each round the class of each signal, numbered from 1 by first member, where members of one class have parents of one class.
+///
+/// It keeps a copy of the parents that it was made with. Rounds and classes count from 1, signals from 0.
+#[derive(Debug, Drop)]
+pub struct Classes {
+    parents: Vec<Vec<u32>>,
+    lists: Vec<Vec<u32>>,
+    tallies: Vec<Vec<Tally>>,
+}
+
+impl Model for Classes {
+    ghost use Rattle.std.specs.Prelude.{◌≡◌, map};
+    ghost use Rattle.gs_filter.specs.Filter.{Filter, IsSound};
+
+    ghost Value = { Filter };
+
+    ghost use Rattle.gs_filter.specs.Rows.{rows};
+    ghost use Rattle.gs_filter.specs.Tallies.{tallies_of};
+
+    ghost view = { λ c. record { parents = rows c.parents.items; lists = rows c.lists.items } };
+
+    ghost invariant = { λ c. record {
+      sound : IsSound (record { parents = rows c.parents.items; lists = rows c.lists.items });
+      tallied : rows c.tallies.items ≡ map tallies_of (rows c.lists.items);
+    } };
+}
+
+impl Classes {
+    ghost use Rattle.gs_filter.specs.Faults.{IsFaultOf};
+    ghost use Rattle.gs_filter.specs.Tallies.{tally_of};
+
+    /// Classes with these lists over these parents, or the first rule that the lists break.
+    pub fn new(
+        alloc: Global,
+        parents: &[Vec<u32>],
+        lists: Vec<Vec<u32>>,
+    ) -> Result<Classes, ClassFault>
+        requires { AreParents (rows parents.now) }
+        ensures parents { IfOk result (λ c. c.parents ≡ rows parents.now) }
+        ensures lists { IfOk result (λ c. c.lists ≡ rows lists.items) }
+        ensures classes { IfOk result (λ c. IsClasses c.parents c.lists) }
+        ensures refused { IfErr result (IsFaultOf (rows parents.now) (rows lists.items)) }
+    {
+        if let Some(round) = first_length(parents, &lists) {
+            return Err(ClassFault::Length { round });
+        }
+        let tallies = tally_lists(alloc, &lists)?;
+        if let Some(fault) = first_apart(parents, &lists, &tallies) {
+            return Err(fault);
+        }
+        Ok(Classes {
+            parents: copy_of(alloc, parents)?,
+            lists,
+            tallies,
+        })
+    }
+
+    /// Classes that are known to be classes, with no search for a fault.
+    pub fn of_filter(
+        alloc: Global,
+        parents: &[Vec<u32>],
+        lists: Vec<Vec<u32>>,
+    ) -> Result<Classes, AllocError>
+        requires parents { AreParents (rows parents.now) }
+        requires classes { IsClasses (rows parents.now) (rows lists.items) }
+        ensures parents { IfOk result (λ c. c.parents ≡ rows parents.now) }
+        ensures lists { IfOk result (λ c. c.lists ≡ rows lists.items) }
+    {
+        match tally_lists(alloc, &lists) {
+            Ok(tallies) => Ok(Classes {
+                parents: copy_of(alloc, parents)?,
+                lists,
+                tallies,
+            }),
+            Err(ClassFault::Memory) => Err(AllocError),
+            Err(_) => unreachable!(),
+        }
+    }
+
+    /// Each signal a class of its own.
+    pub fn identity(alloc: Global, parents: &[Vec<u32>]) -> Result<Classes, AllocError>
+        requires { AreParents (rows parents.now) }
+        ensures parents { IfOk result (λ c. c.parents ≡ rows parents.now) }
+        ensures lists { IfOk result (λ c. c.lists ≡ single_classes (rows parents.now)) }
+    {
+        let lists = counted(alloc, parents)?;
+        Classes::of_filter(alloc, parents, lists)
+    }
+
+    /// How many rounds there are.
+    pub fn rounds(&self) -> u8
+        ensures value { result ≡ length self.now.lists }
+        ensures sound { IsSound self.now }
+    {
+        self.lists.len() as u8
+    }
+
+    /// How many signals a round has.
+    pub fn signals(&self, round: u8) -> u32
+        requires some { 0 < round }
+        requires top { round ≤ length self.now.lists }
+        ensures { result ≡ length (list_of self.now.lists round) }
+    {
+        of_round(&self.lists, u32::from(round)).len() as u32
+    }
+
+    /// The class of a signal.
+    pub fn class_of(&self, round: u8, signal: u32) -> u32
+        requires some { 0 < round }
+        requires top { round ≤ length self.now.lists }
+        requires within { signal < length (list_of self.now.lists round) }
+        ensures value { result ≡ class_of self.now.lists round signal }
+        ensures class { IsClass self.now.lists round result }
+    {
+        of_round(&self.lists, u32::from(round))[signal as usize]
+    }
+
+    /// How many classes a round has.
+    pub fn classes(&self, round: u8) -> u32
+        requires some { 0 < round }
+        requires top { round ≤ length self.now.lists }
+        ensures { result ≡ class_count self.now.lists round }
+    {
+        self.tallies[round as usize - 1].len() as u32
+    }
+
+    /// How many members a class has.
+    pub fn size(&self, round: u8, class: u32) -> u32
+        requires some { 0 < round }
+        requires top { round ≤ length self.now.lists }
+        requires class { IsClass self.now.lists round class }
+        ensures { result ≡ class_size self.now.lists round class }
+    {
+        self.tally_at(round, class).size
+    }
+
+    /// The first member of a class.
+    pub fn first(&self, round: u8, class: u32) -> u32
+        requires some { 0 < round }
+        requires top { round ≤ length self.now.lists }
+        requires class { IsClass self.now.lists round class }
+        ensures value { result ≡ first_member self.now.lists round class }
+        ensures within { result < length (list_of self.now.lists round) }
+        ensures member { class_of self.now.lists round result ≡ class }
+    {
+        self.tally_at(round, class).first
+    }
+
+    /// The class, in the round before, of the parents of a class.
+    pub fn parent_class(&self, round: u8, class: u32) -> u32
+        requires some { 1 < round }
+        requires top { round ≤ length self.now.lists }
+        requires class { IsClass self.now.lists round class }
+        ensures value { IsParentClass self.now round class result }
+        ensures class { IsClass self.now.lists (round - 1) result }
+    {
+        let first = self.first(round, class);
+        let parent = of_round(&self.parents, u32::from(round))[first as usize];
+        self.class_of(round - 1, parent)
+    }
+
+    /// The size and the first member of a class.
+    fn tally_at(&self, round: u8, class: u32) -> Tally
+        requires some { 0 < round }
+        requires top { round ≤ length self.now.lists }
+        requires class { IsClass self.now.lists round class }
+        ensures value { result ≡ tally_of (list_of self.now.lists round) class }
+        ensures sound { IsSound self.now }
+    {
+        self.tallies[round as usize - 1][class as usize - 1]
+    }
+
+    /// For each round the class of each signal.
+    pub fn lists(&self) -> &[Vec<u32>]
+        ensures value { rows result.now ≡ self.now.lists }
+        ensures sound { IsSound self.now }
+    {
+        &self.lists
+    }
+
+    /// For each round the parent of each signal, as it was given.
+    pub fn parents(&self) -> &[Vec<u32>]
+        ensures value { rows result.now ≡ self.now.parents }
+        ensures sound { IsSound self.now }
+    {
+        &self.parents
+    }
+}

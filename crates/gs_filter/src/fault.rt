@@ -1,0 +1,57 @@
+//! Why lists of numbers are no classes.
+
+ghost use Rattle.std.specs.Prelude.{◌≡◌};
+ghost use Rattle.gs_filter.specs.declared.fault.ClassFault.TheVariants.{Memory};
+
+use std::alloc::{AllocError, AllocFailed};
+use std::error::Error;
+use std::fmt;
+
+/// The first rule that class lists break. Rounds count from 1, places in a list from 0.
+#[derive(Clone, Copy, Debug, PartialEq, Eq, Hash)]
+pub enum ClassFault {
+    /// One side lacks this round, or its list is longer or shorter than the round's parents.
+    Length { round: u32 },
+    /// The number at `at` is 0, or more than one above the greatest before it.
+    NotFirstSeen { round: u32, at: u32 },
+    /// The parents of `b` and of `a`, the first member of its class, are of two classes.
+    ParentsApart { round: u32, a: u32, b: u32 },
+    /// Memory ran out.
+    Memory,
+}
+
+impl fmt::Display for ClassFault {
+    ghost use Rattle.std.specs.Prelude.{Some};
+    ghost use Rattle.gs_filter.specs.FaultText.{fault_text};
+
+    ghost output = { λ e. Some (fault_text e) };
+
+    fn fmt<W: fmt::Write>(&self, f: &mut fmt::Formatter<W>) -> fmt::Result {
+        match self {
+            ClassFault::Length { round } => write!(f, "length in round {round}"),
+            ClassFault::NotFirstSeen { round, at } => write!(f, "number in round {round} at {at}"),
+            ClassFault::ParentsApart { round, a, b } => {
+                write!(f, "parents apart in round {round} at {a} and {b}")
+            }
+            ClassFault::Memory => write!(f, "out of memory"),
+        }
+    }
+}
+
+impl Error for ClassFault {}
+
+impl From<AllocError> for ClassFault {
+    ghost from_gives = { λ _ e. e ≡ Memory };
+
+    fn from(_error: AllocError) -> ClassFault {
+        ClassFault::Memory
+    }
+}
+
+impl<T: Drop> From<AllocFailed<T>> for ClassFault {
+    ghost from_gives = { λ _ e. e ≡ Memory };
+
+    fn from(_error: AllocFailed<T>) -> ClassFault {
+        ClassFault::Memory
+    }
+}

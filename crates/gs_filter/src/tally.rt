@@ -1,0 +1,83 @@
+//! Sizes and first members of the classes of a list.
+
+ghost use Rattle.std.specs.Prelude.{◌≡◌, ◌<◌, ◌≤◌, ◌^◌, ℕ, length, map, IfOk, OnOk, IfErr};
+ghost use Rattle.gs_model.specs.Numbering.{IsNumbered};
+ghost use Rattle.gs_filter.specs.Rows.{rows};
+ghost use Rattle.gs_filter.specs.Tallies.{tallies_of, IsStopOf};
+ghost use Rattle.gs_filter.specs.Filter.{AreShort};
+ghost use Rattle.gs_filter.specs.Faults.{AllNumbered, IsUnseen};
+
+use crate::fault::ClassFault;
+use crate::rows::of_round;
+use std::alloc::{AllocError, AllocFailed, Global};
+
+/// A class: how many members it has, and the first of them.
+#[derive(Clone, Copy, Debug)]
+pub(crate) struct Tally {
+    pub(crate) size: u32,
+    pub(crate) first: u32,
+}
+
+/// Why a list has no tallies.
+#[derive(Clone, Copy, Debug)]
+pub(crate) enum Stop {
+    /// The number at this place does not count on.
+    Unseen(u32),
+    Memory,
+}
+
+impl<T: Drop> From<AllocFailed<T>> for Stop {
+    ghost use Rattle.std.specs.Prelude.{◌≡◌};
+    ghost use Rattle.gs_filter.specs.declared.tally.Stop.TheVariants.{Memory};
+
+    ghost from_gives = { λ _ e. e ≡ Memory };
+
+    fn from(_error: AllocFailed<T>) -> Stop {
+        Stop::Memory
+    }
+}
+
+/// The tallies of a list, or the first place whose number does not count on.
+pub(crate) fn tally_list(alloc: Global, list: &[u32]) -> Result<Vec<Tally>, Stop>
+    requires { length list.now < 2 ^ 32 }
+    ensures tallied { IfOk result (λ tallies. tallies.items ≡ tallies_of list.now) }
+    ensures numbered { OnOk result (IsNumbered list.now) }
+    ensures unseen { IfErr result (IsStopOf list.now) }
+{
+    let mut tallies: Vec<Tally> = Vec::new(alloc);
+    for (at, class) in list.iter().enumerate() {
+        let class = *class as usize;
+        let seen = tallies.len();
+        if class == 0 || class > seen + 1 {
+            return Err(Stop::Unseen(at as u32));
+        }
+        if class > seen {
+            tallies.push(Tally {
+                size: 1,
+                first: at as u32,
+            })?;
+        } else {
+            tallies[class - 1].size += 1;
+        }
+    }
+    Ok(tallies)
+}
+
+/// The tallies of each list, or the first place of the first round whose number does not count on.
+pub(crate) fn tally_lists(alloc: Global, lists: &[Vec<u32>]) -> Result<Vec<Vec<Tally>>, ClassFault>
+    requires few { length lists.now ≤ 4 }
+    requires short { AreShort (rows lists.now) }
+    ensures tallied { IfOk result (λ tallies. rows tallies.items ≡ map tallies_of (rows lists.now)) }
+    ensures numbered { OnOk result (AllNumbered (rows lists.now)) }
+    ensures unseen { IfErr result (IsUnseen (rows lists.now)) }
+{
+    let mut tallies = Vec::new(alloc);
+    for round in 1..lists.len() as u32 + 1 {
+        match tally_list(alloc, of_round(lists, round)) {
+            Ok(list) => tallies.push(list)?,
+            Err(Stop::Unseen(at)) => return Err(ClassFault::NotFirstSeen { round, at }),
+            Err(Stop::Memory) => return Err(ClassFault::Memory),
+        }
+    }
+    Ok(tallies)
+}
