@@ -1,0 +1,4 @@
+pub mod Gcd
+pub mod Texts
+pub mod Views
+pub mod FaultText

@@ -1,0 +1,60 @@
+-- The texts of fractions.
+use Rattle.std.specs.Prelude.{ℕ, ◌^◌, ℤ, pos, negsuc, neg_ℤ, Bool, true, false, ◌&&◌, ◌==◌, nat_lt, if◌then◌else◌, List, [], ◌∷◌, ◌++◌, length, Option, Some, None, Result, Ok, Err, option_map, unsigned_abs}
+use Rattle.std.specs.Fmt.{signed_decimal}
+use Rattle.std.specs.Str.{all_ascii_digits}
+use Rattle.std.specs.Str.Parse.{digits_value}
+use Rattle.gs_frac.specs.declared.fault.FracFault.{FracFault}
+use Rattle.gs_frac.specs.declared.fault.FracFault.TheVariants.{NotFraction, TooWide, NotReduced}
+use Rattle.gs_frac.specs.Gcd.{gcd_of}
+
+-- `num/den`
+abbrev pub fraction_text : ℤ → ℤ → List ℕ
+fraction_text num den = signed_decimal num ++ 47 ∷ signed_decimal den
+
+-- digits, at least one, without leading zeros
+abbrev pub is_numeral : List ℕ → Bool
+is_numeral [] = false
+is_numeral (b ∷ bytes) = if b == 48 then length bytes == 0 else all_ascii_digits (b ∷ bytes)
+
+-- the two sides of the first slash
+abbrev pub sides : List ℕ → Option (List ℕ × List ℕ)
+sides [] = None
+sides (b ∷ bytes) = if b == 47 then Some ([], bytes) else option_map (λ p. (b ∷ p.0, p.1)) (sides bytes)
+
+-- a sign and the bytes behind it
+abbrev pub signed : List ℕ → Bool × List ℕ
+signed [] = (false, [])
+signed (b ∷ bytes) = if b == 45 then (true, bytes) else (false, b ∷ bytes)
+
+abbrev pub number_of : Bool → ℕ → ℤ
+number_of negative n = if negative then neg_ℤ (pos n) else pos n
+
+unfoldable pub limit : ℕ
+limit = 2 ^ 127
+
+-- above 0 below the line, both parts below 2 ^ 127, reduced
+abbrev pub is_fraction : ℤ → ℤ → Bool
+is_fraction num (pos d) = (nat_lt 0 d && nat_lt d limit) && (nat_lt (unsigned_abs num) limit && gcd_of (unsigned_abs num) d == 1)
+is_fraction num (negsuc d) = false
+
+-- a sign and two parts
+abbrev pub reduced_fraction : Bool → ℕ → ℕ → Result (ℤ × ℤ) FracFault
+reduced_fraction negative n d =
+    if nat_lt n limit && nat_lt d limit
+    then (if nat_lt 0 d && gcd_of n d == 1 then Ok (number_of negative n, pos d) else Err NotReduced)
+    else Err TooWide
+
+-- a sign with digits, not `-0`, and digits
+abbrev pub fraction_between : Bool × List ℕ → List ℕ → Result (ℤ × ℤ) FracFault
+fraction_between s right =
+    if is_numeral s.1 && is_numeral right
+    then (if s.0 && digits_value 10 s.1 == 0 then Err NotFraction else reduced_fraction s.0 (digits_value 10 s.1) (digits_value 10 right))
+    else Err NotFraction
+
+abbrev pub fraction_from : Option (List ℕ × List ℕ) → Result (ℤ × ℤ) FracFault
+fraction_from None = Err NotFraction
+fraction_from (Some p) = fraction_between (signed p.0) p.1
+
+-- the fraction whose text it is, or the first fault
+abbrev pub fraction_of : List ℕ → Result (ℤ × ℤ) FracFault
+fraction_of bytes = fraction_from (sides bytes)

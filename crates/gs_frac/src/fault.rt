@@ -1,0 +1,32 @@
+//! Why a text is no fraction's.
+
+use std::error::Error;
+use std::fmt;
+
+/// The first rule that a text breaks.
+#[derive(Clone, Copy, Debug, PartialEq, Eq, Hash)]
+pub enum FracFault {
+    /// It is not an optional `-`, digits, `/` and digits, without leading zeros; or it begins with `-0`.
+    NotFraction,
+    /// A part is 2^127 or more.
+    TooWide,
+    /// A number above 1 divides both parts, or the lower part is 0.
+    NotReduced,
+}
+
+impl fmt::Display for FracFault {
+    ghost use Rattle.std.specs.Prelude.{Some};
+    ghost use Rattle.gs_frac.specs.FaultText.{fault_text};
+
+    ghost output = { λ e. Some (fault_text e) };
+
+    fn fmt<W: fmt::Write>(&self, f: &mut fmt::Formatter<W>) -> fmt::Result {
+        match self {
+            FracFault::NotFraction => write!(f, "not a fraction"),
+            FracFault::TooWide => write!(f, "too wide"),
+            FracFault::NotReduced => write!(f, "not reduced"),
+        }
+    }
+}
+
+impl Error for FracFault {}
