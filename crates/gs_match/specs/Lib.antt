@@ -1,0 +1,4 @@
+pub mod Rows
+pub mod Adjacency
+pub mod Search
+pub mod Refusal

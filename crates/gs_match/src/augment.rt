@@ -1,0 +1,41 @@
+//! One more left node for a matching.
+
+ghost use Rattle.std.specs.Prelude.{◌≡◌, ◌+◌, ◌<◌, ℕ, MatchOption, IfOk, length};
+ghost use Rattle.gs_match.specs.Rows.{rows};
+ghost use Rattle.gs_match.specs.Adjacency.{AreRowsIn};
+ghost use Rattle.gs_match.specs.Search.{IsMatching, HasClosed};
+
+use crate::search::{Found, Visit, search};
+use std::alloc::{AllocError, Global};
+
+/// Gives a left node a right node, and new ones to those that held the right nodes on the way. If it cannot be done, answers the visits of the search.
+pub(crate) fn augment(
+    alloc: Global,
+    adjacent: &[Vec<u32>],
+    holders: &mut [Option<u32>],
+    root: u32,
+) -> Result<Option<Vec<Visit>>, AllocError>
+    requires rows { AreRowsIn (rows adjacent.now) (length holders.old) }
+    requires root { root < length adjacent.now }
+    requires matching { IsMatching (rows adjacent.now) holders.old root }
+    ensures { IfOk result (λ stuck. MatchOption stuck
+        (IsMatching (rows adjacent.now) holders.new (root + 1))
+        (λ visits. HasClosed (rows adjacent.now) holders.old root visits.items)) }
+{
+    let (visits, mut place, mut right) = match search(alloc, adjacent, holders, root)? {
+        Found::Closed { visits } => return Ok(Some(visits)),
+        Found::Free {
+            visits,
+            place,
+            right,
+        } => (visits, place, right),
+    };
+    while place > 0 {
+        let visit = visits[place];
+        holders[right as usize] = Some(visit.left);
+        right = visit.right;
+        place = visit.from;
+    }
+    holders[right as usize] = Some(root);
+    Ok(None)
+}

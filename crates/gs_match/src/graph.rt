@@ -1,0 +1,80 @@
+//! Graphs, matchings, and why there is none.
+
+ghost use Rattle.std.specs.Prelude.{◌≡◌};
+ghost use Rattle.gs_match.specs.declared.graph.NoMatch.TheVariants.{Memory};
+
+use std::alloc::{AllocError, AllocFailed};
+use std::error::Error;
+use std::fmt;
+use std::marker::Model;
+
+/// A bipartite graph: two sides of nodes, each counted from 0, and edges from left to right.
+#[derive(Debug, Drop)]
+pub struct Graph {
+    pub left: u32,
+    pub right: u32,
+    pub edges: Vec<(u32, u32)>,
+}
+
+impl Model for Graph {
+    ghost use Rattle.gs_model.specs.Matching.{Edges};
+
+    ghost Value = { Edges };
+
+    ghost view = { λ g. record { left = g.left; right = g.right; edges = g.edges.items } };
+}
+
+/// For each left node the right node that it is matched with.
+#[derive(Debug, Drop)]
+pub struct Match {
+    pub to: Vec<u32>,
+}
+
+impl Model for Match {
+    ghost use Rattle.std.specs.Prelude.{ℕ, List};
+
+    ghost Value = { List ℕ };
+
+    ghost view = { λ m. m.to.items };
+}
+
+/// Why there is no perfect matching.
+#[derive(Debug, Drop)]
+pub enum NoMatch {
+    /// One side has more nodes than the other.
+    Sides { left: u32, right: u32 },
+    /// These left nodes, in ascending order, have fewer neighbours than they are.
+    Hall { set: Vec<u32> },
+    /// Memory ran out.
+    Memory,
+}
+
+impl fmt::Display for NoMatch {
+    fn fmt<W: fmt::Write>(&self, f: &mut fmt::Formatter<W>) -> fmt::Result {
+        match self {
+            NoMatch::Sides { left, right } => {
+                write!(f, "{left} left nodes and {right} right nodes")
+            }
+            NoMatch::Hall { set } => write!(f, "too few neighbours of left nodes {set:?}"),
+            NoMatch::Memory => write!(f, "out of memory"),
+        }
+    }
+}
+
+impl Error for NoMatch {}
+
+impl From<AllocError> for NoMatch {
+    ghost from_gives = { λ _ e. e ≡ Memory };
+
+    fn from(_error: AllocError) -> NoMatch {
+        NoMatch::Memory
+    }
+}
+
+impl<T: Drop> From<AllocFailed<T>> for NoMatch {
+    ghost from_gives = { λ _ e. e ≡ Memory };
+
+    fn from(_error: AllocFailed<T>) -> NoMatch {
+        NoMatch::Memory
+    }
+}

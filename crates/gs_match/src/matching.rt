@@ -1,0 +1,70 @@
+//! Perfect matchings.
+
+ghost use Rattle.std.specs.Prelude.{◌≡◌, ◌<◌, ◌≤◌, ◌^◌, ℕ, Some, map, IfOk, IfErr, IsPermutation, List, length, get_or};
+ghost use Rattle.std.specs.List.Sorted.{IsNonDecreasing};
+ghost use Rattle.gs_model.specs.Matching.{IsPerfect};
+ghost use Rattle.gs_match.specs.Rows.{rows};
+ghost use Rattle.gs_match.specs.Adjacency.{AreEdgesInRange};
+ghost use Rattle.gs_match.specs.Search.{IsMatching, holder, lefts};
+ghost use Rattle.gs_match.specs.Refusal.{IsRefusalOf, NoneExists};
+
+use crate::adjacency::adjacency;
+use crate::augment::augment;
+use crate::graph::{Graph, Match, NoMatch};
+use crate::search::Visit;
+use std::alloc::{AllocError, Global};
+
+/// The right node of each left node, from the left node of each right node.
+fn by_left(alloc: Global, holders: &[Option<u32>]) -> Result<Vec<u32>, AllocError>
+    requires short { length holders.now < 2 ^ 32 }
+    requires within { (b a : ℕ) → holder holders.now b ≡ Some a → a < length holders.now }
+    requires once { (b c a : ℕ) → holder holders.now b ≡ Some a → holder holders.now c ≡ Some a → b ≡ c }
+    ensures long { IfOk result (λ to. length to.items ≡ length holders.now) }
+    ensures each { IfOk result (λ to. (b a : ℕ) → holder holders.now b ≡ Some a → get_or to.items a 0 ≡ b) }
+{
+    let mut to = vec![in alloc; 0u32; holders.len()]?;
+    for (right, left) in holders.iter().enumerate() {
+        if let Some(left) = *left {
+            to[left as usize] = right as u32;
+        }
+    }
+    Ok(to)
+}
+
+/// The visited left nodes in ascending order.
+fn visited(alloc: Global, visits: &[Visit]) -> Result<Vec<u32>, AllocError>
+    ensures same { IfOk result (λ set. IsPermutation (lefts visits.now) set.items) }
+    ensures sorted { IfOk result (λ set. IsNonDecreasing set.items) }
+{
+    let mut set: Vec<u32> = visits.iter().map(|visit| visit.left).collect(alloc)?;
+    set.sort_unstable();
+    Ok(set)
+}
+
+/// A perfect matching, or why there is none: by augmenting paths from each left node in turn.
+pub fn perfect(alloc: Global, graph: &Graph) -> Result<Match, NoMatch>
+    requires { AreEdgesInRange graph.now }
+    ensures equal { IfOk result (λ _. graph.now.left ≡ graph.now.right) }
+    ensures matched { IfOk result (λ to. IsPerfect graph.now to) }
+    ensures refused { IfErr result (IsRefusalOf graph.now) }
+    ensures none { IfErr result (NoneExists graph.now) }
+{
+    if graph.left != graph.right {
+        return Err(NoMatch::Sides {
+            left: graph.left,
+            right: graph.right,
+        });
+    }
+    let adjacent = adjacency(alloc, graph)?;
+    let mut holders: Vec<Option<u32>> = vec![in alloc; None; graph.right as usize]?;
+    for root in 0..graph.left {
+        if let Some(visits) = augment(alloc, &adjacent, &mut holders, root)? {
+            return Err(NoMatch::Hall {
+                set: visited(alloc, &visits)?,
+            });
+        }
+    }
+    Ok(Match {
+        to: by_left(alloc, &holders)?,
+    })
+}

@@ -1,0 +1,103 @@
+//! The search for an augmenting path from a left node.
+
+ghost use Rattle.std.specs.Prelude.{◌≡◌, ℕ, ◌<◌, IfOk, length};
+ghost use Rattle.gs_match.specs.Rows.{rows};
+ghost use Rattle.gs_match.specs.Adjacency.{AreRowsIn};
+ghost use Rattle.gs_match.specs.Search.{visit, IsMatching, IsTree, Extends, IsRowEnd, IsFound};
+
+use std::alloc::{AllocError, Global};
+
+/// A left node on the way, the right node that it is matched with, and the place of the visit whose left node has an edge to that one.
+/// The first visit has no right node.
+#[derive(Clone, Copy, Debug)]
+pub(crate) struct Visit {
+    pub(crate) left: u32,
+    pub(crate) right: u32,
+    pub(crate) from: usize,
+}
+
+/// What a search found.
+#[derive(Debug, Drop)]
+pub(crate) enum Found {
+    /// A right node that nobody holds, beside the visit at this place.
+    Free {
+        visits: Vec<Visit>,
+        place: usize,
+        right: u32,
+    },
+    /// All neighbours of the visited left nodes are held by visited left nodes.
+    Closed {
+        visits: Vec<Visit>,
+    },
+}
+
+/// Visits the holders of the neighbours of a visit's left node that were not reached before, up to a neighbour that nobody holds.
+fn visit_row(
+    adjacent: &[Vec<u32>],
+    holders: &[Option<u32>],
+    reached: &mut [bool],
+    visits: &mut Vec<Visit>,
+    place: usize,
+) -> Result<Option<u32>, AllocError>
+    requires place { place < length visits.old.items }
+    requires rows { AreRowsIn (rows adjacent.now) (length holders.now) }
+    requires left { (visit visits.old.items place).left < length adjacent.now }
+    requires matching { IsMatching (rows adjacent.now) holders.now (visit visits.old.items 0).left }
+    requires tree { IsTree (rows adjacent.now) holders.now visits.old.items reached.old }
+    ensures tree { IfOk result (λ _. IsTree (rows adjacent.now) holders.now visits.new.items reached.new) }
+    ensures extends { IfOk result (λ _. Extends visits.old.items reached.old visits.new.items reached.new) }
+    ensures end { IfOk result (λ end. IsRowEnd (rows adjacent.now) holders.now visits.new.items reached.new place end) }
+{
+    let left = visits[place].left;
+    for right in &adjacent[left as usize] {
+        let right = *right;
+        if reached[right as usize] {
+            continue;
+        }
+        match holders[right as usize] {
+            None => return Ok(Some(right)),
+            Some(left) => {
+                reached[right as usize] = true;
+                visits.push(Visit {
+                    left,
+                    right,
+                    from: place,
+                })?;
+            }
+        }
+    }
+    Ok(None)
+}
+
+/// Searches breadth first for an augmenting path from a left node.
+pub(crate) fn search(
+    alloc: Global,
+    adjacent: &[Vec<u32>],
+    holders: &[Option<u32>],
+    root: u32,
+) -> Result<Found, AllocError>
+    requires rows { AreRowsIn (rows adjacent.now) (length holders.now) }
+    requires root { root < length adjacent.now }
+    requires matching { IsMatching (rows adjacent.now) holders.now root }
+    ensures { IfOk result (IsFound (rows adjacent.now) holders.now root) }
+{
+    let mut reached = vec![in alloc; false; holders.len()]?;
+    let mut visits = Vec::new(alloc);
+    visits.push(Visit {
+        left: root,
+        right: 0,
+        from: 0,
+    })?;
+    let mut place = 0;
+    while place < visits.len() {
+        if let Some(right) = visit_row(adjacent, holders, &mut reached, &mut visits, place)? {
+            return Ok(Found::Free {
+                visits,
+                place,
+                right,
+            });
+        }
+        place += 1;
+    }
+    Ok(Found::Closed { visits })
+}
