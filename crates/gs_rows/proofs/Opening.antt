@@ -1,0 +1,145 @@
+use Rattle.std.proofs.Common.{◌≡◌, ℕ, zero, suc, ◌+◌, ◌-◌, ◌<◌, ◌≤◌, ◌⊎◌, inl, inr, [], ◌∷◌, ◌++◌, length, slice_index_or, take, ℤ, pos, ◌*ℤ◌, neg_ℤ, ◌≤ℤ◌, ◌<ℤ◌, refl, sym, ap, subst, ◌∙◌, arith}
+use Rattle.std.proofs.lemmas.Bool.{cases_eq, cases_lt}
+use Rattle.std.proofs.Math.Seq.{take-length}
+use Rattle.std.proofs.lemmas.List.{take_more, length_push, get_or_append_left, get_or_push}
+use Rattle.gs_rows.specs.declared.Program.{Program}
+use Rattle.gs_rows.specs.Sums.{sum_to}
+use Rattle.gs_rows.specs.Program.{number, Listing, IsListed, RowListed, ColListed, IsRowsOf, CanTake, IsTakenInTurn, IsOpening, IsRegularList}
+use Rattle.gs_rows.specs.Path.{IsPivot, IsPath}
+use Rattle.gs_rows.proofs.States.{states}
+use Rattle.gs_rows.proofs.Ring.{ring, linear, times_nonneg, cancel_nonneg}
+use Rattle.gs_rows.proofs.Sums.{sum_same}
+use Rattle.gs_rows.proofs.Steps.{IsList, take_is_list, take_is_regular}
+use Rattle.gs_rows.proofs.Pivots.{IsOnce, any_default}
+use Rattle.gs_rows.proofs.Solutions.{IsBasic, row_at_basic}
+use Rattle.gs_rows.proofs.Bases.{IsFull, IsTrail, RowsFeasible, col_of, col_is, in_cols, table_of, turn_is_full, turn_is_feasible, trail_columns_differ}
+
+-- what stands at a place after a push
+place_push : (l : Listing) (x : ℕ × ℕ) (k : ℕ) → k < length (l ++ x ∷ []) → ((k < length l) × (slice_index_or (l ++ x ∷ []) k (0, 0) ≡ slice_index_or l k (0, 0))) ⊎ ((k ≡ length l) × (slice_index_or (l ++ x ∷ []) k (0, 0) ≡ x))
+place_push l x k h =
+    let long = length_push l x in
+    elim (cases_lt k (length l)) [
+      | inl less ↦ inl (less, get_or_append_left l (x ∷ []) (0, 0) k less)
+      | inr more ↦ (let e : length l ≡ k = omega (arith, long) in inr (sym e, get_or_push l x (0, 0) k e))
+    ]
+
+-- each opening list is a list of different rows and columns, and regular
+pub record IsOpened (p : Program) (l : Listing) : Type 0 where
+  pub is_list : IsList p l
+  pub once : IsOnce l
+  pub named : (k : ℕ) → k < length l → (i : ℕ) × (j : ℕ) × (slice_index_or l k (0, 0) ≡ (i + 1, j + 1))
+  pub regular : IsRegularList p l
+
+old_row : (p : Program) (l : Listing) (r c k : ℕ) → IsOpened p l → (RowListed l r → ⊥) → k < length l → (slice_index_or l k (0, 0)).0 ≡ r + 1 → ⊥
+old_row p l r c k w out h e =
+    let n = w.named k h in
+    let f : n.0 + 1 ≡ r + 1 = ap (λ (x : ℕ × ℕ). x.0) (sym n.2) ∙ e in
+    let s : n.0 ≡ r = omega arith in
+    out (n.1, let P : ℕ → Type 0 = λ x. IsListed l x n.1 in subst P s (k, h, any_default l k (n.0 + 1, n.1 + 1) (0, 0) h ∙ n.2))
+
+pub opened_push : (p : Program) (l : Listing) (r c : ℕ) → IsOpened p l → CanTake p l r c → IsOpened p (l ++ (r + 1, c + 1) ∷ [])
+opened_push p l r c w t = record {
+  is_list = take_is_list p l r c w.is_list t;
+  once = record {
+    place = λ q k ql kl s. elim (place_push l (r + 1, c + 1) q ql) [
+      | inl x ↦ elim (place_push l (r + 1, c + 1) k kl) [
+        | inl y ↦ w.once.place q k x.0 y.0 (ap (λ (z : ℕ × ℕ). z.0) (sym x.1) ∙ s ∙ ap (λ (z : ℕ × ℕ). z.0) y.1)
+        | inr y ↦ absurd (old_row p l r c q w t.row_free x.0 (ap (λ (z : ℕ × ℕ). z.0) (sym x.1) ∙ s ∙ ap (λ (z : ℕ × ℕ). z.0) y.1))
+      ]
+      | inr x ↦ elim (place_push l (r + 1, c + 1) k kl) [
+        | inl y ↦ absurd (old_row p l r c k w t.row_free y.0 (ap (λ (z : ℕ × ℕ). z.0) (sym y.1) ∙ sym s ∙ ap (λ (z : ℕ × ℕ). z.0) x.1))
+        | inr y ↦ x.0 ∙ sym y.0
+      ]
+    ];
+  };
+  named = λ k kl. elim (place_push l (r + 1, c + 1) k kl) [
+    | inl x ↦ (let n = w.named k x.0 in (n.0, n.1, x.1 ∙ n.2))
+    | inr x ↦ (r, c, x.1)
+  ];
+  regular = take_is_regular p l r c w.is_list w.regular t;
+}
+
+pub opened : (p : Program) (o : Listing) → IsTakenInTurn p o → (k : ℕ) → k ≤ length o → IsOpened p (take k o)
+opened p o taken zero h = record {
+  is_list = record { row_inside = λ i j x. absurd (omega (arith, x.1)); column_inside = λ i j x. absurd (omega (arith, x.1)); one_column = λ i j k x y. absurd (omega (arith, x.1)); one_row = λ i k j x y. absurd (omega (arith, x.1)) };
+  once = record { place = λ q k x y s. absurd (omega arith) };
+  named = λ k x. absurd (omega arith);
+  regular = record { only = λ z off on i im. off i im (λ x. absurd (omega (arith, x.1.1))) };
+}
+opened p o taken (suc k) h =
+    let w = opened p o taken k (omega arith) in
+    let t = taken k (omega arith) in
+    let e : take (k + 1) o ≡ take k o ++ (slice_index_or o k (0, 0) ∷ []) = take_more o k (0, 0) (omega arith) in
+    let f : take (suc k) o ≡ take k o ++ ((t.0 + 1, t.1 + 1) ∷ []) = ap (λ x. take x o) (let q : suc k ≡ k + 1 = omega arith in q) ∙ e ∙ ap (λ x. take k o ++ (x ∷ [])) t.2 in
+    let P : Listing → Type 0 = λ x. IsOpened p x in
+    subst P (sym f) (opened_push p (take k o) t.0 t.1 w t.3)
+
+-- the whole opening is full
+pub opening_is_full : (p : Program) (o : Listing) → IsOpening p o → IsFull p o
+opening_is_full p o u =
+    let w : IsOpened p o = (let P : Listing → Type 0 = λ x. IsOpened p x in subst P (take-length o) (opened p o u.taken (length o) (omega arith))) in
+    record { is_list = w.is_list; once = w.once; regular = w.regular; all = u.each_row; free_in = u.free_named }
+
+-- and its rows are feasible
+pub opening_is_feasible : (p : Program) (o : Listing) (R : ℕ → ℕ → ℤ) (a : ℕ → ℤ) → IsOpening p o → IsRowsOf p o R a → RowsFeasible p o R
+opening_is_feasible p o R a u w i j h bound =
+    let f = opening_is_full p o u in
+    let d = u.feasible.0 in let v = u.feasible.1 in let fs = u.feasible.2 in
+    let n = p.cols in let m = p.rows in
+    let pick : (k : ℕ) → (k ≡ n) ⊎ (k ≡ n → ⊥) → ℤ = λ k q. elim q [ inl e ↦ neg_ℤ d | inr ne ↦ v k ] in
+    let x : ℕ → ℤ = λ k. pick k (cases_eq k n) in
+    let side : x n ≡ neg_ℤ d = elim (cases_eq n n) as (λ q. pick n q ≡ neg_ℤ d) [ inl e ↦ refl | inr ne ↦ absurd (ne refl) ] in
+    let below : (k : ℕ) → k < n → x k ≡ v k = λ k kn. elim (cases_eq k n) as (λ q. pick k q ≡ v k) [ inl e ↦ absurd (omega arith) | inr ne ↦ refl ] in
+    let b : IsBasic m n (number p) (col_of p o f) d x = record {
+      killed = record {
+        row = λ k km.
+            let e : sum_to n (λ c. number p k c *ℤ x c) ≡ d *ℤ number p k n = sum_same n (λ c. number p k c *ℤ x c) (λ c. number p k c *ℤ v c) (λ c cn. ap (λ t. number p k c *ℤ t) (below c cn)) ∙ fs.solution.solves k km in
+            let g : number p k n *ℤ x n ≡ neg_ℤ (d *ℤ number p k n) = ap (λ t. number p k n *ℤ t) side ∙ simp ring in omega (arith, linear);
+      };
+      side = side;
+      positive = (let q = fs.solution.positive in omega (arith, linear));
+      outside = λ k kn out. below k kn ∙ u.feasible.3 k kn (λ y. (let z = in_cols p o f k y in out z.0 z.1 z.2));
+    } in
+    let im : i < m = f.is_list.row_inside i j h in
+    let e : R i (col_of p o f i) *ℤ x (col_of p o f i) ≡ d *ℤ R i n = row_at_basic m n (number p) (col_of p o f) R d x (table_of p o f R a w) b i im in
+    let c : col_of p o f i ≡ j = col_is p o f i j h in
+    let jn : j < n = f.is_list.column_inside i j h in
+    let own : pos 0 <ℤ R i j = (w.listed i j h).2.own in
+    let e2 : R i j *ℤ v j ≡ d *ℤ R i n = ap (λ t. R i j *ℤ t) (sym (below j jn)) ∙ (let P : ℕ → Type 0 = λ t. R i t *ℤ x t ≡ d *ℤ R i n in subst P c e) in
+    let vj : pos 0 ≤ℤ v j = fs.nonnegative j jn bound in
+    let y : pos 0 ≤ℤ (R i j *ℤ v j) = times_nonneg (R i j) (v j) (omega (arith, linear)) vj in
+    cancel_nonneg d (R i n) (let q = fs.solution.positive in omega (arith, linear)) (omega (arith, linear))
+
+-- a path from the end of the opening on
+pub path_trail : (p : Program) (o : Listing) (t : ℕ) (lists : ℕ → Listing) (R : ℕ → ℕ → ℕ → ℤ) (a : ℕ → ℕ → ℤ) (e c : ℕ → ℕ) → IsOpening p o → IsPath p o t (states lists R a e c)
+    → (d : ℕ) → length o + d ≤ t → (IsFull p (lists (length o + d))) × (RowsFeasible p (lists (length o + d)) (R (length o + d)))
+path_trail p o t lists R a e c u w zero h =
+    let s : lists (length o + 0) ≡ o = ap lists (let q : length o + 0 ≡ length o = omega arith in q) ∙ w.opens (length o) (omega arith) (omega arith) ∙ take-length o in
+    let r : IsRowsOf p o (R (length o + 0)) (a (length o + 0)) = (let P : Listing → Type 0 = λ x. IsRowsOf p x (R (length o + 0)) (a (length o + 0)) in subst P s (w.rows (length o + 0) h)) in
+    let P : Listing → Type 0 = λ x. (IsFull p x) × (RowsFeasible p x (R (length o + 0))) in
+    subst P (sym s) (opening_is_full p o u, opening_is_feasible p o (R (length o + 0)) (a (length o + 0)) u r)
+path_trail p o t lists R a e c u w (suc d) h =
+    let k = length o + d in
+    let z = path_trail p o t lists R a e c u w d (omega arith) in
+    let tn = w.pivots k (omega arith) (omega arith) in
+    let full = turn_is_full p (lists k) (lists (suc k)) z.0 (R k) (a k) (e k) (c k) (w.rows k (omega arith)) tn in
+    let feas = turn_is_feasible p (lists k) (lists (suc k)) z.0 (R k) (R (suc k)) (a k) (a (suc k)) (e k) (c k) (w.rows k (omega arith)) (w.rows (suc k) (omega arith)) tn z.1 in
+    let P : ℕ → Type 0 = λ x. (IsFull p (lists x)) × (RowsFeasible p (lists x) (R x)) in
+    let q : suc k ≡ length o + suc d = omega arith in subst P q (full, feas)
+
+-- NO BASIS TWICE: two steps of a path never list the same columns
+pub bases_differ : (p : Program) (o : Listing) (t : ℕ) (lists : ℕ → Listing) (R : ℕ → ℕ → ℕ → ℤ) (a : ℕ → ℕ → ℤ) (e c : ℕ → ℕ) → IsOpening p o → IsPath p o t (states lists R a e c)
+    → (k l : ℕ) → length o ≤ k → k < l → l ≤ t → ((j : ℕ) → ColListed (lists l) j → ColListed (lists k) j) → ((j : ℕ) → ColListed (lists k) j → ColListed (lists l) j) → ⊥
+bases_differ p o t lists R a e c u w k l ok kl lt back forth =
+    let at : (x : ℕ) → x ≤ l - k → (IsFull p (lists (x + k))) × (RowsFeasible p (lists (x + k)) (R (x + k))) = λ x h.
+    (let P : ℕ → Type 0 = λ y. (IsFull p (lists y)) × (RowsFeasible p (lists y) (R y)) in let q : length o + (x + k - length o) ≡ x + k = omega arith in subst P q (path_trail p o t lists R a e c u w (x + k - length o) (omega arith))) in
+    let trail : IsTrail p (l - k) (λ x. lists (x + k)) (λ x. R (x + k)) (λ x. a (x + k)) (λ x. e (x + k)) (λ x. c (x + k)) = record {
+      full = λ x h. (at x h).0;
+      rows = λ x h. w.rows (x + k) (omega arith);
+      feasible = λ x h. (at x h).1;
+      turn = λ x h. (let q : suc (x + k) ≡ suc x + k = omega arith in let P : ℕ → Type 0 = λ y. IsPivot p (lists (x + k)) (R (x + k)) (a (x + k)) (lists y) (e (x + k)) (c (x + k)) in subst P q (w.pivots (x + k) (omega arith) (omega arith)));
+    } in
+    let last : (l - k) + k ≡ l = omega arith in let first : 0 + k ≡ k = omega arith in
+    trail_columns_differ p (l - k) (λ x. lists (x + k)) (λ x. R (x + k)) (λ x. a (x + k)) (λ x. e (x + k)) (λ x. c (x + k)) trail (omega arith)
+    (λ j h. let P : ℕ → Type 0 = λ y. ColListed (lists y) j in subst P (sym first) (back j (subst P last h)))
+    (λ j h. let P : ℕ → Type 0 = λ y. ColListed (lists y) j in subst P (sym last) (forth j (subst P first h)))
