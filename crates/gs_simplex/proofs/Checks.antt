@@ -1,0 +1,122 @@
+use Rattle.std.proofs.Common.{◌≡◌, ◌≢◌, inl, inr, ℕ, zero, suc, ◌+◌, ◌<◌, ◌≤◌, List, [], ◌∷◌, ◌++◌, length, take, map, Vec, vec_items, Global, get_or, slice_index_or, ℤ, pos, neg_ℤ, ◌+ℤ◌, ◌*ℤ◌, refl, sym, ap, subst, ◌∙◌, arith}
+use Rattle.std.proofs.lemmas.Bool.{cases_eq}
+use Rattle.std.proofs.lemmas.List.{get_or_default, length-map, length-take-le, get_or-take, take_more}
+use Rattle.std.proofs.Math.ListN.{get_or-map}
+use Rattle.std.proofs.Math.Seq.{take-length}
+use Rattle.gs_rows.specs.declared.Program.{Program}
+use Rattle.gs_rows.specs.Sums.{sum_to}
+use Rattle.gs_rows.specs.Program.{number, IsFree, Listing, IsListed, RowListed, ColListed, IsPairList, IsRowsOf, CanTake, IsTakenInTurn, IsSolution, IsFeasible, IsOpening}
+use Rattle.gs_rows.proofs.Ring.{ring, linear}
+use Rattle.gs_rows.proofs.Steps.{take_rows}
+use Rattle.gs_rows.proofs.Solutions.{basic_exists}
+use Rattle.gs_rows.proofs.Laws.{end_feasible}
+use Rattle.gs_rows.proofs.Bases.{IsFull, from_cols, col_of, table_of, state_of}
+use Rattle.gs_rows.proofs.Opening.{IsOpened}
+use Rattle.gs_rows.proofs.PairLists.{place_of, listed_at, whole_opened, opened_pair_list}
+use Rattle.gs_simplex.specs.Table.{table_rows, table_aim, IsTableAfter}
+use Rattle.gs_simplex.specs.Conditions.{IsNewPair, CanTakeAt, IsTaken, HasFeasibleSides}
+
+pub vec_at : (rows : List (Vec ℤ Global)) (i : ℕ) (v : Vec ℤ Global) → i < length rows → v ≡ get_or rows i v → v.items ≡ slice_index_or (map vec_items rows) i []
+vec_at rows i v h e = ap vec_items e ∙ sym (get_or-map vec_items rows i v) ∙ get_or_default (map vec_items rows) i v.items [] (omega (arith, length-map rows vec_items))
+
+-- the front of a front
+take_take : {X : Type 0} (xs : List X) (k t : ℕ) → k ≤ t → take k (take t xs) ≡ take k xs
+take_take xs zero t h = refl
+take_take [] (suc k) zero h = absurd (omega arith)
+take_take [] (suc k) (suc t) h = refl
+take_take (x ∷ xs) (suc k) zero h = absurd (omega arith)
+take_take (x ∷ xs) (suc k) (suc t) h = ap (λ ys. x ∷ ys) (take_take xs k t (omega arith))
+
+-- a front is taken in turn
+front_taken : (p : Program) (o : Listing) (t : ℕ) → t ≤ length o → ((k : ℕ) → k < t → (r : ℕ) × (c : ℕ) × (slice_index_or o k (0, 0) ≡ (r + 1, c + 1)) × CanTake p (take k o) r c) → IsTakenInTurn p (take t o)
+front_taken p o t h u k kl =
+    let kt : k < t = omega (arith, length-take-le t o h) in
+    let w = u k kt in
+    let P : Listing → Type 0 = λ x. CanTake p x w.0 w.1 in
+    (w.0, w.1, get_or-take t o k (0, 0) kt ∙ w.2, subst P (sym (take_take o k t (omega arith))) w.3)
+
+pub front_opened : (p : Program) (o : Listing) (t : ℕ) (xs : List ℤ) → t ≤ length o → IsTaken p o t xs → IsOpened p (take t o)
+front_opened p o t xs h u = whole_opened p (take t o) (front_taken p o t h u.taken)
+
+-- what the checks of one pair show
+pub can_take_from : (p : Program) (o : Listing) (t r c : ℕ) (xs : List ℤ) → t < length o → slice_index_or o t (0, 0) ≡ (r + 1, c + 1) → r < p.rows → c < p.cols → IsNewPair o t → IsRowsOf p (take t o) (table_rows p xs) (table_aim p xs)
+    → table_rows p xs r c ≢ pos 0 → CanTakeAt p (table_rows p xs) o t
+can_take_from p o t r c xs h at rm cm new rows ne =
+    let long : length (take t o) ≡ t = length-take-le t o (omega arith) in
+    let row_free : RowListed (take t o) r → ⊥ = λ x. (let k = x.1.0 in let kt : k < t = omega (arith, x.1.1) in
+    (new k kt).0 (ap (λ (w : ℕ × ℕ). w.0) (sym (get_or-take t o k (0, 0) kt) ∙ place_of (take t o) r x.0 x.1) ∙ sym (ap (λ (w : ℕ × ℕ). w.0) at))) in
+    let column_free : ColListed (take t o) c → ⊥ = λ x. (let k = x.1.0 in let kt : k < t = omega (arith, x.1.1) in
+    (new k kt).1 (ap (λ (w : ℕ × ℕ). w.1) (sym (get_or-take t o k (0, 0) kt) ∙ place_of (take t o) x.0 c x.1) ∙ sym (ap (λ (w : ℕ × ℕ). w.1) at))) in
+    let w = rows.unlisted r rm row_free in
+    record { pair = (r, c, at, record { row = rm; column = cm; row_free = row_free; column_free = column_free; found = (w.0, w.1, table_rows p xs r, w.2, ne) }, ne) }
+
+-- one more pair taken
+pub taken_more : (p : Program) (o : Listing) (t r c : ℕ) (xs new : List ℤ) → t < length o → slice_index_or o t (0, 0) ≡ (r + 1, c + 1) → CanTake p (take t o) r c → IsTaken p o t xs → IsTableAfter p xs new r c → IsTaken p o (t + 1) new
+taken_more p o t r c xs new h at can u w =
+    let il = (front_opened p o t xs (omega arith) u).is_list in
+    let P : Listing → Type 0 = λ x. IsRowsOf p x (table_rows p new) (table_aim p new) in
+    let e : take (t + 1) o ≡ take t o ++ ((r + 1, c + 1) ∷ []) = take_more o t (0, 0) h ∙ ap (λ x. take t o ++ (x ∷ [])) at in
+    record {
+      taken = λ k kt. elim (cases_eq k t) [
+        | inl s ↦ (let Q : ℕ → Type 0 = λ x. (r : ℕ) × (c : ℕ) × (slice_index_or o x (0, 0) ≡ (r + 1, c + 1)) × CanTake p (take x o) r c in subst Q (sym s) (r, c, at, can))
+        | inr ne ↦ u.taken k (omega arith)
+      ];
+      table = w.table;
+      rows = subst P (sym e) (take_rows p (take t o) r c (table_rows p xs) (table_rows p new) (table_aim p xs) (table_aim p new) il can u.rows w.eliminated);
+    }
+
+-- ---- all together
+pub whole_pairs : (p : Program) (o : Listing) (xs : List ℤ) → IsTaken p o (length o) xs → IsPairList p o
+whole_pairs p o xs u = opened_pair_list p o (whole_opened p o u.taken)
+
+module _ (p : Program) (o : Listing) (xs : List ℤ) (u : IsTaken p o (length o) xs) (named : (i : ℕ) → i < p.rows → (k : ℕ) × (k < length o) × ((slice_index_or o k (0, 0)).0 ≡ i + 1))
+    (free : (j : ℕ) → j < p.cols → IsFree p j → (k : ℕ) × (k < length o) × ((slice_index_or o k (0, 0)).1 ≡ j + 1)) (sides : HasFeasibleSides p o (table_rows p xs)) where
+  is_opened : IsOpened p o
+  is_opened = whole_opened p o u.taken
+
+  less_one : (a b : ℕ) → a + 1 ≡ b + 1 → a ≡ b
+  less_one a b e = omega arith
+
+  row_named : (i : ℕ) → i < p.rows → RowListed o i
+  row_named i h =
+      let w = named i h in let n = is_opened.named w.0 w.1 in
+      let s : n.0 ≡ i = less_one n.0 i (ap (λ (x : ℕ × ℕ). x.0) (sym n.2) ∙ w.2) in
+      (n.1, (let P : ℕ → Type 0 = λ x. IsListed o x n.1 in subst P s (listed_at o w.0 n.0 n.1 w.1 n.2)))
+
+  free_named : (j : ℕ) → j < p.cols → IsFree p j → ColListed o j
+  free_named j h f =
+      let w = free j h f in let n = is_opened.named w.0 w.1 in
+      let s : n.1 ≡ j = less_one n.1 j (ap (λ (x : ℕ × ℕ). x.1) (sym n.2) ∙ w.2) in
+      (n.0, (let P : ℕ → Type 0 = λ x. IsListed o n.0 x in subst P s (listed_at o w.0 n.0 n.1 w.1 n.2)))
+
+  full : IsFull p o
+  full = record { is_list = is_opened.is_list; once = is_opened.once; regular = is_opened.regular; all = row_named; free_in = free_named }
+
+  rows_o : IsRowsOf p o (table_rows p xs) (table_aim p xs)
+  rows_o = let P : Listing → Type 0 = λ x. IsRowsOf p x (table_rows p xs) (table_aim p xs) in subst P (take-length o) u.rows
+
+  pub opening_from : length o ≡ p.rows → IsOpening p o
+  opening_from long =
+      let n = p.cols in let m = p.rows in let R = table_rows p xs in let a = table_aim p xs in
+      let t = table_of p o full R a rows_o in
+      let b = basic_exists m n (number p) (col_of p o full) R t in
+      let D = b.0 in let v = b.1 in let w = b.2 in
+      record {
+        long = long;
+        each_row = row_named;
+        taken = u.taken;
+        free_named = free_named;
+        feasible = (
+          D,
+          v,
+          record {
+            solution = record {
+              positive = w.positive;
+              solves = λ i im. (let z : sum_to n (λ j. number p i j *ℤ v j) +ℤ number p i n *ℤ v n ≡ pos 0 = w.killed.row i im in
+                  let s : number p i n *ℤ v n ≡ neg_ℤ (D *ℤ number p i n) = ap (λ x. number p i n *ℤ x) w.side ∙ simp ring in omega (arith, linear));
+            };
+            nonnegative = λ j jn out. end_feasible m n (number p) (Rattle.gs_rows.specs.Program.aim_of p) (IsFree p) (col_of p o full) R a D v (state_of p o full R a rows_o sides) w j jn out;
+          },
+          λ j jn out. w.outside j jn (λ i im e. out (from_cols p o full j (i, im, e))),
+        );
+      }

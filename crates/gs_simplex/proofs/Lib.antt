@@ -1,0 +1,9 @@
+pub mod Fits
+pub mod Reduce
+pub mod Places
+pub mod Tables
+pub mod Starts
+pub mod Choosing
+pub mod Paths
+pub mod Checks
+pub mod Sample

@@ -1,0 +1,103 @@
+use Rattle.std.proofs.Common.{◌≡◌, ◌≢◌, ℕ, suc, ◌+◌, ◌-◌, ◌*◌, ◌<◌, ◌≤◌, ◌⊎◌, inl, inr, List, ◌++◌, length, take, drop, ℤ, pos, ◌-ℤ◌, ◌*ℤ◌, unsigned_abs, refl, sym, ap, subst, ◌∙◌, arith}
+use Prim.Native.Nat.{◌∣◌}
+use borrow.Rule.Slice.PartMut.{put_mid}
+use Rattle.std.proofs.lemmas.Bool.{cases_order, cases_lt}
+use Rattle.std.proofs.lemmas.List.{get_or_append_left, get_or-append_right, get_or-drop, get_or-take, length-take-le, length-append, length-drop}
+use Rattle.std.proofs.Math.Nat.{mul-le-mul_left}
+use Rattle.gs_rows.specs.Rows.{IsNarrow, IsPrimitive}
+use Rattle.gs_simplex.specs.Numbers.{at, AllNarrow, IsReduced, IsReducedTo, IsDivided}
+
+-- a number of a part of a list
+pub at_part : (xs : List ℤ) (a n j : ℕ) → j < n → at (take n (drop a xs)) j ≡ at xs (a + j)
+at_part xs a n j h = get_or-take n (drop a xs) j (pos 0) h ∙ get_or-drop a xs j (pos 0)
+
+length_front : (xs : List ℤ) (a : ℕ) → a ≤ length xs → length (take a xs) ≡ a
+length_front xs a h = length-take-le a xs h
+
+-- a number after a part was written
+pub at_put_below : (xs ys : List ℤ) (a n k : ℕ) → k < a → a ≤ length xs → at (put_mid a n xs ys) k ≡ at xs k
+at_put_below xs ys a n k h l =
+    let s = length_front xs a l in
+    get_or_append_left (take a xs) (ys ++ drop n (drop a xs)) (pos 0) k (omega (arith, s)) ∙ get_or-take a xs k (pos 0) h
+
+pub at_put_inside : (xs ys : List ℤ) (a n j : ℕ) → j < n → length ys ≡ n → a + n ≤ length xs → at (put_mid a n xs ys) (a + j) ≡ at ys j
+at_put_inside xs ys a n j h e l =
+    let s = length_front xs a (omega arith) in
+    get_or-append_right (take a xs) (ys ++ drop n (drop a xs)) a (a + j) (pos 0) s (omega arith) ∙ ap (λ t. at (ys ++ drop n (drop a xs)) t) (let q : a + j - a ≡ j = omega arith in q)
+    ∙ get_or_append_left ys (drop n (drop a xs)) (pos 0) j (omega arith)
+
+pub at_put_above : (xs ys : List ℤ) (a n k : ℕ) → a + n ≤ k → length ys ≡ n → a + n ≤ length xs → at (put_mid a n xs ys) k ≡ at xs k
+at_put_above xs ys a n k h e l =
+    let s = length_front xs a (omega arith) in
+    get_or-append_right (take a xs) (ys ++ drop n (drop a xs)) a k (pos 0) s (omega arith) ∙ get_or-append_right ys (drop n (drop a xs)) n (k - a) (pos 0) e (omega arith)
+    ∙ get_or-drop n (drop a xs) (k - a - n) (pos 0) ∙ get_or-drop a xs (n + (k - a - n)) (pos 0) ∙ ap (at xs) (let q : a + (n + (k - a - n)) ≡ k = omega arith in q)
+
+pub length_put : (xs ys : List ℤ) (a n : ℕ) → length ys ≡ n → a + n ≤ length xs → length (put_mid a n xs ys) ≡ length xs
+length_put xs ys a n e l =
+    let s = length_front xs a (omega arith) in
+    omega (arith, length-append (take a xs) (ys ++ drop n (drop a xs)), length-append ys (drop n (drop a xs)), length-drop n (drop a xs), length-drop a xs)
+
+-- all numbers are narrow after a part was written with narrow ones
+pub narrow_put : (xs ys : List ℤ) (a n : ℕ) → length ys ≡ n → a + n ≤ length xs → AllNarrow xs → AllNarrow ys → (k : ℕ) → k < length xs → IsNarrow (at (put_mid a n xs ys) k)
+narrow_put xs ys a n e l u w k h =
+    let P : ℤ → Type 0 = λ z. IsNarrow z in
+    elim (cases_lt k a) [
+      | inl below ↦ subst P (sym (at_put_below xs ys a n k below (omega arith))) (u k h)
+      | inr from ↦ elim (cases_lt k (a + n)) [
+        | inl inside ↦ (let q : a + (k - a) ≡ k = omega arith in let Q : ℕ → Type 0 = λ t. IsNarrow (at (put_mid a n xs ys) t) in
+            subst Q q (subst P (sym (at_put_inside xs ys a n (k - a) (omega arith) e l)) (w (k - a) (omega arith))))
+        | inr above ↦ subst P (sym (at_put_above xs ys a n k above e l)) (u k h)
+      ]
+    ]
+
+-- ---- rows that agree below `width`
+pub primitive_same_row : (last : ℕ) (f g : ℕ → ℤ) → ((j : ℕ) → j ≤ last → f j ≡ g j) → IsPrimitive last f → IsPrimitive last g
+primitive_same_row last f g e u = elim u.form [
+  | inl z ↦ record { form = inl (λ j h. sym (e j h) ∙ z j h) }
+  | inr d ↦ record { form = inr (λ k h. d k (λ j l. let P : ℤ → Type 0 = λ t. k ∣ unsigned_abs t in subst P (sym (e j l)) (h j l))) }
+]
+
+pub reduced_same : (lead lead' : ℕ → ℤ) (c width : ℕ) (old old' new new' : ℕ → ℤ) → c < width → ((j : ℕ) → j < width → lead j ≡ lead' j) → ((j : ℕ) → j < width → old j ≡ old' j) → ((j : ℕ) → j < width → new j ≡ new' j)
+    → IsReduced lead c width old new → IsReduced lead' c width old' new'
+reduced_same lead lead' c width old old' new new' cw el eo en u = record {
+  divided = (
+    u.divided.0,
+    u.divided.1,
+    λ j h. ap (λ t. t *ℤ old' j -ℤ old' c *ℤ lead' j) (sym (el c cw)) ∙ ap (λ t. lead c *ℤ t -ℤ old' c *ℤ lead' j) (sym (eo j h)) ∙ ap (λ t. lead c *ℤ old j -ℤ t *ℤ lead' j) (sym (eo c cw))
+        ∙ ap (λ t. lead c *ℤ old j -ℤ old c *ℤ t) (sym (el j h)) ∙ u.divided.2 j h ∙ ap (λ t. u.divided.0 *ℤ t) (en j h),
+  );
+  primitive = primitive_same_row (width - 1) new new' (λ j h. en j (omega arith)) u.primitive;
+}
+
+pub reduced_to_same : (lead lead' : ℕ → ℤ) (c width : ℕ) (old old' : ℕ → ℤ) (j : ℕ) (z : ℤ) → c < width → ((j : ℕ) → j < width → lead j ≡ lead' j) → ((j : ℕ) → j < width → old j ≡ old' j)
+    → IsReducedTo lead c width old j z → IsReducedTo lead' c width old' j z
+reduced_to_same lead lead' c width old old' j z cw el eo u = record {
+  inside = u.inside;
+  size = u.size;
+  wide = u.wide;
+  row = (u.row.0, reduced_same lead lead' c width old old' u.row.0 u.row.0 cw el eo (λ k h. refl) u.row.1, u.row.2, u.row.3);
+}
+
+-- ---- places of rows that stand one after the other
+pub row_inside : (count width i j : ℕ) → i < count → j < width → i * width + j < count * width
+row_inside count width i j h l =
+    let m : suc i * width ≤ count * width = Rattle.std.proofs.Math.Nat.mul-le-mul_right width (omega arith) in omega arith
+
+pub row_ends : (count width i : ℕ) → i < count → i * width + width ≤ count * width
+row_ends count width i h =
+    let m : suc i * width ≤ count * width = Rattle.std.proofs.Math.Nat.mul-le-mul_right width (omega arith) in omega arith
+
+pub row_apart : (width h i j : ℕ) → j < width → h ≢ i → (h * width + j < i * width) ⊎ (i * width + width ≤ h * width + j)
+row_apart width h i j jw ne = elim (cases_order h i) [
+  | inl s ↦ absurd (ne s)
+  | inr x ↦ elim x [
+    | inl less ↦ inl (let m : h * width + width ≤ i * width = row_ends i width h less in omega arith)
+    | inr more ↦ inr (let m : i * width + width ≤ h * width = row_ends h width i more in omega arith)
+  ]
+]
+
+pub divided_same : (width : ℕ) (old old' new new' : ℕ → ℤ) → 0 < width → ((j : ℕ) → j < width → old j ≡ old' j) → ((j : ℕ) → j < width → new j ≡ new' j) → IsDivided width old new → IsDivided width old' new'
+divided_same width old old' new new' some eo en u = record {
+  divided = (u.divided.0, u.divided.1, λ j h. sym (eo j h) ∙ u.divided.2 j h ∙ ap (λ t. u.divided.0 *ℤ t) (en j h));
+  primitive = primitive_same_row (width - 1) new new' (λ j h. en j (omega arith)) u.primitive;
+}

@@ -1,0 +1,41 @@
+use Rattle.std.proofs.Common.{◌≡◌, ◌≢◌, inl, inr, ℕ, ◌+◌, ◌<◌, List, length, slice_index, slice_index_or, slice_set, sym, ap, subst, ◌∙◌, arith, get_or-set_other, get_or-set_same}
+use Rattle.std.proofs.lemmas.Bool.{cases_eq}
+use Rattle.gs_rows.specs.declared.Program.{Program}
+use Rattle.gs_rows.specs.Program.{Listing, IsListed, ColListed, IsPairList}
+use Rattle.gs_rows.proofs.PairLists.{place_of, listed_at}
+use Rattle.gs_simplex.specs.Values.{IsMarked}
+use Rattle.gs_simplex.proofs.best.mark_rows.Goals as goal
+
+less_one : (a b : ℕ) → a + 1 ≡ b + 1 → a ≡ b
+less_one a b e = omega arith
+
+-- one more pair marked
+marked : (p : Program) (l : Listing) (old rows : List ℕ) (n r c : ℕ) → IsPairList p l → length rows ≡ p.cols → n < length l → slice_index_or l n (0, 0) ≡ (r + 1, c + 1) → c < p.cols → IsMarked l old rows n → IsMarked l old (slice_set rows c (r + 1)) (n + 1)
+marked p l old rows n r c pairs long h at cn u = record {
+  listed = λ k i j kn e. elim (cases_eq k n) [
+    | inl s ↦ (let q : (r + 1, c + 1) ≡ (i + 1, j + 1) = sym at ∙ ap (λ x. slice_index_or l x (0, 0)) (sym s) ∙ e in
+        let a : r ≡ i = less_one r i (ap (λ (x : ℕ × ℕ). x.0) q) in let b : c ≡ j = less_one c j (ap (λ (x : ℕ × ℕ). x.1) q) in
+        ap (slice_index (slice_set rows c (r + 1))) (sym b) ∙ get_or-set_same rows c (r + 1) 0 (omega arith) ∙ ap (λ x. x + 1) a)
+    | inr ne ↦ (let apart : j ≢ c = λ s. ne (pairs.columns_differ k n (omega arith) h (ap (λ (x : ℕ × ℕ). x.1) e ∙ ap (λ x. x + 1) s ∙ sym (ap (λ (x : ℕ × ℕ). x.1) at))) in
+        get_or-set_other rows c j (r + 1) 0 apart ∙ u.listed k i j (omega arith) e)
+  ];
+  unlisted = λ j none. (let apart : j ≢ c = λ s. none n (omega arith) (ap (λ (x : ℕ × ℕ). x.1) at ∙ ap (λ x. x + 1) (sym s)) in get_or-set_other rows c j (r + 1) 0 apart ∙ u.unlisted j (λ k kn. none k (omega arith)));
+}
+
+pub loop-place-preserved : goal.loop-place-preserved
+loop-place-preserved c =
+    marked c.args.p.now c.args.basis.now c.args.rows.now c.loop-place.rows c.loop-place.place c.pair_at-row.result.0 c.pair_at-row.result.1 c.requires.pairs (omega (arith, c.loop-place.auto.rows, c.requires.long)) c.loop-place-test.true
+    c.pair_at-row.ensures.pair c.pair_at-row.ensures.column c.loop-place.invariant
+
+pub returns-clause-listed : goal.returns-clause-listed
+returns-clause-listed c = λ i j h. c.loop-place.invariant.listed h.0 i j (omega (arith, h.1)) (place_of c.args.basis.now i j h)
+
+-- a column that stands in no pair
+none_names : (p : Program) (l : Listing) (j k : ℕ) → IsPairList p l → (ColListed l j → ⊥) → k < length l → (slice_index_or l k (0, 0)).1 ≡ j + 1 → ⊥
+none_names p l j k pairs out h e =
+    let n = pairs.named k h in
+    let s : n.1 ≡ j = less_one n.1 j (ap (λ (x : ℕ × ℕ). x.1) (sym n.2) ∙ e) in
+    out (n.0, (let P : ℕ → Type 0 = λ x. IsListed l n.0 x in subst P s (listed_at l k n.0 n.1 h n.2)))
+
+pub returns-clause-unlisted : goal.returns-clause-unlisted
+returns-clause-unlisted c = λ j out. c.loop-place.invariant.unlisted j (λ k h. none_names c.args.p.now c.args.basis.now j k c.requires.pairs out (omega arith))

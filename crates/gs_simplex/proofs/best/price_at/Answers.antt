@@ -1,0 +1,22 @@
+use Rattle.std.proofs.Common.{◌≡◌, ◌+◌, ◌<◌, ◌^◌, ℤ, pos, neg_ℤ, ◌-ℤ◌, ◌*ℤ◌, unsigned_abs, to_z, of_z, w64, sym, ap, ◌∙◌, arith}
+use mir.Syntax.{w128}
+use Rattle.std.proofs.lemmas.Int.{ints}
+use Rattle.gs_simplex.specs.Numbers.{cell}
+use Rattle.gs_simplex.specs.Table.{table_aim}
+use Rattle.gs_simplex.proofs.Fits.{widened, kept_128}
+use Rattle.gs_simplex.proofs.Tables.{flipped_other}
+use Rattle.gs_simplex.proofs.best.price_at.Goals as goal
+
+negated : (a r : ℤ) → unsigned_abs a < 2 ^ 62 → r ≡ to_z w64 (of_z w64 a) → to_z w128 (of_z w128 (pos 0 -ℤ to_z w128 (of_z w128 r))) ≡ neg_ℤ a
+negated a r h e =
+    let q : unsigned_abs (pos 0 -ℤ a) ≡ unsigned_abs a = omega (arith, ints) in
+    ap (λ t. to_z w128 (of_z w128 (pos 0 -ℤ t))) (widened a r h e) ∙ kept_128 (pos 0 -ℤ a) (omega (arith, h)) ∙ (let s : pos 0 -ℤ a ≡ neg_ℤ a = omega (arith, ints) in s)
+
+pub returns : goal.returns
+returns c =
+    let p = c.args.p.now in let xs = c.args.numbers.now in let n = p.cols in let f = c.new.result in let X = cell xs (n + 2) p.rows in
+    let m : to_z w128 (of_z w128 c.from-2.result) ≡ table_aim p xs (n + 1) =
+    widened c.number_at-multiple.result c.from-2.result c.number_at-multiple.ensures.narrow c.from-2.ensures ∙ c.number_at-multiple.ensures.value ∙ sym (flipped_other n X (n + 1) (λ e. omega arith)) in
+    let g : to_z w128 (of_z w128 (pos 0 -ℤ to_z w128 (of_z w128 c.from.result))) ≡ neg_ℤ (table_aim p xs c.args.j) =
+    negated c.number_at-falls.result c.from.result c.number_at-falls.ensures.narrow c.from.ensures ∙ ap neg_ℤ (c.number_at-falls.ensures.value ∙ sym (flipped_other n X c.args.j (λ e. omega (arith, c.requires.column)))) in
+    ap (λ t. f.num *ℤ t) (sym m) ∙ c.new.ensures ∙ ap (λ t. t *ℤ f.den) g

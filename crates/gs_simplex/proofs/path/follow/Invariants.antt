@@ -1,0 +1,9 @@
+use Rattle.std.proofs.Common.{◌+◌, ◌≤◌, length}
+use Rattle.gs_simplex.specs.State.{IsState}
+use Rattle.gs_simplex.proofs.path.follow.Given as goal
+
+abbrev pub invariant-loop-made : goal.invariant-loop-made
+invariant-loop-made l = record {
+  within : l.made ≤ l.limit;
+  state : IsState l.p l.opening (length l.opening + l.made) l.basis l.table;
+}

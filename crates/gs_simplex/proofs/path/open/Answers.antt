@@ -1,0 +1,46 @@
+use Rattle.std.proofs.Common.{◌+◌, take, sym, subst, arith}
+use Rattle.gs_simplex.specs.declared.answer.Stop.{Stop}
+use Rattle.gs_simplex.specs.Table.{IsTableAfter, IsWideAfter}
+use Rattle.gs_simplex.specs.Answer.{IsStop}
+use Rattle.gs_simplex.proofs.Paths.{rows_of_so_far, primitive_of, so_far_start, none_of, open_nonzero, open_wide, open_pairs, open_next, opening_pairs, empty_pairs}
+use Rattle.gs_simplex.proofs.path.open.Goals as goal
+
+pub loop-step-init : goal.loop-step-init
+loop-step-init c =
+    let s = c.requires.start in let p = c.args.p.now in
+    record { room = s.room; table = s.table; pairs = empty_pairs p; so_far = so_far_start p c.args.opening.now c.args.table.now.numbers.items s.rows }
+
+pub pair_at-row-requires-clause-pairs : goal.pair_at-row-requires-clause-pairs
+pair_at-row-requires-clause-pairs c = opening_pairs c.args.p.now c.args.opening.now c.requires.opens
+
+pub list-requires-clause-primitive : goal.list-requires-clause-primitive
+list-requires-clause-primitive c =
+    let p = c.args.p.now in let o = c.args.opening.now in let t = c.loop-step.step in let xs = c.loop-step.table.numbers.items in
+    primitive_of p (take t o) xs (rows_of_so_far p o t (take t o) xs c.loop-step.invariant.so_far)
+
+pub list-requires-clause-nonzero : goal.list-requires-clause-nonzero
+list-requires-clause-nonzero c =
+    let v = c.loop-step.invariant in
+    open_nonzero c.args.p.now c.args.opening.now c.loop-step.step c.pair_at-row.result.0 c.pair_at-row.result.1 c.loop-step.table.numbers.items c.requires.opens c.loop-step-test.true c.pair_at-row.ensures.pair v.table v.so_far
+
+pub returns-in-Some : goal.returns-in-Some
+returns-in-Some c = λ limit.
+    let v = c.loop-step.invariant in let w = c.in-Some.cell in
+    let P : Stop → Type 0 = λ x. IsStop c.args.p.now c.args.opening.now limit x in
+    subst P (sym c.wide_stop.ensures) (
+      c.requires.small,
+      open_wide c.args.p.now c.args.opening.now c.loop-step.step c.pair_at-row.result.0 c.pair_at-row.result.1 c.loop-step.table.numbers.items c.requires.opens c.loop-step-test.true c.pair_at-row.ensures.pair v.table v.so_far w.row w.column w.number
+          c.in-Some.ensures.listed limit,
+    )
+
+pub loop-step-preserved : goal.loop-step-preserved
+loop-step-preserved c =
+    let p = c.args.p.now in let o = c.args.opening.now in let t = c.loop-step.step in let v = c.loop-step.invariant in
+    let r = c.pair_at-row.result.0 in let k = c.pair_at-row.result.1 in let xs = c.loop-step.table.numbers.items in let new = c.list.new.self.numbers.items in
+    let a : IsTableAfter p xs new r k = none_of c.list.result (IsTableAfter p xs new r k) (λ w. IsWideAfter p xs r k w.row w.column w.number) c.in_default.is c.list.ensures.listed in
+    record {
+      room = c.list.ensures.room;
+      table = a.table;
+      pairs = open_pairs p o t r k xs c.requires.opens c.loop-step-test.true c.pair_at-row.ensures.pair v.table v.so_far (t + 1) (omega (arith, c.loop-step-test.true));
+      so_far = open_next p o t r k xs c.requires.opens c.loop-step-test.true c.pair_at-row.ensures.pair v.table v.so_far new a;
+    }

@@ -1,0 +1,16 @@
+use Rattle.gs_simplex.proofs.Fits.{quotient_kept, quotient_within, quotient_64, stored, kept_128}
+use Rattle.std.proofs.Common.{◌<◌, ◌^◌, unsigned_abs, w64, ap, arith}
+use Rattle.std.proofs.lemmas.Int.{to_z_pos}
+use Rattle.gs_simplex.proofs.row.quotient.Goals as goal
+
+pub returns-clause-value : goal.returns-clause-value
+returns-clause-value c = quotient_kept c.args.by c.args.number c.requires.divides c.requires.within c.requires.small
+
+pub returns-clause-small_result : goal.returns-clause-small_result
+returns-clause-small_result c = quotient_within c.args.by c.args.number c.requires.within c.requires.small
+
+pub returns-then-unsigned_abs-lt4611686018427387904-clause-value : goal.returns-then-unsigned_abs-lt4611686018427387904-clause-value
+returns-then-unsigned_abs-lt4611686018427387904-clause-value c =
+    let z = c.args.number in
+    let small : unsigned_abs z < 2 ^ 62 = omega (arith, c.if-unsigned_abs-lt4611686018427387904.true, c.unsigned_abs.ensures.value, ap unsigned_abs (kept_128 z (omega (arith, c.requires.within)))) in
+    quotient_64 c.args.by z _ c.from.result _ c.requires.divides small c.if-by-lt4611686018427387904.true (stored z small) (to_z_pos w64 c.args.by (omega (arith, c.if-by-lt4611686018427387904.true))) c.from.ensures

@@ -1,0 +1,58 @@
+use Rattle.std.proofs.Common.{Result, Ok, Err, ◌≡◌, ℕ, ◌+◌, ◌*◌, ◌≤◌, List, ◌++◌, ℤ, length, take, drop, sym, subst, ◌∙◌, arith}
+use Rattle.std.proofs.lemmas.List.{take_at}
+use Rattle.gs_rows.specs.declared.Program.{Program}
+use Rattle.gs_rows.specs.Program.{Listing, IsRowsOf}
+use Rattle.gs_rows.specs.Path.{PathStops, ends}
+use Rattle.gs_simplex.specs.declared.answer.Best.{Best}
+use Rattle.gs_simplex.specs.declared.table.Table.{Table}
+use Rattle.gs_simplex.specs.Table.{table_rows, table_aim}
+use Rattle.gs_simplex.specs.State.{IsEnd}
+use Rattle.gs_simplex.specs.Answer.{IsSmall, IsStop, IsAnswer, IsBest, IsBestAt, IsBestTable}
+use Rattle.std.specs.Result.{IsErrAnd}
+use Rattle.gs_simplex.specs.declared.answer.Stop.{Stop}
+use Rattle.gs_simplex.proofs.Paths.{rows_of_so_far, ends_stops}
+use Rattle.gs_simplex.proofs.run.Goals as goal
+
+taken : (n : ℕ) (xs ys : Listing) → length xs ≡ n → take n (xs ++ ys) ≡ xs
+taken n xs ys e = take_at xs ys n e
+
+end_rows : (p : Program) (o : Listing) (limit n : ℕ) (l l' : Listing) (t : Table) (xs : List ℤ) → IsEnd p o limit n l t → l' ≡ l → xs ≡ t.numbers.items → IsRowsOf p l' (table_rows p xs) (table_aim p xs)
+end_rows p o limit n l l' t xs u el ex =
+    let P : Listing → Type 0 = λ x. IsRowsOf p x (table_rows p xs) (table_aim p xs) in let Q : List ℤ → Type 0 = λ x. IsRowsOf p l (table_rows p x) (table_aim p x) in
+    subst P (sym el) (subst Q (sym ex) (rows_of_so_far p o (length o + n) l t.numbers.items u.state.so_far))
+
+best_of : (p : Program) (o : Listing) (limit n : ℕ) (l l' : Listing) (t : Table) (xs : List ℤ) (b : Best) → IsSmall p → IsEnd p o limit n l t → l' ≡ l → xs ≡ t.numbers.items → IsBestTable p xs l' n b → IsBest p o limit b
+best_of p o limit n l l' t xs b small u el ex w =
+    let stop : PathStops p o limit (ends n l) = ends_stops p o limit n l t.numbers.items u.state.so_far u.state.table u.within u.none in
+    let P : ℕ → Type 0 = λ k. PathStops p o limit (ends k b.basis.items) in let Q : Listing → Type 0 = λ x. PathStops p o limit (ends n x) in
+    let B : Listing → Type 0 = λ x. IsBestAt p x (table_rows p xs) (table_aim p xs) b.value.items b.price.items in
+    record {
+      small = small;
+      stops = subst P (sym w.pivots_are) (subst Q (sym (w.basis_is ∙ el)) stop);
+      values = w.values;
+      prices = w.prices;
+      last = (table_rows p xs, table_aim p xs, subst B (sym w.basis_is) w.best);
+    }
+
+small_product : (x y a b : ℕ) → x ≡ a → y ≡ b → (x + 1) * (y + 1) ≤ 1048576 → (a + 1) * (b + 1) ≤ 1048576
+small_product x y a b e f h = let P : ℕ → Type 0 = λ t. (t + 1) * (b + 1) ≤ 1048576 in let Q : ℕ → Type 0 = λ t. (x + 1) * (t + 1) ≤ 1048576 in subst P e (subst Q f h)
+
+err_answer : (p : Program) (o : Listing) (limit : ℕ) (r : Result Best Stop) (s : Stop) → IsErrAnd r (λ x. x ≡ s) → IsStop p o limit s → IsAnswer p o limit r
+err_answer p o limit (Ok b) s e h = absurd e
+err_answer p o limit (Err x) s e h = let P : Stop → Type 0 = λ y. IsStop p o limit y in subst P (sym e) h
+
+pub returns-in_err-open : goal.returns-in_err-open
+returns-in_err-open c =
+    err_answer c.args.p.now c.args.opening.now c.args.limit c.from_residual-in_err-open.result c.in_err-open.field-0.0 c.from_residual-in_err-open.ensures.1 (c.in_err-open.ensures c.args.limit)
+
+pub best-requires-clause-rows : goal.best-requires-clause-rows
+best-requires-clause-rows c =
+    let l = c.follow.new.basis in
+    end_rows c.args.p.now c.args.opening.now c.args.limit c.in_ok-pivots.pivots l (take c.in_ok-basis.basis.len (l ++ drop (length l) c.in_ok-basis.basis.items)) c.follow.new.table c.deref.result.now c.in_ok-pivots.ensures
+    (taken c.in_ok-basis.basis.len l (drop (length l) c.in_ok-basis.basis.items) (omega (arith, c.follow.auto.basis, c.deref_mut.ensures.len))) c.deref.ensures.value
+
+pub returns : goal.returns
+returns c =
+    let l = c.follow.new.basis in
+    best_of c.args.p.now c.args.opening.now c.args.limit c.in_ok-pivots.pivots l (take c.in_ok-basis.basis.len (l ++ drop (length l) c.in_ok-basis.basis.items)) c.follow.new.table c.deref.result.now c.in_ok-best.field-0 (small_product c.from.result c.from-2.result c.args.p.now.rows c.args.p.now.cols c.from.ensures c.from-2.ensures c.if-count-gt-MOST_NUMBERS.false) c.in_ok-pivots.ensures
+    (taken c.in_ok-basis.basis.len l (drop (length l) c.in_ok-basis.basis.items) (omega (arith, c.follow.auto.basis, c.deref_mut.ensures.len))) c.deref.ensures.value c.in_ok-best.ensures

@@ -1,0 +1,89 @@
+use Rattle.std.proofs.Common.{◌≡◌, ◌≢◌, MatchOption, Option, Some, None, ◌⊎◌, ℕ, ◌+◌, ◌-◌, ◌*◌, ◌<◌, ◌≤◌, ℤ, List, length, refl, sym, subst, ◌∙◌, arith, below_more}
+use Rattle.gs_simplex.specs.Numbers.{at, cell, AllNarrow, IsReduced, IsReducedTo, IsClearedTo}
+use Rattle.gs_simplex.proofs.Fits.{kept_128}
+use Rattle.gs_simplex.proofs.Places.{primitive_same_row, reduced_same, reduced_to_same, row_ends, row_apart}
+use Rattle.gs_simplex.proofs.table.clear_column.Goals as goal
+
+pub loop-i-preserved-then-i-r : goal.loop-i-preserved-then-i-r
+loop-i-preserved-then-i-r c =
+    let v = c.loop-i.invariant in
+    record {
+      width = refl;
+      done = below_more _ c.loop-i.i v.done (λ ne. absurd (ne c.if-i-r.true));
+      left = λ h l j jw. v.left h (omega arith) j jw;
+      kept = v.kept;
+      narrow = v.narrow;
+    }
+
+pub reduce_at-requires-clause-primitive : goal.reduce_at-requires-clause-primitive
+reduce_at-requires-clause-primitive c =
+    let w = length c.args.lead.now in let i = c.loop-i.i in
+    let cw : c.args.c < w = c.requires.column in
+    primitive_same_row (w - 1) (cell c.args.numbers.now w i) (cell c.loop-i.numbers w i) (λ j h. sym (c.loop-i.invariant.left i (omega arith) j (omega arith))) (c.requires.primitive i c.loop-i-test.true)
+
+pub returns-in-Some : goal.returns-in-Some
+returns-in-Some c =
+    let w = length c.args.lead.now in let i = c.loop-i.i in let old = c.args.numbers.now in let now = c.loop-i.numbers in
+    let lead = at c.args.lead.now in
+    let z = c.in-Some.wide.number in
+    let here : IsReducedTo lead c.args.c w (cell old w i) c.in-Some.wide.column z =
+    reduced_to_same lead lead c.args.c w (cell now w i) (cell old w i) c.in-Some.wide.column z c.requires.column (λ j h. refl) (λ j h. c.loop-i.invariant.left i (omega arith) j h) c.in-Some.ensures.answer in
+    let P : ℤ → Type 0 = λ t. IsClearedTo old c.args.count w c.args.r c.args.c lead i c.in-Some.wide.column t in
+    subst P (sym (kept_128 z (omega (arith, here.size)))) (record {
+      inside = c.loop-i-test.true;
+      apart = c.if-i-r.false;
+      here = here;
+      before = λ h l ne. (
+        cell now w h,
+        c.loop-i.invariant.done h l ne,
+        λ k kw. c.loop-i.invariant.narrow (h * w + k) (let e : length now ≡ c.args.count * w = omega (arith, c.loop-i.auto.numbers, c.requires.long) in
+            omega (arith, Rattle.gs_simplex.proofs.Places.row_inside c.args.count w h k (omega arith) kw)),
+      );
+    })
+
+module _ (old now new : List ℤ) (lead : ℕ → ℤ) (count w r c i : ℕ) (cw : c < w) (ne : i ≢ r)
+    (done : (h : ℕ) → h < i → h ≢ r → IsReduced lead c w (cell old w h) (cell now w h))
+    (left : (h : ℕ) → i ≤ h → (j : ℕ) → j < w → cell now w h j ≡ cell old w h j)
+    (kept : (j : ℕ) → j < w → cell now w r j ≡ cell old w r j)
+    (others : (k : ℕ) → (k < i * w) ⊎ (i * w + w ≤ k) → at new k ≡ at now k)
+    (here : IsReduced lead c w (cell now w i) (cell new w i)) where
+  stays : (h : ℕ) → h ≢ i → (j : ℕ) → j < w → cell new w h j ≡ cell now w h j
+  stays h d j jw = others (h * w + j) (row_apart w h i j jw d)
+
+  done_more : (h : ℕ) → h < i + 1 → h ≢ r → IsReduced lead c w (cell old w h) (cell new w h)
+  done_more = below_more (λ h. h ≢ r → IsReduced lead c w (cell old w h) (cell new w h)) i
+      (λ h l d. reduced_same lead lead c w (cell old w h) (cell old w h) (cell now w h) (cell new w h) cw (λ j jw. refl) (λ j jw. refl) (λ j jw. sym (stays h (λ e. omega arith) j jw)) (done h l d))
+      (λ d. reduced_same lead lead c w (cell now w i) (cell old w i) (cell new w i) (cell new w i) cw (λ j jw. refl) (λ j jw. left i (omega arith) j jw) (λ j jw. refl) here)
+
+  left_more : (h : ℕ) → i + 1 ≤ h → (j : ℕ) → j < w → cell new w h j ≡ cell old w h j
+  left_more h l j jw = stays h (λ e. omega arith) j jw ∙ left h (omega arith) j jw
+
+  kept_more : (j : ℕ) → j < w → cell new w r j ≡ cell old w r j
+  kept_more j jw = stays r (λ e. ne (sym e)) j jw ∙ kept j jw
+
+none_of : {X : Type 0} (r : Option X) (P : Type 0) (Q : X → Type 0) → r ≡ None → MatchOption r P Q → P
+none_of None P Q e h = h
+none_of (Some x) P Q e h = absurd (cc)
+
+pub loop-i-preserved : goal.loop-i-preserved
+loop-i-preserved c =
+    let w = length c.args.lead.now in let i = c.loop-i.i in let old = c.args.numbers.now in let now = c.loop-i.numbers in let new = c.reduce_at.new.numbers in
+    let lead = at c.args.lead.now in
+    let v = c.loop-i.invariant in
+    let a : IsReduced lead c.args.c w (cell now w i) (cell new w i) × AllNarrow new =
+    none_of c.reduce_at.result (IsReduced lead c.args.c w (cell now w i) (cell new w i) × AllNarrow new) (λ x. IsReducedTo lead c.args.c w (cell now w i) x.column x.number) c.in_default.is c.reduce_at.ensures.answer in
+    record {
+      width = refl;
+      done = done_more old now new lead c.args.count w c.args.r c.args.c i c.requires.column c.if-i-r.false v.done v.left v.kept c.reduce_at.ensures.others a.0;
+      left = left_more old now new lead c.args.count w c.args.r c.args.c i c.requires.column c.if-i-r.false v.done v.left v.kept c.reduce_at.ensures.others a.0;
+      kept = kept_more old now new lead c.args.count w c.args.r c.args.c i c.requires.column c.if-i-r.false v.done v.left v.kept c.reduce_at.ensures.others a.0;
+      narrow = a.1;
+    }
+
+pub returns : goal.returns
+returns c =
+    record {
+      others = λ i h ne. c.loop-i.invariant.done i (omega arith) ne;
+      kept = c.loop-i.invariant.kept;
+      narrow = c.loop-i.invariant.narrow;
+    }

@@ -1,0 +1,12 @@
+use Rattle.std.proofs.Common.{◌≡◌, ◌≢◌, ℕ, ◌<◌, ◌≤◌, length}
+use Rattle.gs_simplex.specs.Numbers.{at, cell, AllNarrow, IsReduced}
+use Rattle.gs_simplex.proofs.table.clear_column.Given as goal
+
+abbrev pub invariant-loop-i : goal.invariant-loop-i
+invariant-loop-i l = record {
+  width : l.width ≡ length l.lead;
+  done : (h : ℕ) → h < l.i → h ≢ l.r → IsReduced (at l.lead) l.c (length l.lead) (cell l.fn.numbers (length l.lead) h) (cell l.numbers (length l.lead) h);
+  left : (h : ℕ) → (l.i ≤ h) → (j : ℕ) → j < length l.lead → cell l.numbers (length l.lead) h j ≡ cell l.fn.numbers (length l.lead) h j;
+  kept : (j : ℕ) → j < length l.lead → cell l.numbers (length l.lead) l.r j ≡ cell l.fn.numbers (length l.lead) l.r j;
+  narrow : AllNarrow l.numbers;
+}

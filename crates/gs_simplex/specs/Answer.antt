@@ -1,0 +1,52 @@
+-- What the simplex method answers.
+use Rattle.std.specs.Prelude.{◌≡◌, ℕ, ◌+◌, ◌*◌, ◌<◌, ◌≤◌, Result, Ok, Err, List, ℤ, pos, neg_ℤ, ◌*ℤ◌, length}
+use Rattle.std.specs.List.{HoldsAt}
+use Rattle.gs_rows.specs.declared.Program.{Program}
+use Rattle.gs_rows.specs.Program.{Listing, IsListed, ColListed, IsRowsOf}
+use Rattle.gs_rows.specs.Path.{ends, wide, pivots, unbounded, PathStops}
+use Rattle.gs_simplex.specs.Table.{table_rows, table_aim}
+use Rattle.gs_frac.specs.declared.value.Fraction.{Fraction}
+use Rattle.gs_simplex.specs.declared.answer.Best.{Best}
+use Rattle.gs_simplex.specs.declared.answer.Stop.{Stop}
+use Rattle.gs_simplex.specs.declared.answer.Stop.TheVariants.{TableTooLarge, Wide, Pivots, Unbounded, Memory}
+
+-- the table is within the limit of 1,048,576 numbers
+abbrev pub IsSmall : Program → Type 0
+IsSmall p = (p.rows + 1) * (p.cols + 1) ≤ 1048576
+
+-- each stop stands for what the path meets first
+abbrev pub IsStop : Program → Listing → ℕ → Stop → Type 0
+IsStop p o limit (TableTooLarge count) = (count ≡ (p.rows + 1) * (p.cols + 1)) × (1048576 < count)
+IsStop p o limit (Wide step row col number) = IsSmall p × PathStops p o limit (wide step row col number)
+IsStop p o limit Pivots = IsSmall p × PathStops p o limit pivots
+IsStop p o limit (Unbounded col) = IsSmall p × PathStops p o limit (unbounded col)
+IsStop p o limit Memory = Unit {0}
+
+-- The values and prices at a list with these rows. A listed column's value is its row's right side over its row's number in the column, and an
+-- unlisted column's is 0. A price is minus the column's number in the aim's row over the multiple, which is 0 where the column is listed.
+pub record IsBestAt (p : Program) (l : Listing) (rows : ℕ → ℕ → ℤ) (aim : ℕ → ℤ) (value price : List Fraction) : Type 0 where
+  pub rows_of : IsRowsOf p l rows aim
+  pub listed : (i j : ℕ) → IsListed l i j → HoldsAt (λ f. f.num *ℤ rows i j ≡ rows i p.cols *ℤ f.den) value j
+  pub unlisted : (j : ℕ) → j < p.cols → ¬ ColListed l j → HoldsAt (λ f. f.num ≡ pos 0) value j
+  pub prices : (j : ℕ) → j < p.cols → HoldsAt (λ f. f.num *ℤ aim (p.cols + 1) ≡ neg_ℤ (aim j) *ℤ f.den) price j
+
+-- the path ends so, and the last list has these values and prices
+pub record IsBest (p : Program) (o : Listing) (limit : ℕ) (b : Best) : Type 0 where
+  pub small : IsSmall p
+  pub stops : PathStops p o limit (ends b.pivots b.basis.items)
+  pub values : length b.value.items ≡ p.cols
+  pub prices : length b.price.items ≡ p.cols
+  pub last : (rows : ℕ → ℕ → ℤ) × (aim : ℕ → ℤ) × IsBestAt p b.basis.items rows aim b.value.items b.price.items
+
+-- the values and prices at a table
+pub record IsBestTable (p : Program) (xs : List ℤ) (l : Listing) (pivots : ℕ) (b : Best) : Type 0 where
+  pub pivots_are : b.pivots ≡ pivots
+  pub basis_is : b.basis.items ≡ l
+  pub values : length b.value.items ≡ p.cols
+  pub prices : length b.price.items ≡ p.cols
+  pub best : IsBestAt p l (table_rows p xs) (table_aim p xs) b.value.items b.price.items
+
+-- what `run` answers
+abbrev pub IsAnswer : Program → Listing → ℕ → Result Best Stop → Type 0
+IsAnswer p o limit (Ok b) = IsBest p o limit b
+IsAnswer p o limit (Err s) = IsStop p o limit s

@@ -1,0 +1,35 @@
+-- What the tests find out of a program and an opening before they call `run`.
+use Rattle.std.specs.Prelude.{false, [], ◌∷◌, ◌≡◌, ◌≢◌, ℕ, ◌+◌, ◌<◌, List, length, take, slice_index_or, ℤ, pos, ◌≤ℤ◌}
+use Rattle.gs_rows.specs.declared.Program.{Program}
+use Rattle.gs_rows.specs.Program.{rows_of, Listing, IsListed, IsFree, IsRowsOf, CanTake}
+use Rattle.gs_simplex.specs.Numbers.{AllNarrow}
+use Rattle.gs_simplex.specs.Table.{table_rows, table_aim, IsTable}
+
+pub record IsWideRow (width : ℕ) (row : List ℤ) : Type 0 where
+  pub long : length row ≡ width
+  pub narrow : AllNarrow row
+
+-- no pair before has the row or the column of the pair at this step
+abbrev pub IsNewPair : Listing → ℕ → Type 0
+IsNewPair o step = (k : ℕ) → k < step → ((slice_index_or o k (0, 0)).0 ≢ (slice_index_or o step (0, 0)).0) × ((slice_index_or o k (0, 0)).1 ≢ (slice_index_or o step (0, 0)).1)
+
+pub record CanTakeAt (p : Program) (rows : ℕ → ℕ → ℤ) (o : Listing) (step : ℕ) : Type 0 where
+  pub pair : (r : ℕ) × (c : ℕ) × (slice_index_or o step (0, 0) ≡ (r + 1, c + 1)) × CanTake p (take step o) r c × (rows r c ≢ pos 0)
+
+-- the first t pairs were taken in turn, and the table has their rows
+pub record IsTaken (p : Program) (o : Listing) (t : ℕ) (xs : List ℤ) : Type 0 where
+  pub taken : (k : ℕ) → k < t → (r : ℕ) × (c : ℕ) × (slice_index_or o k (0, 0) ≡ (r + 1, c + 1)) × CanTake p (take k o) r c
+  pub table : IsTable p xs
+  pub rows : IsRowsOf p (take t o) (table_rows p xs) (table_aim p xs)
+
+-- no right side of a row whose listed column is not free is below 0
+abbrev pub HasFeasibleSides : Program → Listing → (ℕ → ℕ → ℤ) → Type 0
+HasFeasibleSides p l rows = (i j : ℕ) → IsListed l i j → ¬ IsFree p j → pos 0 ≤ℤ rows i p.cols
+
+-- the program of two rows whose first step has a number of 2^62 + 1
+pub record IsWideSample (p : Program) : Type 0 where
+  pub rows : p.rows ≡ 2
+  pub cols : p.cols ≡ 2
+  pub numbers : rows_of p ≡ (pos 2305843009213693951 ∷ pos 3 ∷ pos 1 ∷ []) ∷ (pos 2305843009213693950 ∷ pos 5 ∷ pos 1 ∷ []) ∷ []
+  pub free : p.free.items ≡ false ∷ false ∷ []
+  pub aim : p.aim.items ≡ pos 0 ∷ pos 0 ∷ []

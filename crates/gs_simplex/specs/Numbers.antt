@@ -1,0 +1,70 @@
+-- Rows as lists of numbers, and what becomes of one row in a pivot.
+use Rattle.std.specs.Prelude.{◌≡◌, ◌≢◌, ℕ, ◌+◌, ◌-◌, ◌*◌, ◌<◌, ◌≤◌, ◌^◌, ◌⊎◌, ℤ, pos, neg_ℤ, ◌≤ℤ◌, ◌-ℤ◌, ◌*ℤ◌, ◌<ℤ◌, List, slice_index_or, length, unsigned_abs}
+use Rattle.gs_rows.specs.Rows.{IsNarrow, IsPrimitive}
+
+-- the number at a place, 0 past the end
+abbrev pub at : List ℤ → ℕ → ℤ
+at xs j = slice_index_or xs j (pos 0)
+
+-- each number is below 2^62 in size
+abbrev pub AllNarrow : List ℤ → Type 0
+AllNarrow xs = (j : ℕ) → j < length xs → IsNarrow (at xs j)
+
+-- each number is at most 2^125 in size
+abbrev pub AllWithin : List ℤ → Type 0
+AllWithin xs = (j : ℕ) → j < length xs → unsigned_abs (at xs j) ≤ 2 ^ 125
+
+-- the first `count` numbers of `row` times `by` are those of `mixed`, and they are narrow
+pub record IsQuotient (by : ℕ) (mixed row : List ℤ) (count : ℕ) : Type 0 where
+  pub each : (j : ℕ) → j < count → at mixed j ≡ pos by *ℤ at row j
+  pub narrow : (j : ℕ) → j < count → IsNarrow (at row j)
+
+-- the quotient at place j is z and not narrow, and those before it are
+pub record IsWideQuotient (by : ℕ) (mixed : List ℤ) (j : ℕ) (z : ℤ) : Type 0 where
+  pub inside : j < length mixed
+  pub here : at mixed j ≡ pos by *ℤ z
+  pub size : unsigned_abs z ≤ 2 ^ 125
+  pub wide : ¬ IsNarrow z
+  pub before : (k : ℕ) → k < j → (y : ℤ) × (at mixed k ≡ pos by *ℤ y) × IsNarrow y
+
+-- `new` is the lead's number in column c times the old row, less the old row's number there times the lead, divided by all common divisors
+pub record IsReduced (lead : ℕ → ℤ) (c width : ℕ) (old new : ℕ → ℤ) : Type 0 where
+  pub divided : (g : ℤ) × (pos 0 <ℤ g) × ((j : ℕ) → j < width → lead c *ℤ old j -ℤ old c *ℤ lead j ≡ g *ℤ new j)
+  pub primitive : IsPrimitive (width - 1) new
+
+-- the old row is a multiple of the new one, whose numbers have no common divisor
+pub record IsDivided (width : ℕ) (old new : ℕ → ℤ) : Type 0 where
+  pub divided : (g : ℤ) × (pos 0 <ℤ g) × ((j : ℕ) → j < width → old j ≡ g *ℤ new j)
+  pub primitive : IsPrimitive (width - 1) new
+
+-- the row so reduced has its first number that is not narrow, z, in column j
+pub record IsReducedTo (lead : ℕ → ℤ) (c width : ℕ) (old : ℕ → ℤ) (j : ℕ) (z : ℤ) : Type 0 where
+  pub inside : j < width
+  pub size : unsigned_abs z ≤ 2 ^ 125
+  pub wide : ¬ IsNarrow z
+  pub row : (new : ℕ → ℤ) × (IsReduced lead c width old new) × (new j ≡ z) × ((k : ℕ) → k < j → IsNarrow (new k))
+
+-- the number in row i and column j of rows of this width that stand one after the other
+abbrev pub cell : List ℤ → ℕ → ℕ → ℕ → ℤ
+cell xs width i j = at xs (i * width + j)
+
+abbrev pub IsRowPrimitive : List ℤ → ℕ → ℕ → Type 0
+IsRowPrimitive xs width i = IsPrimitive (width - 1) (cell xs width i)
+
+-- the row is as before or negated, so that its number in column c is not below 0
+pub record IsTurned (old new : ℕ → ℤ) (c width : ℕ) : Type 0 where
+  pub own : pos 0 ≤ℤ new c
+  pub self : ((j : ℕ) → j < width → new j ≡ old j) ⊎ ((j : ℕ) → j < width → new j ≡ neg_ℤ (old j))
+
+-- each of `count` rows but r is reduced in column c by the lead, and row r is as before
+pub record IsCleared (old new : List ℤ) (count width r c : ℕ) (lead : ℕ → ℤ) : Type 0 where
+  pub others : (i : ℕ) → i < count → i ≢ r → IsReduced lead c width (cell old width i) (cell new width i)
+  pub kept : (j : ℕ) → j < width → cell new width r j ≡ cell old width r j
+  pub narrow : AllNarrow new
+
+-- so reduced, the rows have their first number that is not narrow, z, in row i and column j
+pub record IsClearedTo (old : List ℤ) (count width r c : ℕ) (lead : ℕ → ℤ) (i j : ℕ) (z : ℤ) : Type 0 where
+  pub inside : i < count
+  pub apart : i ≢ r
+  pub here : IsReducedTo lead c width (cell old width i) j z
+  pub before : (h : ℕ) → h < i → h ≢ r → (new : ℕ → ℤ) × (IsReduced lead c width (cell old width h) new) × ((k : ℕ) → k < width → IsNarrow (new k))

@@ -1,0 +1,54 @@
+// Answers and stops.
+
+ghost use Rattle.std.specs.Prelude.{◌≡◌};
+
+use gs_frac::Fraction;
+use std::alloc::AllocError;
+
+/// The last basis of the path.
+#[derive(Debug, Drop)]
+pub struct Best {
+    /// How many pivots were made after the opening.
+    pub pivots: u32,
+    /// The pairs of rows and columns of the last list, in the opening's order of rows, both counted from 1.
+    pub basis: Vec<(u32, u32)>,
+    /// The value of each column where the unlisted columns are 0.
+    pub value: Vec<Fraction>,
+    /// For each column how much the aim falls per unit of it when the rows hold and the other unlisted columns stay.
+    pub price: Vec<Fraction>,
+}
+
+/// Why there is no best basis.
+#[derive(Debug, PartialEq, Eq, Drop)]
+pub enum Stop {
+    /// The table has `(rows + 1) * (cols + 1)` numbers, more than 1,048,576.
+    TableTooLarge {
+        count: u64,
+    },
+    /// The first number of the path's rows, by step, row and column, that is 2^62 or more in size. Steps, rows and columns count from 1, and the first
+    /// pair of the opening is step 1. The aim's row comes after all rows, the right side or last number after all columns, and the multiple after it.
+    Wide {
+        step: u32,
+        row: u32,
+        col: u32,
+        number: i128,
+    },
+    /// The path has more pivots than the limit.
+    Pivots,
+    /// The entering column, which no row bounds.
+    Unbounded {
+        col: u32,
+    },
+    /// Memory ran out.
+    Memory,
+}
+
+impl From<AllocError> for Stop {
+    ghost use Rattle.gs_simplex.specs.declared.answer.Stop.TheVariants.{Memory};
+
+    ghost from_gives = { λ _ s. s ≡ Memory };
+
+    fn from(_error: AllocError) -> Stop {
+        Stop::Memory
+    }
+}

@@ -1,0 +1,131 @@
+// Values and prices at the last basis.
+
+ghost use Rattle.std.specs.Prelude.{◌≡◌, ℕ, ◌+◌, ◌-◌, ◌*◌, ◌^◌, ◌<◌, ◌≤◌, ◌⊎◌, ℤ, pos, neg_ℤ, ◌*ℤ◌, ◌<ℤ◌, length, slice_index, IfOk};
+ghost use Rattle.std.specs.List.{HoldsAt};
+ghost use Rattle.gs_rows.specs.Program.{IsPairList, IsListed, ColListed, IsRowsOf};
+ghost use Rattle.gs_simplex.specs.Numbers.{cell};
+ghost use Rattle.gs_simplex.specs.Table.{table_rows, table_aim, IsTable};
+ghost use Rattle.gs_simplex.specs.Values.{IsRowIndex, IsMarked, IsValue, CanValue};
+ghost use Rattle.gs_simplex.specs.Answer.{IsBestTable};
+
+use crate::answer::Best;
+use crate::choice::{number_at, pair_at};
+use gs_frac::Fraction;
+use gs_rows::Program;
+use std::alloc::{AllocError, Global};
+
+// Notes the row of each listed column, from 1.
+fn mark_rows(p: &Program, basis: &[(u32, u32)], rows: &mut [u32])
+    requires small_rows { p.now.rows < 2 ^ 31 }
+    requires pairs { IsPairList p.now basis.now }
+    requires long { length rows.old ≡ p.now.cols }
+    ensures listed { (i j : ℕ) → IsListed basis.now i j → slice_index rows.new j ≡ i + 1 }
+    ensures unlisted { (j : ℕ) → (ColListed basis.now j → ⊥) → slice_index rows.new j ≡ slice_index rows.old j }
+{
+    for place in 0..basis.len() {
+        let (row, column) = pair_at(p, basis, place);
+        rows[column] = row as u32 + 1;
+    }
+}
+
+// For each column the row that it is listed with, from 1, or 0.
+fn listed_rows(alloc: Global, p: &Program, basis: &[(u32, u32)]) -> Result<Vec<u32>, AllocError>
+    requires small_rows { p.now.rows < 2 ^ 31 }
+    requires pairs { IsPairList p.now basis.now }
+    ensures { IfOk result (λ v. IsRowIndex p.now basis.now v.items) }
+{
+    let mut rows = vec![in alloc; 0u32; p.cols as usize]?;
+    mark_rows(p, basis, &mut rows);
+    Ok(rows)
+}
+
+// The value of column `j`, which is listed with row `row`, from 1, or unlisted where that is 0.
+fn value_at(p: &Program, numbers: &[i64], row: u32, j: usize) -> Fraction
+    requires table { IsTable p.now numbers.now }
+    requires column { j < p.now.cols }
+    requires row { CanValue p.now (table_rows p.now numbers.now) row j }
+    ensures { IsValue p.now (table_rows p.now numbers.now) row j result }
+{
+    if row == 0 {
+        return Fraction::new(0, 1);
+    }
+    let side = number_at(p, numbers, row as usize - 1, p.cols as usize);
+    let own = number_at(p, numbers, row as usize - 1, j);
+    Fraction::new(i128::from(side), i128::from(own))
+}
+
+// The value of each column.
+fn values(
+    alloc: Global,
+    p: &Program,
+    numbers: &[i64],
+    rows: &[u32],
+) -> Result<Vec<Fraction>, AllocError>
+    requires table { IsTable p.now numbers.now }
+    requires long { length rows.now ≡ p.now.cols }
+    requires rows { (j : ℕ) → j < p.now.cols → CanValue p.now (table_rows p.now numbers.now) (slice_index rows.now j) j }
+    ensures long { IfOk result (λ v. length v.items ≡ p.now.cols) }
+    ensures values { IfOk result
+        (λ v. (j : ℕ) → j < p.now.cols → HoldsAt (IsValue p.now (table_rows p.now numbers.now) (slice_index rows.now j) j) v.items j) }
+{
+    let mut value = Vec::with_capacity(alloc, rows.len())?;
+    for j in 0..rows.len() {
+        value.push(value_at(p, numbers, rows[j], j))?;
+    }
+    Ok(value)
+}
+
+// The price of column `j`.
+fn price_at(p: &Program, numbers: &[i64], j: usize) -> Fraction
+    requires table { IsTable p.now numbers.now }
+    requires column { j < p.now.cols }
+    requires multiple { pos 0 <ℤ table_aim p.now numbers.now (p.now.cols + 1) }
+    ensures { result.num *ℤ table_aim p.now numbers.now (p.now.cols + 1) ≡ neg_ℤ (table_aim p.now numbers.now j) *ℤ result.den }
+{
+    let falls = number_at(p, numbers, p.rows as usize, j);
+    let multiple = number_at(p, numbers, p.rows as usize, p.cols as usize + 1);
+    Fraction::new(-i128::from(falls), i128::from(multiple))
+}
+
+// The price of each column.
+fn prices(alloc: Global, p: &Program, numbers: &[i64]) -> Result<Vec<Fraction>, AllocError>
+    requires table { IsTable p.now numbers.now }
+    requires multiple { pos 0 <ℤ table_aim p.now numbers.now (p.now.cols + 1) }
+    ensures long { IfOk result (λ v. length v.items ≡ p.now.cols) }
+    ensures prices { IfOk result
+        (λ v. (j : ℕ) → j < p.now.cols →
+        HoldsAt
+        (λ f. f.num *ℤ table_aim p.now numbers.now (p.now.cols + 1) ≡ neg_ℤ (table_aim p.now numbers.now j) *ℤ f.den)
+        v.items j) }
+{
+    let mut price = Vec::with_capacity(alloc, p.cols as usize)?;
+    for j in 0..p.cols as usize {
+        price.push(price_at(p, numbers, j))?;
+    }
+    Ok(price)
+}
+
+/// The values and prices at the last basis.
+pub(crate) fn best(
+    alloc: Global,
+    p: &Program,
+    numbers: &[i64],
+    basis: Vec<(u32, u32)>,
+    pivots: u32,
+) -> Result<Best, AllocError>
+    requires small_rows { p.now.rows < 2 ^ 31 }
+    requires table { IsTable p.now numbers.now }
+    requires pairs { IsPairList p.now basis.items }
+    requires rows { IsRowsOf p.now basis.items (table_rows p.now numbers.now) (table_aim p.now numbers.now) }
+    ensures { IfOk result (IsBestTable p.now numbers.now basis.items pivots) }
+{
+    let rows = listed_rows(alloc, p, &basis)?;
+    let value = values(alloc, p, numbers, &rows)?;
+    let price = prices(alloc, p, numbers)?;
+    Ok(Best {
+        pivots,
+        basis,
+        value,
+        price,
+    })
+}

@@ -1,0 +1,148 @@
+// Bland's choice: the column that enters and the row that leaves.
+
+ghost use Rattle.std.specs.Prelude.{◌≡◌, ◌≢◌, MatchOption, ℕ, ◌+◌, ◌-◌, ◌*◌, ◌<◌, ◌≤◌, ◌^◌, ◌⊎◌, ◌↔◌, IsTrue, ℤ, pos, ◌*ℤ◌, ◌<ℤ◌, ◌≤ℤ◌, unsigned_abs, length, slice_index_or, MatchBool};
+ghost use Rattle.std.specs.Option.{ForSome};
+ghost use Rattle.gs_rows.specs.Rows.{IsNarrow};
+ghost use Rattle.gs_rows.specs.Program.{IsShaped, IsPairList, IsFree};
+ghost use Rattle.gs_simplex.specs.Numbers.{at, cell, AllNarrow};
+ghost use Rattle.gs_simplex.specs.Table.{table_rows, IsTable};
+ghost use Rattle.gs_simplex.specs.Choice.{IsEntering, Before, NotAfter, IsNarrowRatio, IsRatioAt, IsBetter, IsLeaving};
+
+use gs_rows::Program;
+
+/// A row that may leave: its place in the list, its listed column from 0, its right side and its number in the entering column.
+#[derive(Clone, Copy)]
+pub(crate) struct Ratio {
+    pub(crate) place: usize,
+    pub(crate) column: usize,
+    pub(crate) side: i64,
+    pub(crate) over: i64,
+}
+
+// The first column, from 0, whose number is above 0.
+pub(crate) fn entering(aim: &[i64]) -> Option<usize>
+    requires { AllNarrow aim.now }
+    ensures { IsEntering (at aim.now) (length aim.now) result }
+{
+    for (j, number) in aim.iter().enumerate() {
+        if *number > 0 {
+            return Some(j);
+        }
+    }
+    None
+}
+
+// The product of two narrow numbers.
+fn product(x: i64, y: i64) -> i128
+    requires narrow { IsNarrow x }
+    requires narrow_other { IsNarrow y }
+    ensures value { result ≡ x *ℤ y }
+    ensures size { unsigned_abs result ≤ 2 ^ 124 }
+{
+    i128::from(x) * i128::from(y)
+}
+
+// Whether the ratio of `a` is below that of `b`, or equal to it with a column of lower index.
+fn is_before(a: &Ratio, b: &Ratio) -> bool
+    requires narrow_side { IsNarrow a.now.side }
+    requires narrow_over { IsNarrow a.now.over }
+    requires narrow_other { IsNarrow b.now.side }
+    requires narrow_other_over { IsNarrow b.now.over }
+    ensures { MatchBool result (Before a.now b.now) (NotAfter b.now a.now) }
+{
+    let left = product(a.side, b.over);
+    let right = product(b.side, a.over);
+    left < right || (left == right && a.column < b.column)
+}
+
+// The number in row `i` and column `j` of the table.
+pub(crate) fn number_at(p: &Program, numbers: &[i64], i: usize, j: usize) -> i64
+    requires table { IsTable p.now numbers.now }
+    requires row { i < p.now.rows + 1 }
+    requires column { j < p.now.cols + 2 }
+    ensures value { result ≡ cell numbers.now (p.now.cols + 2) i j }
+    ensures narrow { IsNarrow result }
+{
+    numbers[i * (p.cols as usize + 2) + j]
+}
+
+// Whether column `j` may be below 0.
+pub(crate) fn is_free(p: &Program, j: usize) -> bool
+    requires shaped { IsShaped p.now }
+    requires column { j < p.now.cols }
+    ensures { IsTrue result ↔ IsFree p.now j }
+{
+    p.free[j]
+}
+
+// The row and the column at a place of the list, both from 0.
+pub(crate) fn pair_at(p: &Program, basis: &[(u32, u32)], place: usize) -> (usize, usize)
+    requires pairs { IsPairList p.now basis.now }
+    requires inside { place < length basis.now }
+    ensures pair { slice_index_or basis.now place (0, 0) ≡ (result.0 + 1, result.1 + 1) }
+    ensures row { result.0 < p.now.rows }
+    ensures column { result.1 < p.now.cols }
+{
+    let (row, column) = basis[place];
+    (row as usize - 1, column as usize - 1)
+}
+
+// The ratio of the row at a place of the list when column `e` enters, where that row may leave.
+fn ratio_at(
+    p: &Program,
+    numbers: &[i64],
+    basis: &[(u32, u32)],
+    e: usize,
+    place: usize,
+) -> Option<Ratio>
+    requires shaped { IsShaped p.now }
+    requires table { IsTable p.now numbers.now }
+    requires pairs { IsPairList p.now basis.now }
+    requires column { e < p.now.cols }
+    requires inside { place < length basis.now }
+    ensures { IsRatioAt p.now basis.now (table_rows p.now numbers.now) e place result }
+{
+    let (row, column) = pair_at(p, basis, place);
+    let over = number_at(p, numbers, row, e);
+    if over <= 0 {
+        return None;
+    }
+    if is_free(p, column) {
+        return None;
+    }
+    let side = number_at(p, numbers, row, p.cols as usize);
+    Some(Ratio {
+        place,
+        column,
+        side,
+        over,
+    })
+}
+
+// Of two rows the one that leaves before the other.
+fn better(best: Option<Ratio>, next: Option<Ratio>) -> Option<Ratio>
+    requires best { ForSome best IsNarrowRatio }
+    requires next { ForSome next IsNarrowRatio }
+    ensures { IsBetter best next result }
+{
+    match (best, next) {
+        (Some(b), Some(n)) => Some(if is_before(&n, &b) { n } else { b }),
+        (Some(b), None) => Some(b),
+        (None, n) => n,
+    }
+}
+
+// The place in the list of the row that leaves when column `e` enters.
+pub(crate) fn leaving(p: &Program, numbers: &[i64], basis: &[(u32, u32)], e: usize) -> Option<usize>
+    requires shaped { IsShaped p.now }
+    requires table { IsTable p.now numbers.now }
+    requires pairs { IsPairList p.now basis.now }
+    requires column { e < p.now.cols }
+    ensures { IsLeaving p.now basis.now (table_rows p.now numbers.now) e result }
+{
+    let mut best: Option<Ratio> = None;
+    for place in 0..basis.len() {
+        best = better(best, ratio_at(p, numbers, basis, e, place));
+    }
+    Some(best?.place)
+}

@@ -1,0 +1,54 @@
+//! The simplex method on whole-number rows, by Bland's rule.
+//!
+//! [`run`] follows the path of a program from an opening: it lists the opening's pairs one after the other and then makes pivots. Each step's rows are
+//! whole numbers without a common divisor; the crate `gs_rows` says which rows they are, and that no basis comes twice.
+//! Sources: Bland 1977, "New finite pivoting rules for the simplex method"; Edmonds 1967 for elimination in whole numbers.
+#![tactic(auto)]
+
+mod answer;
+mod best;
+mod choice;
+mod path;
+mod row;
+mod start;
+mod table;
+
+ghost use Rattle.std.specs.Prelude.{ℕ, ◌<◌, ◌^◌};
+ghost use Rattle.gs_rows.specs.Program.{IsShaped, IsOpening};
+ghost use Rattle.gs_simplex.specs.Answer.{IsAnswer};
+
+pub use answer::{Best, Stop};
+use best::best;
+pub use gs_rows::Program;
+use path::{follow, open};
+use std::alloc::Global;
+use table::Table;
+
+/// The most numbers of a table, `(rows + 1) * (cols + 1)`.
+pub const MOST_NUMBERS: u64 = 1_048_576;
+
+/// The last basis of the path with its values and prices, or what stopped the path first.
+///
+/// The opening lists pairs of a row and a column, both counted from 1. `limit` is the most pivots after the opening.
+/// A table of more than [`MOST_NUMBERS`] numbers is refused before any step; of the other stops the one that the path meets first is answered.
+pub fn run(alloc: Global, p: &Program, opening: &[(u32, u32)], limit: u32) -> Result<Best, Stop>
+    requires small_rows { p.now.rows < 2 ^ 31 }
+    requires small_cols { p.now.cols < 2 ^ 31 }
+    requires small_limit { limit < 2 ^ 31 }
+    requires shaped { IsShaped p.now }
+    requires opens { IsOpening p.now opening.now }
+    ensures { IsAnswer p.now opening.now limit result }
+{
+    let count = (u64::from(p.rows) + 1) * (u64::from(p.cols) + 1);
+    if count > MOST_NUMBERS {
+        return Err(Stop::TableTooLarge { count });
+    }
+    let mut table = Table::start(alloc, p)?;
+    let mut basis = Vec::from_slice(alloc, opening)?;
+    open(p, opening, &mut table)?;
+    let pivots = follow(p, opening, limit, &mut basis, &mut table)?;
+    Ok(best(alloc, p, &table.numbers, basis, pivots)?)
+}
+
+#[cfg(test)]
+mod tests;

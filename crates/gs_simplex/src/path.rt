@@ -1,0 +1,147 @@
+// The path: the pairs of the opening one after the other, and then pivots.
+
+ghost use Rattle.std.specs.Prelude.{◌≡◌, ◌≢◌, MatchOption, MatchResult, ℕ, ◌+◌, ◌*◌, ◌<◌, ◌≤◌, ◌^◌, ℤ, pos, length, slice_index_or, slice_set, unsigned_abs, Some};
+ghost use Rattle.gs_rows.specs.Program.{IsShaped, IsPairList, IsOpening, IsRowsOf};
+ghost use Rattle.gs_rows.specs.Path.{NoneEnters};
+ghost use Rattle.gs_simplex.specs.Table.{table_rows, table_aim, stated, IsTable, IsPrimitiveTable, IsTableAfter, IsWideAfter};
+ghost use Rattle.gs_simplex.specs.State.{HasRoom, IsStart, IsState, IsChoice, IsPivoted, IsWidePivot, IsEnd};
+ghost use Rattle.gs_simplex.specs.Answer.{IsSmall, IsStop};
+
+use crate::answer::Stop;
+use crate::choice::{entering, leaving, pair_at};
+use crate::table::{Table, WideCell};
+use gs_rows::Program;
+
+/// What comes next.
+#[derive(Clone, Copy)]
+pub(crate) enum Choice {
+    /// No column enters.
+    Ends,
+    /// This column enters, and no row leaves.
+    Unbounded(usize),
+    /// The row at this place of the list leaves, and the column enters.
+    Leaves(usize, usize),
+}
+
+// The stop at a wide number.
+fn wide_stop(p: &Program, step: u32, cell: WideCell) -> Stop
+    requires row { cell.row ≤ p.now.rows }
+    requires column { cell.column ≤ p.now.cols + 1 }
+    requires small_rows { p.now.rows < 2 ^ 31 }
+    requires small_cols { p.now.cols < 2 ^ 31 }
+    requires size { unsigned_abs cell.number ≤ 2 ^ 125 }
+    ensures { result ≡ Stop.Wide step (cell.row + 1) (cell.column + 1) (stated p.now cell.row cell.column cell.number) }
+{
+    let is_last = cell.row == p.rows as usize && cell.column == p.cols as usize;
+    let number = if is_last { -cell.number } else { cell.number };
+    Stop::Wide {
+        step,
+        row: cell.row as u32 + 1,
+        col: cell.column as u32 + 1,
+        number,
+    }
+}
+
+// Bland's choice.
+fn choose(p: &Program, numbers: &[i64], basis: &[(u32, u32)]) -> Choice
+    requires shaped { IsShaped p.now }
+    requires table { IsTable p.now numbers.now }
+    requires pairs { IsPairList p.now basis.now }
+    requires rows { IsRowsOf p.now basis.now (table_rows p.now numbers.now) (table_aim p.now numbers.now) }
+    ensures { IsChoice p.now basis.now (table_rows p.now numbers.now) (table_aim p.now numbers.now) result }
+{
+    let start = p.rows as usize * (p.cols as usize + 2);
+    let Some(column) = entering(&numbers[start..start + p.cols as usize]) else {
+        return Choice::Ends;
+    };
+    match leaving(p, numbers, basis, column) {
+        Some(place) => Choice::Leaves(place, column),
+        None => Choice::Unbounded(column),
+    }
+}
+
+// Lists the pairs of the opening one after the other.
+pub(crate) fn open(p: &Program, opening: &[(u32, u32)], table: &mut Table) -> Result<(), Stop>
+    requires small_rows { p.now.rows < 2 ^ 31 }
+    requires small_cols { p.now.cols < 2 ^ 31 }
+    requires small { IsSmall p.now }
+    requires opens { IsOpening p.now opening.now }
+    requires start { IsStart p.now table.old }
+    ensures { MatchResult result (λ _. IsState p.now opening.now (length opening.now) opening.now table.new)
+        (λ e. (limit : ℕ) → IsStop p.now opening.now limit e) }
+{
+    for step in 0..opening.len() {
+        let (row, column) = pair_at(p, opening, step);
+        if let Some(cell) = table.list(p, row, column) {
+            return Err(wide_stop(p, step as u32 + 1, cell));
+        }
+    }
+    Ok(())
+}
+
+// One pivot: the row at a place of the list is listed with column `column`. It answers the first number that is then not narrow.
+fn pivot(
+    p: &Program,
+    basis: &mut [(u32, u32)],
+    table: &mut Table,
+    place: usize,
+    column: usize,
+) -> Option<WideCell>
+    requires room { HasRoom p.now table.old }
+    requires table { IsTable p.now table.old.numbers.items }
+    requires pairs { IsPairList p.now basis.old }
+    requires primitive { IsPrimitiveTable p.now table.old.numbers.items }
+    requires inside { place < length basis.old }
+    requires column { column < p.now.cols }
+    requires small_rows { p.now.rows < 2 ^ 31 }
+    requires small_cols { p.now.cols < 2 ^ 31 }
+    requires rises { (r c : ℕ) → slice_index_or basis.old place (0, 0) ≡ (r + 1, c + 1) →
+        table_rows p.now table.old.numbers.items r column ≢ pos 0 }
+    ensures room { HasRoom p.now table.new }
+    ensures pivoted { MatchOption result (IsPivoted p.now basis.old basis.new table.old.numbers.items table.new.numbers.items place column)
+        (λ w. IsWidePivot p.now basis.old table.old.numbers.items place column w.row w.column w.number) }
+{
+    let (row, _) = pair_at(p, basis, place);
+    if let Some(cell) = table.list(p, row, column) {
+        return Some(cell);
+    }
+    basis[place] = (row as u32 + 1, column as u32 + 1);
+    None
+}
+
+// Makes pivots until the path stops, at most `limit`, and answers how many.
+pub(crate) fn follow(
+    p: &Program,
+    opening: &[(u32, u32)],
+    limit: u32,
+    basis: &mut [(u32, u32)],
+    table: &mut Table,
+) -> Result<u32, Stop>
+    requires small_rows { p.now.rows < 2 ^ 31 }
+    requires small_cols { p.now.cols < 2 ^ 31 }
+    requires small_limit { limit < 2 ^ 31 }
+    requires small { IsSmall p.now }
+    requires shaped { IsShaped p.now }
+    requires opens { IsOpening p.now opening.now }
+    requires same { basis.old ≡ opening.now }
+    requires state { IsState p.now opening.now (length opening.now) opening.now table.old }
+    ensures { MatchResult result (λ n. IsEnd p.now opening.now limit n basis.new table.new) (IsStop p.now opening.now limit) }
+{
+    for made in 0..limit + 1 {
+        match choose(p, &table.numbers, basis) {
+            Choice::Ends => return Ok(made),
+            Choice::Unbounded(column) => return Err(Stop::Unbounded {
+                col: column as u32 + 1,
+            }),
+            Choice::Leaves(place, column) => {
+                if made == limit {
+                    return Err(Stop::Pivots);
+                }
+                if let Some(cell) = pivot(p, basis, table, place, column) {
+                    return Err(wide_stop(p, p.rows + made + 1, cell));
+                }
+            }
+        }
+    }
+    unreachable!()
+}

@@ -1,0 +1,169 @@
+// The arithmetic of one row: products of two stored numbers fit 128 bits, and a row is divided by its greatest common divisor.
+
+ghost use Rattle.std.specs.Prelude.{◌≡◌, MatchOption, ℕ, ◌+◌, ◌-◌, ◌<◌, ◌≤◌, ◌^◌, ℤ, pos, ◌+ℤ◌, ◌-ℤ◌, ◌*ℤ◌, ◌<ℤ◌, unsigned_abs, length};
+ghost use Prim.Native.Nat.{◌∣◌};
+ghost use Rattle.std.specs.Int.{IsGcd};
+ghost use Rattle.gs_rows.specs.Rows.{IsNarrow, IsPrimitive};
+ghost use Rattle.gs_simplex.specs.Numbers.{at, AllNarrow, AllWithin, IsQuotient, IsWideQuotient, IsReduced, IsReducedTo, IsDivided};
+
+use gs_frac::gcd;
+
+/// A number of 63 bits or more, and the column where it stands, from 0.
+#[derive(Clone, Copy)]
+pub(crate) struct WideNumber {
+    pub(crate) column: usize,
+    pub(crate) number: i128,
+}
+
+// `own` times `x` less `far` times `y`.
+fn mixed_number(own: i64, x: i64, far: i64, y: i64) -> i128
+    requires narrow_own { IsNarrow own }
+    requires narrow_x { IsNarrow x }
+    requires narrow_far { IsNarrow far }
+    requires narrow_y { IsNarrow y }
+    ensures value { result ≡ own *ℤ x -ℤ far *ℤ y }
+    ensures within { unsigned_abs result ≤ 2 ^ 125 }
+{
+    let first = i128::from(own) * i128::from(x);
+    let second = i128::from(far) * i128::from(y);
+    first - second
+}
+
+// Sets `mixed` to `own` times `row` less `far` times `lead`, number by number.
+fn mix(lead: &[i64], row: &[i64], own: i64, far: i64, mixed: &mut [i128])
+    requires same_length { length lead.now ≡ length row.now }
+    requires room { length mixed.old ≡ length row.now }
+    requires narrow_lead { AllNarrow lead.now }
+    requires narrow_row { AllNarrow row.now }
+    requires narrow_own { IsNarrow own }
+    requires narrow_far { IsNarrow far }
+    ensures mixed { (j : ℕ) → j < length row.now → at mixed.new j ≡ own *ℤ at row.now j -ℤ far *ℤ at lead.now j }
+    ensures within { AllWithin mixed.new }
+{
+    for j in 0..row.len() {
+        mixed[j] = mixed_number(own, row[j], far, lead[j]);
+    }
+}
+
+// The greatest common divisor of the divisor so far, 0 for none, and one more number.
+fn common_divisor(found: u128, number: u128) -> u128
+    ensures { IsGcd found number result }
+{
+    if number == 0 {
+        return found;
+    }
+    let most = u128::from(u64::MAX);
+    if found != 0 && found <= most && number <= most && number as u64 % found as u64 == 0 {
+        return found;
+    }
+    gcd(found, number)
+}
+
+// The greatest number that divides all of `mixed`, 0 where all are 0.
+fn divisor(mixed: &[i128]) -> u128
+    requires { AllWithin mixed.now }
+    ensures divides { (j : ℕ) → j < length mixed.now → result ∣ unsigned_abs (at mixed.now j) }
+    ensures greatest { (d : ℕ) → ((j : ℕ) → j < length mixed.now → d ∣ unsigned_abs (at mixed.now j)) → d ∣ result }
+{
+    let mut found: u128 = 0;
+    for number in mixed {
+        if found == 1 {
+            return 1;
+        }
+        found = common_divisor(found, number.unsigned_abs());
+    }
+    found
+}
+
+// `number` over `by`, which divides it.
+fn quotient(number: i128, by: u128) -> i128
+    requires some { 0 < by }
+    requires divides { by ∣ unsigned_abs number }
+    requires within { unsigned_abs number ≤ 2 ^ 125 }
+    requires small { by ≤ 2 ^ 125 }
+    ensures value { number ≡ pos by *ℤ result }
+    ensures small_result { unsigned_abs result ≤ 2 ^ 125 }
+{
+    if by == 1 {
+        return number;
+    }
+    if number == 0 {
+        return 0;
+    }
+    if by < 0x4000_0000_0000_0000 && number.unsigned_abs() < 0x4000_0000_0000_0000 {
+        return i128::from(number as i64 / by as i64);
+    }
+    number / (by as i128)
+}
+
+// Sets `row` to `mixed` over `by`, number by number, and answers the first quotient that is not narrow.
+fn narrow_into(mixed: &[i128], by: u128, row: &mut [i64]) -> Option<WideNumber>
+    requires room { length mixed.now ≡ length row.old }
+    requires some { 0 < by }
+    requires small { by ≤ 2 ^ 125 }
+    requires within { AllWithin mixed.now }
+    requires divides { (j : ℕ) → j < length mixed.now → by ∣ unsigned_abs (at mixed.now j) }
+    ensures { MatchOption result (IsQuotient by mixed.now row.new (length mixed.now)) (λ w. IsWideQuotient by mixed.now w.column w.number) }
+{
+    for j in 0..mixed.len() {
+        let number = quotient(mixed[j], by);
+        if number.unsigned_abs() >= 0x4000_0000_0000_0000 {
+            return Some(WideNumber { column: j, number });
+        }
+        row[j] = number as i64;
+    }
+    None
+}
+
+// Clears column `c` of `row` by the lead, whose number there is above 0: `row` becomes the lead's number in `c` times itself less its own number in
+// `c` times the lead, divided by the greatest common divisor. It answers the first number that is then not narrow; the row is left half done.
+pub(crate) fn reduce_row(
+    lead: &[i64],
+    c: usize,
+    row: &mut [i64],
+    mixed: &mut [i128],
+) -> Option<WideNumber>
+    requires long { length row.old ≡ length lead.now }
+    requires room { length mixed.old ≡ length row.old }
+    requires inside { c < length lead.now }
+    requires own { pos 0 <ℤ at lead.now c }
+    requires narrow_lead { AllNarrow lead.now }
+    requires narrow_row { AllNarrow row.old }
+    requires primitive { IsPrimitive (length row.old - 1) (at row.old) }
+    ensures { MatchOption result (IsReduced (at lead.now) c (length lead.now) (at row.old) (at row.new) × AllNarrow row.new)
+        (λ w. IsReducedTo (at lead.now) c (length lead.now) (at row.old) w.column w.number) }
+{
+    let own = lead[c];
+    let far = row[c];
+    if far == 0 {
+        return None;
+    }
+    mix(lead, row, own, far, mixed);
+    let by = divisor(mixed).max(1);
+    narrow_into(mixed, by, row)
+}
+
+// Sets `mixed` to the numbers of `row`.
+fn widen(row: &[i64], mixed: &mut [i128])
+    requires room { length mixed.old ≡ length row.now }
+    requires narrow { AllNarrow row.now }
+    ensures same { (j : ℕ) → j < length row.now → at mixed.new j ≡ at row.now j }
+    ensures within { AllWithin mixed.new }
+{
+    for j in 0..row.len() {
+        mixed[j] = i128::from(row[j]);
+    }
+}
+
+// Divides `row` by its greatest common divisor.
+pub(crate) fn divide_row(row: &mut [i64], mixed: &mut [i128])
+    requires room { length mixed.old ≡ length row.old }
+    requires some { 0 < length row.old }
+    requires narrow { AllNarrow row.old }
+    ensures divided { IsDivided (length row.old) (at row.old) (at row.new) }
+    ensures narrow { AllNarrow row.new }
+{
+    widen(row, mixed);
+    let by = divisor(mixed).max(1);
+    let _ = narrow_into(mixed, by, row);
+}

@@ -1,0 +1,88 @@
+// The rows of the empty list: the program's, each divided by its greatest common divisor.
+
+ghost use Rattle.std.specs.Prelude.{◌≡◌, ℕ, ◌+◌, ◌-◌, ◌*◌, ◌<◌, ◌≤◌, ◌++◌, [], ◌∷◌, ◌⊎◌, ℤ, pos, ◌*ℤ◌, length, OnOk, IfOk, slice_index_or};
+ghost use Rattle.gs_rows.specs.Program.{IsShaped, IsRowsOf};
+ghost use Rattle.gs_simplex.specs.Numbers.{at, cell, AllNarrow, AllWithin, IsDivided};
+ghost use Rattle.gs_simplex.specs.Table.{table_rows, table_aim, IsTable};
+ghost use Rattle.gs_simplex.specs.State.{HasRoom, IsRaw, IsStart};
+
+use crate::row::divide_row;
+use crate::table::Table;
+use gs_rows::Program;
+use std::alloc::{AllocError, Global};
+
+// Adds a row and one more number.
+fn push_row(numbers: &mut Vec<i64>, row: &[i64], last: i64) -> Result<(), AllocError>
+    ensures { OnOk result (numbers.new.items ≡ numbers.old.items ++ row.now ++ (last ∷ [])) }
+{
+    numbers.extend_from_slice(row)?;
+    numbers.push(last)?;
+    Ok(())
+}
+
+// The program's rows and the aim's, as they stand in a table but not yet divided.
+fn raw_numbers(alloc: Global, p: &Program) -> Result<Vec<i64>, AllocError>
+    requires shaped { IsShaped p.now }
+    requires small { (p.now.rows + 1) * (p.now.cols + 1) ≤ 1048576 }
+    ensures { IfOk result (λ v. IsRaw p.now v.items) }
+{
+    let width = p.cols as usize + 2;
+    let mut numbers = Vec::with_capacity(alloc, (p.rows as usize + 1) * width)?;
+    for row in &p.numbers {
+        push_row(&mut numbers, row, 0)?;
+    }
+    push_row(&mut numbers, &p.aim, 0)?;
+    numbers.push(1)?;
+    Ok(numbers)
+}
+
+// Divides the row that begins at `start`.
+fn divide_at(numbers: &mut [i64], start: usize, mixed: &mut [i128])
+    requires inside { start + length mixed.old ≤ length numbers.old }
+    requires some { 0 < length mixed.old }
+    requires narrow { AllNarrow numbers.old }
+    ensures others { (k : ℕ) → (k < start) ⊎ (start + length mixed.old ≤ k) → at numbers.new k ≡ at numbers.old k }
+    ensures divided { IsDivided (length mixed.old) (λ j. at numbers.old (start + j)) (λ j. at numbers.new (start + j)) }
+    ensures narrow { AllNarrow numbers.new }
+{
+    let end = start + mixed.len();
+    let row = &mut numbers[start..end];
+    divide_row(row, mixed);
+}
+
+// Divides each of the first `count` rows, which are as wide as `mixed` is long.
+fn divide_rows(numbers: &mut [i64], count: usize, mixed: &mut [i128])
+    requires long { (count + 1) * length mixed.old ≡ length numbers.old }
+    requires some { 0 < length mixed.old }
+    requires narrow { AllNarrow numbers.old }
+    ensures divided { (i : ℕ) → i < count →
+        IsDivided (length mixed.old) (cell numbers.old (length mixed.old) i) (cell numbers.new (length mixed.old) i) }
+    ensures last { (j : ℕ) → j < length mixed.old →
+        cell numbers.new (length mixed.old) count j ≡ cell numbers.old (length mixed.old) count j }
+    ensures narrow { AllNarrow numbers.new }
+{
+    let width = mixed.len();
+    for i in 0..count {
+        divide_at(numbers, i * width, mixed);
+    }
+}
+
+impl Table {
+    // The rows of the empty list.
+    pub(crate) fn start(alloc: Global, p: &Program) -> Result<Table, AllocError>
+        requires shaped { IsShaped p.now }
+        requires small { (p.now.rows + 1) * (p.now.cols + 1) ≤ 1048576 }
+        ensures { IfOk result (IsStart p.now) }
+    {
+        let width = p.cols as usize + 2;
+        let mut numbers = raw_numbers(alloc, p)?;
+        let mut mixed = vec![in alloc; 0i128; width]?;
+        divide_rows(&mut numbers, p.rows as usize, &mut mixed);
+        let lead = vec![in alloc; 0i64; width]?;
+        Ok(Table {
+            numbers,
+            lead,
+            mixed,
+        })
+    }
+}

@@ -1,0 +1,146 @@
+// All rows in one piece of memory, and the pivot that clears a column in each but one.
+
+ghost use Rattle.std.specs.Prelude.{◌≡◌, ◌≢◌, MatchOption, ℕ, ◌+◌, ◌-◌, ◌*◌, ◌<◌, ◌≤◌, ◌^◌, ◌⊎◌, ℤ, pos, neg_ℤ, ◌+ℤ◌, ◌-ℤ◌, ◌*ℤ◌, ◌<ℤ◌, unsigned_abs, length};
+ghost use Rattle.gs_rows.specs.Rows.{IsNarrow, IsPrimitive};
+ghost use Rattle.gs_simplex.specs.Table.{table_rows, table_aim, IsTable, IsPrimitiveTable, IsTableAfter, IsWideAfter};
+ghost use Rattle.gs_simplex.specs.Numbers.{at, cell, AllNarrow, IsReduced, IsReducedTo, IsTurned, IsCleared, IsClearedTo, IsRowPrimitive};
+
+use crate::row::{WideNumber, reduce_row};
+use gs_rows::Program;
+
+/// A number of 63 bits or more, and the row and column where it stands, from 0.
+#[derive(Clone, Copy)]
+pub(crate) struct WideCell {
+    pub(crate) row: usize,
+    pub(crate) column: usize,
+    pub(crate) number: i128,
+}
+
+// Negates each number.
+fn turn(row: &mut [i64])
+    requires { AllNarrow row.old }
+    ensures { (j : ℕ) → j < length row.old → at row.new j ≡ neg_ℤ (at row.old j) }
+{
+    for x in row.iter_mut() {
+        *x = -*x;
+    }
+}
+
+// Makes the number in column `c` of a row positive, and copies the row to `lead`.
+fn take_row(row: &mut [i64], c: usize, lead: &mut [i64])
+    requires long { length row.old ≡ length lead.old }
+    requires inside { c < length row.old }
+    requires narrow { AllNarrow row.old }
+    ensures same { lead.new ≡ row.new }
+    ensures turned { IsTurned (at row.old) (at row.new) c (length row.old) }
+{
+    if row[c] < 0 {
+        turn(row);
+    }
+    lead.copy_from_slice(row);
+}
+
+// The same for the row that begins at `start`.
+fn take_lead(numbers: &mut [i64], start: usize, c: usize, lead: &mut [i64])
+    requires inside { start + length lead.old ≤ length numbers.old }
+    requires column { c < length lead.old }
+    requires narrow { AllNarrow numbers.old }
+    ensures same { (j : ℕ) → j < length lead.new → at lead.new j ≡ at numbers.new (start + j) }
+    ensures turned { IsTurned (λ j. at numbers.old (start + j)) (at lead.new) c (length lead.new) }
+    ensures others { (k : ℕ) → (k < start) ⊎ (start + length lead.new ≤ k) → at numbers.new k ≡ at numbers.old k }
+{
+    let end = start + lead.len();
+    let row = &mut numbers[start..end];
+    take_row(row, c, lead);
+}
+
+// Clears column `c` of the row that begins at `start`.
+fn reduce_at(
+    numbers: &mut [i64],
+    start: usize,
+    lead: &[i64],
+    c: usize,
+    mixed: &mut [i128],
+) -> Option<WideNumber>
+    requires inside { start + length lead.now ≤ length numbers.old }
+    requires column { c < length lead.now }
+    requires room { length mixed.old ≡ length lead.now }
+    requires own { pos 0 <ℤ at lead.now c }
+    requires narrow_lead { AllNarrow lead.now }
+    requires narrow { AllNarrow numbers.old }
+    requires primitive { IsPrimitive (length lead.now - 1) (λ j. at numbers.old (start + j)) }
+    ensures others { (k : ℕ) → (k < start) ⊎ (start + length lead.now ≤ k) → at numbers.new k ≡ at numbers.old k }
+    ensures answer { MatchOption result
+        (IsReduced (at lead.now) c (length lead.now) (λ j. at numbers.old (start + j)) (λ j. at numbers.new (start + j)) × AllNarrow numbers.new)
+        (λ w. IsReducedTo (at lead.now) c (length lead.now) (λ j. at numbers.old (start + j)) w.column w.number) }
+{
+    let end = start + lead.len();
+    let row = &mut numbers[start..end];
+    reduce_row(lead, c, row, mixed)
+}
+
+// Clears column `c` of all `count` rows but `r`. It answers the first number, by row and column, that is not narrow.
+fn clear_column(
+    numbers: &mut [i64],
+    count: usize,
+    r: usize,
+    lead: &[i64],
+    c: usize,
+    mixed: &mut [i128],
+) -> Option<WideCell>
+    requires long { length numbers.old ≡ count * length lead.now }
+    requires column { c < length lead.now }
+    requires room { length mixed.old ≡ length lead.now }
+    requires own { pos 0 <ℤ at lead.now c }
+    requires narrow_lead { AllNarrow lead.now }
+    requires narrow { AllNarrow numbers.old }
+    requires primitive { (i : ℕ) → i < count → IsRowPrimitive numbers.old (length lead.now) i }
+    ensures { MatchOption result
+        (IsCleared numbers.old numbers.new count (length lead.now) r c (at lead.now))
+        (λ w. IsClearedTo numbers.old count (length lead.now) r c (at lead.now) w.row w.column w.number) }
+{
+    let width = lead.len();
+    for i in 0..count {
+        if i == r {
+            continue;
+        }
+        if let Some(wide) = reduce_at(numbers, i * width, lead, c, mixed) {
+            return Some(WideCell {
+                row: i,
+                column: wide.column,
+                number: wide.number,
+            });
+        }
+    }
+    None
+}
+
+/// The rows of a step, with room for the row of a pivot and for one row's products.
+#[derive(Drop)]
+pub(crate) struct Table {
+    pub(crate) numbers: Vec<i64>,
+    pub(crate) lead: Vec<i64>,
+    pub(crate) mixed: Vec<i128>,
+}
+
+impl Table {
+    ghost use Rattle.gs_simplex.specs.State.{HasRoom};
+
+    // Lists row `r` with column `c`. It answers the first number, by row and column, that is then not narrow.
+    pub(crate) fn list(&mut self, p: &Program, r: usize, c: usize) -> Option<WideCell>
+        requires room { HasRoom p.now self.old }
+        requires table { IsTable p.now self.old.numbers.items }
+        requires primitive { IsPrimitiveTable p.now self.old.numbers.items }
+        requires row { r < p.now.rows }
+        requires column { c < p.now.cols }
+        requires nonzero { table_rows p.now self.old.numbers.items r c ≢ pos 0 }
+        ensures room { HasRoom p.now self.new }
+        ensures listed { MatchOption result (IsTableAfter p.now self.old.numbers.items self.new.numbers.items r c)
+            (λ w. IsWideAfter p.now self.old.numbers.items r c w.row w.column w.number) }
+    {
+        let width = p.cols as usize + 2;
+        let count = p.rows as usize + 1;
+        take_lead(&mut self.numbers, r * width, c, &mut self.lead);
+        clear_column(&mut self.numbers, count, r, &self.lead, c, &mut self.mixed)
+    }
+}
