@@ -1,0 +1,22 @@
+-- The game that a description states: the definitions speak of this record.
+use Rattle.std.specs.Prelude.{map, length}
+use Rattle.gs_bet.specs.TreeView.{plain}
+use Rattle.gs_card.specs.Rankings.{ranking_of}
+use Rattle.gs_model.specs.Game.{Game as Rules, Round as RoundRules}
+use Rattle.gs_game.specs.declared.game.Game.{Game}
+use Rattle.gs_game.specs.declared.game.Round.{Round}
+
+-- a round, with its betting tree as a plain tree
+abbrev pub round_of : Round → RoundRules
+round_of r = record { private = r.private; public = r.public; tree = plain r.tree.tree }
+
+-- a game, with its deck as copies by kind
+abbrev pub game_of : Game → Rules
+game_of g = record {
+  suits = length g.deck.suits;
+  copies = g.deck.counts;
+  ranking = ranking_of g.ranking;
+  bonus = g.bonus.items;
+  ante = g.ante;
+  rounds = map round_of g.rounds.items;
+}

@@ -1,0 +1,25 @@
+//! The description of a game.
+
+use gs_bet::BetTree;
+use gs_card::{Deck, Ranking};
+
+/// One round: how many private cards each player gets, how many public cards are shown, and the betting that follows.
+#[derive(Drop)]
+pub struct Round {
+    pub private: u8,
+    pub public: u8,
+    pub tree: BetTree,
+}
+
+/// A game as its author states it, valid or not.
+///
+/// `bonus` says for each category of the ranking, the lowest first, how many times the put a hand of it wins at the showdown; all 1 is the usual game.
+#[derive(Drop)]
+pub struct Game {
+    pub deck: Deck,
+    pub ranking: Ranking,
+    pub bonus: Vec<u8>,
+    /// What each player puts before the first round, in chips.
+    pub ante: u16,
+    pub rounds: Vec<Round>,
+}
