@@ -1,0 +1,27 @@
+-- The texts of cards and of raw signals: Js for a card, JsQs+Ks for one round, parts joined by `/` for several rounds.
+use Rattle.std.specs.Prelude.{ℕ, List, [], ◌∷◌, ◌++◌, flat_map}
+use Rattle.gs_card.specs.Decks.{DeckValue, card_text}
+use Rattle.gs_model.specs.Signals.{Seen, Signal}
+
+-- the cards of a group, one behind the other
+abbrev pub group_text : DeckValue → List ℕ → List ℕ
+group_text d g = flat_map (card_text d) g
+
+-- the public cards of a round behind `+`, or nothing where there are none
+abbrev pub public_text : DeckValue → List ℕ → List ℕ
+public_text d [] = []
+public_text d (card ∷ g) = 43 ∷ group_text d (card ∷ g)
+
+-- what a player sees in one round: the own cards, then the public ones
+abbrev pub seen_text : DeckValue → Seen → List ℕ
+seen_text d p = group_text d p.own ++ public_text d p.public
+
+-- the rounds after the first, each behind `/`
+abbrev pub rounds_text : DeckValue → Signal → List ℕ
+rounds_text d [] = []
+rounds_text d (p ∷ s) = 47 ∷ (seen_text d p ++ rounds_text d s)
+
+-- a raw signal: a part for each round, joined by `/`
+abbrev pub signal_text : DeckValue → Signal → List ℕ
+signal_text d [] = []
+signal_text d (p ∷ s) = seen_text d p ++ rounds_text d s

@@ -1,0 +1,26 @@
+//! Deals.
+
+use std::marker::Model;
+
+/// A deal, by both players' last-round signals. It is determined by the two.
+#[derive(Clone, Copy, Debug, PartialEq, Eq)]
+pub struct Deal {
+    /// Player 1's signal of the last round, by its place.
+    pub one: u32,
+    /// Player 2's signal of the last round, by its place.
+    pub two: u32,
+    /// The ways of drawing it from the physical cards.
+    pub weight: u64,
+    /// Player 1's outcome: from 1 to 9 where he wins, 0 at equal hands, from -9 to -1 where he loses.
+    pub outcome: i8,
+}
+
+impl Model for Deal {
+    ghost use Rattle.gs_model.specs.Deals.{Deal as Dealt};
+
+    ghost Value = { Dealt };
+
+    ghost view = { λ d. record { one = d.one; two = d.two; weight = d.weight; outcome = d.outcome } };
+
+    ghost inverse = { λ d. record { one = d.one; two = d.two; weight = d.weight; outcome = d.outcome } };
+}

@@ -1,0 +1,201 @@
+//! The raw signals of a game, round by round.
+
+ghost use Rattle.std.specs.Prelude.{◌≡◌, ◌∷◌, [], map};
+ghost use Rattle.std.specs.List.{range_with_len};
+ghost use Rattle.gs_model.specs.Game.{High, round_count};
+ghost use Rattle.gs_model.specs.Outcome.{outcome};
+ghost use Rattle.gs_model.specs.Signals.{parents as parents_in};
+ghost use Rattle.gs_game.specs.Games.{game_of};
+
+use crate::deal::Deal;
+use crate::deals::Deals;
+use crate::texts::push_card;
+use gs_card::{Card, Deck};
+use gs_game::ValidGame;
+use std::alloc::{AllocError, Global};
+
+/// The raw signals of a game.
+///
+/// A raw signal of round `j` is what one player sees up to that round: his own groups and the public groups of rounds 1 to `j`. Rounds count
+/// from 1. The signals of a round are named by their places, from 0, in the order of what they show, round by round and the own group first.
+#[derive(Drop)]
+pub struct Signals<'g> {
+    game: &'g ValidGame,
+    parents: Vec<Vec<u32>>,
+    ghost listed: { map (λ v. v.items) parents.items ≡ map (parents_in (game_of game.now.game)) (range_with_len 1 (round_count (game_of game.now.game))) },
+}
+
+/// The outcome of one strength against another where each hand wins the put once.
+fn plain_outcome(a: u32, b: u32) -> i8
+    ensures { result ≡ outcome (1 ∷ []) High a b }
+{
+    if a > b {
+        1
+    } else if a < b {
+        -1
+    } else {
+        0
+    }
+}
+
+impl<'g> Signals<'g> {
+    ghost use Rattle.std.specs.Prelude.{◌≡◌, ◌≢◌, ◌≤◌, ◌<◌, ◌+◌, ◌*◌, ◌==◌, ℕ, IfOk, if◌then◌else◌, nat_lt, filter, map, length, string_bytes};
+    ghost use Rattle.std.specs.List.{range_with_len};
+    ghost use Rattle.gs_model.specs.Game.{round_count};
+    ghost use Rattle.gs_model.specs.Signals.{signals, parents as parents_in, signal_at, last_edge};
+    ghost use Rattle.gs_model.specs.ViewTree.{signal_strength};
+    ghost use Rattle.gs_tree.specs.Trees.{rules_of, deck_of};
+    ghost use Rattle.gs_card.specs.Decks.{IsDeck};
+    ghost use Rattle.gs_model.specs.Deals.{Deal as Dealt, deals, path_weight};
+    ghost use Rattle.gs_tree.specs.Walk.{deal_at, last_count, pair_at};
+    ghost use Rattle.gs_tree.specs.Texts.{signal_text};
+
+    /// The signals of a valid game.
+    pub fn of(alloc: Global, game: &'g ValidGame) -> Result<Signals<'g>, AllocError>
+        ensures { IfOk result (λ s. s.game.now ≡ game.entry.now) }
+    {
+        let kinds = game.game().deck.kinds();
+        let first = vec![in alloc; 0; usize::from(kinds)]?;
+        let parents = vec![in alloc; first]?;
+        Ok(Signals { game, parents })
+    }
+
+    // The deck of the game.
+    fn deck(&self) -> &'g Deck
+        ensures deck { result.now ≡ deck_of self.now }
+        ensures valid { IsDeck (deck_of self.now) }
+    {
+        let deck = &self.game.game().deck;
+        let _kinds = deck.kinds();
+        deck
+    }
+
+    /// The game whose signals they are.
+    pub fn game(&self) -> &'g ValidGame
+        ensures { result.now ≡ self.now.game.now }
+    {
+        self.game
+    }
+
+    /// How many rounds the game has.
+    pub fn rounds(&self) -> u8
+        ensures value { result ≡ round_count (rules_of self.now) }
+        ensures some { 0 < result }
+        ensures few { result ≤ 4 }
+    {
+        1
+    }
+
+    /// How many raw signals a round has: at most 200,000.
+    pub fn count(&self, round: u8) -> u32
+        requires some { 0 < round }
+        requires in_range { round ≤ round_count (rules_of self.now) }
+        ensures value { result ≡ length (signals (rules_of self.now) round) }
+        ensures few { result ≤ 200000 }
+    {
+        u32::from(self.deck().kinds())
+    }
+
+    /// For each round the parent of each signal, by its place in the round before; round 1 holds zeros.
+    pub fn parents(&self) -> &[Vec<u32>]
+        ensures { map (λ v. v.items) result.now ≡ map (parents_in (rules_of self.now)) (range_with_len 1 (round_count (rules_of self.now))) }
+    {
+        &self.parents
+    }
+
+    /// The ways of taking a signal's last own and public groups from the copies that its parent leaves.
+    pub fn edge(&self, round: u8, signal: u32) -> u64
+        requires some { 0 < round }
+        requires last { round ≤ round_count (rules_of self.now) }
+        requires in_range { signal < length (signals (rules_of self.now) round) }
+        ensures { result ≡ last_edge (rules_of self.now).copies (signal_at (rules_of self.now) round signal) }
+    {
+        1
+    }
+
+    /// The ways to take all that a last-round signal shows: the product of the edge weights on the way to it.
+    pub fn path_weight(&self, signal: u32) -> u64
+        requires { signal < length (signals (rules_of self.now) (round_count (rules_of self.now))) }
+        ensures value { result ≡ path_weight (rules_of self.now).copies (signal_at (rules_of self.now) (round_count (rules_of self.now)) signal) }
+        ensures some { 0 < result }
+    {
+        self.edge(self.rounds(), signal)
+    }
+
+    /// The strength of the hand that a last-round signal holds: more wins.
+    pub fn strength(&self, signal: u32) -> u32
+        requires { signal < length (signals (rules_of self.now) (round_count (rules_of self.now))) }
+        ensures { result ≡ signal_strength (rules_of self.now) (signal_at (rules_of self.now) (round_count (rules_of self.now)) signal) }
+    {
+        let deck = self.deck();
+        u32::from(deck.rank(Card::new(signal as u8)))
+    }
+
+    /// The text of a signal: a part for each round, joined by `/`, the own cards and then `+` and the public cards.
+    pub fn text(&self, alloc: Global, round: u8, signal: u32) -> Result<String, AllocError>
+        requires some { 0 < round }
+        requires last { round ≤ round_count (rules_of self.now) }
+        requires in_range { signal < length (signals (rules_of self.now) round) }
+        ensures { IfOk result (λ t. string_bytes t ≡ signal_text (deck_of self.now) (signal_at (rules_of self.now) round signal)) }
+    {
+        let mut text = String::new(alloc);
+        push_card(&mut text, self.deck(), Card::new(signal as u8))?;
+        Ok(text)
+    }
+
+    /// How many raw signals the last round has: at most 200,000.
+    pub(crate) fn last_count(&self) -> u32
+        ensures value { result ≡ last_count (rules_of self.now) }
+        ensures few { result ≤ 200000 }
+    {
+        self.count(self.rounds())
+    }
+
+    // The deal of two different signals of the last round.
+    pub(crate) fn deal(&self, one: u32, two: u32) -> Deal
+        requires one_in { one < last_count (rules_of self.now) }
+        requires two_in { two < last_count (rules_of self.now) }
+        requires differ { one ≢ two }
+        ensures { result ≡ deal_at (rules_of self.now) one two }
+    {
+        let outcome = plain_outcome(self.strength(one), self.strength(two));
+        Deal {
+            one,
+            two,
+            weight: 1,
+            outcome,
+        }
+    }
+
+    // The deal of the pair with a number, where some deal has the pair: pairs are numbered row by row.
+    pub(crate) fn pair(&self, number: u64) -> Option<Deal>
+        requires { number < last_count (rules_of self.now) * last_count (rules_of self.now) }
+        ensures { result ≡ (if nat_lt 0 (pair_at (rules_of self.now) number).weight then Some (pair_at (rules_of self.now) number) else None) }
+    {
+        let count = u64::from(self.last_count());
+        let one = (number / count) as u32;
+        let two = (number % count) as u32;
+        if one == two {
+            return None;
+        }
+        Some(self.deal(one, two))
+    }
+
+    /// All deals, by player 1's signal and then by player 2's, each once.
+    pub fn deals(&self) -> Deals<'_>
+        ensures { result ≡ deals (rules_of self.now) }
+    {
+        let count = u64::from(self.last_count());
+        Deals::between(self, 0, count * count)
+    }
+
+    /// The deals in which player 1 has this signal of the last round, by player 2's signal.
+    pub fn deals_of(&self, signal: u32) -> Deals<'_>
+        requires { signal < last_count (rules_of self.now) }
+        ensures { result ≡ filter (λ (d : Dealt). d.one == signal) (deals (rules_of self.now)) }
+    {
+        let count = u64::from(self.last_count());
+        let first = u64::from(signal) * count;
+        Deals::between(self, first, first + count)
+    }
+}
