@@ -1,0 +1,4 @@
+pub mod Exact
+pub mod FirstSeen
+pub mod Numbered
+pub mod Rounds

@@ -1,0 +1,43 @@
+use Rattle.std.proofs.Common.{◌≡◌, ◌+◌, ◌∷◌, [], ◌↔◌, ◌∙◌, ℕ, ℤ, List, ap, arith, length, length-append, subst, sym}
+use Rattle.gs_model.specs.Game.{round_count}
+use Rattle.gs_model.specs.Isomorphism.{Isomorphic}
+use Rattle.gs_model.specs.Signals.{signal_at, signals}
+use Rattle.gs_model.specs.Signatures.{IsSignature}
+use Rattle.gs_model.specs.ViewTree.{leaves}
+use Rattle.gs_model.proofs.Signatures.{leaf_signature_law}
+use Rattle.gs_tree.specs.Trees.{rules_of}
+use Rattle.gs_iso.specs.Numbers.{LeadToKeys}
+use Rattle.gs_iso.specs.Orders.{leaf_eq, leaf_lt}
+use Rattle.gs_iso.proofs.Exact.{leaf_exact, leaf_order, leaf_ranks}
+use Rattle.gs_iso.proofs.Numbered.{leads_more, numbers_are}
+use Rattle.gs_iso.proofs.Rounds.{isomorphic_last}
+use Rattle.gs_iso.proofs.leaves.leaf_numbers.Goals as goal
+
+pub loop-signal-preserved : goal.loop-signal-preserved
+loop-signal-preserved c =
+    let g = rules_of c.args.signals.now in
+    let sign : ℕ → List (ℕ × ℤ) → Type 0 = λ i a. IsSignature leaf_lt (leaves g (signal_at g (round_count g) i)) a in
+    let n = c.in_ok-number.ensures in
+    let long : length c.loop-signal.numbers.items ≡ c.loop-signal.signal = c.loop-signal.invariant.long in
+    record {
+      few = omega (arith, c.loop-signal.invariant.few, n.few);
+      long = ap length c.in_ok-push.ensures.items ∙ length-append c.loop-signal.numbers.items (c.in_ok-number.number ∷ []) ∙ ap (λ k. k + 1) long;
+      distinct = n.unique;
+      leads = subst (LeadToKeys sign c.number_of.new.keys.keys) (sym c.in_ok-push.ensures.items)
+          (leads_more leaf_eq leaf_exact sign c.loop-signal.seen.keys c.number_of.new.keys.keys c.loop-signal.numbers.items c.in_ok-signature.signature n.stored.0 c.in_ok-number.number
+          c.loop-signal.invariant.leads n.grown n.some n.stored.1 n.stored.2 (subst (λ i. sign i c.in_ok-signature.signature.items) (sym long) c.in_ok-signature.ensures));
+    }
+
+pub returns : goal.returns
+returns c =
+    let g = rules_of c.args.signals.now in
+    let r = round_count g in
+    let sign : ℕ → List (ℕ × ℤ) → Type 0 = λ i a. IsSignature leaf_lt (leaves g (signal_at g r i)) a in
+    let count : c.count-count.result ≡ length (signals g r) = c.count-count.ensures.value ∙ ap (λ n. length (signals g n)) c.rounds.ensures.value in
+    record {
+      long = omega (arith, count, c.loop-signal.invariant.long);
+      same = numbers_are leaf_eq leaf_exact sign c.loop-signal.seen.keys c.loop-signal.numbers.items c.loop-signal.invariant.distinct c.loop-signal.invariant.leads
+          (λ i j. Isomorphic g r (signal_at g r i) (signal_at g r j))
+          (λ i j a b li lj ha hb. subst (λ P. (a ≡ b) ↔ P) (sym (isomorphic_last g (signal_at g r i) (signal_at g r j)))
+          (leaf_signature_law g leaf_lt leaf_ranks leaf_order (signal_at g r i) (signal_at g r j) a b ha hb));
+    }

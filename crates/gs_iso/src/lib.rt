@@ -1,0 +1,10 @@
+//! The classes of ordered game isomorphism.
+#![tactic(auto)]
+
+mod classes;
+mod leaves;
+mod numbers;
+mod parts;
+mod signal_classes;
+
+pub use signal_classes::shrink;
