@@ -1,0 +1,16 @@
+//! Worked values of the definitions, as laws: two decks whose classes are known by hand.
+//!
+//! The crate runs nothing: a function here is a law, and its contract names the values. More worked values stand in `gs_model`.
+#![tactic(auto)]
+
+ghost use Rattle.gs_worked.specs.Decks.{OneRank, TwoSuits};
+
+/// Kuhn poker with two suits: two hands of one rank are of one class, and hands of two ranks are not.
+pub fn two_suits()
+    ensures { TwoSuits }
+{}
+
+/// One rank in four suits: all hands are of one class.
+pub fn one_rank()
+    ensures { OneRank }
+{}
