@@ -1,0 +1,12 @@
+-- What a sink has got of a line.
+use Rattle.std.specs.Prelude.{ℕ, ◌<◌, ◌≤◌, List, length, take}
+use Rattle.std.specs.declared.option.Option.{Option}
+use Rattle.std.specs.Io.KnownBytes.{Appends}
+use Rattle.gs_io.specs.Causes.{Rose}
+
+-- the sink has got the line, or a front of it where it has failed
+pub record TellsTo (old : Option (List ℕ)) (before : ℕ) (new : Option (List ℕ)) (now : ℕ) (line : List ℕ) : Type 0 where
+  pub count : ℕ
+  pub front : Appends old new (take count line)
+  pub later : before ≤ now
+  pub whole : count < length line → Rose before now
