@@ -1,2 +1,11 @@
 pub mod Pairs
-pub mod Singles
+pub mod Taken
+pub mod Pushed
+pub mod Grown
+pub mod Lookups
+pub mod Readers
+pub mod Dealt
+pub mod Hands
+pub mod Paths
+pub mod Beside
+pub mod Weights

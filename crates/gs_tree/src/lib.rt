@@ -3,7 +3,12 @@
 
 mod deal;
 mod deals;
+mod few;
+mod layer;
 mod signals;
+mod tables;
+#[cfg(test)]
+mod tests;
 mod texts;
 
 pub use deal::Deal;

@@ -1,17 +1,22 @@
 //! The raw signals of a game, round by round.
 
-ghost use Rattle.std.specs.Prelude.{◌≡◌, ◌∷◌, [], map};
+ghost use Rattle.std.specs.Prelude.{◌≡◌, All, map, length};
 ghost use Rattle.std.specs.List.{range_with_len};
-ghost use Rattle.gs_model.specs.Game.{High, round_count};
-ghost use Rattle.gs_model.specs.Outcome.{outcome};
-ghost use Rattle.gs_model.specs.Signals.{parents as parents_in};
+ghost use Rattle.gs_model.specs.Game.{round_count};
+ghost use Rattle.gs_card.specs.Rankings.{ranking_of};
+ghost use Rattle.gs_rank.specs.Hands.{IsStrength};
+ghost use Rattle.gs_model.specs.Signals.{parents as parents_in, signals};
+ghost use Rattle.gs_model.specs.ViewTree.{signal_strength};
 ghost use Rattle.gs_game.specs.Games.{game_of};
+ghost use Rattle.gs_tree.specs.Tables.{AreTables};
 
 use crate::deal::Deal;
 use crate::deals::Deals;
-use crate::texts::push_card;
-use gs_card::{Card, Deck};
+use crate::layer::Layer;
+use crate::tables::{Tables, build, own_ways_of, path_of, push_signal, shows_same, strengths};
+use gs_card::Deck;
 use gs_game::ValidGame;
+use gs_rank::outcome;
 use std::alloc::{AllocError, Global};
 
 /// The raw signals of a game.
@@ -22,27 +27,20 @@ use std::alloc::{AllocError, Global};
 pub struct Signals<'g> {
     game: &'g ValidGame,
     parents: Vec<Vec<u32>>,
-    ghost listed: { map (λ v. v.items) parents.items ≡ map (parents_in (game_of game.now.game)) (range_with_len 1 (round_count (game_of game.now.game))) },
-}
-
-/// The outcome of one strength against another where each hand wins the put once.
-fn plain_outcome(a: u32, b: u32) -> i8
-    ensures { result ≡ outcome (1 ∷ []) High a b }
-{
-    if a > b {
-        1
-    } else if a < b {
-        -1
-    } else {
-        0
-    }
+    layers: Vec<Layer>,
+    // of the hands of the last round's signals
+    strengths: Vec<u32>,
+    ghost tables: { AreTables (game_of game.now.game) parents.items layers.items },
+    ghost ranked: { strengths.items ≡ map (signal_strength (game_of game.now.game)) (signals (game_of game.now.game) (round_count (game_of game.now.game))) },
+    ghost strong: { All (IsStrength (ranking_of game.now.game.ranking)) strengths.items },
+    ghost counted: { length layers.items ≡ round_count (game_of game.now.game) },
 }
 
 impl<'g> Signals<'g> {
     ghost use Rattle.std.specs.Prelude.{◌≡◌, ◌≢◌, ◌≤◌, ◌<◌, ◌+◌, ◌*◌, ◌==◌, ℕ, IfOk, if◌then◌else◌, nat_lt, filter, map, length, string_bytes};
     ghost use Rattle.std.specs.List.{range_with_len};
     ghost use Rattle.gs_model.specs.Game.{round_count};
-    ghost use Rattle.gs_model.specs.Signals.{signals, parents as parents_in, signal_at, last_edge};
+    ghost use Rattle.gs_model.specs.Signals.{signals, parents as parents_in, signal_at, child_count, first_child, last_edge};
     ghost use Rattle.gs_model.specs.ViewTree.{signal_strength};
     ghost use Rattle.gs_tree.specs.Trees.{rules_of, deck_of};
     ghost use Rattle.gs_card.specs.Decks.{IsDeck};
@@ -54,10 +52,15 @@ impl<'g> Signals<'g> {
     pub fn of(alloc: Global, game: &'g ValidGame) -> Result<Signals<'g>, AllocError>
         ensures { IfOk result (λ s. s.game.now ≡ game.entry.now) }
     {
-        let kinds = game.game().deck.kinds();
-        let first = vec![in alloc; 0; usize::from(kinds)]?;
-        let parents = vec![in alloc; first]?;
-        Ok(Signals { game, parents })
+        let tables = build(alloc, game.game())?;
+        let strengths = strengths(alloc, game.game(), &tables)?;
+        let Tables { parents, layers } = tables;
+        Ok(Signals {
+            game,
+            parents,
+            layers,
+            strengths,
+        })
     }
 
     // The deck of the game.
@@ -83,7 +86,7 @@ impl<'g> Signals<'g> {
         ensures some { 0 < result }
         ensures few { result ≤ 4 }
     {
-        1
+        self.layers.len() as u8
     }
 
     /// How many raw signals a round has: at most 200,000.
@@ -93,7 +96,7 @@ impl<'g> Signals<'g> {
         ensures value { result ≡ length (signals (rules_of self.now) round) }
         ensures few { result ≤ 200000 }
     {
-        u32::from(self.deck().kinds())
+        self.layers[usize::from(round) - 1].shown.len() as u32
     }
 
     /// For each round the parent of each signal, by its place in the round before; round 1 holds zeros.
@@ -103,6 +106,18 @@ impl<'g> Signals<'g> {
         &self.parents
     }
 
+    /// The children of a signal of a round before the last: the place of the first one in the next round, and one past the last.
+    pub fn children(&self, round: u8, signal: u32) -> (u32, u32)
+        requires some { 0 < round }
+        requires before_last { round < round_count (rules_of self.now) }
+        requires in_range { signal < length (signals (rules_of self.now) round) }
+        ensures first { result.0 ≡ first_child (rules_of self.now) round signal }
+        ensures end { result.1 ≡ first_child (rules_of self.now) round signal + child_count (rules_of self.now) round signal }
+    {
+        let firsts = &self.layers[usize::from(round)].firsts;
+        (firsts[signal as usize], firsts[signal as usize + 1])
+    }
+
     /// The ways of taking a signal's last own and public groups from the copies that its parent leaves.
     pub fn edge(&self, round: u8, signal: u32) -> u64
         requires some { 0 < round }
@@ -110,7 +125,7 @@ impl<'g> Signals<'g> {
         requires in_range { signal < length (signals (rules_of self.now) round) }
         ensures { result ≡ last_edge (rules_of self.now).copies (signal_at (rules_of self.now) round signal) }
     {
-        1
+        self.layers[usize::from(round) - 1].edges[signal as usize]
     }
 
     /// The ways to take all that a last-round signal shows: the product of the edge weights on the way to it.
@@ -119,16 +134,22 @@ impl<'g> Signals<'g> {
         ensures value { result ≡ path_weight (rules_of self.now).copies (signal_at (rules_of self.now) (round_count (rules_of self.now)) signal) }
         ensures some { 0 < result }
     {
-        self.edge(self.rounds(), signal)
+        path_of(
+            self.game.game(),
+            &self.parents,
+            &self.layers,
+            self.layers.len(),
+            signal,
+        )
     }
 
     /// The strength of the hand that a last-round signal holds: more wins.
     pub fn strength(&self, signal: u32) -> u32
         requires { signal < length (signals (rules_of self.now) (round_count (rules_of self.now))) }
-        ensures { result ≡ signal_strength (rules_of self.now) (signal_at (rules_of self.now) (round_count (rules_of self.now)) signal) }
+        ensures value { result ≡ signal_strength (rules_of self.now) (signal_at (rules_of self.now) (round_count (rules_of self.now)) signal) }
+        ensures within { IsStrength (ranking_of self.now.game.now.game.ranking) result }
     {
-        let deck = self.deck();
-        u32::from(deck.rank(Card::new(signal as u8)))
+        self.strengths[signal as usize]
     }
 
     /// The text of a signal: a part for each round, joined by `/`, the own cards and then `+` and the public cards.
@@ -139,7 +160,14 @@ impl<'g> Signals<'g> {
         ensures { IfOk result (λ t. string_bytes t ≡ signal_text (deck_of self.now) (signal_at (rules_of self.now) round signal)) }
     {
         let mut text = String::new(alloc);
-        push_card(&mut text, self.deck(), Card::new(signal as u8))?;
+        push_signal(
+            &mut text,
+            self.game.game(),
+            &self.parents,
+            &self.layers,
+            usize::from(round),
+            signal,
+        )?;
         Ok(text)
     }
 
@@ -151,20 +179,41 @@ impl<'g> Signals<'g> {
         self.count(self.rounds())
     }
 
-    // The deal of two different signals of the last round.
+    // The deal of two signals of the last round; it weighs 0 where no deal has both.
     pub(crate) fn deal(&self, one: u32, two: u32) -> Deal
         requires one_in { one < last_count (rules_of self.now) }
         requires two_in { two < last_count (rules_of self.now) }
-        requires differ { one ≢ two }
         ensures { result ≡ deal_at (rules_of self.now) one two }
     {
-        let outcome = plain_outcome(self.strength(one), self.strength(two));
+        let game = self.game.game();
+        let outcome = outcome(
+            &game.bonus,
+            game.ranking,
+            self.strength(one),
+            self.strength(two),
+        );
+        let weight = self.weight(one, two);
         Deal {
             one,
             two,
-            weight: 1,
+            weight,
             outcome,
         }
+    }
+
+    // The ways to deal these two signals of the last round.
+    fn weight(&self, one: u32, two: u32) -> u64
+        requires one_in { one < last_count (rules_of self.now) }
+        requires two_in { two < last_count (rules_of self.now) }
+        ensures { result ≡ (deal_at (rules_of self.now) one two).weight }
+    {
+        let game = self.game.game();
+        let round = self.layers.len();
+        if !shows_same(game, &self.parents, &self.layers, round, one, two) {
+            return 0;
+        }
+        let shown = path_of(game, &self.parents, &self.layers, round, one);
+        shown * own_ways_of(game, &self.parents, &self.layers, one, round, two)
     }
 
     // The deal of the pair with a number, where some deal has the pair: pairs are numbered row by row.
@@ -175,10 +224,8 @@ impl<'g> Signals<'g> {
         let count = u64::from(self.last_count());
         let one = (number / count) as u32;
         let two = (number % count) as u32;
-        if one == two {
-            return None;
-        }
-        Some(self.deal(one, two))
+        let deal = self.deal(one, two);
+        if deal.weight > 0 { Some(deal) } else { None }
     }
 
     /// All deals, by player 1's signal and then by player 2's, each once.
