@@ -1,6 +1,7 @@
 //! The classes of ordered game isomorphism.
 #![tactic(auto)]
 
+mod children;
 mod classes;
 mod leaves;
 mod numbers;
