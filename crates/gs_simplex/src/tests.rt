@@ -356,3 +356,21 @@ fn a_wide_number_in_the_opening(rt: HostRuntime) -> Result<(), Fail> {
     );
     Ok(())
 }
+
+mod leduc;
+
+#[test]
+fn leducs_program(rt: HostRuntime) -> Result<(), Fail> {
+    let alloc = rt.alloc();
+    let p = leduc::program(alloc)?;
+    let opening = leduc::opening(alloc)?;
+    assert!(rt; is_small(&p));
+    let ok = meets(alloc, &p, &opening)?;
+    assert!(rt; ok);
+    let text = text_of(alloc, &run(alloc, &p, &opening, 8192))?;
+    assert_eq!(rt;
+        text.as_str(),
+        "Wide { step: 1686, row: 50, col: 15, number: -4838826802217196096 }"
+    );
+    Ok(())
+}
