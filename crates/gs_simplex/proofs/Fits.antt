@@ -1,4 +1,4 @@
-use Rattle.std.proofs.Common.{◌≡◌, ℕ, ◌*◌, ◌<◌, ◌≤◌, ◌^◌, ℤ, pos, negsuc, ◌-ℤ◌, ◌*ℤ◌, neg_ℤ, unsigned_abs, FitsSigned, to_z, of_z, w64, Bool, true, false, not, ◌<ℤ◌, ◌≤ℤ◌, sym, ap, subst, ◌∙◌, arith}
+use Rattle.std.proofs.Common.{◌≡◌, ℕ, ◌+◌, ◌*◌, ◌<◌, ◌≤◌, ◌^◌, ℤ, pos, negsuc, ◌-ℤ◌, ◌*ℤ◌, neg_ℤ, unsigned_abs, FitsSigned, to_z, of_z, w64, Bool, true, false, not, ◌<ℤ◌, ◌≤ℤ◌, sym, ap, subst, ◌∙◌, arith}
 use mir.Syntax.{w128}
 use lib.Signed.{quot_z}
 use lib.Dec.{T}
@@ -83,3 +83,29 @@ quotient_64 k z a r b d h l ea eb e =
     let f : r ≡ to_z w64 (of_z w64 (quot_z z (pos k))) = e ∙ ap (λ t. to_z w64 (of_z w64 (quot_z t b))) ea ∙ ap (λ t. to_z w64 (of_z w64 (quot_z z t))) eb in
     let s : to_z w128 (of_z w128 r) ≡ quot_z z (pos k) = widened (quot_z z (pos k)) r (omega (arith, h, q)) f in
     quotient_times k z d ∙ ap (λ t. pos k *ℤ t) (sym s)
+
+-- ---- narrow numbers in place
+pub narrow_quotient_kept : (k : ℕ) (z : ℤ) → k ∣ unsigned_abs z → unsigned_abs z < 2 ^ 62 → k < 2 ^ 62 → z ≡ pos k *ℤ to_z w64 (of_z w64 (quot_z (to_z w64 (of_z w64 z)) (to_z w64 k)))
+narrow_quotient_kept k z d h l =
+    let e : to_z w64 (of_z w64 z) ≡ z = kept_64 z h in
+    let f : to_z w64 k ≡ pos k = to_z_pos w64 k (omega (arith, l)) in
+    let g : to_z w64 (of_z w64 (quot_z z (pos k))) ≡ quot_z z (pos k) = kept_64 (quot_z z (pos k)) (omega (arith, h, quotient_small k z)) in
+    rw (e, f, g) (quotient_times k z d)
+
+pub narrow_product : (a x : ℤ) (rest : ℕ) → unsigned_abs a * unsigned_abs x + rest < 2 ^ 62 → FitsSigned w64 a → FitsSigned w64 x
+    → to_z w64 (of_z w64 (to_z w64 (of_z w64 a) *ℤ to_z w64 (of_z w64 x))) ≡ a *ℤ x
+narrow_product a x rest h fa fx =
+    ap (λ t. to_z w64 (of_z w64 (t *ℤ to_z w64 (of_z w64 x)))) (to_z-of_z w64 a fa) ∙ ap (λ t. to_z w64 (of_z w64 (a *ℤ t))) (to_z-of_z w64 x fx)
+    ∙ kept_64 (a *ℤ x) (omega (arith, h, unsigned_abs-mul a x))
+
+abs_difference : (x y : ℤ) → unsigned_abs (x -ℤ y) ≤ unsigned_abs x + unsigned_abs y
+abs_difference x y = omega (arith, ints)
+
+pub narrow_difference : (a x f y : ℤ) → unsigned_abs a * unsigned_abs x + unsigned_abs f * unsigned_abs y < 2 ^ 62 → unsigned_abs (a *ℤ x -ℤ f *ℤ y) < 2 ^ 62
+narrow_difference a x f y h = omega (arith, h, abs_difference (a *ℤ x) (f *ℤ y), unsigned_abs-mul a x, unsigned_abs-mul f y)
+
+-- a narrow number, widened and negated
+pub negated : (a r : ℤ) → unsigned_abs a < 2 ^ 62 → r ≡ to_z w64 (of_z w64 a) → to_z w128 (of_z w128 (pos 0 -ℤ to_z w128 (of_z w128 r))) ≡ neg_ℤ a
+negated a r h e =
+    let q : unsigned_abs (pos 0 -ℤ a) ≡ unsigned_abs a = omega (arith, ints) in
+    ap (λ t. to_z w128 (of_z w128 (pos 0 -ℤ t))) (widened a r h e) ∙ kept_128 (pos 0 -ℤ a) (omega (arith, h)) ∙ (let s : pos 0 -ℤ a ≡ neg_ℤ a = omega (arith, ints) in s)

@@ -7,3 +7,6 @@ pub mod Choosing
 pub mod Paths
 pub mod Checks
 pub mod Sample
+pub mod Ends
+pub mod Traces
+pub mod Rowless

@@ -9,10 +9,11 @@ use Rattle.gs_rows.specs.Program.{Listing, IsPairList, IsRowsOf, CanTake, IsTake
 use Rattle.gs_rows.specs.Path.{States, IsPath, IsWhole, IsPivot, Enters, NoneEnters, Leaves, NoneLeaves, AllNarrow, IsFirstWide, ends, wide, pivots, unbounded, PathStops}
 use Rattle.gs_rows.proofs.Ring.{linear}
 use Rattle.gs_rows.proofs.States.{states}
-use Rattle.gs_rows.proofs.Steps.{take_rows}
+use Rattle.gs_rows.proofs.Steps.{IsList, take_rows}
 use Rattle.gs_rows.proofs.Pivots.{turn_rows}
 use Rattle.gs_rows.proofs.Opening.{opened}
 use Rattle.gs_rows.proofs.Extend.{upto, upto_new, path_opens, path_turns}
+use Rattle.gs_rows.proofs.Agree.{Agree, enters_same, leaves_same, lists_same, paths_agree}
 use Rattle.gs_rows.proofs.Exists.{take_nonzero}
 use Rattle.gs_rows.proofs.PairLists.{pair_list_is_list, pair_list_is_once, opened_pair_list, changed_pair_list}
 use Rattle.gs_simplex.specs.Numbers.{at, cell}
@@ -253,3 +254,29 @@ module _ (p : Program) (o : Listing) (t : ℕ) (l : Listing) (xs : List ℤ) (q 
   pivot_wide i j z w limit k =
       let a = w.pair in let r = a.0 in let c = a.1 in let b = a.3.rows in
       wide_stops p o limit t (slice_set l q (r + 1, e + 1)) b.0 b.1 i j (stated p i j z) k (next_pivots p o t l xs q r c e b.0 b.1 h pairs table u en lv.2 a.2 (leaves_at r c a.2) b.2) b.3
+
+-- ---- which columns a pivot changes
+-- the path s has this list after t steps, and its rows agree with these: its next pivot is theirs
+pub turn_same_as : (p : Program) (o : Listing) (t : ℕ) (l : Listing) (R : ℕ → ℕ → ℤ) (a : ℕ → ℤ) (e r c : ℕ) (s : States) → length o ≤ t → IsPath p o (t + 1) s → s.lists t ≡ l → Agree p (s.rows t) R (s.aim t) a → IsList p l → Enters p l a e → Leaves p l R e r c
+    → (s.entering t ≡ e) × (s.leaving t ≡ c)
+turn_same_as p o t l R a e r c s h path el ag il en lv =
+    let pv = path.pivots t h (omega arith) in
+    let E : Listing → Type 0 = λ x. Enters p x (s.aim t) (s.entering t) in
+    let ee : s.entering t ≡ e = enters_same p l (s.rows t) R (s.aim t) a (s.entering t) e ag (subst E el pv.enters) en in
+    let L : Listing → Type 0 = λ x. Leaves p x (s.rows t) (s.entering t) pv.place.1 (s.leaving t) in
+    let M : ℕ → Type 0 = λ x. Leaves p l (s.rows t) x pv.place.1 (s.leaving t) in
+    (ee, (leaves_same p l (s.rows t) R (s.aim t) a e pv.place.1 (s.leaving t) r c il en.column ag (subst M ee (subst L el pv.place.4)) lv).1)
+
+-- the pivot made
+pub turn_at : (p : Program) (o : Listing) (made : ℕ) (l : Listing) (xs : List ℤ) (q e r c : ℕ) (next : Listing) (new : List ℤ) → IsOpening p o → IsPairList p l → IsSoFar p o (length o + made) l xs → Enters p l (table_aim p xs) e
+    → IsLeaving p l (table_rows p xs) e (Some q) → slice_index_or l q (0, 0) ≡ (r + 1, c + 1) → IsSoFar p o (length o + made + 1) next new
+    → (s : States) × (IsPath p o (length o + made + 1) s) × (e + 1 ≡ s.entering (length o + made) + 1) × (c + 1 ≡ s.leaving (length o + made) + 1)
+turn_at p o made l xs q e r c next new ok pairs u en lv at w =
+    let t = length o + made in let s = w.states.0 in let s0 = u.states.0 in
+    let path = w.states.1 in
+    let same : s.lists t ≡ s0.lists t = lists_same p o (t + 1) t s.lists s0.lists s.rows s0.rows s.aim s0.aim s.entering s0.entering s.leaving s0.leaving ok path u.states.1 made (omega arith) (omega arith) in
+    let ag = paths_agree p o (t + 1) t s.lists s0.lists s.rows s0.rows s.aim s0.aim s.entering s0.entering s.leaving s0.leaving ok path u.states.1 made (omega arith) (omega arith) in
+    let A : (ℕ → ℕ → ℤ) → Type 0 = λ x. Agree p (s.rows t) x (s.aim t) (s0.aim t) in let B : (ℕ → ℤ) → Type 0 = λ x. Agree p (s.rows t) (table_rows p xs) (s.aim t) x in
+    let n = same_names l q lv.0 lv.1 r c lv.3 at in
+    let z = turn_same_as p o t l (table_rows p xs) (table_aim p xs) e lv.0 lv.1 s (omega arith) path (same ∙ u.states.2) (subst B u.states.4 (subst A u.states.3 ag)) (pair_list_is_list p l pairs) en lv.4 in
+    (s, path, ap (λ x. x + 1) (sym z.0), ap (λ x. x + 1) (sym n.1 ∙ sym z.1))

@@ -1,19 +1,29 @@
-use Rattle.std.proofs.Common.{◌≡◌, ℕ, zero, suc, ◌-◌, ◌*◌, ◌<◌, ◌≤◌, ◌^◌, ◌⊎◌, inl, inr, List, length, ℤ, pos, ◌-ℤ◌, ◌*ℤ◌, ◌<ℤ◌, unsigned_abs, max, sym, ap, subst, ◌∙◌, arith}
+use Rattle.std.proofs.Common.{◌≡◌, ℕ, zero, suc, ◌+◌, ◌-◌, ◌*◌, ◌<◌, ◌≤◌, ◌^◌, ◌⊎◌, inl, inr, List, length, ℤ, pos, ◌-ℤ◌, ◌*ℤ◌, ◌<ℤ◌, unsigned_abs, max, sym, ap, subst, ◌∙◌, arith, below_more}
 use Prim.Native.Nat.{◌∣◌}
 use Rattle.std.proofs.lemmas.Bool.{cases_eq}
 use Rattle.std.proofs.lemmas.Int.{ints, unsigned_abs-mul}
-use Rattle.std.proofs.lemmas.Nat.Gcd.{dvd-zero}
-use Rattle.std.proofs.Math.Nat.{eq-one_of_dvd-one, eq-zero_of_zero-dvd, mul-dvd-mul_left, dvd_of_mul-dvd-mul_left, le_of_dvd, mul-le-mul_right}
+use Rattle.std.specs.Int.{IsGcd}
+use Rattle.std.proofs.lemmas.Nat.Gcd.{dvd-zero, dvd_trans}
+use Rattle.std.proofs.Math.Nat.{eq-one_of_dvd-one, eq-zero_of_zero-dvd, mul-dvd-mul_left, dvd_of_mul-dvd-mul_left, le_of_dvd}
 use Rattle.gs_rows.specs.Rows.{IsNarrow, IsPrimitive}
-use Rattle.gs_rows.proofs.Ring.{linear, one_times, cancel, cancel_zero, times_zero}
+use Rattle.gs_rows.proofs.Ring.{ring, linear, one_times, times_pos, times_times, cancel, cancel_zero}
 use Rattle.gs_rows.proofs.Sums.{cases_last}
 use Rattle.gs_rows.proofs.Primitive.{over, over_times}
-use Rattle.gs_simplex.specs.Numbers.{at, IsWideQuotient, IsReduced, IsReducedTo, IsDivided}
+use Rattle.gs_simplex.specs.Numbers.{at, IsShared, IsWideQuotient, IsReduced, IsReducedTo, IsDivided}
 
 -- the greatest common divisor of the numbers below `count`
 pub record IsDivisor (d count : ℕ) (f : ℕ → ℤ) : Type 0 where
   pub divides : (j : ℕ) → j < count → d ∣ unsigned_abs (f j)
   pub greatest : (e : ℕ) → ((j : ℕ) → j < count → e ∣ unsigned_abs (f j)) → e ∣ d
+
+-- one more number among those divided
+pub one_more : (xs : List ℤ) (i found next m : ℕ) → m ≡ unsigned_abs (at xs i) → IsGcd found m next
+    → ((j : ℕ) → j < i → found ∣ unsigned_abs (at xs j)) × ((d : ℕ) → ((j : ℕ) → j < i → d ∣ unsigned_abs (at xs j)) → d ∣ found)
+    → ((j : ℕ) → j < i + 1 → next ∣ unsigned_abs (at xs j)) × ((d : ℕ) → ((j : ℕ) → j < i + 1 → d ∣ unsigned_abs (at xs j)) → d ∣ next)
+one_more xs i found next m e g inv = (
+  below_more (λ j. next ∣ unsigned_abs (at xs j)) i (λ j h. dvd_trans next g.0 (inv.0 j h)) (let P : ℕ → Type 0 = λ t. next ∣ t in subst P e g.1),
+  λ d h. g.2 d (inv.1 d (λ j l. h j (omega arith))) (let P : ℕ → Type 0 = λ t. d ∣ t in subst P (sym e) (h i (omega arith))),
+)
 
 abs_zero : (z : ℤ) → unsigned_abs z ≡ 0 → z ≡ pos 0
 abs_zero z e = omega (arith, ints)
@@ -64,20 +74,51 @@ quotients_primitive d by last f q u e at_q = elim (cases_eq d 0) [
   }
 ]
 
+pub narrow_divisor : (d by count : ℕ) (f : ℕ → ℤ) → IsDivisor d count f → ((j : ℕ) → j < count → unsigned_abs (f j) < 2 ^ 62) → by ≡ max d 1 → by < 2 ^ 62
+narrow_divisor d by count f u h e = let b : d ≤ 2 ^ 62 - 1 = divisor_small d count (2 ^ 62 - 1) f u (λ j l. let k : unsigned_abs (f j) < 2 ^ 62 = h j l in omega arith) in omega arith
+
+pub divisor_bounds : (g m : ℕ) → 0 < m → m < 2 ^ 62 → g ∣ m → (0 < g) × (g < 2 ^ 62)
+divisor_bounds g m some small d = (
+  elim (cases_eq g 0) [
+    | inl z ↦ (let P : ℕ → Type 0 = λ t. t ∣ m in let q : m ≡ 0 = eq-zero_of_zero-dvd (subst P z d) in absurd (omega arith))
+    | inr nz ↦ omega arith
+  ],
+  (let l : g ≤ m = le_of_dvd some d in omega arith),
+)
+
+-- what the multipliers give is the row of the pivot but for their common divisor
+shared_row : (lc rc own far g r l m : ℤ) → lc ≡ g *ℤ own → rc ≡ g *ℤ far → m ≡ own *ℤ r -ℤ far *ℤ l → lc *ℤ r -ℤ rc *ℤ l ≡ g *ℤ m
+shared_row lc rc own far g r l m e f h =
+    let q : (g *ℤ own) *ℤ r -ℤ (g *ℤ far) *ℤ l ≡ g *ℤ (own *ℤ r -ℤ far *ℤ l) = simp ring (omega (arith, linear)) in
+    ap (λ t. t *ℤ r -ℤ rc *ℤ l) e ∙ ap (λ t. (g *ℤ own) *ℤ r -ℤ t *ℤ l) f ∙ q ∙ ap (λ t. g *ℤ t) (sym h)
+
+-- a row of narrow products, divided
+pub reduced_divided : (lead row mid new : ℕ → ℤ) (c width : ℕ) (own far : ℤ) → IsShared (lead c) (row c) own far → ((j : ℕ) → j < width → mid j ≡ own *ℤ row j -ℤ far *ℤ lead j) → IsDivided width mid new → IsReduced lead c width row new
+reduced_divided lead row mid new c width own far sh is u =
+    let g = sh.by.0 in let h = u.divided.0 in
+    record {
+      divided = (
+        g *ℤ h,
+        times_pos g h sh.by.1 u.divided.1,
+        λ j l. shared_row (lead c) (row c) own far g (row j) (lead j) (mid j) sh.by.2 sh.by.3 (is j l) ∙ ap (λ t. g *ℤ t) (u.divided.2 j l) ∙ sym (times_times g h (new j)),
+      );
+      primitive = u.primitive;
+    }
+
 -- the row of a pivot, divided
-module _ (lead row : ℕ → ℤ) (c width d by : ℕ) (mixed : List ℤ) (wide : 0 < width) (long : length mixed ≡ width)
-    (is : (j : ℕ) → j < width → at mixed j ≡ lead c *ℤ row j -ℤ row c *ℤ lead j) (u : IsDivisor d (length mixed) (at mixed)) (e : by ≡ max d 1) where
+module _ (lead row : ℕ → ℤ) (c width d by : ℕ) (own far : ℤ) (mixed : List ℤ) (sh : IsShared (lead c) (row c) own far) (wide : 0 < width) (long : length mixed ≡ width)
+    (is : (j : ℕ) → j < width → at mixed j ≡ own *ℤ row j -ℤ far *ℤ lead j) (u : IsDivisor d (length mixed) (at mixed)) (e : by ≡ max d 1) where
   by_positive : pos 0 <ℤ pos by
   by_positive = omega (arith, ints)
 
-  primitive_from : (q : ℕ → ℤ) → ((j : ℕ) → j < width → at mixed j ≡ pos by *ℤ q j) → IsPrimitive (width - 1) q
-  primitive_from q h =
+  divided_from : (q : ℕ → ℤ) → ((j : ℕ) → j < width → at mixed j ≡ pos by *ℤ q j) → IsDivided width (at mixed) q
+  divided_from q h =
       let s : length mixed ≡ suc (width - 1) = omega arith in
       let P : ℕ → Type 0 = λ t. IsDivisor d t (at mixed) in
-      quotients_primitive d by (width - 1) (at mixed) q (subst P s u) e (λ j l. h j (omega arith))
+      record { divided = (pos by, by_positive, h); primitive = quotients_primitive d by (width - 1) (at mixed) q (subst P s u) e (λ j l. h j (omega arith)) }
 
   pub reduced_from : (q : ℕ → ℤ) → ((j : ℕ) → j < width → at mixed j ≡ pos by *ℤ q j) → IsReduced lead c width row q
-  reduced_from q h = record { divided = (pos by, by_positive, λ j l. sym (is j l) ∙ h j l); primitive = primitive_from q h }
+  reduced_from q h = reduced_divided lead row (at mixed) q c width own far sh is (divided_from q h)
 
   pub reduced_wide : (j : ℕ) (z : ℤ) → IsWideQuotient by mixed j z → IsReducedTo lead c width row j z
   reduced_wide j z w =
@@ -105,19 +146,16 @@ kept_reduced lead row c width own z prim = record {
 }
 
 -- ---- a row divided
-pub divided_row : (row new : ℕ → ℤ) (width d by : ℕ) (mixed : List ℤ) → 0 < width → length mixed ≡ width → ((j : ℕ) → j < width → at mixed j ≡ row j) → IsDivisor d (length mixed) (at mixed) → by ≡ max d 1
-    → ((j : ℕ) → j < width → at mixed j ≡ pos by *ℤ new j) → IsDivided width row new
-divided_row row new width d by mixed some long same u e h = record {
-  divided = (pos by, omega (arith, ints), λ j l. sym (same j l) ∙ h j l);
+pub divided_row : (row new : List ℤ) (d by : ℕ) → 0 < length row → IsDivisor d (length row) (at row) → by ≡ max d 1 → ((j : ℕ) → j < length row → at row j ≡ pos by *ℤ at new j) → IsDivided (length row) (at row) (at new)
+divided_row row new d by some u e h = record {
+  divided = (pos by, omega (arith, ints), h);
   primitive =
-      (let s : length mixed ≡ suc (width - 1) = omega arith in
-      let P : ℕ → Type 0 = λ t. IsDivisor d t (at mixed) in
-      quotients_primitive d by (width - 1) (at mixed) new (subst P s u) e (λ j l. h j (omega arith)));
+      (let s : length row ≡ suc (length row - 1) = omega arith in
+      let P : ℕ → Type 0 = λ t. IsDivisor d t (at row) in
+      quotients_primitive d by (length row - 1) (at row) (at new) (subst P s u) e (λ j l. h j (omega arith)));
 }
 
--- a quotient of a narrow number is narrow
-pub no_wide : (by : ℕ) (mixed : List ℤ) (j : ℕ) (z : ℤ) → 0 < by → IsWideQuotient by mixed j z → ((k : ℕ) → k < length mixed → unsigned_abs (at mixed k) < 2 ^ 62) → ⊥
-no_wide by mixed j z some w narrow =
-    let e : unsigned_abs (at mixed j) ≡ by * unsigned_abs z = ap unsigned_abs w.here ∙ unsigned_abs-mul (pos by) z in
-    let m : 1 * unsigned_abs z ≤ by * unsigned_abs z = mul-le-mul_right (unsigned_abs z) (omega arith) in
-    w.wide (let h : unsigned_abs (at mixed j) < 2 ^ 62 = narrow j w.inside in omega arith)
+pub undivided_row : (row : List ℤ) (d by : ℕ) → 0 < length row → IsDivisor d (length row) (at row) → by ≡ max d 1 → by ≤ 1 → IsDivided (length row) (at row) (at row)
+undivided_row row d by some u e small =
+    let one : 1 ≡ by = omega arith in
+    divided_row row row d by some u e (λ j l. sym (one_times (at row j)) ∙ ap (λ t. pos t *ℤ at row j) one)

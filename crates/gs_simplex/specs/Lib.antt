@@ -5,3 +5,5 @@ pub mod State
 pub mod Values
 pub mod Answer
 pub mod Conditions
+pub mod Laws
+pub mod Trace

@@ -14,6 +14,14 @@ AllNarrow xs = (j : ℕ) → j < length xs → IsNarrow (at xs j)
 abbrev pub AllWithin : List ℤ → Type 0
 AllWithin xs = (j : ℕ) → j < length xs → unsigned_abs (at xs j) ≤ 2 ^ 125
 
+-- each number is at most `most` in size
+abbrev pub AllAtMost : List ℤ → ℕ → Type 0
+AllAtMost xs most = (j : ℕ) → j < length xs → unsigned_abs (at xs j) ≤ most
+
+-- a and b are own and far over a common divisor
+pub record IsShared (own far a b : ℤ) : Type 0 where
+  pub by : (g : ℤ) × (pos 0 <ℤ g) × (own ≡ g *ℤ a) × (far ≡ g *ℤ b)
+
 -- the first `count` numbers of `row` times `by` are those of `mixed`, and they are narrow
 pub record IsQuotient (by : ℕ) (mixed row : List ℤ) (count : ℕ) : Type 0 where
   pub each : (j : ℕ) → j < count → at mixed j ≡ pos by *ℤ at row j

@@ -3,6 +3,7 @@ use Rattle.gs_rows.specs.declared.Program.{Program}
 use Rattle.gs_rows.specs.Program.{number, aim_of, Listing, IsPairList, IsRowsOf}
 use Rattle.gs_rows.specs.Path.{States, IsPath, Enters, NoneEnters, NoneLeaves}
 use Rattle.gs_simplex.specs.Choice.{IsLeaving}
+use Rattle.gs_simplex.specs.declared.answer.Turn.{Turn}
 use Rattle.gs_simplex.specs.declared.path.Choice.{Choice}
 use Rattle.gs_simplex.specs.declared.path.Choice.TheVariants.{Ends, Unbounded, Leaves}
 use Rattle.gs_simplex.specs.Numbers.{cell}
@@ -59,3 +60,13 @@ pub record IsEnd (p : Program) (opening : Listing) (limit n : ℕ) (basis : List
   pub state : IsState p opening (length opening + n) basis held
   pub within : n ≤ limit
   pub none : NoneEnters p basis (table_aim p held.numbers.items)
+
+-- after t steps this pivot follows
+abbrev pub IsTurnAt : Program → Listing → ℕ → Turn → Type 0
+IsTurnAt p o t turn = (s : States) × (IsPath p o (t + 1) s) × (turn.enter ≡ s.entering t + 1) × (turn.leave ≡ s.leaving t + 1)
+
+-- the state after n pivots and one more, this one
+pub record IsTurned (p : Program) (opening : Listing) (limit n : ℕ) (turn : Turn) (basis : Listing) (held : Table) : Type 0 where
+  pub state : IsState p opening (length opening + (n + 1)) basis held
+  pub within : n < limit
+  pub pivot : IsTurnAt p opening (length opening + n) turn

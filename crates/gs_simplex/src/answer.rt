@@ -18,6 +18,26 @@ pub struct Best {
     pub price: Vec<Fraction>,
 }
 
+/// A pivot: the column that enters the basis and the one that leaves it, both counted from 1.
+#[derive(Clone, Copy, Debug, PartialEq, Eq)]
+pub struct Turn {
+    pub enter: u32,
+    pub leave: u32,
+}
+
+/// The path from the end of the opening on.
+#[derive(Debug, Drop)]
+pub struct PathTrace {
+    /// The aim's value after the opening.
+    pub start: Fraction,
+    /// The pivots.
+    pub turns: Vec<Turn>,
+    /// The listed columns in order of number, counted from 1, after the opening and after each pivot.
+    pub bases: Vec<Vec<u32>>,
+    /// The aim's value at the end.
+    pub aim: Fraction,
+}
+
 /// Why there is no best basis.
 #[derive(Debug, PartialEq, Eq, Drop)]
 pub enum Stop {

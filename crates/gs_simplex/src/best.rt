@@ -29,7 +29,11 @@ fn mark_rows(p: &Program, basis: &[(u32, u32)], rows: &mut [u32])
 }
 
 // For each column the row that it is listed with, from 1, or 0.
-fn listed_rows(alloc: Global, p: &Program, basis: &[(u32, u32)]) -> Result<Vec<u32>, AllocError>
+pub(crate) fn listed_rows(
+    alloc: Global,
+    p: &Program,
+    basis: &[(u32, u32)],
+) -> Result<Vec<u32>, AllocError>
     requires small_rows { p.now.rows < 2 ^ 31 }
     requires pairs { IsPairList p.now basis.now }
     ensures { IfOk result (λ v. IsRowIndex p.now basis.now v.items) }

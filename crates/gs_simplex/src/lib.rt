@@ -8,21 +8,24 @@
 mod answer;
 mod best;
 mod choice;
+pub mod laws;
 mod path;
 mod row;
 mod start;
 mod table;
+mod tracing;
 
 ghost use Rattle.std.specs.Prelude.{ℕ, ◌<◌, ◌^◌};
 ghost use Rattle.gs_rows.specs.Program.{IsShaped, IsOpening};
 ghost use Rattle.gs_simplex.specs.Answer.{IsAnswer};
+ghost use Rattle.gs_simplex.specs.Trace.{IsTraceAnswer};
 
-pub use answer::{Best, Stop};
+pub use answer::{Best, PathTrace, Stop, Turn};
 use best::best;
 pub use gs_rows::Program;
-use path::{follow, open};
+use path::{Position, begin, follow};
 use std::alloc::Global;
-use table::Table;
+use tracing::{Log, aim_value};
 
 /// The most numbers of a table, `(rows + 1) * (cols + 1)`.
 pub const MOST_NUMBERS: u64 = 1_048_576;
@@ -39,15 +42,43 @@ pub fn run(alloc: Global, p: &Program, opening: &[(u32, u32)], limit: u32) -> Re
     requires opens { IsOpening p.now opening.now }
     ensures { IsAnswer p.now opening.now limit result }
 {
-    let count = (u64::from(p.rows) + 1) * (u64::from(p.cols) + 1);
-    if count > MOST_NUMBERS {
-        return Err(Stop::TableTooLarge { count });
-    }
-    let mut table = Table::start(alloc, p)?;
-    let mut basis = Vec::from_slice(alloc, opening)?;
-    open(p, opening, &mut table)?;
+    let Position {
+        mut basis,
+        mut table,
+    } = begin(alloc, p, opening)?;
     let pivots = follow(p, opening, limit, &mut basis, &mut table)?;
     Ok(best(alloc, p, &table.numbers, basis, pivots)?)
+}
+
+/// The path's pivots and bases, with the aim's value after the opening and at the end, or what stopped the path first: that which [`run`] answers.
+pub fn trace(
+    alloc: Global,
+    p: &Program,
+    opening: &[(u32, u32)],
+    limit: u32,
+) -> Result<PathTrace, Stop>
+    requires small_rows { p.now.rows < 2 ^ 31 }
+    requires small_cols { p.now.cols < 2 ^ 31 }
+    requires small_limit { limit < 2 ^ 31 }
+    requires shaped { IsShaped p.now }
+    requires opens { IsOpening p.now opening.now }
+    ensures { IsTraceAnswer p.now opening.now limit result }
+{
+    let Position {
+        mut basis,
+        mut table,
+    } = begin(alloc, p, opening)?;
+    let start = aim_value(p, &table.numbers);
+    let mut log = Log::start(alloc, p, opening, &basis)?;
+    let _pivots = log.follow(alloc, p, opening, limit, &mut basis, &mut table)?;
+    let aim = aim_value(p, &table.numbers);
+    let Log { turns, bases } = log;
+    Ok(PathTrace {
+        start,
+        turns,
+        bases,
+        aim,
+    })
 }
 
 #[cfg(test)]

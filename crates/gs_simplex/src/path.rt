@@ -4,13 +4,16 @@ ghost use Rattle.std.specs.Prelude.{◌≡◌, ◌≢◌, MatchOption, MatchResu
 ghost use Rattle.gs_rows.specs.Program.{IsShaped, IsPairList, IsOpening, IsRowsOf};
 ghost use Rattle.gs_rows.specs.Path.{NoneEnters};
 ghost use Rattle.gs_simplex.specs.Table.{table_rows, table_aim, stated, IsTable, IsPrimitiveTable, IsTableAfter, IsWideAfter};
-ghost use Rattle.gs_simplex.specs.State.{HasRoom, IsStart, IsState, IsChoice, IsPivoted, IsWidePivot, IsEnd};
+ghost use Rattle.gs_simplex.specs.State.{HasRoom, IsStart, IsState, IsChoice, IsPivoted, IsWidePivot, IsEnd, IsTurned};
 ghost use Rattle.gs_simplex.specs.Answer.{IsSmall, IsStop};
+ghost use Rattle.gs_simplex.specs.Trace.{IsBegun};
 
-use crate::answer::Stop;
+use crate::MOST_NUMBERS;
+use crate::answer::{Stop, Turn};
 use crate::choice::{entering, leaving, pair_at};
 use crate::table::{Table, WideCell};
 use gs_rows::Program;
+use std::alloc::Global;
 
 /// What comes next.
 #[derive(Clone, Copy)]
@@ -60,6 +63,13 @@ fn choose(p: &Program, numbers: &[i64], basis: &[(u32, u32)]) -> Choice
     }
 }
 
+/// The list and the rows after the opening.
+#[derive(Drop)]
+pub(crate) struct Position {
+    pub(crate) basis: Vec<(u32, u32)>,
+    pub(crate) table: Table,
+}
+
 // Lists the pairs of the opening one after the other.
 pub(crate) fn open(p: &Program, opening: &[(u32, u32)], table: &mut Table) -> Result<(), Stop>
     requires small_rows { p.now.rows < 2 ^ 31 }
@@ -77,6 +87,24 @@ pub(crate) fn open(p: &Program, opening: &[(u32, u32)], table: &mut Table) -> Re
         }
     }
     Ok(())
+}
+
+// Takes the opening, where the table is not too large.
+pub(crate) fn begin(alloc: Global, p: &Program, opening: &[(u32, u32)]) -> Result<Position, Stop>
+    requires small_rows { p.now.rows < 2 ^ 31 }
+    requires small_cols { p.now.cols < 2 ^ 31 }
+    requires shaped { IsShaped p.now }
+    requires opens { IsOpening p.now opening.now }
+    ensures { MatchResult result (IsBegun p.now opening.now) (λ e. (limit : ℕ) → IsStop p.now opening.now limit e) }
+{
+    let count = (u64::from(p.rows) + 1) * (u64::from(p.cols) + 1);
+    if count > MOST_NUMBERS {
+        return Err(Stop::TableTooLarge { count });
+    }
+    let mut table = Table::start(alloc, p)?;
+    let basis = Vec::from_slice(alloc, opening)?;
+    open(p, opening, &mut table)?;
+    Ok(Position { basis, table })
 }
 
 // One pivot: the row at a place of the list is listed with column `column`. It answers the first number that is then not narrow.
@@ -109,6 +137,49 @@ fn pivot(
     None
 }
 
+// One step from the state after `made` pivots: nothing where the path ends there, and otherwise the pivot.
+pub(crate) fn step(
+    p: &Program,
+    opening: &[(u32, u32)],
+    limit: u32,
+    made: u32,
+    basis: &mut [(u32, u32)],
+    table: &mut Table,
+) -> Result<Option<Turn>, Stop>
+    requires small_rows { p.now.rows < 2 ^ 31 }
+    requires small_cols { p.now.cols < 2 ^ 31 }
+    requires small_limit { limit < 2 ^ 31 }
+    requires within { made ≤ limit }
+    requires small { IsSmall p.now }
+    requires shaped { IsShaped p.now }
+    requires opens { IsOpening p.now opening.now }
+    requires state { IsState p.now opening.now (length opening.now + made) basis.old table.old }
+    ensures { MatchResult result
+        (λ r. MatchOption r (IsEnd p.now opening.now limit made basis.new table.new)
+        (λ t. IsTurned p.now opening.now limit made t basis.new table.new))
+        (IsStop p.now opening.now limit) }
+{
+    match choose(p, &table.numbers, basis) {
+        Choice::Ends => Ok(None),
+        Choice::Unbounded(column) => Err(Stop::Unbounded {
+            col: column as u32 + 1,
+        }),
+        Choice::Leaves(place, column) => {
+            if made == limit {
+                return Err(Stop::Pivots);
+            }
+            let (_, leaving) = pair_at(p, basis, place);
+            if let Some(cell) = pivot(p, basis, table, place, column) {
+                return Err(wide_stop(p, p.rows + made + 1, cell));
+            }
+            Ok(Some(Turn {
+                enter: column as u32 + 1,
+                leave: leaving as u32 + 1,
+            }))
+        }
+    }
+}
+
 // Makes pivots until the path stops, at most `limit`, and answers how many.
 pub(crate) fn follow(
     p: &Program,
@@ -128,19 +199,9 @@ pub(crate) fn follow(
     ensures { MatchResult result (λ n. IsEnd p.now opening.now limit n basis.new table.new) (IsStop p.now opening.now limit) }
 {
     for made in 0..limit + 1 {
-        match choose(p, &table.numbers, basis) {
-            Choice::Ends => return Ok(made),
-            Choice::Unbounded(column) => return Err(Stop::Unbounded {
-                col: column as u32 + 1,
-            }),
-            Choice::Leaves(place, column) => {
-                if made == limit {
-                    return Err(Stop::Pivots);
-                }
-                if let Some(cell) = pivot(p, basis, table, place, column) {
-                    return Err(wide_stop(p, p.rows + made + 1, cell));
-                }
-            }
+        match step(p, opening, limit, made, basis, table)? {
+            None => return Ok(made),
+            Some(_) => {}
         }
     }
     unreachable!()

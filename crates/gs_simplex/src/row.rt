@@ -1,10 +1,10 @@
-// The arithmetic of one row: products of two stored numbers fit 128 bits, and a row is divided by its greatest common divisor.
+// The arithmetic of one row: its products stay in place where they are narrow, and take 128 bits otherwise; a row is divided by its greatest common divisor.
 
-ghost use Rattle.std.specs.Prelude.{◌≡◌, MatchOption, ℕ, ◌+◌, ◌-◌, ◌<◌, ◌≤◌, ◌^◌, ℤ, pos, ◌+ℤ◌, ◌-ℤ◌, ◌*ℤ◌, ◌<ℤ◌, unsigned_abs, length};
+ghost use Rattle.std.specs.Prelude.{◌≡◌, MatchOption, ℕ, ◌+◌, ◌-◌, ◌*◌, ◌<◌, ◌≤◌, ◌^◌, IsTrue, ℤ, pos, ◌+ℤ◌, ◌-ℤ◌, ◌*ℤ◌, ◌<ℤ◌, unsigned_abs, length};
 ghost use Prim.Native.Nat.{◌∣◌};
 ghost use Rattle.std.specs.Int.{IsGcd};
 ghost use Rattle.gs_rows.specs.Rows.{IsNarrow, IsPrimitive};
-ghost use Rattle.gs_simplex.specs.Numbers.{at, AllNarrow, AllWithin, IsQuotient, IsWideQuotient, IsReduced, IsReducedTo, IsDivided};
+ghost use Rattle.gs_simplex.specs.Numbers.{at, AllNarrow, AllWithin, AllAtMost, IsShared, IsQuotient, IsWideQuotient, IsReduced, IsReducedTo, IsDivided};
 
 use gs_frac::gcd;
 
@@ -13,6 +13,85 @@ use gs_frac::gcd;
 pub(crate) struct WideNumber {
     pub(crate) column: usize,
     pub(crate) number: i128,
+}
+
+// The greatest size of a number.
+pub(crate) fn greatest(numbers: &[i64]) -> u64
+    ensures { AllAtMost numbers.now result }
+{
+    let mut most: u64 = 0;
+    for number in numbers {
+        most = most.max(number.unsigned_abs());
+    }
+    most
+}
+
+// `number` over `by`, which divides it, for narrow numbers.
+fn narrow_quotient(number: i64, by: u64) -> i64
+    requires some { 0 < by }
+    requires small { by < 2 ^ 62 }
+    requires narrow { IsNarrow number }
+    requires divides { by ∣ unsigned_abs number }
+    ensures value { number ≡ pos by *ℤ result }
+    ensures narrow { IsNarrow result }
+{
+    if number == 0 {
+        return 0;
+    }
+    number / (by as i64)
+}
+
+// The greatest common divisor of a number above 0 and another one.
+fn shared(own: i64, far: i64) -> u64
+    requires own { pos 0 <ℤ own }
+    requires narrow { IsNarrow own }
+    ensures some { 0 < result }
+    ensures small { result < 2 ^ 62 }
+    ensures of_own { result ∣ unsigned_abs own }
+    ensures of_far { result ∣ unsigned_abs far }
+{
+    if own == 1 {
+        return 1;
+    }
+    gcd(
+        u128::from(far.unsigned_abs()),
+        u128::from(own.unsigned_abs()),
+    ) as u64
+}
+
+// Whether all sums of a product with `own` and one with `far` are narrow, where the numbers are at most `row` and `lead` in size.
+fn stays_narrow(own: i64, far: i64, row: u64, lead: u64) -> bool
+    requires narrow_own { IsNarrow own }
+    requires narrow_far { IsNarrow far }
+    ensures { IsTrue result → unsigned_abs own * row + unsigned_abs far * lead < 2 ^ 62 }
+{
+    let first = u128::from(own.unsigned_abs()) * u128::from(row);
+    let second = u128::from(far.unsigned_abs()) * u128::from(lead);
+    first + second < 0x4000_0000_0000_0000
+}
+
+// `own` times `x` less `far` times `y`, where that stays narrow.
+fn narrow_mixed_number(own: i64, x: i64, far: i64, y: i64) -> i64
+    requires { unsigned_abs own * unsigned_abs x + unsigned_abs far * unsigned_abs y < 2 ^ 62 }
+    ensures value { result ≡ own *ℤ x -ℤ far *ℤ y }
+    ensures narrow { IsNarrow result }
+{
+    own * x - far * y
+}
+
+// Sets `row` to `own` times itself less `far` times `lead`, number by number, where that stays narrow.
+fn mix_narrow(lead: &[i64], row: &mut [i64], own: i64, far: i64)
+    requires same_length { length lead.now ≡ length row.old }
+    requires narrow_lead { AllNarrow lead.now }
+    requires narrow_row { AllNarrow row.old }
+    requires narrow { (j : ℕ) → j < length row.old →
+        unsigned_abs own * unsigned_abs (at row.old j) + unsigned_abs far * unsigned_abs (at lead.now j) < 2 ^ 62 }
+    ensures mixed { (j : ℕ) → j < length row.old → at row.new j ≡ own *ℤ at row.old j -ℤ far *ℤ at lead.now j }
+    ensures narrow { AllNarrow row.new }
+{
+    for j in 0..row.len() {
+        row[j] = narrow_mixed_number(own, row[j], far, lead[j]);
+    }
 }
 
 // `own` times `x` less `far` times `y`.
@@ -75,6 +154,39 @@ fn divisor(mixed: &[i128]) -> u128
     found
 }
 
+// The greatest common divisor of the divisor so far, 0 for none, and a narrow number above 0.
+fn narrow_common_divisor(found: u64, number: u64) -> u64
+    requires some { 0 < number }
+    requires narrow { number < 2 ^ 62 }
+    ensures divisor { IsGcd found number result }
+    ensures narrow { result < 2 ^ 62 }
+{
+    if found != 0 && number % found == 0 {
+        return found;
+    }
+    gcd(u128::from(found), u128::from(number)) as u64
+}
+
+// The greatest number that divides all of the narrow numbers of `row`, 0 where all are 0.
+fn narrow_divisor(row: &[i64]) -> u64
+    requires { AllNarrow row.now }
+    ensures divides { (j : ℕ) → j < length row.now → result ∣ unsigned_abs (at row.now j) }
+    ensures greatest { (d : ℕ) → ((j : ℕ) → j < length row.now → d ∣ unsigned_abs (at row.now j)) → d ∣ result }
+{
+    let mut found: u64 = 0;
+    for number in row {
+        let size = number.unsigned_abs();
+        if size == 0 {
+            continue;
+        }
+        found = narrow_common_divisor(found, size);
+        if found == 1 {
+            return 1;
+        }
+    }
+    found
+}
+
 // `number` over `by`, which divides it.
 fn quotient(number: i128, by: u128) -> i128
     requires some { 0 < by }
@@ -115,16 +227,58 @@ fn narrow_into(mixed: &[i128], by: u128, row: &mut [i64]) -> Option<WideNumber>
     None
 }
 
-// Clears column `c` of `row` by the lead, whose number there is above 0: `row` becomes the lead's number in `c` times itself less its own number in
-// `c` times the lead, divided by the greatest common divisor. It answers the first number that is then not narrow; the row is left half done.
+// Divides each number by `by`, which divides it.
+fn divide_all(row: &mut [i64], by: u64)
+    requires some { 0 < by }
+    requires small { by < 2 ^ 62 }
+    requires narrow { AllNarrow row.old }
+    requires divides { (j : ℕ) → j < length row.old → by ∣ unsigned_abs (at row.old j) }
+    ensures { IsQuotient by row.old row.new (length row.old) }
+{
+    for j in 0..row.len() {
+        row[j] = narrow_quotient(row[j], by);
+    }
+}
+
+// Divides `row` by its greatest common divisor.
+pub(crate) fn divide_row(row: &mut [i64])
+    requires some { 0 < length row.old }
+    requires narrow { AllNarrow row.old }
+    ensures divided { IsDivided (length row.old) (at row.old) (at row.new) }
+    ensures narrow { AllNarrow row.new }
+{
+    let by = narrow_divisor(row).max(1);
+    if by > 1 {
+        divide_all(row, by);
+    }
+}
+
+// Both numbers over the greatest common divisor, the first of which is above 0.
+fn multipliers(own: i64, far: i64) -> (i64, i64)
+    requires own { pos 0 <ℤ own }
+    requires narrow_own { IsNarrow own }
+    requires narrow_far { IsNarrow far }
+    ensures shared { IsShared own far result.0 result.1 }
+    ensures narrow_own { IsNarrow result.0 }
+    ensures narrow_far { IsNarrow result.1 }
+{
+    let by = shared(own, far);
+    (narrow_quotient(own, by), narrow_quotient(far, by))
+}
+
+// Clears column `c` of `row` by the lead, whose number there is above 0 and whose numbers are at most `most` in size: `row` becomes the lead's number in
+// `c` times itself less its own number in `c` times the lead, divided by all common divisors. It answers the first number that is then not narrow; the
+// row is left half done.
 pub(crate) fn reduce_row(
     lead: &[i64],
+    most: u64,
     c: usize,
     row: &mut [i64],
     mixed: &mut [i128],
 ) -> Option<WideNumber>
     requires long { length row.old ≡ length lead.now }
     requires room { length mixed.old ≡ length row.old }
+    requires most { AllAtMost lead.now most }
     requires inside { c < length lead.now }
     requires own { pos 0 <ℤ at lead.now c }
     requires narrow_lead { AllNarrow lead.now }
@@ -133,37 +287,16 @@ pub(crate) fn reduce_row(
     ensures { MatchOption result (IsReduced (at lead.now) c (length lead.now) (at row.old) (at row.new) × AllNarrow row.new)
         (λ w. IsReducedTo (at lead.now) c (length lead.now) (at row.old) w.column w.number) }
 {
-    let own = lead[c];
-    let far = row[c];
-    if far == 0 {
+    if row[c] == 0 {
+        return None;
+    }
+    let (own, far) = multipliers(lead[c], row[c]);
+    if stays_narrow(own, far, greatest(row), most) {
+        mix_narrow(lead, row, own, far);
+        divide_row(row);
         return None;
     }
     mix(lead, row, own, far, mixed);
     let by = divisor(mixed).max(1);
     narrow_into(mixed, by, row)
-}
-
-// Sets `mixed` to the numbers of `row`.
-fn widen(row: &[i64], mixed: &mut [i128])
-    requires room { length mixed.old ≡ length row.now }
-    requires narrow { AllNarrow row.now }
-    ensures same { (j : ℕ) → j < length row.now → at mixed.new j ≡ at row.now j }
-    ensures within { AllWithin mixed.new }
-{
-    for j in 0..row.len() {
-        mixed[j] = i128::from(row[j]);
-    }
-}
-
-// Divides `row` by its greatest common divisor.
-pub(crate) fn divide_row(row: &mut [i64], mixed: &mut [i128])
-    requires room { length mixed.old ≡ length row.old }
-    requires some { 0 < length row.old }
-    requires narrow { AllNarrow row.old }
-    ensures divided { IsDivided (length row.old) (at row.old) (at row.new) }
-    ensures narrow { AllNarrow row.new }
-{
-    widen(row, mixed);
-    let by = divisor(mixed).max(1);
-    let _ = narrow_into(mixed, by, row);
 }

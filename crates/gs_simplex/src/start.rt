@@ -2,7 +2,7 @@
 
 ghost use Rattle.std.specs.Prelude.{◌≡◌, ℕ, ◌+◌, ◌-◌, ◌*◌, ◌<◌, ◌≤◌, ◌++◌, [], ◌∷◌, ◌⊎◌, ℤ, pos, ◌*ℤ◌, length, OnOk, IfOk, slice_index_or};
 ghost use Rattle.gs_rows.specs.Program.{IsShaped, IsRowsOf};
-ghost use Rattle.gs_simplex.specs.Numbers.{at, cell, AllNarrow, AllWithin, IsDivided};
+ghost use Rattle.gs_simplex.specs.Numbers.{at, cell, AllNarrow, IsDivided};
 ghost use Rattle.gs_simplex.specs.Table.{table_rows, table_aim, IsTable};
 ghost use Rattle.gs_simplex.specs.State.{HasRoom, IsRaw, IsStart};
 
@@ -36,34 +36,31 @@ fn raw_numbers(alloc: Global, p: &Program) -> Result<Vec<i64>, AllocError>
     Ok(numbers)
 }
 
-// Divides the row that begins at `start`.
-fn divide_at(numbers: &mut [i64], start: usize, mixed: &mut [i128])
-    requires inside { start + length mixed.old ≤ length numbers.old }
-    requires some { 0 < length mixed.old }
+// Divides the row of this width that begins at `start`.
+fn divide_at(numbers: &mut [i64], start: usize, width: usize)
+    requires inside { start + width ≤ length numbers.old }
+    requires some { 0 < width }
     requires narrow { AllNarrow numbers.old }
-    ensures others { (k : ℕ) → (k < start) ⊎ (start + length mixed.old ≤ k) → at numbers.new k ≡ at numbers.old k }
-    ensures divided { IsDivided (length mixed.old) (λ j. at numbers.old (start + j)) (λ j. at numbers.new (start + j)) }
+    ensures others { (k : ℕ) → (k < start) ⊎ (start + width ≤ k) → at numbers.new k ≡ at numbers.old k }
+    ensures divided { IsDivided width (λ j. at numbers.old (start + j)) (λ j. at numbers.new (start + j)) }
     ensures narrow { AllNarrow numbers.new }
 {
-    let end = start + mixed.len();
+    let end = start + width;
     let row = &mut numbers[start..end];
-    divide_row(row, mixed);
+    divide_row(row);
 }
 
-// Divides each of the first `count` rows, which are as wide as `mixed` is long.
-fn divide_rows(numbers: &mut [i64], count: usize, mixed: &mut [i128])
-    requires long { (count + 1) * length mixed.old ≡ length numbers.old }
-    requires some { 0 < length mixed.old }
+// Divides each of the first `count` rows, which have this width.
+fn divide_rows(numbers: &mut [i64], count: usize, width: usize)
+    requires long { (count + 1) * width ≡ length numbers.old }
+    requires some { 0 < width }
     requires narrow { AllNarrow numbers.old }
-    ensures divided { (i : ℕ) → i < count →
-        IsDivided (length mixed.old) (cell numbers.old (length mixed.old) i) (cell numbers.new (length mixed.old) i) }
-    ensures last { (j : ℕ) → j < length mixed.old →
-        cell numbers.new (length mixed.old) count j ≡ cell numbers.old (length mixed.old) count j }
+    ensures divided { (i : ℕ) → i < count → IsDivided width (cell numbers.old width i) (cell numbers.new width i) }
+    ensures last { (j : ℕ) → j < width → cell numbers.new width count j ≡ cell numbers.old width count j }
     ensures narrow { AllNarrow numbers.new }
 {
-    let width = mixed.len();
     for i in 0..count {
-        divide_at(numbers, i * width, mixed);
+        divide_at(numbers, i * width, width);
     }
 }
 
@@ -76,9 +73,9 @@ impl Table {
     {
         let width = p.cols as usize + 2;
         let mut numbers = raw_numbers(alloc, p)?;
-        let mut mixed = vec![in alloc; 0i128; width]?;
-        divide_rows(&mut numbers, p.rows as usize, &mut mixed);
+        divide_rows(&mut numbers, p.rows as usize, width);
         let lead = vec![in alloc; 0i64; width]?;
+        let mixed = vec![in alloc; 0i128; width]?;
         Ok(Table {
             numbers,
             lead,

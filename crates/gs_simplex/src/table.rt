@@ -3,9 +3,9 @@
 ghost use Rattle.std.specs.Prelude.{◌≡◌, ◌≢◌, MatchOption, ℕ, ◌+◌, ◌-◌, ◌*◌, ◌<◌, ◌≤◌, ◌^◌, ◌⊎◌, ℤ, pos, neg_ℤ, ◌+ℤ◌, ◌-ℤ◌, ◌*ℤ◌, ◌<ℤ◌, unsigned_abs, length};
 ghost use Rattle.gs_rows.specs.Rows.{IsNarrow, IsPrimitive};
 ghost use Rattle.gs_simplex.specs.Table.{table_rows, table_aim, IsTable, IsPrimitiveTable, IsTableAfter, IsWideAfter};
-ghost use Rattle.gs_simplex.specs.Numbers.{at, cell, AllNarrow, IsReduced, IsReducedTo, IsTurned, IsCleared, IsClearedTo, IsRowPrimitive};
+ghost use Rattle.gs_simplex.specs.Numbers.{at, cell, AllNarrow, AllAtMost, IsReduced, IsReducedTo, IsTurned, IsCleared, IsClearedTo, IsRowPrimitive};
 
-use crate::row::{WideNumber, reduce_row};
+use crate::row::{WideNumber, greatest, reduce_row};
 use gs_rows::Program;
 
 /// A number of 63 bits or more, and the row and column where it stands, from 0.
@@ -54,15 +54,17 @@ fn take_lead(numbers: &mut [i64], start: usize, c: usize, lead: &mut [i64])
     take_row(row, c, lead);
 }
 
-// Clears column `c` of the row that begins at `start`.
+// Clears column `c` of the row that begins at `start`; the lead's numbers are at most `most` in size.
 fn reduce_at(
     numbers: &mut [i64],
     start: usize,
     lead: &[i64],
+    most: u64,
     c: usize,
     mixed: &mut [i128],
 ) -> Option<WideNumber>
     requires inside { start + length lead.now ≤ length numbers.old }
+    requires most { AllAtMost lead.now most }
     requires column { c < length lead.now }
     requires room { length mixed.old ≡ length lead.now }
     requires own { pos 0 <ℤ at lead.now c }
@@ -76,7 +78,7 @@ fn reduce_at(
 {
     let end = start + lead.len();
     let row = &mut numbers[start..end];
-    reduce_row(lead, c, row, mixed)
+    reduce_row(lead, most, c, row, mixed)
 }
 
 // Clears column `c` of all `count` rows but `r`. It answers the first number, by row and column, that is not narrow.
@@ -100,11 +102,12 @@ fn clear_column(
         (λ w. IsClearedTo numbers.old count (length lead.now) r c (at lead.now) w.row w.column w.number) }
 {
     let width = lead.len();
+    let most = greatest(lead);
     for i in 0..count {
         if i == r {
             continue;
         }
-        if let Some(wide) = reduce_at(numbers, i * width, lead, c, mixed) {
+        if let Some(wide) = reduce_at(numbers, i * width, lead, most, c, mixed) {
             return Some(WideCell {
                 row: i,
                 column: wide.column,

@@ -5,7 +5,7 @@ ghost use Rattle.gs_simplex.specs.Numbers.{at, AllNarrow};
 ghost use Rattle.gs_simplex.specs.Table.{table_rows, table_aim, IsTable};
 ghost use Rattle.gs_simplex.specs.State.{HasRoom, IsStart};
 ghost use Rattle.gs_simplex.specs.Answer.{IsSmall};
-ghost use Rattle.gs_simplex.specs.Conditions.{IsWideRow, IsNewPair, CanTakeAt, IsTaken, HasFeasibleSides, IsWideSample};
+ghost use Rattle.gs_simplex.specs.Conditions.{IsWideRow, IsNewPair, CanTakeAt, IsTaken, HasFeasibleSides, IsWideSample, IsRowless};
 
 use super::*;
 use crate::choice::{is_free, number_at, pair_at};
@@ -204,7 +204,7 @@ fn meets(alloc: Global, p: &Program, opening: &[(u32, u32)]) -> Result<bool, All
 
 mod cases;
 
-use cases::{CASES, KUHN, KUHN_PATH};
+use cases::{CASES, KUHN, KUHN_PATH, KUHN_TRACE, TRACES};
 
 /// A program row by row, its opening and what `run` answers, as text.
 struct Case {
@@ -280,7 +280,72 @@ fn programs_with_known_paths(rt: HostRuntime) -> Result<(), Fail> {
         assert!(rt; case.limit < 100_000);
         let text = text_of(alloc, &run(alloc, &p, case.opening, case.limit))?;
         assert_eq!(rt; text.as_str(), case.answer, "{}", case.name);
+        if let Err(stop) = trace(alloc, &p, case.opening, case.limit) {
+            let text = format!(in alloc; "{stop:?}")?;
+            assert_eq!(rt; text.as_str(), case.answer, "{}", case.name);
+        }
     }
+    Ok(())
+}
+
+// A path as text: the aim's value, the pivots, the bases, and the aim's value at the end.
+fn path_text(alloc: Global, p: &PathTrace) -> Result<String, AllocError> {
+    let mut text = String::new(alloc);
+    let start = &p.start;
+    write!(text, "{start} |")?;
+    for turn in &p.turns {
+        let enter = turn.enter;
+        let leave = turn.leave;
+        write!(text, " {enter}>{leave}")?;
+    }
+    text.push_str(" |")?;
+    for basis in &p.bases {
+        for column in basis {
+            write!(text, " {column}")?;
+        }
+        text.push_str(",")?;
+    }
+    let aim = &p.aim;
+    write!(text, " | {aim}")?;
+    Ok(text)
+}
+
+#[test]
+fn paths_that_are_shown(rt: HostRuntime) -> Result<(), Fail> {
+    let alloc = rt.alloc();
+    for case in &TRACES {
+        let p = program(alloc, case)?;
+        assert!(rt; is_small(&p));
+        let ok = meets(alloc, &p, case.opening)?;
+        assert!(rt; ok, "{}", case.name);
+        assert!(rt; case.limit < 100_000);
+        match trace(alloc, &p, case.opening, case.limit) {
+            Ok(path) => {
+                let text = path_text(alloc, &path)?;
+                assert_eq!(rt; text.as_str(), case.answer, "{}", case.name);
+            }
+            Err(stop) => panic!(rt; "{stop:?}"),
+        }
+    }
+    Ok(())
+}
+
+#[test]
+fn the_path_of_kuhns_game_shown(rt: HostRuntime) -> Result<(), Fail> {
+    let alloc = rt.alloc();
+    let p = program(alloc, &KUHN)?;
+    assert!(rt; is_small(&p));
+    let ok = meets(alloc, &p, KUHN.opening)?;
+    assert!(rt; ok);
+    match trace(alloc, &p, KUHN.opening, 9) {
+        Ok(path) => {
+            let text = path_text(alloc, &path)?;
+            assert_eq!(rt; text.as_str(), KUHN_TRACE);
+        }
+        Err(stop) => panic!(rt; "{stop:?}"),
+    }
+    let short = trace(alloc, &p, KUHN.opening, 8);
+    assert!(rt; matches!(short, Err(Stop::Pivots)));
     Ok(())
 }
 
@@ -353,6 +418,50 @@ fn a_wide_number_in_the_opening(rt: HostRuntime) -> Result<(), Fail> {
     assert_eq!(rt;
         text.as_str(),
         "Wide { step: 1, row: 2, col: 2, number: 4611686018427387905 }"
+    );
+    Ok(())
+}
+
+fn rowless(alloc: Global, cols: u32) -> Result<Program, AllocError>
+    ensures { IfOk result (IsRowless cols) }
+{
+    let free = vec![in alloc; false; cols as usize]?;
+    let aim = vec![in alloc; 0i64; cols as usize]?;
+    Ok(Program {
+        rows: 0,
+        cols,
+        free,
+        numbers: Vec::new(alloc),
+        aim,
+    })
+}
+
+#[test]
+fn the_largest_table(rt: HostRuntime) -> Result<(), Fail> {
+    let alloc = rt.alloc();
+    let p = rowless(alloc, 1_048_576)?;
+    let text = text_of(alloc, &run(alloc, &p, &[], 9))?;
+    assert_eq!(rt; text.as_str(), "TableTooLarge { count: 1048577 }");
+    let p = rowless(alloc, 1_048_575)?;
+    let answer = run(alloc, &p, &[], 9);
+    assert!(rt; matches!(answer, Ok(_)));
+    Ok(())
+}
+
+mod leduc;
+
+#[test]
+fn leducs_program(rt: HostRuntime) -> Result<(), Fail> {
+    let alloc = rt.alloc();
+    let p = leduc::program(alloc)?;
+    let opening = leduc::opening(alloc)?;
+    assert!(rt; is_small(&p));
+    let ok = meets(alloc, &p, &opening)?;
+    assert!(rt; ok);
+    let text = text_of(alloc, &run(alloc, &p, &opening, 8192))?;
+    assert_eq!(rt;
+        text.as_str(),
+        "Wide { step: 1686, row: 50, col: 15, number: -4838826802217196096 }"
     );
     Ok(())
 }

@@ -1,4 +1,4 @@
-use Rattle.std.proofs.Common.{Result, Ok, Err, ◌≡◌, ℕ, ◌+◌, ◌*◌, ◌≤◌, List, ◌++◌, ℤ, length, take, drop, sym, subst, ◌∙◌, arith}
+use Rattle.std.proofs.Common.{Result, Ok, Err, ◌≡◌, ℕ, ◌+◌, List, ◌++◌, ℤ, length, take, drop, sym, subst, ◌∙◌, arith}
 use Rattle.std.proofs.lemmas.List.{take_at}
 use Rattle.gs_rows.specs.declared.Program.{Program}
 use Rattle.gs_rows.specs.Program.{Listing, IsRowsOf}
@@ -34,25 +34,22 @@ best_of p o limit n l l' t xs b small u el ex w =
       last = (table_rows p xs, table_aim p xs, subst B (sym w.basis_is) w.best);
     }
 
-small_product : (x y a b : ℕ) → x ≡ a → y ≡ b → (x + 1) * (y + 1) ≤ 1048576 → (a + 1) * (b + 1) ≤ 1048576
-small_product x y a b e f h = let P : ℕ → Type 0 = λ t. (t + 1) * (b + 1) ≤ 1048576 in let Q : ℕ → Type 0 = λ t. (x + 1) * (t + 1) ≤ 1048576 in subst P e (subst Q f h)
-
 err_answer : (p : Program) (o : Listing) (limit : ℕ) (r : Result Best Stop) (s : Stop) → IsErrAnd r (λ x. x ≡ s) → IsStop p o limit s → IsAnswer p o limit r
 err_answer p o limit (Ok b) s e h = absurd e
 err_answer p o limit (Err x) s e h = let P : Stop → Type 0 = λ y. IsStop p o limit y in subst P (sym e) h
 
-pub returns-in_err-open : goal.returns-in_err-open
-returns-in_err-open c =
-    err_answer c.args.p.now c.args.opening.now c.args.limit c.from_residual-in_err-open.result c.in_err-open.field-0.0 c.from_residual-in_err-open.ensures.1 (c.in_err-open.ensures c.args.limit)
+pub returns-in_err-basis : goal.returns-in_err-basis
+returns-in_err-basis c =
+    err_answer c.args.p.now c.args.opening.now c.args.limit c.from_residual.result c.in_err-basis.field-0.0 c.from_residual.ensures.1 (c.in_err-basis.ensures c.args.limit)
 
 pub best-requires-clause-rows : goal.best-requires-clause-rows
 best-requires-clause-rows c =
-    let l = c.follow.new.basis in
-    end_rows c.args.p.now c.args.opening.now c.args.limit c.in_ok-pivots.pivots l (take c.in_ok-basis.basis.len (l ++ drop (length l) c.in_ok-basis.basis.items)) c.follow.new.table c.deref.result.now c.in_ok-pivots.ensures
-    (taken c.in_ok-basis.basis.len l (drop (length l) c.in_ok-basis.basis.items) (omega (arith, c.follow.auto.basis, c.deref_mut.ensures.len))) c.deref.ensures.value
+    let l = c.follow.new.basis in let b = c.in_ok-basis.field-0.basis in
+    end_rows c.args.p.now c.args.opening.now c.args.limit c.in_ok-pivots.pivots l (take b.len (l ++ drop (length l) b.items)) c.follow.new.table c.deref.result.now c.in_ok-pivots.ensures
+    (taken b.len l (drop (length l) b.items) (omega (arith, c.follow.auto.basis, c.deref_mut.ensures.len))) c.deref.ensures.value
 
 pub returns : goal.returns
 returns c =
-    let l = c.follow.new.basis in
-    best_of c.args.p.now c.args.opening.now c.args.limit c.in_ok-pivots.pivots l (take c.in_ok-basis.basis.len (l ++ drop (length l) c.in_ok-basis.basis.items)) c.follow.new.table c.deref.result.now c.in_ok-best.field-0 (small_product c.from.result c.from-2.result c.args.p.now.rows c.args.p.now.cols c.from.ensures c.from-2.ensures c.if-count-gt-MOST_NUMBERS.false) c.in_ok-pivots.ensures
-    (taken c.in_ok-basis.basis.len l (drop (length l) c.in_ok-basis.basis.items) (omega (arith, c.follow.auto.basis, c.deref_mut.ensures.len))) c.deref.ensures.value c.in_ok-best.ensures
+    let l = c.follow.new.basis in let b = c.in_ok-basis.field-0.basis in
+    best_of c.args.p.now c.args.opening.now c.args.limit c.in_ok-pivots.pivots l (take b.len (l ++ drop (length l) b.items)) c.follow.new.table c.deref.result.now c.in_ok-best.field-0 c.in_ok-basis.ensures.small c.in_ok-pivots.ensures
+    (taken b.len l (drop (length l) b.items) (omega (arith, c.follow.auto.basis, c.deref_mut.ensures.len))) c.deref.ensures.value c.in_ok-best.ensures

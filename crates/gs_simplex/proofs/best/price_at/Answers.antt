@@ -1,16 +1,10 @@
-use Rattle.std.proofs.Common.{◌≡◌, ◌+◌, ◌<◌, ◌^◌, ℤ, pos, neg_ℤ, ◌-ℤ◌, ◌*ℤ◌, unsigned_abs, to_z, of_z, w64, sym, ap, ◌∙◌, arith}
+use Rattle.std.proofs.Common.{◌≡◌, ◌+◌, pos, neg_ℤ, ◌-ℤ◌, ◌*ℤ◌, to_z, of_z, sym, ap, ◌∙◌, arith}
 use mir.Syntax.{w128}
-use Rattle.std.proofs.lemmas.Int.{ints}
 use Rattle.gs_simplex.specs.Numbers.{cell}
 use Rattle.gs_simplex.specs.Table.{table_aim}
-use Rattle.gs_simplex.proofs.Fits.{widened, kept_128}
+use Rattle.gs_simplex.proofs.Fits.{widened, negated}
 use Rattle.gs_simplex.proofs.Tables.{flipped_other}
 use Rattle.gs_simplex.proofs.best.price_at.Goals as goal
-
-negated : (a r : ℤ) → unsigned_abs a < 2 ^ 62 → r ≡ to_z w64 (of_z w64 a) → to_z w128 (of_z w128 (pos 0 -ℤ to_z w128 (of_z w128 r))) ≡ neg_ℤ a
-negated a r h e =
-    let q : unsigned_abs (pos 0 -ℤ a) ≡ unsigned_abs a = omega (arith, ints) in
-    ap (λ t. to_z w128 (of_z w128 (pos 0 -ℤ t))) (widened a r h e) ∙ kept_128 (pos 0 -ℤ a) (omega (arith, h)) ∙ (let s : pos 0 -ℤ a ≡ neg_ℤ a = omega (arith, ints) in s)
 
 pub returns : goal.returns
 returns c =

@@ -1,8 +1,8 @@
-use Rattle.std.proofs.Common.{◌≡◌, MatchOption, Some, None, ℕ, ◌<◌, ◌≤◌, ◌^◌, ℤ, ◌-ℤ◌, ◌*ℤ◌, length, List, to_z, of_z, w64, ap, ◌∙◌, arith}
+use Rattle.std.proofs.Common.{◌≡◌, MatchOption, Some, None, ℕ, ◌<◌, ◌≤◌, ◌^◌, ℤ, ◌-ℤ◌, ◌*ℤ◌, length, to_z, of_z, w64, sym, ap, subst, ◌∙◌, arith}
 use Rattle.gs_rows.specs.Rows.{IsNarrow}
-use Rattle.gs_simplex.specs.Numbers.{at, AllNarrow, IsQuotient, IsWideQuotient, IsReduced, IsReducedTo}
+use Rattle.gs_simplex.specs.Numbers.{at, AllNarrow, IsShared, IsQuotient, IsWideQuotient, IsReduced, IsReducedTo, IsDivided}
 use Rattle.gs_simplex.proofs.Fits.{kept_64}
-use Rattle.gs_simplex.proofs.Reduce.{IsDivisor, divisor_small, by_divides, reduced_from, reduced_wide}
+use Rattle.gs_simplex.proofs.Reduce.{IsDivisor, divisor_small, by_divides, reduced_divided, reduced_from, reduced_wide}
 use Rattle.gs_simplex.proofs.row.reduce_row.Goals as goal
 
 pub narrow_into-requires-clause-small : goal.narrow_into-requires-clause-small
@@ -16,27 +16,45 @@ narrow_into-requires-clause-divides c =
     let mixed = c.mix.new.mixed in
     by_divides c.divisor.result c.max-by.result (length mixed) (at mixed) (record { divides = c.divisor.ensures.divides; greatest = c.divisor.ensures.greatest }) c.max-by.ensures
 
--- the products with the numbers as stored
-mixed_is : (lead row mixed : List ℤ) (c : ℕ) → length row ≡ length lead → IsNarrow (at lead c) → IsNarrow (at row c)
-    → ((j : ℕ) → j < length row → at mixed j ≡ to_z w64 (of_z w64 (at lead c)) *ℤ at row j -ℤ to_z w64 (of_z w64 (at row c)) *ℤ at lead j)
-    → (j : ℕ) → j < length lead → at mixed j ≡ at lead c *ℤ at row j -ℤ at row c *ℤ at lead j
-mixed_is lead row mixed c e n m h j l =
-    h j (omega arith) ∙ ap (λ t. t *ℤ at row j -ℤ to_z w64 (of_z w64 (at row c)) *ℤ at lead j) (kept_64 (at lead c) n) ∙ ap (λ t. at lead c *ℤ at row j -ℤ t *ℤ at lead j) (kept_64 (at row c) m)
+-- the multipliers as they are stored
+stored_shared : (lc rc own far : ℤ) → IsNarrow lc → IsNarrow rc → IsNarrow own → IsNarrow far → IsShared (to_z w64 (of_z w64 lc)) (to_z w64 (of_z w64 rc)) own far
+    → IsShared lc rc (to_z w64 (of_z w64 own)) (to_z w64 (of_z w64 far))
+stored_shared lc rc own far nl nr na nb sh = record {
+  by = (
+    sh.by.0,
+    sh.by.1,
+    sym (kept_64 lc nl) ∙ sh.by.2 ∙ ap (λ t. sh.by.0 *ℤ t) (sym (kept_64 own na)),
+    sym (kept_64 rc nr) ∙ sh.by.3 ∙ ap (λ t. sh.by.0 *ℤ t) (sym (kept_64 far nb)),
+  );
+}
+
+pub returns-then-stays_narrow : goal.returns-then-stays_narrow
+returns-then-stays_narrow c =
+    let lead = c.args.lead.now in let row = c.args.row.now in let mid = c.mix_narrow.new.row in let k = c.args.c in let m = c.multipliers-own in
+    let inside : k < length lead = c.requires.inside in
+    let long : length mid ≡ length lead = omega (arith, c.mix_narrow.auto.row, c.requires.long) in
+    let sh = stored_shared (at lead k) (at row k) m.result.0 m.result.1 (c.requires.narrow_lead k inside) (c.requires.narrow_row k (omega (arith, c.requires.long))) m.ensures.narrow_own m.ensures.narrow_far m.ensures.shared in (
+      reduced_divided (at lead) (at row) (at mid) (at c.divide_row.new.row) k (length lead) (to_z w64 (of_z w64 m.result.0)) (to_z w64 (of_z w64 m.result.1)) sh (λ j l. c.mix_narrow.ensures.mixed j (omega (arith, c.requires.long)))
+          (let P : ℕ → Type 0 = λ t. IsDivided t (at mid) (at c.divide_row.new.row) in subst P long c.divide_row.ensures.divided),
+      c.divide_row.ensures.narrow,
+    )
 
 pub returns : goal.returns
 returns c =
-    let lead = c.args.lead.now in let row = c.args.row.now in let mixed = c.mix.new.mixed in let new = c.narrow_into.new.row in let k = c.args.c in
+    let lead = c.args.lead.now in let row = c.args.row.now in let mixed = c.mix.new.mixed in let new = c.narrow_into.new.row in let k = c.args.c in let m = c.multipliers-own in
     let inside : k < length lead = c.requires.inside in
-    let long : length mixed ≡ length lead = omega arith in
+    let long : length mixed ≡ length lead = omega (arith, c.mix.auto.mixed, c.requires.long, c.requires.room) in
     let some : 0 < length lead = omega arith in
-    let is = mixed_is lead row mixed k c.requires.long (c.requires.narrow_lead k inside) (c.requires.narrow_row k (omega arith)) c.mix.ensures.mixed in
+    let sh = stored_shared (at lead k) (at row k) m.result.0 m.result.1 (c.requires.narrow_lead k inside) (c.requires.narrow_row k (omega (arith, c.requires.long))) m.ensures.narrow_own m.ensures.narrow_far m.ensures.shared in
+    let own = to_z w64 (of_z w64 m.result.0) in let far = to_z w64 (of_z w64 m.result.1) in
+    let is : (j : ℕ) → j < length lead → at mixed j ≡ own *ℤ at row j -ℤ far *ℤ at lead j = λ j l. c.mix.ensures.mixed j (omega (arith, c.requires.long)) in
     let u : IsDivisor c.divisor.result (length mixed) (at mixed) = record { divides = c.divisor.ensures.divides; greatest = c.divisor.ensures.greatest } in
     let by = c.max-by.result in
     elim c.narrow_into.result as (λ r. MatchOption r (IsQuotient by mixed new (length mixed)) (λ w. IsWideQuotient by mixed w.column w.number)
     → MatchOption r (IsReduced (at lead) k (length lead) (at row) (at new) × AllNarrow new) (λ w. IsReducedTo (at lead) k (length lead) (at row) w.column w.number)) [
       | None ↦ λ q. (
-        reduced_from (at lead) (at row) k (length lead) c.divisor.result by mixed some long is u c.max-by.ensures (at new) (λ j l. q.each j (omega arith)),
+        reduced_from (at lead) (at row) k (length lead) c.divisor.result by own far mixed sh some long is u c.max-by.ensures (at new) (λ j l. q.each j (omega arith)),
         λ j l. q.narrow j (omega arith),
       )
-      | Some w ↦ λ q. reduced_wide (at lead) (at row) k (length lead) c.divisor.result by mixed some long is u c.max-by.ensures w.column w.number q
+      | Some w ↦ λ q. reduced_wide (at lead) (at row) k (length lead) c.divisor.result by own far mixed sh some long is u c.max-by.ensures w.column w.number q
     ] c.narrow_into.ensures

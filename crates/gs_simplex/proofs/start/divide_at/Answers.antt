@@ -17,13 +17,13 @@ divided xs ys start w n e h long some u =
 
 pub returns-clause-divided : goal.returns-clause-divided
 returns-clause-divided c =
-    let w = length c.args.mixed.now in let s = c.args.start in let n = s + w - s in
+    let w = c.args.width in let s = c.args.start in let n = s + w - s in
     let long : length c.divide_row.new.row ≡ n = omega (arith, c.divide_row.auto.row, part_long c.args.numbers.now s w n refl c.requires.inside) in
     divided c.args.numbers.now c.divide_row.new.row s w n refl c.requires.inside long c.requires.some c.divide_row.ensures.divided
 
 pub returns-clause-narrow : goal.returns-clause-narrow
 returns-clause-narrow c =
-    let w = length c.args.mixed.now in let s = c.args.start in let n = s + w - s in
+    let w = c.args.width in let s = c.args.start in let n = s + w - s in
     let long : length c.divide_row.new.row ≡ n = omega (arith, c.divide_row.auto.row, part_long c.args.numbers.now s w n refl c.requires.inside) in
     λ k h. narrow_put c.args.numbers.now c.divide_row.new.row s n long (omega (arith, c.requires.inside)) c.requires.narrow c.divide_row.ensures.narrow k
     (let e = length_put c.args.numbers.now c.divide_row.new.row s n long (omega (arith, c.requires.inside)) in omega arith)

@@ -1,4 +1,4 @@
-use Rattle.std.proofs.Common.{◌≡◌, ℕ, ◌+◌, ◌<◌, List, [], ◌++◌, ℤ, length, take, drop, sym, subst, arith}
+use Rattle.std.proofs.Common.{◌≡◌, ℕ, ◌+◌, ◌<◌, List, [], ◌++◌, ℤ, length, take, drop, refl, sym, subst, arith}
 use Rattle.std.proofs.lemmas.List.{take_at}
 use Rattle.gs_rows.specs.declared.Program.{Program}
 use Rattle.gs_rows.specs.Program.{IsShaped, IsRowsOf}
@@ -30,8 +30,7 @@ from_lists p raw raw' new new' w shaped u er en ew long divided last narrow =
 pub returns : goal.returns
 returns c =
     let p = c.args.p.now in let new = c.divide_rows.new.numbers in let n = c.in_ok-numbers.numbers.len in
-    let w : length c.deref_mut-2.result.now ≡ p.cols + 2 = omega (arith, c.deref_mut-2.ensures.len, c.in_ok-mixed.ensures.len) in
     let long : length new ≡ n = omega (arith, c.divide_rows.auto.numbers, c.deref_mut.ensures.len) in
-    let f = from_lists p c.in_ok-numbers.numbers.items c.deref_mut.result.now new (take n (new ++ drop (length new) c.in_ok-numbers.numbers.items)) (length c.deref_mut-2.result.now) c.requires.shaped c.in_ok-numbers.ensures c.deref_mut.ensures.value
-    (taken n new (drop (length new) c.in_ok-numbers.numbers.items) long) w c.divide_rows.auto.numbers c.divide_rows.ensures.divided c.divide_rows.ensures.last c.divide_rows.ensures.narrow in
+    let f = from_lists p c.in_ok-numbers.numbers.items c.deref_mut.result.now new (take n (new ++ drop (length new) c.in_ok-numbers.numbers.items)) (p.cols + 2) c.requires.shaped c.in_ok-numbers.ensures c.deref_mut.ensures.value
+    (taken n new (drop (length new) c.in_ok-numbers.numbers.items) long) refl c.divide_rows.auto.numbers c.divide_rows.ensures.divided c.divide_rows.ensures.last c.divide_rows.ensures.narrow in
     record { room = record { lead = c.in_ok-lead.ensures.len; mixed = c.in_ok-mixed.ensures.len }; table = f.0; rows = f.1 }

@@ -6,25 +6,25 @@ use Rattle.gs_simplex.specs.Table.{table_rows, table_aim, stated}
 use Rattle.gs_simplex.specs.Choice.{IsLeaving}
 use Rattle.gs_simplex.specs.State.{IsSoFar, IsPivoted, IsWidePivot}
 use Rattle.gs_simplex.specs.Answer.{IsStop}
-use Rattle.gs_simplex.proofs.Paths.{rows_of_so_far, primitive_of, none_of, pivots_stops, unbounded_stops, pivot_next, pivot_wide}
-use Rattle.gs_simplex.proofs.path.follow.Goals as goal
+use Rattle.gs_simplex.proofs.Paths.{rows_of_so_far, primitive_of, turn_at, none_of, pivots_stops, unbounded_stops, pivot_next, pivot_wide}
+use Rattle.gs_simplex.proofs.path.step.Goals as goal
 
 pub choose-requires-clause-rows : goal.choose-requires-clause-rows
 choose-requires-clause-rows c =
-    let p = c.args.p.now in let o = c.args.opening.now in let l = c.loop-made.basis in
+    let p = c.args.p.now in let o = c.args.opening.now in let l = c.args.basis.now in
     let P : List ℤ → Type 0 = λ x. IsRowsOf p l (table_rows p x) (table_aim p x) in
-    subst P (sym c.deref.ensures.value) (rows_of_so_far p o (length o + c.loop-made.made) l c.loop-made.table.numbers.items c.loop-made.invariant.state.so_far)
+    subst P (sym c.deref.ensures.value) (rows_of_so_far p o (length o + c.args.made) l c.args.table.now.numbers.items c.requires.state.so_far)
 
 pub returns-in-Unbounded : goal.returns-in-Unbounded
 returns-in-Unbounded c =
-    let p = c.args.p.now in let o = c.args.opening.now in let l = c.loop-made.basis in let e = c.in-Unbounded.column in let v = c.loop-made.invariant.state in
+    let p = c.args.p.now in let o = c.args.opening.now in let l = c.args.basis.now in let e = c.in-Unbounded.column in let v = c.requires.state in
     let P : List ℤ → Type 0 = λ x. (Enters p l (table_aim p x) e) × NoneLeaves p l (table_rows p x) e in
     let w = subst P c.deref.ensures.value c.in-Unbounded.ensures in
-    (c.requires.small, unbounded_stops p o c.args.limit c.loop-made.made l c.loop-made.table.numbers.items e v.so_far v.table c.loop-made.invariant.within w.0 w.1)
+    (c.requires.small, unbounded_stops p o c.args.limit c.args.made l c.args.table.now.numbers.items e v.so_far v.table c.requires.within w.0 w.1)
 
 pub returns-then-made-limit : goal.returns-then-made-limit
 returns-then-made-limit c =
-    let p = c.args.p.now in let o = c.args.opening.now in let l = c.loop-made.basis in let e = c.in-Leaves.column in let v = c.loop-made.invariant.state in let xs = c.loop-made.table.numbers.items in
+    let p = c.args.p.now in let o = c.args.opening.now in let l = c.args.basis.now in let e = c.in-Leaves.column in let v = c.requires.state in let xs = c.args.table.now.numbers.items in
     let P : List ℤ → Type 0 = λ x. (Enters p l (table_aim p x) e) × IsLeaving p l (table_rows p x) e (Some c.in-Leaves.place) in
     let w = subst P c.deref.ensures.value c.in-Leaves.ensures in
     let T : ℕ → Type 0 = λ k. IsSoFar p o (length o + k) l xs in
@@ -32,33 +32,34 @@ returns-then-made-limit c =
 
 pub pivot-requires-clause-primitive : goal.pivot-requires-clause-primitive
 pivot-requires-clause-primitive c =
-    let p = c.args.p.now in let o = c.args.opening.now in let l = c.loop-made.basis in let xs = c.loop-made.table.numbers.items in
-    primitive_of p l xs (rows_of_so_far p o (length o + c.loop-made.made) l xs c.loop-made.invariant.state.so_far)
+    let p = c.args.p.now in let o = c.args.opening.now in let l = c.args.basis.now in let xs = c.args.table.now.numbers.items in
+    primitive_of p l xs (rows_of_so_far p o (length o + c.args.made) l xs c.requires.state.so_far)
 
 pub returns-in-Some : goal.returns-in-Some
 returns-in-Some c =
-    let p = c.args.p.now in let o = c.args.opening.now in let l = c.loop-made.basis in let e = c.in-Leaves.column in let v = c.loop-made.invariant.state in let xs = c.loop-made.table.numbers.items in
-    let w = c.in-Some.cell in let t = length o + c.loop-made.made in
+    let p = c.args.p.now in let o = c.args.opening.now in let l = c.args.basis.now in let e = c.in-Leaves.column in let v = c.requires.state in let xs = c.args.table.now.numbers.items in
+    let w = c.in-Some.cell in let t = length o + c.args.made in
     let P : List ℤ → Type 0 = λ x. (Enters p l (table_aim p x) e) × IsLeaving p l (table_rows p x) e (Some c.in-Leaves.place) in
     let f = subst P c.deref.ensures.value c.in-Leaves.ensures in
     let a : PathStops p o c.args.limit (wide (t + 1) (w.row + 1) (w.column + 1) (stated p w.row w.column w.number)) =
-    pivot_wide p o t l xs c.in-Leaves.place e (omega arith) v.pairs v.table v.so_far f.0 f.1 w.row w.column w.number c.in-Some.ensures.pivoted c.args.limit (omega (arith, c.loop-made.invariant.within, c.if-made-limit.false)) in
-    let s : t + 1 ≡ p.rows + c.loop-made.made + 1 = omega (arith, c.requires.opens.long) in
+    pivot_wide p o t l xs c.in-Leaves.place e (omega arith) v.pairs v.table v.so_far f.0 f.1 w.row w.column w.number c.in-Some.ensures.pivoted c.args.limit (omega (arith, c.requires.within, c.if-made-limit.false)) in
+    let s : t + 1 ≡ p.rows + c.args.made + 1 = omega (arith, c.requires.opens.long) in
     let Q : ℕ → Type 0 = λ k. PathStops p o c.args.limit (wide k (w.row + 1) (w.column + 1) (stated p w.row w.column w.number)) in
     let R : Stop → Type 0 = λ x. IsStop p o c.args.limit x in
     subst R (sym c.wide_stop.ensures) (c.requires.small, subst Q s a)
 
-pub loop-made-preserved : goal.loop-made-preserved
-loop-made-preserved c =
-    let p = c.args.p.now in let o = c.args.opening.now in let l = c.loop-made.basis in let e = c.in-Leaves.column in let v = c.loop-made.invariant.state in let xs = c.loop-made.table.numbers.items in
-    let t = length o + c.loop-made.made in let next = c.pivot.new.basis in let new = c.pivot.new.table.numbers.items in let q = c.in-Leaves.place in
+pub returns-in_default : goal.returns-in_default
+returns-in_default c =
+    let p = c.args.p.now in let o = c.args.opening.now in let l = c.args.basis.now in let e = c.in-Leaves.column in let v = c.requires.state in let xs = c.args.table.now.numbers.items in
+    let t = length o + c.args.made in let next = c.pivot.new.basis in let new = c.pivot.new.table.numbers.items in let q = c.in-Leaves.place in
     let P : List ℤ → Type 0 = λ x. (Enters p l (table_aim p x) e) × IsLeaving p l (table_rows p x) e (Some q) in
     let f = subst P c.deref.ensures.value c.in-Leaves.ensures in
     let w : IsPivoted p l next xs new q e = none_of c.pivot.result (IsPivoted p l next xs new q e) (λ x. IsWidePivot p l xs q e x.row x.column x.number) c.in_default.is c.pivot.ensures.pivoted in
     let n = pivot_next p o t l xs q e (omega arith) v.pairs v.table v.so_far f.0 f.1 next new w in
-    let s : t + 1 ≡ length o + (c.loop-made.made + 1) = omega arith in
+    let s : t + 1 ≡ length o + (c.args.made + 1) = omega arith in
     let T : ℕ → Type 0 = λ k. IsSoFar p o k next new in
     record {
-      within = omega (arith, c.loop-made.invariant.within, c.if-made-limit.false);
       state = record { room = c.pivot.ensures.room; table = n.0; pairs = n.1; so_far = subst T s n.2 };
+      within = omega (arith, c.requires.within, c.if-made-limit.false);
+      pivot = turn_at p o c.args.made l xs q e (c.pair_at-leaving.result.0) (c.pair_at-leaving.result.1) next new c.requires.opens v.pairs v.so_far f.0 f.1 c.pair_at-leaving.ensures.pair n.2;
     }

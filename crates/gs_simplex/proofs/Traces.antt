@@ -1,0 +1,171 @@
+use Rattle.std.proofs.Common.{◌≡◌, ℕ, ◌+◌, ◌<◌, ◌≤◌, List, Vec, Global, inl, inr, [], ◌∷◌, ◌++◌, length, slice_index, slice_index_or, ℤ, ◌*ℤ◌, refl, sym, ap, subst, ◌∙◌, arith}
+use Rattle.std.specs.Prelude.{Contains}
+use Rattle.std.specs.List.{HoldsAt}
+use Rattle.std.proofs.lemmas.Bool.{cases_lt}
+use Rattle.std.proofs.lemmas.List.{length_push, get_or_append_left, get_or_push, get_or_default}
+use Rattle.gs_rows.specs.declared.Program.{Program}
+use Rattle.gs_rows.specs.Program.{Listing, ColListed, IsPairList, IsOpening}
+use Rattle.gs_rows.specs.Path.{States, IsPath, NoneEnters, ends, Stops, PathStops}
+use Rattle.gs_rows.proofs.Opening.{path_trail, bases_differ}
+use Rattle.gs_rows.proofs.PairLists.{pair_list_is_list}
+use Rattle.gs_rows.proofs.Agree.{Agree, lists_same, paths_agree}
+use Rattle.gs_frac.specs.declared.value.Fraction.{Fraction}
+use Rattle.gs_simplex.specs.declared.answer.Turn.{Turn}
+use Rattle.gs_simplex.specs.declared.answer.PathTrace.{PathTrace}
+use Rattle.gs_simplex.specs.Table.{table_aim, IsTable}
+use Rattle.gs_simplex.specs.State.{IsSoFar, IsTurnAt}
+use Rattle.gs_simplex.specs.Answer.{IsSmall}
+use Rattle.gs_simplex.specs.Trace.{IsBasis, IsBasisBelow, IsBasisAt, IsAimValue, IsTurnOf, IsTrace, IsNoted}
+use Rattle.gs_simplex.proofs.Paths.{turn_same_as, ends_stops}
+
+-- what holds of each element after a push
+pub holds_push : {X : Type 0} (P : ℕ → X → Type 0) (xs : List X) (x : X) (n : ℕ) → length xs ≡ n → ((k : ℕ) → k < n → HoldsAt (P k) xs k) → P n x → (k : ℕ) → k < n + 1 → HoldsAt (P k) (xs ++ x ∷ []) k
+holds_push P xs x n long old new k h d = elim (cases_lt k n) [
+  | inl l ↦ (let Q = P k in subst Q (sym (get_or_append_left xs (x ∷ []) d k (omega arith))) (old k l d))
+  | inr g ↦ (let e : k ≡ n = omega arith in let q : length xs ≡ k = omega arith in
+      let R : ℕ → Type 0 = λ t. P t x in let Q = P k in subst Q (sym (get_or_push xs x d k q)) (subst R (sym e) new))
+]
+
+-- the basis of the list that a path has
+pub basis_at : (p : Program) (o : Listing) (t : ℕ) (l : Listing) (xs : List ℤ) → IsSoFar p o t l xs → (columns : List ℕ) → IsBasis l columns → IsBasisAt p o t columns
+basis_at p o t l xs u columns b = let P : Listing → Type 0 = λ x. IsBasis x columns in (u.states.0, u.states.1, subst P (sym u.states.2) b)
+
+-- one more pivot and basis noted
+pub noted_more : (p : Program) (o : Listing) (n : ℕ) (turns new_turns : List Turn) (bases new_bases : List (Vec ℕ Global)) (turn : Turn) (basis : Vec ℕ Global) → IsNoted p o n turns bases
+    → new_turns ≡ turns ++ turn ∷ [] → new_bases ≡ bases ++ basis ∷ [] → IsTurnAt p o (length o + n) turn → IsBasisAt p o (length o + (n + 1)) basis.items → IsNoted p o (n + 1) new_turns new_bases
+noted_more p o n turns new_turns bases new_bases turn basis u et eb t b =
+    let P : List Turn → Type 0 = λ x. IsNoted p o (n + 1) x new_bases in let Q : List (Vec ℕ Global) → Type 0 = λ x. IsNoted p o (n + 1) (turns ++ turn ∷ []) x in
+    subst P (sym et) (subst Q (sym eb) (record {
+      turns_long = omega (arith, length_push turns turn, u.turns_long);
+      turns = holds_push (λ k. IsTurnAt p o (length o + k)) turns turn n u.turns_long u.turns t;
+      bases_long = omega (arith, length_push bases basis, u.bases_long);
+      bases = holds_push (λ k v. IsBasisAt p o (length o + k) v.items) bases basis (n + 1) u.bases_long u.bases b;
+    }))
+
+-- ---- the columns of a list
+pub basis_skip : (l : Listing) (j : ℕ) (cs : List ℕ) → IsBasisBelow l j cs → (ColListed l j → ⊥) → IsBasisBelow l (j + 1) cs
+basis_skip l j cs u out = record {
+  rises = u.rises;
+  listed = λ k h. (let z = u.listed k h in (z.0, z.1, omega (arith, z.2), z.3));
+  all = λ i h c. elim (cases_lt i j) [
+    | inl less ↦ u.all i less c
+    | inr more ↦ (let e : i ≡ j = omega arith in let P : ℕ → Type 0 = λ x. ColListed l x in absurd (out (subst P e c)))
+  ];
+}
+
+module _ (l : Listing) (j : ℕ) (cs : List ℕ) (u : IsBasisBelow l j cs) (here : ColListed l j) where
+  old_at : (k : ℕ) → k < length cs → slice_index (cs ++ (j + 1) ∷ []) k ≡ slice_index cs k
+  old_at k h = get_or_append_left cs ((j + 1) ∷ []) 0 k h
+
+  new_at : (k : ℕ) → k < length (cs ++ (j + 1) ∷ []) → (length cs ≤ k) → slice_index (cs ++ (j + 1) ∷ []) k ≡ j + 1
+  new_at k h g = get_or_push cs (j + 1) 0 k (omega (arith, length_push cs (j + 1)))
+
+  pub basis_push : IsBasisBelow l (j + 1) (cs ++ (j + 1) ∷ [])
+  basis_push = record {
+    rises = λ k h kh hl.
+        let kl : k < length cs = omega (arith, length_push cs (j + 1)) in
+        let a = old_at k kl in
+        elim (cases_lt h (length cs)) [
+          | inl less ↦ (let r = u.rises k h kh less in let b = old_at h less in omega arith)
+          | inr more ↦ (let z = u.listed k kl in let y : z.0 < j = z.2 in let x : slice_index cs k ≡ z.0 + 1 = z.1 in let b = new_at h hl more in omega arith)
+        ];
+    listed = λ k h. elim (cases_lt k (length cs)) [
+      | inl less ↦ (let z = u.listed k less in (z.0, old_at k less ∙ z.1, omega (arith, z.2), z.3))
+      | inr more ↦ (j, new_at k h more, omega arith, here)
+    ];
+    all = λ i h c. elim (cases_lt i j) [
+      | inl less ↦ (let z = u.all i less c in (z.0, omega (arith, z.1, length_push cs (j + 1)), get_or_append_left cs ((j + 1) ∷ []) (i + 1) z.0 z.1 ∙ z.2))
+      | inr more ↦ (let e : j + 1 ≡ i + 1 = omega arith in (length cs, omega (arith, length_push cs (j + 1)), get_or_push cs (j + 1) (i + 1) (length cs) refl ∙ e))
+    ];
+  }
+
+pub basis_whole : (p : Program) (l : Listing) (count : ℕ) (cs : List ℕ) → IsPairList p l → p.cols ≤ count → IsBasisBelow l count cs → IsBasis l cs
+basis_whole p l count cs pairs h u = record {
+  rises = u.rises;
+  listed = λ k kl. (let z = u.listed k kl in (z.0, z.1, z.3));
+  all = λ j c. (let jn : j < p.cols = (pair_list_is_list p l pairs).column_inside c.0 j c.1 in u.all j (omega arith) c);
+}
+
+-- equal bases list the same columns
+same_columns : (l m : Listing) (a b : List ℕ) → IsBasis l a → IsBasis m b → a ≡ b → (j : ℕ) → ColListed l j → ColListed m j
+same_columns l m a b u w e j h =
+    let P : List ℕ → Type 0 = λ x. Contains x (j + 1) in
+    let c : Contains b (j + 1) = subst P e (u.all j h) in
+    let z = w.listed c.0 c.1 in
+    let q : z.0 + 1 ≡ j + 1 = sym z.1 ∙ get_or_default b c.0 0 (j + 1) c.1 ∙ c.2 in
+    let s : z.0 ≡ j = omega arith in
+    let C : ℕ → Type 0 = λ x. ColListed m x in subst C s z.2
+
+-- the first steps of a path
+path_front : (p : Program) (o : Listing) (t k : ℕ) (s : States) → IsPath p o t s → k ≤ t → IsPath p o k s
+path_front p o t k s u h = record {
+  opens = λ i ik io. u.opens i (omega arith) io;
+  pivots = λ i oi ik. u.pivots i oi (omega arith);
+  rows = λ i ik. u.rows i (omega arith);
+  narrow = λ i z ik. u.narrow i z (omega arith);
+}
+
+module _ (p : Program) (o : Listing) (n : ℕ) (s : States) (ok : IsOpening p o) (path : IsPath p o (length o + n) s) where
+  -- another path has the same list after k pivots
+  list_same : (k t : ℕ) (r : States) → IsPath p o t r → k ≤ n → length o + k ≤ t → s.lists (length o + k) ≡ r.lists (length o + k)
+  list_same k t r w h g = lists_same p o (length o + n) t s.lists r.lists s.rows r.rows s.aim r.aim s.entering r.entering s.leaving r.leaving ok path w k (omega arith) g
+
+  agrees : (k t : ℕ) (r : States) → IsPath p o t r → k ≤ n → length o + k ≤ t → Agree p (s.rows (length o + k)) (r.rows (length o + k)) (s.aim (length o + k)) (r.aim (length o + k))
+  agrees k t r w h g = paths_agree p o (length o + n) t s.lists r.lists s.rows r.rows s.aim r.aim s.entering r.entering s.leaving r.leaving ok path w k (omega arith) g
+
+  pub turn_is : (k : ℕ) → k < n → (turn : Turn) → IsTurnAt p o (length o + k) turn → IsTurnOf s (length o + k) turn
+  turn_is k h turn w =
+      let t = length o + k in let r = w.0 in
+      let pv = w.1.pivots t (omega arith) (omega arith) in
+      let full = (path_trail p o (t + 1) r.lists r.rows r.aim r.entering r.leaving ok w.1 k (omega arith)).0 in
+      let z = turn_same_as p o t (r.lists t) (r.rows t) (r.aim t) (r.entering t) pv.place.1 (r.leaving t) s (omega arith) (path_front p o (length o + n) (t + 1) s path (omega arith))
+      (list_same k (t + 1) r w.1 (omega arith) (omega arith)) (agrees k (t + 1) r w.1 (omega arith) (omega arith)) full.is_list pv.enters pv.place.4 in
+      (w.2 ∙ ap (λ x. x + 1) (sym z.0), w.3 ∙ ap (λ x. x + 1) (sym z.1))
+
+  pub basis_is : (k : ℕ) → k ≤ n → (columns : List ℕ) → IsBasisAt p o (length o + k) columns → IsBasis (s.lists (length o + k)) columns
+  basis_is k h columns w = let P : Listing → Type 0 = λ x. IsBasis x columns in subst P (sym (list_same k (length o + k) w.0 w.1 h (omega arith))) w.2
+
+  pub value_is : (k : ℕ) → k ≤ n → (l : Listing) (xs : List ℤ) (f : Fraction) → IsSoFar p o (length o + k) l xs → IsAimValue p (table_aim p xs) f → IsAimValue p (s.aim (length o + k)) f
+  value_is k h l xs f u e =
+      let t = length o + k in let r = u.states.0 in
+      let ag = agrees k t r u.states.1 h (omega arith) in
+      let same : (j : ℕ) → j ≤ p.cols + 1 → s.aim t j ≡ table_aim p xs j = λ j jn. ag.aim j jn ∙ ap (λ (g : ℕ → ℤ). g j) u.states.4 in
+      ap (λ x. f.num *ℤ x) (same (p.cols + 1) (omega arith)) ∙ e ∙ ap (λ x. x *ℤ f.den) (sym (same p.cols (omega arith)))
+
+  pub bases_apart : (k h : ℕ) → k < h → h ≤ n → (a b : List ℕ) → IsBasis (s.lists (length o + k)) a → IsBasis (s.lists (length o + h)) b → a ≡ b → ⊥
+  bases_apart k h kh hn a b u w e =
+      bases_differ p o (length o + n) s.lists s.rows s.aim s.entering s.leaving ok path (length o + k) (length o + h) (omega arith) (omega arith) (omega arith)
+      (same_columns (s.lists (length o + h)) (s.lists (length o + k)) b a w u (sym e)) (same_columns (s.lists (length o + k)) (s.lists (length o + h)) a b u w e)
+
+-- ---- all together
+pub trace_of : (p : Program) (o : Listing) (limit n : ℕ) (t : PathTrace) (l0 l : Listing) (xs0 xs : List ℤ) → IsSmall p → IsOpening p o → IsSoFar p o (length o) l0 xs0 → IsAimValue p (table_aim p xs0) t.start
+    → IsSoFar p o (length o + n) l xs → IsTable p xs → n ≤ limit → NoneEnters p l (table_aim p xs) → IsAimValue p (table_aim p xs) t.aim → IsNoted p o n t.turns.items t.bases.items → IsTrace p o limit t
+trace_of p o limit n t l0 l xs0 xs small ok u0 start u table within none aim noted =
+    let stop : PathStops p o limit (ends n l) = ends_stops p o limit n l xs u table within none in
+    let s = stop.stops.1 in
+    let W : ℕ → Type 0 = λ x. Stops p o limit x s (ends n l) in
+    let w : Stops p o limit (length o + n) s (ends n l) = subst W stop.stops.2.2 stop.stops.2 in
+    let path : IsPath p o (length o + n) s = w.0.path in
+    let q : length o ≡ length o + 0 = omega arith in
+    let S : ℕ → Type 0 = λ x. IsSoFar p o x l0 xs0 in let V : ℕ → Type 0 = λ x. IsAimValue p (s.aim x) t.start in
+    record {
+      small = small;
+      path = (
+        n,
+        l,
+        s,
+        w,
+        record {
+          turns_long = noted.turns_long;
+          turns = λ k h d. turn_is p o n s ok path k h (slice_index_or t.turns.items k d) (noted.turns k h d);
+          bases_long = noted.bases_long;
+          bases = λ k h d. basis_is p o n s ok path k h (slice_index_or t.bases.items k d).items (noted.bases k (omega arith) d);
+          start = subst V (sym q) (value_is p o n s ok path 0 (omega arith) l0 xs0 t.start (subst S q u0) start);
+          aim = value_is p o n s ok path n (omega arith) l xs t.aim u aim;
+        },
+      );
+      bases_differ = λ k h kh hl x y e.
+          let hn : h ≤ n = omega (arith, noted.bases_long) in
+          bases_apart p o n s ok path k h kh hn (slice_index_or t.bases.items k x).items (slice_index_or t.bases.items h y).items
+          (basis_is p o n s ok path k (omega arith) (slice_index_or t.bases.items k x).items (noted.bases k (omega arith) x)) (basis_is p o n s ok path h hn (slice_index_or t.bases.items h y).items (noted.bases h (omega arith) y)) e;
+    }

@@ -1,0 +1,7 @@
+use Rattle.std.proofs.Common.{ℕ, ◌<◌, unsigned_abs}
+use Prim.Native.Nat.{◌∣◌}
+use Rattle.gs_simplex.specs.Numbers.{at}
+use Rattle.gs_simplex.proofs.row.narrow_divisor.Given as goal
+
+abbrev pub invariant-loop-number : goal.invariant-loop-number
+invariant-loop-number l = ((j : ℕ) → j < l.number-index → l.found ∣ unsigned_abs (at l.row j)) × ((d : ℕ) → ((j : ℕ) → j < l.number-index → d ∣ unsigned_abs (at l.row j)) → d ∣ l.found)

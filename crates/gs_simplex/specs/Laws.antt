@@ -1,0 +1,31 @@
+-- What follows of the end of a path, and of a path that no row bounds, for every program.
+use Rattle.std.specs.Prelude.{ℕ, ◌<◌, ◌≡◌, List, ℤ, pos, ◌-ℤ◌, ◌*ℤ◌, ◌≤ℤ◌, ◌<ℤ◌}
+use Rattle.std.specs.List.{HoldsAt}
+use Rattle.gs_rows.specs.declared.Program.{Program}
+use Rattle.gs_rows.specs.Sums.{sum_to}
+use Rattle.gs_rows.specs.Program.{number, aim_of, Listing, IsOpening, IsFeasible}
+use Rattle.gs_rows.specs.Path.{unbounded, PathStops}
+use Rattle.gs_frac.specs.declared.value.Fraction.{Fraction}
+use Rattle.gs_simplex.specs.declared.answer.Best.{Best}
+use Rattle.gs_simplex.specs.Answer.{IsBest}
+
+-- the first `count` fractions are the numbers v over d
+abbrev pub AreOver : ℕ → List Fraction → ℤ → (ℕ → ℤ) → Type 0
+AreOver count xs d v = (j : ℕ) → j < count → HoldsAt (λ f. f.num *ℤ d ≡ v j *ℤ f.den) xs j
+
+-- at the end of the path the values satisfy the rows, none of a column that is not free is negative, and no price is negative
+abbrev pub EndIsFeasible : Type 0
+EndIsFeasible = (p : Program) (o : Listing) (limit : ℕ) (b : Best) → IsOpening p o → IsBest p o limit b
+    → ((d : ℤ) × (v : ℕ → ℤ) × (IsFeasible p d v) × AreOver p.cols b.value.items d v) × ((j : ℕ) → j < p.cols → HoldsAt (λ f. pos 0 <ℤ f.den → pos 0 ≤ℤ f.num) b.price.items j)
+
+-- There is one multiplier y i over s for each program row. Each column's price is the sum of multiplier times the column's number in the row, less its
+-- number in the aim; and the aim's value, that of the values v over d, which are feasible, is the sum of multiplier times right side.
+abbrev pub PricesHaveMultipliers : Type 0
+PricesHaveMultipliers = (p : Program) (o : Listing) (limit : ℕ) (b : Best) → IsOpening p o → IsBest p o limit b
+    → (s : ℤ) × (y : ℕ → ℤ) × (pos 0 <ℤ s) × ((j : ℕ) → j < p.cols → HoldsAt (λ f. f.num *ℤ s ≡ f.den *ℤ (sum_to p.rows (λ i. y i *ℤ number p i j) -ℤ s *ℤ aim_of p j)) b.price.items j)
+    × ((d : ℤ) × (v : ℕ → ℤ) × (IsFeasible p d v) × (AreOver p.cols b.value.items d v) × (s *ℤ sum_to p.cols (λ j. aim_of p j *ℤ v j) ≡ d *ℤ sum_to p.rows (λ i. y i *ℤ number p i p.cols)))
+
+-- a path that is unbounded: for each whole number there is a feasible solution, v over d, whose aim is above it
+abbrev pub AimHasNoBound : Type 0
+AimHasNoBound = (p : Program) (o : Listing) (limit col : ℕ) → IsOpening p o → PathStops p o limit (unbounded col)
+    → (n : ℤ) → (d : ℤ) × (v : ℕ → ℤ) × (IsFeasible p d v) × ((n *ℤ d) <ℤ sum_to p.cols (λ j. aim_of p j *ℤ v j))

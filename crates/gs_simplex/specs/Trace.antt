@@ -1,0 +1,76 @@
+-- How a path was reached: its pivots, its bases, and the aim's value at both ends.
+use Rattle.std.specs.Prelude.{◌≡◌, ℕ, ◌+◌, ◌<◌, ◌≤◌, Result, Ok, Err, List, length, slice_index, ℤ, ◌*ℤ◌, Contains, Vec}
+use Rattle.std.specs.List.{HoldsAt}
+use Rattle.std.specs.declared.alloc.Global.{Global}
+use Rattle.gs_rows.specs.declared.Program.{Program}
+use Rattle.gs_rows.specs.Program.{Listing, ColListed}
+use Rattle.gs_rows.specs.Path.{States, IsPath, ends, Stops}
+use Rattle.gs_frac.specs.declared.value.Fraction.{Fraction}
+use Rattle.gs_simplex.specs.declared.answer.Turn.{Turn}
+use Rattle.gs_simplex.specs.declared.answer.PathTrace.{PathTrace}
+use Rattle.gs_simplex.specs.declared.answer.Stop.{Stop}
+use Rattle.gs_simplex.specs.declared.tracing.Log.{Log}
+use Rattle.gs_simplex.specs.declared.path.Position.{Position}
+use Rattle.gs_simplex.specs.State.{IsState, IsTurnAt}
+use Rattle.gs_simplex.specs.Answer.{IsSmall, IsStop}
+
+-- the columns of the list, counted from 1, in order of number
+pub record IsBasis (l : Listing) (columns : List ℕ) : Type 0 where
+  pub rises : (k h : ℕ) → k < h → h < length columns → slice_index columns k < slice_index columns h
+  pub listed : (k : ℕ) → k < length columns → (j : ℕ) × (slice_index columns k ≡ j + 1) × ColListed l j
+  pub all : (j : ℕ) → ColListed l j → Contains columns (j + 1)
+
+-- those of the columns below `count`
+pub record IsBasisBelow (l : Listing) (count : ℕ) (columns : List ℕ) : Type 0 where
+  pub rises : (k h : ℕ) → k < h → h < length columns → slice_index columns k < slice_index columns h
+  pub listed : (k : ℕ) → k < length columns → (j : ℕ) × (slice_index columns k ≡ j + 1) × (j < count) × ColListed l j
+  pub all : (j : ℕ) → j < count → ColListed l j → Contains columns (j + 1)
+
+-- the aim's value by its row: the last number over the multiple
+abbrev pub IsAimValue : Program → (ℕ → ℤ) → Fraction → Type 0
+IsAimValue p aim f = f.num *ℤ aim (p.cols + 1) ≡ aim p.cols *ℤ f.den
+
+-- the column that enters after t steps, and the one that leaves
+abbrev pub IsTurnOf : States → ℕ → Turn → Type 0
+IsTurnOf s t turn = (turn.enter ≡ s.entering t + 1) × (turn.leave ≡ s.leaving t + 1)
+
+-- the trace of the path s, which has n pivots
+pub record IsTraceOf (p : Program) (o : Listing) (n : ℕ) (s : States) (t : PathTrace) : Type 0 where
+  pub turns_long : length t.turns.items ≡ n
+  pub turns : (k : ℕ) → k < n → HoldsAt (IsTurnOf s (length o + k)) t.turns.items k
+  pub bases_long : length t.bases.items ≡ n + 1
+  pub bases : (k : ℕ) → k ≤ n → HoldsAt (λ b. IsBasis (s.lists (length o + k)) b.items) t.bases.items k
+  pub start : IsAimValue p (s.aim (length o)) t.start
+  pub aim : IsAimValue p (s.aim (length o + n)) t.aim
+
+-- the path ends, t is its trace, and no two bases are equal
+pub record IsTrace (p : Program) (o : Listing) (limit : ℕ) (t : PathTrace) : Type 0 where
+  pub small : IsSmall p
+  pub path : (n : ℕ) × (l : Listing) × (s : States) × (Stops p o limit (length o + n) s (ends n l)) × IsTraceOf p o n s t
+  pub bases_differ : (k h : ℕ) → k < h → h < length t.bases.items → HoldsAt (λ a. HoldsAt (λ b. ¬ (a.items ≡ b.items)) t.bases.items h) t.bases.items k
+
+-- what `trace` answers
+abbrev pub IsTraceAnswer : Program → Listing → ℕ → Result PathTrace Stop → Type 0
+IsTraceAnswer p o limit (Ok t) = IsTrace p o limit t
+IsTraceAnswer p o limit (Err s) = IsStop p o limit s
+
+-- ---- while the path is followed
+-- these are the columns of the list after t steps
+abbrev pub IsBasisAt : Program → Listing → ℕ → List ℕ → Type 0
+IsBasisAt p o t columns = (s : States) × (IsPath p o t s) × IsBasis (s.lists t) columns
+
+-- the pivots so far, n of them, and the bases
+pub record IsNoted (p : Program) (o : Listing) (n : ℕ) (made : List Turn) (found : List (Vec ℕ Global)) : Type 0 where
+  pub turns_long : length made ≡ n
+  pub turns : (k : ℕ) → k < n → HoldsAt (IsTurnAt p o (length o + k)) made k
+  pub bases_long : length found ≡ n + 1
+  pub bases : (k : ℕ) → k < n + 1 → HoldsAt (λ b. IsBasisAt p o (length o + k) b.items) found k
+
+abbrev pub IsLog : Program → Listing → ℕ → Log → Type 0
+IsLog p o n log = IsNoted p o n log.turns.items log.bases.items
+
+-- the list and the rows after the opening
+pub record IsBegun (p : Program) (o : Listing) (at : Position) : Type 0 where
+  pub small : IsSmall p
+  pub same : at.basis.items ≡ o
+  pub state : IsState p o (length o) o at.table
