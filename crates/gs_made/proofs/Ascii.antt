@@ -1,0 +1,14 @@
+-- Texts of letters and digits.
+use Rattle.std.proofs.Common.{◌≡◌, ℕ, true, List, [], ◌∷◌, arith}
+use Rattle.std.specs.Prelude.{nat_lt}
+use Rattle.std.specs.List.{list_all}
+use Rattle.std.specs.Str.{IsAscii}
+use Rattle.std.proofs.lemmas.Bool.{and_parts}
+use Rattle.std.proofs.lemmas.Bool.Decides.{nat_tests}
+use Rattle.std.proofs.lemmas.Str.Ascii.{IsAscii-nil, IsAscii-cons}
+
+pub ascii : (bytes : List ℕ) → list_all (λ b. nat_lt b 128) bytes ≡ true → IsAscii bytes
+ascii [] h = IsAscii-nil
+ascii (b ∷ bytes) h =
+    let p = and_parts (nat_lt b 128) (list_all (λ x. nat_lt x 128) bytes) h in
+    IsAscii-cons b bytes (grind (arith, nat_tests, p.0)) (ascii bytes p.1)

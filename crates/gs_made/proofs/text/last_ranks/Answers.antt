@@ -1,0 +1,8 @@
+use Rattle.std.proofs.Common.{◌-◌, arith, refl}
+use Rattle.std.proofs.lemmas.Str.{IsCharBoundary-from_ascii}
+use Rattle.gs_made.specs.declared.text.TheConstants.{RANKS}
+use Rattle.gs_made.proofs.Ascii.{ascii}
+use Rattle.gs_made.proofs.text.last_ranks.Goals as goal
+
+pub range_from-requires : goal.range_from-requires
+range_from-requires c _ = IsCharBoundary-from_ascii RANKS.now (13 - c.args.count) (ascii RANKS.now refl) (omega arith)

@@ -1,0 +1,44 @@
+-- The game files of well-known games.
+use Rattle.std.specs.Prelude.{ℕ, ◌-◌, List, [], ◌∷◌, ◌++◌, length, take, drop, flat_map, codes}
+use Rattle.std.specs.Fmt.{decimal}
+use Rattle.gs_made.specs.declared.kind.Kind.{Kind}
+use Rattle.gs_made.specs.declared.kind.Kind.TheVariants.{Kuhn, Leduc, Rhode}
+use Rattle.gs_made.specs.declared.kind.Round.{Round}
+
+-- the last n of a text
+abbrev pub last : ℕ → List ℕ → List ℕ
+last n text = drop (length text - n) text
+
+abbrev pub ranking_of : Kind → List ℕ
+ranking_of Kuhn = codes "high"
+ranking_of Leduc = codes "pair"
+ranking_of Rhode = codes "three"
+
+abbrev pub ante_of : Kind → ℕ
+ante_of Kuhn = 1
+ante_of Leduc = 1
+ante_of Rhode = 5
+
+-- each round's private cards, public cards and bet
+abbrev pub rounds_of : Kind → List (ℕ × ℕ × ℕ)
+rounds_of Kuhn = (1, 0, 1) ∷ []
+rounds_of Leduc = (1, 0, 2) ∷ (0, 1, 4) ∷ []
+rounds_of Rhode = (1, 0, 10) ∷ (0, 1, 20) ∷ (0, 1, 20) ∷ []
+
+abbrev pub round_view : Round → ℕ × ℕ × ℕ
+round_view r = (r.private, r.public, r.bet)
+
+-- the lines of a round, behind an empty line
+unfoldable pub round_text : ℕ → ℕ × ℕ × ℕ → List ℕ
+round_text cap r = codes "\n[[round]]\nprivate = " ++ decimal r.0 ++ codes "\npublic = " ++ decimal r.1 ++ codes "\nbet = " ++ decimal r.2 ++ codes "\ncap = " ++ decimal cap ++ codes "\n"
+
+-- the lines before the rounds, of the ranks, the suits, the ranking and the ante
+unfoldable pub head_text : (ranks suits ranking : List ℕ) → ℕ → List ℕ
+head_text ranks suits ranking ante =
+    codes "version = 1\nranks = \"" ++ ranks ++ codes "\"\nsuits = \"" ++ suits ++ codes "\"\nranking = \"" ++ ranking ++ codes "\"\nante = " ++ decimal ante ++ codes "\n"
+
+-- the whole game file: the highest ranks, the first suits
+abbrev pub made_game : Kind → ℕ → ℕ → ℕ → List ℕ
+made_game kind ranks suits cap =
+    head_text (last ranks (codes "23456789TJQKA")) (take suits (codes "shdc")) (ranking_of kind) (ante_of kind)
+    ++ flat_map (round_text cap) (rounds_of kind)

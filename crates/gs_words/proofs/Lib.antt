@@ -1,0 +1,7 @@
+pub mod Simple
+pub mod Numbers
+pub mod Options
+pub mod AnyOrder
+pub mod Rows
+pub mod Obeyed
+pub mod Plain

@@ -1,0 +1,37 @@
+-- Digits whose number is too large.
+use Rattle.std.proofs.Common.{◌≡◌, ℕ, ◌<◌, ◌^◌, Bool, true, false, ◌&&◌, List, [], ◌∷◌, length, Some, None, Result, Ok, if◌then◌else◌, inl, inr, refl, arith}
+use Rattle.std.specs.Result.{result_ok}
+use Rattle.std.specs.Str.{all_ascii_digits}
+use Rattle.std.specs.Str.Parse.{digits_value, ParsesUnsigned}
+use Rattle.std.proofs.lemmas.Str.Parse.{numerals_by_value, tells_all_ascii_digits, parse_gives}
+use Rattle.std.proofs.lemmas.Bool.{cases_eq, eq-eqb, ne_eqb, eqb-true, lt-leb, false≢true}
+use Rattle.std.proofs.lemmas.Bool.Decides.{leb_tells}
+use Rattle.std.proofs.lemmas.List.{nil_from_length}
+use Rattle.gs_words.specs.Values.{is_numeral, number_in}
+
+-- a numeral is digits, at least one
+numeral_digits : (word : List ℕ) → is_numeral word ≡ true → (all_ascii_digits word ≡ true) × (0 < length word)
+numeral_digits [] h = absurd (false≢true h)
+numeral_digits (b ∷ bytes) h =
+    elim (cases_eq b 48) [
+      | inl e ↦ let none : bytes ≡ [] = nil_from_length bytes (eqb-true (length bytes) 0 (rw (eq-eqb b 48 e) at h)) in (rw (none, e) refl, omega arith)
+      | inr ne ↦ (rw (ne_eqb b 48 ne) at h, omega arith)
+    ]
+
+refused : (a b : Bool) (n : ℕ) → (if a && (b && false) then Some n else None) ≡ None
+refused true true n = refl
+refused true false n = refl
+refused false b n = refl
+
+pub too_large : {E : Type 0} (word : List ℕ) (least most : ℕ) (r : Result ℕ E) → is_numeral word ≡ true → most < 2 ^ 32 → ParsesUnsigned 32 10 word r → result_ok r ≡ None → number_in least most word ≡ None
+too_large word least most r numeral fits parsed none =
+    let digits = numeral_digits word numeral in
+    let own = numerals_by_value (λ ds. all_ascii_digits ds ≡ true) tells_all_ascii_digits in
+    let large : most < digits_value 10 word =
+    elim (leb_tells (digits_value 10 word) most) [
+      | inl small ↦
+          let read : r ≡ Ok (digits_value 10 word) = parse_gives own 32 word r parsed digits.0 digits.1 (omega (arith, small.1)) in
+          let bad = rw read at none in cc
+      | inr h ↦ h.1
+    ] in
+    rw (lt-leb (digits_value 10 word) most large) (refused (is_numeral word) _ _)

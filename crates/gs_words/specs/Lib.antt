@@ -1,0 +1,4 @@
+pub mod Program
+pub mod Values
+pub mod Requests
+pub mod Plain

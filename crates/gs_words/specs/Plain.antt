@@ -1,0 +1,84 @@
+-- Plain words: a command that is built, and options of it in their long form.
+use Rattle.std.specs.Prelude.{ℕ, Bool, true, false, not, ◌&&◌, ◌||◌, ◌==◌, List, [], ◌∷◌, Option, Some, None, is_some, is_none, codes, if◌then◌else◌}
+use Rattle.std.specs.List.{list_all, list_any}
+use Rattle.std.specs.Str.{bytes_eq}
+use Rattle.gs_words.specs.Values.{grouping_of, kind_of, number_in}
+
+pub data BuiltCommand : Type 0 where
+  shrink : BuiltCommand
+  check : BuiltCommand
+  make : BuiltCommand
+
+abbrev pub command_word : BuiltCommand → List ℕ
+command_word shrink = codes "shrink"
+command_word check = codes "check"
+command_word make = codes "make"
+
+-- an option as it is given, with its value or as a flag
+pub data Given : Type 0 where
+  valued : (name value : List ℕ) → Given
+  flagged : List ℕ → Given
+
+abbrev pub name_of : Given → List ℕ
+name_of (valued name value) = name
+name_of (flagged name) = name
+
+-- `--name`
+abbrev pub long_word : List ℕ → List ℕ
+long_word name = 45 ∷ 45 ∷ name
+
+-- the words of the options in order
+abbrev pub option_words : List Given → List (List ℕ)
+option_words [] = []
+option_words (valued name value ∷ rest) = long_word name ∷ value ∷ option_words rest
+option_words (flagged name ∷ rest) = long_word name ∷ option_words rest
+
+-- an option that a command has: a flag, or one whose value obeys a rule
+pub record OptionOf : Type 0 where
+  pub name : List ℕ
+  pub is_required : Bool
+  pub rule : Option (List ℕ → Bool)
+
+abbrev pub summary : OptionOf
+summary = record { name = codes "summary"; is_required = false; rule = None }
+
+abbrev pub required : List ℕ → (List ℕ → Bool) → OptionOf
+required name obeys = record { name = name; is_required = true; rule = Some obeys }
+
+abbrev pub options_of : BuiltCommand → List OptionOf
+options_of shrink = summary ∷ []
+options_of check = record { name = codes "classes"; is_required = false; rule = Some (λ word. is_some (grouping_of word)) } ∷ summary ∷ []
+options_of make =
+    required (codes "kind") (λ word. is_some (kind_of word)) ∷ required (codes "ranks") (λ word. is_some (number_in 1 13 word))
+    ∷ required (codes "suits") (λ word. is_some (number_in 1 4 word)) ∷ required (codes "cap") (λ word. is_some (number_in 0 8 word)) ∷ []
+
+-- not empty, and not beginning with a hyphen
+abbrev pub is_plain_value : List ℕ → Bool
+is_plain_value [] = false
+is_plain_value (b ∷ bytes) = not (b == 45)
+
+abbrev pub obeys : Option (List ℕ → Bool) → List ℕ → Bool
+obeys None value = false
+obeys (Some rule) value = rule value
+
+-- the option is given in its form
+abbrev pub is_given_as : OptionOf → Given → Bool
+is_given_as option (valued name value) = bytes_eq name option.name && (is_plain_value value && obeys option.rule value)
+is_given_as option (flagged name) = bytes_eq name option.name && is_none option.rule
+
+-- no option stands twice
+abbrev pub stand_once : List Given → Bool
+stand_once [] = true
+stand_once (g ∷ gs) = list_all (λ other. not (bytes_eq (name_of g) (name_of other))) gs && stand_once gs
+
+-- each is an option of the command, none stands twice, and all that are required are there
+abbrev pub are_plain : BuiltCommand → List Given → Bool
+are_plain command gs =
+    list_all (λ g. list_any (λ option. is_given_as option g) (options_of command)) gs
+    && (stand_once gs && list_all (λ option. not option.is_required || list_any (λ g. bytes_eq (name_of g) option.name) gs) (options_of command))
+
+-- what is given for an option: its value, and `true` for a flag
+abbrev pub given_for : List Given → List ℕ → Option (List ℕ)
+given_for [] option = None
+given_for (valued name value ∷ rest) option = if bytes_eq name option then Some value else given_for rest option
+given_for (flagged name ∷ rest) option = if bytes_eq name option then Some (codes "true") else given_for rest option

@@ -1,0 +1,27 @@
+-- The values that options take.
+use Rattle.std.specs.Prelude.{ℕ, Bool, false, ◌&&◌, ◌==◌, nat_le, if◌then◌else◌, List, [], ◌∷◌, length, Option, Some, None, codes}
+use Rattle.std.specs.Str.{all_ascii_digits, bytes_eq}
+use Rattle.std.specs.Str.Parse.{digits_value}
+use Rattle.gs_made.specs.declared.kind.Kind.{Kind}
+use Rattle.gs_made.specs.declared.kind.Kind.TheVariants.{Kuhn, Leduc, Rhode}
+use Rattle.gs_words.specs.declared.request.Grouping.{Grouping}
+use Rattle.gs_words.specs.declared.request.Grouping.TheVariants.{Isomorphism, Coarsest, Single}
+
+abbrev pub grouping_of : List ℕ → Option Grouping
+grouping_of word = if bytes_eq word (codes "ogi") then Some Isomorphism
+    else (if bytes_eq word (codes "split") then Some Coarsest else (if bytes_eq word (codes "raw") then Some Single else None))
+
+abbrev pub kind_of : List ℕ → Option Kind
+kind_of word = if bytes_eq word (codes "kuhn") then Some Kuhn
+    else (if bytes_eq word (codes "leduc") then Some Leduc else (if bytes_eq word (codes "rhode") then Some Rhode else None))
+
+-- digits, at least one, without sign or leading zero
+abbrev pub is_numeral : List ℕ → Bool
+is_numeral [] = false
+is_numeral (b ∷ bytes) = if b == 48 then length bytes == 0 else all_ascii_digits (b ∷ bytes)
+
+-- the number that the word writes, where it is from `least` to `most`
+abbrev pub number_in : ℕ → ℕ → List ℕ → Option ℕ
+number_in least most word =
+    let n = digits_value 10 word in
+    if is_numeral word && (nat_le least n && nat_le n most) then Some n else None

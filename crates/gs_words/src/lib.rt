@@ -1,0 +1,15 @@
+//! The words of the command line, and what they ask for.
+#![tactic(auto)]
+
+mod command;
+mod laws;
+mod reading;
+mod request;
+mod values;
+
+pub use laws::plain_words_are_read;
+pub use reading::read_words;
+pub use request::{Grouping, Request, WordsStop};
+
+#[cfg(test)]
+mod tests;

@@ -1,0 +1,121 @@
+//! Reading words.
+
+ghost use Rattle.std.specs.Prelude.{◌≡◌, ◌≤◌, codes, IfOk, IfSome, map, string_bytes, option_map, option_and_then};
+ghost use Rattle.clap.specs.Words.{first_of, rows_of, found_of, subcommand_rows_of};
+ghost use Rattle.gs_words.specs.Values.{number_in};
+ghost use Rattle.gs_words.specs.Requests.{check_of, is_set as is_true, make_of, request_in as asked_in, IsInRange, ReadsWords, TakesWords};
+
+use crate::command::program;
+use crate::request::{Grouping, Request, WordsStop};
+use crate::values::{grouping, kind, number};
+use clap::ArgMatches;
+use clap::error::ErrorKind;
+use std::alloc::Global;
+
+// The words as the program's command takes them.
+fn taken<'a>(alloc: Global, words: &'a [String]) -> Result<ArgMatches<'a>, WordsStop>
+    ensures { TakesWords result (map string_bytes words.entry.now) }
+{
+    let command = match program(alloc) {
+        Ok(command) => command,
+        Err(_) => return Err(WordsStop::Memory),
+    };
+    match command.try_get_matches_from(words) {
+        Ok(matches) => Ok(matches),
+        Err(error) => match error.kind() {
+            ErrorKind::OutOfMemory => Err(WordsStop::Memory),
+            _ => Err(WordsStop::Usage),
+        },
+    }
+}
+
+// The value of an option of the command.
+fn value_of<'a>(options: &ArgMatches<'a>, name: &str) -> Option<&'a str>
+    ensures { option_map (λ s. s.now) result ≡ first_of name.now (rows_of (found_of options.now)) }
+{
+    options.get_str(name)
+}
+
+// Whether a flag of the command is given.
+fn is_set(options: &ArgMatches, name: &str) -> bool
+    ensures { result ≡ is_true (first_of name.now (rows_of (found_of options.now))) }
+{
+    match value_of(options, name) {
+        Some(text) => text == "true",
+        None => false,
+    }
+}
+
+// The number that an option of the command gives.
+fn number_of(options: &ArgMatches, name: &str, least: u32, most: u32) -> Option<u32>
+    ensures value { result ≡ option_and_then (number_in least most) (first_of name.now (rows_of (found_of options.now))) }
+    ensures within { IfSome result (λ n. (least ≤ n) × (n ≤ most)) }
+{
+    number(value_of(options, name)?, least, most)
+}
+
+fn check_request(options: &ArgMatches) -> Option<Request>
+    ensures value { result ≡ check_of (first_of (codes "classes") (rows_of (found_of options.now))) (is_true (first_of (codes "summary") (rows_of (found_of options.now)))) }
+    ensures within { IfSome result IsInRange }
+{
+    let grouping = match value_of(options, "classes") {
+        Some(word) => grouping(word)?,
+        None => Grouping::Coarsest,
+    };
+    let summary = is_set(options, "summary");
+    Some(Request::Check { grouping, summary })
+}
+
+fn make_request(options: &ArgMatches) -> Option<Request>
+    ensures value { result ≡ make_of (first_of (codes "kind") (rows_of (found_of options.now))) (first_of (codes "ranks") (rows_of (found_of options.now))) (first_of (codes "suits") (rows_of (found_of options.now))) (first_of (codes "cap") (rows_of (found_of options.now))) }
+    ensures within { IfSome result IsInRange }
+{
+    let kind = kind(value_of(options, "kind")?)?;
+    let ranks = number_of(options, "ranks", 1, 13)? as u8;
+    let suits = number_of(options, "suits", 1, 4)? as u8;
+    let cap = number_of(options, "cap", 0, 8)? as u8;
+    Some(Request::Make {
+        kind,
+        ranks,
+        suits,
+        cap,
+    })
+}
+
+// The command that was entered, by its name and its options.
+fn entered<'m, 'a>(matches: &'m ArgMatches<'a>) -> Option<(&'a str, &'m ArgMatches<'a>)>
+    ensures { option_map (λ p. (p.0.now, rows_of (found_of p.1.now))) result ≡ subcommand_rows_of matches.now }
+{
+    matches.subcommand()
+}
+
+// What the words that were taken ask for.
+fn request_in(matches: &ArgMatches) -> Option<Request>
+    ensures value { result ≡ option_and_then asked_in (subcommand_rows_of matches.now) }
+    ensures within { IfSome result IsInRange }
+{
+    let (name, options) = entered(matches)?;
+    match name {
+        "shrink" => Some(Request::Shrink {
+            summary: is_set(options, "summary"),
+        }),
+        "check" => check_request(options),
+        "make" => make_request(options),
+        _ => None,
+    }
+}
+
+/// What the words ask for, the first of which is the command. They are read with `clap`: that it
+/// refuses them, a request for help included, is `Usage`, and so is a value that its option does
+/// not take.
+#[tactic(auto, unfolding(crate::specs::Requests::request_of))]
+pub fn read_words(alloc: Global, words: &[String]) -> Result<Request, WordsStop>
+    ensures reads { ReadsWords result (map string_bytes words.now) }
+    ensures within { IfOk result IsInRange }
+{
+    let matches = taken(alloc, words)?;
+    match request_in(&matches) {
+        Some(request) => Ok(request),
+        None => Err(WordsStop::Usage),
+    }
+}

@@ -1,0 +1,45 @@
+//! What words ask for.
+
+use gs_made::Kind;
+
+/// Which classes of signals.
+#[derive(Clone, Copy, Debug, PartialEq, Eq, Hash)]
+pub enum Grouping {
+    /// The classes of ordered game isomorphism.
+    Isomorphism,
+    /// The coarsest lossless refinement of those classes.
+    Coarsest,
+    /// Each signal by itself.
+    Single,
+}
+
+/// What words ask for.
+#[derive(Clone, Copy, Debug, PartialEq, Eq, Hash)]
+pub enum Request {
+    /// The signal classes of a game, or only how many there are.
+    Shrink {
+        summary: bool,
+    },
+    /// These classes of a game once they are found to be lossless, or only how many there are.
+    Check {
+        grouping: Grouping,
+        summary: bool,
+    },
+    /// The game file of a well-known game with 1 to 13 ranks, 1 to 4 suits and at most 8 bets and
+    /// raises in a round.
+    Make {
+        kind: Kind,
+        ranks: u8,
+        suits: u8,
+        cap: u8,
+    },
+}
+
+/// Why words are not read.
+#[derive(Clone, Copy, Debug, PartialEq, Eq, Hash)]
+pub enum WordsStop {
+    /// They ask for nothing that the program does, or for help.
+    Usage,
+    /// There is no memory to read them.
+    Memory,
+}

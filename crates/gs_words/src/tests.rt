@@ -1,0 +1,125 @@
+//! Words and what they ask for, from a program that was written from the rules alone.
+
+use crate::{Grouping, Request, WordsStop, read_words};
+use gs_made::Kind;
+use std::alloc::Global;
+use std::test::Fail;
+
+// What the words of a line ask for, with one space between two words.
+fn read(alloc: Global, line: &str) -> Result<Request, WordsStop> {
+    let mut words = Vec::new(alloc);
+    for word in line.split(' ') {
+        let word = String::from_str(alloc, word).map_err(|_| WordsStop::Memory)?;
+        words.push(word).map_err(|_| WordsStop::Memory)?;
+    }
+    read_words(alloc, &words)
+}
+
+const fn check(grouping: Grouping, summary: bool) -> Request {
+    Request::Check { grouping, summary }
+}
+
+const fn make(kind: Kind, ranks: u8, suits: u8, cap: u8) -> Request {
+    Request::Make {
+        kind,
+        ranks,
+        suits,
+        cap,
+    }
+}
+
+#[test]
+fn requests(rt: HostRuntime) -> Result<(), Fail> {
+    let table = [
+        ("shrink", Request::Shrink { summary: false }),
+        ("shrink --summary", Request::Shrink { summary: true }),
+        // Where nothing follows it, `--` is no word of the command's.
+        ("shrink --", Request::Shrink { summary: false }),
+        ("check", check(Grouping::Coarsest, false)),
+        ("check --summary", check(Grouping::Coarsest, true)),
+        ("check --classes ogi", check(Grouping::Isomorphism, false)),
+        ("check --classes split", check(Grouping::Coarsest, false)),
+        (
+            "check --classes raw --summary",
+            check(Grouping::Single, true),
+        ),
+        (
+            "check --summary --classes raw",
+            check(Grouping::Single, true),
+        ),
+        // Besides plain words, a value may stand behind `=`.
+        ("check --classes=ogi", check(Grouping::Isomorphism, false)),
+        (
+            "make --kind kuhn --ranks 3 --suits 1 --cap 1",
+            make(Kind::Kuhn, 3, 1, 1),
+        ),
+        (
+            "make --cap 0 --suits 4 --ranks 13 --kind leduc",
+            make(Kind::Leduc, 13, 4, 0),
+        ),
+        (
+            "make --ranks 1 --kind rhode --cap 8 --suits 2",
+            make(Kind::Rhode, 1, 2, 8),
+        ),
+    ];
+    for (line, request) in table {
+        assert_eq!(rt; read(rt.alloc(), line), Ok(request), "at {line:?}");
+    }
+    Ok(())
+}
+
+#[test]
+fn refused_words(rt: HostRuntime) -> Result<(), Fail> {
+    assert_eq!(rt; read_words(rt.alloc(), &[]), Err(WordsStop::Usage));
+    for line in [
+        "",
+        "frob",
+        "help",
+        "help shrink",
+        "--help",
+        "-h",
+        "--version",
+        "play --turns 01",
+        "shrink --help",
+        "shrink -h",
+        "shrink --summary --summary",
+        "shrink --classes ogi",
+        "shrink more",
+        "shrink -- --summary",
+        "--summary shrink",
+        "check ogi",
+        "check --classes all",
+        "check --classes",
+        "check --classes ",
+        "check --classes -x",
+        "check --classes --summary",
+        "check --classes raw --classes raw",
+        "check --summary=true",
+        "make",
+        "make --ranks 3 --suits 1 --cap 1",
+        "make --kind kuhn --suits 1 --cap 1",
+        "make --kind kuhn --ranks 3 --cap 1",
+        "make --kind kuhn --ranks 3 --suits 1",
+        "make --kind kuhn --ranks 3 --suits 1 --cap 1 --cap 1",
+        "make --kind kuhn --ranks 3 --suits 1 --cap 1 --summary",
+        "make --kind poker --ranks 3 --suits 1 --cap 1",
+        "make --kind kuhn --ranks 0 --suits 1 --cap 1",
+        "make --kind kuhn --ranks 14 --suits 1 --cap 1",
+        "make --kind kuhn --ranks 01 --suits 1 --cap 1",
+        "make --kind kuhn --ranks +1 --suits 1 --cap 1",
+        "make --kind kuhn --ranks -1 --suits 1 --cap 1",
+        "make --kind kuhn --ranks three --suits 1 --cap 1",
+        "make --kind kuhn --ranks 4294967299 --suits 1 --cap 1",
+        "make --kind kuhn --ranks 3 --suits 0 --cap 1",
+        "make --kind kuhn --ranks 3 --suits 5 --cap 1",
+        "make --kind kuhn --ranks 3 --suits 1 --cap 9",
+        "make --kind kuhn --ranks 3 --suits 1 --cap 00",
+    ] {
+        assert_eq!(rt;
+            read(rt.alloc(), line),
+            Err(WordsStop::Usage),
+            "at {line:?}"
+        );
+    }
+    Ok(())
+}

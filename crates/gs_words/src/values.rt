@@ -1,0 +1,70 @@
+//! The values of options.
+
+ghost use Rattle.std.specs.Prelude.{◌≡◌, ◌≤◌, IfSome};
+ghost use Rattle.std.specs.Str.{all_ascii_digits};
+ghost use Rattle.gs_words.specs.Values.{grouping_of, is_numeral, kind_of, number_in};
+
+use crate::request::Grouping;
+use gs_made::Kind;
+
+/// The classes that a word names.
+pub(crate) fn grouping(word: &str) -> Option<Grouping>
+    ensures { result ≡ grouping_of word.now }
+{
+    match word {
+        "ogi" => Some(Grouping::Isomorphism),
+        "split" => Some(Grouping::Coarsest),
+        "raw" => Some(Grouping::Single),
+        _ => None,
+    }
+}
+
+/// The game that a word names.
+pub(crate) fn kind(word: &str) -> Option<Kind>
+    ensures { result ≡ kind_of word.now }
+{
+    match word {
+        "kuhn" => Some(Kind::Kuhn),
+        "leduc" => Some(Kind::Leduc),
+        "rhode" => Some(Kind::Rhode),
+        _ => None,
+    }
+}
+
+fn all_digits(bytes: &[u8]) -> bool
+    ensures { result ≡ all_ascii_digits bytes.now }
+{
+    for b in bytes {
+        if !b.is_ascii_digit() {
+            return false;
+        }
+    }
+    true
+}
+
+// Whether the bytes are digits without leading zeros.
+fn is_number(bytes: &[u8]) -> bool
+    ensures { result ≡ is_numeral bytes.now }
+{
+    match bytes {
+        [] => false,
+        [b'0', rest @ ..] => rest.is_empty(),
+        _ => all_digits(bytes),
+    }
+}
+
+/// The number that a word writes, where it is from `least` to `most`.
+pub(crate) fn number(word: &str, least: u32, most: u32) -> Option<u32>
+    ensures value { result ≡ number_in least most word.now }
+    ensures within { IfSome result (λ n. (least ≤ n) × (n ≤ most)) }
+{
+    if !is_number(word.as_bytes()) {
+        return None;
+    }
+    let number = word.parse::<u32>().ok()?;
+    if least <= number && number <= most {
+        Some(number)
+    } else {
+        None
+    }
+}
