@@ -1,7 +1,8 @@
 -- The game that a description states: the definitions speak of this record.
-use Rattle.std.specs.Prelude.{map, length}
+use Rattle.std.specs.Prelude.{◌≤◌, map, length, List}
 use Rattle.gs_bet.specs.TreeView.{plain}
 use Rattle.gs_card.specs.Rankings.{ranking_of}
+use Rattle.gs_model.specs.Betting.{Bet}
 use Rattle.gs_model.specs.Game.{Game as Rules, Round as RoundRules}
 use Rattle.gs_game.specs.declared.game.Game.{Game}
 use Rattle.gs_game.specs.declared.game.Round.{Round}
@@ -20,3 +21,12 @@ game_of g = record {
   ante = g.ante;
   rounds = map round_of g.rounds.items;
 }
+
+-- the betting trees of some rounds
+abbrev pub plain_trees : List Round → List Bet
+plain_trees rounds = map (λ (r : Round). plain r.tree.tree) rounds
+
+-- a round gives no more cards than a game file may ask for
+pub record HasFewCards (r : Round) : Type 0 where
+  pub private : r.private ≤ 2
+  pub public : r.public ≤ 3

@@ -1,2 +1,11 @@
 pub mod Games
+pub mod Seen
+pub mod Money
+pub mod Counts
+pub mod Refusals
+pub mod Answers
+pub mod Walks
 pub mod Limits
+pub mod Valid
+pub mod Sequences
+pub mod Lines

@@ -1,8 +1,25 @@
 //! Games: their cards, their betting and the rules that a valid game keeps.
 #![tactic(auto)]
 
+mod betting;
+mod cards;
+mod check;
+mod counting;
+mod deals;
+mod faults;
 mod game;
+mod line_texts;
+mod lines;
+mod money;
+mod place;
+mod positions;
 mod valid;
+mod walk;
 
+pub use faults::GameFault;
 pub use game::{Game, Round};
-pub use valid::{GameFault, ValidGame};
+pub use positions::{Arrow, End, EndKind, Point, Step, Target};
+pub use valid::ValidGame;
+
+#[cfg(test)]
+mod tests;

@@ -1,42 +1,78 @@
 //! Valid games.
 
-ghost use Rattle.std.specs.Prelude.{◌≡◌, IfOk};
+ghost use Rattle.std.specs.Prelude.{◌≡◌, None, length};
+ghost use Rattle.gs_model.specs.Deals.{deals as deals_of};
+ghost use Rattle.gs_model.specs.Frame.{frame_of, total_weight};
 ghost use Rattle.gs_game.specs.Games.{game_of};
-ghost use Rattle.gs_game.specs.Limits.{IsSingleCardGame, IsWithinLimits};
+ghost use Rattle.gs_game.specs.Limits.{IsDealable, IsWithinLimits};
+ghost use Rattle.gs_game.specs.Refusals.{first_refusal};
+ghost use Rattle.gs_game.specs.Valid.{IsWalkOf};
 
 use crate::game::Game;
+use crate::positions::{End, Point, Target};
 
-/// Why a game is refused.
-#[derive(Debug, PartialEq, Eq, Drop)]
-pub enum GameFault {
-    /// Want of memory.
-    Memory,
-}
-
-/// A game that keeps every rule.
+/// A game that keeps every rule, with its betting positions and the weight of all deals.
 #[derive(Drop)]
 pub struct ValidGame {
-    game: Game,
+    pub(crate) game: Game,
+    pub(crate) points: Vec<Point>,
+    pub(crate) ends: Vec<End>,
+    pub(crate) start: Target,
+    pub(crate) deals: u32,
+    pub(crate) weight: u64,
+    pub ghost accepted: { first_refusal (game_of game) ≡ None },
     pub ghost limits: { IsWithinLimits (game_of game) },
-    pub ghost single: { IsSingleCardGame (game_of game) },
-}
-
-impl Game {
-    /// The game, checked.
-    pub fn check(self) -> Result<ValidGame, GameFault>
-        requires { IsSingleCardGame (game_of self) }
-        ensures { IfOk result (λ v. v.game ≡ self) }
-    {
-        let _kinds = self.deck.kinds();
-        Ok(ValidGame { game: self })
-    }
+    pub ghost dealable: { IsDealable (game_of game) },
+    pub ghost walked: { IsWalkOf (game_of game) points.items ends.items start },
+    pub ghost dealt: { deals ≡ length (deals_of (game_of game)) },
+    pub ghost weighed: { weight ≡ total_weight (frame_of (game_of game)) },
 }
 
 impl ValidGame {
+    ghost use Rattle.std.specs.Prelude.{map};
+    ghost use Rattle.gs_model.specs.Walk.{root, walk_start};
+    ghost use Rattle.gs_game.specs.Seen.{end_of, own_point, point_of, target_of};
+    ghost use Rattle.gs_game.specs.Valid.{walk_of};
+
     /// The game's description.
     pub fn game(&self) -> &Game
         ensures { result.now ≡ self.now.game }
     {
         &self.game
+    }
+
+    /// The points, by number.
+    pub fn points(&self) -> &[Point]
+        ensures { map point_of result.now ≡ map own_point (walk_of (game_of self.now.game)).points }
+    {
+        &self.points
+    }
+
+    /// The ends, by number.
+    pub fn ends(&self) -> &[End]
+        ensures { map end_of result.now ≡ (walk_of (game_of self.now.game)).ends }
+    {
+        &self.ends
+    }
+
+    /// Where play starts.
+    pub fn start(&self) -> Target
+        ensures { target_of result ≡ root (walk_start self.now.game.ante) (walk_of (game_of self.now.game)).points }
+    {
+        self.start
+    }
+
+    /// How many deals there are.
+    pub fn deal_count(&self) -> u32
+        ensures { result ≡ length (deals_of (game_of self.now.game)) }
+    {
+        self.deals
+    }
+
+    /// The weight of all deals.
+    pub fn weight(&self) -> u64
+        ensures { result ≡ total_weight (frame_of (game_of self.now.game)) }
+    {
+        self.weight
     }
 }

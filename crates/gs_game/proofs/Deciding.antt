@@ -1,0 +1,117 @@
+-- Which refusal comes first.
+use Rattle.std.proofs.Common.{◌≡◌, ℕ, ◌-◌, ◌*◌, ◌^◌, ◌<◌, ◌≤◌, min, true, false, List, [], ◌∷◌, map, length, refl, sym, ap, arith}
+use Rattle.std.specs.Prelude.{Option, Some, None, nat_lt, Result, Ok, Err, MatchResult}
+use Rattle.std.proofs.lemmas.Bool.{lt-ltb, le-ltb}
+use Rattle.gs_model.specs.Betting.{Bet}
+use Rattle.gs_model.specs.Frame.{trees_of}
+use Rattle.gs_model.specs.Game.{Round as RoundRules}
+use Rattle.gs_model.specs.Walk.{walk, walk_start}
+use Rattle.gs_game.specs.declared.faults.GameFault.{GameFault}
+use Rattle.gs_game.specs.declared.faults.GameFault.TheVariants as faults
+use Rattle.gs_game.specs.declared.game.Game.{Game}
+use Rattle.gs_game.specs.declared.game.Round.{Round}
+use Rattle.gs_game.specs.Answers.{Answers}
+use Rattle.gs_game.specs.Counts.{ends_in}
+use Rattle.gs_game.specs.Games.{round_of, game_of, plain_trees}
+use Rattle.gs_game.specs.Money.{first_of, most_in}
+use Rattle.gs_game.specs.Refusals.{Refusal, put_too_large, too_many_lines, greatest, no_even_from, uneven_from, even_refusal, uneven_refusal, put_refusal, lines_refusal, betting_refusal}
+use Rattle.gs_game.proofs.EndLaws.{rounds_count}
+
+-- a fault of the first test is the fault of both
+pub fault_first : (a b : Option Refusal) (f : GameFault) → Answers a f → Answers (first_of a b) f
+fault_first a b (faults.Rounds n) h = rw h refl
+fault_first a b faults.NoPrivate h = rw h refl
+fault_first a b (faults.RankingCards m n) h = rw h refl
+fault_first a b (faults.NotEnoughCards m n) h = rw h refl
+fault_first a b (faults.NoEven n) h = rw h refl
+fault_first a b (faults.Uneven n path) h = rw h refl
+fault_first a b (faults.PutTooLarge n) h = rw h refl
+fault_first a b (faults.TooManyLines n) h = rw h refl
+fault_first a b (faults.TooHeavy n) h = rw h refl
+fault_first a b (faults.TooManySignals n) h = rw h refl
+fault_first a b faults.TooManyDeals h = rw h refl
+fault_first a b faults.Memory h = tt
+
+-- a fault of the second test, where the first finds none
+pub fault_second : (a b : Option Refusal) (f : GameFault) → a ≡ None → Answers b f → Answers (first_of a b) f
+fault_second a b f e h = rw e h
+
+same_trees : (rs : List Round) → map (λ (r : RoundRules). r.tree) (map round_of rs) ≡ plain_trees rs
+same_trees [] = refl
+same_trees (r ∷ rs) = ap (λ (ts : List Bet). (round_of r).tree ∷ ts) (same_trees rs)
+
+pub trees_are : (g : Game) → trees_of (game_of g) ≡ plain_trees g.rounds.items
+trees_are g = same_trees g.rounds.items
+
+pub ends_are : (ante : ℕ) (ts : List Bet) → length (walk ante ts).ends ≡ ends_in ts
+ends_are ante ts = (rounds_count ts).ends_are (walk_start ante)
+
+pub lines_over : (g : Game) (n : ℕ) → n ≡ min (ends_in (plain_trees g.rounds.items)) (2 ^ 128 - 1) → 8192 < n → lines_refusal (game_of g) ≡ Some (too_many_lines n)
+unfolding lines_refusal
+lines_over g n is h =
+    let over : nat_lt 8192 (ends_in (plain_trees g.rounds.items)) ≡ true = lt-ltb _ _ (omega arith) in
+    rw (trees_are g, ends_are g.ante (plain_trees g.rounds.items), over) (rw is refl)
+
+pub lines_within : (g : Game) (n : ℕ) → n ≡ min (ends_in (plain_trees g.rounds.items)) (2 ^ 128 - 1) → n ≤ 8192 → lines_refusal (game_of g) ≡ None
+unfolding lines_refusal
+lines_within g n is h =
+    let within : nat_lt 8192 (ends_in (plain_trees g.rounds.items)) ≡ false = le-ltb _ _ (omega arith) in
+    rw (trees_are g, ends_are g.ante (plain_trees g.rounds.items), within) refl
+
+-- the chips that the put's refusal carries
+pub put_over : (g : Game) (most top : ℕ) → most_in (plain_trees g.rounds.items) g.ante g.ante ≡ most → top ≡ greatest g.bonus.items → 4096 < most * top
+    → put_refusal (game_of g) ≡ Some (put_too_large (most * top))
+unfolding put_refusal
+put_over g most top is so h = let over : nat_lt 4096 (most * top) ≡ true = lt-ltb _ _ h in rw (trees_are g, is, sym so, over) refl
+
+pub put_within : (g : Game) (most top : ℕ) → most_in (plain_trees g.rounds.items) g.ante g.ante ≡ most → top ≡ greatest g.bonus.items → most * top ≤ 4096
+    → put_refusal (game_of g) ≡ None
+unfolding put_refusal
+put_within g most top is so h = let within : nat_lt 4096 (most * top) ≡ false = le-ltb _ _ h in rw (trees_are g, is, sym so, within) refl
+
+-- ---- the refusals on betting, in order
+
+evens_fine : (g : Game) (rs : List Round) → rs ≡ g.rounds.items → no_even_from 1 (plain_trees rs) ≡ None → even_refusal (game_of g) ≡ None
+unfolding even_refusal
+evens_fine g rs e h = rw (trees_are g, sym e) h
+
+uneven_fine : (g : Game) (rs : List Round) → rs ≡ g.rounds.items → uneven_from 1 (plain_trees rs) ≡ None → uneven_refusal (game_of g) ≡ None
+unfolding uneven_refusal
+uneven_fine g rs e h = rw (trees_are g, sym e) h
+
+pub evens_fault : (g : Game) (rs : List Round) (f : GameFault) → rs ≡ g.rounds.items → Answers (no_even_from 1 (plain_trees rs)) f → Answers (betting_refusal (game_of g)) f
+unfolding betting_refusal even_refusal
+evens_fault g rs f e h = fault_first (even_refusal (game_of g)) _ f (rw (trees_are g, sym e) h)
+
+pub uneven_fault : (g : Game) (rs ss : List Round) (f : GameFault) → rs ≡ g.rounds.items → no_even_from 1 (plain_trees rs) ≡ None → ss ≡ g.rounds.items
+    → Answers (uneven_from 1 (plain_trees ss)) f → Answers (betting_refusal (game_of g)) f
+unfolding betting_refusal uneven_refusal
+uneven_fault g rs ss f d fine e h =
+    fault_second (even_refusal (game_of g)) _ f (evens_fine g rs d fine) (fault_first (uneven_refusal (game_of g)) _ f (rw (trees_are g, sym e) h))
+
+-- the trees are even
+pub record EvensPass (g : Game) : Type 0 where
+  pub evens : even_refusal (game_of g) ≡ None
+  pub uneven : uneven_refusal (game_of g) ≡ None
+
+pub evens_pass : (g : Game) (rs ss : List Round) → rs ≡ g.rounds.items → no_even_from 1 (plain_trees rs) ≡ None → ss ≡ g.rounds.items → uneven_from 1 (plain_trees ss) ≡ None → EvensPass g
+evens_pass g rs ss d fine e also = record { evens = evens_fine g rs d fine; uneven = uneven_fine g ss e also }
+
+pub put_fault : (g : Game) (f : GameFault) → EvensPass g → Answers (put_refusal (game_of g)) f → Answers (betting_refusal (game_of g)) f
+unfolding betting_refusal
+put_fault g f p h = fault_second (even_refusal (game_of g)) _ f p.evens (fault_second (uneven_refusal (game_of g)) _ f p.uneven (fault_first (put_refusal (game_of g)) _ f h))
+
+pub lines_fault : (g : Game) (f : GameFault) → EvensPass g → put_refusal (game_of g) ≡ None → Answers (lines_refusal (game_of g)) f → Answers (betting_refusal (game_of g)) f
+unfolding betting_refusal
+lines_fault g f p put h =
+    fault_second (even_refusal (game_of g)) _ f p.evens (fault_second (uneven_refusal (game_of g)) _ f p.uneven (fault_second (put_refusal (game_of g)) _ f put h))
+
+pub betting_fine : (g : Game) → EvensPass g → put_refusal (game_of g) ≡ None → lines_refusal (game_of g) ≡ None → betting_refusal (game_of g) ≡ None
+unfolding betting_refusal
+betting_fine g p put lines = rw (p.evens, p.uneven, put, lines) refl
+
+-- the last test decides
+pub lines_decide : (g : Game) (r : Result (Unit {0}) GameFault) → EvensPass g → put_refusal (game_of g) ≡ None
+    → MatchResult r (λ _. lines_refusal (game_of g) ≡ None) (Answers (lines_refusal (game_of g))) → MatchResult r (λ _. betting_refusal (game_of g) ≡ None) (Answers (betting_refusal (game_of g)))
+lines_decide g (Ok x) p put h = betting_fine g p put h
+lines_decide g (Err f) p put h = lines_fault g f p put h

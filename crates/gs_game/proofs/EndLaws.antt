@@ -1,0 +1,62 @@
+-- Counting ends: as far as a cap holds them, and as the walk has them.
+use Rattle.std.proofs.Common.{◌≡◌, ℕ, ◌+◌, min, List, [], ◌∷◌, length, refl, arith, length-append}
+use Rattle.gs_model.specs.Betting.{Bet, Moves, act, fold, even, none, move}
+use Rattle.gs_model.specs.Walk.{Place, Walked, after_move, walk_tree, walk_moves, walk_rounds}
+use Rattle.gs_game.specs.Counts.{ends_of, move_ends, ends_in, points_of, move_points, points_in}
+
+mutual
+  capped : (cap n : ℕ) (t : Bet) → min (ends_of (min n cap) t) cap ≡ min (ends_of n t) cap
+  capped cap n (act player ms) = capped_moves cap n ms
+  capped cap n fold = refl
+  capped cap n even = omega arith
+
+  capped_moves : (cap n : ℕ) (ms : Moves) → min (move_ends (min n cap) ms) cap ≡ min (move_ends n ms) cap
+  capped_moves cap n none = refl
+  capped_moves cap n (move letter chips next ms) = omega (arith, capped cap n next, capped_moves cap n ms)
+
+pub cap_rest : (cap n more : ℕ) (t : Bet) → more ≡ min n cap → min (ends_of more t) cap ≡ min (ends_of n t) cap
+cap_rest cap n more t e = rw e (capped cap n t)
+
+-- ---- as the walk has them
+
+pub record HasCounts (go_on : Place → Walked) (points ends : ℕ) : Type 0 where
+  pub ends_are : (p : Place) → length (go_on p).ends ≡ ends
+  pub points_are : (p : Place) → length (go_on p).points ≡ points
+
+mutual
+  pub tree_ends : (t : Bet) (go_on : Place → Walked) (points ends : ℕ) → HasCounts go_on points ends → (p : Place) → length (walk_tree go_on t p).ends ≡ ends_of ends t
+  tree_ends (act player ms) g m n h p = moves_ends ms g m n h player p.point 0 (record p { point = p.point + 1 })
+  tree_ends fold g m n h p = refl
+  tree_ends even g m n h p = h.ends_are p
+
+  moves_ends : (ms : Moves) (go_on : Place → Walked) (points ends : ℕ) → HasCounts go_on points ends → (player point choice : ℕ) (p : Place)
+      → length (walk_moves go_on ms player point choice p).walked.ends ≡ move_ends ends ms
+  moves_ends none g m n h player point choice p = refl
+  moves_ends (move letter chips next ms) g m n h player point choice p =
+      let here = after_move player point choice chips p in
+      let first = walk_tree g next here in
+      let there : Place = record p { point = p.point + length first.points; end = p.end + length first.ends } in
+      omega (arith, length-append first.ends (walk_moves g ms player point (choice + 1) there).walked.ends, tree_ends next g m n h here, moves_ends ms g m n h player point (choice + 1) there)
+
+mutual
+  pub tree_points : (t : Bet) (go_on : Place → Walked) (points ends : ℕ) → HasCounts go_on points ends → (p : Place) → length (walk_tree go_on t p).points ≡ points_of points t
+  tree_points (act player ms) g m n h p = let e = moves_points ms g m n h player p.point 0 (record p { point = p.point + 1 }) in omega (arith, e)
+  tree_points fold g m n h p = refl
+  tree_points even g m n h p = h.points_are p
+
+  moves_points : (ms : Moves) (go_on : Place → Walked) (points ends : ℕ) → HasCounts go_on points ends → (player point choice : ℕ) (p : Place)
+      → length (walk_moves go_on ms player point choice p).walked.points ≡ move_points points ms
+  moves_points none g m n h player point choice p = refl
+  moves_points (move letter chips next ms) g m n h player point choice p =
+      let here = after_move player point choice chips p in
+      let first = walk_tree g next here in
+      let there : Place = record p { point = p.point + length first.points; end = p.end + length first.ends } in
+      omega (arith, length-append first.points (walk_moves g ms player point (choice + 1) there).walked.points, tree_points next g m n h here, moves_points ms g m n h player point (choice + 1) there)
+
+pub rounds_count : (ts : List Bet) → HasCounts (walk_rounds ts) (points_in ts) (ends_in ts)
+rounds_count [] = record { ends_are = λ p. refl; points_are = λ p. refl }
+rounds_count (t ∷ ts) =
+    record {
+      ends_are = λ p. tree_ends t (walk_rounds ts) (points_in ts) (ends_in ts) (rounds_count ts) (record p { round = p.round + 1 });
+      points_are = λ p. tree_points t (walk_rounds ts) (points_in ts) (ends_in ts) (rounds_count ts) (record p { round = p.round + 1 });
+    }

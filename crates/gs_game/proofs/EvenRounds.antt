@@ -1,0 +1,89 @@
+-- Each round before the last goes on, so no round has fewer points or ends than those behind it.
+use Rattle.std.proofs.Common.{◌≡◌, ℕ, ◌+◌, ◌<◌, ◌≤◌, ◌^◌, true, List, [], ◌∷◌, refl, inl, inr, arith}
+use Rattle.std.specs.Prelude.{Option, Some, None}
+use Rattle.std.proofs.lemmas.Bool.{cases_Bool, or_cases}
+use Rattle.gs_model.specs.Betting.{Bet, Moves, act, fold, even, none, move}
+use Rattle.gs_game.specs.Counts.{points_of, ends_of, move_points, move_ends, points_in, ends_in}
+use Rattle.gs_game.specs.Lines.{RoundsFollow, TreeFollows, MovesFollow}
+use Rattle.gs_game.specs.Money.{has_even, any_even}
+use Rattle.gs_game.specs.Refusals.{no_even, no_even_from}
+
+abbrev some : {A : Type 0} → A → Option A
+some x = Some x
+
+some_none : {A : Type 0} (x : A) → some x ≡ None → ⊥
+some_none x h = cc
+
+mutual
+  more-points : (t : Bet) (n : ℕ) → has_even t ≡ true → n ≤ points_of n t
+  more-points (act player ms) n h = let r = more-move-points ms n h in omega (arith, r)
+  more-points fold n h = absurd cc
+  more-points even n h = omega arith
+
+  more-move-points : (ms : Moves) (n : ℕ) → any_even ms ≡ true → n ≤ move_points n ms
+  more-move-points none n h = absurd cc
+  more-move-points (move l c t ms) n h = elim (or_cases (has_even t) (any_even ms) h) [
+    | inl here ↦ let r = more-points t n here in omega (arith, r)
+    | inr there ↦ let r = more-move-points ms n there in omega (arith, r)
+  ]
+
+mutual
+  more-ends : (t : Bet) (n : ℕ) → has_even t ≡ true → n ≤ ends_of n t
+  more-ends (act player ms) n h = more-move-ends ms n h
+  more-ends fold n h = absurd cc
+  more-ends even n h = omega arith
+
+  more-move-ends : (ms : Moves) (n : ℕ) → any_even ms ≡ true → n ≤ move_ends n ms
+  more-move-ends none n h = absurd cc
+  more-move-ends (move l c t ms) n h = elim (or_cases (has_even t) (any_even ms) h) [
+    | inl here ↦ let r = more-ends t n here in omega (arith, r)
+    | inr there ↦ let r = more-move-ends ms n there in omega (arith, r)
+  ]
+
+-- the first of several rounds has an even leaf, and the others go on
+goes-on : (n : ℕ) (t u : Bet) (ts : List Bet) → no_even_from n (t ∷ u ∷ ts) ≡ None → (has_even t ≡ true) × (no_even_from (n + 1) (u ∷ ts) ≡ None)
+goes-on n t u ts h = elim (cases_Bool (has_even t)) [
+  | inl e ↦ (e, rw e at h)
+  | inr e ↦ absurd (some_none (no_even n) (rw e at h))
+]
+
+from-any : (n m : ℕ) (ts : List Bet) → no_even_from n ts ≡ None → no_even_from m ts ≡ None
+from-any n m [] h = refl
+from-any n m (t ∷ []) h = refl
+from-any n m (t ∷ u ∷ ts) h = let g = goes-on n t u ts h in rw g.0 (from-any (n + 1) (m + 1) (u ∷ ts) g.1)
+
+-- what holds of the rounds behind the first
+pub record Behind (ts : List Bet) (points ends : ℕ) : Type 0 where
+  pub evens : no_even_from 1 ts ≡ None
+  pub points_in_them : points_in ts < 2 ^ 32
+  pub ends_in_them : ends_in ts < 2 ^ 32
+
+pub behind_first : (t : Bet) (ts : List Bet) (points ends : ℕ) → RoundsFollow (t ∷ ts) points ends → Behind ts points ends
+behind_first t [] points ends h = record { evens = refl; points_in_them = omega arith; ends_in_them = omega arith }
+behind_first t (u ∷ ts) points ends h =
+    let g = goes-on 1 t u ts h.evens in
+    record {
+      evens = from-any 2 1 (u ∷ ts) g.1;
+      points_in_them = omega (arith, h.few_points, more-points t (points_in (u ∷ ts)) g.0);
+      ends_in_them = omega (arith, h.few_ends, more-ends t (ends_in (u ∷ ts)) g.0);
+    }
+
+pub first_follows : (t : Bet) (ts : List Bet) (points ends : ℕ) → RoundsFollow (t ∷ ts) points ends → TreeFollows ts t points ends
+first_follows t ts points ends h = record { evens = (behind_first t ts points ends h).evens; few_points = h.few_points; few_ends = h.few_ends }
+
+pub even_follows : (ts : List Bet) (points ends : ℕ) → TreeFollows ts even points ends → RoundsFollow ts points ends
+even_follows ts points ends h = record { evens = h.evens; few_points = h.few_points; few_ends = h.few_ends }
+
+pub moves_follow : (ts : List Bet) (player points ends : ℕ) (ms : Moves) → TreeFollows ts (act player ms) points ends → MovesFollow ts ms (points + 1) ends
+moves_follow ts player points ends ms h = record { evens = h.evens; few_points = omega (arith, h.few_points); few_ends = h.few_ends }
+
+pub move_follows : (ts : List Bet) (points ends letter chips : ℕ) (t : Bet) (ms all : Moves) → MovesFollow ts all points ends → all ≡ move letter chips t ms → TreeFollows ts t points ends
+move_follows ts points ends letter chips t ms all h e =
+    let h' : MovesFollow ts (move letter chips t ms) points ends = rw e at h in
+    record { evens = h'.evens; few_points = omega (arith, h'.few_points); few_ends = omega (arith, h'.few_ends) }
+
+pub others_follow : (ts : List Bet) (points ends points' ends' letter chips : ℕ) (t : Bet) (ms all : Moves) → MovesFollow ts all points ends → all ≡ move letter chips t ms
+    → points' ≡ points + points_of (points_in ts) t → ends' ≡ ends + ends_of (ends_in ts) t → MovesFollow ts ms points' ends'
+others_follow ts points ends points' ends' letter chips t ms all h e f g =
+    let h' : MovesFollow ts (move letter chips t ms) points ends = rw e at h in
+    record { evens = h'.evens; few_points = omega (arith, f, h'.few_points); few_ends = omega (arith, g, h'.few_ends) }

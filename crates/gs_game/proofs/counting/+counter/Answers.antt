@@ -1,0 +1,36 @@
+use Rattle.std.proofs.Common.{◌<◌, ◌-◌, ◌∙◌, ℕ, refl, sym, ap, min, length, slice_index, get_or, arith}
+use Rattle.gs_game.proofs.CountSteps.{with_card, rest_more, rest_all, next_group, restored}
+use Rattle.gs_game.proofs.RoundSteps.{split_number}
+use Rattle.gs_game.proofs.counting.+counter.Goals as goal
+
+pub count_with-returns-clause-count : goal.count_with-returns-clause-count
+count_with-returns-clause-count t c =
+    let some : 0 < slice_index c.args.left.now c.args.card = omega (arith, c.if-left-card-eq0.false) in
+    c.count_from-count.ensures.count ∙ ap (λ (n : ℕ). min n c.args.cap) (sym (with_card c.args.later.now c.args.left.now _ c.args.size c.args.card some refl))
+
+pub count_with-returns-clause-kept : goal.count_with-returns-clause-kept
+count_with-returns-clause-kept t c =
+    let some : 0 < slice_index c.args.left.now c.args.card = omega (arith, c.if-left-card-eq0.false) in
+    restored c.args.left.now c.count_from-count.new.left c.args.card c.requires some c.count_from-count.ensures.kept
+
+pub count_from-returns-then-total-cap-clause-count : goal.count_from-returns-then-total-cap-clause-count
+count_from-returns-then-total-cap-clause-count t c =
+    let all = rest_all c.args.later.now c.args.left.now c.args.size c.args.least (omega arith) in
+    let more = rest_more c.args.later.now c.args.left.now (c.args.size - 1) c.loop-card.card (omega (arith, ap length c.loop-card.invariant.kept)) in
+    let here = rw c.loop-card.invariant.kept at c.count_with-total.ensures.count in
+    omega (arith, all, more, here, c.loop-card.invariant.rest)
+
+pub count_from-loop-card-preserved : goal.count_from-loop-card-preserved
+count_from-loop-card-preserved t c =
+    let more = rest_more c.args.later.now c.args.left.now (c.args.size - 1) c.loop-card.card (omega (arith, ap length c.loop-card.invariant.kept)) in
+    let here = rw c.loop-card.invariant.kept at c.count_with-total.ensures.count in
+    record {
+      rest = omega (arith, more, here, c.loop-card.invariant.rest, c.loop-card.invariant.small);
+      kept = c.count_with-total.ensures.kept ∙ c.loop-card.invariant.kept;
+      small = omega (arith, here, c.loop-card.invariant.small);
+    }
+
+pub count_from-returns-in-len1-up-clause-count : goal.count_from-returns-in-len1-up-clause-count
+count_from-returns-in-len1-up-clause-count t c =
+    c.count_from.ensures.count
+    ∙ ap (λ (n : ℕ). min n c.args.cap) (sym (next_group c.args.later.now _ c.args.left.now c.args.least c.args.size (get_or c.args.later.now 0 0) c.if-size-eq0.true (split_number c.args.later.now c.in-len1-up.len_at_least)))

@@ -1,0 +1,20 @@
+use Rattle.std.proofs.Common.{◌≡◌, ◌∙◌, arith}
+use Rattle.gs_model.specs.Betting.{act}
+use Rattle.gs_bet.specs.TreeView.{plain, plain_moves}
+use Rattle.gs_bet.specs.declared.shape.Act.{out-Act}
+use Rattle.gs_bet.proofs.TreeLaws.{plain-act, plain_act-out}
+use Rattle.gs_game.proofs.TreeSteps.{moves_step}
+use Rattle.gs_game.proofs.lines.+numbers_below.Goals as goal
+
+pub loop-next-init : goal.loop-next-init
+loop-next-init t c =
+    let is_act : plain c.args.tree.now ≡ act (out-Act c.in-Act.act).player (plain_moves c.deref-next-items.result.now) = rw (c.in-Act.is, c.deref-next-items.ensures.value) (plain-act c.in-Act.act ∙ plain_act-out c.in-Act.act) in
+    record { points = rw is_act (omega arith); ends = rw is_act (omega arith); falls = rw is_act (omega arith) }
+
+pub numbers_below-below-requires : goal.numbers_below-below-requires
+numbers_below-below-requires t c =
+    let step = moves_step c.deref-next-items.result.now c.loop-next.next-index c.next-item.result c.loop-next-test.true c.next-item.is in
+    let fallen = rw step at c.loop-next.invariant.falls in
+    let points = rw step at c.loop-next.invariant.points in
+    let ends = rw step at c.loop-next.invariant.ends in
+    (omega (arith, fallen, c.decreases), (omega (arith, points, c.requires.points), omega (arith, ends, c.requires.ends)))

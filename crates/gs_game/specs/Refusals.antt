@@ -1,0 +1,120 @@
+-- Which refusal a game meets, in order. Source: this project's game files.
+use Rattle.std.specs.Prelude.{ℕ, zero, suc, ◌+◌, ◌-◌, ◌*◌, ◌^◌, ◌==◌, ◌&&◌, Bool, min, max, List, [], ◌∷◌, length, sum, sum_by, nat_lt, nat_le, Option, Some, None, if◌then◌else◌, option_map}
+use Rattle.gs_model.specs.Betting.{Bet}
+use Rattle.gs_model.specs.Deals.{deals}
+use Rattle.gs_model.specs.Frame.{frame_of, total_weight, trees_of}
+use Rattle.gs_model.specs.Game.{Game, Round, Ranking, High, Pair, Three, round_count, round_at}
+use Rattle.gs_model.specs.Signals.{signals}
+use Rattle.gs_model.specs.Walk.{walk}
+use Rattle.gs_game.specs.Money.{first_of, has_even, uneven_path, most_in}
+
+pub data Refusal : Type 0 where
+  rounds : ℕ → Refusal
+  no_private : Refusal
+  ranking_cards : ℕ → ℕ → Refusal
+  not_enough_cards : ℕ → ℕ → Refusal
+  no_even : ℕ → Refusal
+  uneven : ℕ → List ℕ → Refusal
+  put_too_large : ℕ → Refusal
+  too_many_lines : ℕ → Refusal
+  too_heavy : ℕ → Refusal
+  too_many_signals : ℕ → Refusal
+  too_many_deals : Refusal
+
+-- ---- cards
+
+-- one player's own cards, and the public cards, over all rounds
+abbrev pub own_cards : List Round → ℕ
+own_cards rs = sum_by (λ (r : Round). r.private) rs
+
+abbrev pub public_cards : List Round → ℕ
+public_cards rs = sum_by (λ (r : Round). r.public) rs
+
+-- whether a ranking can rank hands of so many own cards, and so many with the public ones
+abbrev pub ranks : Ranking → ℕ → ℕ → Bool
+ranks High own all = own == 1
+ranks Pair own all = own == 1
+ranks Three own all = all == 3
+
+unfoldable pub rounds_refusal : Game → Option Refusal
+rounds_refusal g = if nat_le 1 (round_count g) && nat_le (round_count g) 4 then None else Some (rounds (round_count g))
+
+unfoldable pub private_refusal : Game → Option Refusal
+private_refusal g = if (round_at g 1).private == 0 then Some no_private else None
+
+unfoldable pub ranking_refusal : Game → Option Refusal
+ranking_refusal g =
+    let own = own_cards g.rounds in
+    let all = own_cards g.rounds + public_cards g.rounds in
+    if ranks g.ranking own all then None else Some (ranking_cards own all)
+
+-- both players' cards and the public ones against all copies
+unfoldable pub copies_refusal : Game → Option Refusal
+copies_refusal g =
+    let need = 2 * own_cards g.rounds + public_cards g.rounds in
+    if nat_lt (sum g.copies) need then Some (not_enough_cards need (sum g.copies)) else None
+
+unfoldable pub card_refusal : Game → Option Refusal
+card_refusal g = first_of (rounds_refusal g) (first_of (private_refusal g) (first_of (ranking_refusal g) (copies_refusal g)))
+
+-- ---- betting
+
+-- the first tree before the last that has no even leaf; trees are numbered from the given round on
+abbrev pub no_even_from : ℕ → List Bet → Option Refusal
+no_even_from round [] = None
+no_even_from round (t ∷ []) = None
+no_even_from round (t ∷ u ∷ ts) = if has_even t then no_even_from (round + 1) (u ∷ ts) else Some (no_even round)
+
+-- the first even leaf, by round and then in tree order, where the two have put different amounts in the round
+abbrev pub uneven_from : ℕ → List Bet → Option Refusal
+uneven_from round [] = None
+uneven_from round (t ∷ ts) = first_of (option_map (uneven round) (uneven_path [] 0 0 t)) (uneven_from (round + 1) ts)
+
+abbrev pub greatest : List ℕ → ℕ
+greatest [] = 0
+greatest (x ∷ xs) = max x (greatest xs)
+
+unfoldable pub even_refusal : Game → Option Refusal
+even_refusal g = no_even_from 1 (trees_of g)
+
+unfoldable pub uneven_refusal : Game → Option Refusal
+uneven_refusal g = uneven_from 1 (trees_of g)
+
+-- the most that one player has put at any end, ante included, times the greatest bonus
+unfoldable pub put_refusal : Game → Option Refusal
+put_refusal g =
+    let chips = most_in (trees_of g) g.ante g.ante * greatest g.bonus in
+    if nat_lt 4096 chips then Some (put_too_large chips) else None
+
+-- the number of ends, as far as 128 bits hold it
+unfoldable pub lines_refusal : Game → Option Refusal
+lines_refusal g =
+    let ends = length (walk g.ante (trees_of g)).ends in
+    if nat_lt 8192 ends then Some (too_many_lines (min ends (2 ^ 128 - 1))) else None
+
+unfoldable pub betting_refusal : Game → Option Refusal
+betting_refusal g = first_of (even_refusal g) (first_of (uneven_refusal g) (first_of (put_refusal g) (lines_refusal g)))
+
+-- ---- deals
+
+unfoldable pub weight_refusal : Game → Option Refusal
+weight_refusal g = if nat_lt 67108864 (total_weight (frame_of g)) then Some (too_heavy (total_weight (frame_of g))) else None
+
+-- the first of so many rounds, from the given one on, that has more than 200,000 raw signals
+abbrev pub signals_from : Game → ℕ → ℕ → Option Refusal
+signals_from g zero round = None
+signals_from g (suc left) round = if nat_lt 200000 (length (signals g round)) then Some (too_many_signals round) else signals_from g left (round + 1)
+
+unfoldable pub signals_refusal : Game → Option Refusal
+signals_refusal g = signals_from g (round_count g) 1
+
+unfoldable pub deals_refusal : Game → Option Refusal
+deals_refusal g = if nat_lt 8000000 (length (deals g)) then Some too_many_deals else None
+
+unfoldable pub deal_refusal : Game → Option Refusal
+deal_refusal g = first_of (weight_refusal g) (first_of (signals_refusal g) (deals_refusal g))
+
+-- ---- the first that applies
+
+unfoldable pub first_refusal : Game → Option Refusal
+first_refusal g = first_of (card_refusal g) (first_of (betting_refusal g) (deal_refusal g))

@@ -1,0 +1,44 @@
+-- Points and ends of the program, as the walk of the betting trees has them.
+use Rattle.std.specs.Prelude.{ℕ, List, map, Option, option_map, ◌==◌, if◌then◌else◌}
+use Rattle.gs_model.specs.Positions.{Step, Target, at_point, at_end, Arrow, Point, EndKind, End}
+use Rattle.gs_model.specs.Positions as model
+use Rattle.gs_game.specs.declared.positions.Step.{Step as StoredStep}
+use Rattle.gs_game.specs.declared.positions.Target.{Target as StoredTarget}
+use Rattle.gs_game.specs.declared.positions.Target.TheVariants as targets
+use Rattle.gs_game.specs.declared.positions.Arrow.{Arrow as StoredArrow}
+use Rattle.gs_game.specs.declared.positions.Point.{Point as StoredPoint}
+use Rattle.gs_game.specs.declared.positions.EndKind.{EndKind as StoredKind}
+use Rattle.gs_game.specs.declared.positions.EndKind.TheVariants as kinds
+use Rattle.gs_game.specs.declared.positions.End.{End as StoredEnd}
+
+abbrev pub step_of : StoredStep → Step
+step_of s = record { point = s.point; choice = s.choice }
+
+abbrev pub target_of : StoredTarget → Target
+target_of (targets.Point q) = at_point q
+target_of (targets.End z) = at_end z
+
+abbrev pub arrow_of : StoredArrow → Arrow
+arrow_of a = record { letter = a.letter; to = target_of a.to }
+
+-- a point with its own player's last step alone
+pub record OwnPoint : Type 0 where
+  pub player : ℕ
+  pub round : ℕ
+  pub own : Option Step
+  pub moves : List Arrow
+
+-- what a player knows of his last step at a point of the walk
+abbrev pub own_point : Point → OwnPoint
+own_point p = record { player = p.player; round = p.round; own = if p.player == 1 then p.one else p.two; moves = p.moves }
+
+abbrev pub point_of : StoredPoint → OwnPoint
+point_of p = record { player = p.player; round = p.round; own = option_map step_of p.own; moves = map arrow_of p.moves.items }
+
+abbrev pub kind_of : StoredKind → EndKind
+kind_of kinds.Folded1 = model.Folded1
+kind_of kinds.Folded2 = model.Folded2
+kind_of kinds.Show = model.Show
+
+abbrev pub end_of : StoredEnd → End
+end_of z = record { round = z.round; kind = kind_of z.kind; put = z.put; one = option_map step_of z.one; two = option_map step_of z.two }

@@ -1,0 +1,145 @@
+//! The refusals on a game's betting.
+
+ghost use Rattle.std.specs.Prelude.{◌≡◌, ◌≤◌, ◌<◌, ◌+◌, ◌-◌, ◌*◌, ◌^◌, ℕ, None, MatchResult, All, length, min};
+ghost use Rattle.gs_bet.specs.TreeView.{plain};
+ghost use Rattle.gs_game.specs.Answers.{Answers};
+ghost use Rattle.gs_game.specs.Counts.{ends_in, ends_of};
+ghost use Rattle.gs_game.specs.Games.{game_of, plain_trees};
+ghost use Rattle.gs_game.specs.Money.{most_in};
+ghost use Rattle.gs_game.specs.Refusals.{betting_refusal, greatest, lines_refusal, no_even_from, put_refusal, uneven_from};
+
+use crate::faults::GameFault;
+use crate::game::{Game, Round};
+use crate::money::{Put, find_uneven, has_even, most_above};
+use gs_bet::Tree;
+use std::alloc::Global;
+
+/// Whether each of these trees but the last has an even leaf. The first of them is of the round of this number.
+fn check_evens(rounds: &[Round], number: u8) -> Result<(), GameFault>
+    requires { number + length rounds.now ≤ 5 }
+    ensures { MatchResult result (λ _. no_even_from number (plain_trees rounds.now) ≡ None) (Answers (no_even_from number (plain_trees rounds.now))) }
+{
+    match rounds {
+        [first, rest @ ..] if !rest.is_empty() => {
+            if !has_even(&first.tree.tree) {
+                return Err(GameFault::NoEven { round: number });
+            }
+            check_evens(rest, number + 1)
+        }
+        _ => Ok(()),
+    }
+}
+
+/// Whether the players have put the same at each even leaf of these trees. The first of them is of the round of this number.
+fn check_uneven(alloc: Global, rounds: &[Round], number: u8) -> Result<(), GameFault>
+    requires { number + length rounds.now ≤ 5 }
+    ensures { MatchResult result (λ _. uneven_from number (plain_trees rounds.now) ≡ None) (Answers (uneven_from number (plain_trees rounds.now))) }
+{
+    match rounds {
+        [first, rest @ ..] => {
+            let mut path = Vec::new(alloc);
+            if find_uneven(&first.tree.tree, Put { one: 0, two: 0 }, &mut path)? {
+                return Err(GameFault::Uneven {
+                    round: number,
+                    path,
+                });
+            }
+            check_uneven(alloc, rest, number + 1)
+        }
+        [] => Ok(()),
+    }
+}
+
+/// The most that one player puts in these rounds.
+fn most_put(rounds: &[Round]) -> u32
+    requires few { length rounds.now ≤ 4 }
+    requires even { uneven_from 1 (plain_trees rounds.now) ≡ None }
+    ensures most { (before : ℕ) → most_in (plain_trees rounds.now) before before ≡ before + result }
+    ensures small { result ≤ length rounds.now * 2 ^ 24 }
+{
+    match rounds {
+        [first, rest @ ..] => most_above(&first.tree.tree, Put { one: 0, two: 0 }, most_put(rest)),
+        [] => 0,
+    }
+}
+
+/// The ends below a tree, where so many follow an even leaf, as far as 128 bits hold their number.
+fn count_ends(tree: &Tree, more: u128) -> u128
+    ensures { result ≡ min (ends_of more (plain tree.now)) (2 ^ 128 - 1) }
+{
+    match tree {
+        Tree::Act(act) => {
+            let mut ends: u128 = 0;
+            for next in &act.moves {
+                ends = ends.saturating_add(count_ends(&next.next, more));
+            }
+            ends
+        }
+        Tree::Fold => 1,
+        Tree::Even => more,
+    }
+}
+
+/// The ends of these rounds, as far as 128 bits hold their number.
+fn count_lines(rounds: &[Round]) -> u128
+    ensures { result ≡ min (ends_in (plain_trees rounds.now)) (2 ^ 128 - 1) }
+{
+    match rounds {
+        [first, rest @ ..] => count_ends(&first.tree.tree, count_lines(rest)),
+        [] => 1,
+    }
+}
+
+/// The greatest bonus.
+fn greatest_bonus(bonus: &[u8]) -> u8
+    ensures { result ≡ greatest bonus.now }
+{
+    let mut most = 0;
+    for one in bonus {
+        most = most.max(*one);
+    }
+    most
+}
+
+/// Whether what one player puts, times the greatest bonus, is small enough.
+#[tactic(auto, unfolding(crate::specs::Refusals::put_refusal))]
+fn check_put(game: &Game) -> Result<(), GameFault>
+    requires few { length game.now.rounds.items ≤ 4 }
+    requires ante { game.now.ante ≤ 4096 }
+    requires bonus { greatest game.now.bonus.items ≤ 9 }
+    requires even { uneven_from 1 (plain_trees game.now.rounds.items) ≡ None }
+    ensures { MatchResult result (λ _. put_refusal (game_of game.now) ≡ None) (Answers (put_refusal (game_of game.now))) }
+{
+    let most = u32::from(game.ante) + most_put(&game.rounds);
+    let chips = most * u32::from(greatest_bonus(&game.bonus));
+    if chips > 4096 {
+        return Err(GameFault::PutTooLarge { chips });
+    }
+    Ok(())
+}
+
+/// Whether the ends are few enough.
+#[tactic(auto, unfolding(crate::specs::Refusals::lines_refusal))]
+fn check_lines(game: &Game) -> Result<(), GameFault>
+    ensures { MatchResult result (λ _. lines_refusal (game_of game.now) ≡ None) (Answers (lines_refusal (game_of game.now))) }
+{
+    let count = count_lines(&game.rounds);
+    if count > 8192 {
+        return Err(GameFault::TooManyLines { count });
+    }
+    Ok(())
+}
+
+/// Whether the game's betting is as it has to be.
+#[tactic(auto, unfolding(crate::specs::Refusals::betting_refusal, crate::specs::Refusals::even_refusal, crate::specs::Refusals::uneven_refusal))]
+pub fn check_betting(alloc: Global, game: &Game) -> Result<(), GameFault>
+    requires few { length game.now.rounds.items ≤ 4 }
+    requires ante { game.now.ante ≤ 4096 }
+    requires bonus { greatest game.now.bonus.items ≤ 9 }
+    ensures { MatchResult result (λ _. betting_refusal (game_of game.now) ≡ None) (Answers (betting_refusal (game_of game.now))) }
+{
+    check_evens(&game.rounds, 1)?;
+    check_uneven(alloc, &game.rounds, 1)?;
+    check_put(game)?;
+    check_lines(game)
+}

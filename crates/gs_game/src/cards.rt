@@ -1,0 +1,90 @@
+//! The refusals on a game's cards.
+
+ghost use Rattle.std.specs.Prelude.{◌≡◌, ◌≤◌, ◌*◌, None, MatchResult, All, length, sum, sum_by};
+ghost use Rattle.gs_card.specs.Rankings.{ranking_of};
+ghost use Rattle.gs_game.specs.Answers.{Answers};
+ghost use Rattle.gs_game.specs.Games.{HasFewCards, game_of};
+ghost use Rattle.gs_game.specs.Refusals.{card_refusal, ranks};
+
+use crate::faults::GameFault;
+use crate::game::{Game, Round};
+use gs_card::Ranking;
+
+/// One player's own cards over all rounds.
+fn own_cards(rounds: &[Round]) -> u8
+    requires few { length rounds.now ≤ 4 }
+    requires cards { All HasFewCards rounds.now }
+    ensures own { result ≡ sum_by (λ r. r.private) rounds.now }
+    ensures small { result ≤ 8 }
+{
+    let mut own = 0;
+    for round in rounds {
+        own += round.private;
+    }
+    own
+}
+
+/// The public cards over all rounds.
+fn public_cards(rounds: &[Round]) -> u8
+    requires few { length rounds.now ≤ 4 }
+    requires cards { All HasFewCards rounds.now }
+    ensures public { result ≡ sum_by (λ r. r.public) rounds.now }
+    ensures small { result ≤ 12 }
+{
+    let mut public = 0;
+    for round in rounds {
+        public += round.public;
+    }
+    public
+}
+
+/// All copies of all kinds.
+pub fn all_copies(counts: &[u8]) -> u32
+    requires { length counts.now ≤ 52 }
+    ensures { result ≡ sum counts.now }
+{
+    let mut all = 0;
+    for count in counts {
+        all += u32::from(*count);
+    }
+    all
+}
+
+/// Whether the ranking can rank hands of so many own cards, and so many with the public ones.
+fn ranks(ranking: Ranking, own: u8, all: u8) -> bool
+    ensures { result ≡ ranks (ranking_of ranking) own all }
+{
+    match ranking {
+        Ranking::High | Ranking::Pair => own == 1,
+        Ranking::Three => all == 3,
+    }
+}
+
+/// Whether the game's cards are as they have to be.
+#[tactic(auto, unfolding(crate::specs::Refusals::card_refusal, crate::specs::Refusals::rounds_refusal, crate::specs::Refusals::private_refusal, crate::specs::Refusals::ranking_refusal, crate::specs::Refusals::copies_refusal))]
+pub fn check_cards(game: &Game) -> Result<(), GameFault>
+    requires { All HasFewCards game.now.rounds.items }
+    ensures { MatchResult result (λ _. card_refusal (game_of game.now) ≡ None) (Answers (card_refusal (game_of game.now))) }
+{
+    let count = game.rounds.len();
+    if count == 0 || count > 4 {
+        return Err(GameFault::Rounds {
+            count: count as u64,
+        });
+    }
+    if game.rounds[0].private == 0 {
+        return Err(GameFault::NoPrivate);
+    }
+    let own = own_cards(&game.rounds);
+    let public = public_cards(&game.rounds);
+    let all = own + public;
+    if !ranks(game.ranking, own, all) {
+        return Err(GameFault::RankingCards { own, all });
+    }
+    let need = 2 * u32::from(own) + u32::from(public);
+    let have = all_copies(game.deck.counts());
+    if have < need {
+        return Err(GameFault::NotEnoughCards { need, have });
+    }
+    Ok(())
+}

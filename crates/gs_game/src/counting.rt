@@ -1,0 +1,52 @@
+//! Counting sequences of groups of cards.
+
+ghost use Rattle.std.specs.Prelude.{◌≡◌, ◌≤◌, ◌<◌, min, length, sum_by};
+ghost use Rattle.gs_model.specs.Cards.{groups_above, groups_with, left_after};
+ghost use Rattle.gs_game.specs.Sequences.{count_sequences};
+
+/// How many sequences there are of a group of `size` cards of the kinds from `least` on and groups of the later sizes, as far as `cap`.
+#[cycle(counter)]
+fn count_from(left: &mut [u8], least: usize, size: u8, later: &[u8], cap: u64) -> u64
+    requires { least ≤ length left.old }
+    ensures count { result ≡ min (sum_by (λ g. count_sequences (left_after left.old g) later.now) (groups_above size left.old least)) cap }
+    ensures kept { left.new ≡ left.old }
+{
+    if size == 0 {
+        return match later {
+            [next, rest @ ..] => count_from(left, 0, *next, rest, cap),
+            [] => cap.min(1),
+        };
+    }
+    let mut total = 0;
+    for card in least..left.len() {
+        total += count_with(left, card, size - 1, later, cap - total);
+        if total >= cap {
+            return cap;
+        }
+    }
+    total
+}
+
+/// The same where the first card of the group is given, and `size` others follow.
+#[cycle(counter)]
+fn count_with(left: &mut [u8], card: usize, size: u8, later: &[u8], cap: u64) -> u64
+    requires { card < length left.old }
+    ensures count { result ≡ min (sum_by (λ g. count_sequences (left_after left.old g) later.now) (groups_with (groups_above size) left.old card)) cap }
+    ensures kept { left.new ≡ left.old }
+{
+    if left[card] == 0 {
+        return 0;
+    }
+    left[card] -= 1;
+    let count = count_from(left, card, size, later, cap);
+    left[card] += 1;
+    count
+}
+
+/// How many sequences of groups of these sizes there are, as far as `cap`.
+pub fn count_sequences(left: &mut [u8], sizes: &[u8], cap: u64) -> u64
+    ensures count { result ≡ min (count_sequences left.old sizes.now) cap }
+    ensures kept { left.new ≡ left.old }
+{
+    count_from(left, 0, 0, sizes, cap)
+}

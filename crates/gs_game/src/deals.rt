@@ -1,0 +1,140 @@
+//! The refusals on a game's signals and deals.
+
+ghost use Rattle.std.specs.Prelude.{◌≡◌, ◌≤◌, ◌<◌, ◌+◌, ◌*◌, ◌^◌, None, IfOk, OnOk, MatchResult, All, length, map, sum, ◌++◌};
+ghost use Rattle.gs_model.specs.Cards.{choose};
+ghost use Rattle.gs_model.specs.Deals.{deals};
+ghost use Rattle.gs_model.specs.Frame.{frame_of, total_weight};
+ghost use Rattle.gs_game.specs.Answers.{Answers};
+ghost use Rattle.gs_game.specs.Games.{HasFewCards, game_of, round_of};
+ghost use Rattle.gs_game.specs.Money.{first_of};
+ghost use Rattle.gs_game.specs.Refusals.{card_refusal, deal_refusal, deals_refusal, signals_refusal};
+ghost use Rattle.gs_game.specs.Sequences.{deal_sizes, draws, power, privates, seen_sizes};
+
+use crate::cards::all_copies;
+use crate::counting::count_sequences;
+use crate::faults::GameFault;
+use crate::game::{Game, Round};
+use std::alloc::{AllocError, Global};
+
+/// The ways to choose `size` of `n` things, in no order.
+fn choose(n: u32, size: u8) -> u128
+    requires few { n ≤ 468 }
+    requires size { size ≤ 3 }
+    ensures { result ≡ choose n size }
+{
+    let n = u128::from(n);
+    match size {
+        0 => 1,
+        1 => n,
+        2 => n * n.saturating_sub(1) / 2,
+        _ => n * n.saturating_sub(1) * n.saturating_sub(2) / 6,
+    }
+}
+
+/// The ways to draw groups of these sizes, one after another, from `copies` cards.
+fn draws(copies: u32, sizes: &[u8]) -> u128
+    requires few { copies ≤ 468 }
+    requires small { All (λ size. size ≤ 3) sizes.now }
+    requires fits { sum sizes.now ≤ 14 }
+    ensures ways { result ≡ draws copies sizes.now }
+    ensures bound { result ≤ power 468 (sum sizes.now) }
+{
+    match sizes {
+        [size, rest @ ..] => choose(copies, *size)
+            * draws(copies.saturating_sub(u32::from(*size)), rest),
+        [] => 1,
+    }
+}
+
+/// Writes the sizes of the groups that a player sees.
+fn push_seen(sizes: &mut Vec<u8>, rounds: &[Round]) -> Result<(), AllocError>
+    ensures { OnOk result (sizes.new.items ≡ sizes.old.items ++ seen_sizes (map round_of rounds.now)) }
+{
+    for round in rounds {
+        sizes.push(round.private)?;
+        sizes.push(round.public)?;
+    }
+    Ok(())
+}
+
+/// Writes the sizes of a player's own groups.
+fn push_private(sizes: &mut Vec<u8>, rounds: &[Round]) -> Result<(), AllocError>
+    ensures { OnOk result (sizes.new.items ≡ sizes.old.items ++ privates (map round_of rounds.now)) }
+{
+    for round in rounds {
+        sizes.push(round.private)?;
+    }
+    Ok(())
+}
+
+/// The sizes of the groups of a deal.
+fn sizes_of(alloc: Global, rounds: &[Round]) -> Result<Vec<u8>, AllocError>
+    ensures { IfOk result (λ v. v.items ≡ deal_sizes (map round_of rounds.now)) }
+{
+    let mut sizes = Vec::new(alloc);
+    push_seen(&mut sizes, rounds)?;
+    push_private(&mut sizes, rounds)?;
+    Ok(sizes)
+}
+
+/// Whether each of these rounds has few enough raw signals.
+#[tactic(auto, unfolding(crate::specs::Refusals::signals_refusal))]
+fn check_signals(game: &Game, left: &mut [u8], sizes: &[u8]) -> Result<(), GameFault>
+    requires few { length game.now.rounds.items ≤ 4 }
+    requires left { left.old ≡ game.now.deck.counts }
+    requires sizes { sizes.now ≡ deal_sizes (map round_of game.now.rounds.items) }
+    ensures refusal { MatchResult result (λ _. signals_refusal (game_of game.now) ≡ None) (Answers (signals_refusal (game_of game.now))) }
+    ensures kept { left.new ≡ left.old }
+{
+    for round in 0..game.rounds.len() {
+        let shown = &sizes[..2 * (round + 1)];
+        if count_sequences(left, shown, 200_001) > 200_000 {
+            return Err(GameFault::TooManySignals {
+                round: round as u8 + 1,
+            });
+        }
+    }
+    Ok(())
+}
+
+/// The number of deals, where there are few enough raw signals and deals.
+fn check_counts(game: &Game, left: &mut [u8], sizes: &[u8]) -> Result<u32, GameFault>
+    requires few { length game.now.rounds.items ≤ 4 }
+    requires left { left.old ≡ game.now.deck.counts }
+    requires sizes { sizes.now ≡ deal_sizes (map round_of game.now.rounds.items) }
+    ensures { MatchResult result (λ count. (first_of (signals_refusal (game_of game.now)) (deals_refusal (game_of game.now)) ≡ None) × (count ≡ length (deals (game_of game.now)))) (Answers (first_of (signals_refusal (game_of game.now)) (deals_refusal (game_of game.now)))) }
+{
+    check_signals(game, left, sizes)?;
+    let count = count_sequences(left, sizes, 8_000_001);
+    if count > 8_000_000 {
+        return Err(GameFault::TooManyDeals);
+    }
+    Ok(count as u32)
+}
+
+/// The deals of a game: how many there are, and their weight.
+#[derive(Clone, Copy, Debug, PartialEq, Eq)]
+pub struct DealTotals {
+    pub count: u32,
+    pub weight: u64,
+}
+
+/// The number and the weight of all deals, where the signals and deals are few enough.
+pub fn check_deals(alloc: Global, game: &Game) -> Result<DealTotals, GameFault>
+    requires cards { All HasFewCards game.now.rounds.items }
+    requires checked { card_refusal (game_of game.now) ≡ None }
+    ensures { MatchResult result (λ totals. (deal_refusal (game_of game.now) ≡ None) × (totals.weight ≡ total_weight (frame_of (game_of game.now))) × (totals.count ≡ length (deals (game_of game.now)))) (Answers (deal_refusal (game_of game.now))) }
+{
+    let counts = game.deck.counts();
+    let mut left = Vec::from_slice(alloc, counts)?;
+    let sizes = sizes_of(alloc, &game.rounds)?;
+    let weight = draws(all_copies(counts), &sizes);
+    if weight > 67_108_864 {
+        return Err(GameFault::TooHeavy { weight });
+    }
+    let count = check_counts(game, &mut left, &sizes)?;
+    Ok(DealTotals {
+        count,
+        weight: weight as u64,
+    })
+}
