@@ -1,2 +1,16 @@
 pub mod Pairs
-pub mod Singles
+pub mod Taken
+pub mod Pushed
+pub mod Grown
+pub mod Lookups
+pub mod Readers
+pub mod Dealt
+pub mod Hands
+pub mod Paths
+pub mod Beside
+pub mod Weights
+pub mod Same
+pub mod Linked
+pub mod Steps
+pub mod Rests
+pub mod Named

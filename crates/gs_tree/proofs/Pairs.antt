@@ -1,5 +1,5 @@
 -- The pairs of last-round signals by number: row by row, all of them, one row, one step.
-use Rattle.std.proofs.Common.{◌≡◌, ◌≢◌, ℕ, zero, suc, ◌+◌, ◌-◌, ◌*◌, ◌/◌, ◌%◌, ◌<◌, ◌≤◌, List, [], ◌∷◌, ◌++◌, length, map, get_or, refl, sym, ap, ◌∙◌, arith, Bool, true, false, cond, nat_lt, eqb, ⊎_elim, Some, None, if◌then◌else◌}
+use Rattle.std.proofs.Common.{◌≡◌, ◌≢◌, ℕ, zero, suc, ◌+◌, ◌-◌, ◌*◌, ◌/◌, ◌%◌, ◌<◌, ◌≤◌, List, [], ◌∷◌, ◌++◌, length, map, get_or, refl, sym, ap, ◌∙◌, arith, Bool, true, false, cond, nat_lt, eqb, ⊎_elim}
 use Rattle.std.specs.Prelude.{filter, flat_map, ◌==◌}
 use Rattle.std.specs.List.{range_with_len, enumerate_from}
 use Rattle.std.proofs.lemmas.Bool.{cases_eq}
@@ -7,7 +7,7 @@ use Rattle.std.proofs.lemmas.List.{map-append, append-nil}
 use Rattle.std.proofs.lemmas.List.Folds.{flat_map-map}
 use Rattle.std.proofs.lemmas.List.FromFn.{fill_by_all, length-enumerate_from, get_or-enumerate_from}
 use Rattle.std.proofs.lemmas.Bool.Decides.{Decides-eqb}
-use Rattle.std.proofs.lemmas.Nat.{div-mul-add, div_below, mod-mul-add, mod_below}
+use Rattle.std.proofs.lemmas.Nat.{div-mul-add, mod-mul-add}
 use Rattle.std.proofs.lemmas.Simd.{map-map}
 use Rattle.gs_model.specs.Deals.{Deal, deal_of, deals, pairings}
 use Rattle.gs_model.specs.Game.{Game, round_count}
@@ -28,27 +28,6 @@ between_step g from to l = ap (λ r. filter (λ d. nat_lt 0 d.weight) (map (pair
 
 pub between_end : (g : Game) (from to : ℕ) → to ≤ from → deals_between g from to ≡ []
 between_end g from to l = ap (λ r. filter (λ d. nat_lt 0 d.weight) (map (pair_at g) r)) (range_end from to l)
-
--- a pair that is a deal is the next one to be given
-pub between_some : (g : Game) (from to : ℕ) → from < to → (d : Deal) → Some d ≡ (if nat_lt 0 (pair_at g from).weight then Some (pair_at g from) else None) → deals_between g from to ≡ d ∷ deals_between g (from + 1) to
-between_some g from to l d e = between_step g from to l ∙ go (nat_lt 0 (pair_at g from).weight) e
-  where
-    go : (b : Bool) → Some d ≡ cond b (Some (pair_at g from)) None → cond b (pair_at g from ∷ deals_between g (from + 1) to) (deals_between g (from + 1) to) ≡ d ∷ deals_between g (from + 1) to
-    go true e = let same : pair_at g from ≡ d = cc in ap (λ (x : Deal). x ∷ deals_between g (from + 1) to) same
-    go false e = absurd (cc)
-
--- a pair that is none is passed over
-pub between_none : (g : Game) (from to : ℕ) → from < to → None ≡ (if nat_lt 0 (pair_at g from).weight then Some (pair_at g from) else None) → deals_between g from to ≡ deals_between g (from + 1) to
-between_none g from to l e = between_step g from to l ∙ go (nat_lt 0 (pair_at g from).weight) e
-  where
-    go : (b : Bool) → None ≡ cond b (Some (pair_at g from)) None → cond b (pair_at g from ∷ deals_between g (from + 1) to) (deals_between g (from + 1) to) ≡ deals_between g (from + 1) to
-    go true e = absurd (cc)
-    go false e = refl
-
--- both places of a pair are in range
-pub places_in : (n k : ℕ) → k < n * n → (0 < n) × (k / n < n) × (k % n < n)
-places_in zero k l = absurd (omega (arith, l))
-places_in (suc n) k l = (omega arith, div_below k (suc n) (suc n) (omega arith) l, mod_below k (suc n) (omega arith))
 
 -- ---- rows
 

@@ -1,3 +1,7 @@
+pub mod Boards
+pub mod Layers
+pub mod Shown
+pub mod Tables
 pub mod Texts
 pub mod Trees
 pub mod Walk

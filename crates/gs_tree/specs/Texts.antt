@@ -1,5 +1,6 @@
 -- The texts of cards and of raw signals: Js for a card, JsQs+Ks for one round, parts joined by `/` for several rounds.
-use Rattle.std.specs.Prelude.{ℕ, List, [], ◌∷◌, ◌++◌, flat_map}
+use Rattle.std.specs.Prelude.{ℕ, ◌≡◌, ◌≢◌, List, [], ◌∷◌, ◌++◌, Option, Some, None, flat_map}
+use Rattle.std.proofs.Common.{Bor}
 use Rattle.gs_card.specs.Decks.{DeckValue, card_text}
 use Rattle.gs_model.specs.Signals.{Seen, Signal}
 
@@ -25,3 +26,8 @@ rounds_text d (p ∷ s) = 47 ∷ (seen_text d p ++ rounds_text d s)
 abbrev pub signal_text : DeckValue → Signal → List ℕ
 signal_text d [] = []
 signal_text d (p ∷ s) = seen_text d p ++ rounds_text d s
+
+-- what follows the beginning of a text; none where it does not begin so
+abbrev pub IsRest : List ℕ → List ℕ → Option (Bor (List ℕ)) → Type 0
+IsRest text front None = (t : List ℕ) → text ≢ front ++ t
+IsRest text front (Some rest) = text ≡ front ++ rest.now

@@ -1,7 +1,7 @@
 -- The walk over the deals of a game: pairs of last-round signals in order, those that no deal has passed over.
-use Rattle.std.specs.Prelude.{ℕ, ◌-◌, ◌/◌, ◌%◌, List, filter, map, length, nat_lt}
+use Rattle.std.specs.Prelude.{ℕ, ◌≡◌, ◌<◌, ◌≤◌, ◌+◌, ◌-◌, ◌*◌, ◌/◌, ◌%◌, Bool, true, List, filter, map, length, nat_lt}
 use Rattle.std.specs.List.{range_with_len}
-use Rattle.gs_model.specs.Deals.{Deal, deal_of}
+use Rattle.gs_model.specs.Deals.{Deal, deal_of, same_public}
 use Rattle.gs_model.specs.Game.{Game, round_count}
 use Rattle.gs_model.specs.Signals.{signal_at, signals}
 
@@ -20,3 +20,28 @@ pair_at g k = deal_at g (k / last_count g) (k % last_count g)
 -- the deals among the pairs from a number on, up to another
 abbrev pub deals_between : Game → ℕ → ℕ → List Deal
 deals_between g from to = filter (λ d. nat_lt 0 d.weight) (map (pair_at g) (range_with_len from (to - from)))
+
+-- the number of a pair
+abbrev pub number_of : Game → ℕ → ℕ → ℕ
+number_of g one two = one * last_count g + two
+
+-- whether the last-round signals at two places show the same public cards
+abbrev pub shows_same : Game → ℕ → ℕ → Bool
+shows_same g one two = same_public (signal_at g (round_count g) one) (signal_at g (round_count g) two)
+
+-- a pair that the walk looks at: unless all are done, two signals that show the same public cards
+pub record IsOnWalk (g : Game) (one two end : ℕ) : Type 0 where
+  pub end_in : end ≤ last_count g
+  pub two_in : one < end → two < last_count g
+  pub same : one < end → shows_same g one two ≡ true
+
+-- the walk of a row begins at this signal: all deals of the row come from there on
+pub record IsRowStart (g : Game) (one two : ℕ) : Type 0 where
+  pub start : IsOnWalk g one two (last_count g)
+  pub passes : (end : ℕ) → deals_between g (one * last_count g) end ≡ deals_between g (number_of g one two) end
+
+-- the walk goes on from one pair to another, and passes no deal
+pub record IsNextPair (g : Game) (one two next other : ℕ) : Type 0 where
+  pub on : IsOnWalk g next other (last_count g)
+  pub later : number_of g one two < number_of g next other
+  pub passes : (end : ℕ) → deals_between g (number_of g one two + 1) end ≡ deals_between g (number_of g next other) end

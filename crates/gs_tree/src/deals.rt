@@ -8,27 +8,30 @@ use std::marker::Model;
 
 /// The deals that are still to be given, by player 1's signal and then by player 2's.
 ///
-/// No list of deals is kept: each is made when it is asked for, and none takes memory.
+/// No list of deals is kept: each is made when it is asked for, and none takes memory. Only pairs of signals that show the same public cards
+/// are looked at.
 #[derive(Drop)]
 pub struct Deals<'s> {
     signals: &'s Signals<'s>,
-    // pairs of signals are numbered row by row
-    next: u64,
-    end: u64,
+    // the next pair of signals that show the same public cards
+    one: u32,
+    two: u32,
+    // one past player 1's last signal
+    end: u32,
 }
 
 impl<'s> Model for Deals<'s> {
-    ghost use Rattle.std.specs.Prelude.{List, ◌*◌, ◌≤◌};
+    ghost use Rattle.std.specs.Prelude.{List, ◌*◌};
     ghost use Rattle.gs_model.specs.Deals.{Deal as Dealt};
 
     ghost Value = { List Dealt };
 
     ghost use Rattle.gs_tree.specs.Trees.{rules_of};
-    ghost use Rattle.gs_tree.specs.Walk.{deals_between, last_count};
+    ghost use Rattle.gs_tree.specs.Walk.{deals_between, last_count, number_of, IsOnWalk};
 
-    ghost view = { λ d. deals_between (rules_of d.signals.now) d.next d.end };
+    ghost view = { λ d. deals_between (rules_of d.signals.now) (number_of (rules_of d.signals.now) d.one d.two) (d.end * last_count (rules_of d.signals.now)) };
 
-    ghost invariant = { λ d. d.end ≤ last_count (rules_of d.signals.now) * last_count (rules_of d.signals.now) };
+    ghost invariant = { λ d. IsOnWalk (rules_of d.signals.now) d.one d.two d.end };
 }
 
 impl<'s> Deals<'s> {
@@ -36,12 +39,17 @@ impl<'s> Deals<'s> {
     ghost use Rattle.gs_tree.specs.Trees.{rules_of};
     ghost use Rattle.gs_tree.specs.Walk.{deals_between, last_count};
 
-    // The deals among the pairs from one number on, up to another.
-    pub(crate) fn between(signals: &'s Signals<'s>, next: u64, end: u64) -> Deals<'s>
-        requires { end ≤ last_count (rules_of signals.now) * last_count (rules_of signals.now) }
-        ensures { result ≡ deals_between (rules_of signals.entry.now) next end }
+    // The deals in which player 1 has one of the signals from one on, up to another.
+    pub(crate) fn rows(signals: &'s Signals<'s>, from: u32, end: u32) -> Deals<'s>
+        requires { end ≤ last_count (rules_of signals.now) }
+        ensures { result ≡ deals_between (rules_of signals.entry.now) (from * last_count (rules_of signals.entry.now)) (end * last_count (rules_of signals.entry.now)) }
     {
-        Deals { signals, next, end }
+        Deals {
+            signals,
+            one: from,
+            two: signals.first_beside(from),
+            end,
+        }
     }
 }
 
@@ -53,10 +61,12 @@ impl<'s> Iterator for Deals<'s> {
     ghost remaining = { item_count (λ s. s) };
 
     fn next(&mut self) -> Option<Deal> {
-        while self.next < self.end {
-            let pair = self.signals.pair(self.next);
-            self.next += 1;
-            if let Some(deal) = pair {
+        while self.one < self.end {
+            let deal = self.signals.deal(self.one, self.two);
+            let (one, two) = self.signals.next_pair(self.one, self.two);
+            self.one = one;
+            self.two = two;
+            if deal.weight > 0 {
                 return Some(deal);
             }
         }

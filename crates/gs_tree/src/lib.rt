@@ -1,9 +1,16 @@
 //! The raw signals of a game and its deals.
 #![tactic(auto)]
 
+mod boards;
 mod deal;
 mod deals;
+mod few;
+mod layer;
+mod reading;
 mod signals;
+mod tables;
+#[cfg(test)]
+mod tests;
 mod texts;
 
 pub use deal::Deal;

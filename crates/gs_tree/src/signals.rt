@@ -1,17 +1,25 @@
 //! The raw signals of a game, round by round.
 
-ghost use Rattle.std.specs.Prelude.{◌≡◌, ◌∷◌, [], map};
+ghost use Rattle.std.specs.Prelude.{◌≡◌, All, map, length};
 ghost use Rattle.std.specs.List.{range_with_len};
-ghost use Rattle.gs_model.specs.Game.{High, round_count};
-ghost use Rattle.gs_model.specs.Outcome.{outcome};
-ghost use Rattle.gs_model.specs.Signals.{parents as parents_in};
+ghost use Rattle.gs_model.specs.Game.{round_count};
+ghost use Rattle.gs_card.specs.Rankings.{ranking_of};
+ghost use Rattle.gs_rank.specs.Hands.{IsStrength};
+ghost use Rattle.gs_model.specs.Signals.{parents as parents_in, signals};
+ghost use Rattle.gs_model.specs.ViewTree.{signal_strength};
 ghost use Rattle.gs_game.specs.Games.{game_of};
+ghost use Rattle.gs_tree.specs.Boards.{AreBoards};
+ghost use Rattle.gs_tree.specs.Tables.{AreTables};
 
+use crate::boards::{Boards, link_boards};
 use crate::deal::Deal;
 use crate::deals::Deals;
-use crate::texts::push_card;
-use gs_card::{Card, Deck};
+use crate::layer::Layer;
+use crate::reading::is_text_of;
+use crate::tables::{Tables, build, own_ways_of, path_of, push_signal, strengths};
+use gs_card::Deck;
 use gs_game::ValidGame;
+use gs_rank::outcome;
 use std::alloc::{AllocError, Global};
 
 /// The raw signals of a game.
@@ -22,42 +30,44 @@ use std::alloc::{AllocError, Global};
 pub struct Signals<'g> {
     game: &'g ValidGame,
     parents: Vec<Vec<u32>>,
-    ghost listed: { map (λ v. v.items) parents.items ≡ map (parents_in (game_of game.now.game)) (range_with_len 1 (round_count (game_of game.now.game))) },
-}
-
-/// The outcome of one strength against another where each hand wins the put once.
-fn plain_outcome(a: u32, b: u32) -> i8
-    ensures { result ≡ outcome (1 ∷ []) High a b }
-{
-    if a > b {
-        1
-    } else if a < b {
-        -1
-    } else {
-        0
-    }
+    layers: Vec<Layer>,
+    // of the hands of the last round's signals
+    strengths: Vec<u32>,
+    boards: Boards,
+    ghost tables: { AreTables (game_of game.now.game) parents.items layers.items },
+    ghost ranked: { strengths.items ≡ map (signal_strength (game_of game.now.game)) (signals (game_of game.now.game) (round_count (game_of game.now.game))) },
+    ghost beside: { AreBoards (game_of game.now.game) boards.firsts.items boards.nexts.items },
+    ghost strong: { All (IsStrength (ranking_of game.now.game.ranking)) strengths.items },
+    ghost counted: { length layers.items ≡ round_count (game_of game.now.game) },
 }
 
 impl<'g> Signals<'g> {
-    ghost use Rattle.std.specs.Prelude.{◌≡◌, ◌≢◌, ◌≤◌, ◌<◌, ◌+◌, ◌*◌, ◌==◌, ℕ, IfOk, if◌then◌else◌, nat_lt, filter, map, length, string_bytes};
+    ghost use Rattle.std.specs.Prelude.{◌≡◌, ◌≢◌, ◌≤◌, ◌<◌, ◌+◌, ◌*◌, ◌==◌, ℕ, true, IfOk, IfSome, filter, map, length, string_bytes};
     ghost use Rattle.std.specs.List.{range_with_len};
     ghost use Rattle.gs_model.specs.Game.{round_count};
-    ghost use Rattle.gs_model.specs.Signals.{signals, parents as parents_in, signal_at, last_edge};
+    ghost use Rattle.gs_model.specs.Signals.{signals, parents as parents_in, signal_at, child_count, first_child, last_edge};
     ghost use Rattle.gs_model.specs.ViewTree.{signal_strength};
     ghost use Rattle.gs_tree.specs.Trees.{rules_of, deck_of};
     ghost use Rattle.gs_card.specs.Decks.{IsDeck};
     ghost use Rattle.gs_model.specs.Deals.{Deal as Dealt, deals, path_weight};
-    ghost use Rattle.gs_tree.specs.Walk.{deal_at, last_count, pair_at};
+    ghost use Rattle.gs_tree.specs.Walk.{deal_at, last_count, shows_same, IsNextPair, IsRowStart};
     ghost use Rattle.gs_tree.specs.Texts.{signal_text};
 
     /// The signals of a valid game.
     pub fn of(alloc: Global, game: &'g ValidGame) -> Result<Signals<'g>, AllocError>
         ensures { IfOk result (λ s. s.game.now ≡ game.entry.now) }
     {
-        let kinds = game.game().deck.kinds();
-        let first = vec![in alloc; 0; usize::from(kinds)]?;
-        let parents = vec![in alloc; first]?;
-        Ok(Signals { game, parents })
+        let tables = build(alloc, game.game())?;
+        let strengths = strengths(alloc, game.game(), &tables)?;
+        let boards = link_boards(alloc, game.game(), &tables)?;
+        let Tables { parents, layers } = tables;
+        Ok(Signals {
+            game,
+            parents,
+            layers,
+            strengths,
+            boards,
+        })
     }
 
     // The deck of the game.
@@ -83,7 +93,7 @@ impl<'g> Signals<'g> {
         ensures some { 0 < result }
         ensures few { result ≤ 4 }
     {
-        1
+        self.layers.len() as u8
     }
 
     /// How many raw signals a round has: at most 200,000.
@@ -93,7 +103,7 @@ impl<'g> Signals<'g> {
         ensures value { result ≡ length (signals (rules_of self.now) round) }
         ensures few { result ≤ 200000 }
     {
-        u32::from(self.deck().kinds())
+        self.layers[usize::from(round) - 1].shown.len() as u32
     }
 
     /// For each round the parent of each signal, by its place in the round before; round 1 holds zeros.
@@ -103,6 +113,18 @@ impl<'g> Signals<'g> {
         &self.parents
     }
 
+    /// The children of a signal of a round before the last: the place of the first one in the next round, and one past the last.
+    pub fn children(&self, round: u8, signal: u32) -> (u32, u32)
+        requires some { 0 < round }
+        requires before_last { round < round_count (rules_of self.now) }
+        requires in_range { signal < length (signals (rules_of self.now) round) }
+        ensures first { result.0 ≡ first_child (rules_of self.now) round signal }
+        ensures end { result.1 ≡ first_child (rules_of self.now) round signal + child_count (rules_of self.now) round signal }
+    {
+        let firsts = &self.layers[usize::from(round)].firsts;
+        (firsts[signal as usize], firsts[signal as usize + 1])
+    }
+
     /// The ways of taking a signal's last own and public groups from the copies that its parent leaves.
     pub fn edge(&self, round: u8, signal: u32) -> u64
         requires some { 0 < round }
@@ -110,7 +132,7 @@ impl<'g> Signals<'g> {
         requires in_range { signal < length (signals (rules_of self.now) round) }
         ensures { result ≡ last_edge (rules_of self.now).copies (signal_at (rules_of self.now) round signal) }
     {
-        1
+        self.layers[usize::from(round) - 1].edges[signal as usize]
     }
 
     /// The ways to take all that a last-round signal shows: the product of the edge weights on the way to it.
@@ -119,16 +141,22 @@ impl<'g> Signals<'g> {
         ensures value { result ≡ path_weight (rules_of self.now).copies (signal_at (rules_of self.now) (round_count (rules_of self.now)) signal) }
         ensures some { 0 < result }
     {
-        self.edge(self.rounds(), signal)
+        path_of(
+            self.game.game(),
+            &self.parents,
+            &self.layers,
+            self.layers.len(),
+            signal,
+        )
     }
 
     /// The strength of the hand that a last-round signal holds: more wins.
     pub fn strength(&self, signal: u32) -> u32
         requires { signal < length (signals (rules_of self.now) (round_count (rules_of self.now))) }
-        ensures { result ≡ signal_strength (rules_of self.now) (signal_at (rules_of self.now) (round_count (rules_of self.now)) signal) }
+        ensures value { result ≡ signal_strength (rules_of self.now) (signal_at (rules_of self.now) (round_count (rules_of self.now)) signal) }
+        ensures within { IsStrength (ranking_of self.now.game.now.game.ranking) result }
     {
-        let deck = self.deck();
-        u32::from(deck.rank(Card::new(signal as u8)))
+        self.strengths[signal as usize]
     }
 
     /// The text of a signal: a part for each round, joined by `/`, the own cards and then `+` and the public cards.
@@ -139,8 +167,40 @@ impl<'g> Signals<'g> {
         ensures { IfOk result (λ t. string_bytes t ≡ signal_text (deck_of self.now) (signal_at (rules_of self.now) round signal)) }
     {
         let mut text = String::new(alloc);
-        push_card(&mut text, self.deck(), Card::new(signal as u8))?;
+        push_signal(
+            &mut text,
+            self.game.game(),
+            &self.parents,
+            &self.layers,
+            usize::from(round),
+            signal,
+        )?;
         Ok(text)
+    }
+
+    /// The signal of a round whose text this is, if there is one. It takes no memory.
+    pub fn index_of(&self, round: u8, text: &str) -> Option<u32>
+        requires some { 0 < round }
+        requires last { round ≤ round_count (rules_of self.now) }
+        ensures found { IfSome result (λ i. (i < length (signals (rules_of self.now) round)) × (text.now ≡ signal_text (deck_of self.now) (signal_at (rules_of self.now) round i))) }
+        ensures only { (i : ℕ) → i < length (signals (rules_of self.now) round) → text.now ≡ signal_text (deck_of self.now) (signal_at (rules_of self.now) round i) → result ≡ Some i }
+    {
+        let game = self.game.game();
+        let _deck = self.deck();
+        let bytes = text.as_bytes();
+        for signal in 0..self.count(round) {
+            if is_text_of(
+                bytes,
+                game,
+                &self.parents,
+                &self.layers,
+                usize::from(round),
+                signal,
+            ) {
+                return Some(signal);
+            }
+        }
+        None
     }
 
     /// How many raw signals the last round has: at most 200,000.
@@ -151,42 +211,73 @@ impl<'g> Signals<'g> {
         self.count(self.rounds())
     }
 
-    // The deal of two different signals of the last round.
+    // The deal of two signals of the last round that show the same public cards; it weighs 0 where no deal has both.
     pub(crate) fn deal(&self, one: u32, two: u32) -> Deal
         requires one_in { one < last_count (rules_of self.now) }
         requires two_in { two < last_count (rules_of self.now) }
-        requires differ { one ≢ two }
+        requires same { shows_same (rules_of self.now) one two ≡ true }
         ensures { result ≡ deal_at (rules_of self.now) one two }
     {
-        let outcome = plain_outcome(self.strength(one), self.strength(two));
+        let game = self.game.game();
+        let outcome = outcome(
+            &game.bonus,
+            game.ranking,
+            self.strength(one),
+            self.strength(two),
+        );
+        let weight = self.weight(one, two);
         Deal {
             one,
             two,
-            weight: 1,
+            weight,
             outcome,
         }
     }
 
-    // The deal of the pair with a number, where some deal has the pair: pairs are numbered row by row.
-    pub(crate) fn pair(&self, number: u64) -> Option<Deal>
-        requires { number < last_count (rules_of self.now) * last_count (rules_of self.now) }
-        ensures { result ≡ (if nat_lt 0 (pair_at (rules_of self.now) number).weight then Some (pair_at (rules_of self.now) number) else None) }
+    // The ways to deal these two signals of the last round.
+    fn weight(&self, one: u32, two: u32) -> u64
+        requires one_in { one < last_count (rules_of self.now) }
+        requires two_in { two < last_count (rules_of self.now) }
+        requires same { shows_same (rules_of self.now) one two ≡ true }
+        ensures { result ≡ (deal_at (rules_of self.now) one two).weight }
     {
-        let count = u64::from(self.last_count());
-        let one = (number / count) as u32;
-        let two = (number % count) as u32;
-        if one == two {
-            return None;
+        let game = self.game.game();
+        let round = self.layers.len();
+        let shown = path_of(game, &self.parents, &self.layers, round, one);
+        shown * own_ways_of(game, &self.parents, &self.layers, one, round, two)
+    }
+
+    // The first signal of the last round that shows the same public cards; 0 behind the last one.
+    pub(crate) fn first_beside(&self, one: u32) -> u32
+        ensures { IsRowStart (rules_of self.now) one result }
+    {
+        if one < self.last_count() {
+            self.boards.firsts[one as usize]
+        } else {
+            0
         }
-        Some(self.deal(one, two))
+    }
+
+    // The pair after one of two signals that show the same public cards: the next one that does, row by row.
+    pub(crate) fn next_pair(&self, one: u32, two: u32) -> (u32, u32)
+        requires one_in { one < last_count (rules_of self.now) }
+        requires two_in { two < last_count (rules_of self.now) }
+        requires same { shows_same (rules_of self.now) one two ≡ true }
+        ensures { IsNextPair (rules_of self.now) one two result.0 result.1 }
+    {
+        let next = self.boards.nexts[two as usize];
+        if next < self.last_count() {
+            (one, next)
+        } else {
+            (one + 1, self.first_beside(one + 1))
+        }
     }
 
     /// All deals, by player 1's signal and then by player 2's, each once.
     pub fn deals(&self) -> Deals<'_>
         ensures { result ≡ deals (rules_of self.now) }
     {
-        let count = u64::from(self.last_count());
-        Deals::between(self, 0, count * count)
+        Deals::rows(self, 0, self.last_count())
     }
 
     /// The deals in which player 1 has this signal of the last round, by player 2's signal.
@@ -194,8 +285,6 @@ impl<'g> Signals<'g> {
         requires { signal < last_count (rules_of self.now) }
         ensures { result ≡ filter (λ (d : Dealt). d.one == signal) (deals (rules_of self.now)) }
     {
-        let count = u64::from(self.last_count());
-        let first = u64::from(signal) * count;
-        Deals::between(self, first, first + count)
+        Deals::rows(self, signal, signal + 1)
     }
 }

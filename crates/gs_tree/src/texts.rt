@@ -1,8 +1,11 @@
 //! The texts of cards.
 
-ghost use Rattle.std.specs.Prelude.{◌≡◌, ◌<◌, ◌++◌, OnOk, string_bytes};
+ghost use Rattle.std.specs.Prelude.{◌≡◌, ◌<◌, ◌++◌, All, OnOk, string_bytes};
 ghost use Rattle.gs_card.specs.Decks.{card_text, kinds};
+ghost use Rattle.gs_tree.specs.Shown.{cards_of, seen_of};
+ghost use Rattle.gs_tree.specs.Texts.{group_text, seen_text};
 
+use crate::layer::Shown;
 use gs_card::{Card, Deck};
 use std::alloc::AllocError;
 
@@ -15,5 +18,31 @@ pub(crate) fn push_card(text: &mut String, deck: &Deck, card: Card) -> Result<()
     let [rank, suit] = deck.card_text(card);
     text.push(char::from(rank))?;
     text.push(char::from(suit))?;
+    Ok(())
+}
+
+/// Writes a group behind a text.
+fn push_group(text: &mut String, deck: &Deck, cards: &[Card]) -> Result<(), AllocError>
+    requires { All (λ card. card < kinds deck.now) cards.now }
+    ensures { OnOk result (string_bytes text.new ≡ string_bytes text.old ++ group_text deck.now cards.now) }
+{
+    for card in cards {
+        push_card(text, deck, *card)?;
+    }
+    Ok(())
+}
+
+/// Writes what a player sees in one round behind a text.
+pub(crate) fn push_seen(text: &mut String, deck: &Deck, shown: &Shown) -> Result<(), AllocError>
+    requires own { All (λ card. card < kinds deck.now) (cards_of shown.now.own) }
+    requires public { All (λ card. card < kinds deck.now) (cards_of shown.now.public) }
+    ensures { OnOk result (string_bytes text.new ≡ string_bytes text.old ++ seen_text deck.now (seen_of shown.now)) }
+{
+    push_group(text, deck, shown.own.cards())?;
+    let public = shown.public.cards();
+    if !public.is_empty() {
+        text.push('+')?;
+        push_group(text, deck, public)?;
+    }
     Ok(())
 }

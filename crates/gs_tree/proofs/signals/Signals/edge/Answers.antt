@@ -1,7 +1,15 @@
-use Rattle.std.proofs.Common.{sym}
+use Rattle.std.proofs.Common.{◌≡◌, ◌-◌, List, get_or, ap, ◌∙◌, arith}
+use Rattle.gs_model.specs.Game.{Game}
 use Rattle.gs_tree.specs.Trees.{rules_of}
-use Rattle.gs_tree.proofs.Singles.{edge_is}
+use Rattle.gs_tree.specs.declared.layer.Layer.{Layer}
+use Rattle.gs_tree.proofs.Lookups.{layer_of, same_read}
 use Rattle.gs_tree.proofs.signals.Signals.edge.Goals as goal
 
 pub returns : goal.returns
-returns c = sym (edge_is (rules_of c.args.self.now) c.args.self.now.game.now.single c.args.round c.args.signal c.requires.some c.requires.last c.requires.in_range)
+returns c =
+    let g : Game = rules_of c.args.self.now in
+    let l : Layer = c.index.result.now in
+    let ls : List Layer = c.args.self.now.layers.items in
+    let at : l ≡ get_or ls (c.args.round - 1) l = c.index.ensures ∙ ap (λ k. get_or ls (k - 1) l) c.from.ensures in
+    let h = layer_of g c.args.self.now.parents.items ls c.args.round l c.args.self.now.tables c.requires.some (omega (arith, c.args.self.now.counted, c.requires.last)) at in
+    c.index-2.ensures ∙ same_read l.edges.items c.args.signal c.index-2.result.now 0 (omega (arith, h.edges_long, c.requires.in_range)) ∙ h.weighs c.args.signal c.requires.in_range

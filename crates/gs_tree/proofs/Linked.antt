@@ -1,0 +1,204 @@
+-- Tables of equal keys: for each place the first one with its key and the next one, made place by place.
+use Rattle.std.proofs.Common.{◌≡◌, ◌≢◌, ◌⊎◌, inl, inr, ⊎_elim, ℕ, zero, suc, ◌+◌, ◌<◌, ◌≤◌, ◌++◌, List, [], ◌∷◌, length, get_or, set, refl, sym, ap, ◌∙◌, arith, subst, Bool, true, false, cond, Option, Some, None, length-append, length-set, get_or-set_same, get_or-set_other}
+use Rattle.std.specs.Ordering.{nat_cmp, is_eq}
+use Rattle.std.specs.Cmp.{Equal-is}
+use Rattle.std.specs.Cmp.Lexicographic.{slice_cmp}
+use Rattle.std.proofs.lemmas.Bool.{cases_eq, cases_lt, true≢false}
+use Rattle.std.proofs.lemmas.Cmp.{tied_itself, nat_list_cmp_total}
+use Rattle.std.proofs.lemmas.List.{get_or_append_left}
+use Rattle.std.proofs.lemmas.Map.Lookups.{exact_bytes}
+use Rattle.std.proofs.Math.Seq.{get_or-append_seam}
+use Rattle.std.specs.Prelude.{IfSome}
+use Rattle.gs_model.specs.Game.{Game, round_count}
+use Rattle.gs_model.specs.Signals.{public_cards, signal_at}
+use Rattle.gs_tree.specs.Boards.{AreBoards, first_beside, linked}
+use Rattle.gs_tree.specs.Walk.{last_count}
+use Rattle.gs_tree.proofs.Same.{same_list, other_list}
+
+-- the last place below n with this key
+abbrev pub last_place : (ℕ → List ℕ) → ℕ → List ℕ → Option ℕ
+last_place key zero b = None
+last_place key (suc n) b = cond (is_eq (slice_cmp nat_cmp (key n) b)) (Some n) (last_place key n b)
+
+pub record IsLast (key : ℕ → List ℕ) (n : ℕ) (b : List ℕ) (last : ℕ) : Type 0 where
+  pub below : last < n
+  pub same : key last ≡ b
+  pub none_after : (k : ℕ) → last < k → k < n → key k ≢ b
+
+equal : (x y : List ℕ) → is_eq (slice_cmp nat_cmp x y) ≡ true → x ≡ y
+equal x y e = exact_bytes x y ((Equal-is (slice_cmp nat_cmp x y)).0 e)
+
+unequal : (x y : List ℕ) → is_eq (slice_cmp nat_cmp x y) ≡ false → x ≢ y
+unequal x y e same =
+    let P : List ℕ → Type 0 = λ z. is_eq (slice_cmp nat_cmp x z) ≡ false in
+    true≢false (sym ((Equal-is (slice_cmp nat_cmp x x)).1 (tied_itself nat_list_cmp_total x)) ∙ subst P (sym same) e)
+
+pub last_some : (key : ℕ → List ℕ) (n : ℕ) (b : List ℕ) (last : ℕ) → last_place key n b ≡ Some last → IsLast key n b last
+last_some key zero b last e = absurd (cc)
+last_some key (suc n) b last e = go (last_some key n b last) (is_eq (slice_cmp nat_cmp (key n) b)) refl e
+  where
+    go : (last_place key n b ≡ Some last → IsLast key n b last) → (t : Bool) → is_eq (slice_cmp nat_cmp (key n) b) ≡ t → cond t (Some n) (last_place key n b) ≡ Some last → IsLast key (suc n) b last
+    go rest true h e =
+        let here : n ≡ last = cc in
+        record { below = omega (arith, here); same = ap key (sym here) ∙ equal (key n) b h; none_after = λ k l m. absurd (omega (arith, here)) }
+    go rest false h e =
+        let r = rest e in
+        record {
+          below = omega (arith, r.below);
+          same = r.same;
+          none_after = λ k l m. ⊎_elim
+              (λ (at : k ≡ n). let P : ℕ → Type 0 = λ j. key j ≢ b in subst P (sym at) (unequal (key n) b h))
+              (λ (ne : k ≢ n). r.none_after k l (omega arith)) (cases_eq k n);
+        }
+
+pub last_none : (key : ℕ → List ℕ) (n : ℕ) (b : List ℕ) → last_place key n b ≡ None → (k : ℕ) → k < n → key k ≢ b
+last_none key zero b e k l = absurd (omega arith)
+last_none key (suc n) b e k l = go (last_none key n b) (is_eq (slice_cmp nat_cmp (key n) b)) refl e
+  where
+    go : (last_place key n b ≡ None → (k : ℕ) → k < n → key k ≢ b) → (t : Bool) → is_eq (slice_cmp nat_cmp (key n) b) ≡ t → cond t (Some n) (last_place key n b) ≡ None → key k ≢ b
+    go rest true h e = absurd (cc)
+    go rest false h e = ⊎_elim
+        (λ (at : k ≡ n). let P : ℕ → Type 0 = λ j. key j ≢ b in subst P (sym at) (unequal (key n) b h))
+        (λ (ne : k ≢ n). rest e k (omega arith)) (cases_eq k n)
+
+-- the last place before n is among the first n
+pub last_in : (key : ℕ → List ℕ) (n : ℕ) (b xs : List ℕ) (o : Option ℕ) → length xs ≡ n → o ≡ last_place key n b → IfSome o (λ last. last < length xs)
+last_in key n b xs None l e = tt
+last_in key n b xs (Some last) l e = omega (arith, l, (last_some key n b last (sym e)).below)
+
+-- the first place with a key
+pub record IsFirst (key : ℕ → List ℕ) (n i first : ℕ) : Type 0 where
+  pub below : first < n
+  pub same : key first ≡ key i
+  pub none_before : (k : ℕ) → k < first → key k ≢ key i
+
+-- the next place with a key, among the first n of all
+pub record IsNext (key : ℕ → List ℕ) (n count i next : ℕ) : Type 0 where
+  pub later : i < next
+  pub found : (next ≡ count) ⊎ ((next < n) × (key next ≡ key i))
+  pub none_between : (k : ℕ) → i < k → k < next → k < n → key k ≢ key i
+
+-- the tables of the first n places of all
+pub record AreLinked (key : ℕ → List ℕ) (n count : ℕ) (firsts nexts : List ℕ) : Type 0 where
+  pub firsts_long : length firsts ≡ n
+  pub nexts_long : length nexts ≡ n
+  pub first : (i : ℕ) → i < n → IsFirst key n i (get_or firsts i 0)
+  pub next : (i : ℕ) → i < n → IsNext key n count i (get_or nexts i 0)
+
+pub none_linked : (key : ℕ → List ℕ) (count : ℕ) → AreLinked key 0 count [] []
+none_linked key count = record { firsts_long = refl; nexts_long = refl; first = λ i l. absurd (omega arith); next = λ i l. absurd (omega arith) }
+
+-- one more member of a list, read
+old_read : (P : ℕ → ℕ → Type 0) (xs : List ℕ) (n y : ℕ) → length xs ≡ n → ((i : ℕ) → i < n → P i (get_or xs i 0)) → P n y → (i : ℕ) → i < n + 1 → P i (get_or (xs ++ y ∷ []) i 0)
+old_read P xs n y long old new i l = ⊎_elim
+    (λ (at : i ≡ n).
+    let Q : ℕ → Type 0 = λ z. P n z in
+    let R : ℕ → Type 0 = λ j. P j (get_or (xs ++ y ∷ []) j 0) in
+    let here : get_or (xs ++ y ∷ []) n 0 ≡ y = ap (λ j. get_or (xs ++ y ∷ []) j 0) (sym long) ∙ get_or-append_seam xs y [] 0 in
+    subst R (sym at) (subst Q (sym here) new))
+    (λ (ne : i ≢ n).
+    let Q : ℕ → Type 0 = λ z. P i z in
+    let m : i < n = omega arith in
+    subst Q (sym (get_or_append_left xs (y ∷ []) 0 i (omega arith))) (old i m))
+    (cases_eq i n)
+
+module _ (key : ℕ → List ℕ) (n count : ℕ) (firsts nexts : List ℕ) (old : AreLinked key n count firsts nexts) where
+  wider_first : (i first : ℕ) → IsFirst key n i first → IsFirst key (n + 1) i first
+  wider_first i first h = record { below = omega (arith, h.below); same = h.same; none_before = h.none_before }
+
+  -- the next place of a key that the new place does not have
+  wider_next : (i next : ℕ) → i < n → (next ≡ count → key n ≢ key i) → IsNext key n count i next → IsNext key (n + 1) count i next
+  wider_next i next l other h = record {
+    later = h.later;
+    found = ⊎_elim (λ (e : next ≡ count). inl e) (λ (e : (next < n) × (key next ≡ key i)). inr (omega (arith, e.0), e.1)) h.found;
+    none_between = λ k a b m. ⊎_elim
+        (λ (at : k ≡ n).
+        let P : ℕ → Type 0 = λ j. key j ≢ key i in
+        let end : next ≡ count = ⊎_elim (λ (e : next ≡ count). e) (λ (e : (next < n) × (key next ≡ key i)). absurd (omega (arith, e.0, at, b))) h.found in
+        subst P (sym at) (other end))
+        (λ (ne : k ≢ n). h.none_between k a b (omega arith)) (cases_eq k n);
+  }
+
+  new_next : n < count → IsNext key (n + 1) count n count
+  new_next l = record { later = l; found = inl refl; none_between = λ k a b m. absurd (omega arith) }
+
+  linked_none : n < count → ((k : ℕ) → k < n → key k ≢ key n) → AreLinked key (n + 1) count (firsts ++ length firsts ∷ []) (nexts ++ count ∷ [])
+  linked_none l none =
+      let P : ℕ → Type 0 = λ z. IsFirst key (n + 1) n z in
+      let here : IsFirst key (n + 1) n n = record { below = omega arith; same = refl; none_before = none } in
+      record {
+        firsts_long = omega (arith, length-append firsts (length firsts ∷ []), old.firsts_long);
+        nexts_long = omega (arith, length-append nexts (count ∷ []), old.nexts_long);
+        first = old_read (λ i z. IsFirst key (n + 1) i z) firsts n (length firsts) old.firsts_long (λ i m. wider_first i (get_or firsts i 0) (old.first i m)) (subst P (sym old.firsts_long) here);
+        next = old_read (λ i z. IsNext key (n + 1) count i z) nexts n count old.nexts_long (λ i m. wider_next i (get_or nexts i 0) m (λ e same. none i m (sym same)) (old.next i m)) (new_next l);
+      }
+
+  linked_some : (last : ℕ) → n < count → IsLast key n (key n) last → AreLinked key (n + 1) count (firsts ++ get_or firsts last 0 ∷ []) (set nexts last (length nexts) ++ count ∷ [])
+  linked_some last l h =
+      let f = old.first last h.below in
+      let here : IsFirst key (n + 1) n (get_or firsts last 0) = record {
+        below = omega (arith, f.below);
+        same = f.same ∙ h.same;
+        none_before = λ k m e. f.none_before k m (e ∙ sym h.same);
+      } in
+      let long : length (set nexts last (length nexts)) ≡ n = length-set nexts last (length nexts) ∙ old.nexts_long in
+      record {
+        firsts_long = omega (arith, length-append firsts (get_or firsts last 0 ∷ []), old.firsts_long);
+        nexts_long = omega (arith, length-append (set nexts last (length nexts)) (count ∷ []), long);
+        first = old_read (λ i z. IsFirst key (n + 1) i z) firsts n (get_or firsts last 0) old.firsts_long (λ i m. wider_first i (get_or firsts i 0) (old.first i m)) here;
+        next = old_read (λ i z. IsNext key (n + 1) count i z) (set nexts last (length nexts)) n count long (λ i m. at i m) (new_next l);
+      }
+    where
+      at : (i : ℕ) → i < n → IsNext key (n + 1) count i (get_or (set nexts last (length nexts)) i 0)
+      at i m = ⊎_elim
+          (λ (e : i ≡ last).
+          let P : ℕ → Type 0 = λ j. IsNext key (n + 1) count j (get_or (set nexts last (length nexts)) j 0) in
+          let Q : ℕ → Type 0 = λ z. IsNext key (n + 1) count last z in
+          let new : get_or (set nexts last (length nexts)) last 0 ≡ n = get_or-set_same nexts last (length nexts) 0 (omega (arith, old.nexts_long, h.below)) ∙ old.nexts_long in
+          let is : IsNext key (n + 1) count last n = record {
+            later = h.below;
+            found = inr (omega arith, sym h.same);
+            none_between = λ k a b c same. h.none_after k a b (same ∙ h.same);
+          } in
+          subst P (sym e) (subst Q (sym new) is))
+          (λ (ne : i ≢ last).
+          let Q : ℕ → Type 0 = λ z. IsNext key (n + 1) count i z in
+          let o = old.next i m in
+          subst Q (sym (get_or-set_other nexts last i (length nexts) 0 ne)) (wider_next i (get_or nexts i 0) m (λ end same. apart i m ne end same) o))
+          (cases_eq i last)
+        where
+          apart : (i : ℕ) → i < n → i ≢ last → get_or nexts i 0 ≡ count → key n ≡ key i → ⊥
+          apart i m ne end same = ⊎_elim
+              (λ (before : i < last). (old.next i m).none_between last before (omega (arith, end, h.below)) h.below (h.same ∙ same))
+              (λ (after : last ≤ i). h.none_after i (omega arith) m (sym same))
+              (cases_lt i last)
+
+  -- one more place, from the last one with its key
+  pub linked_more : (before : Option ℕ) (more next : List ℕ) → n < count → before ≡ last_place key n (key n) → more ≡ firsts ++ first_beside before firsts ∷ [] → next ≡ linked before nexts ++ count ∷ [] → AreLinked key (n + 1) count more next
+  linked_more None more next l e f h =
+      let P : List ℕ → Type 0 = λ x. AreLinked key (n + 1) count x next in
+      let Q : List ℕ → Type 0 = λ x. AreLinked key (n + 1) count (firsts ++ length firsts ∷ []) x in
+      subst P (sym f) (subst Q (sym h) (linked_none l (last_none key n (key n) (sym e))))
+  linked_more (Some last) more next l e f h =
+      let P : List ℕ → Type 0 = λ x. AreLinked key (n + 1) count x next in
+      let Q : List ℕ → Type 0 = λ x. AreLinked key (n + 1) count (firsts ++ get_or firsts last 0 ∷ []) x in
+      subst P (sym f) (subst Q (sym h) (linked_some last l (last_some key n (key n) last (sym e))))
+
+-- where all places are linked by their public cards, the tables are whole
+pub are_boards : (g : Game) (n count : ℕ) (firsts nexts : List ℕ) → AreLinked (λ i. public_cards (signal_at g (round_count g) i)) n count firsts nexts → n ≡ last_count g → count ≡ last_count g → AreBoards g firsts nexts
+are_boards g n count firsts nexts h a b =
+    let P : ℕ → Type 0 = λ m. AreLinked (λ i. public_cards (signal_at g (round_count g) i)) m count firsts nexts in
+    let t = subst P a h in
+    record {
+      firsts_long = t.firsts_long;
+      nexts_long = t.nexts_long;
+      first_in = λ i l. (t.first i l).below;
+      first_same = λ i l. same_list g (round_count g) i (get_or firsts i 0) l (t.first i l).below (sym (t.first i l).same);
+      none_before = λ i k l m. other_list g (round_count g) i k ((t.first i l).none_before k m);
+      next_later = λ i l. (t.next i l).later;
+      next_same = λ i l m. ⊎_elim
+          (λ (e : get_or nexts i 0 ≡ count). absurd (omega (arith, e, b, m)))
+          (λ (e : (get_or nexts i 0 < last_count g) × (public_cards (signal_at g (round_count g) (get_or nexts i 0)) ≡ public_cards (signal_at g (round_count g) i))). same_list g (round_count g) i (get_or nexts i 0) l m (sym e.1))
+          (t.next i l).found;
+      none_between = λ i k l m x y. other_list g (round_count g) i k ((t.next i l).none_between k m x y);
+    }

@@ -1,0 +1,37 @@
+use Rattle.std.proofs.Common.{◌≡◌, ◌++◌, ◌*◌, ℕ, List, map, length, ◌<◌, ◌≤◌, get_or, take_all, ap, sym, ◌∙◌, arith}
+use Rattle.std.specs.Prelude.{flat_map}
+use Rattle.gs_model.specs.Cards.{groups, ways, left_after}
+use Rattle.gs_model.specs.Signals.{Seen}
+use Rattle.gs_tree.specs.Layers.{showing}
+use Rattle.gs_tree.specs.Shown.{seen_of, cards_of}
+use Rattle.gs_tree.proofs.Pushed.{joined_more, edges_of}
+use Rattle.gs_tree.proofs.layer.push_showings.Goals as goal
+
+pub loop-own-preserved : goal.loop-own-preserved
+loop-own-preserved c =
+    let left : List ℕ = c.args.left.now in
+    let owns : List (List ℕ) = groups left c.args.round.now.private in
+    let size : ℕ = c.args.round.now.public in
+    let own : List ℕ = c.own-item.result in
+    let i : ℕ = c.loop-own.own-index in
+    let shows : List ℕ → List Seen = λ o. map (showing o) (groups (left_after left o) size) in
+    let edges : List ℕ → List ℕ = λ o. map (λ g. ways left o * ways (left_after left o) g) (groups (left_after left o) size) in
+    let at : own ≡ get_or owns i own = c.own-item.is ∙ ap (λ l. get_or l i own) (c.deref-own-items.ensures.value ∙ c.in_ok-groups.ensures.all) in
+    let rest : c.deref.result.now ≡ left_after left own = c.deref.ensures.value ∙ c.in_ok-rest.ensures.value ∙ ap (left_after left) c.cards.ensures.cards in
+    let here : i < length owns = omega (arith, ap (λ (l : List (List ℕ)). length l) (c.deref-own-items.ensures.value ∙ c.in_ok-groups.ensures.all)) in
+    record {
+      shown = c.in_ok-push_publics.ensures.shown ∙ joined_more shows (map seen_of c.args.layer.now.shown.items) (map seen_of c.loop-own.layer.shown.items) (map (showing (cards_of c.of.result)) (groups c.deref.result.now size)) owns i own here c.loop-own.invariant.shown
+          (ap (λ x. map (showing x) (groups c.deref.result.now size)) c.of.ensures ∙ ap (λ r. map (showing own) (groups r size)) rest ∙ ap shows at);
+      edges = c.in_ok-push_publics.ensures.edges ∙ joined_more edges c.args.layer.now.edges.items c.loop-own.layer.edges.items (map (λ g. c.few_ways-own_ways.result * ways c.deref.result.now g) (groups c.deref.result.now size)) owns i own here c.loop-own.invariant.edges
+          (ap (λ w. map (λ g. w * ways c.deref.result.now g) (groups c.deref.result.now size)) c.few_ways-own_ways.ensures.value ∙ ap (λ r. map (λ g. ways left own * ways r g) (groups r size)) rest ∙ ap edges at);
+      firsts = c.in_ok-push_publics.ensures.firsts ∙ c.loop-own.invariant.firsts;
+    }
+
+pub returns-clause-edges : goal.returns-clause-edges
+returns-clause-edges c =
+    let left : List ℕ = c.args.left.now in
+    let owns : List (List ℕ) = groups left c.args.round.now.private in
+    let size : ℕ = c.args.round.now.public in
+    let edges : List ℕ → List ℕ = λ o. map (λ g. ways left o * ways (left_after left o) g) (groups (left_after left o) size) in
+    let over : length owns ≤ c.loop-own.own-index = omega (arith, ap (λ (l : List (List ℕ)). length l) (c.deref-own-items.ensures.value ∙ c.in_ok-groups.ensures.all)) in
+    c.loop-own.invariant.edges ∙ ap (λ l. c.args.layer.now.edges.items ++ flat_map edges l) (take_all c.loop-own.own-index owns over) ∙ ap (λ l. c.args.layer.now.edges.items ++ l) (sym (edges_of left size owns))

@@ -1,0 +1,21 @@
+use Rattle.std.proofs.Common.{◌≡◌, ◌<◌, ℕ, Some, length, sym, ap, ◌∙◌, arith}
+use Rattle.gs_game.specs.Games.{game_of}
+use Rattle.gs_game.specs.declared.game.Game.{Game as Described}
+use Rattle.gs_model.specs.Game.{Game}
+use Rattle.gs_model.specs.Signals.{signal_at, signals}
+use Rattle.gs_tree.specs.Texts.{signal_text}
+use Rattle.gs_tree.specs.Trees.{deck_of, rules_of}
+use Rattle.gs_tree.proofs.Named.{text_once}
+use Rattle.gs_tree.proofs.signals.Signals.index_of.Goals as goal
+
+pub returns-then-is_text_of-clause-only : goal.returns-then-is_text_of-clause-only
+returns-then-is_text_of-clause-only c =
+    let g : Game = rules_of c.args.self.now in
+    let d = deck_of c.args.self.now in
+    let n : ℕ = c.loop-signal.signal in
+    let here : c.args.text.now ≡ signal_text d (signal_at g c.args.round n) =
+    sym c.as_bytes-bytes.ensures.value ∙ c.is_text_of.ensures.0 c.if-is_text_of.true
+    ∙ ap (λ (x : Described). signal_text x.deck (signal_at (game_of x) c.from.result n)) c.game-game.ensures
+    ∙ ap (λ k. signal_text d (signal_at g k n)) c.from.ensures in
+    let within : n < length (signals g c.args.round) = omega (arith, c.loop-signal-test.true, c.count-signal-end.ensures.value) in
+    λ i l e. ap Some (text_once g d c.args.round n i c.deck-deck.ensures.valid c.deck-deck.ensures.valid.counted within l (sym here ∙ e))

@@ -1,0 +1,129 @@
+//! The signals of one round.
+
+ghost use Rattle.std.specs.Prelude.{◌≡◌, ◌≤◌, ◌<◌, ◌++◌, ◌*◌, ◌-◌, slice_set, slice_index, All, IfOk, OnOk, vec_len, map, length};
+ghost use Rattle.gs_card.specs.Decks.{kinds};
+ghost use Rattle.gs_tree.specs.Shown.{cards_of, seen_of};
+ghost use Rattle.gs_model.specs.Cards.{left_after};
+ghost use Rattle.gs_model.specs.Cards.{groups, ways};
+ghost use Rattle.gs_game.specs.Games.{round_of};
+ghost use Rattle.gs_model.specs.Signals.{showings, edge};
+ghost use Rattle.gs_tree.specs.Layers.{showing};
+
+use crate::few::FewCards;
+use gs_card::{Card, Deck, Group, ways};
+use gs_game::Round;
+use std::alloc::{AllocError, Global};
+
+/// The groups that the last round of a signal shows.
+#[derive(Clone, Copy, Debug)]
+pub(crate) struct Shown {
+    pub(crate) own: FewCards,
+    pub(crate) public: FewCards,
+}
+
+/// The ways of taking a small group from the copies that are left.
+fn few_ways(left: &[u8], group: &Group) -> u64
+    requires in_range { All (λ card. card < length left.now) group.now }
+    requires few_cards { length group.now ≤ 3 }
+    requires few_copies { All (λ copies. copies ≤ 9) left.now }
+    ensures value { result ≡ ways left.now group.now }
+    ensures few { result ≤ 729 }
+{
+    ways(left, group)
+}
+
+/// Takes one copy of a kind.
+fn take_copy(rest: &mut Vec<u8>, kind: usize)
+    ensures { rest.new.items ≡ slice_set rest.old.items kind (slice_index rest.old.items kind - 1) }
+{
+    if kind < rest.len() {
+        rest[kind] = rest[kind].saturating_sub(1);
+    }
+}
+
+/// The copies left once cards are taken.
+pub(crate) fn left_without(
+    alloc: Global,
+    left: &[u8],
+    cards: &[Card],
+) -> Result<Vec<u8>, AllocError>
+    requires { All (λ copies. copies ≤ 9) left.now }
+    ensures value { IfOk result (λ rest. rest.items ≡ left_after left.now cards.now) }
+    ensures few { IfOk result (λ rest. All (λ copies. copies ≤ 9) rest.items) }
+    ensures len { IfOk result (λ rest. length rest.items ≡ length left.now) }
+{
+    let mut rest = Vec::from_slice(alloc, left)?;
+    for card in cards {
+        take_copy(&mut rest, usize::from(card.number()));
+    }
+    Ok(rest)
+}
+
+/// What the signals of one round add to their parents, in order: the groups that they show, and the ways of taking these.
+#[derive(Drop, Debug)]
+pub(crate) struct Layer {
+    pub(crate) shown: Vec<Shown>,
+    pub(crate) edges: Vec<u64>,
+    // for each signal of the round before the place of its first child, and at the end the number of all
+    pub(crate) firsts: Vec<u32>,
+}
+
+/// Adds what signals show that have these own cards: the public groups that the rest allows, in order.
+fn push_publics(
+    alloc: Global,
+    deck: &Deck,
+    rest: &[u8],
+    own: FewCards,
+    own_ways: u64,
+    size: u8,
+    layer: &mut Layer,
+) -> Result<(), AllocError>
+    requires counted { length rest.now ≡ kinds deck.now }
+    requires few_copies { All (λ n. n ≤ 9) rest.now }
+    requires small { size ≤ 3 }
+    requires few_ways { own_ways ≤ 729 }
+    ensures shown { OnOk result (map seen_of layer.new.shown.items ≡ map seen_of layer.old.shown.items ++ map (showing (cards_of own)) (groups rest.now size)) }
+    ensures firsts { layer.new.firsts.items ≡ layer.old.firsts.items }
+    ensures edges { OnOk result (layer.new.edges.items ≡ layer.old.edges.items ++ map (λ g. own_ways * ways rest.now g) (groups rest.now size)) }
+{
+    for public in &deck.groups(alloc, rest, size)? {
+        layer.shown.push(Shown {
+            own,
+            public: FewCards::of(public),
+        })?;
+        layer.edges.push(own_ways * few_ways(rest, public))?;
+    }
+    Ok(())
+}
+
+/// Adds what a signal's children show: the own groups that the copies left allow, and with each the public groups that it leaves, in order.
+pub(crate) fn push_showings(
+    alloc: Global,
+    deck: &Deck,
+    left: &[u8],
+    round: &Round,
+    layer: &mut Layer,
+) -> Result<(), AllocError>
+    requires counted { length left.now ≡ kinds deck.now }
+    requires few_copies { All (λ n. n ≤ 9) left.now }
+    requires small_private { round.now.private ≤ 3 }
+    requires small_public { round.now.public ≤ 3 }
+    ensures shown { OnOk result (map seen_of layer.new.shown.items ≡ map seen_of layer.old.shown.items ++ showings left.now (round_of round.now)) }
+    ensures firsts { layer.new.firsts.items ≡ layer.old.firsts.items }
+    ensures edges { OnOk result (layer.new.edges.items ≡ layer.old.edges.items ++ map (edge left.now) (showings left.now (round_of round.now))) }
+{
+    for own in &deck.groups(alloc, left, round.private)? {
+        let rest = left_without(alloc, left, own.cards())?;
+        let own_ways = few_ways(left, own);
+        push_publics(
+            alloc,
+            deck,
+            &rest,
+            FewCards::of(own),
+            own_ways,
+            round.public,
+            layer,
+        )?;
+    }
+    Ok(())
+}

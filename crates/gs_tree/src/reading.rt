@@ -1,0 +1,112 @@
+//! Reading the texts of signals: what follows a text's beginning. Nothing takes memory.
+
+ghost use Rattle.std.specs.Prelude.{◌≡◌, ◌<◌, ◌≤◌, ◌∷◌, [], All, length};
+ghost use Rattle.std.specs.Bool.{Decides};
+ghost use Rattle.gs_card.specs.Decks.{card_text, kinds};
+ghost use Rattle.gs_game.specs.Games.{game_of};
+ghost use Rattle.gs_model.specs.Signals.{signal_at, signals};
+ghost use Rattle.gs_tree.specs.Shown.{cards_of, seen_of};
+ghost use Rattle.gs_tree.specs.Tables.{AreTables};
+ghost use Rattle.gs_tree.specs.Texts.{IsRest, group_text, seen_text, signal_text};
+
+use crate::layer::{Layer, Shown};
+use gs_card::{Card, Deck};
+use gs_game::Game;
+
+/// What follows a byte in a text that begins with it.
+fn after_byte(text: &[u8], byte: u8) -> Option<&[u8]>
+    ensures { IsRest text.now (byte ∷ []) result }
+{
+    match text {
+        [first, rest @ ..] if *first == byte => Some(rest),
+        _ => None,
+    }
+}
+
+/// What follows a card in a text that begins with it.
+fn after_card<'t>(text: &'t [u8], deck: &Deck, card: Card) -> Option<&'t [u8]>
+    requires { card < kinds deck.now }
+    ensures { IsRest text.now (card_text deck.now card) result }
+{
+    let _deck = deck.kinds();
+    let [rank, suit] = deck.card_text(card);
+    let rest = after_byte(text, rank)?;
+    after_byte(rest, suit)
+}
+
+/// What follows a group in a text that begins with it.
+fn after_group<'t>(text: &'t [u8], deck: &Deck, cards: &[Card]) -> Option<&'t [u8]>
+    requires { All (λ card. card < kinds deck.now) cards.now }
+    ensures { IsRest text.now (group_text deck.now cards.now) result }
+{
+    match cards {
+        [] => Some(text),
+        [card, others @ ..] => {
+            let rest = after_card(text, deck, *card)?;
+            after_group(rest, deck, others)
+        }
+    }
+}
+
+/// What follows all that is seen in one round in a text that begins with it.
+fn after_seen<'t>(text: &'t [u8], deck: &Deck, shown: &Shown) -> Option<&'t [u8]>
+    requires own { All (λ card. card < kinds deck.now) (cards_of shown.now.own) }
+    requires public { All (λ card. card < kinds deck.now) (cards_of shown.now.public) }
+    ensures { IsRest text.now (seen_text deck.now (seen_of shown.now)) result }
+{
+    let rest = after_group(text, deck, shown.own.cards())?;
+    let public = shown.public.cards();
+    if public.is_empty() {
+        return Some(rest);
+    }
+    let rest = after_byte(rest, b'+')?;
+    after_group(rest, deck, public)
+}
+
+/// What follows a signal in a text that begins with it.
+fn after_signal<'t>(
+    text: &'t [u8],
+    game: &Game,
+    parents: &[Vec<u32>],
+    layers: &[Layer],
+    round: usize,
+    signal: u32,
+) -> Option<&'t [u8]>
+    requires tables { AreTables (game_of game.now) parents.now layers.now }
+    requires some { 0 < round }
+    requires round_in { round ≤ length layers.now }
+    requires signal_in { signal < length (signals (game_of game.now) round) }
+    ensures { IsRest text.now (signal_text game.now.deck (signal_at (game_of game.now) round signal)) result }
+{
+    let _kinds = game.deck.kinds();
+    let layer = &layers[round - 1];
+    let shown = &layer.shown[signal as usize];
+    if round == 1 {
+        return after_seen(text, &game.deck, shown);
+    }
+    let parent = parents[round - 1][signal as usize];
+    let rest = after_signal(text, game, parents, layers, round - 1, parent)?;
+    let rest = after_byte(rest, b'/')?;
+    after_seen(rest, &game.deck, shown)
+}
+
+/// Whether a text is a signal's text.
+pub(crate) fn is_text_of(
+    text: &[u8],
+    game: &Game,
+    parents: &[Vec<u32>],
+    layers: &[Layer],
+    round: usize,
+    signal: u32,
+) -> bool
+    requires tables { AreTables (game_of game.now) parents.now layers.now }
+    requires some { 0 < round }
+    requires round_in { round ≤ length layers.now }
+    requires signal_in { signal < length (signals (game_of game.now) round) }
+    ensures { Decides result (text.now ≡ signal_text game.now.deck (signal_at (game_of game.now) round signal)) }
+{
+    match after_signal(text, game, parents, layers, round, signal) {
+        Some(rest) => rest.is_empty(),
+        None => false,
+    }
+}

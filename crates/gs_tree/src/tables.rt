@@ -1,0 +1,384 @@
+//! The tables of all signals of a game.
+
+ghost use Rattle.std.specs.Prelude.{◌≡◌, ◌≤◌, ◌<◌, ◌+◌, ℕ, suc, ◌++◌, ◌^◌, ◌*◌, ◌==◌, count_by, All, IfOk, OnOk, length, map, string_bytes};
+ghost use Rattle.gs_game.specs.Games.{game_of, round_of};
+ghost use Rattle.gs_model.specs.Game.{round_at, round_count};
+ghost use Rattle.gs_model.specs.Signals.{signals, signal_at, left_by};
+ghost use Rattle.gs_model.specs.Signals.{parents as parents_in, own_cards, public_cards};
+ghost use Rattle.gs_game.specs.Limits.{IsDealable, IsWithinLimits};
+ghost use Rattle.gs_card.specs.Decks.{kinds};
+ghost use Rattle.gs_card.specs.Rankings.{ranking_of};
+ghost use Rattle.gs_rank.specs.Hands.{IsStrength};
+ghost use Rattle.gs_model.specs.Cards.{ways, left_after};
+ghost use Rattle.gs_model.specs.Deals.{path_weight, own_ways};
+ghost use Rattle.gs_model.specs.ViewTree.{signal_strength};
+ghost use Rattle.gs_tree.specs.Layers.{all_cards};
+ghost use Rattle.gs_tree.specs.Texts.{signal_text};
+ghost use Rattle.gs_tree.specs.Tables.{AreTables, IsLayer};
+
+use crate::layer::{Layer, left_without, push_showings};
+use crate::texts::push_seen;
+use gs_card::Card;
+use gs_game::{Game, Round};
+use gs_rank::strength;
+use std::alloc::{AllocError, Global};
+
+/// The copies left once all that a signal shows is taken. Round 0 has the empty signal.
+pub(crate) fn copies_left(
+    alloc: Global,
+    game: &Game,
+    parents: &[Vec<u32>],
+    layers: &[Layer],
+    round: usize,
+    signal: u32,
+) -> Result<Vec<u8>, AllocError>
+    requires tables { AreTables (game_of game.now) parents.now layers.now }
+    requires round_in { round ≤ length layers.now }
+    requires signal_in { signal < length (signals (game_of game.now) round) }
+    ensures left { IfOk result (λ left. left.items ≡ left_by (game_of game.now).copies (signal_at (game_of game.now) round signal)) }
+    ensures few { IfOk result (λ left. All (λ n. n ≤ 9) left.items) }
+    ensures len { IfOk result (λ left. length left.items ≡ length (game_of game.now).copies) }
+{
+    if round == 0 {
+        return Vec::from_slice(alloc, game.deck.counts());
+    }
+    let shown = &layers[round - 1].shown[signal as usize];
+    let parent = parents[round - 1][signal as usize];
+    let left = copies_left(alloc, game, parents, layers, round - 1, parent)?;
+    let left = left_without(alloc, &left, shown.own.cards())?;
+    left_without(alloc, &left, shown.public.cards())
+}
+
+/// The signals of one round, each with its parent.
+#[derive(Drop)]
+pub(crate) struct Grown {
+    pub(crate) parents: Vec<u32>,
+    pub(crate) layer: Layer,
+}
+
+/// The signals of the round after the first `round` rounds, from their tables.
+fn grow(
+    alloc: Global,
+    game: &Game,
+    parents: &[Vec<u32>],
+    layers: &[Layer],
+    count: u32,
+    next: &Round,
+) -> Result<Grown, AllocError>
+    requires tables { AreTables (game_of game.now) parents.now layers.now }
+    requires counted { count ≡ length (signals (game_of game.now) (length layers.now)) }
+    requires round { round_of next.now ≡ round_at (game_of game.now) (suc (length layers.now)) }
+    requires few { length (signals (game_of game.now) (suc (length layers.now))) ≤ 200000 }
+    requires private { next.now.private ≤ 3 }
+    requires public { next.now.public ≤ 3 }
+    ensures parents { IfOk result (λ grown. grown.parents.items ≡ parents_in (game_of game.now) (suc (length layers.now))) }
+    ensures layer { IfOk result (λ grown. IsLayer (game_of game.now) (length layers.now) grown.layer) }
+{
+    let _kinds = game.deck.kinds();
+    let mut grown = Grown {
+        parents: Vec::new(alloc),
+        layer: Layer {
+            shown: Vec::new(alloc),
+            edges: Vec::new(alloc),
+            firsts: Vec::new(alloc),
+        },
+    };
+    for parent in 0..count {
+        let left = copies_left(alloc, game, parents, layers, layers.len(), parent)?;
+        grown.layer.firsts.push(grown.layer.shown.len() as u32)?;
+        push_showings(alloc, &game.deck, &left, next, &mut grown.layer)?;
+        grown.parents.resize(grown.layer.shown.len(), parent)?;
+    }
+    grown.layer.firsts.push(grown.layer.shown.len() as u32)?;
+    Ok(grown)
+}
+
+/// The signals of all rounds, round by round.
+#[derive(Drop)]
+pub(crate) struct Tables {
+    pub(crate) parents: Vec<Vec<u32>>,
+    pub(crate) layers: Vec<Layer>,
+}
+
+/// The tables of all signals of a game.
+pub(crate) fn build(alloc: Global, game: &Game) -> Result<Tables, AllocError>
+    requires limits { IsWithinLimits (game_of game.now) }
+    requires dealable { IsDealable (game_of game.now) }
+    ensures tables { IfOk result (λ t. AreTables (game_of game.now) t.parents.items t.layers.items) }
+    ensures all { IfOk result (λ t. length t.layers.items ≡ round_count (game_of game.now)) }
+{
+    let mut parents: Vec<Vec<u32>> = Vec::new(alloc);
+    let mut layers: Vec<Layer> = Vec::new(alloc);
+    let mut count = 1u32;
+    for next in &game.rounds {
+        let Grown {
+            parents: owners,
+            layer,
+        } = grow(alloc, game, &parents, &layers, count, next)?;
+        count = owners.len() as u32;
+        parents.push(owners)?;
+        layers.push(layer)?;
+    }
+    Ok(Tables { parents, layers })
+}
+
+/// Writes a signal behind a text: a part for each round, joined by `/`.
+pub(crate) fn push_signal(
+    text: &mut String,
+    game: &Game,
+    parents: &[Vec<u32>],
+    layers: &[Layer],
+    round: usize,
+    signal: u32,
+) -> Result<(), AllocError>
+    requires tables { AreTables (game_of game.now) parents.now layers.now }
+    requires some { 0 < round }
+    requires round_in { round ≤ length layers.now }
+    requires signal_in { signal < length (signals (game_of game.now) round) }
+    ensures { OnOk result (string_bytes text.new ≡ string_bytes text.old ++ signal_text game.now.deck (signal_at (game_of game.now) round signal)) }
+{
+    let _kinds = game.deck.kinds();
+    let layer = &layers[round - 1];
+    let shown = &layer.shown[signal as usize];
+    if round == 1 {
+        return push_seen(text, &game.deck, shown);
+    }
+    let parent = parents[round - 1][signal as usize];
+    push_signal(text, game, parents, layers, round - 1, parent)?;
+    text.push('/')?;
+    push_seen(text, &game.deck, shown)
+}
+
+/// Adds the own and the public cards that a signal shows, round by round.
+pub(crate) fn push_hand(
+    parents: &[Vec<u32>],
+    layers: &[Layer],
+    round: usize,
+    signal: u32,
+    game: &Game,
+    own: &mut Vec<Card>,
+    public: &mut Vec<Card>,
+) -> Result<(), AllocError>
+    requires tables { AreTables (game_of game.now) parents.now layers.now }
+    requires round_in { round ≤ length layers.now }
+    requires signal_in { signal < length (signals (game_of game.now) round) }
+    ensures own { OnOk result (own.new.items ≡ own.old.items ++ own_cards (signal_at (game_of game.now) round signal)) }
+    ensures public { OnOk result (public.new.items ≡ public.old.items ++ public_cards (signal_at (game_of game.now) round signal)) }
+{
+    if round == 0 {
+        return Ok(());
+    }
+    let layer = &layers[round - 1];
+    let shown = &layer.shown[signal as usize];
+    let parent = parents[round - 1][signal as usize];
+    push_hand(parents, layers, round - 1, parent, game, own, public)?;
+    own.extend_from_slice(shown.own.cards())?;
+    public.extend_from_slice(shown.public.cards())?;
+    Ok(())
+}
+
+/// The strength of the hand that a last-round signal holds.
+fn strength_of(
+    alloc: Global,
+    parents: &[Vec<u32>],
+    layers: &[Layer],
+    game: &Game,
+    signal: u32,
+) -> Result<u32, AllocError>
+    requires tables { AreTables (game_of game.now) parents.now layers.now }
+    requires all { length layers.now ≡ round_count (game_of game.now) }
+    requires dealable { IsDealable (game_of game.now) }
+    requires signal_in { signal < length (signals (game_of game.now) (round_count (game_of game.now))) }
+    ensures value { IfOk result (λ n. n ≡ signal_strength (game_of game.now) (signal_at (game_of game.now) (round_count (game_of game.now)) signal)) }
+    ensures within { IfOk result (IsStrength (ranking_of game.now.ranking)) }
+{
+    let _kinds = game.deck.kinds();
+    let mut own = Vec::new(alloc);
+    let mut public = Vec::new(alloc);
+    push_hand(
+        parents,
+        layers,
+        layers.len(),
+        signal,
+        game,
+        &mut own,
+        &mut public,
+    )?;
+    Ok(strength(&game.deck, game.ranking, &own, &public))
+}
+
+/// The strengths of the hands of all last-round signals.
+pub(crate) fn strengths(alloc: Global, game: &Game, tables: &Tables) -> Result<Vec<u32>, AllocError>
+    requires tables { AreTables (game_of game.now) tables.now.parents.items tables.now.layers.items }
+    requires all { length tables.now.layers.items ≡ round_count (game_of game.now) }
+    requires limits { IsWithinLimits (game_of game.now) }
+    requires dealable { IsDealable (game_of game.now) }
+    ensures value { IfOk result (λ v. v.items ≡ map (signal_strength (game_of game.now)) (signals (game_of game.now) (round_count (game_of game.now)))) }
+    ensures within { IfOk result (λ v. All (IsStrength (ranking_of game.now.ranking)) v.items) }
+{
+    let layer = &tables.layers[tables.layers.len() - 1];
+    let count = layer.shown.len() as u32;
+    let mut found = Vec::with_capacity(alloc, layer.shown.len())?;
+    for signal in 0..count {
+        found.push(strength_of(alloc, &tables.parents, &tables.layers, game, signal)?)?;
+    }
+    Ok(found)
+}
+
+/// The ways to take all that a signal shows: the product of the edge weights on the way to it.
+pub(crate) fn path_of(
+    game: &Game,
+    parents: &[Vec<u32>],
+    layers: &[Layer],
+    round: usize,
+    signal: u32,
+) -> u64
+    requires tables { AreTables (game_of game.now) parents.now layers.now }
+    requires dealable { IsDealable (game_of game.now) }
+    requires round_in { round ≤ length layers.now }
+    requires all { length layers.now ≡ round_count (game_of game.now) }
+    requires few { length layers.now ≤ 4 }
+    requires signal_in { signal < length (signals (game_of game.now) round) }
+    ensures value { result ≡ path_weight (game_of game.now).copies (signal_at (game_of game.now) round signal) }
+    ensures small { result ≤ 59049 ^ round }
+{
+    if round == 0 {
+        return 1;
+    }
+    let _kinds = game.deck.kinds();
+    let layer = &layers[round - 1];
+    let edge = layer.edges[signal as usize];
+    let parent = parents[round - 1][signal as usize];
+    path_of(game, parents, layers, round - 1, parent) * edge
+}
+
+/// How often the card stands among cards.
+fn times(cards: &[Card], card: Card) -> u64
+    ensures value { result ≡ count_by (λ other. other == card) cards.now }
+    ensures bound { result ≤ length cards.now }
+{
+    cards
+        .iter()
+        .filter(|other| other.number() == card.number())
+        .count() as u64
+}
+
+/// How often the card stands among all that a signal shows.
+fn times_shown(
+    game: &Game,
+    parents: &[Vec<u32>],
+    layers: &[Layer],
+    round: usize,
+    signal: u32,
+    card: Card,
+) -> u64
+    requires tables { AreTables (game_of game.now) parents.now layers.now }
+    requires round_in { round ≤ length layers.now }
+    requires few { length layers.now ≤ 4 }
+    requires signal_in { signal < length (signals (game_of game.now) round) }
+    ensures value { result ≡ count_by (λ other. other == card) (all_cards (signal_at (game_of game.now) round signal)) }
+    ensures small { result ≤ 6 * round }
+{
+    if round == 0 {
+        return 0;
+    }
+    let layer = &layers[round - 1];
+    let shown = &layer.shown[signal as usize];
+    let here = times(shown.own.cards(), card) + times(shown.public.cards(), card);
+    let parent = parents[round - 1][signal as usize];
+    times_shown(game, parents, layers, round - 1, parent, card) + here
+}
+
+/// How often the card stands among the own cards of a signal.
+fn times_own(
+    game: &Game,
+    parents: &[Vec<u32>],
+    layers: &[Layer],
+    round: usize,
+    signal: u32,
+    card: Card,
+) -> u64
+    requires tables { AreTables (game_of game.now) parents.now layers.now }
+    requires round_in { round ≤ length layers.now }
+    requires few { length layers.now ≤ 4 }
+    requires signal_in { signal < length (signals (game_of game.now) round) }
+    ensures value { result ≡ count_by (λ other. other == card) (own_cards (signal_at (game_of game.now) round signal)) }
+    ensures small { result ≤ 3 * round }
+{
+    if round == 0 {
+        return 0;
+    }
+    let layer = &layers[round - 1];
+    let shown = &layer.shown[signal as usize];
+    let here = times(shown.own.cards(), card);
+    let parent = parents[round - 1][signal as usize];
+    times_own(game, parents, layers, round - 1, parent, card) + here
+}
+
+/// The ways of taking an own group from the copies that another player's last-round signal and the own cards of a signal leave.
+fn ways_beside(
+    game: &Game,
+    parents: &[Vec<u32>],
+    layers: &[Layer],
+    one: u32,
+    round: usize,
+    before: u32,
+    own: &[Card],
+) -> u64
+    requires tables { AreTables (game_of game.now) parents.now layers.now }
+    requires few { length layers.now ≤ 4 }
+    requires one_in { one < length (signals (game_of game.now) (length layers.now)) }
+    requires round_in { round ≤ length layers.now }
+    requires before_in { before < length (signals (game_of game.now) round) }
+    requires own_in { All (λ card. card < kinds game.now.deck) own.now }
+    requires own_few { length own.now ≤ 3 }
+    ensures value { result ≡ ways (left_after (left_by (game_of game.now).copies (signal_at (game_of game.now) (length layers.now) one)) (own_cards (signal_at (game_of game.now) round before))) own.now }
+    ensures small { result ≤ 729 }
+{
+    let _kinds = game.deck.kinds();
+    let mut ways: u64 = 1;
+    for (i, card) in own.iter().enumerate() {
+        let shown = times_shown(game, parents, layers, layers.len(), one, *card);
+        let taken = shown + times_own(game, parents, layers, round, before, *card);
+        let again = times(&own[..i], *card);
+        let copies = u64::from(game.deck.count(*card));
+        ways = ways * copies.saturating_sub(taken).saturating_sub(again) / (again + 1);
+    }
+    ways
+}
+
+/// The ways of taking the own groups of a signal from the copies that another player's last-round signal leaves.
+pub(crate) fn own_ways_of(
+    game: &Game,
+    parents: &[Vec<u32>],
+    layers: &[Layer],
+    one: u32,
+    round: usize,
+    two: u32,
+) -> u64
+    requires tables { AreTables (game_of game.now) parents.now layers.now }
+    requires few { length layers.now ≤ 4 }
+    requires one_in { one < length (signals (game_of game.now) (length layers.now)) }
+    requires round_in { round ≤ length layers.now }
+    requires two_in { two < length (signals (game_of game.now) round) }
+    ensures value { result ≡ own_ways (left_by (game_of game.now).copies (signal_at (game_of game.now) (length layers.now) one)) (signal_at (game_of game.now) round two) }
+    ensures small { result ≤ 59049 ^ round }
+{
+    if round == 0 {
+        return 1;
+    }
+    let _kinds = game.deck.kinds();
+    let layer = &layers[round - 1];
+    let shown = &layer.shown[two as usize];
+    let parent = parents[round - 1][two as usize];
+    let here = ways_beside(
+        game,
+        parents,
+        layers,
+        one,
+        round - 1,
+        parent,
+        shown.own.cards(),
+    );
+    own_ways_of(game, parents, layers, one, round - 1, parent) * here
+}
