@@ -1,0 +1,5 @@
+pub mod Keys
+pub mod ItemLists
+pub mod Loop
+pub mod Texts
+pub mod Trees

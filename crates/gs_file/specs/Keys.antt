@@ -1,0 +1,54 @@
+-- The keys of a game file, as it writes them, and where each may stand. Source: this project's game files.
+use Rattle.std.specs.Prelude.{ℕ, Bool, ◌&&◌, true, List, [], ◌∷◌, codes}
+use Rattle.std.specs.List.{list_any}
+use Rattle.std.specs.Str.{bytes_eq}
+use Rattle.toml.specs.Data.{Members, no_members, member}
+use Rattle.gs_file.specs.declared.fault.Key.{Key}
+use Rattle.gs_file.specs.declared.fault.Key.TheVariants as key
+use Rattle.gs_file.specs.declared.fault.Place.{Place}
+use Rattle.gs_file.specs.declared.version.Version.{Version}
+use Rattle.gs_file.specs.declared.version.Version.TheVariants.{One, Two}
+
+-- a key as the file writes it
+abbrev pub key_text : Key → List ℕ
+key_text key.Version = codes "version"
+key_text key.Ranks = codes "ranks"
+key_text key.Suits = codes "suits"
+key_text key.Copies = codes "copies"
+key_text key.Ranking = codes "ranking"
+key_text key.Bonus = codes "bonus"
+key_text key.Ante = codes "ante"
+key_text key.Round = codes "round"
+key_text key.Private = codes "private"
+key_text key.Public = codes "public"
+key_text key.Tree = codes "tree"
+key_text key.Bet = codes "bet"
+key_text key.Cap = codes "cap"
+
+-- the keys that may stand at the top of a file
+abbrev pub top_keys : Version → List Key
+top_keys One = key.Version ∷ key.Ranks ∷ key.Suits ∷ key.Copies ∷ key.Ranking ∷ key.Ante ∷ key.Round ∷ []
+top_keys Two = key.Version ∷ key.Ranks ∷ key.Suits ∷ key.Copies ∷ key.Ranking ∷ key.Bonus ∷ key.Ante ∷ key.Round ∷ []
+
+-- the keys that may stand in a round with a tree, and in one with limit betting
+abbrev pub tree_keys : List Key
+tree_keys = key.Private ∷ key.Public ∷ key.Tree ∷ []
+
+abbrev pub limit_keys : List Key
+limit_keys = key.Private ∷ key.Public ∷ key.Bet ∷ key.Cap ∷ []
+
+-- the text is one of these keys
+abbrev pub is_among : List Key → List ℕ → Bool
+is_among keys name = list_any (λ key. bytes_eq (key_text key) name) keys
+
+-- each key of the table is one of these
+abbrev pub has_only : List Key → Members → Bool
+has_only keys no_members = true
+has_only keys (member name d rest) = is_among keys name && has_only keys rest
+
+-- a key at the top of a file, and in a round
+abbrev pub top : Key → Place
+top k = record { key = k; round = 0 }
+
+abbrev pub within_round : ℕ → Key → Place
+within_round n k = record { key = k; round = n }

@@ -1,0 +1,245 @@
+-- What a game file states, or the first check that fails: the checks stand in their order. Source: this project's game files.
+use Rattle.std.specs.Prelude.{ℕ, zero, suc, ℤ, pos, ◌-◌, ◌==◌, ◌||◌, List, Option, Some, None, is_some, Result, Ok, Err, codes, length, replicate, nat_lt, if◌then◌else◌}
+use Rattle.std.specs.Option.{ok_or}
+use Rattle.std.specs.Str.{bytes_eq, is_utf8}
+use Rattle.toml.specs.Parse.{parse_document}
+use Rattle.toml.specs.Data.{Data, Members, get_member}
+use Rattle.gs_bet.specs.Faults.{fault_of as tree_fault_of}
+use Rattle.gs_bet.specs.Limit.{limit_bet}
+use Rattle.gs_bet.specs.Reading.{Read, all_of}
+use Rattle.gs_card.specs.DeckFaults.{fault_of as deck_fault_of}
+use Rattle.gs_card.specs.Decks.{DeckValue, deck_of}
+use Rattle.gs_card.specs.declared.faults.DeckFault.{DeckFault}
+use Rattle.gs_game.specs.Refusals.{first_refusal, rounds as rounds_refused, Refusal}
+use Rattle.gs_model.specs.Betting.{Bet}
+use Rattle.gs_model.specs.Game.{Game, Round as RoundRules, Ranking, High, Pair, Three}
+use Rattle.gs_model.specs.Outcome.{categories}
+use Rattle.gs_file.specs.Faults.{Fault, not_text, not_toml, bad_version, range, deck, tree_text, game, ◌>>=◌}
+use Rattle.gs_file.specs.Keys.{top, within_round, top_keys, tree_keys, limit_keys, key_text}
+use Rattle.gs_file.specs.Tables.{required, only, whole_number, text, text_or_empty, tables_in, whole_numbers_in, each, within}
+use Rattle.gs_file.specs.declared.fault.Key.TheVariants as key
+use Rattle.gs_file.specs.declared.version.Version.{Version}
+use Rattle.gs_file.specs.declared.version.Version.TheVariants.{One, Two}
+
+-- ---- the text
+
+abbrev pub text_at : List ℕ → Result (List ℕ) Fault
+text_at bytes = if is_utf8 bytes then Ok bytes else Err not_text
+
+abbrev pub parsed_at : List ℕ → Result Members Fault
+parsed_at text = ok_or (parse_document text) not_toml
+
+-- ---- the top of the file
+
+abbrev pub version_of : ℤ → Result Version Fault
+version_of (pos (suc zero)) = Ok One
+version_of (pos (suc (suc zero))) = Ok Two
+version_of z = Err (bad_version z)
+
+unfoldable pub version_at : Members → Result Version Fault
+version_at table = do
+  value ← required table (top key.Version)
+  number ← whole_number (top key.Version) value
+  version_of number
+
+-- the value of `bonus`, which version 2 has and version 1 has not
+abbrev pub bonus_value : Version → Members → Result (Option Data) Fault
+bonus_value One table = Ok None
+bonus_value Two table = required table (top key.Bonus) >>= λ d. Ok (Some d)
+
+-- the values at the top, each there
+pub record TopValues : Type 0 where
+  pub ranks : Data
+  pub suits : Data
+  pub copies : Option Data
+  pub ranking : Data
+  pub bonus : Option Data
+  pub ante : Data
+  pub rounds : Data
+
+unfoldable pub values_at : Members → Result TopValues Fault
+values_at table = do
+  version ← version_at table
+  _ ← only (top_keys version) 0 table
+  ranks ← required table (top key.Ranks)
+  suits ← required table (top key.Suits)
+  ranking ← required table (top key.Ranking)
+  bonus ← bonus_value version table
+  ante ← required table (top key.Ante)
+  rounds ← required table (top key.Round)
+  Ok (record { ranks = ranks; suits = suits; copies = get_member (key_text key.Copies) table; ranking = ranking; bonus = bonus; ante = ante; rounds = rounds })
+
+abbrev pub bonus_numbers : Option Data → Result (Option (List ℤ)) Fault
+bonus_numbers None = Ok None
+bonus_numbers (Some d) = whole_numbers_in (top key.Bonus) d >>= λ numbers. Ok (Some numbers)
+
+-- what stands at the top, each of its type
+pub record Top : Type 0 where
+  pub ranks : List ℕ
+  pub suits : List ℕ
+  pub copies : List ℕ
+  pub ranking : List ℕ
+  pub bonus : Option (List ℤ)
+  pub ante : ℤ
+  pub rounds : List Members
+
+unfoldable pub typed_at : TopValues → Result Top Fault
+typed_at values = do
+  ranks ← text (top key.Ranks) values.ranks
+  suits ← text (top key.Suits) values.suits
+  copies ← text_or_empty (top key.Copies) values.copies
+  ranking ← text (top key.Ranking) values.ranking
+  bonus ← bonus_numbers values.bonus
+  ante ← whole_number (top key.Ante) values.ante
+  rounds ← tables_in (top key.Round) values.rounds
+  Ok (record { ranks = ranks; suits = suits; copies = copies; ranking = ranking; bonus = bonus; ante = ante; rounds = rounds })
+
+-- ---- the rounds
+
+-- there are 1 to 4 rounds
+abbrev pub counted : List Members → Result (Unit {0}) Fault
+counted rounds = if nat_lt (length rounds) 1 || nat_lt 4 (length rounds) then Err (game (rounds_refused (length rounds))) else Ok tt
+
+-- how a round is bet: by a tree's text, or by a bet and a cap
+pub data Play (N : Type 0) : Type 0 where
+  Tree_text : List ℕ → Play N
+  Limit_of : (bet cap : N) → Play N
+
+pub record Round (N : Type 0) : Type 0 where
+  pub private : N
+  pub public : N
+  pub play : Play N
+
+unfoldable pub tree_round_at : ℕ → Members → Result (Round ℤ) Fault
+tree_round_at n table = do
+  _ ← only tree_keys n table
+  private ← required table (within_round n key.Private)
+  public ← required table (within_round n key.Public)
+  tree ← required table (within_round n key.Tree)
+  private ← whole_number (within_round n key.Private) private
+  public ← whole_number (within_round n key.Public) public
+  tree ← text (within_round n key.Tree) tree
+  Ok (record { private = private; public = public; play = Tree_text tree })
+
+unfoldable pub limit_round_at : ℕ → Members → Result (Round ℤ) Fault
+limit_round_at n table = do
+  _ ← only limit_keys n table
+  private ← required table (within_round n key.Private)
+  public ← required table (within_round n key.Public)
+  bet ← required table (within_round n key.Bet)
+  cap ← required table (within_round n key.Cap)
+  private ← whole_number (within_round n key.Private) private
+  public ← whole_number (within_round n key.Public) public
+  bet ← whole_number (within_round n key.Bet) bet
+  cap ← whole_number (within_round n key.Cap) cap
+  Ok (record { private = private; public = public; play = Limit_of bet cap })
+
+unfoldable pub round_at : ℕ → Members → Result (Round ℤ) Fault
+round_at n table = if is_some (get_member (key_text key.Tree) table) then tree_round_at n table else limit_round_at n table
+
+-- ---- the ranges
+
+abbrev pub ranking_at : List ℕ → Result Ranking Fault
+ranking_at word =
+    if bytes_eq word (codes "high") then Ok High
+    else if bytes_eq word (codes "pair") then Ok Pair
+    else if bytes_eq word (codes "three") then Ok Three
+    else Err (range (top key.Ranking))
+
+-- one bonus for each category, each from 1 to 9; without them all are 1
+unfoldable pub bonus_at : Ranking → Option (List ℤ) → Result (List ℕ) Fault
+bonus_at r None = Ok (replicate (categories r) 1)
+bonus_at r (Some numbers) =
+    if length numbers == categories r then each (λ n. within (top key.Bonus) 1 9) 1 numbers else Err (range (top key.Bonus))
+
+abbrev pub play_within : ℕ → Play ℤ → Result (Play ℕ) Fault
+play_within n (Tree_text text) = Ok (Tree_text text)
+play_within n (Limit_of bet cap) = do
+  bet ← within (within_round n key.Bet) 1 2048 bet
+  cap ← within (within_round n key.Cap) 0 8 cap
+  Ok (Limit_of bet cap)
+
+unfoldable pub round_within : ℕ → Round ℤ → Result (Round ℕ) Fault
+round_within n round = do
+  private ← within (within_round n key.Private) 0 2 round.private
+  public ← within (within_round n key.Public) 0 3 round.public
+  play ← play_within n round.play
+  Ok (record { private = private; public = public; play = play })
+
+-- ---- the game
+
+-- a game with the letters of its deck
+pub record FileGame : Type 0 where
+  pub deck : DeckValue
+  pub ranking : Ranking
+  pub bonus : List ℕ
+  pub ante : ℕ
+  pub rounds : List RoundRules
+
+abbrev pub rules_of : FileGame → Game
+rules_of g = record { suits = length g.deck.suits; copies = g.deck.counts; ranking = g.ranking; bonus = g.bonus; ante = g.ante; rounds = g.rounds }
+
+abbrev pub deck_made : DeckValue → Option DeckFault → Result DeckValue Fault
+deck_made d None = Ok d
+deck_made d (Some why) = Err (deck why)
+
+abbrev pub deck_at : List ℕ → List ℕ → List ℕ → Result DeckValue Fault
+deck_at ranks suits copies = deck_made (deck_of ranks suits copies) (deck_fault_of ranks suits copies)
+
+-- the tree that is read from a round's text, or the fault of the text
+abbrev pub tree_read : ℕ → List ℕ → Read Bet → Result Bet Fault
+tree_read n text (Ok (t, rest)) = Ok t
+tree_read n text (Err (mistake, rest)) = Err (tree_text n (tree_fault_of mistake (length text - length rest)))
+
+abbrev pub tree_at : ℕ → List ℕ → Result Bet Fault
+tree_at n text = tree_read n text (all_of text)
+
+abbrev pub play_tree : ℕ → Play ℕ → Result Bet Fault
+play_tree n (Tree_text text) = tree_at n text
+play_tree n (Limit_of bet cap) = Ok (limit_bet bet cap)
+
+unfoldable pub round_built : ℕ → Round ℕ → Result RoundRules Fault
+round_built n round = do
+  tree ← play_tree n round.play
+  Ok (record { private = round.private; public = round.public; tree = tree })
+
+abbrev pub unless_refused : FileGame → Option Refusal → Result FileGame Fault
+unless_refused g None = Ok g
+unless_refused g (Some why) = Err (game why)
+
+-- the game that keeps the rules
+abbrev pub lawful : FileGame → Result FileGame Fault
+lawful g = unless_refused g (first_refusal (rules_of g))
+
+-- what is in its range
+pub record Stated : Type 0 where
+  pub ranking : Ranking
+  pub bonus : List ℕ
+  pub ante : ℕ
+  pub rounds : List (Round ℕ)
+
+unfoldable pub stated_at : Top → Result Stated Fault
+stated_at fields = do
+  _ ← counted fields.rounds
+  rounds ← each round_at 1 fields.rounds
+  ranking ← ranking_at fields.ranking
+  bonus ← bonus_at ranking fields.bonus
+  ante ← within (top key.Ante) 1 4096 fields.ante
+  rounds ← each round_within 1 rounds
+  Ok (record { ranking = ranking; bonus = bonus; ante = ante; rounds = rounds })
+
+unfoldable pub game_at : Members → Result FileGame Fault
+game_at table = do
+  values ← values_at table
+  fields ← typed_at values
+  stated ← stated_at fields
+  cards ← deck_at fields.ranks fields.suits fields.copies
+  rounds ← each round_built 1 stated.rounds
+  lawful (record { deck = cards; ranking = stated.ranking; bonus = stated.bonus; ante = stated.ante; rounds = rounds })
+
+-- what the bytes of a game file state, or what is wrong with them first
+unfoldable pub read_at : List ℕ → Result FileGame Fault
+read_at bytes = do
+  text ← text_at bytes
+  table ← parsed_at text
+  game_at table

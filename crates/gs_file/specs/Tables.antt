@@ -1,0 +1,63 @@
+-- The values of a table by their keys and types. Source: TOML as `toml` reads it, and this project's game files.
+use Rattle.std.specs.Prelude.{ℕ, ℤ, pos, ◌+◌, ◌&&◌, List, [], ◌∷◌, Option, Some, None, Result, Ok, Err, nat_le, if◌then◌else◌}
+use Rattle.std.specs.Option.{ok_or}
+use Rattle.toml.specs.Data.{Data, Items, no_items, item, Members, get_member, as_str, as_integer, as_array, as_table}
+use Rattle.gs_file.specs.Faults.{Fault, missing_key, unknown_key, wrong_type, range, ◌>>=◌}
+use Rattle.gs_file.specs.Keys.{key_text, has_only}
+use Rattle.gs_file.specs.declared.fault.Key.{Key}
+use Rattle.gs_file.specs.declared.fault.Place.{Place}
+
+-- the value of a key that has to be there
+abbrev pub required : Members → Place → Result Data Fault
+required table place = ok_or (get_member (key_text place.key) table) (missing_key place)
+
+-- no key but these stands in the table
+abbrev pub only : List Key → ℕ → Members → Result (Unit {0}) Fault
+only keys round table = if has_only keys table then Ok tt else Err (unknown_key round)
+
+-- the value, where it has the type that is wanted
+abbrev pub whole_number : Place → Data → Result ℤ Fault
+whole_number place d = ok_or (as_integer d) (wrong_type place)
+
+abbrev pub text : Place → Data → Result (List ℕ) Fault
+text place d = ok_or (as_str d) (wrong_type place)
+
+abbrev pub table_in : Place → Data → Result Members Fault
+table_in place d = ok_or (as_table d) (wrong_type place)
+
+abbrev pub array_in : Place → Data → Result Items Fault
+array_in place d = ok_or (as_array d) (wrong_type place)
+
+-- the text of a key that may be absent, and then is empty
+abbrev pub text_or_empty : Place → Option Data → Result (List ℕ) Fault
+text_or_empty place None = Ok []
+text_or_empty place (Some d) = text place d
+
+-- each member of a list read in turn, by its number from the given one on
+abbrev pub each : {A B : Type 0} → (ℕ → A → Result B Fault) → ℕ → List A → Result (List B) Fault
+each read n [] = Ok []
+each read n (x ∷ xs) = do
+  first ← read n x
+  others ← each read (n + 1) xs
+  Ok (first ∷ others)
+
+-- the items of an array as a list
+abbrev pub list_of : Items → List Data
+list_of no_items = []
+list_of (item d rest) = d ∷ list_of rest
+
+-- an array of tables, and one of integers
+unfoldable pub tables_in : Place → Data → Result (List Members) Fault
+tables_in place d = do
+  items ← array_in place d
+  each (λ n. table_in place) 1 (list_of items)
+
+unfoldable pub whole_numbers_in : Place → Data → Result (List ℤ) Fault
+whole_numbers_in place d = do
+  items ← array_in place d
+  each (λ n. whole_number place) 1 (list_of items)
+
+-- a number from low to high
+abbrev pub within : Place → ℕ → ℕ → ℤ → Result ℕ Fault
+within place low high (pos n) = if nat_le low n && nat_le n high then Ok n else Err (range place)
+within place low high z = Err (range place)

@@ -1,0 +1,64 @@
+-- What is read by the program, as the definitions see it.
+use Rattle.std.specs.Prelude.{ℕ, ℤ, map, option_map}
+use Rattle.toml.specs.View.{view, table_view}
+use Rattle.gs_card.specs.Rankings.{ranking_of}
+use Rattle.gs_game.specs.Games.{round_of}
+use Rattle.gs_game.specs.declared.game.Game.{Game}
+use Rattle.gs_game.specs.declared.valid.ValidGame.{ValidGame}
+use Rattle.gs_file.specs.Reading.{Play, Tree_text, Limit_of, Round, TopValues as TopData, Top, Stated, FileGame}
+use Rattle.gs_file.specs.declared.parts.TopValues.{TopValues}
+use Rattle.gs_file.specs.declared.parts.TopFields.{TopFields}
+use Rattle.gs_file.specs.declared.parts.RoundFields.{RoundFields}
+use Rattle.gs_file.specs.declared.parts.Betting.{Betting}
+use Rattle.gs_file.specs.declared.parts.Betting.TheVariants as betting
+use Rattle.gs_file.specs.declared.parts.RoundSizes.{RoundSizes}
+use Rattle.gs_file.specs.declared.parts.Sizes.{Sizes}
+use Rattle.gs_file.specs.declared.parts.StatedGame.{StatedGame}
+use Rattle.gs_file.specs.declared.parts.Sizes.TheVariants as sizes
+
+abbrev pub values_view : TopValues → TopData
+values_view v = record {
+  ranks = view v.ranks.now;
+  suits = view v.suits.now;
+  copies = option_map (λ d. view d.now) v.copies;
+  ranking = view v.ranking.now;
+  bonus = option_map (λ d. view d.now) v.bonus;
+  ante = view v.ante.now;
+  rounds = view v.rounds.now;
+}
+
+abbrev pub top_view : TopFields → Top
+top_view t = record {
+  ranks = t.ranks.now;
+  suits = t.suits.now;
+  copies = t.copies.now;
+  ranking = t.ranking.now;
+  bonus = option_map (λ v. v.items) t.bonus;
+  ante = t.ante;
+  rounds = map (λ d. table_view d.now) t.rounds.items;
+}
+
+abbrev pub play_view : Betting → Play ℤ
+play_view (betting.Tree text) = Tree_text text.now
+play_view (betting.Limit bet cap) = Limit_of bet cap
+
+abbrev pub round_view : RoundFields → Round ℤ
+round_view r = record { private = r.private; public = r.public; play = play_view r.betting }
+
+abbrev pub sizes_view : Sizes → Play ℕ
+sizes_view (sizes.Tree text) = Tree_text text.now
+sizes_view (sizes.Limit limits) = Limit_of limits.bet limits.cap
+
+abbrev pub ranged_view : RoundSizes → Round ℕ
+ranged_view r = record { private = r.private; public = r.public; play = sizes_view r.betting }
+
+-- what is in its range
+abbrev pub stated_view : StatedGame → Stated
+stated_view s = record { ranking = ranking_of s.ranking; bonus = s.bonus.items; ante = s.ante; rounds = map ranged_view s.rounds.items }
+
+-- the game of the program, with the letters of its deck
+abbrev pub game_view : Game → FileGame
+game_view g = record { deck = g.deck; ranking = ranking_of g.ranking; bonus = g.bonus.items; ante = g.ante; rounds = map round_of g.rounds.items }
+
+abbrev pub valid_view : ValidGame → FileGame
+valid_view v = game_view v.game

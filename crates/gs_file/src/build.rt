@@ -1,0 +1,92 @@
+//! The parts of a game, made of what a file states.
+
+ghost use Rattle.std.specs.Prelude.{◌≡◌, ◌≤◌, All, IfOk, length, map};
+ghost use Rattle.gs_bet.specs.TreeView.{plain};
+ghost use Rattle.gs_card.specs.Rankings.{ranking_of};
+ghost use Rattle.gs_game.specs.Games.{HasFewCards, round_of as rules_of_round};
+ghost use Rattle.gs_model.specs.Outcome.{IsBonus};
+ghost use Rattle.gs_file.specs.Answers.{Gives};
+ghost use Rattle.gs_file.specs.Reading.{deck_at, tree_at, play_tree, round_built, lawful};
+ghost use Rattle.gs_file.specs.Tables.{each};
+ghost use Rattle.gs_file.specs.Views.{sizes_view, ranged_view, game_view, valid_view};
+
+use crate::fault::FileFault;
+use crate::parts::{RoundSizes, Sizes};
+use gs_bet::{BetTree, limit_tree, parse_tree};
+use gs_card::Deck;
+use gs_game::{Game, Round, ValidGame};
+use std::alloc::Global;
+
+/// The deck of the three texts.
+pub fn deck_of(alloc: Global, ranks: &str, suits: &str, copies: &str) -> Result<Deck, FileFault>
+    ensures { Gives (λ d. d) result (deck_at ranks.now suits.now copies.now) }
+{
+    match Deck::new(alloc, ranks, suits, copies) {
+        Ok(deck) => Ok(deck),
+        Err(fault) => Err(FileFault::from(fault)),
+    }
+}
+
+/// The tree of a text.
+fn tree_of_text(alloc: Global, text: &str, round: u8) -> Result<BetTree, FileFault>
+    ensures { Gives (λ t. plain t.tree) result (tree_at round text.now) }
+{
+    match parse_tree(alloc, text) {
+        Ok(tree) => Ok(tree),
+        Err(fault) => Err(FileFault::of_tree(round, fault)),
+    }
+}
+
+/// The tree of a round.
+fn tree_of(alloc: Global, betting: Sizes<'_>, round: u8) -> Result<BetTree, FileFault>
+    ensures { Gives (λ t. plain t.tree) result (play_tree round (sizes_view betting.entry)) }
+{
+    match betting {
+        Sizes::Tree(text) => tree_of_text(alloc, text, round),
+        Sizes::Limit(limits) => {
+            let tree = limit_tree(alloc, limits.bet, limits.cap)?;
+            Ok(tree)
+        }
+    }
+}
+
+#[tactic(auto, unfolding(crate::specs::Reading::round_built))]
+fn round_of(alloc: Global, sizes: &RoundSizes<'_>, round: u8) -> Result<Round, FileFault>
+    ensures gives { Gives rules_of_round result (round_built round (ranged_view sizes.now)) }
+    ensures few { IfOk result HasFewCards }
+{
+    let tree = tree_of(alloc, sizes.betting, round)?;
+    Ok(Round {
+        private: sizes.private,
+        public: sizes.public,
+        tree,
+    })
+}
+
+/// The rounds with their trees, each in turn.
+pub fn rounds_built(alloc: Global, sizes: &[RoundSizes<'_>]) -> Result<Vec<Round>, FileFault>
+    requires { length sizes.now ≤ 4 }
+    ensures gives { Gives (λ v. map rules_of_round v.items) result (each round_built 1 (map ranged_view sizes.now)) }
+    ensures few { IfOk result (λ v. All HasFewCards v.items) }
+{
+    let mut rounds = Vec::new(alloc);
+    for (index, size) in sizes.iter().enumerate() {
+        let round = round_of(alloc, size, index as u8 + 1)?;
+        rounds.push(round)?;
+    }
+    Ok(rounds)
+}
+
+/// The game, where it keeps the rules.
+pub fn checked(alloc: Global, game: Game) -> Result<ValidGame, FileFault>
+    requires some_ante { 1 ≤ game.ante }
+    requires ante { game.ante ≤ 4096 }
+    requires cards { All HasFewCards game.rounds.items }
+    requires bonus { IsBonus (ranking_of game.ranking) game.bonus.items }
+    ensures { Gives valid_view result (lawful (game_view game)) }
+{
+    match game.check(alloc) {
+        Ok(valid) => Ok(valid),
+        Err(fault) => Err(FileFault::from(fault)),
+    }
+}

@@ -1,0 +1,142 @@
+//! What a game file may have wrong.
+
+ghost use Rattle.std.specs.Prelude.{◌≡◌};
+ghost use Rattle.gs_file.specs.declared.fault.FileFault.TheVariants.{Memory};
+
+use gs_bet::TreeFault;
+use gs_card::DeckFault;
+use gs_game::GameFault;
+use std::alloc::{AllocError, AllocFailed};
+
+/// A key of the game file.
+#[derive(Clone, Copy, Debug, PartialEq, Eq)]
+pub enum Key {
+    Version,
+    Ranks,
+    Suits,
+    Copies,
+    Ranking,
+    Bonus,
+    Ante,
+    Round,
+    Private,
+    Public,
+    Tree,
+    Bet,
+    Cap,
+}
+
+impl Key {
+    ghost use Rattle.gs_file.specs.Keys.{key_text};
+
+    /// The key as the file writes it.
+    pub fn text(self) -> &'static str
+        ensures { result.now ≡ key_text self }
+    {
+        match self {
+            Key::Version => "version",
+            Key::Ranks => "ranks",
+            Key::Suits => "suits",
+            Key::Copies => "copies",
+            Key::Ranking => "ranking",
+            Key::Bonus => "bonus",
+            Key::Ante => "ante",
+            Key::Round => "round",
+            Key::Private => "private",
+            Key::Public => "public",
+            Key::Tree => "tree",
+            Key::Bet => "bet",
+            Key::Cap => "cap",
+        }
+    }
+}
+
+/// A key, and the round that it stands in, or 0 outside the rounds.
+#[derive(Clone, Copy, Debug, PartialEq, Eq)]
+pub struct Place {
+    pub key: Key,
+    pub round: u8,
+}
+
+/// The first thing that is wrong with a game file, or want of memory. The checks stand in the order of the file's description.
+#[derive(Debug, Drop)]
+pub enum FileFault {
+    /// The bytes are not UTF-8.
+    NotText,
+    /// The text is not TOML.
+    NotToml,
+    /// A key that has to be there is not.
+    MissingKey(Place),
+    /// A key stands at the top, where the round is 0, or in a round, that may not stand there.
+    UnknownKey { round: u8 },
+    /// A value is of another type than its key wants.
+    WrongType(Place),
+    /// The version is neither 1 nor 2.
+    BadVersion(i64),
+    /// A value is of its type and out of its range.
+    Range(Place),
+    /// The ranks, suits and copies make no deck.
+    Deck(DeckFault),
+    /// The text of a round's tree is no tree's text.
+    TreeText { round: u8, fault: TreeFault },
+    /// The game breaks a rule.
+    Game(GameFault),
+    /// Want of memory.
+    Memory,
+}
+
+impl From<AllocError> for FileFault {
+    ghost from_gives = { λ _ e. e ≡ Memory };
+
+    fn from(_: AllocError) -> FileFault {
+        FileFault::Memory
+    }
+}
+
+impl<T: Drop> From<AllocFailed<T>> for FileFault {
+    ghost from_gives = { λ _ e. e ≡ Memory };
+
+    fn from(_: AllocFailed<T>) -> FileFault {
+        FileFault::Memory
+    }
+}
+
+impl From<DeckFault> for FileFault {
+    ghost use Rattle.gs_file.specs.Answers.{of_deck};
+
+    ghost from_gives = { λ why e. e ≡ of_deck why };
+
+    fn from(fault: DeckFault) -> FileFault {
+        match fault {
+            DeckFault::Memory => FileFault::Memory,
+            fault => FileFault::Deck(fault),
+        }
+    }
+}
+
+impl From<GameFault> for FileFault {
+    ghost use Rattle.gs_file.specs.Answers.{of_rules};
+
+    ghost from_gives = { λ why e. e ≡ of_rules why };
+
+    fn from(fault: GameFault) -> FileFault {
+        match fault {
+            GameFault::Memory => FileFault::Memory,
+            fault => FileFault::Game(fault),
+        }
+    }
+}
+
+impl FileFault {
+    ghost use Rattle.gs_file.specs.Answers.{of_tree};
+
+    /// The fault of a round's tree.
+    pub(crate) fn of_tree(round: u8, fault: TreeFault) -> FileFault
+        ensures { result ≡ of_tree round fault }
+    {
+        match fault {
+            TreeFault::Memory => FileFault::Memory,
+            fault => FileFault::TreeText { round, fault },
+        }
+    }
+}

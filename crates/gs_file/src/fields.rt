@@ -1,0 +1,113 @@
+//! The values of a table, each by its key and its type.
+
+ghost use Rattle.std.specs.Prelude.{◌≡◌, string_bytes, option_map};
+ghost use Rattle.std.specs.List.{list_all};
+ghost use Rattle.std.specs.BTreeMap.{keys};
+ghost use Rattle.toml.specs.Data.{get_member};
+ghost use Rattle.toml.specs.View.{view, table_view, array_view};
+ghost use Rattle.gs_file.specs.Answers.{Gives};
+ghost use Rattle.gs_file.specs.Keys.{key_text, is_among, has_only, top as top_place};
+ghost use Rattle.gs_file.specs.Tables.{required, only, whole_number, text, text_or_empty, table_in, array_in};
+
+use crate::fault::{FileFault, Key, Place};
+use toml::value::Array;
+use toml::{Table, Value};
+
+/// A place outside the rounds.
+pub const fn top(key: Key) -> Place
+    ensures { result ≡ top_place key }
+{
+    Place { key, round: 0 }
+}
+
+/// The value of a key, where it is there.
+pub fn value_at(table: &Table, key: Key) -> Option<&Value>
+    ensures { option_map (λ v. view v.now) result ≡ get_member (key_text key) (table_view table.now) }
+{
+    table.get(key.text())
+}
+
+/// The value of a key that has to be there.
+pub fn required_at(table: &Table, place: Place) -> Result<&Value, FileFault>
+    ensures { Gives (λ v. view v.now) result (required (table_view table.now) place) }
+{
+    match value_at(table, place.key) {
+        Some(value) => Ok(value),
+        None => Err(FileFault::MissingKey(place)),
+    }
+}
+
+fn is_known(keys: &[Key], name: &str) -> bool
+    ensures { result ≡ is_among keys.now name.now }
+{
+    keys.iter().any(|key| key.text() == name)
+}
+
+fn all_known(table: &Table, known: &[Key]) -> bool
+    ensures { result ≡ list_all (λ k. is_among known.now (string_bytes k)) (keys table.now) }
+{
+    table.keys().all(|key| is_known(known, key.as_str()))
+}
+
+fn has_only_keys(table: &Table, known: &[Key]) -> bool
+    ensures { result ≡ has_only known.now (table_view table.now) }
+{
+    all_known(table, known)
+}
+
+/// Each key of the table is one of these.
+pub fn check_only(table: &Table, known: &[Key], round: u8) -> Result<(), FileFault>
+    ensures { Gives (λ v. v) result (only known.now round (table_view table.now)) }
+{
+    if has_only_keys(table, known) {
+        Ok(())
+    } else {
+        Err(FileFault::UnknownKey { round })
+    }
+}
+
+pub fn whole_number_of(value: &Value, place: Place) -> Result<i64, FileFault>
+    ensures { Gives (λ z. z) result (whole_number place (view value.now)) }
+{
+    match value.as_integer() {
+        Some(number) => Ok(number),
+        None => Err(FileFault::WrongType(place)),
+    }
+}
+
+pub fn text_of(value: &Value, place: Place) -> Result<&str, FileFault>
+    ensures { Gives (λ s. s.now) result (text place (view value.now)) }
+{
+    match value.as_str() {
+        Some(text) => Ok(text),
+        None => Err(FileFault::WrongType(place)),
+    }
+}
+
+/// The text of a value that may be absent, and then is empty.
+pub fn text_or_none(value: Option<&Value>, place: Place) -> Result<&str, FileFault>
+    ensures { Gives (λ s. s.now) result (text_or_empty place (option_map (λ v. view v.now) value.entry)) }
+{
+    match value {
+        Some(value) => text_of(value, place),
+        None => Ok(""),
+    }
+}
+
+pub fn table_of(value: &Value, place: Place) -> Result<&Table, FileFault>
+    ensures { Gives (λ t. table_view t.now) result (table_in place (view value.now)) }
+{
+    match value.as_table() {
+        Some(table) => Ok(table),
+        None => Err(FileFault::WrongType(place)),
+    }
+}
+
+pub fn array_of(value: &Value, place: Place) -> Result<&Array, FileFault>
+    ensures { Gives (λ a. array_view a.now) result (array_in place (view value.now)) }
+{
+    match value.as_array() {
+        Some(array) => Ok(array),
+        None => Err(FileFault::WrongType(place)),
+    }
+}

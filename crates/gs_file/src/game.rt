@@ -1,0 +1,65 @@
+//! The whole of a game file.
+
+ghost use Rattle.std.specs.Prelude.{◌≡◌};
+ghost use Rattle.toml.specs.View.{table_view};
+ghost use Rattle.gs_file.specs.Answers.{Gives};
+ghost use Rattle.gs_file.specs.Reading.{text_at, parsed_at, game_at, read_at};
+ghost use Rattle.gs_file.specs.Views.{valid_view};
+
+use crate::build::{checked, deck_of, rounds_built};
+use crate::fault::FileFault;
+use crate::ranges::stated_of;
+use crate::top::{typed_of, values_of};
+use gs_game::{Game, ValidGame};
+use std::alloc::Global;
+use toml::Table;
+
+fn text_of_bytes(bytes: &[u8]) -> Result<&str, FileFault>
+    ensures { Gives (λ s. s.now) result (text_at bytes.now) }
+{
+    match std::str::from_utf8(bytes) {
+        Ok(text) => Ok(text),
+        Err(_) => Err(FileFault::NotText),
+    }
+}
+
+fn document_of(alloc: Global, text: &str) -> Result<Table, FileFault>
+    ensures { Gives (λ t. table_view t) result (parsed_at text.now) }
+{
+    match toml::table_from_str(alloc, text) {
+        Ok(table) => Ok(table),
+        Err(error) if error.is_memory() => Err(FileFault::Memory),
+        Err(_) => Err(FileFault::NotToml),
+    }
+}
+
+#[tactic(auto, unfolding(crate::specs::Reading::game_at))]
+fn game_of(alloc: Global, table: &Table) -> Result<ValidGame, FileFault>
+    ensures { Gives valid_view result (game_at (table_view table.now)) }
+{
+    let values = values_of(table)?;
+    let fields = typed_of(alloc, &values)?;
+    let stated = stated_of(alloc, &fields)?;
+    let deck = deck_of(alloc, fields.ranks, fields.suits, fields.copies)?;
+    let rounds = rounds_built(alloc, &stated.rounds)?;
+    checked(
+        alloc,
+        Game {
+            deck,
+            ranking: stated.ranking,
+            bonus: stated.bonus,
+            ante: stated.ante,
+            rounds,
+        },
+    )
+}
+
+/// The game that the bytes of a game file state, or what is wrong with them first.
+#[tactic(auto, unfolding(crate::specs::Reading::read_at))]
+pub fn read_game(alloc: Global, bytes: &[u8]) -> Result<ValidGame, FileFault>
+    ensures { Gives valid_view result (read_at bytes.now) }
+{
+    let text = text_of_bytes(bytes)?;
+    let table = document_of(alloc, text)?;
+    game_of(alloc, &table)
+}

@@ -1,0 +1,144 @@
+//! The top of a game file.
+
+ghost use Rattle.std.specs.Prelude.{◌≡◌, option_map};
+ghost use Rattle.toml.specs.View.{view, table_view};
+ghost use Rattle.gs_file.specs.Answers.{Gives};
+ghost use Rattle.gs_file.specs.Keys.{top_keys};
+ghost use Rattle.gs_file.specs.Tables.{only};
+ghost use Rattle.gs_file.specs.Reading.{version_of, version_at, bonus_value, values_at, bonus_numbers, typed_at};
+ghost use Rattle.gs_file.specs.Views.{values_view, top_view};
+
+use crate::fault::{FileFault, Key};
+use crate::fields::{
+    check_only, required_at, text_of, text_or_none, top, value_at, whole_number_of,
+};
+use crate::lists::{tables_of, whole_numbers_of};
+use crate::parts::{TopFields, TopValues};
+use crate::version::Version;
+use std::alloc::Global;
+use toml::{Table, Value};
+
+fn version_by_number(number: i64) -> Result<Version, FileFault>
+    ensures { Gives (λ v. v) result (version_of number) }
+{
+    match number {
+        1 => Ok(Version::One),
+        2 => Ok(Version::Two),
+        _ => Err(FileFault::BadVersion(number)),
+    }
+}
+
+#[tactic(auto, unfolding(crate::specs::Reading::version_at))]
+fn version(table: &Table) -> Result<Version, FileFault>
+    ensures { Gives (λ v. v) result (version_at (table_view table.now)) }
+{
+    let value = required_at(table, top(Key::Version))?;
+    let number = whole_number_of(value, top(Key::Version))?;
+    version_by_number(number)
+}
+
+fn check_top_keys(table: &Table, version: Version) -> Result<(), FileFault>
+    ensures { Gives (λ v. v) result (only (top_keys version) 0 (table_view table.now)) }
+{
+    match version {
+        Version::One => check_only(
+            table,
+            &[
+                Key::Version,
+                Key::Ranks,
+                Key::Suits,
+                Key::Copies,
+                Key::Ranking,
+                Key::Ante,
+                Key::Round,
+            ],
+            0,
+        ),
+        Version::Two => check_only(
+            table,
+            &[
+                Key::Version,
+                Key::Ranks,
+                Key::Suits,
+                Key::Copies,
+                Key::Ranking,
+                Key::Bonus,
+                Key::Ante,
+                Key::Round,
+            ],
+            0,
+        ),
+    }
+}
+
+/// The value of `bonus`, which version 2 has and version 1 has not.
+fn bonus_of(table: &Table, version: Version) -> Result<Option<&Value>, FileFault>
+    ensures { Gives (option_map (λ v. view v.now)) result (bonus_value version (table_view table.now)) }
+{
+    match version {
+        Version::One => Ok(None),
+        Version::Two => {
+            let value = required_at(table, top(Key::Bonus))?;
+            Ok(Some(value))
+        }
+    }
+}
+
+/// The values at the top, each there.
+#[tactic(auto, unfolding(crate::specs::Reading::values_at))]
+pub fn values_of(table: &Table) -> Result<TopValues<'_>, FileFault>
+    ensures { Gives values_view result (values_at (table_view table.now)) }
+{
+    let version = version(table)?;
+    check_top_keys(table, version)?;
+    let ranks = required_at(table, top(Key::Ranks))?;
+    let suits = required_at(table, top(Key::Suits))?;
+    let ranking = required_at(table, top(Key::Ranking))?;
+    let bonus = bonus_of(table, version)?;
+    let ante = required_at(table, top(Key::Ante))?;
+    let rounds = required_at(table, top(Key::Round))?;
+    Ok(TopValues {
+        ranks,
+        suits,
+        copies: value_at(table, Key::Copies),
+        ranking,
+        bonus,
+        ante,
+        rounds,
+    })
+}
+
+fn bonus_typed(alloc: Global, bonus: Option<&Value>) -> Result<Option<Vec<i64>>, FileFault>
+    ensures { Gives (option_map (λ v. v.items)) result (bonus_numbers (option_map (λ v. view v.now) bonus.entry)) }
+{
+    match bonus {
+        None => Ok(None),
+        Some(value) => {
+            let numbers = whole_numbers_of(alloc, value, top(Key::Bonus))?;
+            Ok(Some(numbers))
+        }
+    }
+}
+
+/// What stands at the top, each of its type.
+#[tactic(auto, unfolding(crate::specs::Reading::typed_at))]
+pub fn typed_of<'t>(alloc: Global, values: &TopValues<'t>) -> Result<TopFields<'t>, FileFault>
+    ensures { Gives top_view result (typed_at (values_view values.now)) }
+{
+    let ranks = text_of(values.ranks, top(Key::Ranks))?;
+    let suits = text_of(values.suits, top(Key::Suits))?;
+    let copies = text_or_none(values.copies, top(Key::Copies))?;
+    let ranking = text_of(values.ranking, top(Key::Ranking))?;
+    let bonus = bonus_typed(alloc, values.bonus)?;
+    let ante = whole_number_of(values.ante, top(Key::Ante))?;
+    let rounds = tables_of(alloc, values.rounds, top(Key::Round))?;
+    Ok(TopFields {
+        ranks,
+        suits,
+        copies,
+        ranking,
+        bonus,
+        ante,
+        rounds,
+    })
+}
