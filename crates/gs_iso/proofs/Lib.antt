@@ -2,3 +2,8 @@ pub mod Exact
 pub mod FirstSeen
 pub mod Numbered
 pub mod Rounds
+pub mod Below
+pub mod Whole
+pub mod Listed
+pub mod Pairs
+pub mod Paired

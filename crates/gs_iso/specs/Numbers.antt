@@ -1,10 +1,10 @@
 -- Numbers of nodes and of signatures.
-use Rattle.std.specs.Prelude.{ℕ, ◌-◌, ◌<◌, ◌≡◌, ◌↔◌, List, Some, Vec, get_or, length, slice_get}
+use Rattle.std.specs.Prelude.{ℕ, ◌-◌, ◌<◌, ◌≡◌, ◌↔◌, List, [], ◌∷◌, Some, Vec, get_or, length, slice_get}
 use Rattle.std.specs.declared.alloc.Global.{Global}
-use Rattle.gs_model.specs.Game.{Game}
+use Rattle.gs_model.specs.Game.{Game, round_count}
 use Rattle.gs_model.specs.Isomorphism.{Isomorphic}
 use Rattle.gs_model.specs.Numbering.{IsClassesOf}
-use Rattle.gs_model.specs.Signals.{signal_at, signals}
+use Rattle.gs_model.specs.Signals.{last_edge, signal_at, signals}
 
 -- numbers of the signals of a round that are equal exactly where the signals are isomorphic
 pub record IsNumbering (g : Game) (round : ℕ) (numbers : List ℕ) : Type 0 where
@@ -29,3 +29,16 @@ class_key above parents numbers i = (get_or above (get_or parents i 0) 0, get_or
 -- the classes of equal keys, numbered by first member
 abbrev pub IsKeyClasses : List ℕ → List ℕ → List ℕ → List ℕ → Type 0
 IsKeyClasses above parents numbers classes = IsClassesOf (λ i j. class_key above parents numbers i ≡ class_key above parents numbers j) classes
+
+-- the classes of the last round of some lists; before round 1 there is the root, of class 1
+abbrev pub classes_above : List (List ℕ) → List ℕ
+classes_above lists = get_or ((1 ∷ []) ∷ lists) (length lists) []
+
+-- a child of a signal as a part of its signature: the weight of the edge to the signal at a place of the round, and its number
+abbrev pub child_part : Game → ℕ → List ℕ → ℕ → ℕ × ℕ
+child_part g round numbers x = (last_edge g.copies (signal_at g round x), get_or numbers x 0)
+
+-- for each round, the last one first, numbers of its signals that are equal exactly where the signals are isomorphic
+pub record AreNumberings (g : Game) (numbers : List (List ℕ)) : Type 0 where
+  pub rounds : length numbers ≡ round_count g
+  pub each : (k : ℕ) → k < length numbers → IsNumbering g (round_count g - k) (get_or numbers k [])

@@ -29,12 +29,24 @@ fn leaves_of(alloc: Global, deals: Deals<'_>, path: u64) -> Result<Vec<Leaf>, Al
         .collect(alloc)
 }
 
+/// The leaves under a signal of the last round, in the order of its deals.
+pub(crate) fn leaves_under(
+    alloc: Global,
+    signals: &Signals,
+    signal: u32,
+) -> Result<Vec<Leaf>, AllocError>
+    requires { signal < last_count (rules_of signals.now) }
+    ensures { IfOk result (λ v. v.items ≡ leaves (rules_of signals.now) (signal_at (rules_of signals.now) (round_count (rules_of signals.now)) signal)) }
+{
+    leaves_of(alloc, signals.deals_of(signal), signals.path_weight(signal))
+}
+
 /// The leaves under a signal of the last round, in ascending order.
 fn leaf_signature(alloc: Global, signals: &Signals, signal: u32) -> Result<Vec<Leaf>, AllocError>
     requires { signal < last_count (rules_of signals.now) }
     ensures { IfOk result (λ v. IsSignature leaf_lt (leaves (rules_of signals.now) (signal_at (rules_of signals.now) (round_count (rules_of signals.now)) signal)) v.items) }
 {
-    let mut leaves = leaves_of(alloc, signals.deals_of(signal), signals.path_weight(signal))?;
+    let mut leaves = leaves_under(alloc, signals, signal)?;
     leaves.sort_unstable();
     Ok(leaves)
 }

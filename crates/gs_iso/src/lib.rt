@@ -1,10 +1,17 @@
 //! The classes of ordered game isomorphism.
 #![tactic(auto)]
 
+mod children;
 mod classes;
+mod equals;
 mod leaves;
 mod numbers;
+mod pairings;
 mod parts;
 mod signal_classes;
 
+pub use pairings::pairing;
 pub use signal_classes::shrink;
+
+#[cfg(test)]
+mod tests;

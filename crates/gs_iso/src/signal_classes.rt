@@ -5,8 +5,11 @@ ghost use Rattle.std.specs.List.{range_with_len};
 ghost use Rattle.gs_model.specs.Game.{round_count};
 ghost use Rattle.gs_model.specs.SignalClasses.{IsSignalClasses};
 ghost use Rattle.gs_model.specs.Signals.{parents};
+ghost use Rattle.gs_filter.specs.Rows.{rows};
 ghost use Rattle.gs_tree.specs.Trees.{rules_of};
+ghost use Rattle.gs_iso.specs.Numbers.{AreNumberings, classes_above};
 
+use crate::children::child_numbers;
 use crate::classes::round_classes;
 use crate::leaves::leaf_numbers;
 use gs_filter::Classes;
@@ -22,6 +25,54 @@ fn parents_in<'a>(signals: &'a Signals, round: u8) -> &'a [u32]
     &signals.parents()[usize::from(round) - 1]
 }
 
+/// For each round, the last one first, a number for each signal: equal exactly where signals are isomorphic.
+pub(crate) fn node_numbers(alloc: Global, signals: &Signals) -> Result<Vec<Vec<u32>>, AllocError>
+    ensures { IfOk result (λ v. AreNumberings (rules_of signals.now) (rows v.items)) }
+{
+    let rounds = signals.rounds();
+    let last = leaf_numbers(alloc, signals)?;
+    let mut numbers = vec![in alloc; last]?;
+    for done in 1..rounds {
+        let below = &numbers[usize::from(done) - 1];
+        let here = child_numbers(alloc, signals, rounds - done, below)?;
+        numbers.push(here)?;
+    }
+    Ok(numbers)
+}
+
+/// The classes of the round before, of lists for the first rounds: before round 1 there is the root, of class 1.
+fn last_classes<'a>(lists: &'a [Vec<u32>]) -> &'a [u32]
+    ensures { result.now ≡ classes_above (rows lists.now) }
+{
+    match lists.last() {
+        Some(list) => list,
+        None => &[1],
+    }
+}
+
+/// For each round the class of each signal. `numbers` has the numbers of the signals, the last round first.
+fn class_lists(
+    alloc: Global,
+    signals: &Signals,
+    numbers: &[Vec<u32>],
+) -> Result<Vec<Vec<u32>>, AllocError>
+    requires { AreNumberings (rules_of signals.now) (rows numbers.now) }
+    ensures { IfOk result (λ v. IsSignalClasses (rules_of signals.now) (rows v.items)) }
+{
+    let rounds = signals.rounds();
+    let mut lists = Vec::with_capacity(alloc, usize::from(rounds))?;
+    for done in 0..rounds {
+        let here = round_classes(
+            alloc,
+            last_classes(&lists),
+            parents_in(signals, done + 1),
+            &numbers[usize::from(rounds - done) - 1],
+        )?;
+        lists.push(here)?;
+    }
+    Ok(lists)
+}
+
 /// The classes of recursive ordered game isomorphism: two signals of a round are of one class where they are isomorphic and, from round 2 on,
 /// their parents are of one class. Classes are numbered from 1 by first member.
 ///
@@ -30,8 +81,7 @@ pub fn shrink(alloc: Global, signals: &Signals) -> Result<Classes, AllocError>
     ensures classes { IfOk result (λ c. IsSignalClasses (rules_of signals.now) c.lists) }
     ensures parents { IfOk result (λ c. c.parents ≡ map (parents (rules_of signals.now)) (range_with_len 1 (round_count (rules_of signals.now)))) }
 {
-    let numbers = leaf_numbers(alloc, signals)?;
-    let classes = round_classes(alloc, &[0], parents_in(signals, signals.rounds()), &numbers)?;
-    let lists = vec![in alloc; classes]?;
+    let numbers = node_numbers(alloc, signals)?;
+    let lists = class_lists(alloc, signals, &numbers)?;
     Classes::of_filter(alloc, signals.parents(), lists)
 }

@@ -1,0 +1,79 @@
+//! Bijections between the children of two signals.
+
+ghost use Rattle.std.specs.Prelude.{◌<◌, ◌≤◌, IfOk, length};
+ghost use Rattle.gs_model.specs.Game.{round_count};
+ghost use Rattle.gs_model.specs.Signals.{signal_at, signals as signals_in};
+ghost use Rattle.gs_tree.specs.Trees.{rules_of};
+ghost use Rattle.gs_tree.specs.Walk.{last_count};
+ghost use Rattle.gs_iso.specs.Pairings.{IsPaired};
+
+use crate::children::children_under;
+use crate::equals::match_equals;
+use crate::leaves::leaves_under;
+use crate::signal_classes::node_numbers;
+use gs_match::Match;
+use gs_tree::Signals;
+use std::alloc::{AllocError, Global};
+
+/// The pairing of two signals of the last round, by their leaves.
+fn leaf_pairing(
+    alloc: Global,
+    signals: &Signals,
+    a: u32,
+    b: u32,
+) -> Result<Option<Match>, AllocError>
+    requires a_in { a < last_count (rules_of signals.now) }
+    requires b_in { b < last_count (rules_of signals.now) }
+    ensures { IfOk result (IsPaired (rules_of signals.now) (round_count (rules_of signals.now))
+        (signal_at (rules_of signals.now) (round_count (rules_of signals.now)) a) (signal_at (rules_of signals.now) (round_count (rules_of signals.now)) b)) }
+{
+    let ones = leaves_under(alloc, signals, a)?;
+    let twos = leaves_under(alloc, signals, b)?;
+    match_equals(alloc, &ones, &twos)
+}
+
+/// The pairing of two signals of a round before the last, by their children.
+fn child_pairing(
+    alloc: Global,
+    signals: &Signals,
+    round: u8,
+    a: u32,
+    b: u32,
+) -> Result<Option<Match>, AllocError>
+    requires some { 0 < round }
+    requires before_last { round < round_count (rules_of signals.now) }
+    requires a_in { a < length (signals_in (rules_of signals.now) round) }
+    requires b_in { b < length (signals_in (rules_of signals.now) round) }
+    ensures { IfOk result (IsPaired (rules_of signals.now) round (signal_at (rules_of signals.now) round a) (signal_at (rules_of signals.now) round b)) }
+{
+    let numbers = node_numbers(alloc, signals)?;
+    let below = &numbers[usize::from(signals.rounds() - round) - 1];
+    let ones = children_under(alloc, signals, round, a, below)?;
+    let twos = children_under(alloc, signals, round, b, below)?;
+    match_equals(alloc, &ones, &twos)
+}
+
+/// Why two signals of a round are isomorphic: for each child of `a`, in order, the place among the children of `b` of a different one, of equal
+/// edge weight and isomorphic. In the last round the children are the leaves, in the order of the signal's deals. None where the two signals are
+/// not isomorphic.
+///
+/// Source: Gilpin and Sandholm, Lossless abstraction of imperfect information games, 2007.
+pub fn pairing(
+    alloc: Global,
+    signals: &Signals,
+    round: u8,
+    a: u32,
+    b: u32,
+) -> Result<Option<Match>, AllocError>
+    requires some { 0 < round }
+    requires last { round ≤ round_count (rules_of signals.now) }
+    requires a_in { a < length (signals_in (rules_of signals.now) round) }
+    requires b_in { b < length (signals_in (rules_of signals.now) round) }
+    ensures { IfOk result (IsPaired (rules_of signals.now) round (signal_at (rules_of signals.now) round a) (signal_at (rules_of signals.now) round b)) }
+{
+    if round == signals.rounds() {
+        leaf_pairing(alloc, signals, a, b)
+    } else {
+        child_pairing(alloc, signals, round, a, b)
+    }
+}
