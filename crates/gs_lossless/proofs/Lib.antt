@@ -1,0 +1,5 @@
+pub mod Merge
+pub mod Descent
+pub mod Weighed
+pub mod Settled
+pub mod Scanned

@@ -1,0 +1,274 @@
+-- Sums by class and outcome: what joining neighbours of a sorted list gives, and that sums which agree are one list.
+use Rattle.std.proofs.Common.{reverse, take, drop, set, ◌++◌, length-take, drop-cons, ◌≡◌, ℕ, ℤ, suc, ◌+◌, ◌-◌, ◌<◌, ◌≤◌, Bool, true, false, cond, List, [], ◌∷◌, length, get_or, refl, sym, ap, ◌∙◌, subst, arith, true≢false, sum_by, IsPermutation}
+use Rattle.std.specs.Prelude.{◌==◌, ◌&&◌}
+use Rattle.std.specs.Bool.{Decides}
+use Rattle.std.specs.Cmp.{IsTotalOrder}
+use Rattle.std.specs.List.{AllByRecursion, All}
+use Rattle.std.specs.List.Sorted.{IsSortedBy}
+use Rattle.std.specs.Ordering.{int_cmp, int_eq, is_lt, nat_cmp, ordering_then, ordering_reverse}
+use Rattle.std.specs.declared.cmp.Ordering.{Ordering}
+use Rattle.std.specs.declared.cmp.Ordering.TheVariants.{Less, Equal, Greater}
+use Rattle.std.proofs.lemmas.Bool.Decides.{Decides-and, Decides-eqb, Decides-int_eq, Decides-like}
+use Rattle.std.proofs.lemmas.Cmp.{int_cmp_total, int_ranked, nat_cmp_total, on_total, ranked, then_total, tied_itself}
+use Rattle.std.proofs.lemmas.List.{reverse-append, take_all, take_more}
+use Rattle.std.proofs.Math.Seq.{set-append_seam}
+use Rattle.std.proofs.lemmas.List.Elements.{recursion_from_All}
+use Rattle.std.proofs.lemmas.List.Sorted.{sum_by-IsPermutation}
+use Rattle.std.proofs.lemmas.List.Sums.{sum_by_push, sum_by-cons, sum_by-drop_more, sum_by-take-drop}
+use Rattle.gs_lossless.specs.Sums.{AreSumsOf, Rises, is_at, key_cmp, merged, put, sum_at, weight_at}
+use Rattle.gs_lossless.specs.declared.parts.Part.{Part}
+
+total : IsTotalOrder key_cmp
+total = then_total (on_total (λ (p : Part). p.class) nat_cmp_total) (on_total (λ (p : Part). p.outcome) int_cmp_total)
+
+-- parts count for the same exactly where the test says so
+pub exact : (p q : Part) → Decides (is_at p q) ((p.class ≡ q.class) × (p.outcome ≡ q.outcome))
+exact p q = Decides-and _ _ (Decides-eqb p.class q.class) (Decides-int_eq p.outcome q.outcome)
+
+both_equal : (r s : Ordering) → ordering_then r s ≡ Equal → (r ≡ Equal) × (s ≡ Equal)
+both_equal Less s e = absurd (cc)
+both_equal Equal s e = (refl, e)
+both_equal Greater s e = absurd (cc)
+
+-- where neither comes before the other they count for the same
+tied : (p q : Part) → key_cmp p q ≡ Equal → (p.class ≡ q.class) × (p.outcome ≡ q.outcome)
+tied p q e =
+    let b = both_equal (nat_cmp p.class q.class) (int_cmp p.outcome q.outcome) e in
+    (ranked p.class q.class Equal (sym b.0), int_ranked p.outcome q.outcome Equal (sym b.1))
+
+tied_back : (p q : Part) → q.class ≡ p.class → q.outcome ≡ p.outcome → key_cmp p q ≡ Equal
+tied_back p q f g =
+    ap (λ n. ordering_then (nat_cmp p.class n) (int_cmp p.outcome q.outcome)) f
+    ∙ ap (λ o. ordering_then (nat_cmp p.class p.class) (int_cmp p.outcome o)) g
+    ∙ tied_itself total p
+
+pub part_is : (p q : Part) → p.class ≡ q.class → p.outcome ≡ q.outcome → p.weight ≡ q.weight → p ≡ q
+part_is p q e f g =
+    let a : ℕ → Part = λ n. record { class = n; outcome = p.outcome; weight = p.weight } in
+    let b : ℤ → Part = λ n. record { class = q.class; outcome = n; weight = p.weight } in
+    let c : ℕ → Part = λ n. record { class = q.class; outcome = q.outcome; weight = n } in
+    ap a e ∙ ap b f ∙ ap c g
+
+-- two parts are equal exactly where the test says so
+pub part_decides : (p q : Part) → Decides ((p.class == q.class) && (int_eq p.outcome q.outcome && (p.weight == q.weight))) (p ≡ q)
+part_decides p q =
+    Decides-like ((p.class == q.class) && (int_eq p.outcome q.outcome && (p.weight == q.weight)))
+    (λ h. part_is p q h.0 h.1.0 h.1.1)
+    (λ e. (ap (λ (r : Part). r.class) e, (ap (λ (r : Part). r.outcome) e, ap (λ (r : Part). r.weight) e)))
+    (Decides-and _ _ (Decides-eqb p.class q.class) (Decides-and _ _ (Decides-int_eq p.outcome q.outcome) (Decides-eqb p.weight q.weight)))
+
+-- ---- what counts for a key
+
+own_weight : (p : Part) → weight_at p.class p.outcome p ≡ p.weight
+own_weight p =
+    ap (λ b. cond b (cond (p.class == p.class) p.weight 0) 0) ((Decides-int_eq p.outcome p.outcome).1 refl)
+    ∙ ap (λ b. cond b p.weight 0) ((Decides-eqb p.class p.class).1 refl)
+
+other_weight : (p q : Part) → key_cmp p q ≡ Less → weight_at p.class p.outcome q ≡ 0
+other_weight p q e = by (int_eq q.outcome p.outcome) (q.class == p.class) refl refl
+  where
+    by : (a b : Bool) → int_eq q.outcome p.outcome ≡ a → (q.class == p.class) ≡ b → cond a (cond b q.weight 0) 0 ≡ 0
+    by false b s t = refl
+    by true false s t = refl
+    by true true s t = let z = tied_back p q ((Decides-eqb q.class p.class).0 t) ((Decides-int_eq q.outcome p.outcome).0 s) in absurd (cc)
+
+no_weight : (p : Part) (qs : List Part) → AllByRecursion (λ q. key_cmp p q ≡ Less) qs → sum_at qs p.class p.outcome ≡ 0
+no_weight p [] h = refl
+no_weight p (q ∷ qs) h = omega (arith, sum_by-cons (weight_at p.class p.outcome) q qs, other_weight p q h.0, no_weight p qs h.1)
+
+first_weight : (p : Part) (qs : List Part) → AllByRecursion (λ q. key_cmp p q ≡ Less) qs → sum_at (p ∷ qs) p.class p.outcome ≡ p.weight
+first_weight p qs h = omega (arith, sum_by-cons (weight_at p.class p.outcome) p qs, own_weight p, no_weight p qs h)
+
+further : (p q : Part) (rs : List Part) → key_cmp p q ≡ Less → AllByRecursion (λ r. key_cmp q r ≡ Less) rs → AllByRecursion (λ r. key_cmp p r ≡ Less) rs
+further p q [] e h = tt
+further p q (r ∷ rs) e h = (total.trans p q r e h.0, further p q rs e h.1)
+
+-- the first part of one list does not come before all of the other
+not_before : (x y : Part) (xs ys : List Part) → Rises (x ∷ xs) → Rises (y ∷ ys) → sum_at (x ∷ xs) x.class x.outcome ≡ sum_at (y ∷ ys) x.class x.outcome → key_cmp x y ≡ Less → ⊥
+not_before x y xs ys a b h e =
+    let none = no_weight x (y ∷ ys) (e, further x y ys e b.1) in
+    let own = first_weight x xs a.1 in
+    omega (arith, h, own, a.0, none)
+
+heads : (x y : Part) (xs ys : List Part) → Rises (x ∷ xs) → Rises (y ∷ ys) → ((c : ℕ) (o : ℤ) → sum_at (x ∷ xs) c o ≡ sum_at (y ∷ ys) c o) → x ≡ y
+heads x y xs ys a b h = by (key_cmp x y) refl
+  where
+    same : (x.class ≡ y.class) × (x.outcome ≡ y.outcome) → x ≡ y
+    same e = part_is x y e.0 e.1
+        (sym (first_weight x xs a.1) ∙ h x.class x.outcome ∙ ap (λ c. sum_at (y ∷ ys) c x.outcome) e.0 ∙ ap (sum_at (y ∷ ys) y.class) e.1 ∙ first_weight y ys b.1)
+
+    by : (r : Ordering) → key_cmp x y ≡ r → x ≡ y
+    by Less e = absurd (not_before x y xs ys a b (h x.class x.outcome) e)
+    by Equal e = same (tied x y e)
+    by Greater e = absurd (not_before y x ys xs b a (sym (h y.class y.outcome)) (total.antisymm y x ∙ ap ordering_reverse e))
+
+-- sums that agree are one list
+pub one_list : (xs ys : List Part) → Rises xs → Rises ys → ((c : ℕ) (o : ℤ) → sum_at xs c o ≡ sum_at ys c o) → xs ≡ ys
+one_list [] [] a b h = refl
+one_list [] (y ∷ ys) a b h = absurd (omega (arith, h y.class y.outcome, first_weight y ys b.1, b.0))
+one_list (x ∷ xs) [] a b h = absurd (omega (arith, h x.class x.outcome, first_weight x xs a.1, a.0))
+one_list (x ∷ xs) (y ∷ ys) a b h =
+    let e = heads x y xs ys a b h in
+    let rest = one_list xs ys a.2 b.2 (λ c o. omega (arith, h c o, sum_by-cons (weight_at c o) x xs, sum_by-cons (weight_at c o) y ys, ap (weight_at c o) e)) in
+    ap (λ p. p ∷ xs) e ∙ ap (λ ps. y ∷ ps) rest
+
+-- ---- joining neighbours
+
+add_in : (a b : Bool) (m n : ℕ) → cond a (cond b (m + n) 0) 0 ≡ cond a (cond b n 0) 0 + cond a (cond b m 0) 0
+add_in true true m n = omega arith
+add_in true false m n = refl
+add_in false b m n = refl
+
+put-weight : (f : Part → ℕ) (p : Part) (qs : List Part) → ((q : Part) → is_at q p ≡ true → f (record q { weight = q.weight + p.weight }) ≡ f p + f q) → sum_by f (put p qs) ≡ f p + sum_by f qs
+put-weight f p [] h = sum_by-cons f p []
+put-weight f p (q ∷ qs) h = by (is_at q p) refl
+  where
+    by : (b : Bool) → is_at q p ≡ b → sum_by f (cond b (record q { weight = q.weight + p.weight } ∷ qs) (p ∷ q ∷ qs)) ≡ f p + sum_by f (q ∷ qs)
+    by true e = omega (arith, sum_by-cons f (record q { weight = q.weight + p.weight }) qs, sum_by-cons f q qs, h q e)
+    by false e = sum_by-cons f p (q ∷ qs)
+
+merged-weight : (f : Part → ℕ) → ((p q : Part) → is_at q p ≡ true → f (record q { weight = q.weight + p.weight }) ≡ f p + f q) → (ps : List Part) → sum_by f (merged ps) ≡ sum_by f ps
+merged-weight f h [] = refl
+merged-weight f h (p ∷ ps) = omega (arith, put-weight f p (merged ps) (h p), merged-weight f h ps, sum_by-cons f p ps)
+
+joined : (c : ℕ) (o : ℤ) (p q : Part) → is_at q p ≡ true → weight_at c o (record q { weight = q.weight + p.weight }) ≡ weight_at c o p + weight_at c o q
+joined c o p q e =
+    let k = (exact q p).0 e in
+    add_in (int_eq q.outcome o) (q.class == c) q.weight p.weight
+    ∙ ap (λ n. cond (int_eq q.outcome o) (cond (n == c) p.weight 0) 0 + weight_at c o q) k.0
+    ∙ ap (λ n. cond (int_eq n o) (cond (p.class == c) p.weight 0) 0 + weight_at c o q) k.1
+
+pub merged-sum : (c : ℕ) (o : ℤ) (ps : List Part) → sum_at (merged ps) c o ≡ sum_at ps c o
+merged-sum c o ps = merged-weight (weight_at c o) (joined c o) ps
+
+pub merged-total : (ps : List Part) → sum_by (λ p. p.weight) (merged ps) ≡ sum_by (λ p. p.weight) ps
+merged-total ps = merged-weight (λ p. p.weight) (λ p q e. omega arith) ps
+
+-- ---- joined neighbours of a sorted list rise
+
+abbrev IsSortedList : List Part → Type 0
+IsSortedList [] = Unit {0}
+IsSortedList (p ∷ []) = Unit {0}
+IsSortedList (p ∷ q ∷ ps) = (is_lt (key_cmp q p) ≡ false) × IsSortedList (q ∷ ps)
+
+-- the first part counts for what p does
+abbrev IsHead : Part → List Part → Type 0
+IsHead p [] = Unit {0}
+IsHead p (q ∷ qs) = (q.class ≡ p.class) × (q.outcome ≡ p.outcome)
+
+-- the first part does not come before p
+abbrev IsNotBelow : Part → List Part → Type 0
+IsNotBelow p [] = Unit {0}
+IsNotBelow p (q ∷ qs) = is_lt (key_cmp q p) ≡ false
+
+head_put : (p : Part) (qs : List Part) → IsHead p (put p qs)
+head_put p [] = (refl, refl)
+head_put p (q ∷ qs) = by (is_at q p) refl
+  where
+    by : (b : Bool) → is_at q p ≡ b → IsHead p (cond b (record q { weight = q.weight + p.weight } ∷ qs) (p ∷ q ∷ qs))
+    by true e = (exact q p).0 e
+    by false e = (refl, refl)
+
+head_below : (p first : Part) (qs : List Part) → IsHead first qs → is_lt (key_cmp first p) ≡ false → IsNotBelow p qs
+head_below p first [] h l = tt
+head_below p first (q ∷ qs) h l =
+    ap (λ n. is_lt (ordering_then (nat_cmp n p.class) (int_cmp q.outcome p.outcome))) h.0
+    ∙ ap (λ n. is_lt (ordering_then (nat_cmp first.class p.class) (int_cmp n p.outcome))) h.1
+    ∙ l
+
+rises_put : (p : Part) (qs : List Part) → 0 < p.weight → Rises qs → IsNotBelow p qs → Rises (put p qs)
+rises_put p [] w a l = (w, tt, tt)
+rises_put p (q ∷ qs) w a l = by (is_at q p) refl
+  where
+    before : (r : Ordering) → is_at q p ≡ false → key_cmp p q ≡ r → key_cmp p q ≡ Less
+    before Less n e = e
+    before Equal n e = let k = tied p q e in absurd (true≢false (sym ((exact q p).1 (sym k.0, sym k.1)) ∙ n))
+    before Greater n e = absurd (true≢false (ap is_lt (sym (ap ordering_reverse e)) ∙ ap is_lt (sym (total.antisymm q p)) ∙ l))
+
+    by : (b : Bool) → is_at q p ≡ b → Rises (cond b (record q { weight = q.weight + p.weight } ∷ qs) (p ∷ q ∷ qs))
+    by true e = (omega arith, a.1, a.2)
+    by false e = let f = before (key_cmp p q) e refl in (w, (f, further p q qs f a.1), a)
+
+rises_merged : (ps : List Part) → IsSortedList ps → AllByRecursion (λ p. 0 < p.weight) ps → Rises (merged ps)
+rises_merged [] s w = tt
+rises_merged (p ∷ []) s w = (w.0, tt, tt)
+rises_merged (p ∷ q ∷ ps) s w = rises_put p (merged (q ∷ ps)) w.0 (rises_merged (q ∷ ps) s.1 w.1) (head_below p q (merged (q ∷ ps)) (head_put q (merged ps)) s.0)
+
+-- the order by which parts are sorted, weights last
+abbrev pub part_lt : Part → Part → Bool
+part_lt p q = is_lt (ordering_then (nat_cmp p.class q.class) (ordering_then (int_cmp p.outcome q.outcome) (nat_cmp p.weight q.weight)))
+
+by_key : (a b c : Ordering) → is_lt (ordering_then a (ordering_then b c)) ≡ false → is_lt (ordering_then a b) ≡ false
+by_key Less b c e = e
+by_key Greater b c e = e
+by_key Equal Less c e = e
+by_key Equal Equal c e = refl
+by_key Equal Greater c e = e
+
+sorted_list : (ps : List Part) → IsSortedBy part_lt ps → IsSortedList ps
+sorted_list [] s = tt
+sorted_list (p ∷ []) s = tt
+sorted_list (p ∷ q ∷ ps) s = (
+  by_key (nat_cmp q.class p.class) (int_cmp q.outcome p.outcome) (nat_cmp q.weight p.weight) (s 0 p (omega arith) (omega arith)),
+  sorted_list (q ∷ ps) (λ k d l m.
+      let e : suc k + 1 ≡ suc (k + 1) = omega arith in
+      subst (λ j. part_lt (get_or (p ∷ q ∷ ps) j d) (get_or (p ∷ q ∷ ps) (suc k) d) ≡ false) e (s (suc k) d (omega arith) (omega arith))),
+)
+
+pub sums_from : (parts sorted : List Part) → IsPermutation parts sorted → IsSortedBy part_lt sorted → All (λ p. 0 < p.weight) sorted → AreSumsOf parts (merged sorted)
+sums_from parts sorted m s w = record {
+  rises = rises_merged sorted (sorted_list sorted s) (recursion_from_All (λ p. 0 < p.weight) sorted w);
+  sum = λ c o. merged-sum c o sorted ∙ sum_by-IsPermutation (weight_at c o) parts sorted m;
+}
+
+-- ---- the last of a list
+
+pub last_first : {X : Type 0} (xs : List X) (d : X) → 0 < length xs → reverse xs ≡ get_or xs (length xs - 1) d ∷ reverse (take (length xs - 1) xs)
+last_first xs d l =
+    let n = length xs - 1 in
+    let e : n + 1 ≡ length xs = omega arith in
+    ap reverse (sym (take_all (n + 1) xs (omega arith)) ∙ take_more xs n d (omega arith)) ∙ reverse-append (take n xs) (get_or xs n d ∷ [])
+
+pub last_set : {X : Type 0} (xs : List X) (d v : X) → 0 < length xs → reverse (set xs (length xs - 1) v) ≡ v ∷ reverse (take (length xs - 1) xs)
+last_set xs d v l =
+    let n = length xs - 1 in
+    let s : length (take n xs) ≡ n = omega (arith, length-take n xs) in
+    let e : xs ≡ take n xs ++ get_or xs n d ∷ [] = sym (take_all (n + 1) xs (omega arith)) ∙ take_more xs n d (omega arith) in
+    ap (λ ys. reverse (set ys n v)) e ∙ ap (λ k. reverse (set (take n xs ++ get_or xs n d ∷ []) k v)) (sym s)
+    ∙ ap reverse (set-append_seam (take n xs) (get_or xs n d) [] v) ∙ reverse-append (take n xs) (v ∷ [])
+
+pub join_last : (xs : List Part) (last p : Part) → 0 < length xs → last ≡ get_or xs (length xs - 1) last → is_at last p ≡ true
+    → reverse (set xs (length xs - 1) (record last { weight = last.weight + p.weight })) ≡ put p (reverse xs)
+join_last xs last p l e t =
+    let rest = reverse (take (length xs - 1) xs) in
+    let same : put p (reverse xs) ≡ put p (last ∷ rest) = ap (put p) (last_first xs last l ∙ ap (λ q. q ∷ rest) (sym e)) in
+    let joined : put p (last ∷ rest) ≡ record last { weight = last.weight + p.weight } ∷ rest =
+    ap (λ b. cond b (record last { weight = last.weight + p.weight } ∷ rest) (p ∷ last ∷ rest)) t in
+    last_set xs last (record last { weight = last.weight + p.weight }) l ∙ sym joined ∙ sym same
+
+sum_by-reverse : {X : Type 0} (f : X → ℕ) (xs : List X) → sum_by f (reverse xs) ≡ sum_by f xs
+sum_by-reverse f [] = refl
+sum_by-reverse f (x ∷ xs) = ap (sum_by f) (reverse-append (x ∷ []) xs) ∙ omega (arith, sum_by_push f (reverse xs) x, sum_by-reverse f xs, sum_by-cons f x xs)
+
+-- the next part fits beside what was added up
+pub fits_more : (parts sorted sums : List Part) (top : ℕ) (p : Part) → IsPermutation parts sorted → 0 < top → top ≤ length sorted → p ≡ get_or sorted (top - 1) p → reverse sums ≡ merged (drop top sorted)
+    → sum_by (λ (p : Part). p.weight) sums + p.weight ≤ sum_by (λ (p : Part). p.weight) parts
+fits_more parts sorted sums top p m some l e j =
+    let w : Part → ℕ = λ p. p.weight in
+    let at = top - 1 in
+    let up : at + 1 ≡ top = omega arith in
+    let a : sum_by w sums ≡ sum_by w (drop (at + 1) sorted) = sym (sum_by-reverse w sums) ∙ ap (sum_by w) j ∙ merged-total (drop top sorted) ∙ ap (λ k. sum_by w (drop k sorted)) (sym up) in
+    let t = sum_by-IsPermutation w parts sorted m in
+    let i : p.weight ≡ (get_or sorted at p).weight = ap w e in
+    let more = sum_by-drop_more w sorted at p (omega arith) in
+    let whole = sum_by-take-drop w sorted at in
+    omega (arith, a, t, i, more, whole)
+
+pub merge_more : (sorted sums next : List Part) (top : ℕ) (p : Part) → 0 < top → top ≤ length sorted → p ≡ get_or sorted (top - 1) p → reverse sums ≡ merged (drop top sorted)
+    → reverse next ≡ put p (reverse sums) → reverse next ≡ merged (drop (top - 1) sorted)
+merge_more sorted sums next top p some l e j n =
+    let at = top - 1 in
+    let up : suc at ≡ top = omega arith in
+    n ∙ ap (put p) j ∙ ap (λ q. put q (merged (drop top sorted))) e
+    ∙ ap (λ k. merged (get_or sorted at p ∷ drop k sorted)) (sym up)
+    ∙ ap merged (sym (drop-cons sorted at p (omega arith)))

@@ -1,0 +1,131 @@
+-- The steps of the scans, and what their answers make of classes.
+use Rattle.std.proofs.Common.{◌≡◌, ◌≢◌, ℕ, ◌+◌, ◌-◌, ◌<◌, ◌≤◌, false, List, length, get_or, set, refl, sym, ap, ◌∙◌, subst, arith, ⊎_elim, reverse, true≢false, Option, Some, None, Vec, Global}
+use Rattle.std.specs.Prelude.{is_some, unwrap_or}
+use Rattle.std.proofs.lemmas.Bool.{cases_eq, cases_lt}
+use Rattle.std.proofs.lemmas.List.{reverse-reverse, get_or-set_other, get_or-set_same}
+use Rattle.gs_filter.specs.Filter.{Filter, IsSound, single_classes}
+use Rattle.gs_filter.proofs.ClassLaws.{single_are_classes}
+use Rattle.gs_filter.proofs.TallyLaws.{first_member_of}
+use Rattle.gs_model.specs.Classes.{ClassLists, class_count, class_of, class_size, first_member, list_of}
+use Rattle.gs_model.specs.Frame.{Frame, last_round, signal_count}
+use Rattle.gs_model.specs.Lossless.{Alike, IsFirstUnlike, IsLossless}
+use Rattle.gs_model.specs.Numbering.{IsNumbered}
+use Rattle.gs_lossless.specs.Amounts.{Agree, AgreesWithFirst, AreAmounts, HasSide}
+use Rattle.gs_lossless.specs.Scans.{AgreeBelow, IsFirstApart, StoredBelow}
+use Rattle.gs_lossless.specs.Stops.{AreAlikeBelow, IsChildrenApart, MatchUnlike}
+use Rattle.gs_lossless.specs.declared.parts.Part.{Part}
+use Rattle.gs_lossless.specs.declared.sides.Side.{Side}
+use Rattle.gs_lossless.specs.declared.sides.Side.TheVariants.{Deals, Children}
+use Rattle.gs_lossless.proofs.Settled.{agree_children, agree_deals, alike_from, not_lossless, over, singles}
+
+pub side_in : (f : Frame) (side : Side) (round : ℕ) → HasSide f side round → (0 < round) × (round ≤ last_round f)
+side_in f Deals round h = h
+side_in f Children round h = (h.0, omega (arith, h.1))
+
+-- ---- sums that are kept
+
+-- a class whose first member is a signal is that signal's
+class_is : (lists : ClassLists) (round signal k : ℕ) → IsNumbered (list_of lists round) → 0 < k → k ≤ class_count lists round → first_member lists round k ≡ signal → k ≡ class_of lists round signal
+class_is lists round signal k n a b e = sym (first_member_of (list_of lists round) k n a b) ∙ ap (class_of lists round) e
+
+module _ (f : Frame) (lists : ClassLists) (side : Side) (round signal : ℕ) (kept : List (Vec Part Global)) (n : IsNumbered (list_of lists round)) (h : StoredBelow f lists side round signal kept) where
+  stored_skip : ((k : ℕ) → 0 < k → k ≤ class_count lists round → first_member lists round k ≡ signal → class_size lists round k ≢ 1 → ⊥) → StoredBelow f lists side round (signal + 1) kept
+  stored_skip bad = λ k d a b l m. ⊎_elim (λ under. h k d a b under m) (λ over. absurd (let e : first_member lists round k ≡ signal = omega (arith, l, over) in bad k a b e m)) (cases_lt (first_member lists round k) signal)
+
+  -- past the one member of a class
+  pub stored_single : class_size lists round (class_of lists round signal) ≡ 1 → StoredBelow f lists side round (signal + 1) kept
+  stored_single one = stored_skip (λ k a b e m. m (ap (class_size lists round) (class_is lists round signal k n a b e) ∙ one))
+
+  -- past a later member of a class
+  pub stored_later : (first_member lists round (class_of lists round signal) ≡ signal → ⊥) → StoredBelow f lists side round (signal + 1) kept
+  stored_later later = stored_skip (λ k a b e m. later (ap (first_member lists round) (sym (class_is lists round signal k n a b e)) ∙ e))
+
+  -- past the first member, whose sums are kept
+  pub stored_first : (sums : Vec Part Global) → class_of lists round signal - 1 < length kept → 0 < class_of lists round signal → first_member lists round (class_of lists round signal) ≡ signal
+      → AreAmounts f lists side round signal (reverse sums.items) → StoredBelow f lists side round (signal + 1) (set kept (class_of lists round signal - 1) sums)
+  stored_first sums l some first here = λ k d a b m many. ⊎_elim
+      (λ same.
+      let read : get_or (set kept (class_of lists round signal - 1) sums) (k - 1) d ≡ sums = ap (λ j. get_or (set kept (class_of lists round signal - 1) sums) (j - 1) d) same ∙ get_or-set_same kept (class_of lists round signal - 1) sums d l in
+      let own : first_member lists round k ≡ signal = ap (first_member lists round) same ∙ first in
+      subst (λ (v : Vec Part Global). AreAmounts f lists side round (first_member lists round k) (reverse v.items)) (sym read)
+      (subst (λ x. AreAmounts f lists side round x (reverse sums.items)) (sym own) here))
+      (λ other.
+      let apart : k - 1 ≢ class_of lists round signal - 1 = λ e. other (omega (arith, e, a, some)) in
+      let read : get_or (set kept (class_of lists round signal - 1) sums) (k - 1) d ≡ get_or kept (k - 1) d = get_or-set_other kept (class_of lists round signal - 1) (k - 1) sums d apart in
+      let under : first_member lists round k < signal = ⊎_elim (λ u. u) (λ o. absurd (let e : first_member lists round k ≡ signal = omega (arith, m, o) in other (class_is lists round signal k n a b e))) (cases_lt (first_member lists round k) signal) in
+      subst (λ (v : Vec Part Global). AreAmounts f lists side round (first_member lists round k) (reverse v.items)) (sym read) (h k d a b under many))
+      (cases_eq k (class_of lists round signal))
+
+pub agree_more : (f : Frame) (lists : ClassLists) (side : Side) (round signal : ℕ) → AgreeBelow f lists side round signal → AgreesWithFirst f lists side round signal → AgreeBelow f lists side round (signal + 1)
+agree_more f lists side round signal h here s l = ⊎_elim (λ under. h s under) (λ over. let e : signal ≡ s = omega (arith, l, over) in subst (AgreesWithFirst f lists side round) e here) (cases_lt s signal)
+
+-- the first member agrees with itself
+pub agree_self : (f : Frame) (lists : ClassLists) (side : Side) (round signal : ℕ) → first_member lists round (class_of lists round signal) ≡ signal → AgreesWithFirst f lists side round signal
+agree_self f lists side round signal e = subst (λ x. Agree f lists side round x signal) (sym e) (λ c o. refl)
+
+-- ---- rounds
+
+-- no signal is apart: all agree
+pub none_apart : (f : Frame) (lists : ClassLists) (side : Side) (round end : ℕ) (r : Option ℕ) → is_some r ≡ false → IsFirstApart f lists side round end r → AgreeBelow f lists side round end
+none_apart f lists side round end None e h = h
+none_apart f lists side round end (Some s) e h = absurd (true≢false e)
+
+pub children_from : (f : Frame) (lists : ClassLists) (round end : ℕ) (r : Option ℕ) → round < last_round f → end ≡ signal_count f round → IsFirstApart f lists Children round end r → IsChildrenApart f lists round r
+children_from f lists round end None l e h = λ _. subst (AgreeBelow f lists Children round) e h
+children_from f lists round end (Some s) l e h = (l, subst (λ n. IsFirstApart f lists Children round n (Some s)) e h)
+
+abbrev pub or_else : Option ℕ → Option ℕ → Option ℕ
+or_else (Some s) other = Some s
+or_else None other = other
+
+pub unlike_from : (f : Frame) (lists : ClassLists) (round : ℕ) → 0 < round → (apart r : Option ℕ) → IsChildrenApart f lists round apart
+    → IsFirstApart f lists Deals round (unwrap_or apart (signal_count f round)) r → MatchUnlike f lists round (or_else r apart)
+unlike_from f lists round some None None k h = λ s l. alike_from f lists round (first_member lists round (class_of lists round s)) s some (h s l) (λ b. k b s l)
+unlike_from f lists round some (Some t) None k h = (
+  k.1.0,
+  (λ s l. alike_from f lists round (first_member lists round (class_of lists round s)) s some (h s l) (λ _. k.1.1 s l)),
+  (λ a. k.1.2 (agree_children f lists round (first_member lists round (class_of lists round t)) t k.0 a)),
+)
+unlike_from f lists round some None (Some u) k h = (
+  h.0,
+  (λ s l. alike_from f lists round (first_member lists round (class_of lists round s)) s some (h.1 s l) (λ b. k b s (omega (arith, l, h.0)))),
+  (λ a. h.2 (agree_deals f lists round (first_member lists round (class_of lists round u)) u a)),
+)
+unlike_from f lists round some (Some t) (Some u) k h = (
+  omega (arith, h.0, k.1.0),
+  (λ s l. alike_from f lists round (first_member lists round (class_of lists round s)) s some (h.1 s l) (λ _. k.1.1 s (omega (arith, l, h.0)))),
+  (λ a. h.2 (agree_deals f lists round (first_member lists round (class_of lists round u)) u a)),
+)
+
+pub first_unlike_from : (f : Frame) (lists : ClassLists) (before first second class : ℕ) → before + 1 ≤ last_round f → MatchUnlike f lists (before + 1) (Some second) → class ≡ class_of lists (before + 1) second
+    → first ≡ first_member lists (before + 1) class → ((r : ℕ) → 0 < r → r ≤ before → AreAlikeBelow f lists r (signal_count f r)) → IsFirstUnlike f lists (before + 1) first second
+first_unlike_from f lists before first second class top h e g below =
+    let own : first ≡ first_member lists (before + 1) (class_of lists (before + 1) second) = g ∙ ap (first_member lists (before + 1)) e in
+    record {
+      round_in = (omega arith, top);
+      second_in = h.0;
+      member = own;
+      unlike = λ a. h.2 (subst (λ x. Alike f lists (before + 1) x second) own a);
+      before = λ r s or some l. ⊎_elim (λ under. below r some (omega (arith, under)) s l)
+          (λ same. subst (λ (k : ℕ). Alike f lists k (first_member lists k (class_of lists k s)) s) (sym same.0) (h.1 s same.1)) or;
+    }
+
+pub alike_more : (f : Frame) (lists : ClassLists) (before : ℕ) → ((r : ℕ) → 0 < r → r ≤ before → AreAlikeBelow f lists r (signal_count f r)) → MatchUnlike f lists (before + 1) None
+    → (r : ℕ) → 0 < r → r ≤ before + 1 → AreAlikeBelow f lists r (signal_count f r)
+alike_more f lists before h here r some l = ⊎_elim (λ under. h r some (omega (arith, under))) (λ over. let e : before + 1 ≡ r = omega (arith, l, over) in subst (λ (k : ℕ). AreAlikeBelow f lists k (signal_count f k)) e here) (cases_lt r (before + 1))
+
+-- a first unlike pair refutes losslessness, and single signals have none
+pub refuted : (f : Frame) (l : Filter) → l.parents ≡ f.parents → IsSound l → (round first second : ℕ) → IsFirstUnlike f l.lists round first second → IsLossless f l.lists → ⊥
+refuted f l e s round first second = not_lossless f l.lists round first second (over f l e s.classes)
+
+pub not_single : (f : Frame) (l : Filter) → l.parents ≡ f.parents → IsSound l → (round first second : ℕ) → IsFirstUnlike f l.lists round first second → l.lists ≡ single_classes l.parents → ⊥
+not_single f l e s round first second u g =
+    refuted f l e s round first second u (subst (IsLossless f) (sym (g ∙ ap single_classes e)) (singles f (single_are_classes f.parents)))
+
+-- the end of the second scan of a round
+pub end_in : (f : Frame) (lists : ClassLists) (round : ℕ) (apart : Option ℕ) → IsChildrenApart f lists round apart → unwrap_or apart (signal_count f round) ≤ signal_count f round
+end_in f lists round None h = omega arith
+end_in f lists round (Some t) h = omega (arith, h.1.0)
+
+pub reverse_one : (xs ys : List Part) → reverse xs ≡ reverse ys → xs ≡ ys
+reverse_one xs ys e = sym (reverse-reverse xs) ∙ ap reverse e ∙ reverse-reverse ys

@@ -1,0 +1,33 @@
+use Rattle.std.proofs.Common.{◌≡◌, ◌+◌, ◌-◌, ◌<◌, ℕ, List, ◌++◌, ap, length, map, sym, ◌∙◌, subst, arith}
+use Rattle.std.specs.Prelude.{◌==◌, All, filter, flat_map}
+use Rattle.std.specs.List.{range_with_len}
+use Rattle.std.proofs.lemmas.List.Elements.{All-filter}
+use Rattle.gs_model.specs.Deals.{Deal, deals}
+use Rattle.gs_model.proofs.GroupSteps.{flat_map_range_more}
+use Rattle.gs_tree.specs.Trees.{rules_of}
+use Rattle.gs_lossless.specs.Amounts.{deal_part}
+use Rattle.gs_lossless.specs.declared.parts.Part.{Part}
+use Rattle.gs_lossless.proofs.Descent.{playable, twos_in}
+use Rattle.gs_lossless.proofs.sides.run_parts.Goals as goal
+
+pub parts_of-requires : goal.parts_of-requires
+parts_of-requires c =
+    let g = rules_of c.args.signals.now in
+    let p : Deal → Type 0 = λ d. d.two < length c.args.keys.now in
+    subst (λ (l : List Deal). All p l) (sym c.deals_of.ensures)
+    (All-filter (λ (d : Deal). d.one == c.loop-place.place) p (deals g) (twos_in g (playable c.args.signals.now) (length c.args.keys.now) c.requires.all))
+
+pub loop-place-preserved : goal.loop-place-preserved
+loop-place-preserved c =
+    let g = rules_of c.args.signals.now in
+    let part = deal_part c.args.keys.now c.args.by_outcome in
+    let at : ℕ → List Part = λ x. map part (filter (λ (d : Deal). d.one == x) (deals g)) in
+    let first = c.args.run.first in
+    let x = c.loop-place.place in
+    let here : first + (x - first) ≡ x = omega arith in
+    let more : x - first + 1 ≡ x + 1 - first = omega arith in
+    c.in_ok-extend_from_slice.ensures.items
+    ∙ ap (λ (ys : List Part). c.loop-place.parts.items ++ ys) (c.deref.ensures.value ∙ c.in_ok-more.ensures ∙ ap (λ (l : List Deal). map part l) c.deals_of.ensures)
+    ∙ ap (λ (xs : List Part). xs ++ at x) c.loop-place.invariant
+    ∙ sym (flat_map_range_more at first (x - first) x here)
+    ∙ ap (λ (n : ℕ). flat_map at (range_with_len first n)) more

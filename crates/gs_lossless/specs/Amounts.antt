@@ -1,0 +1,73 @@
+-- What members of a class must agree in, as weights by class and outcome.
+use Rattle.std.specs.Prelude.{ℕ, ◌+◌, ◌-◌, ◌<◌, ◌≤◌, ◌≡◌, ◌==◌, ℤ, pos, Bool, List, map, length, get_or, if◌then◌else◌, filter, flat_map}
+use Rattle.std.specs.List.{range_with_len}
+use Rattle.std.specs.Ordering.{int_eq}
+use Rattle.gs_model.specs.Classes.{ClassLists, class_of, first_member, list_of}
+use Rattle.gs_model.specs.Deals.{Deal}
+use Rattle.gs_model.specs.Frame.{Frame, ancestor, last_round, signal_count, signals_in, at_round}
+use Rattle.gs_model.specs.Game.{Game, round_count}
+use Rattle.gs_model.specs.Lossless.{children_in, weight_against, weight_with}
+use Rattle.gs_model.specs.Signals.{signals}
+use Rattle.gs_lossless.specs.declared.parts.Part.{Part}
+use Rattle.gs_lossless.specs.declared.sides.Side.{Side}
+use Rattle.gs_lossless.specs.declared.sides.Side.TheVariants.{Deals, Children}
+use Rattle.gs_lossless.specs.Sums.{Rises, sum_at}
+
+-- by class and outcome: the weight of a signal's deals, by the outcome in the last round alone, or how many children it has. Where no outcome counts, all
+-- stands at 0
+abbrev pub amount : Frame → ClassLists → Side → ℕ → ℕ → ℕ → ℤ → ℕ
+amount f lists Deals round s c o =
+    if round == last_round f then weight_with f lists s c o else (if int_eq (pos 0) o then weight_against f lists round s c else 0)
+amount f lists Children round s c o = if int_eq (pos 0) o then children_in f lists round s c else 0
+
+-- two signals agree on one side
+abbrev pub Agree : Frame → ClassLists → Side → ℕ → ℕ → ℕ → Type 0
+Agree f lists side round s t = (c : ℕ) (o : ℤ) → amount f lists side round s c o ≡ amount f lists side round t c o
+
+-- a signal agrees with the first member of its class
+abbrev pub AgreesWithFirst : Frame → ClassLists → Side → ℕ → ℕ → Type 0
+AgreesWithFirst f lists side round s = Agree f lists side round (first_member lists round (class_of lists round s)) s
+
+-- the sums of a signal on one side
+pub record AreAmounts (f : Frame) (lists : ClassLists) (side : Side) (round s : ℕ) (sums : List Part) : Type 0 where
+  pub rises : Rises sums
+  pub sum : (c : ℕ) (o : ℤ) → sum_at sums c o ≡ amount f lists side round s c o
+
+-- the round has this side: children stand before the last round
+abbrev pub HasSide : Frame → Side → ℕ → Type 0
+HasSide f Deals round = (0 < round) × (round ≤ last_round f)
+HasSide f Children round = (0 < round) × (round < last_round f)
+
+-- the classes by which a side counts: those of the next round's signals, or of the last round's by their ancestors in the round
+abbrev pub keys_of : Frame → ClassLists → Side → ℕ → List ℕ
+keys_of f lists Deals round = map (λ x. class_of lists round (at_round f round x)) (signals_in f (last_round f))
+keys_of f lists Children round = list_of lists (round + 1)
+
+-- how many signals a side counts
+abbrev pub key_count : Game → Side → ℕ → ℕ
+key_count g Deals round = length (signals g (round_count g))
+key_count g Children round = length (signals g (round + 1))
+
+-- the signals of the round `at` that descend from a signal of a round are those of a run of places
+pub record IsRunIn (f : Frame) (at round s first end : ℕ) : Type 0 where
+  pub ordered : first ≤ end
+  pub within : end ≤ signal_count f at
+  pub inside : (x : ℕ) → x < signal_count f at → ancestor f at round x ≡ s → (first ≤ x) × (x < end)
+  pub back : (x : ℕ) → first ≤ x → x < end → ancestor f at round x ≡ s
+
+-- the same in the last round
+abbrev pub IsRun : Frame → ℕ → ℕ → ℕ → ℕ → Type 0
+IsRun f round s first end = IsRunIn f (last_round f) round s first end
+
+-- a deal as a part: its weight counts for the key of player 2's signal, and for its outcome or for none
+abbrev pub deal_part : List ℕ → Bool → Deal → Part
+deal_part keys by_outcome d = record { class = get_or keys d.two 0; outcome = if by_outcome then d.outcome else pos 0; weight = d.weight }
+
+-- a signal of the next round as a part: it counts once for its class
+abbrev pub child_part : List ℕ → ℕ → Part
+child_part keys x = record { class = get_or keys x 0; outcome = pos 0; weight = 1 }
+
+-- the parts of the deals of a run of last-round signals
+abbrev pub deal_parts : List Deal → List ℕ → Bool → ℕ → ℕ → List Part
+deal_parts deals keys by_outcome first end =
+    flat_map (λ x. map (deal_part keys by_outcome) (filter (λ (d : Deal). d.one == x) deals)) (range_with_len first (end - first))

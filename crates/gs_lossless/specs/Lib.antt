@@ -1,0 +1,4 @@
+pub mod Sums
+pub mod Amounts
+pub mod Scans
+pub mod Stops

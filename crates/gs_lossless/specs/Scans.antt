@@ -1,0 +1,23 @@
+-- The first signal of a round that differs from the first member of its class.
+use Rattle.std.specs.Prelude.{ℕ, ◌-◌, ◌<◌, ◌≤◌, ◌≢◌, List, Option, Some, None, Vec, get_or, reverse}
+use Rattle.std.specs.declared.alloc.Global.{Global}
+use Rattle.gs_model.specs.Classes.{ClassLists, class_count, class_size, first_member}
+use Rattle.gs_model.specs.Frame.{Frame}
+use Rattle.gs_lossless.specs.Amounts.{AgreesWithFirst, AreAmounts}
+use Rattle.gs_lossless.specs.declared.parts.Part.{Part}
+use Rattle.gs_lossless.specs.declared.sides.Side.{Side}
+
+-- the signals of a round before `end` agree with the first members of their classes
+abbrev pub AgreeBelow : Frame → ClassLists → Side → ℕ → ℕ → Type 0
+AgreeBelow f lists side round end = (s : ℕ) → s < end → AgreesWithFirst f lists side round s
+
+-- the first signal before `end` that does not, or none
+abbrev pub IsFirstApart : Frame → ClassLists → Side → ℕ → ℕ → Option ℕ → Type 0
+IsFirstApart f lists side round end None = AgreeBelow f lists side round end
+IsFirstApart f lists side round end (Some s) = (s < end) × AgreeBelow f lists side round s × (AgreesWithFirst f lists side round s → ⊥)
+
+-- of classes with more than one member whose first member stands before a signal, the sums of that member are kept
+abbrev pub StoredBelow : Frame → ClassLists → Side → ℕ → ℕ → List (Vec Part Global) → Type 0
+StoredBelow f lists side round signal kept =
+    (k : ℕ) (d : Vec Part Global) → 0 < k → k ≤ class_count lists round → first_member lists round k < signal → class_size lists round k ≢ 1
+    → AreAmounts f lists side round (first_member lists round k) (reverse (get_or kept (k - 1) d).items)

@@ -1,0 +1,38 @@
+-- What a stop of a check says of the classes, and its text.
+use Rattle.std.specs.Prelude.{ℕ, ◌<◌, ◌++◌, List, Option, Some, None, codes}
+use Rattle.std.specs.Fmt.{decimal}
+use Rattle.gs_model.specs.Classes.{ClassLists, class_of, first_member}
+use Rattle.gs_model.specs.Frame.{Frame, last_round, signal_count}
+use Rattle.gs_model.specs.Lossless.{Alike, IsFirstUnlike}
+use Rattle.gs_lossless.specs.Scans.{AgreeBelow, IsFirstApart}
+use Rattle.gs_lossless.specs.declared.sides.Side.TheVariants.{Children}
+use Rattle.gs_lossless.specs.declared.stop.CheckStop.{CheckStop}
+use Rattle.gs_lossless.specs.declared.stop.CheckStop.TheVariants.{Unlike, Memory}
+
+-- the stop names the first unlike pair; want of memory says nothing
+abbrev pub IsUnlikeIn : Frame → ClassLists → CheckStop → Type 0
+IsUnlikeIn f lists (Unlike round first second) = IsFirstUnlike f lists round first second
+IsUnlikeIn f lists Memory = Unit {0}
+
+-- the stop is no want of memory
+abbrev pub IsUnlike : CheckStop → Type 0
+IsUnlike (Unlike round first second) = Unit {0}
+IsUnlike Memory = ⊥
+
+-- the signals of a round before `end` are like the first members of their classes
+abbrev pub AreAlikeBelow : Frame → ClassLists → ℕ → ℕ → Type 0
+AreAlikeBelow f lists round end = (s : ℕ) → s < end → Alike f lists round (first_member lists round (class_of lists round s)) s
+
+-- the first signal of a round that is not like the first member of its class, or none
+abbrev pub MatchUnlike : Frame → ClassLists → ℕ → Option ℕ → Type 0
+MatchUnlike f lists round None = AreAlikeBelow f lists round (signal_count f round)
+MatchUnlike f lists round (Some s) = (s < signal_count f round) × AreAlikeBelow f lists round s × (Alike f lists round (first_member lists round (class_of lists round s)) s → ⊥)
+
+abbrev pub stop_text : CheckStop → List ℕ
+stop_text (Unlike round first second) = codes "unlike in round " ++ decimal round ++ codes " at " ++ decimal first ++ codes " and " ++ decimal second
+stop_text Memory = codes "out of memory"
+
+-- the first signal of a round that has not the children of the first member of its class, or none
+abbrev pub IsChildrenApart : Frame → ClassLists → ℕ → Option ℕ → Type 0
+IsChildrenApart f lists round None = round < last_round f → AgreeBelow f lists Children round (signal_count f round)
+IsChildrenApart f lists round (Some s) = (round < last_round f) × IsFirstApart f lists Children round (signal_count f round) (Some s)

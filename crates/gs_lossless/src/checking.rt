@@ -1,0 +1,146 @@
+//! Lossless classes, and the check for them.
+
+ghost use Rattle.std.specs.Prelude.{◌≡◌, ◌<◌, ◌≤◌, IfOk, IfErr, IsTrue};
+ghost use Rattle.gs_model.specs.Frame.{frame_of, last_round};
+ghost use Rattle.gs_model.specs.Lossless.{IsLossless};
+ghost use Rattle.gs_filter.specs.Filter.{single_classes};
+ghost use Rattle.gs_tree.specs.Trees.{rules_of};
+ghost use Rattle.gs_lossless.specs.Stops.{IsChildrenApart, IsUnlike, IsUnlikeIn, MatchUnlike};
+
+use crate::scan::first_apart;
+use crate::sides::Side;
+use crate::stop::CheckStop;
+use gs_filter::Classes;
+use gs_tree::Signals;
+use std::alloc::{AllocError, Global};
+
+/// Signals with lossless classes: members of one class have parents of one class, the same weight of deals against each class of the opponent, in
+/// the last round for each outcome too, and the same number of children in each class.
+#[derive(Clone, Copy)]
+pub struct Lossless<'a> {
+    signals: &'a Signals<'a>,
+    classes: &'a Classes,
+    ghost parents: { classes.now.parents ≡ (frame_of (rules_of signals.now)).parents },
+    ghost lossless: { IsLossless (frame_of (rules_of signals.now)) classes.now.lists },
+}
+
+impl<'a> Lossless<'a> {
+    /// The signals.
+    pub fn signals(&self) -> &'a Signals<'a>
+        ensures held { result.now ≡ self.now.signals.now }
+        ensures lossless { IsLossless (frame_of (rules_of self.now.signals.now)) self.now.classes.now.lists }
+    {
+        self.signals
+    }
+
+    /// The classes.
+    pub fn classes(&self) -> &'a Classes
+        ensures held { result.now ≡ self.now.classes.now }
+        ensures parents { result.now.parents ≡ (frame_of (rules_of self.now.signals.now)).parents }
+        ensures lossless { IsLossless (frame_of (rules_of self.now.signals.now)) self.now.classes.now.lists }
+    {
+        self.classes
+    }
+}
+
+/// Whether the last round's sums and the children of all rounds agree within classes: then the classes are lossless.
+fn settles(alloc: Global, signals: &Signals, classes: &Classes) -> Result<bool, AllocError>
+    requires { classes.now.parents ≡ (frame_of (rules_of signals.now)).parents }
+    ensures { IfOk result (λ b. IsTrue b → IsLossless (frame_of (rules_of signals.now)) classes.now.lists) }
+{
+    let _rounds = classes.rounds();
+    let last = signals.rounds();
+    for round in 1..last {
+        let end = signals.count(round);
+        if first_apart(alloc, signals, classes, Side::Children, round, end)?.is_some() {
+            return Ok(false);
+        }
+    }
+    let end = signals.count(last);
+    Ok(first_apart(alloc, signals, classes, Side::Deals, last, end)?.is_none())
+}
+
+/// The first signal of a round whose children differ from those of the first member of its class. The last round has no children.
+fn children_apart(
+    alloc: Global,
+    signals: &Signals,
+    classes: &Classes,
+    round: u8,
+) -> Result<Option<u32>, AllocError>
+    requires parents { classes.now.parents ≡ (frame_of (rules_of signals.now)).parents }
+    requires some { 0 < round }
+    requires top { round ≤ last_round (frame_of (rules_of signals.now)) }
+    ensures { IfOk result (IsChildrenApart (frame_of (rules_of signals.now)) classes.now.lists round) }
+{
+    if round < signals.rounds() {
+        let end = signals.count(round);
+        first_apart(alloc, signals, classes, Side::Children, round, end)
+    } else {
+        Ok(None)
+    }
+}
+
+/// The first signal of a round that is not like the first member of its class.
+fn unlike_in(
+    alloc: Global,
+    signals: &Signals,
+    classes: &Classes,
+    round: u8,
+) -> Result<Option<u32>, AllocError>
+    requires parents { classes.now.parents ≡ (frame_of (rules_of signals.now)).parents }
+    requires some { 0 < round }
+    requires top { round ≤ last_round (frame_of (rules_of signals.now)) }
+    ensures { IfOk result (MatchUnlike (frame_of (rules_of signals.now)) classes.now.lists round) }
+{
+    let apart = children_apart(alloc, signals, classes, round)?;
+    let end = apart.unwrap_or(signals.count(round));
+    match first_apart(alloc, signals, classes, Side::Deals, round, end)? {
+        Some(signal) => Ok(Some(signal)),
+        None => Ok(apart),
+    }
+}
+
+/// The first unlike pair, or none where the classes are lossless.
+fn first_unlike(alloc: Global, signals: &Signals, classes: &Classes) -> Result<(), CheckStop>
+    requires { classes.now.parents ≡ (frame_of (rules_of signals.now)).parents }
+    ensures lossless { IfOk result (λ _. IsLossless (frame_of (rules_of signals.now)) classes.now.lists) }
+    ensures unlike { IfErr result (IsUnlikeIn (frame_of (rules_of signals.now)) classes.now.lists) }
+    ensures refuted { IfErr result (λ e. IsUnlike e → IsLossless (frame_of (rules_of signals.now)) classes.now.lists → ⊥) }
+    ensures single { IfErr result (λ e. IsUnlike e → classes.now.lists ≡ single_classes classes.now.parents → ⊥) }
+{
+    let _rounds = classes.rounds();
+    for before in 0..signals.rounds() {
+        let round = before + 1;
+        if let Some(second) = unlike_in(alloc, signals, classes, round)? {
+            let first = classes.first(round, classes.class_of(round, second));
+            return Err(CheckStop::Unlike {
+                round,
+                first,
+                second,
+            });
+        }
+    }
+    Ok(())
+}
+
+/// Lossless classes, or the first unlike pair. Classes of one signal each are never refused.
+///
+/// The sums of the last round and the counts of children settle losslessness, so the rounds before are looked at only to name the pair.
+pub fn check<'a>(
+    alloc: Global,
+    signals: &'a Signals<'a>,
+    classes: &'a Classes,
+) -> Result<Lossless<'a>, CheckStop>
+    requires { classes.now.parents ≡ (frame_of (rules_of signals.now)).parents }
+    ensures held_signals { IfOk result (λ l. l.signals.now ≡ signals.entry.now) }
+    ensures held_classes { IfOk result (λ l. l.classes.now ≡ classes.entry.now) }
+    ensures lossless { IfOk result (λ _. IsLossless (frame_of (rules_of signals.entry.now)) classes.entry.now.lists) }
+    ensures unlike { IfErr result (IsUnlikeIn (frame_of (rules_of signals.entry.now)) classes.entry.now.lists) }
+    ensures refuted { IfErr result (λ e. IsUnlike e → IsLossless (frame_of (rules_of signals.entry.now)) classes.entry.now.lists → ⊥) }
+    ensures single { IfErr result (λ e. IsUnlike e → classes.entry.now.lists ≡ single_classes classes.entry.now.parents → ⊥) }
+{
+    if !settles(alloc, signals, classes)? {
+        first_unlike(alloc, signals, classes)?;
+    }
+    Ok(Lossless { signals, classes })
+}

@@ -1,0 +1,18 @@
+//! Whether classes of signals lose nothing: members of one class see the same weights of deals and have the same children, class by class.
+#![tactic(auto)]
+
+mod checking;
+mod keys;
+mod parts;
+mod runs;
+mod scan;
+mod sides;
+mod stop;
+#[cfg(test)]
+mod tests;
+
+pub use checking::{Lossless, check};
+pub use keys::side_keys;
+pub use parts::Part;
+pub use sides::{Side, side_sums};
+pub use stop::CheckStop;

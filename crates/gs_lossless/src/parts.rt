@@ -1,0 +1,52 @@
+//! Weights by class and outcome, added up.
+
+ghost use Rattle.std.specs.Prelude.{◌≡◌, ◌↔◌, ◌+◌, ◌<◌, ◌^◌, All, IfOk, OnOk, IsTrue, reverse, sum_by};
+ghost use Rattle.gs_lossless.specs.Sums.{AreSumsOf, is_at, merged, put};
+
+use std::alloc::{AllocError, Global};
+
+/// A weight that counts for a class and an outcome.
+#[derive(Clone, Copy, Debug, PartialEq, Eq, PartialOrd, Ord, Hash)]
+pub struct Part {
+    pub class: u32,
+    pub outcome: i8,
+    pub weight: u64,
+}
+
+/// Adds a part to sums whose keys are none below its own: the last sum takes it, or it begins a new one.
+fn add(sums: &mut Vec<Part>, part: Part) -> Result<(), AllocError>
+    requires { sum_by (λ p. p.weight) sums.old.items + part.weight < 2 ^ 64 }
+    ensures { OnOk result (reverse sums.new.items ≡ put part (reverse sums.old.items)) }
+{
+    let count = sums.len();
+    if 0 < count {
+        let last = &mut sums[count - 1];
+        if last.class == part.class && last.outcome == part.outcome {
+            last.weight += part.weight;
+            return Ok(());
+        }
+    }
+    sums.push(part)?;
+    Ok(())
+}
+
+/// The sums of the weights of some parts, for each class and outcome that some part has.
+pub(crate) fn sums_of(alloc: Global, mut parts: Vec<Part>) -> Result<Vec<Part>, AllocError>
+    requires some { All (λ p. 0 < p.weight) parts.items }
+    requires fits { sum_by (λ p. p.weight) parts.items < 2 ^ 64 }
+    ensures { IfOk result (λ v. AreSumsOf parts.items (reverse v.items)) }
+{
+    parts.sort_unstable();
+    let mut sums = Vec::with_capacity(alloc, parts.len())?;
+    for at in (0..parts.len()).rev() {
+        add(&mut sums, parts[at])?;
+    }
+    Ok(sums)
+}
+
+/// Whether two lists of sums are the same.
+pub(crate) fn are_same(sums: &[Part], others: &[Part]) -> bool
+    ensures { IsTrue result ↔ (sums.now ≡ others.now) }
+{
+    sums == others
+}

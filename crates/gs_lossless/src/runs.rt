@@ -1,0 +1,74 @@
+//! The last-round signals that descend from a signal.
+
+ghost use Rattle.std.specs.Prelude.{◌≡◌, ◌+◌, ◌<◌, ◌≤◌, length};
+ghost use Rattle.gs_model.specs.Frame.{at_round, frame_of};
+ghost use Rattle.gs_model.specs.Game.{round_count};
+ghost use Rattle.gs_model.specs.Signals.{first_child, parents, signals as signals_in};
+ghost use Rattle.gs_tree.specs.Trees.{rules_of};
+ghost use Rattle.gs_tree.specs.Walk.{last_count};
+ghost use Rattle.gs_lossless.specs.Amounts.{IsRun};
+
+use gs_tree::Signals;
+
+/// A run of places in a round: from the first one up to the end, which is not one of them.
+#[derive(Clone, Copy, Debug)]
+pub(crate) struct Run {
+    pub(crate) first: u32,
+    pub(crate) end: u32,
+}
+
+/// The parent of each signal of a round, by its place in the round before; zeros in round 1.
+fn parents_in<'a>(signals: &'a Signals, round: u8) -> &'a [u32]
+    requires some { 0 < round }
+    requires last { round ≤ round_count (rules_of signals.now) }
+    ensures { result.now ≡ parents (rules_of signals.entry.now) round }
+{
+    &signals.parents()[usize::from(round) - 1]
+}
+
+/// The ancestor in a round of a signal of the last round.
+pub(crate) fn ancestor(signals: &Signals, round: u8, signal: u32) -> u32
+    requires some { 0 < round }
+    requires last { round ≤ round_count (rules_of signals.now) }
+    requires in_range { signal < last_count (rules_of signals.now) }
+    ensures value { result ≡ at_round (frame_of (rules_of signals.now)) round signal }
+    ensures within { result < length (signals_in (rules_of signals.now) round) }
+{
+    let mut at = signals.rounds();
+    let mut place = signal;
+    while round < at {
+        place = parents_in(signals, at)[place as usize];
+        at -= 1;
+    }
+    place
+}
+
+/// The place of the first signal of the next round whose parent is not before this place.
+fn first_below(signals: &Signals, round: u8, place: u32) -> u32
+    requires some { 0 < round }
+    requires before_last { round < round_count (rules_of signals.now) }
+    requires in_range { place ≤ length (signals_in (rules_of signals.now) round) }
+    ensures { result ≡ first_child (rules_of signals.now) round place }
+{
+    if place < signals.count(round) {
+        signals.children(round, place).0
+    } else {
+        signals.count(round + 1)
+    }
+}
+
+/// The last-round signals that descend from a signal.
+pub(crate) fn descendants(signals: &Signals, round: u8, signal: u32) -> Run
+    requires some { 0 < round }
+    requires last { round ≤ round_count (rules_of signals.now) }
+    requires in_range { signal < length (signals_in (rules_of signals.now) round) }
+    ensures { IsRun (frame_of (rules_of signals.now)) round signal result.first result.end }
+{
+    let mut first = signal;
+    let mut end = signal + 1;
+    for at in round..signals.rounds() {
+        first = first_below(signals, at, first);
+        end = first_below(signals, at, end);
+    }
+    Run { first, end }
+}

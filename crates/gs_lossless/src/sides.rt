@@ -1,0 +1,163 @@
+//! What is compared of a signal: the sums of its deals, or of its children.
+
+ghost use Rattle.std.specs.Prelude.{◌≡◌, ◌+◌, ◌<◌, ◌≤◌, All, IfOk, length, map, reverse};
+ghost use Rattle.std.specs.List.{range_with_len};
+ghost use Rattle.gs_model.specs.Classes.{ClassLists};
+ghost use Rattle.gs_model.specs.Deals.{Deal as Dealt, deals as all_deals};
+ghost use Rattle.gs_model.specs.Frame.{frame_of};
+ghost use Rattle.gs_model.specs.Game.{round_count};
+ghost use Rattle.gs_model.specs.Signals.{child_count, first_child, signals as signals_in};
+ghost use Rattle.gs_tree.specs.Trees.{rules_of};
+ghost use Rattle.gs_tree.specs.Walk.{last_count};
+ghost use Rattle.gs_lossless.specs.Amounts.{AreAmounts, HasSide, child_part, deal_part, deal_parts as parts_between, key_count, keys_of};
+
+use crate::parts::{Part, sums_of};
+use crate::runs::{Run, descendants};
+use gs_tree::{Deal, Deals, Signals};
+use std::alloc::{AllocError, Global};
+
+/// One of the two things that members of a class agree in.
+#[derive(Clone, Copy, Debug, PartialEq, Eq)]
+pub enum Side {
+    /// The weights of a signal's deals by the opponent's class, and in the last round by the outcome too.
+    Deals,
+    /// How many children a signal has in each class.
+    Children,
+}
+
+/// A deal's weight, for the class of player 2's signal, and for the outcome or for none.
+fn part_of(keys: &[u32], by_outcome: bool, deal: Deal) -> Part
+    requires { deal.two < length keys.now }
+    ensures { result ≡ deal_part keys.now by_outcome deal }
+{
+    Part {
+        class: keys[deal.two as usize],
+        outcome: if by_outcome { deal.outcome } else { 0 },
+        weight: deal.weight,
+    }
+}
+
+/// The parts of some deals.
+fn parts_of(
+    alloc: Global,
+    deals: Deals<'_>,
+    keys: &[u32],
+    by_outcome: bool,
+) -> Result<Vec<Part>, AllocError>
+    requires { All (λ (d : Dealt). d.two < length keys.now) deals }
+    ensures { IfOk result (λ v. v.items ≡ map (deal_part keys.now by_outcome) deals.entry) }
+{
+    let mut parts = Vec::new(alloc);
+    for deal in deals {
+        parts.push(part_of(keys, by_outcome, deal))?;
+    }
+    Ok(parts)
+}
+
+/// The parts of the deals of a run of last-round signals.
+fn run_parts(
+    alloc: Global,
+    signals: &Signals,
+    keys: &[u32],
+    by_outcome: bool,
+    run: Run,
+) -> Result<Vec<Part>, AllocError>
+    requires all { length keys.now ≡ last_count (rules_of signals.now) }
+    requires ordered { run.first ≤ run.end }
+    requires within { run.end ≤ last_count (rules_of signals.now) }
+    ensures { IfOk result (λ v. v.items ≡ parts_between (all_deals (rules_of signals.now)) keys.now by_outcome run.first run.end) }
+{
+    let mut parts = Vec::new(alloc);
+    for place in run.first..run.end {
+        let more = parts_of(alloc, signals.deals_of(place), keys, by_outcome)?;
+        parts.extend_from_slice(&more)?;
+    }
+    Ok(parts)
+}
+
+/// The children of a signal as parts, each for its class.
+fn child_parts(
+    alloc: Global,
+    signals: &Signals,
+    round: u8,
+    signal: u32,
+    keys: &[u32],
+) -> Result<Vec<Part>, AllocError>
+    requires some { 0 < round }
+    requires before_last { round < round_count (rules_of signals.now) }
+    requires in_range { signal < length (signals_in (rules_of signals.now) round) }
+    requires all { length keys.now ≡ length (signals_in (rules_of signals.now) (round + 1)) }
+    ensures { IfOk result (λ v. v.items ≡ map (child_part keys.now)
+        (range_with_len (first_child (rules_of signals.now) round signal) (child_count (rules_of signals.now) round signal))) }
+{
+    let (first, end) = signals.children(round, signal);
+    let mut parts = Vec::with_capacity(alloc, (end - first) as usize)?;
+    for child in first..end {
+        parts.push(Part {
+            class: keys[child as usize],
+            outcome: 0,
+            weight: 1,
+        })?;
+    }
+    Ok(parts)
+}
+
+/// The sums of a signal's children, by the classes of the keys.
+fn child_sums(
+    alloc: Global,
+    signals: &Signals,
+    round: u8,
+    keys: &[u32],
+    signal: u32,
+) -> Result<Vec<Part>, AllocError>
+    requires side { HasSide (frame_of (rules_of signals.now)) Side.Children round }
+    requires all { length keys.now ≡ key_count (rules_of signals.now) Side.Children round }
+    requires in_range { signal < length (signals_in (rules_of signals.now) round) }
+    ensures { IfOk result (λ v. (lists : ClassLists) → keys.now ≡ keys_of (frame_of (rules_of signals.now)) lists Side.Children round
+        → AreAmounts (frame_of (rules_of signals.now)) lists Side.Children round signal (reverse v.items)) }
+{
+    let parts = child_parts(alloc, signals, round, signal, keys)?;
+    sums_of(alloc, parts)
+}
+
+/// The sums of a signal's deals, by the classes of the keys, and in the last round by outcomes.
+fn deal_sums(
+    alloc: Global,
+    signals: &Signals,
+    round: u8,
+    keys: &[u32],
+    signal: u32,
+) -> Result<Vec<Part>, AllocError>
+    requires side { HasSide (frame_of (rules_of signals.now)) Side.Deals round }
+    requires all { length keys.now ≡ key_count (rules_of signals.now) Side.Deals round }
+    requires in_range { signal < length (signals_in (rules_of signals.now) round) }
+    ensures { IfOk result (λ v. (lists : ClassLists) → keys.now ≡ keys_of (frame_of (rules_of signals.now)) lists Side.Deals round
+        → AreAmounts (frame_of (rules_of signals.now)) lists Side.Deals round signal (reverse v.items)) }
+{
+    let run = descendants(signals, round, signal);
+    let by_outcome = round == signals.rounds();
+    let parts = run_parts(alloc, signals, keys, by_outcome, run)?;
+    sums_of(alloc, parts)
+}
+
+/// The sums of a signal on one side, in descending order, by class and then by outcome. `keys` are those of the side. Signals that agree on the side
+/// have one list of sums, and no others have.
+pub fn side_sums(
+    alloc: Global,
+    signals: &Signals,
+    side: Side,
+    round: u8,
+    keys: &[u32],
+    signal: u32,
+) -> Result<Vec<Part>, AllocError>
+    requires side { HasSide (frame_of (rules_of signals.now)) side round }
+    requires all { length keys.now ≡ key_count (rules_of signals.now) side round }
+    requires in_range { signal < length (signals_in (rules_of signals.now) round) }
+    ensures { IfOk result (λ v. (lists : ClassLists) → keys.now ≡ keys_of (frame_of (rules_of signals.now)) lists side round
+        → AreAmounts (frame_of (rules_of signals.now)) lists side round signal (reverse v.items)) }
+{
+    match side {
+        Side::Children => child_sums(alloc, signals, round, keys, signal),
+        Side::Deals => deal_sums(alloc, signals, round, keys, signal),
+    }
+}
