@@ -1,0 +1,5 @@
+pub mod Numbered
+pub mod FirstSeen
+pub mod Agreed
+pub mod Turned
+pub mod Splits

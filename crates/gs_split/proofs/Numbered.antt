@@ -1,0 +1,100 @@
+-- Numbers by first sight: equal numbers are equal keys.
+use Rattle.std.proofs.Common.{◌≡◌, ◌↔◌, ℕ, zero, suc, ◌-◌, ◌<◌, List, [], ◌∷◌, ◌++◌, length, get_or, refl, sym, ap, ◌∙◌, subst, arith, Bool, true, false, cond, true≢false, Some, Vec, Global, ⊎_elim, length-append}
+use Rattle.std.specs.List.{AllByRecursion, IsDistinct, slice_get, list_any}
+use Rattle.std.proofs.lemmas.Bool.{cases_eq}
+use Rattle.std.specs.Bool.{Decides}
+use Rattle.std.proofs.lemmas.Slice.Eq.{slice_eq-Decides}
+use Rattle.std.proofs.lemmas.Map.Keys.{IsDistinct-head, IsDistinct-tail}
+use Rattle.std.proofs.lemmas.Grind.{elements}
+use lib.Pointwise.{pointwise}
+use Rattle.indexmap.specs.IndexSet.{insert_key}
+use Rattle.gs_split.specs.Turns.{HasKey, LeadToKeys}
+
+-- a place keeps its item when another goes behind
+slice_get-append : {X : Type 0} (xs ys : List X) (i : ℕ) (x : X) → slice_get xs i ≡ Some x → slice_get (xs ++ ys) i ≡ Some x
+slice_get-append [] ys i x e = absurd (cc)
+slice_get-append (z ∷ zs) ys zero x e = e
+slice_get-append (z ∷ zs) ys (suc i) x e = slice_get-append zs ys i x e
+
+pub slice_get-insert : {X : Type 0} (eq : X → X → Bool) (xs : List X) (k : X) (i : ℕ) (x : X) → slice_get xs i ≡ Some x → slice_get (insert_key eq xs k) i ≡ Some x
+slice_get-insert eq xs k i x e = go (list_any (eq k) xs)
+  where
+    go : (b : Bool) → slice_get (cond b xs (xs ++ k ∷ [])) i ≡ Some x
+    go true = e
+    go false = slice_get-append xs (k ∷ []) i x e
+
+-- keys that are told apart stand once
+head_apart : {X : Type 0} (P : X → Type 0) (xs : List X) (i : ℕ) (x : X) → AllByRecursion P xs → slice_get xs i ≡ Some x → P x
+head_apart P [] i x h e = absurd (cc)
+head_apart P (y ∷ ys) zero x h e = let same : y ≡ x = cc in subst P same h.0
+head_apart P (y ∷ ys) (suc i) x h e = head_apart P ys i x h.1 e
+
+pub one_place : {X : Type 0} (eq : X → X → Bool) (flips : (x y : X) → eq x y ≡ true → eq y x ≡ true) (xs : List X) → IsDistinct eq xs → (i j : ℕ) (x y : X)
+    → slice_get xs i ≡ Some x → slice_get xs j ≡ Some y → eq x y ≡ true → i ≡ j
+one_place eq flips [] d i j x y ex ey e = absurd (cc)
+one_place eq flips (z ∷ zs) d zero zero x y ex ey e = refl
+one_place eq flips (z ∷ zs) d zero (suc j) x y ex ey e =
+    let same : z ≡ x = cc in
+    let no : eq z y ≡ false = head_apart (λ w. eq z w ≡ false) zs j y (IsDistinct-head eq z zs d) ey in
+    absurd (true≢false (sym e ∙ ap (λ w. eq w y) (sym same) ∙ no))
+one_place eq flips (z ∷ zs) d (suc i) zero x y ex ey e =
+    let same : z ≡ y = cc in
+    let no : eq z x ≡ false = head_apart (λ w. eq z w ≡ false) zs i x (IsDistinct-head eq z zs d) ex in
+    absurd (true≢false (sym (flips x y e) ∙ ap (λ w. eq w x) (sym same) ∙ no))
+one_place eq flips (z ∷ zs) d (suc i) (suc j) x y ex ey e = ap suc (one_place eq flips zs (IsDistinct-tail eq z zs d) i j x y ex ey e)
+
+module _ {X : Type 0} (eq : X → X → Bool) (exact : (x y : X) → Decides (eq x y) (x ≡ y)) where
+  abbrev pub same_items : Vec X Global → Vec X Global → Bool
+  same_items k l = pointwise eq k.items l.items
+
+  items_decide : (xs ys : List X) → Decides (pointwise eq xs ys) (xs ≡ ys)
+  items_decide xs ys = slice_eq-Decides {E = eq} exact xs ys (pointwise eq xs ys) refl
+
+  -- one more item, with the number of its key
+  pub leads_more : (sign : ℕ → List X → Type 0) (keys more : List (Vec X Global)) (numbers : List ℕ) (key k : Vec X Global) (n : ℕ)
+      → LeadToKeys sign keys numbers → more ≡ insert_key same_items keys key → 0 < n → slice_get more (n - 1) ≡ Some k → same_items key k ≡ true
+      → sign (length numbers) key.items → LeadToKeys sign more (numbers ++ n ∷ [])
+  leads_more sign keys more numbers key k n leads grown some stands same signs i l = ⊎_elim
+      (λ e.
+      let at : get_or (numbers ++ n ∷ []) i 0 ≡ n = ap (λ j. get_or (numbers ++ n ∷ []) j 0) e ∙ at_end numbers n in
+      let items : key.items ≡ k.items = (items_decide key.items k.items).0 same in
+      let here : sign i k.items = subst (λ j. sign j k.items) (sym e) (subst (λ l. sign (length numbers) l) items signs) in
+      let h : HasKey sign more i n = record { some = some; key = k; stands = stands; signs = here } in
+      subst (λ m. HasKey sign more i m) (sym at) h)
+      (λ ne.
+      let lt : i < length numbers = omega (arith, length-append numbers (n ∷ [])) in
+      let old = leads i lt in
+      let at : get_or (numbers ++ n ∷ []) i 0 ≡ get_or numbers i 0 = grind (arith, elements) in
+      let h : HasKey sign more i (get_or numbers i 0) = record {
+        some = old.some;
+        key = old.key;
+        stands = ap (λ ks. slice_get ks (get_or numbers i 0 - 1)) grown ∙ slice_get-insert same_items keys key (get_or numbers i 0 - 1) old.key old.stands;
+        signs = old.signs;
+      } in
+      subst (λ m. HasKey sign more i m) (sym at) h)
+      (cases_eq i (length numbers))
+    where
+      at_end : (xs : List ℕ) (n : ℕ) → get_or (xs ++ n ∷ []) (length xs) 0 ≡ n
+      at_end xs n = grind (arith, elements)
+
+  -- for items that belong together, equal numbers are equal keys
+  pub numbers_are : (sign : ℕ → List X → Type 0) (keys : List (Vec X Global)) (numbers : List ℕ) → IsDistinct same_items keys → LeadToKeys sign keys numbers
+      → (P R : ℕ → ℕ → Type 0) → ((i j : ℕ) (a b : List X) → i < length numbers → j < length numbers → P i j → sign i a → sign j b → (a ≡ b) ↔ R i j)
+      → (i j : ℕ) → i < length numbers → j < length numbers → P i j → (get_or numbers i 0 ≡ get_or numbers j 0) ↔ R i j
+  numbers_are sign keys numbers distinct leads P R law i j li lj p =
+      let a = leads i li in
+      let b = leads j lj in
+      let both = law i j a.key.items b.key.items li lj p a.signs b.signs in (
+        (λ e.
+            let there : slice_get keys (get_or numbers i 0 - 1) ≡ Some b.key = ap (λ n. slice_get keys (n - 1)) e ∙ b.stands in
+            let one : Some a.key ≡ Some b.key = sym a.stands ∙ there in
+            let k : a.key ≡ b.key = cc in
+            both.0 (ap (λ (v : Vec X Global). v.items) k)),
+        (λ r.
+            let items : a.key.items ≡ b.key.items = both.1 r in
+            let same : same_items a.key b.key ≡ true = (items_decide a.key.items b.key.items).1 items in
+            let flips = λ (x y : Vec X Global) (e : same_items x y ≡ true). (items_decide y.items x.items).1 (sym ((items_decide x.items y.items).0 e)) in
+            let place : get_or numbers i 0 - 1 ≡ get_or numbers j 0 - 1 = one_place same_items flips keys distinct (get_or numbers i 0 - 1) (get_or numbers j 0 - 1) a.key b.key a.stands b.stands same in
+            let some_a = a.some in let some_b = b.some in
+            omega arith),
+      )

@@ -1,0 +1,66 @@
+use Rattle.std.proofs.Common.{◌≡◌, ◌<◌, ◌≤◌, ℕ, List, ap, arith, length, subst, sym, ◌∙◌, Vec, Global}
+use Rattle.std.specs.List.{All}
+use Rattle.gs_model.specs.Frame.{frame_of}
+use Rattle.gs_model.specs.Game.{round_count}
+use Rattle.gs_model.proofs.Ranges.{length-parents, parents_at, signal_count_is}
+use Rattle.gs_tree.specs.Trees.{rules_of}
+use Rattle.gs_lossless.proofs.Descent.{last_is, list_long}
+use Rattle.gs_split.specs.Turns.{AreKeyClasses, IsRoundTurn}
+use Rattle.gs_split.proofs.Turned.{both_ok, first_parents, list_read, parents_under, round_made}
+use Rattle.gs_split.proofs.turns.round_turn.Goals as goal
+
+pub parents_in-requires-clause-last : goal.parents_in-requires-clause-last
+parents_in-requires-clause-last c = omega (arith, c.requires.top, last_is (rules_of c.args.signals.now))
+
+pub round_classes-requires-clause-all : goal.round_classes-requires-clause-all
+round_classes-requires-clause-all c =
+    let g = rules_of c.args.signals.now in
+    let round = c.args.round in
+    ap (λ (l : List ℕ). length l) c.parents_in.ensures ∙ length-parents g round ∙ sym (signal_count_is g round c.requires.some (omega (arith, c.requires.top, last_is g))) ∙ sym c.in_ok-numbers.ensures.long
+    ∙ ap (λ (l : List ℕ). length l) (sym c.deref-2.ensures.value)
+
+pub round_classes-requires-clause-old : goal.round_classes-requires-clause-old
+round_classes-requires-clause-old c =
+    let g = rules_of c.args.signals.now in
+    let round = c.args.round in
+    let top : round ≤ round_count g = omega (arith, c.requires.top, last_is g) in
+    let sound = c.rounds-rounds.ensures.sound in
+    let all = sound.classes.rounds ∙ ap (λ (ps : List (List ℕ)). length ps) c.requires.parents in
+    let before = list_read c.lists.result.now c.args.classes.now.lists c.from.result round c.index-lists-from.result c.deref.result.now c.lists.ensures.value c.from.ensures c.requires.some (omega (arith, all, c.requires.top)) c.index-lists-from.is c.deref.ensures.value in
+    ap (λ (l : List ℕ). length l) before ∙ list_long g c.args.classes.now c.requires.parents sound round c.requires.some top ∙ sym (signal_count_is g round c.requires.some top) ∙ sym c.in_ok-numbers.ensures.long
+    ∙ ap (λ (l : List ℕ). length l) (sym c.deref-2.ensures.value)
+
+pub round_classes-requires-clause-few : goal.round_classes-requires-clause-few
+round_classes-requires-clause-few c =
+    let g = rules_of c.args.signals.now in
+    let round = c.args.round in
+    let top : round ≤ round_count g = omega (arith, c.requires.top, last_is g) in
+    let n = c.args.signals.now.game.now.limits.signals_in round top in
+    let m = signal_count_is g round c.requires.some top in
+    let k = ap (λ (l : List ℕ). length l) c.deref-2.ensures.value in
+    omega (arith, n, m, k, c.in_ok-numbers.ensures.long)
+
+pub round_classes-requires-clause-in_range : goal.round_classes-requires-clause-in_range
+round_classes-requires-clause-in_range c =
+    let g = rules_of c.args.signals.now in
+    subst (λ (ps : List ℕ). All (λ p. p < length c.args.above.now) ps) (sym c.parents_in.ensures)
+    (parents_under c.args.signals.now c.args.round (length c.args.above.now) c.requires.some (omega (arith, c.requires.top, last_is g)) c.requires.any c.requires.above)
+
+pub returns : goal.returns
+returns c =
+    let g = rules_of c.args.signals.now in
+    let f = frame_of g in
+    let round = c.args.round in
+    let lists = c.args.classes.now.lists in
+    let above = c.args.above.now in
+    let top : round ≤ round_count g = omega (arith, c.requires.top, last_is g) in
+    let all = c.rounds-rounds.ensures.sound.classes.rounds ∙ ap (λ (ps : List (List ℕ)). length ps) c.requires.parents in
+    let before = list_read c.lists.result.now lists c.from.result round c.index-lists-from.result c.deref.result.now c.lists.ensures.value c.from.ensures c.requires.some (omega (arith, all, c.requires.top)) c.index-lists-from.is c.deref.ensures.value in
+    let ps = c.parents_in.ensures ∙ sym (parents_at g round c.requires.some top) in
+    both_ok c.round_classes.result
+    (λ (v : Vec ℕ Global). length v.items ≡ length c.deref-2.result.now)
+    (λ (v : Vec ℕ Global). AreKeyClasses c.deref.result.now above c.parents_in.result.now c.deref-2.result.now v.items)
+    (λ (v : Vec ℕ Global). IsRoundTurn f lists above round v.items)
+    (λ v long h. round_made f lists round above c.in_ok-numbers.numbers.items v.items c.deref.result.now c.parents_in.result.now c.deref-2.result.now before ps c.deref-2.ensures.value c.in_ok-numbers.ensures
+    (λ i one l. first_parents c.args.signals.now round i one l) c.requires.some long h)
+    c.round_classes.ensures.long c.round_classes.ensures.classes

@@ -1,0 +1,87 @@
+-- What a turn of the refinement looks at, round by round.
+use Rattle.std.specs.Prelude.{ℕ, ◌-◌, ◌<◌, ◌≤◌, ◌≡◌, ◌↔◌, ◌==◌, ◌&&◌, ℤ, Bool, List, [], ◌∷◌, Some, Vec, get_or, length, reverse, slice_get}
+use Rattle.std.specs.declared.alloc.Global.{Global}
+use Rattle.std.specs.Ordering.{int_eq}
+use Rattle.gs_model.specs.Classes.{ClassLists, class_of, class_size, list_of}
+use Rattle.gs_model.specs.Frame.{Frame, last_round, parents_of, signal_count}
+use Rattle.gs_model.specs.Lossless.{children_in, weight_with}
+use Rattle.gs_model.specs.Numbering.{IsClassesOf}
+use Rattle.gs_lossless.specs.Amounts.{Agree, AreAmounts}
+use Rattle.gs_lossless.specs.declared.parts.Part.{Part}
+use Rattle.gs_lossless.specs.declared.sides.Side.{Side}
+
+-- ---- sums
+
+-- a signal has a class of its own
+abbrev pub IsSingle : ClassLists → ℕ → ℕ → Type 0
+IsSingle lists round s = class_size lists round (class_of lists round s) ≡ 1
+
+-- the sums of a signal on one side, none where it has a class of its own
+pub record AreClassSums (f : Frame) (lists : ClassLists) (side : Side) (round s : ℕ) (sums : List Part) : Type 0 where
+  pub single : IsSingle lists round s → sums ≡ []
+  pub many : (IsSingle lists round s → ⊥) → AreAmounts f lists side round s (reverse sums)
+
+-- numbers of the signals of a round: within a class equal exactly where the signals agree on one side
+pub record AreSideNumbers (f : Frame) (lists : ClassLists) (side : Side) (round : ℕ) (numbers : List ℕ) : Type 0 where
+  pub long : length numbers ≡ signal_count f round
+  pub same : (i j : ℕ) → i < length numbers → j < length numbers → class_of lists round i ≡ class_of lists round j → (get_or numbers i 0 ≡ get_or numbers j 0) ↔ Agree f lists side round i j
+
+-- two signals have the same sums in the last round, and the same children before it
+pub record HaveSameSums (f : Frame) (lists : ClassLists) (round s t : ℕ) : Type 0 where
+  pub sums : round ≡ last_round f → (c : ℕ) (o : ℤ) → weight_with f lists s c o ≡ weight_with f lists t c o
+  pub children : round < last_round f → (c : ℕ) → children_in f lists round s c ≡ children_in f lists round t c
+
+-- numbers of the signals of a round: within a class equal exactly where the signals have the same sums
+pub record AreTurnNumbers (f : Frame) (lists : ClassLists) (round : ℕ) (numbers : List ℕ) : Type 0 where
+  pub long : length numbers ≡ signal_count f round
+  pub same : (i j : ℕ) → i < length numbers → j < length numbers → class_of lists round i ≡ class_of lists round j → (get_or numbers i 0 ≡ get_or numbers j 0) ↔ HaveSameSums f lists round i j
+
+-- whether two sums are the same
+abbrev pub part_eq : Part → Part → Bool
+part_eq p q = (p.class == q.class) && (int_eq p.outcome q.outcome && (p.weight == q.weight))
+
+-- ---- keys
+
+-- the key with a number is that of the item i
+pub record HasKey {X : Type 0} (sign : ℕ → List X → Type 0) (keys : List (Vec X Global)) (i n : ℕ) : Type 0 where
+  pub some : 0 < n
+  pub key : Vec X Global
+  pub stands : slice_get keys (n - 1) ≡ Some key
+  pub signs : sign i key.items
+
+-- the numbers of the first items lead to their keys
+abbrev pub LeadToKeys : {X : Type 0} → (ℕ → List X → Type 0) → List (Vec X Global) → List ℕ → Type 0
+LeadToKeys sign keys numbers = (i : ℕ) → i < length numbers → HasKey sign keys i (get_or numbers i 0)
+
+-- what tells the signals of a round apart: the old class, the new class of the parent, and the number of the sums
+abbrev pub turn_key : List ℕ → List ℕ → List ℕ → List ℕ → ℕ → ℕ × ℕ × ℕ
+turn_key before above parents numbers i = (get_or before i 0, get_or above (get_or parents i 0) 0, get_or numbers i 0)
+
+abbrev pub key_eq : ℕ × ℕ × ℕ → ℕ × ℕ × ℕ → Bool
+key_eq x y = (x.0 == y.0) && ((x.1 == y.1) && (x.2 == y.2))
+
+-- the classes of equal keys, numbered by first member
+abbrev pub AreKeyClasses : List ℕ → List ℕ → List ℕ → List ℕ → List ℕ → Type 0
+AreKeyClasses before above parents numbers classes = IsClassesOf (λ i j. turn_key before above parents numbers i ≡ turn_key before above parents numbers j) classes
+
+-- ---- rounds
+
+-- the classes above the next round: those of the last of some rounds; before round 1 one signal, of class 1
+abbrev pub classes_above : List (List ℕ) → List ℕ
+classes_above lists = get_or lists (length lists - 1) (1 ∷ [])
+
+-- two signals of a round stay together in a turn; `above` has the new classes of the round before
+pub record StayInRound (f : Frame) (old : ClassLists) (above : List ℕ) (round s t : ℕ) : Type 0 where
+  pub before : class_of old round s ≡ class_of old round t
+  pub parents : 1 < round → get_or above (get_or (parents_of f round) s 0) 0 ≡ get_or above (get_or (parents_of f round) t 0) 0
+  pub sums : HaveSameSums f old round s t
+
+-- the new classes of a round: those of the signals that stay together, numbered by first member
+pub record IsRoundTurn (f : Frame) (old : ClassLists) (above : List ℕ) (round : ℕ) (list : List ℕ) : Type 0 where
+  pub long : length list ≡ signal_count f round
+  pub classes : IsClassesOf (StayInRound f old above round) list
+
+-- the new classes of all rounds
+pub record AreTurned (f : Frame) (old new : ClassLists) : Type 0 where
+  pub rounds : length new ≡ last_round f
+  pub each : (round : ℕ) → 0 < round → round ≤ last_round f → IsRoundTurn f old (list_of new (round - 1)) round (list_of new round)

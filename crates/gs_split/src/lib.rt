@@ -1,0 +1,12 @@
+//! The coarsest lossless classes: those that every lossless refinement of given classes refines.
+#![tactic(auto)]
+
+mod numbers;
+mod parts;
+mod rounds;
+mod splitting;
+#[cfg(test)]
+mod tests;
+mod turns;
+
+pub use splitting::split;

@@ -1,0 +1,46 @@
+//! Turns until nothing is parted.
+
+ghost use Rattle.std.specs.Prelude.{◌≡◌, ◌<◌, ◌^◌, IfOk, sum_by};
+ghost use Rattle.gs_model.specs.Classes.{IsClasses};
+ghost use Rattle.gs_model.specs.Frame.{frame_of};
+ghost use Rattle.gs_model.specs.Numbering.{greatest};
+ghost use Rattle.gs_model.specs.Refinement.{IsCoarsestLossless};
+ghost use Rattle.gs_tree.specs.Trees.{rules_of};
+
+use crate::turns::turn;
+use gs_filter::Classes;
+use gs_tree::Signals;
+use std::alloc::{AllocError, Global};
+
+/// How many classes all rounds have together.
+fn class_total(classes: &Classes) -> u64
+    ensures value { result ≡ sum_by greatest classes.now.lists }
+    ensures few { result < 2 ^ 40 }
+    ensures classes { IsClasses classes.now.parents classes.now.lists }
+{
+    let mut total = 0u64;
+    for before in 0..classes.rounds() {
+        total += u64::from(classes.classes(before + 1));
+    }
+    total
+}
+
+/// The coarsest lossless classes that refine given ones: every lossless refinement of the given classes refines them. They are numbered from 1 by
+/// first member.
+///
+/// Each turn parts members of a class whose parents were parted, or that differ against the classes so far; it ends where a turn parts none.
+///
+/// Source: partition refinement.
+pub fn split(alloc: Global, signals: &Signals, from: &Classes) -> Result<Classes, AllocError>
+    requires { from.now.parents ≡ (frame_of (rules_of signals.now)).parents }
+    ensures coarsest { IfOk result (λ c. IsCoarsestLossless (frame_of (rules_of signals.now)) from.now.lists c.lists) }
+    ensures parents { IfOk result (λ c. c.parents ≡ (frame_of (rules_of signals.now)).parents) }
+{
+    let mut total = class_total(from);
+    let mut classes = turn(alloc, signals, from)?;
+    while total < class_total(&classes) {
+        total = class_total(&classes);
+        classes = turn(alloc, signals, &classes)?;
+    }
+    Ok(classes)
+}
