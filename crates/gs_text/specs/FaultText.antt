@@ -1,0 +1,72 @@
+-- The text of each fault of a game file. Source: this project's printed texts.
+use Rattle.std.specs.Prelude.{ℕ, ◌==◌, List, [], ◌++◌, codes, Result, Err, if◌then◌else◌}
+use Rattle.std.specs.Fmt.{decimal, signed_decimal}
+use Rattle.gs_bet.specs.declared.fault.TreeFault.{TreeFault}
+use Rattle.gs_bet.specs.declared.fault.TreeFault.TheVariants as tree
+use Rattle.gs_card.specs.declared.faults.DeckFault.{DeckFault}
+use Rattle.gs_card.specs.declared.faults.DeckFault.TheVariants as cards
+use Rattle.gs_game.specs.Refusals.{Refusal, rounds, no_private, ranking_cards, not_enough_cards, no_even, uneven, put_too_large, too_many_lines, too_heavy, too_many_signals, too_many_deals}
+use Rattle.gs_file.specs.Answers.{Fails}
+use Rattle.gs_file.specs.Faults.{Fault, not_text, not_toml, missing_key, unknown_key, wrong_type, bad_version, range, deck, tree_text as tree_in, game}
+use Rattle.gs_file.specs.Keys.{key_text}
+use Rattle.gs_file.specs.Reading.{FileGame}
+use Rattle.gs_file.specs.declared.fault.FileFault.{FileFault}
+use Rattle.gs_file.specs.declared.fault.Place.{Place}
+
+-- where a key stands, unless it stands outside the rounds
+abbrev pub in_round : ℕ → List ℕ
+in_round n = if n == 0 then [] else codes " in round " ++ decimal n
+
+-- what is wrong with a key, the key, and its round
+abbrev pub place_text : List ℕ → Place → List ℕ
+place_text wrong place = wrong ++ codes " " ++ key_text place.key ++ in_round place.round
+
+abbrev pub deck_text : DeckFault → List ℕ
+deck_text cards.NoCards = codes "deck: no cards"
+deck_text cards.BadLetter = codes "deck: bad letter"
+deck_text cards.RepeatedLetter = codes "deck: repeated letter"
+deck_text cards.TooManyKinds = codes "deck: too many kinds"
+deck_text cards.BadCopies = codes "deck: bad copies"
+deck_text cards.Memory = codes "out of memory"
+
+-- what is wrong with a tree's text, and at which byte
+abbrev pub tree_text : TreeFault → List ℕ
+tree_text (tree.RepeatedLetter at) = codes "repeated letter at " ++ decimal at
+tree_text (tree.TooDeep at) = codes "too deep at " ++ decimal at
+tree_text (tree.Syntax at) = codes "syntax at " ++ decimal at
+tree_text tree.Memory = codes "out of memory"
+
+-- what is wrong with the text of a round's tree
+abbrev pub round_tree_text : ℕ → TreeFault → List ℕ
+round_tree_text round why = codes "tree of round " ++ decimal round ++ codes ": " ++ tree_text why
+
+-- the rule that a game breaks
+abbrev pub rule_text : Refusal → List ℕ
+rule_text (rounds count) = codes "rounds: " ++ decimal count
+rule_text no_private = codes "no private card in round 1"
+rule_text (ranking_cards own all) = codes "cards for ranking: own " ++ decimal own ++ codes " all " ++ decimal all
+rule_text (not_enough_cards need have) = codes "not enough cards: need " ++ decimal need ++ codes " have " ++ decimal have
+rule_text (no_even round) = codes "no even leaf: round " ++ decimal round
+rule_text (uneven round path) = codes "uneven: round " ++ decimal round ++ codes " path " ++ path
+rule_text (put_too_large chips) = codes "put too large: " ++ decimal chips
+rule_text (too_many_lines count) = codes "too many lines: " ++ decimal count
+rule_text (too_heavy weight) = codes "too heavy: " ++ decimal weight
+rule_text (too_many_signals round) = codes "too many signals: round " ++ decimal round
+rule_text too_many_deals = codes "too many deals"
+
+-- why a game file is refused
+abbrev pub fault_text : Fault → List ℕ
+fault_text not_text = codes "not UTF-8"
+fault_text not_toml = codes "not TOML"
+fault_text (missing_key place) = place_text (codes "missing key") place
+fault_text (unknown_key round) = codes "unknown key" ++ in_round round
+fault_text (wrong_type place) = place_text (codes "wrong type") place
+fault_text (bad_version version) = codes "version " ++ signed_decimal version
+fault_text (range place) = place_text (codes "out of range") place
+fault_text (deck why) = deck_text why
+fault_text (tree_in round why) = round_tree_text round why
+fault_text (game why) = rule_text why
+
+-- the program's fault is this one
+abbrev pub IsFault : FileFault → Fault → Type 0
+IsFault told why = Fails {Y = FileGame} told (Err why)

@@ -1,0 +1,2 @@
+pub mod ClassText
+pub mod FaultText

@@ -1,0 +1,143 @@
+//! The class text.
+
+ghost use Rattle.std.specs.Prelude.{◌≡◌, ◌≤◌, ◌<◌, ◌-◌, ◌++◌, ◌^◌, [], ◌∷◌, All, IfOk, OnOk, length, map, flat_map, codes, string_bytes, vec_len, slice_set, slice_index_or};
+ghost use Rattle.std.specs.List.{zip, range_with_len};
+ghost use Rattle.gs_model.specs.Classes.{list_of};
+ghost use Rattle.gs_model.specs.Numbering.{greatest};
+ghost use Rattle.gs_model.specs.Game.{round_count};
+ghost use Rattle.gs_tree.specs.Trees.{rules_of, deck_of};
+ghost use Rattle.gs_text.specs.ClassText.{begin_line, open_line, round_line, round_text, AreListsOf, signal_texts as texts_of_signals, class_text as text_of_classes};
+
+use gs_filter::Classes;
+use gs_tree::Signals;
+use std::alloc::{AllocError, Global};
+use std::fmt::Write;
+
+// Adds the line of a round: how many classes and signals it has.
+#[tactic(auto, unfolding(crate::specs::ClassText::round_line))]
+pub(crate) fn push_round_line(
+    text: &mut String,
+    round: u8,
+    classes: u32,
+    signals: u32,
+) -> Result<(), AllocError>
+    ensures { OnOk result (string_bytes text.new ≡ string_bytes text.old ++ round_line round classes signals) }
+{
+    writeln!(text, "round {round} classes {classes} signals {signals}")
+}
+
+// The beginning of each class's line: its number and a colon.
+fn begun_lines(alloc: Global, count: u32) -> Result<Vec<String>, AllocError>
+    ensures { IfOk result (λ lines. map string_bytes lines.items ≡ map begin_line (range_with_len 1 count)) }
+{
+    let mut lines = Vec::with_capacity(alloc, count as usize)?;
+    for index in 0..count {
+        lines.push(format!(in alloc; "{}:", index + 1)?)?;
+    }
+    Ok(lines)
+}
+
+// Adds a member to the line of its class.
+fn push_member(line: &mut String, text: &str) -> Result<(), AllocError>
+    ensures { OnOk result (string_bytes line.new ≡ string_bytes line.old ++ (codes " " ++ text.now)) }
+{
+    line.push_str(" ")?;
+    line.push_str(text)
+}
+
+// The line of each class, with its members in order, but without its end. A class has a member for
+// each time that its number stands in `classes`, so one pass over the signals fills all the lines.
+fn class_lines(
+    alloc: Global,
+    texts: &[String],
+    classes: &[u32],
+    count: u32,
+) -> Result<Vec<String>, AllocError>
+    requires lengths { length texts.now ≡ length classes.now }
+    requires numbers { All (λ c. (1 ≤ c) × (c ≤ count)) classes.now }
+    ensures { IfOk result (λ lines. map string_bytes lines.items ≡ map (open_line (zip (map string_bytes texts.now) classes.now)) (range_with_len 1 count)) }
+{
+    let mut lines = begun_lines(alloc, count)?;
+    for (index, class) in classes.iter().enumerate() {
+        push_member(&mut lines[*class as usize - 1], texts[index].as_str())?;
+    }
+    Ok(lines)
+}
+
+// Adds the lines, each with its end.
+fn push_lines(text: &mut String, lines: &[String]) -> Result<(), AllocError>
+    ensures { OnOk result (string_bytes text.new ≡ string_bytes text.old ++ flat_map (λ l. l ++ codes "\n") (map string_bytes lines.now)) }
+{
+    for line in lines {
+        text.push_str(line.as_str())?;
+        text.push_str("\n")?;
+    }
+    Ok(())
+}
+
+// Adds the text of a round, by the texts of its signals and their classes.
+fn push_round(
+    alloc: Global,
+    text: &mut String,
+    round: u8,
+    texts: &[String],
+    classes: &[u32],
+    count: u32,
+) -> Result<(), AllocError>
+    requires lengths { length texts.now ≡ length classes.now }
+    requires few { length texts.now < 2 ^ 32 }
+    requires count { count ≡ greatest classes.now }
+    requires numbers { All (λ c. 1 ≤ c) classes.now }
+    ensures { OnOk result (string_bytes text.new ≡ string_bytes text.old ++ round_text round (map string_bytes texts.now) classes.now) }
+{
+    push_round_line(text, round, count, texts.len() as u32)?;
+    let lines = class_lines(alloc, texts, classes, count)?;
+    push_lines(text, &lines)?;
+    Ok(())
+}
+
+// The texts of the signals of a round, in order.
+fn signal_texts(alloc: Global, signals: &Signals, round: u8) -> Result<Vec<String>, AllocError>
+    requires some { 0 < round }
+    requires last { round ≤ round_count (rules_of signals.now) }
+    ensures { IfOk result (λ texts. map string_bytes texts.items ≡ texts_of_signals (deck_of signals.now) (rules_of signals.now) round) }
+{
+    let count = signals.count(round);
+    let mut texts = Vec::with_capacity(alloc, count as usize)?;
+    for signal in 0..count {
+        texts.push(signals.text(alloc, round, signal)?)?;
+    }
+    Ok(texts)
+}
+
+// Adds the text of a round of some classes.
+fn push_classes(
+    alloc: Global,
+    text: &mut String,
+    signals: &Signals,
+    classes: &Classes,
+    round: u8,
+) -> Result<(), AllocError>
+    requires lists { AreListsOf (rules_of signals.now) classes.now.lists }
+    requires some { 0 < round }
+    requires last { round ≤ round_count (rules_of signals.now) }
+    ensures { OnOk result (string_bytes text.new ≡ string_bytes text.old ++ round_text round (texts_of_signals (deck_of signals.now) (rules_of signals.now) round) (list_of classes.now.lists round)) }
+{
+    let texts = signal_texts(alloc, signals, round)?;
+    let list = &classes.lists()[usize::from(round) - 1];
+    let count = classes.classes(round);
+    push_round(alloc, text, round, &texts, list, count)
+}
+
+/// The class text: for each round a line with its numbers of classes and signals, and a line for
+/// each class with its members.
+pub fn class_text(alloc: Global, signals: &Signals, classes: &Classes) -> Result<String, AllocError>
+    requires { AreListsOf (rules_of signals.now) classes.now.lists }
+    ensures { IfOk result (λ text. string_bytes text ≡ text_of_classes (deck_of signals.now) (rules_of signals.now) classes.now.lists) }
+{
+    let mut text = String::new(alloc);
+    for index in 0..signals.rounds() {
+        push_classes(alloc, &mut text, signals, classes, index + 1)?;
+    }
+    Ok(text)
+}
