@@ -1,0 +1,4 @@
+pub mod Asking
+pub mod Checking
+pub mod Shrinking
+pub mod Verdicts
