@@ -1,4 +1,1 @@
-pub mod Ends
-pub mod Lines
-pub mod Shrunk
-pub mod Tables
+mod Ends

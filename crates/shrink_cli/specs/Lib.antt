@@ -1,9 +1,4 @@
-pub mod ClassText
-pub mod Fields
-pub mod FirstForm
-pub mod Judging
 pub mod Promises
-pub mod Reading
 pub mod Running
 pub mod Statuses
 pub mod Told

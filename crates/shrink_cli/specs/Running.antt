@@ -1,14 +1,18 @@
 -- What a run does to its three ends, status by status.
-use Rattle.std.specs.Prelude.{◌≡◌, ℕ, ◌+◌, ◌<◌, ◌≤◌, List, [], ◌∷◌, length, take, codes, Bool, true, false}
-use Rattle.std.specs.Str.{bytes_eq}
+use Rattle.std.specs.Prelude.{◌≡◌, ◌⊎◌, ℕ, ◌+◌, ◌<◌, ◌≤◌, List, [], length, take, codes, Bool, true, false, Some, None, Result, Ok, Err}
 use Rattle.std.specs.declared.option.Option.{Option}
+use Rattle.std.specs.declared.alloc.Global.{Global}
+use Rattle.std.specs.Prelude.{Vec}
 use Rattle.std.specs.Io.KnownBytes.{Consumes, Appends, IsAtEnd}
+use Rattle.gs_answer.specs.Asking.{Asks, reads}
+use Rattle.gs_answer.specs.Verdicts.{Verdict, Prints, Refuses, Refusal, cause_of, line_of}
 use Rattle.gs_io.specs.Causes.{Rose}
-use Rattle.gs_io.specs.Moves.{TookPrefix}
+use Rattle.gs_io.specs.Moves.{ReadsAll, TookPrefix}
+use Rattle.gs_io.specs.declared.ReadStop.{ReadStop}
+use Rattle.gs_words.specs.Requests.{request_of}
+use Rattle.gs_words.specs.declared.request.Request.{Request}
 use Rattle.shrink_cli.specs.Told.{TellsTo}
-use Rattle.shrink_cli.specs.Judging.{Judges, Prints, Refuses}
-use Rattle.shrink_cli.specs.Statuses.{status_of, line_of}
-use Rattle.shrink_cli.specs.declared.game_file.fault.Refusal.{Refusal}
+use Rattle.shrink_cli.specs.Statuses.{status_of}
 use Rattle.shrink_cli.specs.declared.status.Status.{Status}
 use Rattle.shrink_cli.specs.declared.status.Status.TheVariants as status
 
@@ -25,14 +29,9 @@ pub record Ends : Type 0 where
 abbrev pub most_bytes : ℕ
 most_bytes = 16777216
 
--- the words are the one word that is a command
-abbrev pub is_shrink : List (List ℕ) → Bool
-is_shrink [] = false
-is_shrink (word ∷ []) = bytes_eq word (codes "shrink")
-is_shrink (word ∷ next ∷ rest) = false
-
-abbrev pub IsShrink : List (List ℕ) → Type 0
-IsShrink words = is_shrink words ≡ true
+-- the words ask for a request, of which this is true
+abbrev pub Asked : List (List ℕ) → (Request → Type 0) → Type 0
+Asked words what = (request : Request) × (request_of words ≡ Some request) × what request
 
 -- nothing was read
 abbrev pub Unread : Ends → Ends → Type 0
@@ -44,6 +43,17 @@ pub record ReadsWhole (old new : Ends) (bytes : List ℕ) : Type 0 where
   pub end : IsAtEnd new.left
   pub few : length bytes ≤ most_bytes
   pub faults : new.read_faults ≡ old.read_faults
+
+-- the input of a request: all bytes of the source where it reads them, else none
+abbrev pub Inputs : Bool → Ends → Ends → List ℕ → Type 0
+Inputs true old new bytes = ReadsWhole old new bytes
+Inputs false old new bytes = (bytes ≡ []) × Unread old new
+
+-- what reading the input of a request does to the source, by its answer
+abbrev pub ReadsInput : Bool → Option (List ℕ) → Option (List ℕ) → ℕ → ℕ → Result (Vec ℕ Global) ReadStop → Type 0
+ReadsInput true old new before now result = ReadsAll (λ v. v.items) most_bytes old new before now result
+ReadsInput false old new before now (Ok v) = (v.items ≡ []) × (new ≡ old) × (now ≡ before)
+ReadsInput false old new before now (Err e) = ⊥
 
 -- nothing went out
 abbrev pub Quiet : Ends → Ends → Type 0
@@ -57,38 +67,42 @@ Tells old new line = TellsTo old.told old.tell_faults new.told new.tell_faults l
 abbrev pub Silent : Ends → Ends → Type 0
 Silent old new = (new.told ≡ old.told) × (new.tell_faults ≡ old.tell_faults)
 
--- the source was read to its end, and this is the text that its bytes ask for
-pub record IsAnswered (old new : Ends) (text : List ℕ) : Type 0 where
+-- the input of the request was read, and this is what it asks for
+pub record IsAnswered (request : Request) (old new : Ends) (verdict : Verdict) : Type 0 where
   pub bytes : List ℕ
-  pub read : ReadsWhole old new bytes
-  pub says : Judges bytes (Prints text)
+  pub input : Inputs (reads request) old new bytes
+  pub says : Asks request bytes verdict
 
--- the source was read to its end, and its bytes were refused with this status
-pub record IsRefused (words : List (List ℕ)) (old new : Ends) (s : Status) : Type 0 where
-  pub plain : IsShrink words
-  pub bytes : List ℕ
-  pub read : ReadsWhole old new bytes
-  pub cause : Refusal
-  pub says : Judges bytes (Refuses cause)
-  pub status : status_of cause ≡ s
+-- the input was refused with this status
+pub record IsRefused (request : Request) (old new : Ends) (s : Status) : Type 0 where
+  pub why : Refusal
+  pub answered : IsAnswered request old new (Refuses why)
+  pub status : status_of (cause_of why) ≡ s
   pub quiet : Quiet old new
-  pub told : Tells old new (line_of cause)
+  pub told : Tells old new (line_of why)
+
+-- a front of the source was taken, and nothing unless the words ask for a request that reads it
+pub record TookInput (words : List (List ℕ)) (old new : Ends) : Type 0 where
+  pub front : TookPrefix (most_bytes + 1) old.left new.left
+  pub unread : (new.left ≡ old.left) ⊎ Asked words (λ request. reads request ≡ true)
 
 -- what each status says
 abbrev pub RunsTo : List (List ℕ) → Ends → Ends → Status → Type 0
 RunsTo words old new status.Ok =
-    IsShrink words × ((text : List ℕ) × IsAnswered old new text × Appends old.given new.given text) × (new.write_faults ≡ old.write_faults) × Silent old new
+    Asked words (λ request. ((text : List ℕ) × IsAnswered request old new (Prints text) × Appends old.given new.given text)
+    × (new.write_faults ≡ old.write_faults) × Silent old new)
 RunsTo words old new status.Usage =
-    (is_shrink words ≡ false) × Unread old new × Quiet old new × Tells old new (codes "usage: gameshrink shrink, check, solve, play, evaluate, query or make\n")
+    (request_of words ≡ None) × Unread old new × Quiet old new × Tells old new (codes "usage: gameshrink shrink, check, solve, play, evaluate, query or make\n")
 RunsTo words old new status.ReadFault =
-    IsShrink words × (TookPrefix (most_bytes + 1) old.left new.left × Rose old.read_faults new.read_faults) × Quiet old new × Tells old new (codes "read fault\n")
+    Asked words (λ request. (reads request ≡ true) × (TookPrefix (most_bytes + 1) old.left new.left × Rose old.read_faults new.read_faults) × Quiet old new
+    × Tells old new (codes "read fault\n"))
 RunsTo words old new status.TooLong =
-    IsShrink words × ((bytes : List ℕ) × Consumes old.left new.left bytes × (length bytes ≡ most_bytes + 1)) × (new.read_faults ≡ old.read_faults) × Quiet old new
-    × Tells old new (codes "input longer than 16777216 bytes\n")
+    Asked words (λ request. (reads request ≡ true) × ((bytes : List ℕ) × Consumes old.left new.left bytes × (length bytes ≡ most_bytes + 1))
+    × (new.read_faults ≡ old.read_faults) × Quiet old new × Tells old new (codes "input longer than 16777216 bytes\n"))
 RunsTo words old new status.Memory =
-    IsShrink words × TookPrefix (most_bytes + 1) old.left new.left × (new.read_faults ≡ old.read_faults) × Quiet old new × Tells old new (codes "out of memory\n")
+    TookInput words old new × (new.read_faults ≡ old.read_faults) × Quiet old new × Tells old new (codes "out of memory\n")
 RunsTo words old new status.WriteFault =
-    IsShrink words × ((text : List ℕ) × IsAnswered old new text × ((count : ℕ) × (count < length text) × Appends old.given new.given (take count text)))
-    × Rose old.write_faults new.write_faults × Tells old new (codes "write fault\n")
-RunsTo words old new status.BadGame = IsRefused words old new status.BadGame
-RunsTo words old new status.NotYet = IsRefused words old new status.NotYet
+    Asked words (λ request. ((text : List ℕ) × IsAnswered request old new (Prints text) × ((count : ℕ) × (count < length text) × Appends old.given new.given (take count text)))
+    × Rose old.write_faults new.write_faults × Tells old new (codes "write fault\n"))
+RunsTo words old new status.BadGame = Asked words (λ request. IsRefused request old new status.BadGame)
+RunsTo words old new status.Unlike = Asked words (λ request. IsRefused request old new status.Unlike)

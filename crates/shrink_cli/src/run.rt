@@ -1,26 +1,25 @@
 //! The whole of the program, over any source and any two sinks.
 
-ghost use Rattle.std.specs.Prelude.{◌≡◌, map, string_bytes, length};
-ghost use Rattle.std.specs.Io.KnownBytes.{Appends};
-ghost use Rattle.shrink_cli.specs.Running.{RunsTo, is_shrink as shrink_words, Ends, Tells};
-ghost use Rattle.shrink_cli.specs.Promises.{Shrinks, Completes};
-ghost use Rattle.shrink_cli.specs.declared.status.Status.TheVariants as status;
+ghost use Rattle.std.specs.Prelude.{◌≡◌, codes, map, string_bytes};
+ghost use Rattle.gs_answer.specs.Asking.{reads};
+ghost use Rattle.shrink_cli.specs.Promises.{ChecksWell, Completes, MakesAtLast, MakesWell, ShrinksWell};
+ghost use Rattle.shrink_cli.specs.Running.{ReadsInput, RunsTo};
 ghost use Rattle.shrink_cli.specs.Told.{TellsTo};
+ghost use Rattle.shrink_cli.specs.declared.status.Status.TheVariants as status;
 
-use crate::judging::{Answer, judge};
 use crate::status::Status;
+use gs_answer::{Answer, answer, reads_input};
 use gs_io::{ReadStop, Sink, Source, read_all, write_all};
+use gs_words::{Request, WordsStop, read_words};
 use std::alloc::Global;
 
 const MOST_BYTES: u64 = 16_777_216;
 
-fn is_shrink(words: &[String]) -> bool
-    ensures { result ≡ shrink_words (map string_bytes words.now) }
+// Tells a line.
+fn tell<E: Sink>(err: &mut E, line: &[u8])
+    ensures { TellsTo (E.given err.old) (E.faults err.old) (E.given err.new) (E.faults err.new) line.now }
 {
-    match words {
-        [word] => word.as_str() == "shrink",
-        _ => false,
-    }
+    let _ = write_all(err, line);
 }
 
 // Tells the line, and ends with the status.
@@ -28,8 +27,36 @@ fn refuse<E: Sink>(err: &mut E, status: Status, line: &str) -> Status
     ensures status { result ≡ status }
     ensures told { TellsTo (E.given err.old) (E.faults err.old) (E.given err.new) (E.faults err.new) line.now }
 {
-    let _ = write_all(err, line.as_bytes());
+    tell(err, line.as_bytes());
     status
+}
+
+// Tells the words that can be used.
+pub(crate) fn refuse_words<E: Sink>(err: &mut E) -> Status
+    ensures status { result ≡ status.Usage }
+    ensures told { TellsTo (E.given err.old) (E.faults err.old) (E.given err.new) (E.faults err.new) (codes "usage: gameshrink shrink, check, solve, play, evaluate, query or make\n") }
+{
+    let usage = "usage: gameshrink shrink, check, solve, play, evaluate, query or make\n";
+    refuse(err, Status::Usage, usage)
+}
+
+// Tells that memory ran out.
+pub(crate) fn out_of_memory<E: Sink>(err: &mut E) -> Status
+    ensures status { result ≡ status.Memory }
+    ensures told { TellsTo (E.given err.old) (E.faults err.old) (E.given err.new) (E.faults err.new) (codes "out of memory\n") }
+{
+    refuse(err, Status::Memory, "out of memory\n")
+}
+
+// The bytes of the input that a request reads; none where it reads none.
+fn input<S: Source>(alloc: Global, source: &mut S, request: Request) -> Result<Vec<u8>, ReadStop>
+    ensures { ReadsInput (reads request) (S.left source.old) (S.left source.new) (S.faults source.old) (S.faults source.new) result }
+{
+    if reads_input(request) {
+        read_all(alloc, source, MOST_BYTES)
+    } else {
+        Ok(Vec::new(alloc))
+    }
 }
 
 // Does what the words ask for.
@@ -45,32 +72,35 @@ fn run_words<S: Source, O: Sink, E: Sink>(
         (record { left = S.left source.new; read_faults = S.faults source.new; given = O.given out.new; write_faults = O.faults out.new; told = E.given err.new; tell_faults = E.faults err.new })
         result }
 {
-    if !is_shrink(words) {
-        let usage = "usage: gameshrink shrink, check, solve, play, evaluate, query or make\n";
-        return refuse(err, Status::Usage, usage);
-    }
-    let bytes = match read_all(alloc, source, MOST_BYTES) {
+    let request = match read_words(alloc, words) {
+        Ok(request) => request,
+        Err(WordsStop::Usage) => return refuse_words(err),
+        Err(WordsStop::Memory) => return out_of_memory(err),
+    };
+    let bytes = match input(alloc, source, request) {
         Ok(bytes) => bytes,
         Err(ReadStop::Fault) => return refuse(err, Status::ReadFault, "read fault\n"),
         Err(ReadStop::TooLong) => {
             return refuse(err, Status::TooLong, "input longer than 16777216 bytes\n");
         }
-        Err(ReadStop::Memory) => return refuse(err, Status::Memory, "out of memory\n"),
+        Err(ReadStop::Memory) => return out_of_memory(err),
     };
-    match judge(alloc, &bytes) {
-        Answer::Prints(text) => match write_all(out, text.as_bytes()) {
+    match answer(alloc, request, &bytes) {
+        Ok(Answer::Prints(text)) => match write_all(out, text.as_bytes()) {
             Ok(()) => Status::Ok,
             Err(_) => refuse(err, Status::WriteFault, "write fault\n"),
         },
-        Answer::Refuses(refusal) => refuse(err, refusal.status(), refusal.line()),
-        Answer::Memory => refuse(err, Status::Memory, "out of memory\n"),
+        Ok(Answer::Refuses { cause, line }) => {
+            tell(err, &line);
+            Status::of(cause)
+        }
+        Err(_) => out_of_memory(err),
     }
 }
 
-/// Does what the words ask for. `words` are the program's words without its own name; the one command is
-/// `shrink`, which prints the signal classes of the game file that the source gives.
+/// Does what the words ask for. `words` are the program's words without its own name: a command and its options.
 ///
-/// The source is read to its end before work starts, and everything is computed before the first byte goes
+/// The source is read to its end before work starts, by the commands that read an input, and everything is computed before the first byte goes
 /// out. A run that is refused gives nothing to `out`, but for one whose write fails, which gave a proper
 /// prefix of its text. It tells one line to `err`; where that fails the status stays. A run that ends well
 /// tells nothing.
@@ -86,13 +116,28 @@ pub fn run<S: Source, O: Sink, E: Sink>(
         (record { left = S.left source.old; read_faults = S.faults source.old; given = O.given out.old; write_faults = O.faults out.old; told = E.given err.old; tell_faults = E.faults err.old })
         (record { left = S.left source.new; read_faults = S.faults source.new; given = O.given out.new; write_faults = O.faults out.new; told = E.given err.new; tell_faults = E.faults err.new })
         result }
-    // At status 0 the signal classes of the game were printed.
-    ensures headline { result ≡ status.Ok → Shrinks
+    // At status 0 `shrink` printed the signal classes of the game, or their summary.
+    ensures headline { ShrinksWell (map string_bytes words.now)
         (record { left = S.left source.old; read_faults = S.faults source.old; given = O.given out.old; write_faults = O.faults out.old; told = E.given err.old; tell_faults = E.faults err.old })
-        (record { left = S.left source.new; read_faults = S.faults source.new; given = O.given out.new; write_faults = O.faults out.new; told = E.given err.new; tell_faults = E.faults err.new }) }
-
-    // Over an accepted game file, with no fault of the outside, the run ends well or without memory.
+        (record { left = S.left source.new; read_faults = S.faults source.new; given = O.given out.new; write_faults = O.faults out.new; told = E.given err.new; tell_faults = E.faults err.new })
+        result }
+    // At status 0 `check` printed the classes that it was asked for, which are lossless, or their summary.
+    ensures checked { ChecksWell (map string_bytes words.now)
+        (record { left = S.left source.old; read_faults = S.faults source.old; given = O.given out.old; write_faults = O.faults out.old; told = E.given err.old; tell_faults = E.faults err.old })
+        (record { left = S.left source.new; read_faults = S.faults source.new; given = O.given out.new; write_faults = O.faults out.new; told = E.given err.new; tell_faults = E.faults err.new })
+        result }
+    // At status 0 `make` printed the game file that it was asked for, and read nothing.
+    ensures made { MakesWell (map string_bytes words.now)
+        (record { left = S.left source.old; read_faults = S.faults source.old; given = O.given out.old; write_faults = O.faults out.old; told = E.given err.old; tell_faults = E.faults err.old })
+        (record { left = S.left source.new; read_faults = S.faults source.new; given = O.given out.new; write_faults = O.faults out.new; told = E.given err.new; tell_faults = E.faults err.new })
+        result }
+    // Over an accepted game file the run ends well or without memory, with no fault of the outside; a check of the signal classes may refuse them.
     ensures complete { Completes (map string_bytes words.now)
+        (record { left = S.left source.old; read_faults = S.faults source.old; given = O.given out.old; write_faults = O.faults out.old; told = E.given err.old; tell_faults = E.faults err.old })
+        (record { left = S.left source.new; read_faults = S.faults source.new; given = O.given out.new; write_faults = O.faults out.new; told = E.given err.new; tell_faults = E.faults err.new })
+        result }
+    // What reads nothing ends well or without memory, with no fault of the outside.
+    ensures made_at_last { MakesAtLast (map string_bytes words.now)
         (record { left = S.left source.old; read_faults = S.faults source.old; given = O.given out.old; write_faults = O.faults out.old; told = E.given err.old; tell_faults = E.faults err.old })
         (record { left = S.left source.new; read_faults = S.faults source.new; given = O.given out.new; write_faults = O.faults out.new; told = E.given err.new; tell_faults = E.faults err.new })
         result }

@@ -1,5 +1,7 @@
 //! How a run of the program ends.
 
+use gs_answer::Cause;
+
 /// How a run of the program ends.
 #[derive(Clone, Copy, Debug, PartialEq, Eq)]
 pub enum Status {
@@ -17,13 +19,23 @@ pub enum Status {
     TooLong,
     /// The input is no game file.
     BadGame,
-    /// The game is not of a form that is built.
-    NotYet,
+    /// The classes are not lossless.
+    Unlike,
 }
 
 impl Status {
     ghost use Rattle.std.specs.Prelude.{◌≡◌};
-    ghost use Rattle.shrink_cli.specs.Statuses.{code_of};
+    ghost use Rattle.shrink_cli.specs.Statuses.{code_of, status_of};
+
+    /// The status of a run that refuses its input.
+    pub fn of(cause: Cause) -> Status
+        ensures { result ≡ status_of cause }
+    {
+        match cause {
+            Cause::BadGame => Status::BadGame,
+            Cause::Unlike => Status::Unlike,
+        }
+    }
 
     /// The number with which the process ends.
     pub fn code(self) -> u8
@@ -37,7 +49,7 @@ impl Status {
             Status::Memory => 5,
             Status::TooLong => 6,
             Status::BadGame => 7,
-            Status::NotYet => 15,
+            Status::Unlike => 8,
         }
     }
 }

@@ -7,56 +7,97 @@ use gs_io::{MemSink, MemSource, SureSource};
 use std::alloc::{AllocError, Global};
 use std::test::Fail;
 
-/// Kuhn's game: three ranks and one suit. A slash stands for the end of a line, here and below.
+/// Kuhn's game: three ranks and one suit. A tilde stands for the end of a line, here and below.
 const KUHN: &str =
-    "version = 1/ranks = \"JQK\"/suits = \"s\"/ranking = \"high\"/ante = 1//[[round]]/private = 1/public = 0/bet = 1/cap = 1/";
+    "version = 1~ranks = \"JQK\"~suits = \"s\"~ranking = \"high\"~ante = 1~~[[round]]~private = 1~public = 0~bet = 1~cap = 1~";
 
 /// The runs, one a line: the words; a text of Kuhn's file and the text in its place, or `-` and a
 /// whole file; the call of the source that fails, or 0, the longest piece that goes out, and the
 /// calls of the output and of the errors' end that fail, or 0; the code, what goes out and what is
 /// told.
 const RUNS: &str = "\
-shrink|cap|cap|0 9 0 0|0|round 1 classes 3 signals 3/1: Js/2: Qs/3: Ks/|
-shrink|suits = \"s\"|suits = \"sh\"|0 9 0 0|0|round 1 classes 3 signals 6/1: Js Jh/2: Qs Qh/3: Ks Kh/|
-shrink|\"JQK\"/suits = \"s\"|\"A\"/suits = \"shdc\"|0 9 0 0|0|round 1 classes 1 signals 4/1: As Ah Ad Ac/|
-shrink|[[round]]/private = 1/public = 0/bet = 1/cap = 1|round = [{ cap = 0x1, bet = 1, public = 0, private = 1 }] # one|0 9 0 0|0|round 1 classes 3 signals 3/1: Js/2: Qs/3: Ks/|
-shrink|cap = 1|cap = 8|0 9 0 0|0|round 1 classes 3 signals 3/1: Js/2: Qs/3: Ks/|
-shrink|ante = 1|ante = 4095|0 9 0 0|0|round 1 classes 3 signals 3/1: Js/2: Qs/3: Ks/|
-shrink|cap = 1|cap = 9|0 9 0 0|15||not yet/
-shrink|cap = 1||0 9 0 0|15||not yet/
-shrink|cap = 1|cap = \"1\"|0 9 0 0|15||not yet/
-shrink|cap = 1|cap = 1/tree = \"=\"|0 9 0 0|15||not yet/
-shrink|bet = 1|bet = 0|0 9 0 0|15||not yet/
-shrink|bet = 1|bet = 2049|0 9 0 0|15||not yet/
-shrink|public = 0|public = 1|0 9 0 0|15||not yet/
-shrink|private = 1|private = 2|0 9 0 0|15||not yet/
-shrink|ante = 1|ante = 0|0 9 0 0|15||not yet/
-shrink|ante = 1|ante = 4096|0 9 0 0|15||not yet/
-shrink|ante = 1|ante = 1.0|0 9 0 0|15||not yet/
-shrink|ante = 1|ante = 1/copies = \"111\"|0 9 0 0|15||not yet/
-shrink|version = 1|version = 9|0 9 0 0|15||not yet/
-shrink|version = 1||0 9 0 0|15||not yet/
-shrink|high|pair|0 9 0 0|15||not yet/
-shrink|JQK|J|0 9 0 0|15||not yet/
-shrink|JQK||0 9 0 0|15||not yet/
-shrink|JQK|JJ|0 9 0 0|15||not yet/
-shrink|JQK|J-|0 9 0 0|15||not yet/
-shrink|[[round]]|[round]|0 9 0 0|15||not yet/
-shrink|cap = 1|cap = 1/[[round]]/private = 0/public = 1/bet = 4/cap = 2|0 9 0 0|15||not yet/
-shrink|-||0 9 0 0|15||not yet/
-shrink|[[round]]|[[rou|0 9 0 0|7||bad game: not TOML/
-shrink|ante = 1|ante = 1/ante = 1|0 9 0 0|7||bad game: not TOML/
-shrink|-|[[rou|0 9 0 0|7||bad game: not TOML/
-shrink|cap|cap|2 9 0 0|3||read fault/
-shrink|cap|cap|1 9 0 0|3||read fault/
-shrink|cap|cap|0 3 2 0|4|rou|write fault/
-shrink|cap|cap|0 3 1 0|4||write fault/
+shrink|cap|cap|0 9 0 0|0|round 1 classes 3 signals 3~1: Js~2: Qs~3: Ks~|
+shrink|suits = \"s\"|suits = \"sh\"|0 9 0 0|0|round 1 classes 3 signals 6~1: Js Jh~2: Qs Qh~3: Ks Kh~|
+shrink|\"JQK\"~suits = \"s\"|\"A\"~suits = \"shdc\"|0 9 0 0|0|round 1 classes 1 signals 4~1: As Ah Ad Ac~|
+shrink|\"JQK\"~suits = \"s\"|\"JQ\"~suits = \"sh\"~copies = \"3210\"|0 9 0 0|0|round 1 classes 3 signals 3~1: Js~2: Jh~3: Qs~|
+shrink|-|version = 1~ranks = \"JQK\"~suits = \"sh\"~ranking = \"pair\"~ante = 1~~[[round]]~private = 1~public = 0~bet = 2~cap = 2~~[[round]]~private = 0~public = 1~bet = 4~cap = 2~|0 9 0 0|0|round 1 classes 3 signals 6~1: Js Jh~2: Qs Qh~3: Ks Kh~round 2 classes 7 signals 30~1: Js/+Jh Jh/+Js~2: Js/+Qs Js/+Qh Js/+Ks Js/+Kh Jh/+Qs Jh/+Qh Jh/+Ks Jh/+Kh~3: Qs/+Js Qs/+Jh Qh/+Js Qh/+Jh~4: Qs/+Qh Qh/+Qs~5: Qs/+Ks Qs/+Kh Qh/+Ks Qh/+Kh~6: Ks/+Js Ks/+Jh Ks/+Qs Ks/+Qh Kh/+Js Kh/+Jh Kh/+Qs Kh/+Qh~7: Ks/+Kh Kh/+Ks~|
+shrink --summary|-|version = 1~ranks = \"JQK\"~suits = \"sh\"~ranking = \"pair\"~ante = 1~~[[round]]~private = 1~public = 0~bet = 2~cap = 2~~[[round]]~private = 0~public = 1~bet = 4~cap = 2~|0 9 0 0|0|deals 120 weight 120~round 1 classes 3 signals 6~round 2 classes 7 signals 30~|
+shrink|-|version = 1~ranks = \"J\"~suits = \"sh\"~copies = \"13\"~ranking = \"high\"~ante = 1~~[[round]]~private = 1~public = 2~bet = 1~cap = 1~|0 9 0 0|0|round 1 classes 1 signals 3~1: Js+JhJh Jh+JsJh Jh+JhJh~|
+shrink --summary|-|version = 1~ranks = \"KA\"~suits = \"sh\"~ranking = \"three\"~ante = 5~~[[round]]~private = 1~public = 0~bet = 10~cap = 1~~[[round]]~private = 0~public = 1~bet = 20~cap = 1~~[[round]]~private = 0~public = 1~bet = 20~cap = 1~|0 9 0 0|0|deals 24 weight 24~round 1 classes 2 signals 4~round 2 classes 4 signals 12~round 3 classes 6 signals 24~|
+shrink --summary|-|version = 2~ranks = \"KA\"~suits = \"sh\"~ranking = \"three\"~bonus = [1, 2, 3, 4, 5, 6]~ante = 5~~[[round]]~private = 2~public = 0~tree = \"1[k:=,b2:2[f:!,c2:=]]\"~~[[round]]~private = 0~public = 1~bet = 2~cap = 1~|0 9 0 0|7||bad game: not enough cards: need 5 have 4~
+shrink|[[round]]~private = 1~public = 0~bet = 1~cap = 1|round = [{ cap = 0x1, bet = 1, public = 0, private = 1 }] # one|0 9 0 0|0|round 1 classes 3 signals 3~1: Js~2: Qs~3: Ks~|
+shrink|bet = 1~cap = 1|tree = \"=\"|0 9 0 0|0|round 1 classes 3 signals 3~1: Js~2: Qs~3: Ks~|
+shrink|ante = 1|ante = 4095|0 9 0 0|0|round 1 classes 3 signals 3~1: Js~2: Qs~3: Ks~|
+shrink|version = 1|version = 2~bonus = [9]|0 9 0 0|0|round 1 classes 3 signals 3~1: Js~2: Qs~3: Ks~|
+shrink|[[round]]|[[rou|0 9 0 0|7||bad game: not TOML~
+shrink|ante = 1|ante = 1~ante = 1|0 9 0 0|7||bad game: not TOML~
+shrink|-||0 9 0 0|7||bad game: missing key version~
+shrink|version = 1|version = \"1\"|0 9 0 0|7||bad game: wrong type version~
+shrink|version = 1|version = 9|0 9 0 0|7||bad game: version 9~
+shrink|version = 1|version = -1|0 9 0 0|7||bad game: version -1~
+shrink|ante|amount|0 9 0 0|7||bad game: unknown key~
+shrink|ranks|rank|0 9 0 0|7||bad game: unknown key~
+shrink|version = 1|version = 2|0 9 0 0|7||bad game: missing key bonus~
+shrink|\"JQK\"|1|0 9 0 0|7||bad game: wrong type ranks~
+shrink|ante = 1|ante = 1.0|0 9 0 0|7||bad game: wrong type ante~
+shrink|[[round]]|[round]|0 9 0 0|7||bad game: wrong type round~
+shrink|-|version = 1~ranks = \"JQK\"~suits = \"s\"~ranking = \"high\"~ante = 1~round = []~|0 9 0 0|7||bad game: rounds: 0~
+shrink|cap = 1|cap = 1~tree = \"=\"|0 9 0 0|7||bad game: unknown key in round 1~
+shrink|cap = 1||0 9 0 0|7||bad game: missing key cap in round 1~
+shrink|cap = 1|cap = \"1\"|0 9 0 0|7||bad game: wrong type cap in round 1~
+shrink|high|low|0 9 0 0|7||bad game: out of range ranking~
+shrink|ante = 1|ante = 0|0 9 0 0|7||bad game: out of range ante~
+shrink|version = 1|version = 2~bonus = [10]|0 9 0 0|7||bad game: out of range bonus~
+shrink|private = 1|private = 3|0 9 0 0|7||bad game: out of range private in round 1~
+shrink|public = 0|public = 4|0 9 0 0|7||bad game: out of range public in round 1~
+shrink|bet = 1|bet = 2049|0 9 0 0|7||bad game: out of range bet in round 1~
+shrink|cap = 1|cap = 9|0 9 0 0|7||bad game: out of range cap in round 1~
+shrink|JQK||0 9 0 0|7||bad game: deck: no cards~
+shrink|JQK|J-|0 9 0 0|7||bad game: deck: bad letter~
+shrink|JQK|JJ|0 9 0 0|7||bad game: deck: repeated letter~
+shrink|JQK|0123456789abcdefghijklmnopqrstuvwxyzABCDEFGHIJKLMNOPQ|0 9 0 0|7||bad game: deck: too many kinds~
+shrink|suits = \"s\"|suits = \"s\"~copies = \"11\"|0 9 0 0|7||bad game: deck: bad copies~
+shrink|bet = 1~cap = 1|tree = \"1[k:=,k:=]\"|0 9 0 0|7||bad game: tree of round 1: repeated letter at 6~
+shrink|bet = 1~cap = 1|tree = \"1[k:=,b0:=]\"|0 9 0 0|7||bad game: tree of round 1: syntax at 7~
+shrink|bet = 1~cap = 1|tree = \"1[k:=\"|0 9 0 0|7||bad game: tree of round 1: syntax at 5~
+shrink|bet = 1~cap = 1|tree = \"1[k:1[k:1[k:1[k:1[k:1[k:1[k:1[k:1[k:1[k:1[k:1[k:1[k:1[k:1[k:1[k:1[k:\"|0 9 0 0|7||bad game: tree of round 1: too deep at 64~
+shrink|private = 1|private = 0|0 9 0 0|7||bad game: no private card in round 1~
+shrink|private = 1|private = 2|0 9 0 0|7||bad game: cards for ranking: own 2 all 2~
+shrink|JQK|J|0 9 0 0|7||bad game: not enough cards: need 2 have 1~
+shrink|bet = 1~cap = 1|tree = \"1[f:!]\"~~[[round]]~private = 0~public = 0~bet = 1~cap = 1|0 9 0 0|7||bad game: no even leaf: round 1~
+shrink|bet = 1~cap = 1|tree = \"1[k:=,b1:=]\"|0 9 0 0|7||bad game: uneven: round 1 path b~
+shrink|ante = 1|ante = 4096|0 9 0 0|7||bad game: put too large: 4097~
+shrink --summary|bet = 1~cap = 1|tree = \"1[a:=,b:=,c:=,d:=,e:=,f:=,g:=,h:=]\"~~[[round]]~private = 0~public = 0~tree = \"1[a:=,b:=,c:=,d:=,e:=,f:=,g:=,h:=]\"~~[[round]]~private = 0~public = 0~tree = \"1[a:=,b:=,c:=,d:=,e:=,f:=,g:=,h:=]\"~~[[round]]~private = 0~public = 0~tree = \"1[a:=,b:=,c:=,d:=,e:=,f:=,g:=,h:=,i:=,j:=,k:=,l:=,m:=,n:=,o:=,p:=]\"|0 9 0 0|0|deals 6 weight 6~round 1 classes 3 signals 3~round 2 classes 3 signals 3~round 3 classes 3 signals 3~round 4 classes 3 signals 3~|
+shrink --summary|bet = 1~cap = 1|tree = \"1[a:=,b:=,c:=,d:=,e:=,f:=,g:=,h:=]\"~~[[round]]~private = 0~public = 0~tree = \"1[a:=,b:=,c:=,d:=,e:=,f:=,g:=,h:=]\"~~[[round]]~private = 0~public = 0~tree = \"1[a:=,b:=,c:=,d:=,e:=,f:=,g:=,h:=]\"~~[[round]]~private = 0~public = 0~tree = \"1[a:=,b:=,c:=,d:=,e:=,f:=,g:=,h:=,i:=,j:=,k:=,l:=,m:=,n:=,o:=,p:=,q:=]\"|0 9 0 0|7||bad game: too many lines: 8704~
+shrink|-|version = 1~ranks = \"23456789TJQKA\"~suits = \"shdc\"~ranking = \"high\"~ante = 1~~[[round]]~private = 1~public = 0~bet = 1~cap = 1~~[[round]]~private = 0~public = 1~bet = 1~cap = 1~~[[round]]~private = 0~public = 2~bet = 1~cap = 1~|0 9 0 0|7||bad game: too heavy: 155937600~
+shrink|-|version = 1~ranks = \"23456789TJQKA\"~suits = \"shdc\"~ranking = \"high\"~ante = 1~~[[round]]~private = 1~public = 3~bet = 1~cap = 1~|0 9 0 0|7||bad game: too many signals: round 1~
+shrink|-|version = 1~ranks = \"23456789abcdefghi\"~suits = \"sh\"~ranking = \"three\"~ante = 1~~[[round]]~private = 2~public = 1~bet = 1~cap = 1~|0 9 0 0|7||bad game: too many deals~
+shrink --summary|-|version = 1~ranks = \"23456789TJQKA\"~suits = \"shdc\"~ranking = \"three\"~ante = 5~~[[round]]~private = 1~public = 0~bet = 10~cap = 3~~[[round]]~private = 0~public = 1~bet = 20~cap = 3~~[[round]]~private = 0~public = 1~bet = 20~cap = 3~|0 9 0 0|0|deals 6497400 weight 6497400~round 1 classes 13 signals 52~round 2 classes 195 signals 2652~round 3 classes 1613 signals 132600~|
+check --classes raw --summary|-|version = 1~ranks = \"23456789TJQKA\"~suits = \"shdc\"~ranking = \"three\"~ante = 5~~[[round]]~private = 1~public = 0~bet = 10~cap = 3~~[[round]]~private = 0~public = 1~bet = 20~cap = 3~~[[round]]~private = 0~public = 1~bet = 20~cap = 3~|0 9 0 0|0|deals 6497400 weight 6497400~round 1 classes 52 signals 52~round 2 classes 2652 signals 2652~round 3 classes 132600 signals 132600~|
+shrink|-|version = 1~ranks = \"23456789TJQKA\"~suits = \"shdc\"~ranking = \"three\"~ante = 5~~[[round]]~private = 1~public = 0~bet = 10~cap = 8~~[[round]]~private = 0~public = 1~bet = 20~cap = 8~~[[round]]~private = 0~public = 1~bet = 20~cap = 8~|0 9 0 0|7||bad game: too many lines: 9825~
+make --kind rhode --ranks 2 --suits 2 --cap 1|-||0 9 0 0|0|version = 1~ranks = \"KA\"~suits = \"sh\"~ranking = \"three\"~ante = 5~~[[round]]~private = 1~public = 0~bet = 10~cap = 1~~[[round]]~private = 0~public = 1~bet = 20~cap = 1~~[[round]]~private = 0~public = 1~bet = 20~cap = 1~|
+make --cap 0 --suits 1 --ranks 3 --kind kuhn|-||0 9 0 0|0|version = 1~ranks = \"QKA\"~suits = \"s\"~ranking = \"high\"~ante = 1~~[[round]]~private = 1~public = 0~bet = 1~cap = 0~|
+make --kind leduc --ranks 3 --suits 2 --cap 2|-||0 9 0 0|0|version = 1~ranks = \"QKA\"~suits = \"sh\"~ranking = \"pair\"~ante = 1~~[[round]]~private = 1~public = 0~bet = 2~cap = 2~~[[round]]~private = 0~public = 1~bet = 4~cap = 2~|
+check --classes ogi|-|version = 1~ranks = \"JQK\"~suits = \"sh\"~ranking = \"pair\"~ante = 1~~[[round]]~private = 1~public = 0~bet = 2~cap = 2~~[[round]]~private = 0~public = 1~bet = 4~cap = 2~|0 9 0 0|8||unlike: round 2 Js/+Qs Js/+Ks~
+check --summary|-|version = 1~ranks = \"JQK\"~suits = \"sh\"~ranking = \"pair\"~ante = 1~~[[round]]~private = 1~public = 0~bet = 2~cap = 2~~[[round]]~private = 0~public = 1~bet = 4~cap = 2~|0 9 0 0|0|deals 120 weight 120~round 1 classes 3 signals 6~round 2 classes 9 signals 30~|
+check --classes raw --summary|-|version = 1~ranks = \"JQK\"~suits = \"sh\"~ranking = \"pair\"~ante = 1~~[[round]]~private = 1~public = 0~bet = 2~cap = 2~~[[round]]~private = 0~public = 1~bet = 4~cap = 2~|0 9 0 0|0|deals 120 weight 120~round 1 classes 6 signals 6~round 2 classes 30 signals 30~|
+check|cap|cap|0 9 0 0|0|round 1 classes 3 signals 3~1: Js~2: Qs~3: Ks~|
+check --classes ogi|-|version = 1~ranks = \"J\"~suits = \"sh\"~copies = \"13\"~ranking = \"high\"~ante = 1~~[[round]]~private = 1~public = 2~bet = 1~cap = 1~|0 9 0 0|8||unlike: round 1 Js+JhJh Jh+JsJh~
+check --classes ogi --summary|-|version = 1~ranks = \"KA\"~suits = \"sh\"~ranking = \"three\"~ante = 5~~[[round]]~private = 1~public = 0~bet = 10~cap = 1~~[[round]]~private = 0~public = 1~bet = 20~cap = 1~~[[round]]~private = 0~public = 1~bet = 20~cap = 1~|0 9 0 0|0|deals 24 weight 24~round 1 classes 2 signals 4~round 2 classes 4 signals 12~round 3 classes 6 signals 24~|
+check|cap = 1|cap = 9|0 9 0 0|7||bad game: out of range cap in round 1~
+shrink|cap|cap|2 9 0 0|3||read fault~
+shrink|cap|cap|1 9 0 0|3||read fault~
+shrink|cap|cap|0 3 2 0|4|rou|write fault~
+shrink|cap|cap|0 3 1 0|4||write fault~
 shrink|cap|cap|2 9 0 1|3||
 shrink|cap|cap|2 9 0 2|3||read faul
-|cap|cap|1 9 1 0|2||usage: gameshrink shrink, check, solve, play, evaluate, query or make/
-frob|cap|cap|0 9 0 0|2||usage: gameshrink shrink, check, solve, play, evaluate, query or make/
-shrink shrink|cap|cap|0 9 0 0|2||usage: gameshrink shrink, check, solve, play, evaluate, query or make/
-shrin|cap|cap|0 9 0 0|2||usage: gameshrink shrink, check, solve, play, evaluate, query or make/
+make --kind kuhn --ranks 3 --suits 1 --cap 1|cap|cap|1 3 2 0|4|ver|write fault~
+|cap|cap|1 9 1 0|2||usage: gameshrink shrink, check, solve, play, evaluate, query or make~
+frob|cap|cap|0 9 0 0|2||usage: gameshrink shrink, check, solve, play, evaluate, query or make~
+shrink shrink|cap|cap|0 9 0 0|2||usage: gameshrink shrink, check, solve, play, evaluate, query or make~
+play --turns 01|cap|cap|0 9 0 0|2||usage: gameshrink shrink, check, solve, play, evaluate, query or make~
+check --classes all|cap|cap|0 9 0 0|2||usage: gameshrink shrink, check, solve, play, evaluate, query or make~
+make --kind rhode --ranks 14 --suits 4 --cap 3|cap|cap|0 9 0 0|2||usage: gameshrink shrink, check, solve, play, evaluate, query or make~
 ";
 
 /// How a run ended: its status, what went out and what was told.
@@ -90,7 +131,7 @@ fn run_over(
 fn text_of(alloc: Global, row: &str) -> Result<String, AllocError> {
     let mut text = String::new(alloc);
     for letter in row.chars() {
-        text.push(if letter == '/' { '\n' } else { letter })?;
+        text.push(if letter == '~' { '\n' } else { letter })?;
     }
     Ok(text)
 }
@@ -157,8 +198,7 @@ fn a_file_that_is_cut_is_no_game(rt: HostRuntime) -> Result<(), Fail> {
     // the last byte ends the last line, which means the same without it
     for length in 0..file.len().saturating_sub(1) {
         let end = run_over(alloc, &words, &file.as_bytes()[..length], (0, 0, 0), 9)?;
-        let refused = end.status == Status::BadGame || end.status == Status::NotYet;
-        assert!(rt; refused, "{length}");
+        assert_eq!(rt; end.status, Status::BadGame, "{length}");
         assert!(rt; end.out.given().is_empty(), "{length}");
     }
     Ok(())
@@ -170,7 +210,12 @@ fn long_inputs_and_bytes_that_are_no_text(rt: HostRuntime) -> Result<(), Fail> {
     let words = words_in(alloc, "shrink")?;
     // a comment of the longest length, one of one byte more, and a byte that begins no letter
     let rows = [
-        (16_777_216, b'#', Status::NotYet, "not yet\n"),
+        (
+            16_777_216,
+            b'#',
+            Status::BadGame,
+            "bad game: missing key version\n",
+        ),
         (
             16_777_217,
             b'#',

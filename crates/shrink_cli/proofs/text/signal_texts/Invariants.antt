@@ -1,8 +1,0 @@
-use Rattle.std.proofs.Common.{◌≡◌, map, take, string_bytes}
-use Rattle.gs_model.specs.Signals.{signals}
-use Rattle.gs_tree.specs.Texts.{signal_text}
-use Rattle.gs_tree.specs.Trees.{rules_of, deck_of}
-use Rattle.shrink_cli.proofs.text.signal_texts.Given as goal
-
-abbrev pub invariant-loop-signal : goal.invariant-loop-signal
-invariant-loop-signal l = map string_bytes l.texts.items ≡ map (signal_text (deck_of l.signals)) (take l.signal (signals (rules_of l.signals) l.round))
