@@ -1,0 +1,9 @@
+pub mod Points
+pub mod SlotLaws
+pub mod Above
+pub mod Coming
+pub mod Leaks
+pub mod Gathered
+pub mod ClassRows
+pub mod ClassSums
+pub mod RowLaws

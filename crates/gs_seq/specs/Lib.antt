@@ -1,0 +1,9 @@
+pub mod Games
+pub mod Slots
+pub mod Faults
+pub mod Sources
+pub mod Cells
+pub mod Rows
+pub mod Stops
+pub mod Plans
+pub mod Abstracts
