@@ -8,6 +8,7 @@ pub mod Dealt
 pub mod Hands
 pub mod Paths
 pub mod Beside
+pub mod Rows
 pub mod Weights
 pub mod Same
 pub mod Linked
