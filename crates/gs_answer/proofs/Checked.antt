@@ -1,9 +1,11 @@
 -- What a check of a game's classes finds is what `check` says.
-use Rattle.std.proofs.Common.{◌≡◌, ℕ, List, Bool, length, arith, refl, sym, ap, ◌∙◌, subst}
+use Rattle.std.proofs.Common.{◌≡◌, ◌⊎◌, ⊎_elim, ℕ, List, Bool, length, arith, refl, sym, ap, ◌∙◌, subst}
 use Rattle.gs_card.specs.Decks.{DeckValue}
 use Rattle.gs_file.specs.Reading.{FileGame, rules_of}
 use Rattle.gs_filter.specs.Filter.{single_classes}
+use Rattle.gs_filter.proofs.ClassLaws.{single_are_classes}
 use Rattle.gs_iso.proofs.Whole.{all_parents, parents_at, parents_long}
+use Rattle.gs_lossless.proofs.Settled.{singles}
 use Rattle.gs_model.specs.Classes.{ClassLists, IsClasses, class_of, first_member, list_of}
 use Rattle.gs_model.specs.Frame.{frame_of}
 use Rattle.gs_model.specs.Game.{Game}
@@ -42,6 +44,15 @@ is_checked grouping summary v g d lists text of_game of_deck are lossless printe
   lossless = subst (λ (x : Game). IsLossless (frame_of x) lists) of_game lossless;
   printed = printed ∙ ap (λ x. told summary x g lists) of_deck ∙ ap (λ x. told summary v.deck x lists) of_game;
 }
+
+-- coarsest classes are lossless, and so are signals by themselves
+pub always_lossless : (grouping : Grouping) (g : Game) (lists : ClassLists) → (grouping ≡ Coarsest) ⊎ (grouping ≡ Single) → IsGrouping grouping g lists → IsLossless (frame_of g) lists
+always_lossless grouping g lists one are = ⊎_elim
+    (λ e. let h = subst (λ (x : Grouping). IsGrouping x g lists) e are in h.2.lossless)
+    (λ e.
+    let h : lists ≡ single_classes (frame_of g).parents = subst (λ (x : Grouping). IsGrouping x g lists) e are in
+    subst (IsLossless (frame_of g)) (sym h) (singles (frame_of g) (single_are_classes (frame_of g).parents)))
+    one
 
 told_so : (grouping : Grouping) (summary : Bool) (v : FileGame) (lists : ClassLists) (round first second : ℕ) (a : Answer) → IsGrouping grouping (rules_of v) lists
     → (lists ≡ single_classes (frame_of (rules_of v)).parents → ⊥) → (IsLossless (frame_of (rules_of v)) lists → ⊥) → IsFirstUnlike (frame_of (rules_of v)) lists round first second

@@ -1,5 +1,5 @@
 -- A fault of the program is the one that reading meets first.
-use Rattle.std.proofs.Common.{◌≡◌, ◌≢◌, Result, Ok, Err, refl}
+use Rattle.std.proofs.Common.{◌≢◌, Result, Ok, Err, refl}
 use Rattle.gs_file.specs.Answers.{Fails}
 use Rattle.gs_file.specs.Faults.{Fault}
 use Rattle.gs_file.specs.Reading.{FileGame}

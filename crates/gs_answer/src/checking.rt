@@ -1,10 +1,13 @@
 //! The command `check`.
 
-ghost use Rattle.std.specs.Prelude.{◌≡◌, ◌<◌, ◌≤◌, IfOk, length};
+ghost use Rattle.std.specs.Prelude.{◌≡◌, ◌<◌, ◌≤◌, IfErr, IfOk, length};
 ghost use Rattle.gs_file.specs.Views.{valid_view};
+ghost use Rattle.gs_filter.specs.Filter.{single_classes};
+ghost use Rattle.gs_lossless.specs.Stops.{IsUnlike, IsUnlikeIn};
 ghost use Rattle.gs_model.specs.Classes.{class_of, first_member, list_of};
 ghost use Rattle.gs_model.specs.Frame.{frame_of};
 ghost use Rattle.gs_model.specs.Game.{round_count};
+ghost use Rattle.gs_model.specs.Lossless.{IsLossless};
 ghost use Rattle.gs_model.specs.Signals.{signal_at, signals as signals_in};
 ghost use Rattle.gs_tree.specs.Texts.{signal_text};
 ghost use Rattle.gs_tree.specs.Trees.{deck_of, rules_of};
@@ -18,7 +21,7 @@ use crate::telling::told;
 use gs_file::{FileFault, read_game};
 use gs_filter::Classes;
 use gs_game::ValidGame;
-use gs_lossless::{CheckStop, check};
+use gs_lossless::{CheckStop, Lossless, check};
 use gs_split::split;
 use gs_tree::Signals;
 use gs_words::Grouping;
@@ -71,6 +74,26 @@ fn unlike(
     })
 }
 
+// The classes of a grouping as lossless ones, or the first unlike pair. Only signal classes are compared: the others are known to be lossless.
+fn lossless_of<'a>(
+    alloc: Global,
+    signals: &'a Signals<'a>,
+    classes: &'a Classes,
+    grouping: Grouping,
+) -> Result<Lossless<'a>, CheckStop>
+    requires parents { classes.now.parents ≡ (frame_of (rules_of signals.now)).parents }
+    requires grouping { IsGrouping grouping (rules_of signals.now) classes.now.lists }
+    ensures lossless { IfOk result (λ _. IsLossless (frame_of (rules_of signals.entry.now)) classes.entry.now.lists) }
+    ensures unlike { IfErr result (IsUnlikeIn (frame_of (rules_of signals.entry.now)) classes.entry.now.lists) }
+    ensures refuted { IfErr result (λ e. IsUnlike e → IsLossless (frame_of (rules_of signals.entry.now)) classes.entry.now.lists → ⊥) }
+    ensures single { IfErr result (λ e. IsUnlike e → classes.entry.now.lists ≡ single_classes classes.entry.now.parents → ⊥) }
+{
+    match grouping {
+        Grouping::Isomorphism => check(alloc, signals, classes),
+        Grouping::Coarsest | Grouping::Single => Ok(Lossless::known(signals, classes)),
+    }
+}
+
 // What `check` says of a game.
 fn checked(
     alloc: Global,
@@ -83,7 +106,7 @@ fn checked(
     let signals = Signals::of(alloc, game)?;
     let classes = classes_of(alloc, &signals, grouping)?;
     let _rounds = classes.rounds();
-    match check(alloc, &signals, &classes) {
+    match lossless_of(alloc, &signals, &classes, grouping) {
         Ok(_) => Ok(Answer::Prints(told(alloc, &signals, &classes, summary)?)),
         Err(CheckStop::Unlike { round, second, .. }) => {
             let first = classes.first(round, classes.class_of(round, second));

@@ -1,10 +1,12 @@
 -- The loop that counts sequences of groups.
-use Rattle.std.proofs.Common.{◌≡◌, ℕ, zero, suc, ◌+◌, ◌-◌, ◌<◌, ◌≤◌, ◌≢◌, cond, eqb, List, [], ◌∷◌, map, length, sum_by, refl, ap, ◌∙◌, true, arith, slice_set, slice_index, nat_lt, count_by}
+use Rattle.std.proofs.Common.{◌≡◌, ℕ, zero, suc, ◌+◌, ◌-◌, ◌<◌, ◌≤◌, ◌≢◌, cond, eqb, List, [], ◌∷◌, map, length, sum_by, refl, ap, ◌∙◌, true, false, Bool, drop, sym, arith, slice_set, slice_index, nat_lt, count_by}
 use Rattle.std.specs.Prelude.{◌==◌, flat_map}
 use Rattle.std.specs.List.{range_with_len}
 use Rattle.std.proofs.lemmas.Bool.{lt-ltb}
 use Rattle.std.proofs.lemmas.List.Sums.{sum_by-append, sum_by-cons}
 use Rattle.std.proofs.lemmas.List.{get_or-set_same, set-get_or}
+use Rattle.std.proofs.Math.ListN.{drop_of_length-le}
+use Rattle.std.proofs.Math.Seq.{drop-cons}
 use Rattle.gs_model.proofs.GroupSteps.{set-set}
 use Rattle.gs_model.specs.Cards.{groups_above, groups_with, left_from, left_after}
 use Rattle.gs_game.specs.Sequences.{count_sequences}
@@ -96,3 +98,40 @@ restored left new card within some e =
     let is : slice_index (slice_set left card v) card ≡ v = get_or-set_same left card v 0 within in
     let back : v + 1 ≡ slice_index left card = omega arith in
     rw e (rw is (set-set left card v (v + 1) ∙ ap (slice_set left card) back ∙ set-get_or left card 0))
+
+-- groups of no cards are taken in one way
+pub nothing_more : (later left : List ℕ) → ((k : ℕ) → k < length later → slice_index later k ≡ 0) → count_sequences left later ≡ 1
+nothing_more [] left h = refl
+nothing_more (size ∷ later) left h =
+    let none : size ≡ 0 = h 0 (omega arith) in
+    let rest = nothing_more later (left_after left []) (λ k l. h (suc k) (omega arith)) in
+    let one : count_sequences left (0 ∷ later) ≡ 1 = omega (arith, rest) in
+    ap (λ s. count_sequences left (s ∷ later)) none ∙ one
+
+-- one more card: a kind that is left
+one_kind : (later left : List ℕ) (card n : ℕ) → ((rest : List ℕ) → count_sequences rest later ≡ 1) → slice_index left card ≡ n
+    → sum_by (λ g. count_sequences (left_after left g) later) (groups_with (groups_above 0) left card) ≡ cond (nat_lt 0 n) 1 0
+one_kind later left card n h e =
+    let here : slice_index left card ≡ n = e in
+    rw here (go (nat_lt 0 n))
+  where
+    go : (b : Bool) → sum_by (λ g. count_sequences (left_after left g) later) (cond b (map (λ g. card ∷ g) ([] ∷ [])) []) ≡ cond b 1 0
+    go true = let o = h (left_after left (card ∷ [])) in omega (arith, o)
+    go false = refl
+
+pub last_kinds : (later left : List ℕ) (least : ℕ) → ((rest : List ℕ) → count_sequences rest later ≡ 1) → least ≤ length left
+    → count_rest later left 0 least ≡ count_by (λ copies. nat_lt 0 copies) (drop least left)
+last_kinds later left least h l = go (length left - least) least (omega arith)
+  where
+    go : (n card : ℕ) → card + n ≡ length left → count_rest later left 0 card ≡ count_by (λ copies. nat_lt 0 copies) (drop card left)
+    go zero card e =
+        let none : drop card left ≡ [] = drop_of_length-le left (omega arith) in
+        rest_none later left 0 card (omega arith) ∙ sym (ap (λ (l : List ℕ). count_by (λ copies. nat_lt 0 copies) l) none)
+    go (suc n) card e =
+        let more = rest_more later left 0 card (omega arith) in
+        let one = one_kind later left card (slice_index left card) h refl in
+        let rest = go n (card + 1) (omega arith) in
+        let next : suc card ≡ card + 1 = omega arith in
+        let first : drop card left ≡ slice_index left card ∷ drop (card + 1) left = drop-cons left card 0 (omega arith) ∙ ap (λ k. slice_index left card ∷ drop k left) next in
+        let count = ap (λ (l : List ℕ). count_by (λ copies. nat_lt 0 copies) l) first ∙ sum_by-cons (λ copies. cond (nat_lt 0 copies) 1 0) (slice_index left card) (drop (card + 1) left) in
+        omega (arith, more, one, rest, count)

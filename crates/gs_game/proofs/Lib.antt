@@ -21,3 +21,5 @@ pub mod LineLaws
 pub mod EvenRounds
 pub mod Playable
 pub mod LineWriting
+pub mod Ways
+pub mod Singles

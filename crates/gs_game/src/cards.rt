@@ -1,6 +1,6 @@
 //! The refusals on a game's cards.
 
-ghost use Rattle.std.specs.Prelude.{◌≡◌, ◌≤◌, ◌*◌, None, MatchResult, All, length, sum, sum_by};
+ghost use Rattle.std.specs.Prelude.{◌≡◌, ◌≤◌, ◌*◌, ◌↔◌, EachIndex, IsTrue, None, MatchResult, All, length, slice_index, sum, sum_by};
 ghost use Rattle.gs_card.specs.Rankings.{ranking_of};
 ghost use Rattle.gs_game.specs.Answers.{Answers};
 ghost use Rattle.gs_game.specs.Games.{HasFewCards, game_of};
@@ -48,6 +48,13 @@ pub fn all_copies(counts: &[u8]) -> u32
         all += u32::from(*count);
     }
     all
+}
+
+/// Whether no kind has more than one copy.
+pub fn are_single(copies: &[u8]) -> bool
+    ensures { IsTrue result ↔ EachIndex copies.now (λ card. slice_index copies.now card ≤ 1) }
+{
+    copies.iter().all(|count| *count <= 1)
 }
 
 /// Whether the ranking can rank hands of so many own cards, and so many with the public ones.

@@ -1,8 +1,22 @@
 //! Counting sequences of groups of cards.
 
-ghost use Rattle.std.specs.Prelude.{◌≡◌, ◌≤◌, ◌<◌, min, length, sum_by};
+ghost use Rattle.std.specs.Prelude.{◌≡◌, ◌≤◌, ◌<◌, ◌↔◌, EachIndex, IsTrue, count_by, min, length, nat_lt, slice_index, sum_by};
 ghost use Rattle.gs_model.specs.Cards.{groups_above, groups_with, left_after};
 ghost use Rattle.gs_game.specs.Sequences.{count_sequences};
+
+/// How many kinds have copies left.
+fn kinds_left(left: &[u8]) -> u64
+    ensures { result ≡ count_by (λ copies. nat_lt 0 copies) left.now }
+{
+    left.iter().filter(|copies| **copies > 0).count() as u64
+}
+
+/// Whether groups of these sizes have no cards.
+fn take_nothing(sizes: &[u8]) -> bool
+    ensures { IsTrue result ↔ EachIndex sizes.now (λ k. slice_index sizes.now k ≡ 0) }
+{
+    sizes.iter().all(|size| *size == 0)
+}
 
 /// How many sequences there are of a group of `size` cards of the kinds from `least` on and groups of the later sizes, as far as `cap`.
 #[cycle(counter)]
@@ -16,6 +30,9 @@ fn count_from(left: &mut [u8], least: usize, size: u8, later: &[u8], cap: u64) -
             [next, rest @ ..] => count_from(left, 0, *next, rest, cap),
             [] => cap.min(1),
         };
+    }
+    if size == 1 && take_nothing(later) {
+        return cap.min(kinds_left(&left[least..]));
     }
     let mut total = 0;
     for card in least..left.len() {

@@ -1,6 +1,6 @@
 //! The refusals on a game's signals and deals.
 
-ghost use Rattle.std.specs.Prelude.{◌≡◌, ◌≤◌, ◌<◌, ◌+◌, ◌*◌, ◌^◌, None, IfOk, OnOk, MatchResult, All, length, map, sum, ◌++◌};
+ghost use Rattle.std.specs.Prelude.{◌≡◌, ◌≤◌, ◌<◌, ◌+◌, ◌*◌, ◌^◌, None, IfOk, OnOk, MatchResult, All, length, map, min, sum, ◌++◌};
 ghost use Rattle.gs_model.specs.Cards.{choose};
 ghost use Rattle.gs_model.specs.Deals.{deals};
 ghost use Rattle.gs_model.specs.Frame.{frame_of, total_weight};
@@ -8,9 +8,9 @@ ghost use Rattle.gs_game.specs.Answers.{Answers};
 ghost use Rattle.gs_game.specs.Games.{HasFewCards, game_of, round_of};
 ghost use Rattle.gs_game.specs.Money.{first_of};
 ghost use Rattle.gs_game.specs.Refusals.{card_refusal, deal_refusal, deals_refusal, signals_refusal};
-ghost use Rattle.gs_game.specs.Sequences.{deal_sizes, draws, power, privates, seen_sizes};
+ghost use Rattle.gs_game.specs.Sequences.{count_sequences, deal_sizes, draws, power, privates, seen_sizes};
 
-use crate::cards::all_copies;
+use crate::cards::{all_copies, are_single};
 use crate::counting::count_sequences;
 use crate::faults::GameFault;
 use crate::game::{Game, Round};
@@ -97,15 +97,30 @@ fn check_signals(game: &Game, left: &mut [u8], sizes: &[u8]) -> Result<(), GameF
     Ok(())
 }
 
-/// The number of deals, where there are few enough raw signals and deals.
-fn check_counts(game: &Game, left: &mut [u8], sizes: &[u8]) -> Result<u32, GameFault>
+/// How many sequences there are of groups of these sizes, as far as 8,000,001, from the ways to draw them: where no kind has more than one
+/// copy, each sequence is drawn in one way.
+fn count_deals(left: &mut [u8], sizes: &[u8], ways: u64) -> u64
+    requires { ways ≡ draws (sum left.old) sizes.now }
+    ensures count { result ≡ min (count_sequences left.old sizes.now) 8000001 }
+    ensures kept { left.new ≡ left.old }
+{
+    if are_single(left) {
+        ways.min(8_000_001)
+    } else {
+        count_sequences(left, sizes, 8_000_001)
+    }
+}
+
+/// The number of deals, where there are few enough raw signals and deals. `weight` is the weight of all deals.
+fn check_counts(game: &Game, left: &mut [u8], sizes: &[u8], weight: u64) -> Result<u32, GameFault>
     requires few { length game.now.rounds.items ≤ 4 }
     requires left { left.old ≡ game.now.deck.counts }
     requires sizes { sizes.now ≡ deal_sizes (map round_of game.now.rounds.items) }
+    requires weight { weight ≡ draws (sum game.now.deck.counts) sizes.now }
     ensures { MatchResult result (λ count. (first_of (signals_refusal (game_of game.now)) (deals_refusal (game_of game.now)) ≡ None) × (count ≡ length (deals (game_of game.now)))) (Answers (first_of (signals_refusal (game_of game.now)) (deals_refusal (game_of game.now)))) }
 {
     check_signals(game, left, sizes)?;
-    let count = count_sequences(left, sizes, 8_000_001);
+    let count = count_deals(left, sizes, weight);
     if count > 8_000_000 {
         return Err(GameFault::TooManyDeals);
     }
@@ -132,9 +147,7 @@ pub fn check_deals(alloc: Global, game: &Game) -> Result<DealTotals, GameFault>
     if weight > 67_108_864 {
         return Err(GameFault::TooHeavy { weight });
     }
-    let count = check_counts(game, &mut left, &sizes)?;
-    Ok(DealTotals {
-        count,
-        weight: weight as u64,
-    })
+    let weight = weight as u64;
+    let count = check_counts(game, &mut left, &sizes, weight)?;
+    Ok(DealTotals { count, weight })
 }

@@ -16,6 +16,7 @@ mod positions;
 mod valid;
 mod walk;
 
+pub use cards::are_single;
 pub use faults::GameFault;
 pub use game::{Game, Round};
 pub use positions::{Arrow, End, EndKind, Point, Step, Target};

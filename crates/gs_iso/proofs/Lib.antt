@@ -7,3 +7,4 @@ pub mod Whole
 pub mod Listed
 pub mod Pairs
 pub mod Paired
+pub mod Alike

@@ -43,6 +43,9 @@ one_place eq flips (z ∷ zs) d (suc i) zero x y ex ey e =
     absurd (true≢false (sym (flips x y e) ∙ ap (λ w. eq w x) (sym same) ∙ no))
 one_place eq flips (z ∷ zs) d (suc i) (suc j) x y ex ey e = ap suc (one_place eq flips zs (IsDistinct-tail eq z zs d) i j x y ex ey e)
 
+at_end : (xs : List ℕ) (n : ℕ) → get_or (xs ++ n ∷ []) (length xs) 0 ≡ n
+at_end xs n = grind (arith, elements)
+
 module _ {X : Type 0} (eq : X → X → Bool) (exact : (x y : X) → Decides (eq x y) (x ≡ y)) where
   abbrev pub same_items : Vec X Global → Vec X Global → Bool
   same_items k l = pointwise eq k.items l.items
@@ -73,9 +76,21 @@ module _ {X : Type 0} (eq : X → X → Bool) (exact : (x y : X) → Decides (eq
       } in
       subst (λ m. HasKey sign more i m) (sym at) h)
       (cases_eq i (length numbers))
-    where
-      at_end : (xs : List ℕ) (n : ℕ) → get_or (xs ++ n ∷ []) (length xs) 0 ≡ n
-      at_end xs n = grind (arith, elements)
+
+  -- one more item, with the number of an earlier one that has the same keys
+  pub leads_again : (sign : ℕ → List X → Type 0) (keys : List (Vec X Global)) (numbers : List ℕ) (j n : ℕ) → LeadToKeys sign keys numbers → j < length numbers → n ≡ get_or numbers j 0
+      → ((a : List X) → sign j a → sign (length numbers) a) → LeadToKeys sign keys (numbers ++ n ∷ [])
+  leads_again sign keys numbers j n leads lj is like i l = ⊎_elim
+      (λ e.
+      let at : get_or (numbers ++ n ∷ []) i 0 ≡ get_or numbers j 0 = ap (λ k. get_or (numbers ++ n ∷ []) k 0) e ∙ at_end numbers n ∙ is in
+      let old = leads j lj in
+      let h : HasKey sign keys i (get_or numbers j 0) = record { some = old.some; key = old.key; stands = old.stands; signs = subst (λ k. sign k old.key.items) (sym e) (like old.key.items old.signs) } in
+      subst (λ m. HasKey sign keys i m) (sym at) h)
+      (λ ne.
+      let lt : i < length numbers = omega (arith, length-append numbers (n ∷ [])) in
+      let at : get_or (numbers ++ n ∷ []) i 0 ≡ get_or numbers i 0 = grind (arith, elements) in
+      subst (λ m. HasKey sign keys i m) (sym at) (leads i lt))
+      (cases_eq i (length numbers))
 
   -- equal numbers are equal signatures
   pub numbers_are : (sign : ℕ → List X → Type 0) (keys : List (Vec X Global)) (numbers : List ℕ) → IsDistinct same_items keys → LeadToKeys sign keys numbers

@@ -12,6 +12,7 @@ ghost use Rattle.gs_iso.specs.Numbers.{IsNumbering};
 
 use crate::numbers::number_of;
 use crate::parts::Leaf;
+use gs_alike::stand_ins;
 use gs_tree::{Deals, Signals};
 use indexmap::IndexSet;
 use std::alloc::{AllocError, Global};
@@ -51,14 +52,23 @@ fn leaf_signature(alloc: Global, signals: &Signals, signal: u32) -> Result<Vec<L
     Ok(leaves)
 }
 
-/// For each signal of the last round a number: equal exactly where the signals are isomorphic.
+/// For each signal of the last round a number: equal exactly where the signals are isomorphic. The leaves of a signal are looked at only where no
+/// earlier one sees the same deals.
 pub(crate) fn leaf_numbers(alloc: Global, signals: &Signals) -> Result<Vec<u32>, AllocError>
     ensures { IfOk result (λ v. IsNumbering (rules_of signals.now) (round_count (rules_of signals.now)) v.items) }
 {
     let count = signals.count(signals.rounds());
+    let keys = vec![in alloc; 0; count as usize]?;
+    let firsts = stand_ins(alloc, signals, &keys)?;
     let mut seen = IndexSet::new(alloc);
     let mut numbers = Vec::with_capacity(alloc, count as usize)?;
     for signal in 0..count {
+        let first = firsts[signal as usize];
+        if first < signal {
+            let number = numbers[first as usize];
+            numbers.push(number)?;
+            continue;
+        }
         let signature = leaf_signature(alloc, signals, signal)?;
         let number = number_of(&mut seen, signature)?;
         numbers.push(number)?;

@@ -1,40 +1,68 @@
 -- Sums of one signal and of another, and the numbers that they get.
-use Rattle.std.proofs.Common.{◌≡◌, ◌↔◌, ℕ, ℤ, pos, ◌<◌, Bool, true, cond, List, length, sym, ap, ◌∙◌, subst, arith, ⊎_elim, reverse}
+use Rattle.std.proofs.Common.{◌≡◌, ◌↔◌, ℕ, ℤ, pos, ◌-◌, ◌<◌, Bool, true, false, true≢false, not, cond, List, [], length, get_or, refl, sym, ap, ◌∙◌, subst, arith, reverse}
 use Rattle.std.specs.Prelude.{◌==◌}
 use Rattle.std.specs.Bool.{Decides}
 use Rattle.std.specs.Ordering.{int_eq}
-use Rattle.std.proofs.lemmas.Bool.{cases_eq}
 use Rattle.std.proofs.lemmas.Bool.Decides.{Decides-and, Decides-eqb, Decides-like}
-use Rattle.gs_model.specs.Classes.{ClassLists, class_of, class_size, first_member, list_of}
+use Rattle.gs_model.specs.Classes.{ClassLists, class_of, first_member}
 use Rattle.gs_model.specs.Frame.{Frame, last_round}
 use Rattle.gs_model.specs.Lossless.{weight_against, weight_with}
-use Rattle.gs_lossless.specs.Amounts.{Agree, amount}
+use Rattle.gs_lossless.specs.Amounts.{Agree, AgreesWithFirst, AreAmounts, amount}
 use Rattle.gs_lossless.specs.declared.parts.Part.{Part}
 use Rattle.gs_lossless.specs.declared.sides.Side.{Side}
 use Rattle.gs_lossless.specs.declared.sides.Side.TheVariants.{Deals, Children}
 use Rattle.gs_lossless.proofs.Scanned.{reverse_one}
-use Rattle.gs_lossless.proofs.Settled.{agree_if_same, same_if_agree, single_agrees}
-use Rattle.gs_split.specs.Turns.{AreClassSums, AreSideNumbers, AreTurnNumbers, HaveSameSums, key_eq}
+use Rattle.gs_lossless.proofs.Settled.{agree_if_same, same_if_agree}
+use Rattle.gs_split.specs.Turns.{AreClassSums, AreSettled, AreSideFirsts, AreSideNumbers, AreTurnNumbers, HaveSameSums, IsSettled, key_eq}
+
+turned : (b : Bool) → (b ≡ true → ⊥) → not b ≡ true
+turned true h = absurd (h refl)
+turned false h = refl
 
 module _ (f : Frame) (lists : ClassLists) (round : ℕ) where
+  -- members of a settled class agree with its first member
+  settled_agrees : (side : Side) (firsts : List ℕ) (settled : List Bool) (s : ℕ) → AreSideFirsts f lists side round firsts → AreSettled lists round firsts settled → s < length firsts → IsSettled lists round settled s → AgreesWithFirst f lists side round s
+  settled_agrees side firsts settled s stands h l one = subst (λ (x : ℕ). Agree f lists side round x s) (h.first s l one) (stands.agree s l)
+
   -- members of a class have the same sums exactly where they agree
-  pub sums_law : (side : Side) (i j : ℕ) (a b : List Part) → i < length (list_of lists round) → j < length (list_of lists round) → class_of lists round i ≡ class_of lists round j
-      → AreClassSums f lists side round i a → AreClassSums f lists side round j b → (a ≡ b) ↔ Agree f lists side round i j
-  sums_law side i j a b li lj same ha hb = ⊎_elim
-      (λ one.
-      let two : class_size lists round (class_of lists round j) ≡ 1 = ap (class_size lists round) (sym same) ∙ one in
-      let p = single_agrees f lists side round i li one in
-      let q = single_agrees f lists side round j lj two in (
-        (λ e c o. sym (p c o) ∙ ap (λ x. amount f lists side round (first_member lists round x) c o) same ∙ q c o),
-        (λ g. ha.single one ∙ sym (hb.single two)),
-      ))
-      (λ many.
-      let x = ha.many many in
-      let y = hb.many (λ two. many (ap (class_size lists round) same ∙ two)) in (
-        (λ e. agree_if_same f lists side round i j (reverse a) (reverse b) x y (ap reverse e)),
-        (λ g. reverse_one a b (same_if_agree f lists side round i j (reverse a) (reverse b) x y g)),
-      ))
-      (cases_eq (class_size lists round (class_of lists round i)) 1)
+  pub sums_law : (side : Side) (firsts : List ℕ) (settled : List Bool) (i j : ℕ) (a b : List Part) → AreSideFirsts f lists side round firsts → AreSettled lists round firsts settled → i < length firsts → j < length firsts
+      → class_of lists round i ≡ class_of lists round j → AreClassSums f lists side round settled i a → AreClassSums f lists side round settled j b → (a ≡ b) ↔ Agree f lists side round i j
+  sums_law side firsts settled i j a b stands h li lj same ha hb = by (get_or settled (class_of lists round i - 1) false) refl
+    where
+      by : (t : Bool) → get_or settled (class_of lists round i - 1) false ≡ t → (a ≡ b) ↔ Agree f lists side round i j
+      by true one =
+          let two : IsSettled lists round settled j = ap (λ c. get_or settled (c - 1) false) (sym same) ∙ one in
+          let p = settled_agrees side firsts settled i stands h li one in
+          let q = settled_agrees side firsts settled j stands h lj two in (
+            (λ e c o. sym (p c o) ∙ ap (λ x. amount f lists side round (first_member lists round x) c o) same ∙ q c o),
+            (λ g. ha.none one ∙ sym (hb.none two)),
+          )
+      by false none =
+          let x = ha.made (λ one. true≢false (sym one ∙ none)) in
+          let y = hb.made (λ two. true≢false (sym two ∙ ap (λ c. get_or settled (c - 1) false) (sym same) ∙ none)) in (
+            (λ e. agree_if_same f lists side round i j (reverse a) (reverse b) x y (ap reverse e)),
+            (λ g. reverse_one a b (same_if_agree f lists side round i j (reverse a) (reverse b) x y g)),
+          )
+
+  -- sums are made where the class of a signal is not settled
+  pub sums_made : (side : Side) (settled : List Bool) (s : ℕ) (b : Bool) (sums : List Part) → b ≡ get_or settled (class_of lists round s - 1) false
+      → (not b ≡ false → sums ≡ []) → (not b ≡ true → AreAmounts f lists side round s (reverse sums)) → AreClassSums f lists side round settled s sums
+  sums_made side settled s b sums is none made = record {
+    none = λ one. none (ap not (is ∙ one));
+    made = λ no. made (turned b (λ t. no (sym is ∙ t)));
+  }
+
+  -- the sums of a signal are those of one that stands for it
+  pub sums_again : (side : Side) (firsts : List ℕ) (settled : List Bool) (s : ℕ) (sums : List Part) → AreSideFirsts f lists side round firsts → s < length firsts
+      → AreClassSums f lists side round settled (get_or firsts s 0) sums → AreClassSums f lists side round settled s sums
+  sums_again side firsts settled s sums stands l h =
+      let same = stands.class s l in
+      record {
+        none = λ one. h.none (ap (λ c. get_or settled (c - 1) false) same ∙ one);
+        made = λ no.
+            let x = h.made (λ one. no (ap (λ c. get_or settled (c - 1) false) (sym same) ∙ one)) in
+            record { rises = x.rises; sum = λ c o. x.sum c o ∙ stands.agree s l c o };
+      }
 
   -- before the last round agreement is about children
   children_same : (i j : ℕ) → round < last_round f → Agree f lists Children round i j ↔ HaveSameSums f lists round i j

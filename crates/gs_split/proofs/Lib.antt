@@ -3,3 +3,5 @@ pub mod FirstSeen
 pub mod Agreed
 pub mod Turned
 pub mod Splits
+pub mod Alike
+pub mod Known

@@ -1,8 +1,8 @@
 -- What a turn of the refinement looks at, round by round.
-use Rattle.std.specs.Prelude.{ℕ, ◌-◌, ◌<◌, ◌≤◌, ◌≡◌, ◌↔◌, ◌==◌, ◌&&◌, ℤ, Bool, List, [], ◌∷◌, Some, Vec, get_or, length, reverse, slice_get}
+use Rattle.std.specs.Prelude.{ℕ, ◌-◌, ◌<◌, ◌≤◌, ◌≡◌, ◌↔◌, ◌==◌, ◌&&◌, ℤ, Bool, true, false, List, [], ◌∷◌, Some, Vec, get_or, length, reverse, slice_get}
 use Rattle.std.specs.declared.alloc.Global.{Global}
 use Rattle.std.specs.Ordering.{int_eq}
-use Rattle.gs_model.specs.Classes.{ClassLists, class_of, class_size, list_of}
+use Rattle.gs_model.specs.Classes.{ClassLists, InOneClass, class_count, class_of, first_member, list_of}
 use Rattle.gs_model.specs.Frame.{Frame, last_round, parents_of, signal_count}
 use Rattle.gs_model.specs.Lossless.{children_in, weight_with}
 use Rattle.gs_model.specs.Numbering.{IsClassesOf}
@@ -12,14 +12,26 @@ use Rattle.gs_lossless.specs.declared.sides.Side.{Side}
 
 -- ---- sums
 
--- a signal has a class of its own
-abbrev pub IsSingle : ClassLists → ℕ → ℕ → Type 0
-IsSingle lists round s = class_size lists round (class_of lists round s) ≡ 1
+-- each signal of a round has one that stands for it on one side: of its class, no later, and one that it agrees with
+pub record AreSideFirsts (f : Frame) (lists : ClassLists) (side : Side) (round : ℕ) (firsts : List ℕ) : Type 0 where
+  pub long : length firsts ≡ signal_count f round
+  pub before : (s : ℕ) → s < length firsts → get_or firsts s 0 ≤ s
+  pub class : (s : ℕ) → s < length firsts → class_of lists round (get_or firsts s 0) ≡ class_of lists round s
+  pub agree : (s : ℕ) → s < length firsts → Agree f lists side round (get_or firsts s 0) s
 
--- the sums of a signal on one side, none where it has a class of its own
-pub record AreClassSums (f : Frame) (lists : ClassLists) (side : Side) (round s : ℕ) (sums : List Part) : Type 0 where
-  pub single : IsSingle lists round s → sums ≡ []
-  pub many : (IsSingle lists round s → ⊥) → AreAmounts f lists side round s (reverse sums)
+-- the class of a signal is settled, by a list with an entry for each class
+abbrev pub IsSettled : ClassLists → ℕ → List Bool → ℕ → Type 0
+IsSettled lists round settled s = get_or settled (class_of lists round s - 1) false ≡ true
+
+-- in settled classes the first member stands for each member
+pub record AreSettled (lists : ClassLists) (round : ℕ) (firsts : List ℕ) (settled : List Bool) : Type 0 where
+  pub long : length settled ≡ class_count lists round
+  pub first : (s : ℕ) → s < length firsts → IsSettled lists round settled s → get_or firsts s 0 ≡ first_member lists round (class_of lists round s)
+
+-- the sums of a signal on one side, none where its class is settled
+pub record AreClassSums (f : Frame) (lists : ClassLists) (side : Side) (round : ℕ) (settled : List Bool) (s : ℕ) (sums : List Part) : Type 0 where
+  pub none : IsSettled lists round settled s → sums ≡ []
+  pub made : (IsSettled lists round settled s → ⊥) → AreAmounts f lists side round s (reverse sums)
 
 -- numbers of the signals of a round: within a class equal exactly where the signals agree on one side
 pub record AreSideNumbers (f : Frame) (lists : ClassLists) (side : Side) (round : ℕ) (numbers : List ℕ) : Type 0 where
@@ -35,6 +47,11 @@ pub record HaveSameSums (f : Frame) (lists : ClassLists) (round s t : ℕ) : Typ
 pub record AreTurnNumbers (f : Frame) (lists : ClassLists) (round : ℕ) (numbers : List ℕ) : Type 0 where
   pub long : length numbers ≡ signal_count f round
   pub same : (i j : ℕ) → i < length numbers → j < length numbers → class_of lists round i ≡ class_of lists round j → (get_or numbers i 0 ≡ get_or numbers j 0) ↔ HaveSameSums f lists round i j
+
+-- in the rounds that are marked, members of a class have the same sums
+pub record AreKnown (f : Frame) (lists : ClassLists) (known : List Bool) : Type 0 where
+  pub long : length known ≡ last_round f
+  pub same : (round s t : ℕ) → 0 < round → round ≤ last_round f → get_or known (round - 1) false ≡ true → InOneClass f lists round s t → HaveSameSums f lists round s t
 
 -- whether two sums are the same
 abbrev pub part_eq : Part → Part → Bool

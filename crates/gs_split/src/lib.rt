@@ -5,6 +5,7 @@ mod numbers;
 mod parts;
 mod rounds;
 mod splitting;
+mod stays;
 #[cfg(test)]
 mod tests;
 mod turns;

@@ -1,45 +1,94 @@
 //! What a turn looks at in a round: the sums of the last round, and the children before it.
 
-ghost use Rattle.std.specs.Prelude.{◌≡◌, ◌<◌, ◌≤◌, IfOk, length};
+ghost use Rattle.std.specs.Prelude.{◌≡◌, ◌<◌, ◌≤◌, [], true, false, IfOk, length, reverse};
+ghost use Rattle.gs_model.specs.Classes.{ClassLists, list_of};
 ghost use Rattle.gs_model.specs.Frame.{frame_of, last_round};
 ghost use Rattle.gs_model.specs.Signals.{signals as signals_in};
 ghost use Rattle.gs_tree.specs.Trees.{rules_of};
-ghost use Rattle.gs_lossless.specs.Amounts.{HasSide, key_count, keys_of};
-ghost use Rattle.gs_split.specs.Turns.{AreClassSums, AreSideNumbers, AreTurnNumbers};
+ghost use Rattle.gs_lossless.specs.Amounts.{AreAmounts, HasSide, key_count, keys_of};
+ghost use Rattle.gs_split.specs.Turns.{AreSettled, AreSideFirsts, AreSideNumbers, AreTurnNumbers};
 
 use crate::numbers::number_of;
+use gs_alike::stand_ins;
 use gs_filter::Classes;
 use gs_lossless::{Part, Side, side_keys, side_sums};
 use gs_tree::Signals;
 use indexmap::IndexSet;
 use std::alloc::{AllocError, Global};
 
-/// The sums of a signal on one side; none where it is the only one of its class, which no turn can part.
-fn class_sums(
+/// For each signal of a round one that stands for it on one side, no later than itself: in the last round one that sees the same deals, before it the
+/// signal itself.
+fn side_firsts(
     alloc: Global,
     signals: &Signals,
+    side: Side,
+    round: u8,
+    keys: &[u32],
+) -> Result<Vec<u32>, AllocError>
+    requires side { HasSide (frame_of (rules_of signals.now)) side round }
+    requires all { length keys.now ≡ key_count (rules_of signals.now) side round }
+    ensures { IfOk result (λ v. (lists : ClassLists) → keys.now ≡ keys_of (frame_of (rules_of signals.now)) lists side round
+        → AreSideFirsts (frame_of (rules_of signals.now)) lists side round v.items) }
+{
+    if round == signals.rounds() {
+        return stand_ins(alloc, signals, keys);
+    }
+    let count = signals.count(round);
+    let mut firsts = Vec::with_capacity(alloc, count as usize)?;
+    for signal in 0..count {
+        firsts.push(signal)?;
+    }
+    Ok(firsts)
+}
+
+/// For each class of a round whether its first member stands for all of its members.
+fn settled_classes(
+    alloc: Global,
     classes: &Classes,
+    round: u8,
+    firsts: &[u32],
+) -> Result<Vec<bool>, AllocError>
+    requires some { 0 < round }
+    requires top { round ≤ length classes.now.lists }
+    requires all { length firsts.now ≡ length (list_of classes.now.lists round) }
+    ensures { IfOk result (λ v. AreSettled classes.now.lists round firsts.now v.items) }
+{
+    let mut settled = vec![in alloc; true; classes.classes(round) as usize]?;
+    for signal in 0..classes.signals(round) {
+        let class = classes.class_of(round, signal);
+        if firsts[signal as usize] != classes.first(round, class) {
+            settled[class as usize - 1] = false;
+        }
+    }
+    Ok(settled)
+}
+
+/// The sums of a signal on one side, or none where they are not wanted.
+fn wanted_sums(
+    alloc: Global,
+    signals: &Signals,
     side: Side,
     round: u8,
     keys: &[u32],
     signal: u32,
+    wanted: bool,
 ) -> Result<Vec<Part>, AllocError>
-    requires parents { classes.now.parents ≡ (frame_of (rules_of signals.now)).parents }
     requires side { HasSide (frame_of (rules_of signals.now)) side round }
     requires all { length keys.now ≡ key_count (rules_of signals.now) side round }
-    requires keys { keys.now ≡ keys_of (frame_of (rules_of signals.now)) classes.now.lists side round }
     requires in_range { signal < length (signals_in (rules_of signals.now) round) }
-    ensures { IfOk result (λ v. AreClassSums (frame_of (rules_of signals.now)) classes.now.lists side round signal v.items) }
+    ensures none { wanted ≡ false → IfOk result (λ v. v.items ≡ []) }
+    ensures made { wanted ≡ true → IfOk result (λ v. (lists : ClassLists) → keys.now ≡ keys_of (frame_of (rules_of signals.now)) lists side round
+        → AreAmounts (frame_of (rules_of signals.now)) lists side round signal (reverse v.items)) }
 {
-    let _rounds = classes.rounds();
-    let class = classes.class_of(round, signal);
-    if classes.size(round, class) == 1 {
-        return Ok(Vec::new(alloc));
+    if wanted {
+        side_sums(alloc, signals, side, round, keys, signal)
+    } else {
+        Ok(Vec::new(alloc))
     }
-    side_sums(alloc, signals, side, round, keys, signal)
 }
 
-/// For each signal of a round a number: within a class equal exactly where the signals agree on one side.
+/// For each signal of a round a number: within a class equal exactly where the signals agree on one side. Sums are made only of signals that none before
+/// them stands for, and none in a class that a turn cannot part.
 fn side_numbers(
     alloc: Global,
     signals: &Signals,
@@ -53,11 +102,20 @@ fn side_numbers(
 {
     let _rounds = classes.rounds();
     let keys = side_keys(alloc, signals, classes, side, round)?;
+    let firsts = side_firsts(alloc, signals, side, round, &keys)?;
+    let settled = settled_classes(alloc, classes, round, &firsts)?;
     let count = signals.count(round);
     let mut seen = IndexSet::new(alloc);
     let mut numbers = Vec::with_capacity(alloc, count as usize)?;
     for signal in 0..count {
-        let sums = class_sums(alloc, signals, classes, side, round, &keys, signal)?;
+        let first = firsts[signal as usize];
+        if first < signal {
+            let number = numbers[first as usize];
+            numbers.push(number)?;
+            continue;
+        }
+        let wanted = !settled[classes.class_of(round, signal) as usize - 1];
+        let sums = wanted_sums(alloc, signals, side, round, &keys, signal, wanted)?;
         let number = number_of(&mut seen, sums)?;
         numbers.push(number)?;
     }

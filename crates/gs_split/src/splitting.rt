@@ -7,6 +7,7 @@ ghost use Rattle.gs_model.specs.Numbering.{greatest};
 ghost use Rattle.gs_model.specs.Refinement.{IsCoarsestLossless};
 ghost use Rattle.gs_tree.specs.Trees.{rules_of};
 
+use crate::stays::known_rounds;
 use crate::turns::turn;
 use gs_filter::Classes;
 use gs_tree::Signals;
@@ -37,10 +38,13 @@ pub fn split(alloc: Global, signals: &Signals, from: &Classes) -> Result<Classes
     ensures parents { IfOk result (λ c. c.parents ≡ (frame_of (rules_of signals.now)).parents) }
 {
     let mut total = class_total(from);
-    let mut classes = turn(alloc, signals, from)?;
+    let mut known = vec![in alloc; false; usize::from(signals.rounds())]?;
+    let mut classes = turn(alloc, signals, from, &known)?;
     while total < class_total(&classes) {
         total = class_total(&classes);
-        classes = turn(alloc, signals, &classes)?;
+        let finer = turn(alloc, signals, &classes, &known)?;
+        known = known_rounds(alloc, signals, &classes, &finer)?;
+        classes = finer;
     }
     Ok(classes)
 }

@@ -8,6 +8,9 @@ pub mod Dealt
 pub mod Hands
 pub mod Paths
 pub mod Beside
+pub mod Rows
+pub mod Parts
+pub mod OneCard
 pub mod Weights
 pub mod Same
 pub mod Linked

@@ -1,14 +1,13 @@
 -- Tables of equal keys: for each place the first one with its key and the next one, made place by place.
 use Rattle.std.proofs.Common.{◌≡◌, ◌≢◌, ◌⊎◌, inl, inr, ⊎_elim, ℕ, zero, suc, ◌+◌, ◌<◌, ◌≤◌, ◌++◌, List, [], ◌∷◌, length, get_or, set, refl, sym, ap, ◌∙◌, arith, subst, Bool, true, false, cond, Option, Some, None, length-append, length-set, get_or-set_same, get_or-set_other}
-use Rattle.std.specs.Ordering.{nat_cmp, is_eq}
-use Rattle.std.specs.Cmp.{Equal-is}
-use Rattle.std.specs.Cmp.Lexicographic.{slice_cmp}
 use Rattle.std.proofs.lemmas.Bool.{cases_eq, cases_lt, true≢false}
-use Rattle.std.proofs.lemmas.Cmp.{tied_itself, nat_list_cmp_total}
+use Rattle.std.proofs.lemmas.Bool.Decides.{Decides-eqb}
 use Rattle.std.proofs.lemmas.List.{get_or_append_left}
-use Rattle.std.proofs.lemmas.Map.Lookups.{exact_bytes}
+use Rattle.std.proofs.lemmas.Slice.Eq.{slice_eq-Decides}
 use Rattle.std.proofs.Math.Seq.{get_or-append_seam}
-use Rattle.std.specs.Prelude.{IfSome}
+use Rattle.std.specs.Bool.{Decides}
+use Rattle.std.specs.Prelude.{IfSome, nat_eq}
+use lib.Pointwise.{pointwise}
 use Rattle.gs_model.specs.Game.{Game, round_count}
 use Rattle.gs_model.specs.Signals.{public_cards, signal_at}
 use Rattle.gs_tree.specs.Boards.{AreBoards, first_beside, linked}
@@ -18,26 +17,27 @@ use Rattle.gs_tree.proofs.Same.{same_list, other_list}
 -- the last place below n with this key
 abbrev pub last_place : (ℕ → List ℕ) → ℕ → List ℕ → Option ℕ
 last_place key zero b = None
-last_place key (suc n) b = cond (is_eq (slice_cmp nat_cmp (key n) b)) (Some n) (last_place key n b)
+last_place key (suc n) b = cond (pointwise nat_eq (key n) b) (Some n) (last_place key n b)
 
 pub record IsLast (key : ℕ → List ℕ) (n : ℕ) (b : List ℕ) (last : ℕ) : Type 0 where
   pub below : last < n
   pub same : key last ≡ b
   pub none_after : (k : ℕ) → last < k → k < n → key k ≢ b
 
-equal : (x y : List ℕ) → is_eq (slice_cmp nat_cmp x y) ≡ true → x ≡ y
-equal x y e = exact_bytes x y ((Equal-is (slice_cmp nat_cmp x y)).0 e)
+decided : (x y : List ℕ) → Decides (pointwise nat_eq x y) (x ≡ y)
+decided x y = slice_eq-Decides Decides-eqb x y (pointwise nat_eq x y) refl
 
-unequal : (x y : List ℕ) → is_eq (slice_cmp nat_cmp x y) ≡ false → x ≢ y
-unequal x y e same =
-    let P : List ℕ → Type 0 = λ z. is_eq (slice_cmp nat_cmp x z) ≡ false in
-    true≢false (sym ((Equal-is (slice_cmp nat_cmp x x)).1 (tied_itself nat_list_cmp_total x)) ∙ subst P (sym same) e)
+equal : (x y : List ℕ) → pointwise nat_eq x y ≡ true → x ≡ y
+equal x y e = (decided x y).0 e
+
+unequal : (x y : List ℕ) → pointwise nat_eq x y ≡ false → x ≢ y
+unequal x y e same = true≢false (sym ((decided x y).1 same) ∙ e)
 
 pub last_some : (key : ℕ → List ℕ) (n : ℕ) (b : List ℕ) (last : ℕ) → last_place key n b ≡ Some last → IsLast key n b last
 last_some key zero b last e = absurd (cc)
-last_some key (suc n) b last e = go (last_some key n b last) (is_eq (slice_cmp nat_cmp (key n) b)) refl e
+last_some key (suc n) b last e = go (last_some key n b last) (pointwise nat_eq (key n) b) refl e
   where
-    go : (last_place key n b ≡ Some last → IsLast key n b last) → (t : Bool) → is_eq (slice_cmp nat_cmp (key n) b) ≡ t → cond t (Some n) (last_place key n b) ≡ Some last → IsLast key (suc n) b last
+    go : (last_place key n b ≡ Some last → IsLast key n b last) → (t : Bool) → pointwise nat_eq (key n) b ≡ t → cond t (Some n) (last_place key n b) ≡ Some last → IsLast key (suc n) b last
     go rest true h e =
         let here : n ≡ last = cc in
         record { below = omega (arith, here); same = ap key (sym here) ∙ equal (key n) b h; none_after = λ k l m. absurd (omega (arith, here)) }
@@ -53,9 +53,9 @@ last_some key (suc n) b last e = go (last_some key n b last) (is_eq (slice_cmp n
 
 pub last_none : (key : ℕ → List ℕ) (n : ℕ) (b : List ℕ) → last_place key n b ≡ None → (k : ℕ) → k < n → key k ≢ b
 last_none key zero b e k l = absurd (omega arith)
-last_none key (suc n) b e k l = go (last_none key n b) (is_eq (slice_cmp nat_cmp (key n) b)) refl e
+last_none key (suc n) b e k l = go (last_none key n b) (pointwise nat_eq (key n) b) refl e
   where
-    go : (last_place key n b ≡ None → (k : ℕ) → k < n → key k ≢ b) → (t : Bool) → is_eq (slice_cmp nat_cmp (key n) b) ≡ t → cond t (Some n) (last_place key n b) ≡ None → key k ≢ b
+    go : (last_place key n b ≡ None → (k : ℕ) → k < n → key k ≢ b) → (t : Bool) → pointwise nat_eq (key n) b ≡ t → cond t (Some n) (last_place key n b) ≡ None → key k ≢ b
     go rest true h e = absurd (cc)
     go rest false h e = ⊎_elim
         (λ (at : k ≡ n). let P : ℕ → Type 0 = λ j. key j ≢ b in subst P (sym at) (unequal (key n) b h))

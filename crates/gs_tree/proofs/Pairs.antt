@@ -128,21 +128,25 @@ pick h i a (suc m) low l = ⊎_elim
     ap (λ b. cond b (h a) [] ++ flat_map (λ k. cond (eqb k i) (h k) []) (range_with_len (a + 1) m)) f ∙ pick h i (a + 1) m (omega arith) (omega arith))
     (cases_eq a i)
 
--- the pairs of a row are the deals of its signal
-pub row_pairs : (g : Game) (i : ℕ) → i < last_count g → deals_between g (i * last_count g) (i * last_count g + last_count g) ≡ filter (λ (d : Deal). d.one == i) (deals g)
-row_pairs g i l =
+-- the deals of a signal are the pairs of its row that weigh something
+pub row_deals : (g : Game) (i : ℕ) → i < last_count g → filter (λ (d : Deal). d.one == i) (deals g) ≡ filter (λ d. nat_lt 0 d.weight) (map (deal_at g i) (range_with_len 0 (last_count g)))
+row_deals g i l =
     let n = last_count g in
     let keep = λ (l : List Deal). filter (λ d. nat_lt 0 d.weight) l in
     let mine = λ (l : List Deal). filter (λ (d : Deal). d.one == i) l in
     let range = range_with_len 0 n in
     let row = λ (a : ℕ). map (deal_at g a) range in
-    let e : i * n + n - i * n ≡ n = omega arith in
-    let z : i * n + 0 ≡ i * n = omega arith in
-    let here : deals_between g (i * n) (i * n + n) ≡ keep (row i) =
-    ap (λ k. keep (map (pair_at g) (range_with_len (i * n) k))) e ∙ ap (λ k. keep (map (pair_at g) (range_with_len k n))) (sym z) ∙ ap keep (row_of n i (deal_at g) 0 n (omega arith)) in
-    let parts : mine (deals g) ≡ keep (row i) =
     ap (λ l. mine (keep l)) (rows g) ∙ ap mine (filter-flat_map (λ d. nat_lt 0 d.weight) row range)
     ∙ filter-flat_map (λ (d : Deal). d.one == i) (λ a. keep (row a)) range
     ∙ flat_map-same (λ a. mine (keep (row a))) (λ a. cond (eqb a i) (keep (row a)) []) (λ a. keeps g i a range) range
-    ∙ pick (λ a. keep (row a)) i 0 n (omega arith) (omega arith) in
-    here ∙ sym parts
+    ∙ pick (λ a. keep (row a)) i 0 n (omega arith) (omega arith)
+
+-- the pairs of a row are the deals of its signal
+pub row_pairs : (g : Game) (i : ℕ) → i < last_count g → deals_between g (i * last_count g) (i * last_count g + last_count g) ≡ filter (λ (d : Deal). d.one == i) (deals g)
+row_pairs g i l =
+    let n = last_count g in
+    let keep = λ (l : List Deal). filter (λ d. nat_lt 0 d.weight) l in
+    let e : i * n + n - i * n ≡ n = omega arith in
+    let z : i * n + 0 ≡ i * n = omega arith in
+    ap (λ k. keep (map (pair_at g) (range_with_len (i * n) k))) e ∙ ap (λ k. keep (map (pair_at g) (range_with_len k n))) (sym z)
+    ∙ ap keep (row_of n i (deal_at g) 0 n (omega arith)) ∙ sym (row_deals g i l)

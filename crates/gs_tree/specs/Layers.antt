@@ -1,5 +1,5 @@
 -- What a signal adds to its parent.
-use Rattle.std.specs.Prelude.{ℕ, List, [], ◌∷◌, ◌++◌, flat_map}
+use Rattle.std.specs.Prelude.{ℕ, List, [], ◌∷◌}
 use Rattle.gs_model.specs.Signals.{Seen, Signal}
 
 -- what the last round of a signal shows
@@ -11,7 +11,3 @@ last_seen (p ∷ q ∷ s) = last_seen (q ∷ s)
 -- a group shown beside own cards
 abbrev pub showing : List ℕ → List ℕ → Seen
 showing own public = record { own = own; public = public }
-
--- all cards that a signal shows, round by round, the own ones first
-abbrev pub all_cards : Signal → List ℕ
-all_cards s = flat_map (λ p. p.own ++ p.public) s

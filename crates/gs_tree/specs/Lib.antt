@@ -1,4 +1,5 @@
 pub mod Boards
+pub mod Kept
 pub mod Layers
 pub mod Shown
 pub mod Tables

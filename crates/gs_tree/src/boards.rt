@@ -2,16 +2,18 @@
 
 ghost use Rattle.std.specs.Prelude.{◌≡◌, ◌<◌, ◌^◌, ◌++◌, ◌∷◌, [], IfOk, IfSome, OnOk, length};
 ghost use Rattle.gs_game.specs.Games.{game_of};
-ghost use Rattle.gs_game.specs.Limits.{IsDealable, IsWithinLimits};
+ghost use Rattle.gs_game.specs.Limits.{IsWithinLimits};
 ghost use Rattle.gs_model.specs.Game.{round_count};
-ghost use Rattle.gs_model.specs.Signals.{public_cards, signal_at, signals};
+ghost use Rattle.gs_model.specs.Signals.{public_cards, signal_at};
 ghost use Rattle.gs_tree.specs.Boards.{AreBoards, first_beside, linked};
-ghost use Rattle.gs_tree.specs.Tables.{AreTables};
+ghost use Rattle.gs_tree.specs.Kept.{AreHands};
+ghost use Rattle.gs_tree.specs.Walk.{last_count};
 
-use crate::tables::{Tables, push_hand};
+use crate::kept::{Hands, part};
+use gs_card::Card;
 use gs_game::Game;
 use std::alloc::{AllocError, Global};
-use std::collections::BTreeMap;
+use std::collections::HashMap;
 
 /// For each signal of the last round others that show the same public cards.
 #[derive(Drop)]
@@ -22,25 +24,22 @@ pub(crate) struct Boards {
     pub(crate) nexts: Vec<u32>,
 }
 
+/// The numbers of cards.
+fn numbers_of(alloc: Global, cards: &[Card]) -> Result<Vec<u8>, AllocError>
+    ensures { IfOk result (λ v. v.items ≡ cards.now) }
+{
+    cards.iter().map(|card| card.number()).collect(alloc)
+}
+
 /// The public cards that a signal of the last round shows.
-fn board_of(alloc: Global, game: &Game, tables: &Tables, signal: u32) -> Result<Vec<u8>, AllocError>
-    requires tables { AreTables (game_of game.now) tables.now.parents.items tables.now.layers.items }
-    requires all { length tables.now.layers.items ≡ round_count (game_of game.now) }
-    requires signal_in { signal < length (signals (game_of game.now) (round_count (game_of game.now))) }
+fn board_of(alloc: Global, game: &Game, hands: &Hands, signal: u32) -> Result<Vec<u8>, AllocError>
+    requires hands { AreHands (game_of game.now) hands.now.paths.items hands.now.owns.items hands.now.publics.items hands.now.own hands.now.public }
+    requires signal_in { signal < last_count (game_of game.now) }
     ensures { IfOk result (λ v. v.items ≡ public_cards (signal_at (game_of game.now) (round_count (game_of game.now)) signal)) }
 {
-    let mut own = Vec::new(alloc);
-    let mut public = Vec::new(alloc);
-    push_hand(
-        &tables.parents,
-        &tables.layers,
-        tables.layers.len(),
-        signal,
-        game,
-        &mut own,
-        &mut public,
-    )?;
-    public.iter().map(|card| card.number()).collect(alloc)
+    let public = part(&hands.publics, hands.public, signal);
+    let board = numbers_of(alloc, public)?;
+    Ok(board)
 }
 
 /// Adds the next signal, from the last one before it that shows the same public cards.
@@ -65,21 +64,19 @@ fn push_linked(boards: &mut Boards, before: Option<u32>, count: u32) -> Result<(
 }
 
 /// The signals of the last round beside each other.
-pub(crate) fn link_boards(alloc: Global, game: &Game, tables: &Tables) -> Result<Boards, AllocError>
-    requires tables { AreTables (game_of game.now) tables.now.parents.items tables.now.layers.items }
-    requires all { length tables.now.layers.items ≡ round_count (game_of game.now) }
+pub(crate) fn link_boards(alloc: Global, game: &Game, hands: &Hands) -> Result<Boards, AllocError>
+    requires hands { AreHands (game_of game.now) hands.now.paths.items hands.now.owns.items hands.now.publics.items hands.now.own hands.now.public }
     requires limits { IsWithinLimits (game_of game.now) }
     ensures { IfOk result (λ b. AreBoards (game_of game.now) b.firsts.items b.nexts.items) }
 {
-    let layer = &tables.layers[tables.layers.len() - 1];
-    let count = layer.shown.len() as u32;
+    let count = hands.paths.len() as u32;
     let mut boards = Boards {
-        firsts: Vec::with_capacity(alloc, layer.shown.len())?,
-        nexts: Vec::with_capacity(alloc, layer.shown.len())?,
+        firsts: Vec::with_capacity(alloc, hands.paths.len())?,
+        nexts: Vec::with_capacity(alloc, hands.paths.len())?,
     };
-    let mut seen = BTreeMap::new(alloc);
+    let mut seen = HashMap::new(alloc);
     for signal in 0..count {
-        let board = board_of(alloc, game, tables, signal)?;
+        let board = board_of(alloc, game, hands, signal)?;
         let before = seen.insert(board, signal)?;
         push_linked(&mut boards, before, count)?;
     }

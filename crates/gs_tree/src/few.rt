@@ -13,7 +13,7 @@ pub(crate) struct FewCards {
 }
 
 impl FewCards {
-    ghost use Rattle.std.specs.Prelude.{◌≡◌, ◌≤◌, length};
+    ghost use Rattle.std.specs.Prelude.{◌≡◌, ◌≤◌, ◌∷◌, [], length};
     ghost use Rattle.gs_tree.specs.Shown.{cards_of};
 
     /// The cards of a small group.
@@ -27,6 +27,16 @@ impl FewCards {
         FewCards {
             cards,
             len: from.len() as u8,
+        }
+    }
+
+    /// One card.
+    pub(crate) fn one(card: Card) -> FewCards
+        ensures { cards_of result ≡ card ∷ [] }
+    {
+        FewCards {
+            cards: [card, Card::new(0), Card::new(0)],
+            len: 1,
         }
     }
 

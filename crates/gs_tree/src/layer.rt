@@ -4,7 +4,7 @@ ghost use Rattle.std.specs.Prelude.{◌≡◌, ◌≤◌, ◌<◌, ◌++◌, ◌
 ghost use Rattle.gs_card.specs.Decks.{kinds};
 ghost use Rattle.gs_tree.specs.Shown.{cards_of, seen_of};
 ghost use Rattle.gs_model.specs.Cards.{left_after};
-ghost use Rattle.gs_model.specs.Cards.{groups, ways};
+ghost use Rattle.gs_model.specs.Cards.{groups, groups_above, groups_with, ways};
 ghost use Rattle.gs_game.specs.Games.{round_of};
 ghost use Rattle.gs_model.specs.Signals.{showings, edge};
 ghost use Rattle.gs_tree.specs.Layers.{showing};
@@ -68,6 +68,54 @@ pub(crate) struct Layer {
     pub(crate) firsts: Vec<u32>,
 }
 
+/// Adds what a signal shows that has these own cards and a public card of this kind, where the rest allows it.
+fn push_card(
+    rest: &[u8],
+    kind: usize,
+    own: &FewCards,
+    own_ways: u64,
+    layer: &mut Layer,
+) -> Result<(), AllocError>
+    requires kind_in { kind < length rest.now }
+    requires few_kinds { length rest.now ≤ 52 }
+    requires few_copies { All (λ n. n ≤ 9) rest.now }
+    requires few_ways { own_ways ≤ 729 }
+    ensures shown { OnOk result (map seen_of layer.new.shown.items ≡ map seen_of layer.old.shown.items ++ map (showing (cards_of own.now)) (groups_with (groups_above 0) rest.now kind)) }
+    ensures firsts { layer.new.firsts.items ≡ layer.old.firsts.items }
+    ensures edges { OnOk result (layer.new.edges.items ≡ layer.old.edges.items ++ map (λ g. own_ways * ways rest.now g) (groups_with (groups_above 0) rest.now kind)) }
+{
+    let copies = rest[kind];
+    if copies == 0 {
+        return Ok(());
+    }
+    layer.shown.push(Shown {
+        own: *own,
+        public: FewCards::one(Card::new(kind as u8)),
+    })?;
+    layer.edges.push(own_ways * u64::from(copies))?;
+    Ok(())
+}
+
+/// Adds what signals show that have these own cards and one public card, in order.
+fn push_cards(
+    rest: &[u8],
+    own: &FewCards,
+    own_ways: u64,
+    layer: &mut Layer,
+) -> Result<(), AllocError>
+    requires few_kinds { length rest.now ≤ 52 }
+    requires few_copies { All (λ n. n ≤ 9) rest.now }
+    requires few_ways { own_ways ≤ 729 }
+    ensures shown { OnOk result (map seen_of layer.new.shown.items ≡ map seen_of layer.old.shown.items ++ map (showing (cards_of own.now)) (groups rest.now 1)) }
+    ensures firsts { layer.new.firsts.items ≡ layer.old.firsts.items }
+    ensures edges { OnOk result (layer.new.edges.items ≡ layer.old.edges.items ++ map (λ g. own_ways * ways rest.now g) (groups rest.now 1)) }
+{
+    for kind in 0..rest.len() {
+        push_card(rest, kind, own, own_ways, layer)?;
+    }
+    Ok(())
+}
+
 /// Adds what signals show that have these own cards: the public groups that the rest allows, in order.
 fn push_publics(
     alloc: Global,
@@ -86,6 +134,10 @@ fn push_publics(
     ensures firsts { layer.new.firsts.items ≡ layer.old.firsts.items }
     ensures edges { OnOk result (layer.new.edges.items ≡ layer.old.edges.items ++ map (λ g. own_ways * ways rest.now g) (groups rest.now size)) }
 {
+    let _kinds = deck.kinds();
+    if size == 1 {
+        return push_cards(rest, &own, own_ways, layer);
+    }
     for public in &deck.groups(alloc, rest, size)? {
         layer.shown.push(Shown {
             own,

@@ -5,6 +5,7 @@ mod boards;
 mod deal;
 mod deals;
 mod few;
+mod kept;
 mod layer;
 mod reading;
 mod signals;

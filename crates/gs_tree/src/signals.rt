@@ -9,15 +9,17 @@ ghost use Rattle.gs_model.specs.Signals.{parents as parents_in, signals};
 ghost use Rattle.gs_model.specs.ViewTree.{signal_strength};
 ghost use Rattle.gs_game.specs.Games.{game_of};
 ghost use Rattle.gs_tree.specs.Boards.{AreBoards};
+ghost use Rattle.gs_tree.specs.Kept.{AreHands};
 ghost use Rattle.gs_tree.specs.Tables.{AreTables};
 
 use crate::boards::{Boards, link_boards};
 use crate::deal::Deal;
 use crate::deals::Deals;
+use crate::kept::{Hands, gather, part, strengths};
 use crate::layer::Layer;
 use crate::reading::is_text_of;
-use crate::tables::{Tables, build, own_ways_of, path_of, push_signal, strengths};
-use gs_card::Deck;
+use crate::tables::{Tables, build, push_signal, ways_beside};
+use gs_card::{Card, Deck};
 use gs_game::ValidGame;
 use gs_rank::outcome;
 use std::alloc::{AllocError, Global};
@@ -34,9 +36,11 @@ pub struct Signals<'g> {
     // of the hands of the last round's signals
     strengths: Vec<u32>,
     boards: Boards,
+    hands: Hands,
     ghost tables: { AreTables (game_of game.now.game) parents.items layers.items },
     ghost ranked: { strengths.items ≡ map (signal_strength (game_of game.now.game)) (signals (game_of game.now.game) (round_count (game_of game.now.game))) },
     ghost beside: { AreBoards (game_of game.now.game) boards.firsts.items boards.nexts.items },
+    ghost dealt: { AreHands (game_of game.now.game) hands.paths.items hands.owns.items hands.publics.items hands.own hands.public },
     ghost strong: { All (IsStrength (ranking_of game.now.game.ranking)) strengths.items },
     ghost counted: { length layers.items ≡ round_count (game_of game.now.game) },
 }
@@ -45,11 +49,12 @@ impl<'g> Signals<'g> {
     ghost use Rattle.std.specs.Prelude.{◌≡◌, ◌≢◌, ◌≤◌, ◌<◌, ◌+◌, ◌*◌, ◌==◌, ℕ, true, IfOk, IfSome, filter, map, length, string_bytes};
     ghost use Rattle.std.specs.List.{range_with_len};
     ghost use Rattle.gs_model.specs.Game.{round_count};
-    ghost use Rattle.gs_model.specs.Signals.{signals, parents as parents_in, signal_at, child_count, first_child, last_edge};
+    ghost use Rattle.gs_model.specs.Signals.{signals, parents as parents_in, signal_at, child_count, first_child, last_edge, left_by, own_cards, public_cards};
     ghost use Rattle.gs_model.specs.ViewTree.{signal_strength};
+    ghost use Rattle.gs_tree.specs.Boards.{AreBoards};
     ghost use Rattle.gs_tree.specs.Trees.{rules_of, deck_of};
     ghost use Rattle.gs_card.specs.Decks.{IsDeck};
-    ghost use Rattle.gs_model.specs.Deals.{Deal as Dealt, deals, path_weight};
+    ghost use Rattle.gs_model.specs.Deals.{Deal as Dealt, deals, own_ways, path_weight};
     ghost use Rattle.gs_tree.specs.Walk.{deal_at, last_count, shows_same, IsNextPair, IsRowStart};
     ghost use Rattle.gs_tree.specs.Texts.{signal_text};
 
@@ -58,8 +63,9 @@ impl<'g> Signals<'g> {
         ensures { IfOk result (λ s. s.game.now ≡ game.entry.now) }
     {
         let tables = build(alloc, game.game())?;
-        let strengths = strengths(alloc, game.game(), &tables)?;
-        let boards = link_boards(alloc, game.game(), &tables)?;
+        let hands = gather(alloc, game.game(), &tables)?;
+        let strengths = strengths(alloc, game.game(), &hands)?;
+        let boards = link_boards(alloc, game.game(), &hands)?;
         let Tables { parents, layers } = tables;
         Ok(Signals {
             game,
@@ -67,6 +73,7 @@ impl<'g> Signals<'g> {
             layers,
             strengths,
             boards,
+            hands,
         })
     }
 
@@ -141,13 +148,7 @@ impl<'g> Signals<'g> {
         ensures value { result ≡ path_weight (rules_of self.now).copies (signal_at (rules_of self.now) (round_count (rules_of self.now)) signal) }
         ensures some { 0 < result }
     {
-        path_of(
-            self.game.game(),
-            &self.parents,
-            &self.layers,
-            self.layers.len(),
-            signal,
-        )
+        self.hands.paths[signal as usize]
     }
 
     /// The strength of the hand that a last-round signal holds: more wins.
@@ -157,6 +158,28 @@ impl<'g> Signals<'g> {
         ensures within { IsStrength (ranking_of self.now.game.now.game.ranking) result }
     {
         self.strengths[signal as usize]
+    }
+
+    /// The strengths of the hands of all last-round signals.
+    pub fn strengths(&self) -> &[u32]
+        ensures { result.now ≡ map (signal_strength (rules_of self.now)) (signals (rules_of self.now) (round_count (rules_of self.now))) }
+    {
+        &self.strengths
+    }
+
+    /// For each signal of the last round the first one that shows the same public cards, and the next one that does, or the number of all
+    /// signals where there is none.
+    pub fn boards(&self) -> (&[u32], &[u32])
+        ensures { AreBoards (rules_of self.now) result.0.now result.1.now }
+    {
+        (&self.boards.firsts, &self.boards.nexts)
+    }
+
+    /// How many own cards each signal of the last round shows.
+    pub fn own_count(&self) -> usize
+        ensures { (i : ℕ) → i < last_count (rules_of self.now) → length (own_cards (signal_at (rules_of self.now) (round_count (rules_of self.now)) i)) ≡ result }
+    {
+        self.hands.own
     }
 
     /// The text of a signal: a part for each round, joined by `/`, the own cards and then `+` and the public cards.
@@ -234,6 +257,42 @@ impl<'g> Signals<'g> {
         }
     }
 
+    // The own cards of a signal of the last round.
+    fn own(&self, signal: u32) -> &[Card]
+        requires { signal < last_count (rules_of self.now) }
+        ensures { result.now ≡ own_cards (signal_at (rules_of self.now) (round_count (rules_of self.now)) signal) }
+    {
+        part(&self.hands.owns, self.hands.own, signal)
+    }
+
+    // The public cards of a signal of the last round.
+    fn public(&self, signal: u32) -> &[Card]
+        requires { signal < last_count (rules_of self.now) }
+        ensures { result.now ≡ public_cards (signal_at (rules_of self.now) (round_count (rules_of self.now)) signal) }
+    {
+        part(&self.hands.publics, self.hands.public, signal)
+    }
+
+    // The ways of taking the own groups of a signal of the last round from the copies that another one leaves.
+    fn own_ways(&self, one: u32, two: u32) -> u64
+        requires one_in { one < last_count (rules_of self.now) }
+        requires two_in { two < last_count (rules_of self.now) }
+        ensures { result ≡ own_ways (left_by (rules_of self.now).copies (signal_at (rules_of self.now) (round_count (rules_of self.now)) one)) (signal_at (rules_of self.now) (round_count (rules_of self.now)) two) }
+    {
+        let deck = self.deck();
+        let held = self.own(one);
+        let board = self.public(one);
+        let own = self.own(two);
+        let mut ways = 1u64;
+        let mut start = 0;
+        for round in &self.game.game().rounds {
+            let end = start + usize::from(round.private);
+            ways *= ways_beside(deck, held, board, &own[..start], &own[start..end]);
+            start = end;
+        }
+        ways
+    }
+
     // The ways to deal these two signals of the last round.
     fn weight(&self, one: u32, two: u32) -> u64
         requires one_in { one < last_count (rules_of self.now) }
@@ -241,10 +300,7 @@ impl<'g> Signals<'g> {
         requires same { shows_same (rules_of self.now) one two ≡ true }
         ensures { result ≡ (deal_at (rules_of self.now) one two).weight }
     {
-        let game = self.game.game();
-        let round = self.layers.len();
-        let shown = path_of(game, &self.parents, &self.layers, round, one);
-        shown * own_ways_of(game, &self.parents, &self.layers, one, round, two)
+        self.path_weight(one) * self.own_ways(one, two)
     }
 
     // The first signal of the last round that shows the same public cards; 0 behind the last one.

@@ -1,26 +1,21 @@
 //! The tables of all signals of a game.
 
-ghost use Rattle.std.specs.Prelude.{◌≡◌, ◌≤◌, ◌<◌, ◌+◌, ℕ, suc, ◌++◌, ◌^◌, ◌*◌, ◌==◌, count_by, All, IfOk, OnOk, length, map, string_bytes};
+ghost use Rattle.std.specs.Prelude.{◌≡◌, ◌≤◌, ◌<◌, ◌+◌, ℕ, suc, ◌++◌, ◌^◌, ◌*◌, ◌/◌, ◌==◌, count_by, All, IfOk, OnOk, length, map, string_bytes};
 ghost use Rattle.gs_game.specs.Games.{game_of, round_of};
 ghost use Rattle.gs_model.specs.Game.{round_at, round_count};
 ghost use Rattle.gs_model.specs.Signals.{signals, signal_at, left_by};
 ghost use Rattle.gs_model.specs.Signals.{parents as parents_in, own_cards, public_cards};
 ghost use Rattle.gs_game.specs.Limits.{IsDealable, IsWithinLimits};
 ghost use Rattle.gs_card.specs.Decks.{kinds};
-ghost use Rattle.gs_card.specs.Rankings.{ranking_of};
-ghost use Rattle.gs_rank.specs.Hands.{IsStrength};
 ghost use Rattle.gs_model.specs.Cards.{ways, left_after};
-ghost use Rattle.gs_model.specs.Deals.{path_weight, own_ways};
-ghost use Rattle.gs_model.specs.ViewTree.{signal_strength};
-ghost use Rattle.gs_tree.specs.Layers.{all_cards};
+ghost use Rattle.gs_model.specs.Deals.{path_weight};
 ghost use Rattle.gs_tree.specs.Texts.{signal_text};
 ghost use Rattle.gs_tree.specs.Tables.{AreTables, IsLayer};
 
 use crate::layer::{Layer, left_without, push_showings};
 use crate::texts::push_seen;
-use gs_card::Card;
+use gs_card::{Card, Deck};
 use gs_game::{Game, Round};
-use gs_rank::strength;
 use std::alloc::{AllocError, Global};
 
 /// The copies left once all that a signal shows is taken. Round 0 has the empty signal.
@@ -177,54 +172,6 @@ pub(crate) fn push_hand(
     Ok(())
 }
 
-/// The strength of the hand that a last-round signal holds.
-fn strength_of(
-    alloc: Global,
-    parents: &[Vec<u32>],
-    layers: &[Layer],
-    game: &Game,
-    signal: u32,
-) -> Result<u32, AllocError>
-    requires tables { AreTables (game_of game.now) parents.now layers.now }
-    requires all { length layers.now ≡ round_count (game_of game.now) }
-    requires dealable { IsDealable (game_of game.now) }
-    requires signal_in { signal < length (signals (game_of game.now) (round_count (game_of game.now))) }
-    ensures value { IfOk result (λ n. n ≡ signal_strength (game_of game.now) (signal_at (game_of game.now) (round_count (game_of game.now)) signal)) }
-    ensures within { IfOk result (IsStrength (ranking_of game.now.ranking)) }
-{
-    let _kinds = game.deck.kinds();
-    let mut own = Vec::new(alloc);
-    let mut public = Vec::new(alloc);
-    push_hand(
-        parents,
-        layers,
-        layers.len(),
-        signal,
-        game,
-        &mut own,
-        &mut public,
-    )?;
-    Ok(strength(&game.deck, game.ranking, &own, &public))
-}
-
-/// The strengths of the hands of all last-round signals.
-pub(crate) fn strengths(alloc: Global, game: &Game, tables: &Tables) -> Result<Vec<u32>, AllocError>
-    requires tables { AreTables (game_of game.now) tables.now.parents.items tables.now.layers.items }
-    requires all { length tables.now.layers.items ≡ round_count (game_of game.now) }
-    requires limits { IsWithinLimits (game_of game.now) }
-    requires dealable { IsDealable (game_of game.now) }
-    ensures value { IfOk result (λ v. v.items ≡ map (signal_strength (game_of game.now)) (signals (game_of game.now) (round_count (game_of game.now)))) }
-    ensures within { IfOk result (λ v. All (IsStrength (ranking_of game.now.ranking)) v.items) }
-{
-    let layer = &tables.layers[tables.layers.len() - 1];
-    let count = layer.shown.len() as u32;
-    let mut found = Vec::with_capacity(alloc, layer.shown.len())?;
-    for signal in 0..count {
-        found.push(strength_of(alloc, &tables.parents, &tables.layers, game, signal)?)?;
-    }
-    Ok(found)
-}
-
 /// The ways to take all that a signal shows: the product of the edge weights on the way to it.
 pub(crate) fn path_of(
     game: &Game,
@@ -263,122 +210,41 @@ fn times(cards: &[Card], card: Card) -> u64
         .count() as u64
 }
 
-/// How often the card stands among all that a signal shows.
-fn times_shown(
-    game: &Game,
-    parents: &[Vec<u32>],
-    layers: &[Layer],
-    round: usize,
-    signal: u32,
-    card: Card,
-) -> u64
-    requires tables { AreTables (game_of game.now) parents.now layers.now }
-    requires round_in { round ≤ length layers.now }
-    requires few { length layers.now ≤ 4 }
-    requires signal_in { signal < length (signals (game_of game.now) round) }
-    ensures value { result ≡ count_by (λ other. other == card) (all_cards (signal_at (game_of game.now) round signal)) }
-    ensures small { result ≤ 6 * round }
+/// A product shared among the orders of a card that came so often before.
+fn shared(product: u64, again: u64) -> u64
+    requires few { again ≤ 3 }
+    ensures { result ≡ product / (again + 1) }
 {
-    if round == 0 {
-        return 0;
+    if again == 0 {
+        product
+    } else {
+        product / (again + 1)
     }
-    let layer = &layers[round - 1];
-    let shown = &layer.shown[signal as usize];
-    let here = times(shown.own.cards(), card) + times(shown.public.cards(), card);
-    let parent = parents[round - 1][signal as usize];
-    times_shown(game, parents, layers, round - 1, parent, card) + here
 }
 
-/// How often the card stands among the own cards of a signal.
-fn times_own(
-    game: &Game,
-    parents: &[Vec<u32>],
-    layers: &[Layer],
-    round: usize,
-    signal: u32,
-    card: Card,
-) -> u64
-    requires tables { AreTables (game_of game.now) parents.now layers.now }
-    requires round_in { round ≤ length layers.now }
-    requires few { length layers.now ≤ 4 }
-    requires signal_in { signal < length (signals (game_of game.now) round) }
-    ensures value { result ≡ count_by (λ other. other == card) (own_cards (signal_at (game_of game.now) round signal)) }
-    ensures small { result ≤ 3 * round }
-{
-    if round == 0 {
-        return 0;
-    }
-    let layer = &layers[round - 1];
-    let shown = &layer.shown[signal as usize];
-    let here = times(shown.own.cards(), card);
-    let parent = parents[round - 1][signal as usize];
-    times_own(game, parents, layers, round - 1, parent, card) + here
-}
-
-/// The ways of taking an own group from the copies that another player's last-round signal and the own cards of a signal leave.
-fn ways_beside(
-    game: &Game,
-    parents: &[Vec<u32>],
-    layers: &[Layer],
-    one: u32,
-    round: usize,
-    before: u32,
+/// The ways of taking an own group from the copies that another player's own cards, the public cards and earlier own cards leave.
+pub(crate) fn ways_beside(
+    deck: &Deck,
+    held: &[Card],
+    board: &[Card],
+    before: &[Card],
     own: &[Card],
 ) -> u64
-    requires tables { AreTables (game_of game.now) parents.now layers.now }
-    requires few { length layers.now ≤ 4 }
-    requires one_in { one < length (signals (game_of game.now) (length layers.now)) }
-    requires round_in { round ≤ length layers.now }
-    requires before_in { before < length (signals (game_of game.now) round) }
-    requires own_in { All (λ card. card < kinds game.now.deck) own.now }
+    requires own_in { All (λ card. card < kinds deck.now) own.now }
     requires own_few { length own.now ≤ 3 }
-    ensures value { result ≡ ways (left_after (left_by (game_of game.now).copies (signal_at (game_of game.now) (length layers.now) one)) (own_cards (signal_at (game_of game.now) round before))) own.now }
+    ensures value { result ≡ ways (left_after (left_after (left_after deck.now.counts held.now) board.now) before.now) own.now }
     ensures small { result ≤ 729 }
 {
-    let _kinds = game.deck.kinds();
+    let _kinds = deck.kinds();
     let mut ways: u64 = 1;
     for (i, card) in own.iter().enumerate() {
-        let shown = times_shown(game, parents, layers, layers.len(), one, *card);
-        let taken = shown + times_own(game, parents, layers, round, before, *card);
         let again = times(&own[..i], *card);
-        let copies = u64::from(game.deck.count(*card));
-        ways = ways * copies.saturating_sub(taken).saturating_sub(again) / (again + 1);
+        let rest = u64::from(deck.count(*card))
+            .saturating_sub(times(held, *card))
+            .saturating_sub(times(board, *card))
+            .saturating_sub(times(before, *card))
+            .saturating_sub(again);
+        ways = shared(ways * rest, again);
     }
     ways
-}
-
-/// The ways of taking the own groups of a signal from the copies that another player's last-round signal leaves.
-pub(crate) fn own_ways_of(
-    game: &Game,
-    parents: &[Vec<u32>],
-    layers: &[Layer],
-    one: u32,
-    round: usize,
-    two: u32,
-) -> u64
-    requires tables { AreTables (game_of game.now) parents.now layers.now }
-    requires few { length layers.now ≤ 4 }
-    requires one_in { one < length (signals (game_of game.now) (length layers.now)) }
-    requires round_in { round ≤ length layers.now }
-    requires two_in { two < length (signals (game_of game.now) round) }
-    ensures value { result ≡ own_ways (left_by (game_of game.now).copies (signal_at (game_of game.now) (length layers.now) one)) (signal_at (game_of game.now) round two) }
-    ensures small { result ≤ 59049 ^ round }
-{
-    if round == 0 {
-        return 1;
-    }
-    let _kinds = game.deck.kinds();
-    let layer = &layers[round - 1];
-    let shown = &layer.shown[two as usize];
-    let parent = parents[round - 1][two as usize];
-    let here = ways_beside(
-        game,
-        parents,
-        layers,
-        one,
-        round - 1,
-        parent,
-        shown.own.cards(),
-    );
-    own_ways_of(game, parents, layers, one, round - 1, parent) * here
 }

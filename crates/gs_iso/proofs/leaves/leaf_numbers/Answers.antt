@@ -1,4 +1,6 @@
-use Rattle.std.proofs.Common.{◌≡◌, ◌+◌, ◌∷◌, [], ◌↔◌, ◌∙◌, ℕ, ℤ, List, ap, arith, length, length-append, subst, sym}
+use Rattle.std.proofs.Common.{◌≡◌, ◌<◌, ◌+◌, get_or, ◌∷◌, [], ◌↔◌, ◌∙◌, ℕ, ℤ, List, ap, arith, length, length-append, subst, sym}
+use Rattle.std.proofs.lemmas.List.{get_or_read}
+use Rattle.gs_alike.specs.Alike.{AreAlike}
 use Rattle.gs_model.specs.Game.{round_count}
 use Rattle.gs_model.specs.Isomorphism.{Isomorphic}
 use Rattle.gs_model.specs.Signals.{signal_at, signals}
@@ -9,7 +11,8 @@ use Rattle.gs_tree.specs.Trees.{rules_of}
 use Rattle.gs_iso.specs.Numbers.{LeadToKeys}
 use Rattle.gs_iso.specs.Orders.{leaf_eq, leaf_lt}
 use Rattle.gs_iso.proofs.Exact.{leaf_exact, leaf_order, leaf_ranks}
-use Rattle.gs_iso.proofs.Numbered.{leads_more, numbers_are}
+use Rattle.gs_iso.proofs.Alike.{signature_like}
+use Rattle.gs_iso.proofs.Numbered.{leads_again, leads_more, numbers_are}
 use Rattle.gs_iso.proofs.Rounds.{isomorphic_last}
 use Rattle.gs_iso.proofs.leaves.leaf_numbers.Goals as goal
 
@@ -21,11 +24,35 @@ loop-signal-preserved c =
     let long : length c.loop-signal.numbers.items ≡ c.loop-signal.signal = c.loop-signal.invariant.long in
     record {
       few = omega (arith, c.loop-signal.invariant.few, n.few);
-      long = ap length c.in_ok-push.ensures.items ∙ length-append c.loop-signal.numbers.items (c.in_ok-number.number ∷ []) ∙ ap (λ k. k + 1) long;
+      long = ap length c.in_ok-push-2.ensures.items ∙ length-append c.loop-signal.numbers.items (c.in_ok-number.number ∷ []) ∙ ap (λ k. k + 1) long;
       distinct = n.unique;
-      leads = subst (LeadToKeys sign c.number_of.new.keys.keys) (sym c.in_ok-push.ensures.items)
+      leads = subst (LeadToKeys sign c.number_of.new.keys.keys) (sym c.in_ok-push-2.ensures.items)
           (leads_more leaf_eq leaf_exact sign c.loop-signal.seen.keys c.number_of.new.keys.keys c.loop-signal.numbers.items c.in_ok-signature.signature n.stored.0 c.in_ok-number.number
           c.loop-signal.invariant.leads n.grown n.some n.stored.1 n.stored.2 (subst (λ i. sign i c.in_ok-signature.signature.items) (sym long) c.in_ok-signature.ensures));
+    }
+
+pub loop-signal-preserved-then-first-signal : goal.loop-signal-preserved-then-first-signal
+loop-signal-preserved-then-first-signal c =
+    let g = rules_of c.args.signals.now in
+    let sign : ℕ → List (ℕ × ℤ) → Type 0 = λ i a. IsSignature leaf_lt (leaves g (signal_at g (round_count g) i)) a in
+    let long : length c.loop-signal.numbers.items ≡ c.loop-signal.signal = c.loop-signal.invariant.long in
+    let count : c.count-count.result ≡ length (signals g (round_count g)) = c.count-count.ensures.value ∙ ap (λ n. length (signals g n)) c.rounds.ensures.value in
+    let stands = c.in_ok-firsts.ensures in
+    let firsts = c.in_ok-firsts.firsts.items in
+    let signal = c.loop-signal.signal in
+    let here : signal < length (signals g (round_count g)) = omega (arith, c.loop-signal-test.true, count) in
+    let first : c.index-first.result.now ≡ get_or firsts signal 0 = get_or_read firsts signal c.index-first.result.now (omega (arith, here, stands.long)) c.index-first.ensures 0 in
+    let j = c.index-first.result.now in
+    let lj : j < length c.loop-signal.numbers.items = omega (arith, c.if-first-signal.true, long) in
+    let like : AreAlike g c.deref.result.now signal j = subst (λ k. AreAlike g c.deref.result.now signal k) (sym first) (stands.alike signal here) in
+    record {
+      few = omega (arith, c.loop-signal.invariant.few);
+      long = ap length c.in_ok-push.ensures.items ∙ length-append c.loop-signal.numbers.items (c.index-number.result.now ∷ []) ∙ ap (λ k. k + 1) long;
+      distinct = c.loop-signal.invariant.distinct;
+      leads = subst (LeadToKeys sign c.loop-signal.seen.keys) (sym c.in_ok-push.ensures.items)
+          (leads_again leaf_eq leaf_exact sign c.loop-signal.seen.keys c.loop-signal.numbers.items j c.index-number.result.now c.loop-signal.invariant.leads lj
+          (get_or_read c.loop-signal.numbers.items j c.index-number.result.now lj c.index-number.ensures 0)
+          (λ a h. subst (λ i. sign i a) (sym long) (signature_like g c.deref.result.now signal j here (omega (arith, c.if-first-signal.true, here)) like a h)));
     }
 
 pub returns : goal.returns

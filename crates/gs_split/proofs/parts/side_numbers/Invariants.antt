@@ -13,5 +13,5 @@ invariant-loop-signal l = record {
   few : index_set_len l.seen ≤ l.signal;
   long : length l.numbers.items ≡ l.signal;
   distinct : IsDistinct (same_items part_eq part_decides) l.seen.keys;
-  leads : LeadToKeys (λ i a. AreClassSums (frame_of (rules_of l.signals)) l.classes.lists l.side l.round i a) l.seen.keys l.numbers.items;
+  leads : LeadToKeys (λ i a. AreClassSums (frame_of (rules_of l.signals)) l.classes.lists l.side l.round l.settled.items i a) l.seen.keys l.numbers.items;
 }

@@ -1,7 +1,7 @@
-use Rattle.std.proofs.Common.{◌≡◌, ◌+◌, ◌-◌, ◌<◌, ◌++◌, ◌∷◌, ℕ, suc, List, [], ap, arith, get_or, length, length-append, subst, sym, ◌∙◌, Vec, Global}
+use Rattle.std.proofs.Common.{◌≡◌, ◌+◌, ◌-◌, ◌<◌, ◌≤◌, ◌++◌, ◌∷◌, ℕ, true, false, suc, List, [], ap, arith, get_or, length, length-append, subst, sym, ◌∙◌, Vec, Global}
 use Rattle.std.proofs.lemmas.List.{map-append}
 use Rattle.gs_model.specs.Classes.{ClassLists, list_of}
-use Rattle.gs_model.specs.Frame.{frame_of, signal_count}
+use Rattle.gs_model.specs.Frame.{frame_of, last_round, signal_count}
 use Rattle.gs_filter.specs.Rows.{rows}
 use Rattle.gs_tree.specs.Trees.{rules_of}
 use Rattle.gs_lossless.proofs.Descent.{last_is}
@@ -25,6 +25,17 @@ round_turn-requires-clause-above c = λ more.
     let is = c.last_classes-above.ensures ∙ ap (λ (vs : List (Vec ℕ Global)). classes_above (rows vs)) c.deref.ensures.value in
     let n : length new ≡ c.loop-done.done + 1 - 1 = omega (arith, c.loop-done.invariant.long) in
     ap (λ (l : List ℕ). length l) is ∙ above_long f c.args.classes.now.lists new c.loop-done.invariant.each (omega (arith, more, c.loop-done.invariant.long)) ∙ ap (signal_count f) n
+
+pub bounds-known-from : goal.bounds-known-from
+bounds-known-from c =
+    let l = last_is (rules_of c.args.signals.now) in
+    omega (arith, c.from-in-loop-done.ensures, c.requires.known.long, c.loop-done-test.true, c.rounds-done-end.ensures.value, l)
+
+pub round_turn-requires-clause-known : goal.round_turn-requires-clause-known
+round_turn-requires-clause-known c =
+    let lt : c.loop-done.done + 1 ≤ last_round (frame_of (rules_of c.args.signals.now)) = omega (arith, c.loop-done-test.true, c.rounds-done-end.ensures.value, last_is (rules_of c.args.signals.now)) in
+    let at : c.from-in-loop-done.result ≡ c.loop-done.done + 1 - 1 = omega (arith, c.from-in-loop-done.ensures) in
+    λ marked s t one. c.requires.known.same (c.loop-done.done + 1) s t (omega arith) lt (subst (λ k. get_or c.args.known.now k false ≡ true) at marked) one
 
 pub loop-done-preserved : goal.loop-done-preserved
 loop-done-preserved c =

@@ -1,0 +1,53 @@
+use Rattle.std.proofs.Common.{◌≡◌, ◌+◌, ◌*◌, ◌≤◌, ℕ, List, length, drop, take, sym, ap, ◌∙◌, subst}
+use Rattle.gs_card.specs.Decks.{DeckValue}
+use Rattle.gs_card.specs.Rankings.{ranking_of}
+use Rattle.gs_game.specs.Games.{game_of}
+use Rattle.gs_model.specs.Game.{Game, round_count}
+use Rattle.gs_model.specs.Outcome.{strength}
+use Rattle.gs_model.specs.Signals.{signal_at, own_cards, public_cards}
+use Rattle.gs_rank.specs.Hands.{IsHand}
+use Rattle.gs_tree.proofs.Hands.{is_hand}
+use Rattle.gs_tree.proofs.Parts.{own_part, own_room, public_part, public_room}
+use Rattle.gs_tree.proofs.kept.strength_of.Goals as goal
+
+pub part-own-requires : goal.part-own-requires
+part-own-requires c =
+    let h = c.args.hands.now in
+    let P : List ℕ → Type 0 = λ x. c.args.signal * h.own + h.own ≤ length x in
+    subst P (sym c.deref.ensures.value) (own_room (game_of c.args.game.now) h.paths.items h.owns.items h.publics.items h.own h.public c.requires.hands c.args.signal c.requires.signal_in)
+
+pub part-public-requires : goal.part-public-requires
+part-public-requires c =
+    let h = c.args.hands.now in
+    let P : List ℕ → Type 0 = λ x. c.args.signal * h.public + h.public ≤ length x in
+    subst P (sym c.deref-2.ensures.value) (public_room (game_of c.args.game.now) h.paths.items h.owns.items h.publics.items h.own h.public c.requires.hands c.args.signal c.requires.signal_in)
+
+pub strength-requires : goal.strength-requires
+strength-requires c =
+    let g : Game = game_of c.args.game.now in
+    let d : DeckValue = c.args.game.now.deck in
+    let k = c.args.hands.now in
+    let h = is_hand g d c.args.signal c.requires.dealable c.kinds-kinds.ensures.deck.counted c.requires.signal_in in
+    let own : c.part-own.result.now ≡ own_cards (signal_at g (round_count g) c.args.signal) =
+    c.part-own.ensures ∙ ap (λ (x : List ℕ). take k.own (drop (c.args.signal * k.own) x)) c.deref.ensures.value
+    ∙ own_part g k.paths.items k.owns.items k.publics.items k.own k.public c.requires.hands c.args.signal c.requires.signal_in in
+    let public : c.part-public.result.now ≡ public_cards (signal_at g (round_count g) c.args.signal) =
+    c.part-public.ensures ∙ ap (λ (x : List ℕ). take k.public (drop (c.args.signal * k.public) x)) c.deref-2.ensures.value
+    ∙ public_part g k.paths.items k.owns.items k.publics.items k.own k.public c.requires.hands c.args.signal c.requires.signal_in in
+    let P : List ℕ → Type 0 = λ x. IsHand d (ranking_of c.args.game.now.ranking) x (public_cards (signal_at g (round_count g) c.args.signal)) in
+    let Q : List ℕ → Type 0 = λ x. IsHand d (ranking_of c.args.game.now.ranking) c.part-own.result.now x in
+    subst Q (sym public) (subst P (sym own) h)
+
+pub returns-clause-value : goal.returns-clause-value
+returns-clause-value c =
+    let g : Game = game_of c.args.game.now in
+    let k = c.args.hands.now in
+    let own : c.part-own.result.now ≡ own_cards (signal_at g (round_count g) c.args.signal) =
+    c.part-own.ensures ∙ ap (λ (x : List ℕ). take k.own (drop (c.args.signal * k.own) x)) c.deref.ensures.value
+    ∙ own_part g k.paths.items k.owns.items k.publics.items k.own k.public c.requires.hands c.args.signal c.requires.signal_in in
+    let public : c.part-public.result.now ≡ public_cards (signal_at g (round_count g) c.args.signal) =
+    c.part-public.ensures ∙ ap (λ (x : List ℕ). take k.public (drop (c.args.signal * k.public) x)) c.deref-2.ensures.value
+    ∙ public_part g k.paths.items k.owns.items k.publics.items k.own k.public c.requires.hands c.args.signal c.requires.signal_in in
+    c.strength.ensures.value
+    ∙ ap (λ x. strength g.suits g.ranking x c.part-public.result.now) own
+    ∙ ap (strength g.suits g.ranking (own_cards (signal_at g (round_count g) c.args.signal))) public

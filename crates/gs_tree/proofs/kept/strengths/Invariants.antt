@@ -1,0 +1,14 @@
+use Rattle.std.proofs.Common.{◌≡◌, All, map, take}
+use Rattle.gs_card.specs.Rankings.{ranking_of}
+use Rattle.gs_rank.specs.Hands.{IsStrength}
+use Rattle.gs_game.specs.Games.{game_of}
+use Rattle.gs_model.specs.Game.{round_count}
+use Rattle.gs_model.specs.Signals.{signals}
+use Rattle.gs_model.specs.ViewTree.{signal_strength}
+use Rattle.gs_tree.proofs.kept.strengths.Given as goal
+
+abbrev pub invariant-loop-signal : goal.invariant-loop-signal
+invariant-loop-signal l = record {
+  value : l.found.items ≡ map (signal_strength (game_of l.game)) (take l.signal (signals (game_of l.game) (round_count (game_of l.game))));
+  within : All (IsStrength (ranking_of l.game.ranking)) l.found.items;
+}

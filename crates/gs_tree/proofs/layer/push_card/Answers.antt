@@ -1,0 +1,29 @@
+use Rattle.std.proofs.Common.{◌≡◌, ◌<◌, ◌++◌, ◌∷◌, ◌*◌, ◌∙◌, [], ℕ, List, ap, arith, get_or, map, refl, sym}
+use Rattle.std.proofs.lemmas.List.{map-append}
+use Rattle.gs_model.specs.Cards.{ways}
+use Rattle.gs_tree.specs.Layers.{showing}
+use Rattle.gs_tree.specs.Shown.{cards_of, seen_of}
+use Rattle.gs_tree.specs.declared.layer.Shown.{Shown}
+use Rattle.gs_tree.proofs.OneCard.{ways_card, with_some}
+use Rattle.gs_tree.proofs.layer.push_card.Goals as goal
+
+pub returns : goal.returns
+returns c =
+    let rest : List ℕ = c.args.rest.now in
+    let kind : ℕ = c.args.kind in
+    let own : List ℕ = cards_of c.args.own.now in
+    let old : List Shown = c.args.layer.now.shown.items in
+    let some : 0 < get_or rest kind 0 = omega (arith, c.if-copies-eq0.false) in
+    let groups = with_some rest kind some in
+    let public : cards_of c.one.result ≡ kind ∷ [] = c.one.ensures ∙ ap (λ k. k ∷ []) c.new.ensures in
+    let copies : c.from.result ≡ ways rest (kind ∷ []) = c.from.ensures ∙ sym (ways_card rest kind c.requires.kind_in) in
+    record {
+      shown = ap (map seen_of) c.in_ok-push.ensures.items
+          ∙ map-append seen_of old (record { own = c.args.own.now; public = c.one.result } ∷ [])
+          ∙ ap (λ p. map seen_of old ++ showing own p ∷ []) public
+          ∙ ap (λ l. map seen_of old ++ map (showing own) l) (sym groups);
+      firsts = refl;
+      edges = c.in_ok-push-2.ensures.items
+          ∙ ap (λ n. c.args.layer.now.edges.items ++ (c.args.own_ways * n) ∷ []) copies
+          ∙ ap (λ l. c.args.layer.now.edges.items ++ map (λ g. c.args.own_ways * ways rest g) l) (sym groups);
+    }

@@ -1,0 +1,129 @@
+use Rattle.std.proofs.Common.{◌≡◌, ◌+◌, ◌*◌, ◌<◌, ◌≤◌, ℕ, List, [], All, length, map, take, take_all, get_or, sym, ap, ◌∙◌, subst, arith}
+use Rattle.std.specs.List.{between}
+use Rattle.std.proofs.lemmas.List.{length-map, length-take-le}
+use Rattle.std.proofs.lemmas.Slice.{between_from_start}
+use Rattle.gs_card.specs.Decks.{DeckValue, kinds}
+use Rattle.gs_game.specs.Games.{round_of}
+use Rattle.gs_game.specs.declared.game.Game.{Game as Described}
+use Rattle.gs_model.specs.Cards.{ways, left_after}
+use Rattle.gs_model.specs.Deals.{own_ways}
+use Rattle.gs_model.specs.Game.{Game, Round, round_count}
+use Rattle.gs_model.specs.Signals.{Seen, Signal, signal_at, signals, left_by, own_cards}
+use Rattle.gs_tree.specs.Trees.{rules_of}
+use Rattle.gs_tree.proofs.Beside.{left_by_cards}
+use Rattle.gs_tree.proofs.Paths.{power_fits}
+use Rattle.gs_tree.proofs.Rows.{has_rounds, nothing, part_in, parts_length, power_more, turn}
+use Rattle.gs_tree.proofs.signals.Signals.own_ways.Goals as goal
+
+pub overflow_add-end : goal.overflow_add-end
+overflow_add-end c =
+    let s = c.args.self.now in
+    let g : Game = rules_of s in
+    let k : ℕ = c.loop-round.round-index in
+    let left : List ℕ = left_by g.copies (signal_at g (round_count g) c.args.one) in
+    let all : g.rounds ≡ map round_of c.deref-round-items.result.now = sym (ap (map round_of) (c.deref-round-items.ensures.value ∙ ap (λ (x : Described). x.rounds.items) c.game.ensures)) in
+    let end : c.loop-round.start + c.from.result ≡ c.loop-round.start + c.round-item.result.private = ap (λ w. c.loop-round.start + w) c.from.ensures in
+    let h = turn g left c.deref-round-items.result.now c.args.two k c.round-item.result c.loop-round.start (c.loop-round.start + c.from.result) c.own-own.result.now s.game.now.dealable all c.requires.two_in c.own-own.ensures c.loop-round-test.true c.round-item.is c.loop-round.invariant.start end in
+    let ss : List Signal = signals g (round_count g) in
+    let long : length s.hands.owns.items ≡ length ss * s.hands.own = ap (λ (x : List ℕ). length x) s.dealt.owned ∙ parts_length own_cards s.hands.own ss [] s.dealt.own_each in
+    let room : c.args.two * s.hands.own + s.hands.own ≤ length ss * s.hands.own = part_in c.args.two (length ss) s.hands.own c.requires.two_in in
+    let each : length c.own-own.result.now ≡ s.hands.own = ap (λ (x : List ℕ). length x) c.own-own.ensures ∙ s.dealt.own_each c.args.two c.requires.two_in in
+    omega (arith, h.step.within, each, room, long, s.hands.owns.ok.0, s.hands.owns.small)
+
+pub slice_bounds-ways_beside-end : goal.slice_bounds-ways_beside-end
+slice_bounds-ways_beside-end c =
+    let s = c.args.self.now in
+    let g : Game = rules_of s in
+    let k : ℕ = c.loop-round.round-index in
+    let left : List ℕ = left_by g.copies (signal_at g (round_count g) c.args.one) in
+    let all : g.rounds ≡ map round_of c.deref-round-items.result.now = sym (ap (map round_of) (c.deref-round-items.ensures.value ∙ ap (λ (x : Described). x.rounds.items) c.game.ensures)) in
+    let end : c.loop-round.start + c.from.result ≡ c.loop-round.start + c.round-item.result.private = ap (λ w. c.loop-round.start + w) c.from.ensures in
+    let h = turn g left c.deref-round-items.result.now c.args.two k c.round-item.result c.loop-round.start (c.loop-round.start + c.from.result) c.own-own.result.now s.game.now.dealable all c.requires.two_in c.own-own.ensures c.loop-round-test.true c.round-item.is c.loop-round.invariant.start end in
+    sym (length-take-le c.loop-round.start c.own-own.result.now (omega (arith, h.step.within)))
+
+pub slice_bounds-ways_beside-end-in-loop-round : goal.slice_bounds-ways_beside-end-in-loop-round
+slice_bounds-ways_beside-end-in-loop-round c =
+    let s = c.args.self.now in
+    let g : Game = rules_of s in
+    let k : ℕ = c.loop-round.round-index in
+    let left : List ℕ = left_by g.copies (signal_at g (round_count g) c.args.one) in
+    let all : g.rounds ≡ map round_of c.deref-round-items.result.now = sym (ap (map round_of) (c.deref-round-items.ensures.value ∙ ap (λ (x : Described). x.rounds.items) c.game.ensures)) in
+    let end : c.loop-round.start + c.from.result ≡ c.loop-round.start + c.round-item.result.private = ap (λ w. c.loop-round.start + w) c.from.ensures in
+    let h = turn g left c.deref-round-items.result.now c.args.two k c.round-item.result c.loop-round.start (c.loop-round.start + c.from.result) c.own-own.result.now s.game.now.dealable all c.requires.two_in c.own-own.ensures c.loop-round-test.true c.round-item.is c.loop-round.invariant.start end in
+    omega (arith, h.step.within)
+
+pub ways_beside-ways-requires-clause-own_in : goal.ways_beside-ways-requires-clause-own_in
+ways_beside-ways-requires-clause-own_in c =
+    let s = c.args.self.now in
+    let g : Game = rules_of s in
+    let k : ℕ = c.loop-round.round-index in
+    let left : List ℕ = left_by g.copies (signal_at g (round_count g) c.args.one) in
+    let all : g.rounds ≡ map round_of c.deref-round-items.result.now = sym (ap (map round_of) (c.deref-round-items.ensures.value ∙ ap (λ (x : Described). x.rounds.items) c.game.ensures)) in
+    let end : c.loop-round.start + c.from.result ≡ c.loop-round.start + c.round-item.result.private = ap (λ w. c.loop-round.start + w) c.from.ensures in
+    let h = turn g left c.deref-round-items.result.now c.args.two k c.round-item.result c.loop-round.start (c.loop-round.start + c.from.result) c.own-own.result.now s.game.now.dealable all c.requires.two_in c.own-own.ensures c.loop-round-test.true c.round-item.is c.loop-round.invariant.start end in
+    let kinds_are : length g.copies ≡ kinds c.deck-deck.result.now = c.deck-deck.ensures.valid.counted ∙ sym (ap kinds c.deck-deck.ensures.deck) in
+    let P : ℕ → Type 0 = λ n. All (λ card. card < n) (between c.loop-round.start (c.loop-round.start + c.from.result) c.own-own.result.now) in
+    subst P kinds_are h.own_in
+
+pub ways_beside-ways-requires-clause-own_few : goal.ways_beside-ways-requires-clause-own_few
+ways_beside-ways-requires-clause-own_few c =
+    let s = c.args.self.now in
+    let g : Game = rules_of s in
+    let k : ℕ = c.loop-round.round-index in
+    let left : List ℕ = left_by g.copies (signal_at g (round_count g) c.args.one) in
+    let all : g.rounds ≡ map round_of c.deref-round-items.result.now = sym (ap (map round_of) (c.deref-round-items.ensures.value ∙ ap (λ (x : Described). x.rounds.items) c.game.ensures)) in
+    let end : c.loop-round.start + c.from.result ≡ c.loop-round.start + c.round-item.result.private = ap (λ w. c.loop-round.start + w) c.from.ensures in
+    let h = turn g left c.deref-round-items.result.now c.args.two k c.round-item.result c.loop-round.start (c.loop-round.start + c.from.result) c.own-own.result.now s.game.now.dealable all c.requires.two_in c.own-own.ensures c.loop-round-test.true c.round-item.is c.loop-round.invariant.start end in
+    h.few
+
+pub overflow_mul-ways : goal.overflow_mul-ways
+overflow_mul-ways c =
+    let s = c.args.self.now in
+    let g : Game = rules_of s in
+    let k : ℕ = c.loop-round.round-index in
+    let left : List ℕ = left_by g.copies (signal_at g (round_count g) c.args.one) in
+    let all : g.rounds ≡ map round_of c.deref-round-items.result.now = sym (ap (map round_of) (c.deref-round-items.ensures.value ∙ ap (λ (x : Described). x.rounds.items) c.game.ensures)) in
+    let power = power_more c.loop-round.ways c.ways_beside-ways.result k c.loop-round.invariant.small c.ways_beside-ways.ensures.small in
+    let few : k + 1 ≤ 4 = omega (arith, s.game.now.limits.few_rounds, c.loop-round-test.true, ap (λ (x : List Round). length x) all, length-map c.deref-round-items.result.now round_of) in
+    let fits = power_fits (c.loop-round.ways * c.ways_beside-ways.result) (k + 1) few power in
+    omega (arith, fits)
+
+pub loop-round-preserved : goal.loop-round-preserved
+loop-round-preserved c =
+    let s = c.args.self.now in
+    let g : Game = rules_of s in
+    let k : ℕ = c.loop-round.round-index in
+    let left : List ℕ = left_by g.copies (signal_at g (round_count g) c.args.one) in
+    let all : g.rounds ≡ map round_of c.deref-round-items.result.now = sym (ap (map round_of) (c.deref-round-items.ensures.value ∙ ap (λ (x : Described). x.rounds.items) c.game.ensures)) in
+    let end : c.loop-round.start + c.from.result ≡ c.loop-round.start + c.round-item.result.private = ap (λ w. c.loop-round.start + w) c.from.ensures in
+    let h = turn g left c.deref-round-items.result.now c.args.two k c.round-item.result c.loop-round.start (c.loop-round.start + c.from.result) c.own-own.result.now s.game.now.dealable all c.requires.two_in c.own-own.ensures c.loop-round-test.true c.round-item.is c.loop-round.invariant.start end in
+    let t : Signal = signal_at g (round_count g) c.args.two in
+    let p : Seen = get_or t k nothing in
+    let copies : left_after (left_after c.deck-deck.result.now.counts c.own-held.result.now) c.public-board.result.now ≡ left =
+    ap (λ (d : DeckValue). left_after (left_after d.counts c.own-held.result.now) c.public-board.result.now) c.deck-deck.ensures.deck
+    ∙ ap (λ x. left_after (left_after g.copies x) c.public-board.result.now) c.own-held.ensures
+    ∙ ap (left_after (left_after g.copies (own_cards (signal_at g (round_count g) c.args.one)))) c.public-board.ensures
+    ∙ sym (left_by_cards g.copies (signal_at g (round_count g) c.args.one)) in
+    let before : take c.loop-round.start c.own-own.result.now ≡ own_cards (take k t) = sym (between_from_start c.own-own.result.now c.loop-round.start) ∙ h.step.before in
+    let group : List ℕ = between c.loop-round.start (c.loop-round.start + c.from.result) c.own-own.result.now in
+    let here : c.ways_beside-ways.result ≡ ways (left_after left (own_cards (take k t))) p.own =
+    c.ways_beside-ways.ensures.value
+    ∙ ap (λ x. ways (left_after x (take c.loop-round.start c.own-own.result.now)) group) copies
+    ∙ ap (λ x. ways (left_after left x) group) before
+    ∙ ap (ways (left_after left (own_cards (take k t)))) h.step.here in
+    record {
+      start = h.step.next;
+      counted = ap (λ n. n * c.ways_beside-ways.result) c.loop-round.invariant.counted ∙ ap (λ n. own_ways left (take k t) * n) here ∙ sym h.step.more;
+      small = power_more c.loop-round.ways c.ways_beside-ways.result k c.loop-round.invariant.small c.ways_beside-ways.ensures.small;
+    }
+
+pub returns : goal.returns
+returns c =
+    let s = c.args.self.now in
+    let g : Game = rules_of s in
+    let t : Signal = signal_at g (round_count g) c.args.two in
+    let left : List ℕ = left_by g.copies (signal_at g (round_count g) c.args.one) in
+    let all : g.rounds ≡ map round_of c.deref-round-items.result.now = sym (ap (map round_of) (c.deref-round-items.ensures.value ∙ ap (λ (x : Described). x.rounds.items) c.game.ensures)) in
+    let h = has_rounds g (round_count g) c.args.two c.requires.two_in in
+    let over : length t ≤ c.loop-round.round-index = omega (arith, h.long, c.loop-round-test.false, ap (λ (x : List Round). length x) all, length-map c.deref-round-items.result.now round_of) in
+    c.loop-round.invariant.counted ∙ ap (own_ways left) (take_all c.loop-round.round-index t over)

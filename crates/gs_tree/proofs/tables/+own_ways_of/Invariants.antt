@@ -1,4 +1,0 @@
-use Rattle.gs_tree.proofs.tables.+own_ways_of.Given as goal
-
-abbrev pub decreases-own_ways_of : goal.decreases-own_ways_of
-decreases-own_ways_of l = l.round
