@@ -1,0 +1,120 @@
+-- The pairs of each end's round, and how many there can be.
+use Rattle.std.proofs.Common.{◌≡◌, ℕ, zero, suc, ◌+◌, ◌-◌, ◌*◌, ◌<◌, ◌≤◌, ◌^◌, List, [], ◌∷◌, ◌++◌, length, get_or, map, take, sym, ap, ◌∙◌, subst, arith, sum_by, count_by, Vec, ⊎_elim}
+use Rattle.std.specs.Prelude.{All}
+use Rattle.std.specs.declared.alloc.Global.{Global}
+use Rattle.std.proofs.Math.Nat.{mul-le-mul_right}
+use Rattle.std.proofs.lemmas.Bool.{cases_lt}
+use Rattle.std.proofs.lemmas.List.{get_or_append_left, get_or_push, get_or_read, length-map}
+use Rattle.std.proofs.lemmas.List.FromFn.{length-range_with_len}
+use Rattle.std.proofs.lemmas.List.Sums.{count_by-le-length, sum_by-le, sum_by_more}
+use Rattle.gs_filter.specs.Filter.{Filter, IsSound}
+use Rattle.gs_game.specs.Games.{game_of}
+use Rattle.gs_game.specs.Seen.{end_of}
+use Rattle.gs_game.specs.declared.positions.End.{End as StoredEnd}
+use Rattle.gs_game.specs.declared.valid.ValidGame.{ValidGame}
+use Rattle.gs_model.specs.Classes.{class_count, classes_in}
+use Rattle.gs_model.specs.Frame.{end_count, last_round, round_of}
+use Rattle.gs_model.specs.Positions.{End, at_end}
+use Rattle.gs_model.proofs.Ranges.{deals_weigh}
+use Rattle.gs_seq.specs.Cells.{cell_count, meets, pair_count}
+use Rattle.gs_seq.specs.Games.{frame_in}
+use Rattle.gs_seq.specs.Rows.{AreRows, pairs_of}
+use Rattle.gs_seq.specs.declared.pair.Pair.{Pair}
+use Rattle.gs_seq.proofs.ClassRows.{sum_by-map}
+use Rattle.gs_seq.proofs.Ends.{end_reads, end_round, length-ends}
+use Rattle.gs_seq.proofs.Meeting.{rows_long}
+use Rattle.gs_seq.proofs.Points.{walked}
+use Rattle.gs_seq.proofs.RowRoom.{table}
+use Rattle.gs_seq.proofs.SlotLaws.{class_few, over}
+
+-- what holds of each item, by place, holds with one more
+pub pushed : {X : Type 0} (P : ℕ → X → Type 0) (xs : List X) (x : X) (n : ℕ) → length xs ≡ n → ((k : ℕ) (d : X) → k < n → P k (get_or xs k d)) → P n x → (k : ℕ) (d : X) → k < n + 1 → P k (get_or (xs ++ x ∷ []) k d)
+pushed P xs x n long before here k d l = ⊎_elim
+    (λ under. subst (P k) (sym (get_or_append_left xs (x ∷ []) d k (omega (arith, under, long)))) (before k d under))
+    (λ beyond. let e : k ≡ n = omega (arith, beyond, l) in subst (P k) (sym (get_or_push xs x d k (long ∙ sym e))) (subst (λ j. P j x) (sym e) here))
+    (cases_lt k n)
+
+-- ---- ends
+
+-- an end stands in a round of the game
+pub end_round_in : (g : ValidGame) (es : List StoredEnd) (z : ℕ) (d : StoredEnd) (round : ℕ) → map end_of es ≡ (frame_in g).ends → z < length es → round ≡ (get_or es z d).round → (0 < round) × (round ≤ last_round (frame_in g))
+end_round_in g es z d round e l is =
+    let f = frame_in g in
+    let w = walked g 1 (omega arith) (omega arith) in
+    let inside : z < end_count f = omega (arith, l, length-ends g es e) in
+    let same : round ≡ round_of f (at_end z) = is ∙ end_round f z (get_or es z d) (end_reads g es z d e inside) in
+    (omega (arith, same, w.end_round z inside), omega (arith, same, w.end_in z inside))
+
+-- ---- pairs
+
+at_map : {X : Type 0} (f : X → ℕ) (xs : List X) (k n : ℕ) → k < length xs → ((d : X) → f (get_or xs k d) ≡ n) → get_or (map f xs) k 0 ≡ n
+at_map f [] k n l h = absurd (omega arith)
+at_map f (x ∷ xs) zero n l h = h x
+at_map f (x ∷ xs) (suc k) n l h = at_map f xs k n (omega arith) h
+
+module _ (g : ValidGame) (c : Filter) (e : c.parents ≡ (frame_in g).parents) (s : IsSound c) where
+  -- the pairs of a round are few
+  pub few_pairs : (round : ℕ) → 0 < round → round ≤ last_round (frame_in g) → pair_count (frame_in g) c.lists round ≤ 40000000000
+  few_pairs round some top =
+      let n = class_count c.lists round in
+      let own : ℕ → ℕ = λ k. count_by (λ m. meets (frame_in g) c.lists round k m) (classes_in c.lists round) in
+      let long : length (classes_in c.lists round) ≡ n = length-range_with_len 1 n in
+      let each : All (λ k. own k ≤ n) (classes_in c.lists round) = λ i d l. (
+      let k = get_or (classes_in c.lists round) i d in
+      omega (arith, count_by-le-length (λ m. meets (frame_in g) c.lists round k m) (classes_in c.lists round), long)) in
+      let most : pair_count (frame_in g) c.lists round ≤ length (classes_in c.lists round) * n = sum_by-le own n (classes_in c.lists round) each in
+      let few : n ≤ 200000 = class_few g c e s round some top in
+      let square : n * n ≤ 200000 * n = mul-le-mul_right n few in
+      omega (arith, most, ap (λ k. k * n) long, square, few)
+
+  module _ (rows : List (Vec (Vec Pair Global) Global)) (r : AreRows (frame_in g) c.lists rows) where
+    round_pairs : (round : ℕ) (d : Vec (Vec Pair Global) Global) → 0 < round → round ≤ last_round (frame_in g) → pairs_of (get_or rows (round - 1) d).items ≡ pair_count (frame_in g) c.lists round
+    round_pairs round d some top =
+        rows_long (frame_in g) (table g) c.lists (over (frame_in g) c e s) (deals_weigh (game_of g.game)) round some top (get_or rows (round - 1) d).items (r.in_round round d some top)
+
+    -- so they can be counted
+    pub rows_fit : All (λ (v : Vec (Vec Pair Global) Global). pairs_of v.items < 2 ^ 64) rows
+    rows_fit = λ k d l. (
+        let top : k + 1 ≤ last_round (frame_in g) = omega (arith, l, r.long) in
+        let here : k + 1 - 1 ≡ k = omega arith in
+        let same = subst (λ j. pairs_of (get_or rows j d).items ≡ pair_count (frame_in g) c.lists (k + 1)) here (round_pairs (k + 1) d (omega arith) top) in
+        omega (arith, same, few_pairs (k + 1) (omega arith) top))
+
+    -- and the counts are those of the rounds
+    pub count_at : (counts : List ℕ) → counts ≡ map (λ (v : Vec (Vec Pair Global) Global). pairs_of v.items) rows → (round : ℕ) → 0 < round → round ≤ last_round (frame_in g)
+        → (round - 1 < length counts) × (get_or counts (round - 1) 0 ≡ pair_count (frame_in g) c.lists round)
+    count_at counts is round some top =
+        let inside : round - 1 < length rows = omega (arith, some, top, r.long) in (
+          omega (arith, inside, ap (λ (ns : List ℕ). length ns) is, length-map rows (λ (v : Vec (Vec Pair Global) Global). pairs_of v.items)),
+          ap (λ (ns : List ℕ). get_or ns (round - 1) 0) is ∙ at_map (λ (v : Vec (Vec Pair Global) Global). pairs_of v.items) rows (round - 1) (pair_count (frame_in g) c.lists round) inside (λ d. round_pairs round d some top),
+        )
+
+    -- ---- a loop over the ends
+
+    abbrev pub cells_of : List StoredEnd → ℕ
+    cells_of es = sum_by (λ (z : StoredEnd). pair_count (frame_in g) c.lists z.round) es
+
+    module _ (counts : List ℕ) (is : counts ≡ map (λ (v : Vec (Vec Pair Global) Global). pairs_of v.items) rows) (es : List StoredEnd) (ends : map end_of es ≡ (frame_in g).ends) where
+      pub end_inside : (i : ℕ) (d : StoredEnd) (round : ℕ) → i < length es → round ≡ (get_or es i d).round → round - 1 < length counts
+      end_inside i d round l at = let r = end_round_in g es i d round ends l at in (count_at counts is round r.0 r.1).0
+
+      pub end_pairs : (i : ℕ) (d : StoredEnd) (round n : ℕ) → i < length es → round ≡ (get_or es i d).round → n ≡ get_or counts (round - 1) n → n ≡ pair_count (frame_in g) c.lists round
+      end_pairs i d round n l at read =
+          let r = end_round_in g es i d round ends l at in
+          let k = count_at counts is round r.0 r.1 in
+          get_or_read counts (round - 1) n k.0 read 0 ∙ k.1
+
+      pub end_few : (i : ℕ) (d : StoredEnd) (round n : ℕ) → i < length es → round ≡ (get_or es i d).round → n ≡ get_or counts (round - 1) n → n ≤ 40000000000
+      end_few i d round n l at read =
+          let r = end_round_in g es i d round ends l at in
+          omega (arith, end_pairs i d round n l at read, few_pairs round r.0 r.1)
+
+      pub end_more : (i : ℕ) (d : StoredEnd) (round n count : ℕ) → i < length es → round ≡ (get_or es i d).round → n ≡ get_or counts (round - 1) n → count ≡ cells_of (take i es) → count + n ≡ cells_of (take (i + 1) es)
+      end_more i d round n count l at read so_far =
+          let own : StoredEnd → ℕ = λ z. pair_count (frame_in g) c.lists z.round in
+          let more : cells_of (take (i + 1) es) ≡ cells_of (take i es) + own (get_or es i d) = sum_by_more own es i d l in
+          let here : n ≡ own (get_or es i d) = end_pairs i d round n l at read ∙ ap (pair_count (frame_in g) c.lists) at in
+          omega (arith, more, here, so_far)
+
+      pub all_ends : cells_of es ≡ cell_count (frame_in g) c.lists
+      all_ends = sym (sum_by-map (λ (z : End). pair_count (frame_in g) c.lists z.round) end_of es) ∙ ap (sum_by (λ (z : End). pair_count (frame_in g) c.lists z.round)) ends

@@ -1,0 +1,63 @@
+-- Sums of weights side by side, and the first place where they do not add up.
+use Rattle.std.proofs.Common.{◌≡◌, ℕ, ◌+◌, ◌-◌, ◌*◌, ◌<◌, ◌≤◌, List, length, take, drop, get_or, sum, sum_by, refl, sym, ap, ◌∙◌, subst, arith, length-drop, true, false, ⊎_elim}
+use Rattle.std.specs.Prelude.{◌==◌}
+use Rattle.std.proofs.Math.Nat.{mul-le-mul_right}
+use Rattle.std.proofs.lemmas.Bool.Decides.{Decides-eqb}
+use Rattle.std.specs.List.{range_with_len}
+use Rattle.std.proofs.lemmas.Bool.{cases_eq}
+use Rattle.std.proofs.lemmas.List.{get_or-drop, get_or-take, length-take}
+use Rattle.std.proofs.lemmas.List.FromFn.{fill_by_all}
+use Rattle.std.proofs.lemmas.List.Sums.{sum-map}
+use Rattle.gs_model.specs.Classes.{ClassLists, IsClass, class_count}
+use Rattle.gs_model.specs.Frame.{Frame, choices_at, move_count, player_at, point_count, round_of}
+use Rattle.gs_model.specs.Plans.{Plan}
+use Rattle.gs_model.specs.Positions.{at_point}
+use Rattle.gs_model.proofs.FirstBest.{sum-same_range}
+use Rattle.gs_seq.specs.Faults.{FlowsAt, FlowsBefore}
+use Rattle.gs_seq.specs.Slots.{plan_of, slot_count, slots_at, slots_before}
+use Rattle.gs_seq.proofs.SlotLaws.{not_eq, slots_le, slots_more}
+
+-- some weights side by side
+pub slice_sum : (ws : List ℕ) (a n : ℕ) → a + n ≤ length ws → sum (take n (drop a ws)) ≡ sum_by (λ m. get_or ws (a + m) 0) (range_with_len 0 n)
+slice_sum ws a n l =
+    let long : length (take n (drop a ws)) ≡ n = omega (arith, length-take n (drop a ws), length-drop a ws, l) in
+    ap sum (fill_by_all (λ m. get_or ws (a + m) 0) (take n (drop a ws)) n 0 long (λ k lk. get_or-take n (drop a ws) k 0 lk ∙ get_or-drop a ws k 0))
+    ∙ sum-map (λ m. get_or ws (a + m) 0) (range_with_len 0 n)
+
+-- the weights of the moves at a class
+pub class_sum : (f : Frame) (lists : ClassLists) (player q before first moves total : ℕ) (weights : List ℕ) → player_at f q ≡ player → moves ≡ move_count f q → first ≡ slots_before f lists player q
+    → first + before * moves + moves ≤ length weights
+    → sum (take moves (drop (first + before * moves) weights)) ≡ sum_by (λ m. (plan_of f lists total weights).number q (before + 1) m) (choices_at f q)
+class_sum f lists player q before first moves total weights own many at l =
+    let a = first + before * moves in
+    slice_sum weights a moves l
+    ∙ ap (λ k. sum_by (λ m. get_or weights (a + m) 0) (range_with_len 0 k)) many
+    ∙ sum-same_range (λ m. get_or weights (a + m) 0) (λ m. (plan_of f lists total weights).number q (before + 1) m) (move_count f q)
+    (λ m _. ap (λ k. get_or weights k 0) (
+    let one_less : before + 1 - 1 ≡ before = omega arith in
+    let same = ap (λ p. slots_before f lists p q) own in
+    omega (arith, same, at, ap (λ k. k * move_count f q) one_less, ap (λ k. before * k) many)))
+
+-- one more point
+pub flows_more : (f : Frame) (lists : ClassLists) (player : ℕ) (x : Plan) (q : ℕ) → FlowsBefore f lists player x q → (player_at f q ≡ player → (c : ℕ) → IsClass lists (round_of f (at_point q)) c → FlowsAt f lists player x q c)
+    → FlowsBefore f lists player x (q + 1)
+flows_more f lists player x q h here p c l own k = ⊎_elim
+    (λ same. subst (λ r. FlowsAt f lists player x r c) (sym same) (here (sym (ap (player_at f) same) ∙ own) c (subst (λ r. IsClass lists (round_of f (at_point r)) c) same k)))
+    (λ other. h p c (omega arith) own k)
+    (cases_eq p q)
+
+-- the weights at a class of a point are among the player's weights
+pub row_room : (f : Frame) (lists : ClassLists) (player q before first moves : ℕ) → player_at f q ≡ player → moves ≡ move_count f q → first ≡ slots_before f lists player q → q < point_count f
+    → before < class_count lists (round_of f (at_point q)) → first + before * moves + moves ≤ slot_count f lists player
+row_room f lists player q before first moves own many at lq l =
+    let test : (player_at f q == player) ≡ true = (Decides-eqb (player_at f q) player).1 own in
+    let here : slots_at f lists player q ≡ class_count lists (round_of f (at_point q)) * move_count f q = rw test refl in
+    let up = mul-le-mul_right (move_count f q) l in
+    omega (arith, here, up, slots_more f lists player q, slots_le f lists player (q + 1) (point_count f) (omega arith), at, many, ap (λ k. before * k) many)
+
+-- a point of the other player
+pub slots_none : (f : Frame) (lists : ClassLists) (player q : ℕ) → (player_at f q ≡ player → ⊥) → slots_before f lists player (q + 1) ≡ slots_before f lists player q
+slots_none f lists player q other =
+    let test : (player_at f q == player) ≡ false = not_eq (player_at f q) player other in
+    let here : slots_at f lists player q ≡ 0 = rw test refl in
+    omega (arith, slots_more f lists player q, here)

@@ -1,0 +1,50 @@
+-- The row of a class of a valid game: that it fits, and that it is the row of the class.
+use Rattle.std.proofs.Common.{◌≡◌, ℕ, ◌*◌, ◌<◌, ◌≤◌, ◌^◌, List, length, reverse, ◌∙◌, arith, sum_by}
+use Rattle.std.proofs.Math.Nat.{mul-le-mul_right}
+use Rattle.gs_filter.specs.Filter.{Filter, IsSound}
+use Rattle.gs_game.specs.Games.{game_of}
+use Rattle.gs_game.specs.declared.valid.ValidGame.{ValidGame}
+use Rattle.gs_lossless.specs.Amounts.{AreAmounts}
+use Rattle.gs_lossless.specs.declared.parts.Part.{Part}
+use Rattle.gs_lossless.specs.declared.sides.Side.TheVariants.{Deals}
+use Rattle.gs_lossless.proofs.Descent.{tabled}
+use Rattle.gs_model.specs.Classes.{class_of, class_size, list_of}
+use Rattle.gs_model.specs.Frame.{last_round, signal_count}
+use Rattle.gs_model.specs.Lossless.{IsLossless}
+use Rattle.gs_model.proofs.Known.{Tabled}
+use Rattle.gs_model.proofs.Ranges.{signal_count_is}
+use Rattle.gs_model.proofs.Walked.{last_round_of}
+use Rattle.gs_seq.specs.Games.{frame_in}
+use Rattle.gs_seq.specs.Rows.{IsRow, gathered}
+use Rattle.gs_seq.proofs.ClassSums.{total_few}
+use Rattle.gs_seq.proofs.Gathered.{sum_by-reverse}
+use Rattle.gs_seq.proofs.Points.{playable}
+use Rattle.gs_seq.proofs.RowLaws.{is_row, size_few, size_is, size_some}
+use Rattle.gs_seq.proofs.SlotLaws.{over}
+
+pub table : (g : ValidGame) → Tabled (frame_in g)
+table g = tabled (game_of g.game) (playable g)
+
+module _ (g : ValidGame) (c : Filter) (e : c.parents ≡ (frame_in g).parents) (s : IsSound c) (h : IsLossless (frame_in g) c.lists) (round : ℕ) (some : 0 < round) (top : round ≤ last_round (frame_in g))
+    (class first members : ℕ) (size : members ≡ class_size c.lists round class) (sums : List Part) (a : AreAmounts (frame_in g) c.lists Deals round first (reverse sums)) where
+  long : length (list_of c.lists round) ≡ signal_count (frame_in g) round
+  long = (over (frame_in g) c e s).lengths round some top
+
+  few : members ≤ 200000
+  few =
+      let r = last_round_of (game_of g.game) in
+      let count = signal_count_is (game_of g.game) round some (omega (arith, top, r)) in
+      omega (arith, size, size_few c.lists round class, long, count, g.limits.signals_in round (omega (arith, top, r)))
+
+  light : sum_by (λ (p : Part). p.weight) sums ≤ 67108864
+  light = omega (arith, sum_by-reverse (λ (p : Part). p.weight) sums, total_few (frame_in g) (table g) c.lists h round some top first (reverse sums) a, g.limits.weight_in)
+
+  -- the class's weight is no more than a row holds
+  pub row_fits : members * sum_by (λ (p : Part). p.weight) sums < 2 ^ 48
+  row_fits = let most = mul-le-mul_right (sum_by (λ (p : Part). p.weight) sums) few in omega (arith, most, light)
+
+  -- the row gathered from the first member's sums is the class's row
+  pub row_is : first < length (list_of c.lists round) → class_of c.lists round first ≡ class → IsRow (frame_in g) c.lists round class (gathered members (reverse sums))
+  row_is l member =
+      is_row (frame_in g) (table g) c.lists h round some top first class members (reverse sums) (omega (arith, l, long)) member (size ∙ size_is (frame_in g) c.lists round class long) a
+      (let one = size_some c.lists round class first l member in omega (arith, size, one))

@@ -1,0 +1,111 @@
+-- Slots one point after another, and that they are few.
+use Rattle.std.proofs.Common.{◌≡◌, ℕ, zero, suc, ◌+◌, ◌-◌, ◌*◌, ◌<◌, ◌≤◌, ◌^◌, List, [], length, take, get_or, refl, ap, ◌∙◌, subst, arith, Bool, true, false, cond, max, sum_by}
+use Rattle.std.specs.Prelude.{◌==◌}
+use Rattle.std.specs.List.{range_with_len}
+use Rattle.std.proofs.Math.Nat.{mul-le-mul_right}
+use Rattle.std.proofs.lemmas.Bool.Decides.{Decides-eqb}
+use Rattle.std.proofs.lemmas.List.{take_all, take_more}
+use Rattle.std.proofs.lemmas.List.Sums.{sum_by-append, sum_by-cons}
+use Rattle.gs_filter.specs.Filter.{Filter, IsSound}
+use Rattle.gs_game.specs.Games.{game_of}
+use Rattle.gs_game.specs.declared.valid.ValidGame.{ValidGame}
+use Rattle.gs_model.specs.Classes.{ClassLists, IsClasses, class_count, list_of}
+use Rattle.gs_model.specs.Frame.{Frame, last_round, move_count, player_at, point_count, round_of}
+use Rattle.gs_model.specs.Numbering.{IsNumbered, greatest}
+use Rattle.gs_model.specs.Positions.{at_point}
+use Rattle.gs_model.proofs.Numbered.{greatest_push}
+use Rattle.gs_model.proofs.Ranges.{signal_count_is}
+use Rattle.gs_model.proofs.Sparse.{range_append}
+use Rattle.gs_model.proofs.Walked.{last_round_of}
+use Rattle.gs_seq.specs.Games.{frame_in}
+use Rattle.gs_seq.specs.Slots.{slots_at, slots_before}
+use Rattle.gs_seq.proofs.Points.{few, moves_total, walked}
+
+-- ---- sums over a range
+
+pub sum_range_more : (f : ℕ → ℕ) (n : ℕ) → sum_by f (range_with_len 0 (n + 1)) ≡ sum_by f (range_with_len 0 n) + f n
+sum_range_more f n =
+    let zero_on : 0 + n ≡ n = omega arith in
+    omega (arith, ap (sum_by f) (range_append 0 n 1), sum_by-append f (range_with_len 0 n) (range_with_len (0 + n) 1), sum_by-cons f (0 + n) [], ap f zero_on)
+
+sum_range_le : (f : ℕ → ℕ) (m n : ℕ) → m ≤ n → sum_by f (range_with_len 0 m) ≤ sum_by f (range_with_len 0 n)
+sum_range_le f m n l =
+    let e : n ≡ m + (n - m) = omega arith in
+    omega (arith, ap (λ k. sum_by f (range_with_len 0 k)) e, ap (sum_by f) (range_append 0 m (n - m)), sum_by-append f (range_with_len 0 m) (range_with_len (0 + m) (n - m)))
+
+not_true : (b : Bool) → (b ≡ true → ⊥) → b ≡ false
+not_true true h = absurd (h refl)
+not_true false h = refl
+
+pub not_eq : (a b : ℕ) → (a ≡ b → ⊥) → (a == b) ≡ false
+not_eq a b h = not_true (a == b) (λ t. h ((Decides-eqb a b).0 t))
+
+-- ---- classes
+
+-- numbers by first member are at most as many as the signals
+take_few : (xs : List ℕ) → IsNumbered xs → (k : ℕ) → k ≤ length xs → greatest (take k xs) ≤ k
+take_few xs n zero l = omega arith
+take_few xs n (suc k) l =
+    let e : suc k ≡ k + 1 = omega arith in
+    let here : greatest (take (suc k) xs) ≡ max (greatest (take k xs)) (get_or xs k 0) =
+    ap (λ m. greatest (take m xs)) e ∙ ap greatest (take_more xs k 0 (omega arith)) ∙ greatest_push (take k xs) (get_or xs k 0) in
+    omega (arith, here, take_few xs n k (omega arith), (n k (omega arith)).1)
+
+greatest_few : (xs : List ℕ) → IsNumbered xs → greatest xs ≤ length xs
+greatest_few xs n = omega (arith, take_few xs n (length xs) (omega arith), ap greatest (take_all (length xs) xs (omega arith)))
+
+-- class lists over the parents of a frame are classes of the frame
+pub over : (f : Frame) (c : Filter) → c.parents ≡ f.parents → IsSound c → IsClasses f.parents c.lists
+over f c e s = subst (λ (ps : List (List ℕ)). IsClasses ps c.lists) e s.classes
+
+pub class_few : (g : ValidGame) (c : Filter) → c.parents ≡ (frame_in g).parents → IsSound c → (round : ℕ) → 0 < round → round ≤ last_round (frame_in g) → class_count c.lists round ≤ 200000
+class_few g c e s round some top =
+    let f = frame_in g in
+    let h = over f c e s in
+    let r = last_round_of (game_of g.game) in
+    let n = greatest_few (list_of c.lists round) (h.numbered round some top) in
+    omega (arith, n, h.lengths round some top, signal_count_is (game_of g.game) round some (omega (arith, top, r)), g.limits.signals_in round (omega (arith, top, r)))
+
+-- ---- slots
+
+pub slots_more : (f : Frame) (lists : ClassLists) (player q : ℕ) → slots_before f lists player (q + 1) ≡ slots_before f lists player q + slots_at f lists player q
+slots_more f lists player q = sum_range_more (slots_at f lists player) q
+
+pub slots_le : (f : Frame) (lists : ClassLists) (player m n : ℕ) → m ≤ n → slots_before f lists player m ≤ slots_before f lists player n
+slots_le f lists player m n l = sum_range_le (slots_at f lists player) m n l
+
+at_few : (b : Bool) (c m : ℕ) → c ≤ 200000 → cond b (c * m) 0 ≤ 200000 * m
+at_few true c m l = mul-le-mul_right m l
+at_few false c m l = omega arith
+
+before_few : (f : Frame) (lists : ClassLists) (player n : ℕ) → ((q : ℕ) → q < n → class_count lists (round_of f (at_point q)) ≤ 200000)
+    → slots_before f lists player n ≤ 200000 * sum_by (move_count f) (range_with_len 0 n)
+before_few f lists player zero h = omega arith
+before_few f lists player (suc n) h =
+    let e : suc n ≡ n + 1 = omega arith in
+    let a = at_few (player_at f n == player) (class_count lists (round_of f (at_point n))) (move_count f n) (h n (omega arith)) in
+    omega (
+      arith,
+      ap (slots_before f lists player) e,
+      slots_more f lists player n,
+      ap (λ k. sum_by (move_count f) (range_with_len 0 k)) e,
+      sum_range_more (move_count f) n,
+      before_few f lists player n (λ q l. h q (omega arith)),
+      a,
+    )
+
+-- the slots of a player are fewer than 2^60
+pub slots_few : (g : ValidGame) (c : Filter) → c.parents ≡ (frame_in g).parents → IsSound c → (player n : ℕ) → n ≤ point_count (frame_in g) → slots_before (frame_in g) c.lists player n < 2 ^ 60
+slots_few g c e s player n l =
+    let f = frame_in g in
+    let w = walked g 1 (omega arith) (omega arith) in
+    let all = point_count f in
+    let b = before_few f c.lists player all (λ q lq. class_few g c e s (round_of f (at_point q)) (w.some_round q lq) (w.point_in q lq)) in
+    omega (arith, slots_le f c.lists player n all l, b, moves_total f 1 w, (few g).points, (few g).ends)
+
+-- a point has few moves
+pub moves_few : (g : ValidGame) (q : ℕ) → q < point_count (frame_in g) → move_count (frame_in g) q < 2 ^ 33
+moves_few g q l =
+    let f = frame_in g in
+    let w = walked g 1 (omega arith) (omega arith) in
+    omega (arith, sum_range_more (move_count f) q, sum_range_le (move_count f) (q + 1) (point_count f) (omega arith), moves_total f 1 w, (few g).points, (few g).ends)

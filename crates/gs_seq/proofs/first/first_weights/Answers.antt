@@ -1,0 +1,71 @@
+use Rattle.std.proofs.Common.{◌≡◌, ◌+◌, ◌<◌, ℕ, length, ap, sym, ◌∙◌, subst, arith, Vec, vec_len}
+use Rattle.std.specs.declared.alloc.Global.{Global}
+use Rattle.std.proofs.lemmas.List.{with_items_is}
+use Rattle.gs_game.specs.Games.{game_of}
+use Rattle.gs_game.specs.declared.positions.Point.{Point}
+use Rattle.gs_model.specs.Frame.{player_at, point_count}
+use Rattle.gs_model.proofs.Ranges.{in_range}
+use Rattle.gs_seq.specs.Firsts.{Agree, AreFirstBefore, IsClear}
+use Rattle.gs_seq.specs.Games.{frame_in}
+use Rattle.gs_seq.specs.Slots.{slots_before}
+use Rattle.gs_seq.proofs.Firsts.{firsts_more, firsts_same}
+use Rattle.gs_seq.proofs.Leaks.{slots_none}
+use Rattle.gs_seq.proofs.Choices.{some_move}
+use Rattle.gs_seq.proofs.Points.{playable, point_reads, walked_at}
+use Rattle.gs_seq.proofs.SlotLaws.{over}
+use Rattle.gs_seq.proofs.first.first_weights.Goals as goal
+use Rattle.gs_seq.proofs.first.first_weights.Goals.{then-points-point, else-points-point}
+
+pub put_first-requires-clause-own : goal.put_first-requires-clause-own
+put_first-requires-clause-own c =
+    let g = c.args.game.now in
+    let f = frame_in g in
+    let q = c.loop-point.point in
+    let lists = c.args.classes.now.lists in
+    let inside : q < point_count f = omega (arith, c.loop-point-test.true, c.point_total-point-end.ensures) in
+    let r = point_reads g c.points.result.now q c.index-points-point.result c.points.ensures inside c.index-points-point.is in
+    let whose = sym (ap (λ (p : Point). p.player) c.index-points-point.is) ∙ r.player in
+    sym whose ∙ c.if-points-point.true
+
+pub loop-point-preserved : goal.loop-point-preserved
+loop-point-preserved c =
+    let g = c.args.game.now in
+    let f = frame_in g in
+    let q = c.loop-point.point in
+    let lists = c.args.classes.now.lists in
+    let inside : q < point_count f = omega (arith, c.loop-point-test.true, c.point_total-point-end.ensures) in
+    let r = point_reads g c.points.result.now q c.index-points-point.result c.points.ensures inside c.index-points-point.is in
+    let whose = sym (ap (λ (p : Point). p.player) c.index-points-point.is) ∙ r.player in
+    let i = c.loop-point.invariant in
+    elim c.if-points-point.branch [
+      | then-points-point w ↦
+          let p = c.args.player in
+          let own = sym whose ∙ w.if-points-point.true in
+          let xs = c.loop-point.weights.items in
+          let ys = w.put_first.new.weights in
+          let wide : c.loop-point.weights.len ≡ length ys = omega (arith, c.loop-point.weights.ok.0, w.put_first.auto.weights, ap length w.deref_mut.ensures.value) in
+          let same : c.if-points-point.weights.items ≡ ys = ap (λ (v : Vec ℕ Global). v.items) w.weights-is ∙ with_items_is c.loop-point.weights ys (sym wide) in
+          let agree : Agree (slots_before f lists p q) xs ys = subst (λ zs. Agree (slots_before f lists p q) zs ys) w.deref_mut.ensures.value w.put_first.ensures.kept in
+          record {
+            long = ap (λ (v : Vec ℕ Global). vec_len v) w.weights-is ∙ i.long;
+            firsts = subst (λ zs. AreFirstBefore f lists p zs (q + 1)) (sym same)
+                (firsts_more f (in_range (game_of g.game) (playable g)) lists (over f c.args.classes.now c.requires.parents c.rounds-rounds.ensures.sound) p (walked_at g p q inside own) (some_move g) q xs ys inside i.firsts agree
+                w.put_first.ensures.here);
+            clear = subst (λ zs. IsClear (slots_before f lists p (q + 1)) zs) (sym same) w.put_first.ensures.clear;
+          }
+      | else-points-point w ↦
+          let p = c.args.player in
+          let other = λ (e : player_at f q ≡ p). w.if-points-point.false (whose ∙ e) in
+          let same : c.if-points-point.weights.items ≡ c.loop-point.weights.items = ap (λ (v : Vec ℕ Global). v.items) w.weights-is in
+          record {
+            long = ap (λ (v : Vec ℕ Global). vec_len v) w.weights-is ∙ i.long;
+            firsts = subst (λ zs. AreFirstBefore f lists p zs (q + 1)) (sym same) (firsts_same f lists p q c.loop-point.weights.items i.firsts other);
+            clear = subst (λ zs. IsClear (slots_before f lists p (q + 1)) zs) (sym same) (λ k l. i.clear k (omega (arith, l, slots_none f lists p q other)));
+          }
+    ]
+
+pub returns-clause-firsts : goal.returns-clause-firsts
+returns-clause-firsts c =
+    let f = frame_in c.args.game.now in
+    let all : c.loop-point.point ≡ point_count f = omega (arith, c.loop-point-test.false, c.point_total-point-end.ensures, c.loop-point.auto.point-end) in
+    subst (AreFirstBefore f c.args.classes.now.lists c.args.player c.loop-point.weights.items) all c.loop-point.invariant.firsts

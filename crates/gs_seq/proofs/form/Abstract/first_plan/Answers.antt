@@ -1,0 +1,34 @@
+use Rattle.std.proofs.Common.{refl, arith}
+use Rattle.gs_model.specs.Frame.{point_count}
+use Rattle.gs_seq.specs.Firsts.{AreFirstBefore}
+use Rattle.gs_seq.specs.Games.{frame_in}
+use Rattle.gs_model.specs.Plans.{IsClassPlan}
+use Rattle.gs_seq.specs.Slots.{plan_of}
+use Rattle.gs_seq.proofs.Firsts.{first_plan_is}
+use Rattle.gs_seq.proofs.Forms.{carried}
+use Rattle.gs_seq.proofs.Choices.{some_move}
+use Rattle.gs_seq.proofs.form.Abstract.first_plan.Goals as goal
+
+pub returns-clause-plan : goal.returns-clause-plan
+returns-clause-plan c =
+    let p = c.args.player in
+    let weights = c.in_ok-weights.weights.items in
+    let plan = first_plan_is (frame_in c.game.result.now) c.classes.result.now.lists p weights (some_move c.game.result.now) c.in_ok-weights.ensures.firsts in
+    record {
+      player_is = refl;
+      plan = record {
+        long = omega (arith, c.in_ok-weights.ensures.long, c.sequences-count.ensures);
+        plan = carried (λ f ls. IsClassPlan f ls p (plan_of f ls 1 weights)) c.game.ensures.held c.classes.ensures.lists plan;
+      };
+    }
+
+pub returns-clause-first : goal.returns-clause-first
+returns-clause-first c =
+    let p = c.args.player in
+    let weights = c.in_ok-weights.weights.items in
+    let firsts = carried (λ f ls. AreFirstBefore f ls p weights (point_count f)) c.game.ensures.held c.classes.ensures.lists c.in_ok-weights.ensures.firsts in
+    record {
+      plan = (returns-clause-plan c).plan.plan;
+      one = refl;
+      first = λ q k m l own h lo hi. (firsts q k l own h).others m lo hi;
+    }

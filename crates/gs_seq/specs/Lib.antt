@@ -1,0 +1,12 @@
+pub mod Games
+pub mod Slots
+pub mod Faults
+pub mod Sources
+pub mod Cells
+pub mod Rows
+pub mod Stops
+pub mod Plans
+pub mod Abstracts
+pub mod Exchange
+pub mod Payoffs
+pub mod Firsts

@@ -1,0 +1,35 @@
+-- What an end pays in the deals of pairs of classes.
+use Rattle.std.specs.Prelude.{ℕ, ◌==◌, ℤ, pos, neg_ℤ, ◌*ℤ◌, if◌then◌else◌}
+use Rattle.gs_model.specs.Classes.{ClassLists, classes_in}
+use Rattle.gs_model.specs.Frame.{Frame, other_player, payoff_to, round_of}
+use Rattle.gs_model.specs.Pairs.{class_number, pair_sum}
+use Rattle.gs_model.specs.Plans.{Plan}
+use Rattle.gs_model.specs.Positions.{End, EndKind, Folded1, Folded2, Show, at_end}
+use Rattle.gs_model.specs.Sums.{sum_z}
+use Rattle.gs_seq.specs.declared.pair.Pair.{Pair}
+
+-- what an end pays a player at a class of his, in deals times the other's numbers: over the other's classes his number at the end times what the
+-- end pays in the deals of both classes
+abbrev pub end_sum : Frame → ClassLists → ℕ → Plan → ℕ → ℕ → ℤ
+end_sum f lists player y z c =
+    let round = round_of f (at_end z) in
+    sum_z (λ e. pos (class_number f lists (other_player player) y z e) *ℤ pair_sum f lists lists round (payoff_to f player z) c e) (classes_in lists round)
+
+-- ---- of private functions
+
+-- what two plans pay player 1 at an end: over his classes his number there times that sum
+abbrev pub payoff_at : Frame → ClassLists → Plan → Plan → ℕ → ℤ
+payoff_at f lists x y z = sum_z (λ c. pos (class_number f lists 1 x z c) *ℤ end_sum f lists 1 y z c) (classes_in lists (round_of f (at_end z)))
+
+-- the chips that a fold pays a player: he loses what he has put where he folds, and wins what the other has put where that one folds
+abbrev pub stake : ℕ → ℕ → ℕ → ℤ
+stake player folder put = if player == folder then neg_ℤ (pos put) else pos put
+
+-- what an end pays a player in the deals of a pair: at a fold by their weight, at a showdown by their signed weight
+abbrev pub pair_pays : ℕ → End → Pair → ℤ
+pair_pays player z p = pays z.kind
+  where
+    pays : EndKind → ℤ
+    pays Folded1 = stake player 1 z.put *ℤ pos p.weight
+    pays Folded2 = stake player 2 z.put *ℤ pos p.weight
+    pays Show = pos z.put *ℤ p.signed

@@ -1,0 +1,65 @@
+-- The pairs of a class as a list, one for each class of the other player that it meets.
+use Rattle.std.specs.Prelude.{ℕ, ◌+◌, ◌-◌, ◌*◌, ◌<◌, ◌≤◌, ◌≡◌, ◌==◌, List, [], ◌∷◌, length, ℤ, pos, ◌+ℤ◌, ◌*ℤ◌, unsigned_abs, get_or, if◌then◌else◌, sum_by, Vec, vec_len}
+use Rattle.std.specs.declared.alloc.Global.{Global}
+use Rattle.gs_model.specs.Classes.{ClassLists, class_count, IsClass}
+use Rattle.gs_model.specs.Frame.{Frame, last_round}
+use Rattle.gs_model.specs.Sums.{sum_z}
+use Rattle.gs_lossless.specs.declared.parts.Part.{Part}
+use Rattle.gs_seq.specs.Cells.{pair_weight, pair_signed}
+use Rattle.gs_seq.specs.declared.pair.Pair.{Pair}
+
+-- classes ascend, and no pair is without weight
+pub record Rises (row : List Pair) : Type 0 where
+  pub ascends : (i j : ℕ) (d : Pair) → i < j → j < length row → (get_or row i d).two < (get_or row j d).two
+  pub some : (i : ℕ) (d : Pair) → i < length row → 0 < (get_or row i d).weight
+
+-- what a row holds for a class: the weight, and the signed weight
+abbrev pub weight_in : List Pair → ℕ → ℕ
+weight_in row e = sum_by (λ p. if p.two == e then p.weight else 0) row
+
+abbrev pub signed_in : List Pair → ℕ → ℤ
+signed_in row e = sum_z (λ (p : Pair). if p.two == e then p.signed else pos 0) row
+
+-- the row of a class of player 1 in a round
+pub record IsRow (f : Frame) (lists : ClassLists) (round c : ℕ) (row : List Pair) : Type 0 where
+  pub rises : Rises row
+  pub weights : (e : ℕ) → pos (weight_in row e) ≡ pair_weight f lists round c e
+  pub signed : (e : ℕ) → signed_in row e ≡ pair_signed f lists round c e
+
+-- the rows of all classes of a round
+pub record AreRowsIn (f : Frame) (lists : ClassLists) (round : ℕ) (rows : List (Vec Pair Global)) : Type 0 where
+  pub long : length rows ≡ class_count lists round
+  pub row : (c : ℕ) (d : Vec Pair Global) → IsClass lists round c → IsRow f lists round c (get_or rows (c - 1) d).items
+
+-- the rows of all rounds
+pub record AreRows (f : Frame) (lists : ClassLists) (rows : List (Vec (Vec Pair Global) Global)) : Type 0 where
+  pub long : length rows ≡ last_round f
+  pub in_round : (round : ℕ) (d : Vec (Vec Pair Global) Global) → 0 < round → round ≤ last_round f → AreRowsIn f lists round (get_or rows (round - 1) d).items
+
+-- how many pairs some rows have
+abbrev pub pairs_of : List (Vec Pair Global) → ℕ
+pairs_of rows = sum_by (λ row. vec_len row) rows
+
+-- ---- rows from the sums of one member, in ascending order
+
+-- what a part of one member is for all members of its class
+abbrev pub pair_of : ℕ → Part → Pair
+pair_of members p = record { two = p.class; weight = members * p.weight; signed = pos (members * p.weight) *ℤ p.outcome }
+
+-- two pairs of one class as one
+abbrev pub together : Pair → Pair → Pair
+together p q = record { two = p.two; weight = p.weight + q.weight; signed = p.signed +ℤ q.signed }
+
+-- a pair before a row: joined to the first one where both are of one class
+abbrev pub join : Pair → List Pair → List Pair
+join p [] = p ∷ []
+join p (q ∷ qs) = if q.two == p.two then together q p ∷ qs else p ∷ q ∷ qs
+
+-- the row of some parts
+abbrev pub gathered : ℕ → List Part → List Pair
+gathered members [] = []
+gathered members (p ∷ ps) = join (pair_of members p) (gathered members ps)
+
+-- signed weights are no larger than outcomes of 8 bits make them
+abbrev pub IsModerate : Pair → Type 0
+IsModerate p = unsigned_abs p.signed ≤ 128 * p.weight

@@ -1,0 +1,202 @@
+//! A game in sequence form over lossless classes.
+
+ghost use Rattle.std.specs.Prelude.{◌≡◌, ◌<◌, ◌≤◌};
+ghost use Rattle.gs_seq.specs.Games.{frame_in};
+ghost use Rattle.gs_seq.specs.Rows.{AreRows};
+ghost use Rattle.gs_seq.specs.Slots.{AreOffsets, slot_count as slots_in};
+ghost use Rattle.gs_seq.specs.Stops.{IsSmall};
+
+use crate::fault::PlanFault;
+use crate::flows::plan_fault;
+use crate::numbers::{end_source, number_by};
+use crate::pair::Pair;
+use crate::plan::Plan;
+use crate::rows::{cells, rows_of};
+use crate::slots::{few_slots, offsets_of};
+use crate::stop::SeqStop;
+use gs_filter::Classes;
+use gs_game::ValidGame;
+use gs_lossless::Lossless;
+use std::alloc::Global;
+
+/// The most cells that a game may have.
+const MOST_CELLS: u64 = 4_194_304;
+
+/// A game with lossless classes in sequence form: the slots of both players' plans, and the sums over deals by pairs of classes.
+#[derive(Drop)]
+pub struct Abstract<'a> {
+    lossless: &'a Lossless<'a>,
+    // for each point the slot of its first class and first move
+    offsets: Vec<u32>,
+    // how many slots players 1 and 2 have
+    one: u32,
+    two: u32,
+    // for each round and class of player 1 its pairs
+    rows: Vec<Vec<Vec<Pair>>>,
+    ghost small: { IsSmall (frame_in lossless.now.signals.now.game.now) lossless.now.classes.now.lists },
+    ghost placed: { AreOffsets (frame_in lossless.now.signals.now.game.now) lossless.now.classes.now.lists offsets.items },
+    ghost ones: { one ≡ slots_in (frame_in lossless.now.signals.now.game.now) lossless.now.classes.now.lists 1 },
+    ghost twos: { two ≡ slots_in (frame_in lossless.now.signals.now.game.now) lossless.now.classes.now.lists 2 },
+    ghost paired: { AreRows (frame_in lossless.now.signals.now.game.now) lossless.now.classes.now.lists rows.items },
+}
+
+impl<'a> Abstract<'a> {
+    ghost use Rattle.std.specs.Prelude.{◌+◌, ℕ, IfOk, IfErr, MatchOption, length};
+    ghost use Rattle.gs_model.specs.Classes.{IsClass, IsClasses};
+    ghost use Rattle.gs_model.specs.Frame.{end_count, last_round, move_count, player_at, point_count, round_of};
+    ghost use Rattle.gs_model.specs.Pairs.{class_number};
+    ghost use Rattle.gs_model.specs.Positions.{at_end, at_point};
+    ghost use Rattle.gs_seq.specs.Abstracts.{frame_of, lists_of};
+    ghost use Rattle.gs_seq.specs.Cells.{IsPairAfter, MeetsNoneAfter};
+    ghost use Rattle.gs_seq.specs.Faults.{IsFaultOf};
+    ghost use Rattle.gs_seq.specs.Plans.{IsPlanOf, class_plan};
+    ghost use Rattle.gs_seq.specs.Rows.{IsRow};
+    ghost use Rattle.gs_seq.specs.Slots.{IsPlan, sequence_count, slot_of};
+    ghost use Rattle.gs_seq.specs.Stops.{IsStopOf};
+
+    /// The sequence form of a game with lossless classes, or the first limit that it passes.
+    pub fn of(alloc: Global, lossless: &'a Lossless<'a>) -> Result<Abstract<'a>, SeqStop>
+        ensures held { IfOk result (λ a. a.lossless.now ≡ lossless.entry.now) }
+        ensures small { IfOk result (λ a. IsSmall (frame_of a) (lists_of a)) }
+        ensures refused { IfErr result (IsStopOf (frame_in lossless.entry.now.signals.now.game.now) lossless.entry.now.classes.now.lists) }
+    {
+        let signals = lossless.signals();
+        let classes = lossless.classes();
+        let game = signals.game();
+        let (one, two) = few_slots(game, classes)?;
+        let offsets = offsets_of(alloc, game, classes)?;
+        let rows = rows_of(alloc, signals, classes)?;
+        let count = cells(alloc, game, classes, &rows)?;
+        if count > MOST_CELLS {
+            return Err(SeqStop::TooManyCells { count });
+        }
+        Ok(Abstract {
+            lossless,
+            offsets,
+            one,
+            two,
+            rows,
+        })
+    }
+
+    /// The game's signals with their lossless classes.
+    pub fn lossless(&self) -> &'a Lossless<'a>
+        ensures { result.now ≡ self.now.lossless.now }
+    {
+        self.lossless
+    }
+
+    /// The game.
+    pub(crate) fn game(&self) -> &'a ValidGame
+        ensures held { frame_in result.now ≡ frame_of self.now }
+        ensures classes { IsClasses (frame_of self.now).parents (lists_of self.now) }
+    {
+        let _rounds = self.lossless.classes().rounds();
+        self.lossless.signals().game()
+    }
+
+    /// The classes.
+    pub(crate) fn classes(&self) -> &'a Classes
+        ensures lists { result.now.lists ≡ lists_of self.now }
+        ensures parents { result.now.parents ≡ (frame_of self.now).parents }
+    {
+        self.lossless.classes()
+    }
+
+    /// How many sequences a player has, the empty one counted.
+    pub fn sequences(&self, player: u8) -> u32
+        requires some { 0 < player }
+        requires two { player ≤ 2 }
+        ensures { result ≡ sequence_count (frame_of self.now) (lists_of self.now) player }
+    {
+        if player == 1 {
+            self.one + 1
+        } else {
+            self.two + 1
+        }
+    }
+
+    /// The place, in the weights of the player who chooses at a point, of a move at a class.
+    pub fn slot(&self, point: u32, class: u32, choice: u8) -> u32
+        requires point { point < point_count (frame_of self.now) }
+        requires class { IsClass (lists_of self.now) (round_of (frame_of self.now) (at_point point)) class }
+        requires choice { choice < move_count (frame_of self.now) point }
+        ensures value { result ≡ slot_of (frame_of self.now) (lists_of self.now) point class choice }
+        ensures within { result + 1 < sequence_count (frame_of self.now) (lists_of self.now) (player_at (frame_of self.now) point) }
+    {
+        let moves = self.lossless.signals().game().points()[point as usize]
+            .moves
+            .len() as u32;
+        self.offsets[point as usize] + (class - 1) * moves + u32::from(choice)
+    }
+
+    /// The pairs of a class of player 1 in a round, one for each class of player 2 that some deal has beside it, in ascending order.
+    pub fn pairs(&self, round: u8, one: u32) -> &[Pair]
+        requires some { 0 < round }
+        requires top { round ≤ last_round (frame_of self.now) }
+        requires class { IsClass (lists_of self.now) round one }
+        ensures { IsRow (frame_of self.now) (lists_of self.now) round one result.now }
+    {
+        &self.rows[usize::from(round) - 1][one as usize - 1]
+    }
+
+    /// The pair of a class of player 1 with the least class of player 2 above `after` that some deal has beside it: none where there is no such
+    /// class.
+    pub fn pair_after(&self, round: u8, one: u32, after: u32) -> Option<Pair>
+        requires some { 0 < round }
+        requires top { round ≤ last_round (frame_of self.now) }
+        requires class { IsClass (lists_of self.now) round one }
+        ensures { MatchOption result (MeetsNoneAfter (frame_of self.now) (lists_of self.now) round one after)
+            (IsPairAfter (frame_of self.now) (lists_of self.now) round one after) }
+    {
+        let row = self.pairs(round, one);
+        let place = row.partition_point(|pair| pair.two <= after);
+        row.get(place).copied()
+    }
+
+    /// For each point the slot of its first class and first move.
+    pub(crate) fn offsets(&self) -> &[u32]
+        ensures { AreOffsets (frame_of self.now) (lists_of self.now) result.now }
+    {
+        &self.offsets
+    }
+
+    /// A plan's number at an end and a class of its round: the weight of its player's last step before the end, at the class above, or the total
+    /// where he made none.
+    pub fn number_at_end(&self, plan: &Plan, end: u32, class: u32) -> u64
+        requires some { 0 < plan.now.player }
+        requires two { plan.now.player ≤ 2 }
+        requires plan { IsPlanOf (frame_of self.now) (lists_of self.now) plan.now.player plan.now }
+        requires end { end < end_count (frame_of self.now) }
+        requires class { IsClass (lists_of self.now) (round_of (frame_of self.now) (at_end end)) class }
+        ensures value { result ≡ class_number (frame_of self.now) (lists_of self.now) plan.now.player (class_plan (frame_of self.now) (lists_of self.now) plan.now) end class }
+        ensures within { result ≤ plan.now.total }
+    {
+        let game = self.game();
+        let source = end_source(game, self.offsets(), plan.player, end);
+        number_by(game, self.classes(), plan, source, end, class)
+    }
+
+    /// A total and weights in slot order as a plan of a player, or the first reason why they are none.
+    pub fn plan(&self, player: u8, total: u64, weights: Vec<u64>) -> Result<Plan, PlanFault>
+        requires some { 0 < player }
+        requires two { player ≤ 2 }
+        ensures player { IfOk result (λ p. p.player ≡ player) }
+        ensures total { IfOk result (λ p. p.total ≡ total) }
+        ensures weights { IfOk result (λ p. p.weights.items ≡ weights.items) }
+        ensures plan { IfOk result (λ p. IsPlan (frame_of self.now) (lists_of self.now) player total weights.items) }
+        ensures own { IfOk result (IsPlanOf (frame_of self.now) (lists_of self.now) player) }
+        ensures refused { IfErr result (IsFaultOf (frame_of self.now) (lists_of self.now) player total weights.items) }
+    {
+        let classes = self.lossless.classes();
+        let game = self.lossless.signals().game();
+        match plan_fault(game, classes, player, total, &weights) {
+            None => Ok(Plan {
+                player,
+                total,
+                weights,
+            }),
+            Some(fault) => Err(fault),
+        }
+    }
+}

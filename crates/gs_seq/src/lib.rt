@@ -1,0 +1,28 @@
+//! Games in sequence form over lossless classes: plans and their slots, sums over deals by pairs of classes, and what two plans pay.
+#![tactic(auto)]
+
+mod fault;
+mod first;
+mod flows;
+mod form;
+mod laws;
+mod numbers;
+mod pair;
+mod payoff;
+mod plan;
+#[cfg(test)]
+mod plan_tests;
+mod rows;
+mod slots;
+mod stop;
+#[cfg(test)]
+mod tests;
+
+pub use fault::PlanFault;
+pub use flows::plan_fault;
+pub use form::Abstract;
+pub use laws::pairs_are_exchanged;
+pub use numbers::{plus, scaled};
+pub use pair::Pair;
+pub use plan::Plan;
+pub use stop::SeqStop;

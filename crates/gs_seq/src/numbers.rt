@@ -1,0 +1,103 @@
+//! The numbers of plans at ends, and sums of signed numbers.
+
+ghost use Rattle.std.specs.Prelude.{◌≡◌, ◌+◌, ◌-◌, ◌*◌, ◌<◌, ◌≤◌, ◌^◌, ℕ, length, pos, slice_index, unsigned_abs, ◌+ℤ◌, ◌*ℤ◌};
+ghost use Rattle.gs_model.specs.Classes.{ClassLists, IsClass};
+ghost use Rattle.gs_model.specs.Frame.{end_count, move_count, player_at, point_count, round_of};
+ghost use Rattle.gs_model.specs.Pairs.{class_number};
+ghost use Rattle.gs_model.specs.Positions.{at_end, at_point};
+ghost use Rattle.gs_seq.specs.Games.{frame_in};
+ghost use Rattle.gs_seq.specs.Plans.{IsPlanOf, class_plan};
+ghost use Rattle.gs_seq.specs.Slots.{AreOffsets};
+ghost use Rattle.gs_seq.specs.Sources.{MatchSource};
+
+use crate::flows::{Source, weight_above};
+use crate::plan::Plan;
+use gs_filter::Classes;
+use gs_game::{Step, ValidGame};
+
+/// What is kept of a step.
+fn source_from(game: &ValidGame, offsets: &[u32], step: Step) -> Source
+    requires point { step.point < point_count (frame_in game.now) }
+    requires long { length offsets.now ≡ point_count (frame_in game.now) }
+    ensures round { result.round ≡ round_of (frame_in game.now) (at_point step.point) }
+    ensures first { result.first ≡ slice_index offsets.now step.point }
+    ensures moves { result.moves ≡ move_count (frame_in game.now) step.point }
+    ensures choice { result.choice ≡ step.choice }
+{
+    let point = &game.points()[step.point as usize];
+    Source {
+        round: point.round,
+        first: u64::from(offsets[step.point as usize]),
+        moves: point.moves.len() as u64,
+        choice: step.choice,
+    }
+}
+
+/// The last step before a point of the player who chooses there.
+pub(crate) fn point_source(game: &ValidGame, offsets: &[u32], point: u32) -> Option<Source>
+    requires point { point < point_count (frame_in game.now) }
+    requires long { length offsets.now ≡ point_count (frame_in game.now) }
+    ensures { (lists : ClassLists) → AreOffsets (frame_in game.now) lists offsets.now
+        → MatchSource (frame_in game.now) lists (player_at (frame_in game.now) point) (at_point point) result }
+{
+    let step = game.points()[point as usize].own?;
+    Some(source_from(game, offsets, step))
+}
+
+/// A player's last step before an end.
+pub(crate) fn end_source(game: &ValidGame, offsets: &[u32], player: u8, end: u32) -> Option<Source>
+    requires some { 0 < player }
+    requires two { player ≤ 2 }
+    requires end { end < end_count (frame_in game.now) }
+    requires long { length offsets.now ≡ point_count (frame_in game.now) }
+    ensures { (lists : ClassLists) → AreOffsets (frame_in game.now) lists offsets.now → MatchSource (frame_in game.now) lists player (at_end end) result }
+{
+    let end = &game.ends()[end as usize];
+    let step = (if player == 1 { end.one } else { end.two })?;
+    Some(source_from(game, offsets, step))
+}
+
+/// A plan's number at a class of an end's round: the weight of its player's last step at the class above, or the total where he made none.
+pub(crate) fn number_by(
+    game: &ValidGame,
+    classes: &Classes,
+    plan: &Plan,
+    source: Option<Source>,
+    end: u32,
+    class: u32,
+) -> u64
+    requires parents { classes.now.parents ≡ (frame_in game.now).parents }
+    requires some { 0 < plan.now.player }
+    requires two { plan.now.player ≤ 2 }
+    requires plan { IsPlanOf (frame_in game.now) classes.now.lists plan.now.player plan.now }
+    requires end { end < end_count (frame_in game.now) }
+    requires source { MatchSource (frame_in game.now) classes.now.lists plan.now.player (at_end end) source }
+    requires class { IsClass classes.now.lists (round_of (frame_in game.now) (at_end end)) class }
+    ensures value { result ≡ class_number (frame_in game.now) classes.now.lists plan.now.player (class_plan (frame_in game.now) classes.now.lists plan.now) end class }
+    ensures within { result ≤ plan.now.total }
+{
+    let _rounds = classes.rounds();
+    match source {
+        None => plan.total,
+        Some(step) => {
+            let round = game.ends()[end as usize].round;
+            weight_above(classes, &plan.weights, step, round, class)
+        }
+    }
+}
+
+/// A whole number times a signed one.
+pub fn scaled(number: u64, worth: i128) -> i128
+    requires { number * unsigned_abs worth < 2 ^ 127 }
+    ensures { result ≡ pos number *ℤ worth }
+{
+    i128::from(number) * worth
+}
+
+/// The sum of two signed numbers.
+pub fn plus(first: i128, second: i128) -> i128
+    requires { unsigned_abs (first +ℤ second) < 2 ^ 127 }
+    ensures { result ≡ first +ℤ second }
+{
+    first + second
+}

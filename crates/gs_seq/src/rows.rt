@@ -1,0 +1,213 @@
+//! The pairs of classes that some deal has, row by row: a row for each class of player 1 in each round.
+
+ghost use Rattle.std.specs.Prelude.{◌≡◌, ◌+◌, ◌*◌, ◌<◌, ◌≤◌, ◌^◌, IfOk, OnOk, All, length, map, pos, reverse, sum_by, unsigned_abs, ◌+ℤ◌, ◌*ℤ◌};
+ghost use Rattle.gs_model.specs.Classes.{IsClass};
+ghost use Rattle.gs_model.specs.Frame.{last_round};
+ghost use Rattle.gs_model.specs.Lossless.{IsLossless};
+ghost use Rattle.gs_lossless.specs.Amounts.{keys_of};
+ghost use Rattle.gs_lossless.specs.declared.sides.Side.TheVariants as sides;
+ghost use Rattle.gs_seq.specs.Cells.{cell_count};
+ghost use Rattle.gs_seq.specs.Games.{frame_in};
+ghost use Rattle.gs_seq.specs.Rows.{AreRows, AreRowsIn, IsModerate, IsRow, gathered, join, pair_of, pairs_of, together};
+
+use crate::pair::Pair;
+use gs_filter::Classes;
+use gs_game::ValidGame;
+use gs_lossless::{Part, Side, side_keys, side_sums};
+use gs_tree::Signals;
+use std::alloc::{AllocError, Global};
+
+/// A weight times an outcome.
+fn product(weight: u64, outcome: i8) -> i64
+    requires { weight < 2 ^ 48 }
+    ensures { result ≡ pos weight *ℤ outcome }
+{
+    weight as i64 * i64::from(outcome)
+}
+
+/// A weight times an outcome, with how large that can be.
+fn scaled(weight: u64, outcome: i8) -> i64
+    requires { weight < 2 ^ 48 }
+    ensures value { result ≡ pos weight *ℤ outcome }
+    ensures size { unsigned_abs result ≤ 128 * weight }
+{
+    product(weight, outcome)
+}
+
+/// The sum of two numbers of moderate size.
+fn plus(first: i64, second: i64) -> i64
+    requires { unsigned_abs first + unsigned_abs second < 2 ^ 62 }
+    ensures value { result ≡ first +ℤ second }
+    ensures size { unsigned_abs result ≤ unsigned_abs first + unsigned_abs second }
+{
+    first + second
+}
+
+/// What a part of one member of a class is for all members.
+fn pair_from(part: Part, members: u32) -> Pair
+    requires { members * part.weight < 2 ^ 48 }
+    ensures value { result ≡ pair_of members part }
+    ensures moderate { IsModerate result }
+{
+    let weight = u64::from(members) * part.weight;
+    Pair {
+        two: part.class,
+        weight,
+        signed: scaled(weight, part.outcome),
+    }
+}
+
+/// Two pairs of one class as one.
+fn joined(pair: Pair, more: Pair) -> Pair
+    requires few { pair.weight + more.weight < 2 ^ 48 }
+    requires pair { IsModerate pair }
+    requires more { IsModerate more }
+    ensures value { result ≡ together pair more }
+    ensures moderate { IsModerate result }
+{
+    Pair {
+        two: pair.two,
+        weight: pair.weight + more.weight,
+        signed: plus(pair.signed, more.signed),
+    }
+}
+
+/// Adds a pair to a row: the last pair takes it where both are of one class, or it stands behind it.
+fn add(row: &mut Vec<Pair>, pair: Pair) -> Result<(), AllocError>
+    requires few { sum_by (λ p. p.weight) row.old.items + pair.weight < 2 ^ 48 }
+    requires moderate { All IsModerate row.old.items }
+    requires pair { IsModerate pair }
+    ensures row { OnOk result (reverse row.new.items ≡ join pair (reverse row.old.items)) }
+    ensures moderate { OnOk result (All IsModerate row.new.items) }
+{
+    let count = row.len();
+    if 0 < count {
+        let last = row[count - 1];
+        if last.two == pair.two {
+            row[count - 1] = joined(last, pair);
+            return Ok(());
+        }
+    }
+    row.push(pair)?;
+    Ok(())
+}
+
+/// The row of a class with so many members, by the sums of one of them in descending order.
+fn row_of(alloc: Global, sums: &[Part], members: u32) -> Result<Vec<Pair>, AllocError>
+    requires { members * sum_by (λ p. p.weight) sums.now < 2 ^ 48 }
+    ensures { IfOk result (λ v. v.items ≡ gathered members (reverse sums.now)) }
+{
+    let mut row = Vec::with_capacity(alloc, sums.len())?;
+    for part in sums {
+        add(&mut row, pair_from(*part, members))?;
+    }
+    row.reverse();
+    Ok(row)
+}
+
+/// The row of a class in a round: all members see what the first one sees.
+fn class_row(
+    alloc: Global,
+    signals: &Signals,
+    classes: &Classes,
+    round: u8,
+    keys: &[u32],
+    class: u32,
+) -> Result<Vec<Pair>, AllocError>
+    requires parents { classes.now.parents ≡ (frame_in signals.now.game.now).parents }
+    requires lossless { IsLossless (frame_in signals.now.game.now) classes.now.lists }
+    requires some { 0 < round }
+    requires top { round ≤ last_round (frame_in signals.now.game.now) }
+    requires keys { keys.now ≡ keys_of (frame_in signals.now.game.now) classes.now.lists sides.Deals round }
+    requires class { IsClass classes.now.lists round class }
+    ensures { IfOk result (λ v. IsRow (frame_in signals.now.game.now) classes.now.lists round class v.items) }
+{
+    let _rounds = classes.rounds();
+    let first = classes.first(round, class);
+    let sums = side_sums(alloc, signals, Side::Deals, round, keys, first)?;
+    row_of(alloc, &sums, classes.size(round, class))
+}
+
+/// The rows of all classes of a round.
+fn rows_in(
+    alloc: Global,
+    signals: &Signals,
+    classes: &Classes,
+    round: u8,
+) -> Result<Vec<Vec<Pair>>, AllocError>
+    requires parents { classes.now.parents ≡ (frame_in signals.now.game.now).parents }
+    requires lossless { IsLossless (frame_in signals.now.game.now) classes.now.lists }
+    requires some { 0 < round }
+    requires top { round ≤ last_round (frame_in signals.now.game.now) }
+    ensures { IfOk result (λ v. AreRowsIn (frame_in signals.now.game.now) classes.now.lists round v.items) }
+{
+    let _rounds = classes.rounds();
+    let keys = side_keys(alloc, signals, classes, Side::Deals, round)?;
+    let count = classes.classes(round);
+    let mut rows = Vec::with_capacity(alloc, count as usize)?;
+    for before in 0..count {
+        rows.push(class_row(alloc, signals, classes, round, &keys, before + 1)?)?;
+    }
+    Ok(rows)
+}
+
+/// The rows of all rounds.
+pub(crate) fn rows_of(
+    alloc: Global,
+    signals: &Signals,
+    classes: &Classes,
+) -> Result<Vec<Vec<Vec<Pair>>>, AllocError>
+    requires parents { classes.now.parents ≡ (frame_in signals.now.game.now).parents }
+    requires lossless { IsLossless (frame_in signals.now.game.now) classes.now.lists }
+    ensures { IfOk result (λ v. AreRows (frame_in signals.now.game.now) classes.now.lists v.items) }
+{
+    let mut rows = Vec::new(alloc);
+    for before in 0..signals.rounds() {
+        rows.push(rows_in(alloc, signals, classes, before + 1)?)?;
+    }
+    Ok(rows)
+}
+
+/// How many pairs some rows have.
+fn pairs_in(rows: &[Vec<Pair>]) -> u64
+    requires { pairs_of rows.now < 2 ^ 64 }
+    ensures { result ≡ pairs_of rows.now }
+{
+    let mut count = 0u64;
+    for row in rows {
+        count += row.len() as u64;
+    }
+    count
+}
+
+/// How many pairs the rows of each round have.
+fn pair_counts(alloc: Global, rows: &[Vec<Vec<Pair>>]) -> Result<Vec<u64>, AllocError>
+    requires { All (λ v. pairs_of v.items < 2 ^ 64) rows.now }
+    ensures { IfOk result (λ n. n.items ≡ map (λ v. pairs_of v.items) rows.now) }
+{
+    let mut counts = Vec::with_capacity(alloc, rows.len())?;
+    for in_round in rows {
+        counts.push(pairs_in(in_round))?;
+    }
+    Ok(counts)
+}
+
+/// The pairs of each end's round, added up over all ends.
+pub(crate) fn cells(
+    alloc: Global,
+    game: &ValidGame,
+    classes: &Classes,
+    rows: &[Vec<Vec<Pair>>],
+) -> Result<u64, AllocError>
+    requires parents { classes.now.parents ≡ (frame_in game.now).parents }
+    requires rows { AreRows (frame_in game.now) classes.now.lists rows.now }
+    ensures { IfOk result (λ n. n ≡ cell_count (frame_in game.now) classes.now.lists) }
+{
+    let _rounds = classes.rounds();
+    let counts = pair_counts(alloc, rows)?;
+    let mut count = 0u64;
+    for end in game.ends() {
+        count += counts[usize::from(end.round) - 1];
+    }
+    Ok(count)
+}

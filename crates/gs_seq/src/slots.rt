@@ -1,0 +1,120 @@
+//! The slots of a player: one for each of his points, class of its round, and move.
+
+ghost use Rattle.std.specs.Prelude.{◌≡◌, ◌+◌, ◌<◌, ◌≤◌, ◌^◌, IfOk, OnOk, IfErr};
+ghost use Rattle.gs_model.specs.Frame.{player_at, point_count};
+ghost use Rattle.gs_seq.specs.Games.{frame_in};
+ghost use Rattle.gs_seq.specs.Slots.{AreOffsets, sequence_count, slot_count as slots_in, slots_at as slots_here, slots_before};
+ghost use Rattle.gs_seq.specs.Stops.{HasFewSequences, HasOver, IsTooLong};
+
+use crate::stop::SeqStop;
+use gs_filter::Classes;
+use gs_game::ValidGame;
+use std::alloc::{AllocError, Global};
+
+/// The most sequences that a player may have.
+const MOST_SEQUENCES: u64 = 262_144;
+
+/// How many points a game has.
+pub(crate) fn point_total(game: &ValidGame) -> u32
+    ensures { result ≡ point_count (frame_in game.now) }
+{
+    game.points().len() as u32
+}
+
+/// How many slots a player has at a point: one for each class of its round and each move, none where the other player chooses.
+pub(crate) fn slots_at(game: &ValidGame, classes: &Classes, player: u8, point: u32) -> u64
+    requires parents { classes.now.parents ≡ (frame_in game.now).parents }
+    requires in_range { point < point_count (frame_in game.now) }
+    ensures { result ≡ slots_here (frame_in game.now) classes.now.lists player point }
+{
+    let _rounds = classes.rounds();
+    let point = &game.points()[point as usize];
+    if point.player == player {
+        u64::from(classes.classes(point.round)) * point.moves.len() as u64
+    } else {
+        0
+    }
+}
+
+/// How many slots a player has at the points from one on, up to another.
+pub(crate) fn slots_between(
+    game: &ValidGame,
+    classes: &Classes,
+    player: u8,
+    from: u32,
+    to: u32,
+) -> u64
+    requires parents { classes.now.parents ≡ (frame_in game.now).parents }
+    requires ordered { from ≤ to }
+    requires in_range { to ≤ point_count (frame_in game.now) }
+    ensures { slots_before (frame_in game.now) classes.now.lists player from + result ≡ slots_before (frame_in game.now) classes.now.lists player to }
+{
+    let _rounds = classes.rounds();
+    let mut slots = 0u64;
+    for point in from..to {
+        slots += slots_at(game, classes, player, point);
+    }
+    slots
+}
+
+/// How many slots a player has.
+pub(crate) fn slot_count(game: &ValidGame, classes: &Classes, player: u8) -> u64
+    requires parents { classes.now.parents ≡ (frame_in game.now).parents }
+    ensures value { result ≡ slots_in (frame_in game.now) classes.now.lists player }
+    ensures few { result < 2 ^ 60 }
+{
+    let _rounds = classes.rounds();
+    slots_between(game, classes, player, 0, point_total(game))
+}
+
+/// How many slots players 1 and 2 have, or the first player with more than 262,144 sequences.
+pub(crate) fn few_slots(game: &ValidGame, classes: &Classes) -> Result<(u32, u32), SeqStop>
+    requires { classes.now.parents ≡ (frame_in game.now).parents }
+    ensures one { IfOk result (λ n. n.0 ≡ slots_in (frame_in game.now) classes.now.lists 1) }
+    ensures two { IfOk result (λ n. n.1 ≡ slots_in (frame_in game.now) classes.now.lists 2) }
+    ensures few { OnOk result (HasFewSequences (frame_in game.now) classes.now.lists) }
+    ensures refused { IfErr result (IsTooLong (frame_in game.now) classes.now.lists) }
+{
+    let one = few_slots_of(game, classes, 1)?;
+    let two = few_slots_of(game, classes, 2)?;
+    Ok((one, two))
+}
+
+/// How many slots a player has, where he has at most 262,144 sequences.
+fn few_slots_of(game: &ValidGame, classes: &Classes, player: u8) -> Result<u32, SeqStop>
+    requires { classes.now.parents ≡ (frame_in game.now).parents }
+    ensures value { IfOk result (λ n. n ≡ slots_in (frame_in game.now) classes.now.lists player) }
+    ensures few { OnOk result (sequence_count (frame_in game.now) classes.now.lists player ≤ 262144) }
+    ensures refused { IfErr result (HasOver (frame_in game.now) classes.now.lists player) }
+{
+    let count = slot_count(game, classes, player) + 1;
+    if count > MOST_SEQUENCES {
+        return Err(SeqStop::TooManySequences { player, count });
+    }
+    Ok(count as u32 - 1)
+}
+
+/// For each point the slot of its first class and its first move.
+pub(crate) fn offsets_of(
+    alloc: Global,
+    game: &ValidGame,
+    classes: &Classes,
+) -> Result<Vec<u32>, AllocError>
+    requires parents { classes.now.parents ≡ (frame_in game.now).parents }
+    requires one { slots_in (frame_in game.now) classes.now.lists 1 < 2 ^ 32 }
+    requires two { slots_in (frame_in game.now) classes.now.lists 2 < 2 ^ 32 }
+    ensures { IfOk result (λ v. AreOffsets (frame_in game.now) classes.now.lists v.items) }
+{
+    let _rounds = classes.rounds();
+    let count = point_total(game);
+    let mut offsets = Vec::with_capacity(alloc, count as usize)?;
+    let mut one = 0;
+    let mut two = 0;
+    for point in 0..count {
+        let player = game.points()[point as usize].player;
+        offsets.push(if player == 1 { one } else { two })?;
+        one += slots_at(game, classes, 1, point) as u32;
+        two += slots_at(game, classes, 2, point) as u32;
+    }
+    Ok(offsets)
+}
