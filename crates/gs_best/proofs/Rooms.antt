@@ -1,0 +1,115 @@
+-- Room by the sizes of rounds.
+use Rattle.std.proofs.Common.{◌≡◌, ℕ, ◌+◌, ◌-◌, ◌*◌, ◌<◌, ◌≤◌, List, [], ◌∷◌, length, get_or, refl, sym, ap, ◌∙◌, arith, sum_by, count_by, eqb}
+use Rattle.std.specs.Prelude.{pos, ◌*ℤ◌}
+use Rattle.std.specs.List.{range_with_len}
+use Rattle.std.proofs.Math.Nat.{mul-one, mul_comm}
+use Rattle.std.proofs.lemmas.Bool.Decides.{Decides-eqb}
+use Rattle.std.proofs.lemmas.Int.{ints}
+use Rattle.std.proofs.lemmas.List.{get_or-map, length-map}
+use Rattle.std.proofs.lemmas.List.FromFn.{get_or-range_with_len, length-range_with_len}
+use Rattle.std.proofs.lemmas.List.Sums.{sum_by-cons}
+use borrow.Author.Differences.{product_is}
+use Rattle.gs_model.specs.Classes.{ClassLists, class_count}
+use Rattle.gs_model.specs.Frame.{Frame, last_round, point_count, round_of}
+use Rattle.gs_model.specs.FrameFacts.{IsWalked}
+use Rattle.gs_model.specs.Positions.{at_point}
+use Rattle.gs_model.proofs.Alike.{pos_one}
+use Rattle.gs_model.proofs.RawBound.{All-range, range_once}
+use Rattle.gs_model.proofs.Regroup.{regroup_weights, sum_z-pos}
+use Rattle.gs_model.proofs.Total.{sum_z-same}
+use Rattle.gs_seq.proofs.ClassRows.{sum_by-map}
+use Rattle.gs_best.specs.Sizes.{HasRoom, HoldsAll, IsRoomy, IsWide, point_room, points_in, sizes_of, value_room}
+use Rattle.gs_best.specs.Tables.{start_of}
+use Rattle.gs_best.specs.declared.room.Scratch.{Scratch}
+use Rattle.gs_best.specs.declared.room.Table.{Table}
+use Rattle.gs_best.proofs.Below.{ones_are}
+
+plain_product : (a b : ℕ) → pos a *ℤ pos b ≡ pos (a * b)
+plain_product a b = omega (arith, ints, product_is (pos a) (pos b))
+
+sum-same : {X : Type 0} (f g : X → ℕ) → ((x : X) → f x ≡ g x) → (xs : List X) → sum_by f xs ≡ sum_by g xs
+sum-same f g h [] = refl
+sum-same f g h (x ∷ xs) = omega (arith, sum_by-cons f x xs, sum_by-cons g x xs, h x, sum-same f g h xs)
+
+module _ (f : Frame) (p : ℕ) (w : IsWalked f p) where
+  -- a number for each point of its round, added up round by round
+  by_rounds : (c : ℕ → ℕ) → sum_by (λ j. points_in f j * c j) (range_with_len 1 (last_round f)) ≡ sum_by (λ q. c (round_of f (at_point q))) (range_with_len 0 (point_count f))
+  by_rounds c =
+      let qs = range_with_len 0 (point_count f) in
+      let js = range_with_len 1 (last_round f) in
+      let at : ℕ → ℕ = λ q. round_of f (at_point q) in
+      let left =
+      sum_z-same (λ q. pos 1 *ℤ pos (c (at q))) (λ q. pos (c (at q))) (λ q. omega (arith, ints, product_is (pos 1) (pos (c (at q))))) qs ∙ sum_z-pos (λ q. c (at q)) qs in
+      let right = sum_z-same (λ j. pos (c j) *ℤ pos (points_in f j)) (λ j. pos (points_in f j * c j)) (λ j. plain_product (c j) (points_in f j) ∙ ap pos (mul_comm (c j) (points_in f j))) js ∙ sum_z-pos (λ j. points_in f j * c j) js in
+      let both =
+      regroup_weights eqb Decides-eqb at (λ q. 1) (λ j. pos (c j)) js qs
+      (All-range (λ q. count_by (eqb (at q)) js ≡ 1) (point_count f) (λ q l. range_once (at q) 1 (last_round f) (w.some_round q l) (let t = w.point_in q l in omega arith))) in
+      sym (pos_one (sum_by (λ q. c (at q)) qs) (sum_by (λ j. points_in f j * c j) js) (sym left ∙ both ∙ right))
+
+  pub value_room_is : (lists : ClassLists) → value_room (sizes_of f lists) ≡ start_of f lists (point_count f)
+  value_room_is lists = sum_by-map (λ (n : ℕ × ℕ). n.0 * n.1) (λ j. (points_in f j, class_count lists j)) (range_with_len 1 (last_round f)) ∙ by_rounds (class_count lists)
+
+  pub point_room_is : (lists : ClassLists) → point_room (sizes_of f lists) ≡ point_count f
+  point_room_is lists =
+      sum_by-map (λ (n : ℕ × ℕ). n.0) (λ j. (points_in f j, class_count lists j)) (range_with_len 1 (last_round f))
+      ∙ sum-same (points_in f) (λ j. points_in f j * 1) (λ j. sym (mul-one (points_in f j))) (range_with_len 1 (last_round f))
+      ∙ by_rounds (λ j. 1) ∙ ones_are (range_with_len 0 (point_count f)) ∙ length-range_with_len 0 (point_count f)
+
+-- the classes of a round by the sizes
+size_at : (f : Frame) (lists : ClassLists) (i : ℕ) (d : ℕ × ℕ) → i < last_round f → (get_or (sizes_of f lists) i d).1 ≡ class_count lists (1 + i)
+size_at f lists i d l =
+    let size : ℕ → ℕ × ℕ = λ j. (points_in f j, class_count lists j) in
+    ap (λ (n : ℕ × ℕ). n.1) (get_or-map size (range_with_len 1 (last_round f)) i 0 d (let e = length-range_with_len 1 (last_round f) in omega arith))
+    ∙ ap (class_count lists) (get_or-range_with_len 1 (last_round f) i 0 l)
+
+size_count : (f : Frame) (lists : ClassLists) → length (sizes_of f lists) ≡ last_round f
+size_count f lists = length-map (range_with_len 1 (last_round f)) (λ j. (points_in f j, class_count lists j)) ∙ length-range_with_len 1 (last_round f)
+
+wide_by : (f : Frame) (lists : ClassLists) (wide : ℕ) → ((i : ℕ) (d : ℕ × ℕ) → i < length (sizes_of f lists) → (get_or (sizes_of f lists) i d).1 ≤ wide) → IsWide f lists wide
+wide_by f lists wide h round some top =
+    let i = round - 1 in
+    let e : 1 + i ≡ round = omega arith in
+    let l : i < last_round f = omega arith in
+    let a = h i (0, 0) (let n = size_count f lists in omega arith) in
+    let b = size_at f lists i (0, 0) l in
+    let k = ap (class_count lists) e in
+    omega arith
+
+by_wide : (f : Frame) (lists : ClassLists) (wide : ℕ) → IsWide f lists wide → (i : ℕ) (d : ℕ × ℕ) → i < length (sizes_of f lists) → (get_or (sizes_of f lists) i d).1 ≤ wide
+by_wide f lists wide h i d l =
+    let in_rounds : i < last_round f = (let n = size_count f lists in omega arith) in
+    let b = size_at f lists i d in_rounds in
+    let a = h (1 + i) (omega arith) (omega arith) in
+    omega arith
+
+pub roomy : (f : Frame) (lists : ClassLists) → IsWalked f 1 → (t : Table) (s : Scratch) → HoldsAll f lists t → HasRoom f lists s → IsRoomy (sizes_of f lists) t s
+roomy f lists w t s h r =
+    let values = value_room_is f 1 w lists in
+    let points = point_room_is f 1 w lists in
+    record {
+      starts = (let a = h.starts in omega arith);
+      values = (let a = h.values in omega arith);
+      picks = (let a = h.picks in omega arith);
+      ends = by_wide f lists (length s.ends.items) r.ends;
+      worths = by_wide f lists (length s.worths.items) r.worths;
+      best = by_wide f lists (length s.best.items) r.best;
+      moves = by_wide f lists (length s.moves.items) r.moves;
+    }
+
+pub holds_all : (f : Frame) (lists : ClassLists) → IsWalked f 1 → (t : Table) (s : Scratch) → IsRoomy (sizes_of f lists) t s → HoldsAll f lists t
+holds_all f lists w t s r =
+    let values = value_room_is f 1 w lists in
+    let points = point_room_is f 1 w lists in
+    record {
+      starts = (let a = r.starts in omega arith);
+      values = (let a = r.values in omega arith);
+      picks = (let a = r.picks in omega arith);
+    }
+
+pub has_room : (f : Frame) (lists : ClassLists) (t : Table) (s : Scratch) → IsRoomy (sizes_of f lists) t s → HasRoom f lists s
+has_room f lists t s r = record {
+  ends = wide_by f lists (length s.ends.items) r.ends;
+  worths = wide_by f lists (length s.worths.items) r.worths;
+  best = wide_by f lists (length s.best.items) r.best;
+  moves = wide_by f lists (length s.moves.items) r.moves;
+}

@@ -1,0 +1,91 @@
+-- Best values at the start, and how large they and payoffs are.
+use Rattle.std.proofs.Common.{◌≡◌, ℕ, ◌+◌, ◌-◌, ◌^◌, ◌<◌, ◌≤◌, List, get_or, sym, ap, ◌∙◌, subst, arith}
+use Rattle.std.specs.Prelude.{ℤ, pos, ◌*ℤ◌, ◌≤ℤ◌, unsigned_abs}
+use Rattle.std.proofs.lemmas.Int.{ints, unsigned_abs-mul}
+use borrow.Author.Differences.{abs_is}
+use Rattle.gs_model.specs.BestAnswers.{IsFirstBestPlan, spread, start_sum}
+use Rattle.gs_model.specs.Classes.{ClassLists, IsClasses, class_of}
+use Rattle.gs_model.specs.Frame.{Frame, last_round, round_of, signal_count, signals_in}
+use Rattle.gs_model.specs.FrameFacts.{InRange, IsExchanged, IsWalked}
+use Rattle.gs_model.specs.Lossless.{IsLossless}
+use Rattle.gs_model.specs.Payoff.{gain, raw_payoff}
+use Rattle.gs_model.specs.Plans.{IsClassPlan, Plan, lift}
+use Rattle.gs_model.specs.Positions.{Target, at_end, at_point}
+use Rattle.gs_model.specs.Sums.{sum_z}
+use Rattle.gs_model.proofs.Alike.{keeps_from}
+use Rattle.gs_model.proofs.Best.{best_holds}
+use Rattle.gs_model.proofs.Deviations.{lift_is_raw_plan, no_raw_plan_gains_more}
+use Rattle.gs_model.proofs.Exchange.{gain_exchange, raw_payoff_is_gain}
+use Rattle.gs_model.proofs.FirstBest.{first_best_reaches}
+use Rattle.gs_model.proofs.Gather.{class_in, firsts_from, holds_by, known_from, plan_by}
+use Rattle.gs_model.proofs.Tables.{is_table}
+use Rattle.gs_best.specs.Answers.{IsBestTotal, NoneGainsMore}
+use Rattle.gs_best.specs.Ends.{IsEndRow}
+use Rattle.gs_best.specs.Rows.{value_at}
+use Rattle.gs_best.specs.Tables.{start_of, table_of}
+use Rattle.gs_best.proofs.Chips.{product_le}
+use Rattle.gs_best.proofs.Ranges.{sum_same}
+
+module _ (f : Frame) (lists : ClassLists) (p : ℕ) (y : Plan) (values : List ℤ) where
+  abbrev summed : Target → ℤ
+  summed t = sum_z (λ s. table_of f lists p y values t (class_of lists (round_of f t) s)) (signals_in f (round_of f t))
+
+  -- the values at a point where play starts
+  pub starts_at_point : (q round start : ℕ) → f.start ≡ at_point q → round ≡ round_of f (at_point q) → start ≡ start_of f lists q
+      → sum_z (value_at lists round values start) (signals_in f round) ≡ start_sum f (spread f lists (table_of f lists p y values))
+  starts_at_point q round start is here at =
+      ap (λ j. sum_z (value_at lists j values start) (signals_in f j)) here ∙ ap (λ k. sum_z (value_at lists (round_of f (at_point q)) values k) (signals_in f (round_of f (at_point q)))) at
+      ∙ ap summed (sym is)
+
+  -- the values at an end where play starts
+  pub starts_at_end : IsClasses f.parents lists → (z round : ℕ) (row : List ℤ) → f.start ≡ at_end z → round ≡ round_of f (at_end z) → 0 < round → round ≤ last_round f → IsEndRow f lists p y z row
+      → sum_z (value_at lists round row 0) (signals_in f round) ≡ start_sum f (spread f lists (table_of f lists p y values))
+  starts_at_end k z round row is here some top ends =
+      ap (λ j. sum_z (value_at lists j row 0) (signals_in f j)) here
+      ∙ sum_same (value_at lists (round_of f (at_end z)) row 0) (λ s. table_of f lists p y values (at_end z) (class_of lists (round_of f (at_end z)) s)) 0 (signal_count f (round_of f (at_end z)))
+      (λ s lo hi.
+      let j = round_of f (at_end z) in
+      let plain : 0 + (class_of lists j s - 1) ≡ class_of lists j s - 1 = omega arith in
+      ap (λ n. get_or row n (pos 0)) plain ∙ ends (class_of lists j s) (class_in f lists k j s (omega (arith, here, some)) (omega (arith, here, top)) (omega arith)))
+      ∙ ap summed (sym is)
+
+-- a product of a total and a best total
+pub scaled_small : (total : ℕ) (best : ℤ) → total ≤ 2 ^ 36 → unsigned_abs best ≤ 2 ^ 87 → unsigned_abs (pos total *ℤ best) ≤ 2 ^ 123
+scaled_small total best l m =
+    let e = unsigned_abs-mul (pos total) best in
+    let t : unsigned_abs (pos total) ≤ 2 ^ 36 = omega (arith, ints, abs_is (pos total), l) in
+    let p = product_le (unsigned_abs (pos total)) (unsigned_abs best) (2 ^ 36) (2 ^ 87) t m in
+    omega (arith, e, p)
+
+module _ (f : Frame) (r : InRange f) (lists : ClassLists) (k : IsClasses f.parents lists) (g : IsLossless f lists) where
+  -- a plan gains at most what its total times the best total says
+  gains_at_most : (p : ℕ) → IsWalked f p → (x y : Plan) → IsClassPlan f lists p x → (b : ℤ) → IsBestTotal f lists p (lift f lists y) b → gain f p (lift f lists x) (lift f lists y) ≤ℤ (pos x.total *ℤ b)
+  gains_at_most p w x y plan b h =
+      let h' = is_table f r in
+      let firsts = firsts_from f lists k in
+      let kn = known_from f p r w in
+      let raw = lift_is_raw_plan f h' lists (keeps_from f lists k.filter) firsts p kn x w.point_in (plan_by f lists p x w k plan) in
+      let holds = holds_by f lists p (lift f lists y) h.values w k (best_holds f lists p (lift f lists y) h.values h.move h.best) in
+      let bound = no_raw_plan_gains_more f h' lists g firsts p kn y h.values holds (lift f lists x) raw in
+      subst (λ z. gain f p (lift f lists x) (lift f lists y) ≤ℤ (pos x.total *ℤ z)) (sym h.total_is) bound
+
+  -- no raw plan gains more than the first best plan
+  pub first_gains_most : (p : ℕ) → IsWalked f p → (x y : Plan) → IsFirstBestPlan f lists p (lift f lists y) x → NoneGainsMore f p (lift f lists y) (lift f lists x)
+  first_gains_most p w x y b z raw =
+      let firsts = firsts_from f lists k in
+      let holds = holds_by f lists p (lift f lists y) b.values w k (best_holds f lists p (lift f lists y) b.values b.move b.best) in
+      let bound = no_raw_plan_gains_more f (is_table f r) lists g firsts p (known_from f p r w) y b.values holds z raw in
+      subst (λ n. gain f p z (lift f lists y) ≤ℤ (pos z.total *ℤ n)) (sym (first_best_reaches f lists p y x r w k g b).1) bound
+
+  -- what two plans pay is small
+  pub paid_small : IsWalked f 1 → IsWalked f 2 → IsExchanged f 1 → (x y : Plan) → IsClassPlan f lists 1 x → IsClassPlan f lists 2 y → (b1 b2 : ℤ) → IsBestTotal f lists 1 (lift f lists y) b1 → IsBestTotal f lists 2 (lift f lists x) b2
+      → unsigned_abs b1 ≤ 2 ^ 87 → unsigned_abs b2 ≤ 2 ^ 87 → unsigned_abs (raw_payoff f (lift f lists x) (lift f lists y)) ≤ 2 ^ 123
+  paid_small w1 w2 ex x y px py b1 b2 h1 h2 s1 s2 =
+      let v = raw_payoff f (lift f lists x) (lift f lists y) in
+      let one = raw_payoff_is_gain f (lift f lists x) (lift f lists y) in
+      let two = gain_exchange f 1 ex (lift f lists x) (lift f lists y) in
+      let up = gains_at_most 1 w1 x y px b1 h1 in
+      let down = gains_at_most 2 w2 y x py b2 h2 in
+      let a1 = scaled_small x.total b1 px.total_in.1 s1 in
+      let a2 = scaled_small y.total b2 py.total_in.1 s2 in
+      omega (arith, ints, abs_is v, abs_is (pos x.total *ℤ b1), abs_is (pos y.total *ℤ b2), one, two, up, down, a1, a2)

@@ -1,0 +1,102 @@
+use Rattle.std.proofs.Common.{◌≡◌, ◌*◌, sym, ap, ◌∙◌, subst, arith, to_z, of_z}
+use Rattle.std.specs.Prelude.{ℤ, pos, ◌+ℤ◌, ◌-ℤ◌, ◌*ℤ◌, unsigned_abs}
+use Rattle.std.proofs.lemmas.Int.{to_z-of_z}
+use mir.Syntax.{w128}
+use Rattle.gs_game.specs.Games.{game_of}
+use Rattle.gs_model.specs.BestAnswers.{spread, start_sum}
+use Rattle.gs_model.specs.Frame.{total_weight}
+use Rattle.gs_model.specs.Payoff.{raw_payoff}
+use Rattle.gs_model.specs.Plans.{lift}
+use Rattle.gs_model.proofs.Exchanged.{exchanged_one}
+use Rattle.gs_model.proofs.FirstBest.{verdict_from}
+use Rattle.gs_seq.specs.Abstracts.{frame_of, lists_of}
+use Rattle.gs_seq.specs.Plans.{class_plan}
+use Rattle.gs_best.specs.Forms.{game_in}
+use Rattle.gs_best.specs.Judged.{parts}
+use Rattle.gs_best.specs.Sizes.{IsRoomy}
+use Rattle.gs_best.proofs.Forms.{form_classes, form_in_range, form_lossless, form_walked}
+use Rattle.gs_best.proofs.Rooms.{has_room, holds_all, roomy}
+use Rattle.gs_best.proofs.Totals.{paid_small}
+use Rattle.gs_best.proofs.judging.verdict.Goals as goal
+
+pub best_total-requires-clause-holds : goal.best_total-requires-clause-holds
+best_total-requires-clause-holds c =
+    let a = c.args.form.now in
+    let f = frame_of a in
+    let lists = lists_of a in
+    let w1 = form_walked a 1 (omega arith) (omega arith) in
+    let t = c.work.inside.table in
+    let s = c.work.inside.scratch in
+    holds_all f lists w1 t s (subst (λ l. IsRoomy l t s) (c.work.view_is ∙ c.requires.room) c.work.invariant)
+
+pub best_total-requires-clause-room : goal.best_total-requires-clause-room
+best_total-requires-clause-room c =
+    let a = c.args.form.now in
+    let t = c.work.inside.table in
+    let s = c.work.inside.scratch in
+    has_room (frame_of a) (lists_of a) t s (subst (λ l. IsRoomy l t s) (c.work.view_is ∙ c.requires.room) c.work.invariant)
+
+pub judged-requires-clause-paid : goal.judged-requires-clause-paid
+judged-requires-clause-paid c =
+    let a = c.args.form.now in
+    let f = frame_of a in
+    let lists = lists_of a in
+    let w1 = form_walked a 1 (omega arith) (omega arith) in
+    let w2 = form_walked a 2 (omega arith) (omega arith) in
+    let ranged = form_in_range a in
+    let classes = form_classes a c.round_total-rounds.ensures.sound in
+    let lossless = form_lossless a in
+    let ex = exchanged_one (game_of (game_in a).game) in
+    let x = class_plan f lists c.args.one.now in
+    let y = class_plan f lists c.args.two.now in
+    let b1 = c.best_total.result in
+    let b2 = c.best_total-2.result in
+    let h1 = c.best_total.ensures.total in
+    let h2 = c.best_total-2.ensures.total in
+    let paid = to_z-of_z w128 c.payoff-paid.result (record { sfits = c.payoff-paid.type_inv }) ∙ c.payoff-paid.ensures in
+    let small = paid_small f ranged lists classes lossless w1 w2 ex x y c.requires.one.plan.plan c.requires.two.plan.plan b1 b2 h1 h2 c.best_total.ensures.small c.best_total-2.ensures.small in
+    omega (arith, ap unsigned_abs paid, small)
+
+pub invariant_of-work : goal.invariant_of-work
+invariant_of-work c =
+    let a = c.args.form.now in
+    let f = frame_of a in
+    let lists = lists_of a in
+    let w1 = form_walked a 1 (omega arith) (omega arith) in
+    let t = c.best_total-2.new.table in
+    let s = c.best_total-2.new.scratch in
+    subst (λ l. IsRoomy l t s) (sym (c.work.view_is ∙ c.requires.room)) (roomy f lists w1 t s c.best_total-2.ensures.holds c.best_total-2.ensures.room)
+
+pub returns-clause-verdict : goal.returns-clause-verdict
+returns-clause-verdict c =
+    let a = c.args.form.now in
+    let f = frame_of a in
+    let lists = lists_of a in
+    let w1 = form_walked a 1 (omega arith) (omega arith) in
+    let w2 = form_walked a 2 (omega arith) (omega arith) in
+    let ranged = form_in_range a in
+    let classes = form_classes a c.round_total-rounds.ensures.sound in
+    let lossless = form_lossless a in
+    let ex = exchanged_one (game_of (game_in a).game) in
+    let x = class_plan f lists c.args.one.now in
+    let y = class_plan f lists c.args.two.now in
+    let b1 = c.best_total.result in
+    let b2 = c.best_total-2.result in
+    let h1 = c.best_total.ensures.total in
+    let h2 = c.best_total-2.ensures.total in
+    let paid = to_z-of_z w128 c.payoff-paid.result (record { sfits = c.payoff-paid.type_inv }) ∙ c.payoff-paid.ensures in
+    let value = parts c.judged.result.value in
+    let gap1 = parts c.judged.result.gap1 in
+    let gap2 = parts c.judged.result.gap2 in
+    let j = c.judged.ensures in
+    let p = raw_payoff f (lift f lists x) (lift f lists y) in
+    let s1 = start_sum f (spread f lists h1.values) in
+    let s2 = start_sum f (spread f lists h2.values) in
+    let one = to_z-of_z w128 b1 (record { sfits = c.best_total.type_inv }) ∙ h1.total_is in
+    let two = to_z-of_z w128 b2 (record { sfits = c.best_total-2.type_inv }) ∙ h2.total_is in
+    let weight = c.deal_weight.ensures.value in
+    let scale : (n : ℤ) → n *ℤ pos (total_weight f * x.total * y.total) ≡ n *ℤ pos (c.deal_weight.result * x.total * y.total) = λ n. ap (λ w. n *ℤ pos (w * x.total * y.total)) (sym weight) in
+    verdict_from f lists x y h1.values h2.values h1.move h2.move value gap1 gap2 ranged w1 w2 ex classes lossless h1.best h2.best (j.value.positive, j.first.positive, j.second.positive)
+    (scale value.0 ∙ j.value.value ∙ ap (λ z. pos value.1 *ℤ z) paid)
+    (scale gap1.0 ∙ j.first.value ∙ ap (λ z. pos gap1.1 *ℤ (pos x.total *ℤ z -ℤ to_z w128 (of_z w128 c.payoff-paid.result))) one ∙ ap (λ z. pos gap1.1 *ℤ (pos x.total *ℤ s1 -ℤ z)) paid)
+    (scale gap2.0 ∙ j.second.value ∙ ap (λ z. pos gap2.1 *ℤ (pos y.total *ℤ z +ℤ to_z w128 (of_z w128 c.payoff-paid.result))) two ∙ ap (λ z. pos gap2.1 *ℤ (pos y.total *ℤ s2 +ℤ z)) paid)

@@ -1,0 +1,18 @@
+use Rattle.std.proofs.Common.{sym, ap, ◌∙◌}
+use Rattle.std.specs.Prelude.{◌*ℤ◌}
+use Rattle.std.proofs.Math.IntN.{*ℤ_comm}
+use Rattle.std.proofs.lemmas.Int.{to_z-of_z}
+use mir.Syntax.{w128}
+use Rattle.gs_best.proofs.Fractions.{bottom}
+use Rattle.gs_best.proofs.numbers.fraction.Goals as goal
+
+pub returns : goal.returns
+returns c =
+    let x = c.new.result in
+    let b = bottom x.num x.den x.reduced in
+    let den = to_z-of_z w128 c.args.den c.ranges.den in
+    let num = to_z-of_z w128 c.args.num c.ranges.num in
+    record {
+      positive = b.some;
+      value = ap (λ z. x.num *ℤ z) (sym den) ∙ c.new.ensures ∙ ap (λ z. z *ℤ x.den) num ∙ *ℤ_comm c.args.num x.den ∙ ap (λ z. z *ℤ c.args.num) b.is;
+    }

@@ -1,0 +1,13 @@
+use Rattle.std.proofs.Common.{◌≡◌, ◌≤◌, count_by}
+use Rattle.std.specs.Prelude.{◌==◌}
+use Rattle.std.specs.List.{range_with_len}
+use Rattle.gs_model.specs.Frame.{round_of}
+use Rattle.gs_model.specs.Positions.{at_point}
+use Rattle.gs_seq.specs.Abstracts.{frame_of}
+use Rattle.gs_best.proofs.work.points_of.Given as goal
+
+abbrev pub invariant-loop-point : goal.invariant-loop-point
+invariant-loop-point l = record {
+  count_is : l.count ≡ count_by (λ q. round_of (frame_of l.form) (at_point q) == l.round) (range_with_len 0 l.point);
+  within : l.count ≤ l.point;
+}

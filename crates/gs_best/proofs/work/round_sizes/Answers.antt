@@ -1,0 +1,27 @@
+use Rattle.std.proofs.Common.{◌≡◌, ◌+◌, ◌++◌, ◌∷◌, [], List, ℕ, map, ap, sym, ◌∙◌, arith}
+use Rattle.std.specs.List.{range_with_len}
+use Rattle.std.proofs.lemmas.List.{map-append}
+use Rattle.gs_model.specs.Classes.{class_count}
+use Rattle.gs_model.proofs.Sparse.{range_append}
+use Rattle.gs_seq.specs.Abstracts.{frame_of, lists_of}
+use Rattle.gs_best.specs.Rounds.{size_of}
+use Rattle.gs_best.specs.Sizes.{points_in}
+use Rattle.gs_best.specs.declared.work.RoundSize.{RoundSize}
+use Rattle.gs_best.proofs.work.round_sizes.Goals as goal
+
+pub loop-before-preserved : goal.loop-before-preserved
+loop-before-preserved c =
+    let f = frame_of c.args.form.now in
+    let lists = lists_of c.args.form.now in
+    let i = c.loop-before.before in
+    let size : ℕ → ℕ × ℕ = λ j. (points_in f j, class_count lists j) in
+    let new : RoundSize = record { points = c.points_of.result; classes = c.class_total.result } in
+    let next : i + 1 ≡ 1 + i = omega arith in
+    let points : ℕ → ℕ × ℕ = λ n. (n, c.class_total.result) in
+    let classes : ℕ → ℕ × ℕ = λ n. (points_in f (i + 1), n) in
+    let here : size_of new ≡ size (1 + i) = ap points c.points_of.ensures ∙ ap classes c.class_total.ensures.value ∙ ap size next in
+    let front : List (ℕ × ℕ) = map size (range_with_len 1 i) in
+    let join : ℕ × ℕ → List (ℕ × ℕ) = λ s. front ++ s ∷ [] in
+    let behind : List (ℕ × ℕ) → List (ℕ × ℕ) = λ l. l ++ size_of new ∷ [] in
+    ap (map size_of) c.in_ok-push.ensures.items ∙ map-append size_of c.loop-before.sizes.items (new ∷ []) ∙ ap behind c.loop-before.invariant ∙ ap join here ∙ sym (map-append size (range_with_len 1 i) (range_with_len (1 + i) 1))
+    ∙ ap (map size) (sym (range_append 1 i 1))

@@ -1,0 +1,11 @@
+-- What an end is worth, class by class.
+use Rattle.std.specs.Prelude.{ℕ, ◌-◌, ◌≡◌, List, get_or, ℤ, pos}
+use Rattle.gs_model.specs.BestAnswers.{end_worth}
+use Rattle.gs_model.specs.Classes.{ClassLists, IsClass, first_member}
+use Rattle.gs_model.specs.Frame.{Frame, round_of}
+use Rattle.gs_model.specs.Plans.{Plan}
+use Rattle.gs_model.specs.Positions.{at_end}
+
+-- what an end is worth to each class of its round, seen from its first member
+abbrev pub IsEndRow : Frame → ClassLists → ℕ → Plan → ℕ → List ℤ → Type 0
+IsEndRow f lists player y z row = (c : ℕ) → IsClass lists (round_of f (at_end z)) c → get_or row (c - 1) (pos 0) ≡ end_worth f player y z (first_member lists (round_of f (at_end z)) c)

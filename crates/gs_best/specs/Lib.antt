@@ -1,0 +1,9 @@
+pub mod Forms
+pub mod Ends
+pub mod Tables
+pub mod Rows
+pub mod Sizes
+pub mod Rounds
+pub mod Answers
+pub mod Judged
+pub mod Puts

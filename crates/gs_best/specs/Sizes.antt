@@ -1,0 +1,58 @@
+-- How much room best answers take.
+use Rattle.std.specs.Prelude.{ℕ, ◌*◌, ◌<◌, ◌≤◌, ◌==◌, List, length, map, get_or, sum_by, count_by}
+use Rattle.std.specs.List.{range_with_len}
+use Rattle.gs_model.specs.Classes.{ClassLists, class_count}
+use Rattle.gs_model.specs.Frame.{Frame, last_round, point_count, round_of}
+use Rattle.gs_model.specs.Positions.{at_point}
+use Rattle.gs_best.specs.Tables.{AreStarts, start_of}
+use Rattle.gs_best.specs.declared.room.Scratch.{Scratch}
+use Rattle.gs_best.specs.declared.room.Table.{Table}
+
+-- how many points a round has
+abbrev pub points_in : Frame → ℕ → ℕ
+points_in f round = count_by (λ q. round_of f (at_point q) == round) (range_with_len 0 (point_count f))
+
+-- for each round how many points and how many classes it has
+abbrev pub sizes_of : Frame → ClassLists → List (ℕ × ℕ)
+sizes_of f lists = map (λ round. (points_in f round, class_count lists round)) (range_with_len 1 (last_round f))
+
+-- a number for each class of any round
+abbrev pub IsWide : Frame → ClassLists → ℕ → Type 0
+IsWide f lists wide = (round : ℕ) → 0 < round → round ≤ last_round f → class_count lists round ≤ wide
+
+-- the rows to work on are long enough
+pub record HasRoom (f : Frame) (lists : ClassLists) (s : Scratch) : Type 0 where
+  pub ends : IsWide f lists (length s.ends.items)
+  pub worths : IsWide f lists (length s.worths.items)
+  pub best : IsWide f lists (length s.best.items)
+  pub moves : IsWide f lists (length s.moves.items)
+
+-- there is a value and a move for each point and class
+pub record HoldsAll (f : Frame) (lists : ClassLists) (t : Table) : Type 0 where
+  pub starts : point_count f ≤ length t.starts.items
+  pub values : start_of f lists (point_count f) ≤ length t.values.items
+  pub picks : start_of f lists (point_count f) ≤ length t.picks.items
+
+-- and each point's values start where they should
+pub record IsLaidOut (f : Frame) (lists : ClassLists) (t : Table) : Type 0 where
+  pub holds : HoldsAll f lists t
+  pub places : AreStarts f lists t.starts.items
+
+-- ---- room by sizes
+
+-- for how many points and how many values there is room in rounds of these sizes
+abbrev pub point_room : List (ℕ × ℕ) → ℕ
+point_room sizes = sum_by (λ (n : ℕ × ℕ). n.0) sizes
+
+abbrev pub value_room : List (ℕ × ℕ) → ℕ
+value_room sizes = sum_by (λ (n : ℕ × ℕ). n.0 * n.1) sizes
+
+-- lists and rows are long enough for rounds of these sizes
+pub record IsRoomy (sizes : List (ℕ × ℕ)) (t : Table) (s : Scratch) : Type 0 where
+  pub starts : point_room sizes ≤ length t.starts.items
+  pub values : value_room sizes ≤ length t.values.items
+  pub picks : value_room sizes ≤ length t.picks.items
+  pub ends : (i : ℕ) (d : ℕ × ℕ) → i < length sizes → (get_or sizes i d).1 ≤ length s.ends.items
+  pub worths : (i : ℕ) (d : ℕ × ℕ) → i < length sizes → (get_or sizes i d).1 ≤ length s.worths.items
+  pub best : (i : ℕ) (d : ℕ × ℕ) → i < length sizes → (get_or sizes i d).1 ≤ length s.best.items
+  pub moves : (i : ℕ) (d : ℕ × ℕ) → i < length sizes → (get_or sizes i d).1 ≤ length s.moves.items

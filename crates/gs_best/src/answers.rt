@@ -1,0 +1,61 @@
+//! Best answers.
+
+ghost use Rattle.std.specs.Prelude.{◌≡◌, ◌-◌, ◌<◌, ◌≤◌, IfOk};
+ghost use Rattle.gs_model.specs.BestAnswers.{IsFirstBestPlan};
+ghost use Rattle.gs_model.specs.Frame.{other_player};
+ghost use Rattle.gs_seq.specs.Abstracts.{frame_of, lists_of};
+ghost use Rattle.gs_seq.specs.Plans.{IsPlanOf, class_plan, lifted};
+ghost use Rattle.gs_best.specs.Answers.{AreChoices, NoneGainsMore};
+
+use crate::deviator::Deviator;
+use crate::fill::fill;
+use crate::listing::own_moves;
+use crate::putting::put_all;
+use crate::reading::round_total;
+use crate::work::room_for;
+use gs_seq::{Abstract, Plan};
+use std::alloc::{AllocError, Global};
+
+/// The first best answer of a player to the other's plan: total 1, and at each point and class all that comes there on the first move of greatest
+/// worth.
+pub fn best(alloc: Global, form: &Abstract, player: u8, other: &Plan) -> Result<Plan, AllocError>
+    requires some { 0 < player }
+    requires two { player ≤ 2 }
+    requires other { IsPlanOf (frame_of form.now) (lists_of form.now) (other_player player) other.now }
+    ensures plan { IfOk result (λ x. IsPlanOf (frame_of form.now) (lists_of form.now) player x) }
+    ensures best { IfOk result (λ x. let f = frame_of form.now in let lists = lists_of form.now in IsFirstBestPlan f lists player (lifted f lists other.now) (class_plan f lists x)) }
+    ensures bound { IfOk result (λ x. let f = frame_of form.now in let lists = lists_of form.now in NoneGainsMore f player (lifted f lists other.now) (lifted f lists x)) }
+{
+    let _rounds = round_total(form);
+    let side = Deviator {
+        form,
+        player,
+        other,
+    };
+    let (mut table, mut scratch) = room_for(alloc, form)?;
+    fill(&side, &mut table, &mut scratch);
+    put_all(alloc, &side, &table)
+}
+
+/// For each point of a player in order and each class of the point's round the first move of greatest worth against the other's plan, also where the
+/// player's own moves never come there.
+pub fn choices(
+    alloc: Global,
+    form: &Abstract,
+    player: u8,
+    other: &Plan,
+) -> Result<Vec<u8>, AllocError>
+    requires some { 0 < player }
+    requires two { player ≤ 2 }
+    requires other { IsPlanOf (frame_of form.now) (lists_of form.now) (other_player player) other.now }
+    ensures { IfOk result (λ v. let f = frame_of form.now in let lists = lists_of form.now in AreChoices f lists player (lifted f lists other.now) v.items) }
+{
+    let side = Deviator {
+        form,
+        player,
+        other,
+    };
+    let (mut table, mut scratch) = room_for(alloc, form)?;
+    fill(&side, &mut table, &mut scratch);
+    own_moves(alloc, &side, &table)
+}

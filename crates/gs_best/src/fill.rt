@@ -1,0 +1,73 @@
+//! Best values at all points, by induction backwards.
+
+ghost use Rattle.std.specs.Prelude.{◌≡◌, ◌+◌, ◌<◌, ◌≤◌, length, pos};
+ghost use Rattle.gs_model.specs.Frame.{point_count};
+ghost use Rattle.gs_seq.specs.Abstracts.{frame_of, lists_of};
+ghost use Rattle.gs_seq.specs.Plans.{lifted};
+ghost use Rattle.gs_best.specs.Answers.{IsFilled};
+ghost use Rattle.gs_best.specs.Rows.{IsCopied};
+ghost use Rattle.gs_best.specs.Sizes.{HasRoom, HoldsAll, IsLaidOut};
+ghost use Rattle.gs_best.specs.Tables.{IsBestFrom, moves_of, table_of};
+
+use crate::deviator::Deviator;
+use crate::merging::merge_moves;
+use crate::reading::{class_total, point_total, round_at, round_total};
+use crate::room::{Scratch, Table, place_points};
+
+/// Copies so many values of a row into a list, from a place on.
+fn copy_values(row: &[i128], start: usize, count: usize, values: &mut [i128])
+    requires row { count ≤ length row.now }
+    requires room { start + count ≤ length values.old }
+    ensures { IsCopied (pos 0) start count row.now values.old values.new }
+{
+    for class in 0..count {
+        values[start + class] = row[class];
+    }
+}
+
+/// Copies so many moves of a row into a list, from a place on.
+fn copy_moves(row: &[u8], start: usize, count: usize, moves: &mut [u8])
+    requires row { count ≤ length row.now }
+    requires room { start + count ≤ length moves.old }
+    ensures { IsCopied 0 start count row.now moves.old moves.new }
+{
+    for class in 0..count {
+        moves[start + class] = row[class];
+    }
+}
+
+/// The best values of a point, where those of all later points are known.
+fn fill_point(side: &Deviator<'_>, point: u32, table: &mut Table, scratch: &mut Scratch)
+    requires point { point < point_count (frame_of side.now.form.now) }
+    requires laid_out { IsLaidOut (frame_of side.now.form.now) (lists_of side.now.form.now) table.old }
+    requires known { let f = frame_of side.now.form.now in let lists = lists_of side.now.form.now in
+        IsBestFrom f lists side.now.player (table_of f lists side.now.player (lifted f lists side.now.other.now) table.old.values.items) (moves_of f lists table.old.picks.items) (point + 1) }
+    requires room { HasRoom (frame_of side.now.form.now) (lists_of side.now.form.now) scratch.old }
+    ensures laid_out { IsLaidOut (frame_of side.now.form.now) (lists_of side.now.form.now) table.new }
+    ensures known { let f = frame_of side.now.form.now in let lists = lists_of side.now.form.now in
+        IsBestFrom f lists side.now.player (table_of f lists side.now.player (lifted f lists side.now.other.now) table.new.values.items) (moves_of f lists table.new.picks.items) point }
+    ensures room { HasRoom (frame_of side.now.form.now) (lists_of side.now.form.now) scratch.new }
+{
+    let _rounds = round_total(side.form);
+    merge_moves(side, point, table, scratch);
+    let start = table.starts[point as usize] as usize;
+    let count = class_total(side.form, round_at(side.form, point)) as usize;
+    copy_values(&scratch.best, start, count, &mut table.values);
+    copy_moves(&scratch.moves, start, count, &mut table.picks);
+}
+
+/// Best values of all points, the last point first.
+pub(crate) fn fill(side: &Deviator<'_>, table: &mut Table, scratch: &mut Scratch)
+    requires holds { HoldsAll (frame_of side.now.form.now) (lists_of side.now.form.now) table.old }
+    requires room { HasRoom (frame_of side.now.form.now) (lists_of side.now.form.now) scratch.old }
+    ensures filled { let f = frame_of side.now.form.now in let lists = lists_of side.now.form.now in
+        IsFilled f lists side.now.player (lifted f lists side.now.other.now) table.new }
+    ensures room { HasRoom (frame_of side.now.form.now) (lists_of side.now.form.now) scratch.new }
+{
+    place_points(side.form, &mut table.starts);
+    let mut point = point_total(side.form);
+    while point > 0 {
+        point -= 1;
+        fill_point(side, point, table, scratch);
+    }
+}

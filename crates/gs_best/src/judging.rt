@@ -1,0 +1,108 @@
+//! The verdict on two plans.
+
+ghost use Rattle.std.specs.Prelude.{◌≡◌, ◌+◌, ◌<◌, ◌≤◌, ◌^◌, length, unsigned_abs};
+ghost use Rattle.std.specs.List.{range_with_len};
+ghost use Rattle.gs_model.specs.Classes.{class_count};
+ghost use Rattle.gs_model.specs.Frame.{last_round, signals_in};
+ghost use Rattle.gs_model.specs.Sums.{sum_z};
+ghost use Rattle.gs_model.specs.Verdict.{IsVerdict};
+ghost use Rattle.gs_seq.specs.Abstracts.{frame_of, lists_of};
+ghost use Rattle.gs_seq.specs.Plans.{IsPlanOf, lifted};
+ghost use Rattle.gs_best.specs.Answers.{IsBestTotal, IsFilled};
+ghost use Rattle.gs_best.specs.Judged.{parts};
+ghost use Rattle.gs_best.specs.Rows.{AreModest, value_at};
+ghost use Rattle.gs_best.specs.Sizes.{HasRoom, HoldsAll, sizes_of};
+
+use crate::deviator::Deviator;
+use crate::ends::read_end;
+use crate::fill::fill;
+use crate::numbers::judged;
+use crate::reading::{deal_weight, end_round, round_at, round_total, signal_total, start_at};
+use crate::room::{Scratch, Table};
+use crate::rows::run_sum;
+use crate::runs::Run;
+use crate::work::Work;
+use gs_frac::Verdict;
+use gs_game::Target;
+use gs_seq::{Abstract, Plan};
+
+/// The sum, over all signals of a round, of the value at each one's class.
+fn round_sum(form: &Abstract, round: u8, values: &[i128], start: usize) -> i128
+    requires some { 0 < round }
+    requires top { round ≤ last_round (frame_of form.now) }
+    requires room { start + class_count (lists_of form.now) round ≤ length values.now }
+    requires modest { AreModest values.now start (class_count (lists_of form.now) round) }
+    ensures { result ≡ sum_z (value_at (lists_of form.now) round values.now start) (signals_in (frame_of form.now) round) }
+{
+    let all = Run {
+        first: 0,
+        end: signal_total(form, round),
+    };
+    run_sum(form, round, all, values, start)
+}
+
+/// What a player's best raw plan of total 1 gains, where his best values are known: their sum at the start, over all raw signals of its round.
+fn start_total(side: &Deviator<'_>, table: &Table, scratch: &mut Scratch) -> i128
+    requires filled { let f = frame_of side.now.form.now in let lists = lists_of side.now.form.now in
+        IsFilled f lists side.now.player (lifted f lists side.now.other.now) table.now }
+    requires room { HasRoom (frame_of side.now.form.now) (lists_of side.now.form.now) scratch.old }
+    ensures total { let f = frame_of side.now.form.now in let lists = lists_of side.now.form.now in
+        IsBestTotal f lists side.now.player (lifted f lists side.now.other.now) result }
+    ensures small { unsigned_abs result ≤ 2 ^ 87 }
+    ensures room { HasRoom (frame_of side.now.form.now) (lists_of side.now.form.now) scratch.new }
+{
+    let _rounds = round_total(side.form);
+    match start_at(side.form) {
+        Target::Point(point) => {
+            let start = table.starts[point as usize] as usize;
+            round_sum(side.form, round_at(side.form, point), &table.values, start)
+        }
+        Target::End(end) => {
+            read_end(side, end, &mut scratch.ends);
+            round_sum(side.form, end_round(side.form, end), &scratch.ends, 0)
+        }
+    }
+}
+
+/// What a player's best raw plan of total 1 gains.
+fn best_total(side: &Deviator<'_>, table: &mut Table, scratch: &mut Scratch) -> i128
+    requires holds { HoldsAll (frame_of side.now.form.now) (lists_of side.now.form.now) table.old }
+    requires room { HasRoom (frame_of side.now.form.now) (lists_of side.now.form.now) scratch.old }
+    ensures total { let f = frame_of side.now.form.now in let lists = lists_of side.now.form.now in
+        IsBestTotal f lists side.now.player (lifted f lists side.now.other.now) result }
+    ensures small { unsigned_abs result ≤ 2 ^ 87 }
+    ensures holds { HoldsAll (frame_of side.now.form.now) (lists_of side.now.form.now) table.new }
+    ensures room { HasRoom (frame_of side.now.form.now) (lists_of side.now.form.now) scratch.new }
+{
+    fill(side, table, scratch);
+    start_total(side, table, scratch)
+}
+
+/// The verdict on a plan of player 1 and one of player 2: what they pay player 1, and what each player could still gain by any raw plan, over the
+/// weight of all deals and both totals. It takes no memory.
+pub fn verdict(form: &Abstract, one: &Plan, two: &Plan, work: &mut Work) -> Verdict
+    requires one { IsPlanOf (frame_of form.now) (lists_of form.now) 1 one.now }
+    requires two { IsPlanOf (frame_of form.now) (lists_of form.now) 2 two.now }
+    requires room { work.old ≡ sizes_of (frame_of form.now) (lists_of form.now) }
+    ensures room { work.new ≡ work.old }
+    ensures verdict { let f = frame_of form.now in let lists = lists_of form.now in
+        IsVerdict f (lifted f lists one.now) (lifted f lists two.now) (parts result.value) (parts result.gap1) (parts result.gap2) }
+{
+    let _rounds = round_total(form);
+    let first = Deviator {
+        form,
+        player: 1,
+        other: two,
+    };
+    let second = Deviator {
+        form,
+        player: 2,
+        other: one,
+    };
+    let best = (
+        best_total(&first, &mut work.table, &mut work.scratch),
+        best_total(&second, &mut work.table, &mut work.scratch),
+    );
+    let paid = form.payoff(one, two);
+    judged(deal_weight(form), (one.total, two.total), best, paid)
+}

@@ -1,0 +1,41 @@
+//! The best moves of a player, listed.
+
+ghost use Rattle.std.specs.Prelude.{◌≡◌, ◌+◌, ◌≤◌, ◌++◌, IfOk, drop, length, take};
+ghost use Rattle.gs_seq.specs.Abstracts.{frame_of, lists_of};
+ghost use Rattle.gs_seq.specs.Plans.{lifted};
+ghost use Rattle.gs_best.specs.Answers.{AreChoices, IsFilled};
+
+use crate::deviator::Deviator;
+use crate::reading::{chooser, class_total, point_total, round_at};
+use crate::room::Table;
+use std::alloc::{AllocError, Global};
+
+/// So many moves more, from a place of a list on.
+fn push_row(moves: &mut Vec<u8>, picks: &[u8], start: usize, count: usize) -> Result<(), AllocError>
+    requires { start + count ≤ length picks.now }
+    ensures { IfOk result (λ _. moves.new.items ≡ moves.old.items ++ take count (drop start picks.now)) }
+{
+    moves.extend_from_slice(&picks[start..start + count])
+}
+
+/// For each own point and class of its round the best move.
+pub(crate) fn own_moves(
+    alloc: Global,
+    side: &Deviator<'_>,
+    table: &Table,
+) -> Result<Vec<u8>, AllocError>
+    requires filled { let f = frame_of side.now.form.now in let lists = lists_of side.now.form.now in
+        IsFilled f lists side.now.player (lifted f lists side.now.other.now) table.now }
+    ensures { let f = frame_of side.now.form.now in let lists = lists_of side.now.form.now in
+        IfOk result (λ v. AreChoices f lists side.now.player (lifted f lists side.now.other.now) v.items) }
+{
+    let mut moves = Vec::new(alloc);
+    for point in 0..point_total(side.form) {
+        if chooser(side.form, point) == side.player {
+            let start = table.starts[point as usize] as usize;
+            let count = class_total(side.form, round_at(side.form, point)) as usize;
+            push_row(&mut moves, &table.picks, start, count)?;
+        }
+    }
+    Ok(moves)
+}

@@ -1,0 +1,120 @@
+//! The value of a point, from what its moves are worth.
+
+ghost use Rattle.std.specs.Prelude.{◌≡◌, ◌≢◌, ◌==◌, ◌+◌, ◌<◌, ◌≤◌, ◌^◌, ◌+ℤ◌, ℕ, pos, length, get_or, unsigned_abs, if◌then◌else◌};
+ghost use Rattle.gs_model.specs.Classes.{class_count};
+ghost use Rattle.gs_model.specs.Frame.{move_count, player_at, point_count};
+ghost use Rattle.gs_seq.specs.Abstracts.{frame_of, lists_of};
+ghost use Rattle.gs_seq.specs.Plans.{lifted};
+ghost use Rattle.gs_best.specs.Rows.{AreAdded, AreGreatest, AreRaised, AreSums, IsMerged, raises};
+ghost use Rattle.gs_best.specs.Sizes.{HasRoom, IsLaidOut};
+ghost use Rattle.gs_best.specs.Tables.{IsBestFrom, classes_at, moves_of, table_of};
+
+use crate::deviator::Deviator;
+use crate::reading::{chooser, class_total, move_total, round_at, round_total};
+use crate::room::{Scratch, Table};
+use crate::rows::read_worths;
+use gs_seq::plus;
+
+/// Whether a worth takes the place of the best so far: it is the first move's, or greater.
+fn is_raised(choice: u8, best: i128, worth: i128) -> bool
+    ensures { result ≡ raises choice best worth }
+{
+    choice == 0 || best < worth
+}
+
+/// A sum with one more worth; the first move's worth begins it.
+fn added(choice: u8, sum: i128, worth: i128) -> i128
+    requires { 0 < choice → unsigned_abs (sum +ℤ worth) < 2 ^ 127 }
+    ensures { result ≡ (if choice == 0 then worth else (sum +ℤ worth)) }
+{
+    if choice == 0 { worth } else { plus(sum, worth) }
+}
+
+/// Raises each of so many bests to its worth, where this is the first move or it is greater.
+fn raise(worths: &[i128], choice: u8, count: usize, best: &mut [i128], moves: &mut [u8])
+    requires worths { count ≤ length worths.now }
+    requires best { count ≤ length best.old }
+    requires moves { count ≤ length moves.old }
+    ensures { AreRaised count choice worths.now best.old best.new moves.old moves.new }
+{
+    for class in 0..count {
+        if is_raised(choice, best[class], worths[class]) {
+            best[class] = worths[class];
+            moves[class] = choice;
+        }
+    }
+}
+
+/// Adds to each of so many sums its worth; the first move's worth begins them.
+fn add(worths: &[i128], choice: u8, count: usize, sums: &mut [i128])
+    requires worths { count ≤ length worths.now }
+    requires sums { count ≤ length sums.old }
+    requires fits { (k : ℕ) → k < count → 0 < choice → unsigned_abs (get_or sums.old k (pos 0) +ℤ get_or worths.now k (pos 0)) < 2 ^ 127 }
+    ensures { AreAdded count choice worths.now sums.old sums.new }
+{
+    for class in 0..count {
+        sums[class] = added(choice, sums[class], worths[class]);
+    }
+}
+
+/// The greatest worth of a move of a point, and the first move that has it, for each class of the point's round.
+fn best_moves(side: &Deviator<'_>, point: u32, table: &Table, scratch: &mut Scratch)
+    requires point { point < point_count (frame_of side.now.form.now) }
+    requires laid_out { IsLaidOut (frame_of side.now.form.now) (lists_of side.now.form.now) table.now }
+    requires known { let f = frame_of side.now.form.now in let lists = lists_of side.now.form.now in
+        IsBestFrom f lists side.now.player (table_of f lists side.now.player (lifted f lists side.now.other.now) table.now.values.items) (moves_of f lists table.now.picks.items) (point + 1) }
+    requires room { HasRoom (frame_of side.now.form.now) (lists_of side.now.form.now) scratch.old }
+    ensures best { let f = frame_of side.now.form.now in let lists = lists_of side.now.form.now in
+        AreGreatest f lists (table_of f lists side.now.player (lifted f lists side.now.other.now) table.now.values.items) point (move_count f point) scratch.new.best.items scratch.new.moves.items }
+    ensures room { HasRoom (frame_of side.now.form.now) (lists_of side.now.form.now) scratch.new }
+{
+    let _rounds = round_total(side.form);
+    let count = class_total(side.form, round_at(side.form, point)) as usize;
+    for choice in 0..move_total(side.form, point) {
+        read_worths(side, point, choice, table, scratch);
+        raise(
+            &scratch.worths,
+            choice,
+            count,
+            &mut scratch.best,
+            &mut scratch.moves,
+        );
+    }
+}
+
+/// The sum of the worths of all moves of a point, for each class of the point's round.
+fn sum_moves(side: &Deviator<'_>, point: u32, table: &Table, scratch: &mut Scratch)
+    requires point { point < point_count (frame_of side.now.form.now) }
+    requires laid_out { IsLaidOut (frame_of side.now.form.now) (lists_of side.now.form.now) table.now }
+    requires known { let f = frame_of side.now.form.now in let lists = lists_of side.now.form.now in
+        IsBestFrom f lists side.now.player (table_of f lists side.now.player (lifted f lists side.now.other.now) table.now.values.items) (moves_of f lists table.now.picks.items) (point + 1) }
+    requires room { HasRoom (frame_of side.now.form.now) (lists_of side.now.form.now) scratch.old }
+    ensures sums { let f = frame_of side.now.form.now in let lists = lists_of side.now.form.now in
+        AreSums f lists (table_of f lists side.now.player (lifted f lists side.now.other.now) table.now.values.items) point (move_count f point) scratch.new.best.items }
+    ensures room { HasRoom (frame_of side.now.form.now) (lists_of side.now.form.now) scratch.new }
+{
+    let _rounds = round_total(side.form);
+    let count = class_total(side.form, round_at(side.form, point)) as usize;
+    for choice in 0..move_total(side.form, point) {
+        read_worths(side, point, choice, table, scratch);
+        add(&scratch.worths, choice, count, &mut scratch.best);
+    }
+}
+
+/// The values of a point, and where the player chooses his first best moves, for each class of the point's round.
+pub(crate) fn merge_moves(side: &Deviator<'_>, point: u32, table: &Table, scratch: &mut Scratch)
+    requires point { point < point_count (frame_of side.now.form.now) }
+    requires laid_out { IsLaidOut (frame_of side.now.form.now) (lists_of side.now.form.now) table.now }
+    requires known { let f = frame_of side.now.form.now in let lists = lists_of side.now.form.now in
+        IsBestFrom f lists side.now.player (table_of f lists side.now.player (lifted f lists side.now.other.now) table.now.values.items) (moves_of f lists table.now.picks.items) (point + 1) }
+    requires room { HasRoom (frame_of side.now.form.now) (lists_of side.now.form.now) scratch.old }
+    ensures merged { let f = frame_of side.now.form.now in let lists = lists_of side.now.form.now in
+        IsMerged f lists side.now.player (table_of f lists side.now.player (lifted f lists side.now.other.now) table.now.values.items) point scratch.new.best.items scratch.new.moves.items }
+    ensures room { HasRoom (frame_of side.now.form.now) (lists_of side.now.form.now) scratch.new }
+{
+    if chooser(side.form, point) == side.player {
+        best_moves(side, point, table, scratch);
+    } else {
+        sum_moves(side, point, table, scratch);
+    }
+}

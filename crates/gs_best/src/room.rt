@@ -1,0 +1,44 @@
+//! Room for the values of best answers.
+
+ghost use Rattle.std.specs.Prelude.{◌≡◌, ◌≤◌, length};
+ghost use Rattle.gs_model.specs.Frame.{point_count};
+ghost use Rattle.gs_seq.specs.Abstracts.{frame_of, lists_of};
+ghost use Rattle.gs_best.specs.Tables.{AreStarts, start_of};
+
+use crate::reading::{class_total, point_total, round_at};
+use gs_seq::Abstract;
+
+/// For each point and class of its round a value, and at a deviator's own points the first best move.
+///
+/// A point's values stand side by side, one for each class, from the point's start on.
+#[derive(Drop)]
+pub(crate) struct Table {
+    pub(crate) starts: Vec<u32>,
+    pub(crate) values: Vec<i128>,
+    pub(crate) picks: Vec<u8>,
+}
+
+/// Rows of a number for each class, to work on.
+#[derive(Drop)]
+pub(crate) struct Scratch {
+    // what an end is worth
+    pub(crate) ends: Vec<i128>,
+    // what a move is worth
+    pub(crate) worths: Vec<i128>,
+    // the value of a point by the moves so far
+    pub(crate) best: Vec<i128>,
+    // and the first best one of them
+    pub(crate) moves: Vec<u8>,
+}
+
+/// Writes where the values of each point start.
+pub(crate) fn place_points(form: &Abstract, starts: &mut [u32])
+    requires { point_count (frame_of form.now) ≤ length starts.old }
+    ensures { AreStarts (frame_of form.now) (lists_of form.now) starts.new }
+{
+    let mut start = 0;
+    for point in 0..point_total(form) {
+        starts[point as usize] = start;
+        start += class_total(form, round_at(form, point));
+    }
+}
