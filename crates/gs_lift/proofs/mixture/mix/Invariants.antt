@@ -1,0 +1,7 @@
+use Rattle.gs_seq.specs.Abstracts.{frame_of, lists_of}
+use Rattle.gs_seq.specs.Plans.{lifted}
+use Rattle.gs_lift.proofs.Mixed.{IsMixtureOf}
+use Rattle.gs_lift.proofs.mixture.mix.Given as goal
+
+abbrev pub invariant-loop-choice : goal.invariant-loop-choice
+invariant-loop-choice l = IsMixtureOf (frame_of l.a) (lifted (frame_of l.a) (lists_of l.a) l.plan) l.spot.point l.spot.signal l.arrow-items l.choice l.out

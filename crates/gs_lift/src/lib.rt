@@ -1,0 +1,17 @@
+//! Raw hands: the spot that a line and a raw signal name, and what a plan over classes does there.
+#![tactic(auto)]
+
+mod fault;
+mod mixture;
+mod query;
+mod shares;
+mod spot;
+
+pub use fault::QueryFault;
+pub use mixture::{Mixture, mix};
+pub use query::locate;
+pub use shares::weight;
+pub use spot::Spot;
+
+#[cfg(test)]
+mod tests;

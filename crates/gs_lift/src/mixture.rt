@@ -1,0 +1,90 @@
+//! Mixtures.
+
+ghost use Rattle.std.specs.Prelude.{◌≡◌, ◌<◌, ◌≤◌, length, vec_capacity};
+ghost use Rattle.gs_model.specs.Frame.{player_at, point_count, round_of, signal_count};
+ghost use Rattle.gs_model.specs.Positions.{at_point};
+ghost use Rattle.gs_lift.specs.Mixtures.{IsMixture};
+ghost use Rattle.gs_seq.specs.Abstracts.{frame_of, lists_of};
+ghost use Rattle.gs_seq.specs.Plans.{IsPlanOf, lifted};
+
+use crate::shares::{share, total_weight};
+use crate::spot::Spot;
+use gs_frac::Fraction;
+use gs_seq::{Abstract, Plan};
+use std::alloc::{AllocError, Global};
+use std::marker::Model;
+
+/// The most moves that a point has: one for each letter.
+const MOST_MOVES: usize = 26;
+
+/// Moves by their letters, each with its share. It has room for as many moves as a point may have.
+#[derive(Debug, Drop)]
+pub struct Mixture {
+    pairs: Vec<(u8, Fraction)>,
+}
+
+impl Model for Mixture {
+    ghost use Rattle.std.specs.Prelude.{◌≤◌, ℕ, List, vec_capacity};
+    ghost use Rattle.gs_frac.specs.declared.value.Fraction.{Fraction};
+
+    ghost Value = { List (ℕ × Fraction) };
+
+    ghost view = { λ m. m.pairs.items };
+
+    ghost invariant = { λ m. 26 ≤ vec_capacity m.pairs };
+}
+
+impl Mixture {
+    ghost use Rattle.std.specs.Prelude.{◌≡◌, ◌<◌, [], ◌∷◌, ◌++◌, length, IfOk};
+
+    /// A mixture of no moves, with room for 26.
+    pub fn new(alloc: Global) -> Result<Mixture, AllocError>
+        ensures { IfOk result (λ m. m ≡ []) }
+    {
+        Ok(Mixture {
+            pairs: Vec::with_capacity(alloc, MOST_MOVES)?,
+        })
+    }
+
+    /// The moves in order.
+    pub fn pairs(&self) -> &[(u8, Fraction)]
+        ensures { result.now ≡ self.now }
+    {
+        &self.pairs
+    }
+
+    /// Takes all moves away.
+    fn clear(&mut self)
+        ensures { self.new ≡ [] }
+    {
+        self.pairs.clear();
+    }
+
+    /// One move more, for which there is room.
+    fn push(&mut self, letter: u8, share: Fraction)
+        requires { length self.old < 26 }
+        ensures { self.new ≡ self.old ++ (letter, share) ∷ [] }
+    {
+        match self.pairs.push((letter, share)) {
+            Ok(()) => {}
+            Err(_) => unreachable!(),
+        }
+    }
+}
+
+/// Sets `out` to the mixture of a plan at a spot of its player: for each move of the point, in order, the weight of the signal's class over the
+/// weights of all moves there, or the first move alone where all weigh 0.
+pub fn mix(a: &Abstract, plan: &Plan, spot: Spot, out: &mut Mixture)
+    requires plan { IsPlanOf (frame_of a.now) (lists_of a.now) plan.now.player plan.now }
+    requires point { spot.point < point_count (frame_of a.now) }
+    requires own { player_at (frame_of a.now) spot.point ≡ plan.now.player }
+    requires signal { spot.signal < signal_count (frame_of a.now) (round_of (frame_of a.now) (at_point spot.point)) }
+    ensures { IsMixture (frame_of a.now) (lifted (frame_of a.now) (lists_of a.now) plan.now) spot.point spot.signal out.new }
+{
+    let total = total_weight(a, plan, spot);
+    let point = &a.lossless().signals().game().points()[spot.point as usize];
+    out.clear();
+    for (choice, arrow) in point.moves.iter().enumerate() {
+        out.push(arrow.letter, share(a, plan, spot, choice as u8, total));
+    }
+}

@@ -1,0 +1,67 @@
+//! The spot that two texts name.
+
+ghost use Rattle.std.specs.Prelude.{◌<◌, ◌≤◌, ◌↔◌, ◌≡◌, ℕ, IsTrue, MatchOption, MatchResult};
+ghost use Rattle.gs_lift.specs.Queries.{IsFaultOf, IsPointFault, IsSpot, NamesOwnPoint, NamesPoint, NamesSomeSignal, signals_of};
+
+use crate::fault::QueryFault;
+use crate::spot::Spot;
+use gs_game::{Target, ValidGame};
+use gs_seq::Abstract;
+use gs_tree::Signals;
+
+/// The spot of a player that the line of a point and the text of a raw signal name, or the first rule that the texts break, in the order of
+/// `QueryFault`.
+pub fn locate(a: &Abstract, player: u8, line: &str, signal: &str) -> Result<Spot, QueryFault>
+    requires some { 0 < player }
+    requires two { player ≤ 2 }
+    ensures { MatchResult result (IsSpot (signals_of a.now) player line.now signal.now) (IsFaultOf (signals_of a.now) player line.now signal.now) }
+{
+    let signals = a.lossless().signals();
+    let game = signals.game();
+    let point = own_point(game, player, line)?;
+    let round = game.points()[point as usize].round;
+    if let Some(signal) = signals.index_of(round, signal) {
+        return Ok(Spot { point, signal });
+    }
+    if is_signal(signals, signal) {
+        Err(QueryFault::Round)
+    } else {
+        Err(QueryFault::Signal)
+    }
+}
+
+/// The point of a player that a line names.
+fn own_point(game: &ValidGame, player: u8, line: &str) -> Result<u32, QueryFault>
+    ensures { MatchResult result (NamesOwnPoint game.now player line.now) (IsPointFault game.now player line.now) }
+{
+    let Some(point) = point_named(game, line) else {
+        return Err(QueryFault::Line);
+    };
+    if game.points()[point as usize].player == player {
+        Ok(point)
+    } else {
+        Err(QueryFault::Player)
+    }
+}
+
+/// The point that a line names.
+fn point_named(game: &ValidGame, line: &str) -> Option<u32>
+    ensures { MatchOption result ((q : ℕ) → NamesPoint game.now line.now q → ⊥) (NamesPoint game.now line.now) }
+{
+    match game.line_of(line)? {
+        Target::Point(point) => Some(point),
+        Target::End(_) => None,
+    }
+}
+
+/// Whether a text is that of a raw signal of some round.
+fn is_signal(signals: &Signals, text: &str) -> bool
+    ensures { IsTrue result ↔ NamesSomeSignal signals.now text.now }
+{
+    for before in 0..signals.rounds() {
+        if signals.index_of(before + 1, text).is_some() {
+            return true;
+        }
+    }
+    false
+}

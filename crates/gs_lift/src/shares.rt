@@ -1,0 +1,77 @@
+//! What a plan over classes says at a raw signal: the weights of its moves, and their shares.
+
+ghost use Rattle.std.specs.Prelude.{◌≡◌, ◌<◌, ◌^◌};
+ghost use Rattle.gs_model.specs.Classes.{IsClass, class_of};
+ghost use Rattle.gs_model.specs.Frame.{move_count, player_at, point_count, round_of, signal_count};
+ghost use Rattle.gs_model.specs.Positions.{at_point};
+ghost use Rattle.gs_lift.specs.Mixtures.{IsShareOf, total_number};
+ghost use Rattle.gs_seq.specs.Abstracts.{frame_of, lists_of};
+ghost use Rattle.gs_seq.specs.Plans.{IsPlanOf, lifted};
+
+use crate::spot::Spot;
+use gs_frac::Fraction;
+use gs_seq::{Abstract, Plan};
+
+/// The class, in a point's round, of a raw signal.
+fn class_at(a: &Abstract, point: u32, signal: u32) -> u32
+    requires point { point < point_count (frame_of a.now) }
+    requires signal { signal < signal_count (frame_of a.now) (round_of (frame_of a.now) (at_point point)) }
+    ensures value { result ≡ class_of (lists_of a.now) (round_of (frame_of a.now) (at_point point)) signal }
+    ensures class { IsClass (lists_of a.now) (round_of (frame_of a.now) (at_point point)) result }
+{
+    let lossless = a.lossless();
+    let classes = lossless.classes();
+    let _rounds = classes.rounds();
+    let round = lossless.signals().game().points()[point as usize].round;
+    classes.class_of(round, signal)
+}
+
+/// The weight of a move at a raw signal, in the raw plan that a plan over classes stands for: that of the signal's class.
+pub fn weight(a: &Abstract, plan: &Plan, point: u32, signal: u32, choice: u8) -> u64
+    requires plan { IsPlanOf (frame_of a.now) (lists_of a.now) plan.now.player plan.now }
+    requires point { point < point_count (frame_of a.now) }
+    requires own { player_at (frame_of a.now) point ≡ plan.now.player }
+    requires signal { signal < signal_count (frame_of a.now) (round_of (frame_of a.now) (at_point point)) }
+    requires choice { choice < move_count (frame_of a.now) point }
+    ensures { result ≡ (lifted (frame_of a.now) (lists_of a.now) plan.now).number point signal choice }
+{
+    let class = class_at(a, point, signal);
+    plan.weights[a.slot(point, class, choice) as usize]
+}
+
+/// The weights of all moves at a spot, added up.
+pub(crate) fn total_weight(a: &Abstract, plan: &Plan, spot: Spot) -> u128
+    requires plan { IsPlanOf (frame_of a.now) (lists_of a.now) plan.now.player plan.now }
+    requires point { spot.point < point_count (frame_of a.now) }
+    requires own { player_at (frame_of a.now) spot.point ≡ plan.now.player }
+    requires signal { spot.signal < signal_count (frame_of a.now) (round_of (frame_of a.now) (at_point spot.point)) }
+    ensures value { result ≡ total_number (frame_of a.now) (lifted (frame_of a.now) (lists_of a.now) plan.now) spot.point spot.signal }
+    ensures few { result < 2 ^ 127 }
+{
+    let moves = a.lossless().signals().game().points()[spot.point as usize]
+        .moves
+        .len() as u8;
+    let mut total = 0u128;
+    for choice in 0..moves {
+        total += u128::from(weight(a, plan, spot.point, spot.signal, choice));
+    }
+    total
+}
+
+/// The share that a move has in the weights of all moves at a spot, which add up to `total`.
+pub(crate) fn share(a: &Abstract, plan: &Plan, spot: Spot, choice: u8, total: u128) -> Fraction
+    requires plan { IsPlanOf (frame_of a.now) (lists_of a.now) plan.now.player plan.now }
+    requires point { spot.point < point_count (frame_of a.now) }
+    requires own { player_at (frame_of a.now) spot.point ≡ plan.now.player }
+    requires signal { spot.signal < signal_count (frame_of a.now) (round_of (frame_of a.now) (at_point spot.point)) }
+    requires choice { choice < move_count (frame_of a.now) spot.point }
+    requires total { total ≡ total_number (frame_of a.now) (lifted (frame_of a.now) (lists_of a.now) plan.now) spot.point spot.signal }
+    requires few { total < 2 ^ 127 }
+    ensures { IsShareOf (frame_of a.now) (lifted (frame_of a.now) (lists_of a.now) plan.now) spot.point spot.signal choice result }
+{
+    if total == 0 {
+        return Fraction::new(if choice == 0 { 1 } else { 0 }, 1);
+    }
+    let weight = weight(a, plan, spot.point, spot.signal, choice);
+    Fraction::new(i128::from(weight), total as i128)
+}
