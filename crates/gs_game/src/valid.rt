@@ -1,6 +1,6 @@
 //! Valid games.
 
-ghost use Rattle.std.specs.Prelude.{◌≡◌, None, length};
+ghost use Rattle.std.specs.Prelude.{◌≡◌, ◌≤◌, None, length};
 ghost use Rattle.gs_model.specs.Deals.{deals as deals_of};
 ghost use Rattle.gs_model.specs.Frame.{frame_of, total_weight};
 ghost use Rattle.gs_game.specs.Games.{game_of};
@@ -21,6 +21,7 @@ pub struct ValidGame {
     pub(crate) deals: u32,
     pub(crate) weight: u64,
     pub ghost accepted: { first_refusal (game_of game) ≡ None },
+    pub ghost ante: { (1 ≤ game.ante) × (game.ante ≤ 4096) },
     pub ghost limits: { IsWithinLimits (game_of game) },
     pub ghost dealable: { IsDealable (game_of game) },
     pub ghost walked: { IsWalkOf (game_of game) points.items ends.items start },

@@ -14,5 +14,6 @@ mod tests;
 pub use checking::{Lossless, check};
 pub use keys::side_keys;
 pub use parts::Part;
+pub use runs::{Run, ancestor, descendants};
 pub use sides::{Side, side_sums};
 pub use stop::CheckStop;

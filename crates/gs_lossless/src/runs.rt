@@ -12,9 +12,9 @@ use gs_tree::Signals;
 
 /// A run of places in a round: from the first one up to the end, which is not one of them.
 #[derive(Clone, Copy, Debug)]
-pub(crate) struct Run {
-    pub(crate) first: u32,
-    pub(crate) end: u32,
+pub struct Run {
+    pub first: u32,
+    pub end: u32,
 }
 
 /// The parent of each signal of a round, by its place in the round before; zeros in round 1.
@@ -27,7 +27,7 @@ fn parents_in<'a>(signals: &'a Signals, round: u8) -> &'a [u32]
 }
 
 /// The ancestor in a round of a signal of the last round.
-pub(crate) fn ancestor(signals: &Signals, round: u8, signal: u32) -> u32
+pub fn ancestor(signals: &Signals, round: u8, signal: u32) -> u32
     requires some { 0 < round }
     requires last { round ≤ round_count (rules_of signals.now) }
     requires in_range { signal < last_count (rules_of signals.now) }
@@ -58,7 +58,7 @@ fn first_below(signals: &Signals, round: u8, place: u32) -> u32
 }
 
 /// The last-round signals that descend from a signal.
-pub(crate) fn descendants(signals: &Signals, round: u8, signal: u32) -> Run
+pub fn descendants(signals: &Signals, round: u8, signal: u32) -> Run
     requires some { 0 < round }
     requires last { round ≤ round_count (rules_of signals.now) }
     requires in_range { signal < length (signals_in (rules_of signals.now) round) }

@@ -20,7 +20,7 @@ const MOST_TOTAL: u64 = 1 << 36;
 
 /// A player's last step before a position.
 #[derive(Clone, Copy, Debug)]
-pub(crate) struct Source {
+pub struct Source {
     /// The round of the point where it was made.
     pub(crate) round: u8,
     /// The slot of that point's first class and first move.

@@ -19,10 +19,11 @@ mod stop;
 mod tests;
 
 pub use fault::PlanFault;
-pub use flows::plan_fault;
+pub use flows::{Source, plan_fault};
 pub use form::Abstract;
 pub use laws::pairs_are_exchanged;
-pub use numbers::{plus, scaled};
+pub use numbers::{number_by, plus, scaled, source_at_end};
 pub use pair::Pair;
 pub use plan::Plan;
+pub use rows::cell_total;
 pub use stop::SeqStop;

@@ -12,6 +12,7 @@ ghost use Rattle.gs_seq.specs.Sources.{MatchSource};
 
 use crate::flows::{Source, weight_above};
 use crate::plan::Plan;
+use crate::slots::slots_between;
 use gs_filter::Classes;
 use gs_game::{Step, ValidGame};
 
@@ -57,8 +58,27 @@ pub(crate) fn end_source(game: &ValidGame, offsets: &[u32], player: u8, end: u32
     Some(source_from(game, offsets, step))
 }
 
+/// A player's last step before an end, with no list of offsets: the slots before it are counted.
+pub fn source_at_end(game: &ValidGame, classes: &Classes, player: u8, end: u32) -> Option<Source>
+    requires parents { classes.now.parents ≡ (frame_in game.now).parents }
+    requires some { 0 < player }
+    requires two { player ≤ 2 }
+    requires end { end < end_count (frame_in game.now) }
+    ensures { MatchSource (frame_in game.now) classes.now.lists player (at_end end) result }
+{
+    let end = &game.ends()[end as usize];
+    let step = (if player == 1 { end.one } else { end.two })?;
+    let before = &game.points()[step.point as usize];
+    Some(Source {
+        round: before.round,
+        first: slots_between(game, classes, player, 0, step.point),
+        moves: before.moves.len() as u64,
+        choice: step.choice,
+    })
+}
+
 /// A plan's number at a class of an end's round: the weight of its player's last step at the class above, or the total where he made none.
-pub(crate) fn number_by(
+pub fn number_by(
     game: &ValidGame,
     classes: &Classes,
     plan: &Plan,

@@ -211,3 +211,13 @@ pub(crate) fn cells(
     }
     Ok(count)
 }
+
+/// The pairs of classes of each end's round that some deal has, added up over all ends.
+pub fn cell_total(alloc: Global, signals: &Signals, classes: &Classes) -> Result<u64, AllocError>
+    requires parents { classes.now.parents ≡ (frame_in signals.now.game.now).parents }
+    requires lossless { IsLossless (frame_in signals.now.game.now) classes.now.lists }
+    ensures { IfOk result (λ n. n ≡ cell_count (frame_in signals.now.game.now) classes.now.lists) }
+{
+    let rows = rows_of(alloc, signals, classes)?;
+    cells(alloc, signals.game(), classes, &rows)
+}
