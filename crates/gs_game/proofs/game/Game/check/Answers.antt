@@ -36,6 +36,7 @@ invariant_of-result c =
     let grown = rw (c.new.ensures.items, c.new-2.ensures.items, c.deref.ensures.value, c.start.ensures) at c.in_ok-start.ensures in
     record {
       accepted = no_refusal (game_of c.args.self) c.in_ok-check_cards.ensures c.in_ok-check_betting.ensures c.in_ok-totals.ensures.0;
+      ante = (c.requires.some_ante, c.requires.ante);
       limits = limits c.args.self c.requires.cards c.in_ok-check_cards.ensures c.in_ok-totals.ensures.0;
       dealable = is_dealable c.args.self c.requires.cards c.requires.bonus c.in_ok-check_cards.ensures;
       walked = is_walk c.args.self c.walk_from.new.walk.points.items c.walk_from.new.walk.ends.items c.in_ok-start.start grown;
