@@ -4,11 +4,13 @@
 mod apart;
 mod classes;
 mod fault;
+mod laws;
 mod rows;
 mod tally;
 
 pub use classes::Classes;
 pub use fault::ClassFault;
+pub use laws::classes_have_no_fault;
 
 #[cfg(test)]
 mod tests;

@@ -21,3 +21,4 @@ pub mod EndTotals
 pub mod Forms
 pub mod Choices
 pub mod Firsts
+pub mod Kept

@@ -10,3 +10,4 @@ pub mod Abstracts
 pub mod Exchange
 pub mod Payoffs
 pub mod Firsts
+pub mod Laws

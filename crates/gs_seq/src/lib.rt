@@ -21,7 +21,7 @@ mod tests;
 pub use fault::PlanFault;
 pub use flows::{Source, plan_fault};
 pub use form::Abstract;
-pub use laws::pairs_are_exchanged;
+pub use laws::{pairs_are_exchanged, plans_have_no_fault};
 pub use numbers::{number_by, plus, scaled, source_at_end};
 pub use pair::Pair;
 pub use plan::Plan;

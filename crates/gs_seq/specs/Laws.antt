@@ -1,0 +1,12 @@
+-- Laws of plans.
+use Rattle.std.specs.Prelude.{ℕ, List}
+use Rattle.gs_model.specs.Classes.{ClassLists}
+use Rattle.gs_model.specs.Frame.{Frame}
+use Rattle.gs_seq.specs.Faults.{IsFaultOf}
+use Rattle.gs_seq.specs.Slots.{IsPlan}
+use Rattle.gs_seq.specs.declared.fault.PlanFault.{PlanFault}
+
+-- a total and weights that are a plan have no fault: the rules exclude every fault
+abbrev pub PlansHaveNoFault : Type 0
+PlansHaveNoFault = (f : Frame) (lists : ClassLists) (player total : ℕ) (weights : List ℕ) (why : PlanFault)
+    → IsPlan f lists player total weights → ¬ IsFaultOf f lists player total weights why
