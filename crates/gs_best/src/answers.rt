@@ -5,7 +5,7 @@ ghost use Rattle.gs_model.specs.BestAnswers.{IsFirstBestPlan};
 ghost use Rattle.gs_model.specs.Frame.{other_player};
 ghost use Rattle.gs_seq.specs.Abstracts.{frame_of, lists_of};
 ghost use Rattle.gs_seq.specs.Plans.{IsPlanOf, class_plan, lifted};
-ghost use Rattle.gs_best.specs.Answers.{AreChoices, NoneGainsMore};
+ghost use Rattle.gs_best.specs.Answers.{AreChoices, IsPaidMost, NoneGainsMore};
 
 use crate::deviator::Deviator;
 use crate::fill::fill;
@@ -25,6 +25,7 @@ pub fn best(alloc: Global, form: &Abstract, player: u8, other: &Plan) -> Result<
     ensures plan { IfOk result (λ x. IsPlanOf (frame_of form.now) (lists_of form.now) player x) }
     ensures best { IfOk result (λ x. let f = frame_of form.now in let lists = lists_of form.now in IsFirstBestPlan f lists player (lifted f lists other.now) (class_plan f lists x)) }
     ensures bound { IfOk result (λ x. let f = frame_of form.now in let lists = lists_of form.now in NoneGainsMore f player (lifted f lists other.now) (lifted f lists x)) }
+    ensures paid { IfOk result (λ x. let f = frame_of form.now in let lists = lists_of form.now in IsPaidMost f lists player (lifted f lists other.now) (lifted f lists x)) }
 {
     let _rounds = round_total(form);
     let side = Deviator {
