@@ -1,2 +1,3 @@
 pub mod Queries
 pub mod Mixtures
+pub mod Letters

@@ -26,15 +26,17 @@ pub struct Mixture {
 impl Model for Mixture {
     ghost use Rattle.std.specs.Prelude.{◌≤◌, ℕ, List, vec_capacity};
     ghost use Rattle.gs_frac.specs.declared.value.Fraction.{Fraction};
+    ghost use Rattle.gs_lift.specs.Letters.{HasLetters};
 
     ghost Value = { List (ℕ × Fraction) };
 
     ghost view = { λ m. m.pairs.items };
 
-    ghost invariant = { λ m. 26 ≤ vec_capacity m.pairs };
+    ghost invariant = { λ m. record { room : 26 ≤ vec_capacity m.pairs; letters : HasLetters m.pairs.items } };
 }
 
 impl Mixture {
+    ghost use Rattle.gs_lift.specs.Letters.{HasLetters};
     ghost use Rattle.std.specs.Prelude.{◌≡◌, ◌<◌, [], ◌∷◌, ◌++◌, length, IfOk};
 
     /// A mixture of no moves, with room for 26.
@@ -48,7 +50,8 @@ impl Mixture {
 
     /// The moves in order.
     pub fn pairs(&self) -> &[(u8, Fraction)]
-        ensures { result.now ≡ self.now }
+        ensures value { result.now ≡ self.now }
+        ensures letters { HasLetters self.now }
     {
         &self.pairs
     }
@@ -62,7 +65,8 @@ impl Mixture {
 
     /// One move more, for which there is room.
     fn push(&mut self, letter: u8, share: Fraction)
-        requires { length self.old < 26 }
+        requires room { length self.old < 26 }
+        requires letter { letter < 128 }
         ensures { self.new ≡ self.old ++ (letter, share) ∷ [] }
     {
         match self.pairs.push((letter, share)) {

@@ -1,9 +1,10 @@
-use Rattle.std.proofs.Common.{List, ap, ◌∙◌, arith, map}
+use Rattle.std.proofs.Common.{◌<◌, List, ap, sym, subst, ◌∙◌, arith, map}
+use Rattle.std.specs.List.{AllByRecursion}
 use Rattle.gs_game.specs.declared.positions.Arrow.{Arrow}
 use Rattle.gs_seq.specs.Abstracts.{frame_of, lists_of}
 use Rattle.gs_seq.specs.Plans.{lifted}
 use Rattle.gs_lift.proofs.Mixed.{mixed_all, mixed_long, mixed_more, mixed_none}
-use Rattle.gs_lift.proofs.Moves.{moves_at}
+use Rattle.gs_lift.proofs.Moves.{moves_at, small_at}
 use Rattle.gs_lift.proofs.mixture.mix.Goals as goal
 
 pub loop-choice-init : goal.loop-choice-init
@@ -23,13 +24,19 @@ share-requires-clause-choice c =
     c.lossless.ensures c.signals.ensures.held c.game.ensures c.points.ensures c.index-points-spot.is c.requires.point in
     omega (arith, r.long, c.deref-arrow-items.ensures.len, c.loop-choice-test.true)
 
-pub push-requires : goal.push-requires
-push-requires c =
+pub push-requires-clause-room : goal.push-requires-clause-room
+push-requires-clause-room c =
     let f = frame_of c.args.a.now in
     let r = moves_at c.args.a.now c.lossless.result.now c.signals.result.now c.game.result.now c.points.result.now c.index-points-spot.result c.args.spot.point
     c.lossless.ensures c.signals.ensures.held c.game.ensures c.points.ensures c.index-points-spot.is c.requires.point in
     let long = mixed_long f (lifted f (lists_of c.args.a.now) c.args.plan.now) c.args.spot.point c.args.spot.signal c.deref-arrow-items.result.now c.loop-choice.choice c.loop-choice.out (omega (arith, c.loop-choice-test.true)) c.loop-choice.invariant in
     omega (arith, r.few, c.deref-arrow-items.ensures.len, c.loop-choice-test.true, long)
+
+pub push-requires-clause-letter : goal.push-requires-clause-letter
+push-requires-clause-letter c =
+    let r = moves_at c.args.a.now c.lossless.result.now c.signals.result.now c.game.result.now c.points.result.now c.index-points-spot.result c.args.spot.point
+    c.lossless.ensures c.signals.ensures.held c.game.ensures c.points.ensures c.index-points-spot.is c.requires.point in
+    small_at c.deref-arrow-items.result.now c.loop-choice.choice _ (subst (λ (ms : List Arrow). AllByRecursion (λ l. l < 128) (map (λ (a : Arrow). a.letter) ms)) (sym c.deref-arrow-items.ensures.value) r.small) c.loop-choice-test.true
 
 pub loop-choice-preserved : goal.loop-choice-preserved
 loop-choice-preserved c =

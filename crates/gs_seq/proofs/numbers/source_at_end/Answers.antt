@@ -76,8 +76,7 @@ returns c =
     let w = walked g c.args.player c.requires.some c.requires.two in
     let before = w.earlier_end z u c.requires.end made in
     let b = point_reads g c.points.result.now u.point c.index-points-step.result c.points.ensures before c.index-points-step.is in
-    let nothing : slots_before f lists c.args.player 0 ≡ 0 = refl in
-    (
+    let nothing : slots_before f lists c.args.player 0 ≡ 0 = refl in (
       u,
       record {
         made = made;
