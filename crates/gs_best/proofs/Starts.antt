@@ -1,5 +1,5 @@
 -- Where the values of points start, and how many there are.
-use Rattle.std.proofs.Common.{◌≡◌, ℕ, ◌+◌, ◌-◌, ◌*◌, ◌<◌, ◌≤◌, ap, arith, cond, ⊎_elim}
+use Rattle.std.proofs.Common.{◌≡◌, ℕ, ◌+◌, ◌-◌, ◌*◌, ◌<◌, ◌≤◌, ◌^◌, ap, arith, cond, ⊎_elim}
 use Rattle.std.proofs.Math.Nat.{mul-le-mul_left}
 use Rattle.std.proofs.lemmas.Bool.Decides.{Decides-eqb}
 use Rattle.gs_model.specs.Classes.{ClassLists, IsClass}
@@ -40,10 +40,10 @@ classes_le a q l =
     (players (game_in a) q l)
 
 -- all values of a game are few
-pub starts_few : (a : Abstract) (q : ℕ) → q ≤ point_count (frame_of a) → start_of (frame_of a) (lists_of a) q ≤ 524288
+pub starts_few : (a : Abstract) (q : ℕ) → q ≤ point_count (frame_of a) → start_of (frame_of a) (lists_of a) q ≤ 2 ^ 31
 starts_few a q l =
     let f = frame_of a in
     let lists = lists_of a in
     let n = point_count f in
     let all = range_le (classes_at f lists) (λ p. slots_at f lists 1 p + slots_at f lists 2 p) n (classes_le a) in
-    omega (arith, starts_le f lists q n l, all, range_add (slots_at f lists 1) (slots_at f lists 2) n, a.small.sequences.one, a.small.sequences.two)
+    omega (arith, starts_le f lists q n l, all, range_add (slots_at f lists 1) (slots_at f lists 2) n, a.few.one, a.few.two)

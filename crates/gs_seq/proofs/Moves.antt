@@ -1,5 +1,5 @@
 -- The slots of a game in sequence form.
-use Rattle.std.proofs.Common.{◌≡◌, ℕ, ◌+◌, ◌-◌, ◌*◌, ◌<◌, ◌≤◌, List, length, map, get_or, refl, sym, ap, ◌∙◌, subst, arith, ⊎_elim}
+use Rattle.std.proofs.Common.{◌≡◌, ℕ, ◌+◌, ◌-◌, ◌*◌, ◌<◌, ◌≤◌, ◌^◌, List, length, map, get_or, refl, sym, ap, ◌∙◌, subst, arith, ⊎_elim}
 use Rattle.gs_game.specs.Seen.{own_point, point_of}
 use Rattle.gs_game.specs.declared.positions.Point.{Point as StoredPoint}
 use Rattle.gs_game.specs.declared.valid.ValidGame.{ValidGame}
@@ -9,7 +9,7 @@ use Rattle.gs_model.specs.Positions.{at_point}
 use Rattle.gs_seq.specs.Abstracts.{frame_of, lists_of}
 use Rattle.gs_seq.specs.Games.{frame_in}
 use Rattle.gs_seq.specs.Slots.{sequence_count, slot_of, slots_before}
-use Rattle.gs_seq.specs.Stops.{HasFewSequences}
+use Rattle.gs_seq.specs.Stops.{HasSequencesWithin}
 use Rattle.gs_seq.specs.declared.form.Abstract.{Abstract}
 use Rattle.gs_seq.proofs.Coming.{slot_before}
 use Rattle.gs_seq.proofs.Points.{players, point_reads}
@@ -18,17 +18,17 @@ use Rattle.gs_seq.proofs.Points.{players, point_reads}
 pub record SlotFacts (f : Frame) (lists : ClassLists) (q c m base moves : ℕ) : Type 0 where
   pub is : base + (c - 1) * moves + m ≡ slot_of f lists q c m
   pub within : base + (c - 1) * moves + m + 1 < sequence_count f lists (player_at f q)
-  pub few_moves : moves ≤ 262144
-  pub few : base + (c - 1) * moves + m < 262144
+  pub few_moves : moves ≤ 2 ^ 30
+  pub few : base + (c - 1) * moves + m < 2 ^ 30
 
-few_sequences : (g : ValidGame) (lists : ClassLists) (q : ℕ) → HasFewSequences (frame_in g) lists → q < point_count (frame_in g) → sequence_count (frame_in g) lists (player_at (frame_in g) q) ≤ 262144
+few_sequences : (g : ValidGame) (lists : ClassLists) (q : ℕ) → HasSequencesWithin (2 ^ 30) (frame_in g) lists → q < point_count (frame_in g) → sequence_count (frame_in g) lists (player_at (frame_in g) q) ≤ 2 ^ 30
 few_sequences g lists q h l = ⊎_elim
-    (λ one. subst (λ p. sequence_count (frame_in g) lists p ≤ 262144) (sym one) h.one)
-    (λ two. subst (λ p. sequence_count (frame_in g) lists p ≤ 262144) (sym two) h.two)
+    (λ one. subst (λ p. sequence_count (frame_in g) lists p ≤ 2 ^ 30) (sym one) h.one)
+    (λ two. subst (λ p. sequence_count (frame_in g) lists p ≤ 2 ^ 30) (sym two) h.two)
     (players g q l)
 
 slot_facts : (f : Frame) (lists : ClassLists) (q c m base moves : ℕ) → q < point_count f → IsClass lists (round_of f (at_point q)) c → m < move_count f q
-    → base ≡ slots_before f lists (player_at f q) q → moves ≡ move_count f q → sequence_count f lists (player_at f q) ≤ 262144 → SlotFacts f lists q c m base moves
+    → base ≡ slots_before f lists (player_at f q) q → moves ≡ move_count f q → sequence_count f lists (player_at f q) ≤ 2 ^ 30 → SlotFacts f lists q c m base moves
 slot_facts f lists q c m base moves l k lm b e few =
     let shift = ap (λ n. (c - 1) * n) e in
     let here = slot_before f lists (player_at f q) q c m (point_count f) refl k lm l in
@@ -48,4 +48,4 @@ slot_at a game ps p q c m base moves e points is l k lm b n =
     let g = a.lossless.now.signals.now.game.now in
     let seen : map point_of ps ≡ map own_point (frame_in g).points = points ∙ ap (λ (v : ValidGame). map own_point (frame_in v).points) e in
     let r = point_reads g ps q p seen l is in
-    slot_facts (frame_of a) (lists_of a) q c m base moves l k lm (b ∙ a.placed.first q l) (n ∙ r.moves) (few_sequences g (lists_of a) q a.small.sequences l)
+    slot_facts (frame_of a) (lists_of a) q c m base moves l k lm (b ∙ a.placed.first q l) (n ∙ r.moves) (few_sequences g (lists_of a) q a.few l)

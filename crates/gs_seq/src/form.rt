@@ -1,13 +1,14 @@
 //! A game in sequence form over lossless classes.
 
-ghost use Rattle.std.specs.Prelude.{◌≡◌, ◌<◌, ◌≤◌};
+ghost use Rattle.std.specs.Prelude.{◌≡◌, ◌<◌, ◌≤◌, ◌^◌};
 ghost use Rattle.gs_seq.specs.Games.{frame_in};
 ghost use Rattle.gs_seq.specs.Rows.{AreRows};
 ghost use Rattle.gs_seq.specs.Slots.{AreOffsets, slot_count as slots_in};
-ghost use Rattle.gs_seq.specs.Stops.{IsSmall};
+ghost use Rattle.gs_seq.specs.Stops.{HasSequencesWithin};
 
 use crate::fault::PlanFault;
 use crate::flows::plan_fault;
+use crate::limits::Limits;
 use crate::numbers::{end_source, number_by};
 use crate::pair::Pair;
 use crate::plan::Plan;
@@ -19,8 +20,11 @@ use gs_game::ValidGame;
 use gs_lossless::Lossless;
 use std::alloc::Global;
 
-/// The most cells that a game may have.
-const MOST_CELLS: u64 = 4_194_304;
+/// The most sequences of a player, and the most cells, of a game that is solved or played.
+const USUAL: Limits = Limits {
+    sequences: 262_144,
+    cells: 4_194_304,
+};
 
 /// A game with lossless classes in sequence form: the slots of both players' plans, and the sums over deals by pairs of classes.
 #[derive(Drop)]
@@ -33,7 +37,7 @@ pub struct Abstract<'a> {
     two: u32,
     // for each round and class of player 1 its pairs
     rows: Vec<Vec<Vec<Pair>>>,
-    ghost small: { IsSmall (frame_in lossless.now.signals.now.game.now) lossless.now.classes.now.lists },
+    ghost few: { HasSequencesWithin (2 ^ 30) (frame_in lossless.now.signals.now.game.now) lossless.now.classes.now.lists },
     ghost placed: { AreOffsets (frame_in lossless.now.signals.now.game.now) lossless.now.classes.now.lists offsets.items },
     ghost ones: { one ≡ slots_in (frame_in lossless.now.signals.now.game.now) lossless.now.classes.now.lists 1 },
     ghost twos: { two ≡ slots_in (frame_in lossless.now.signals.now.game.now) lossless.now.classes.now.lists 2 },
@@ -52,7 +56,7 @@ impl<'a> Abstract<'a> {
     ghost use Rattle.gs_seq.specs.Plans.{IsPlanOf, class_plan};
     ghost use Rattle.gs_seq.specs.Rows.{IsRow};
     ghost use Rattle.gs_seq.specs.Slots.{IsPlan, sequence_count, slot_of};
-    ghost use Rattle.gs_seq.specs.Stops.{IsStopOf};
+    ghost use Rattle.gs_seq.specs.Stops.{IsSmall, IsStopAt, IsStopOf, IsWithin};
 
     /// The sequence form of a game with lossless classes, or the first limit that it passes.
     pub fn of(alloc: Global, lossless: &'a Lossless<'a>) -> Result<Abstract<'a>, SeqStop>
@@ -60,14 +64,28 @@ impl<'a> Abstract<'a> {
         ensures small { IfOk result (λ a. IsSmall (frame_of a) (lists_of a)) }
         ensures refused { IfErr result (IsStopOf (frame_in lossless.entry.now.signals.now.game.now) lossless.entry.now.classes.now.lists) }
     {
+        Abstract::within(alloc, lossless, USUAL)
+    }
+
+    /// The sequence form of a game with lossless classes, or the first of these limits that it passes.
+    pub fn within(
+        alloc: Global,
+        lossless: &'a Lossless<'a>,
+        most: Limits,
+    ) -> Result<Abstract<'a>, SeqStop>
+        requires { most.sequences ≤ 2 ^ 30 }
+        ensures held { IfOk result (λ a. a.lossless.now ≡ lossless.entry.now) }
+        ensures small { IfOk result (λ a. IsWithin most (frame_of a) (lists_of a)) }
+        ensures refused { IfErr result (IsStopAt most (frame_in lossless.entry.now.signals.now.game.now) lossless.entry.now.classes.now.lists) }
+    {
         let signals = lossless.signals();
         let classes = lossless.classes();
         let game = signals.game();
-        let (one, two) = few_slots(game, classes)?;
+        let (one, two) = few_slots(game, classes, most.sequences)?;
         let offsets = offsets_of(alloc, game, classes)?;
         let rows = rows_of(alloc, signals, classes)?;
         let count = cells(alloc, game, classes, &rows)?;
-        if count > MOST_CELLS {
+        if count > most.cells {
             return Err(SeqStop::TooManyCells { count });
         }
         Ok(Abstract {

@@ -4,15 +4,12 @@ ghost use Rattle.std.specs.Prelude.{◌≡◌, ◌+◌, ◌<◌, ◌≤◌, ◌^
 ghost use Rattle.gs_model.specs.Frame.{player_at, point_count};
 ghost use Rattle.gs_seq.specs.Games.{frame_in};
 ghost use Rattle.gs_seq.specs.Slots.{AreOffsets, sequence_count, slot_count as slots_in, slots_at as slots_here, slots_before};
-ghost use Rattle.gs_seq.specs.Stops.{HasFewSequences, HasOver, IsTooLong};
+ghost use Rattle.gs_seq.specs.Stops.{HasOver, HasSequencesWithin, IsTooLong};
 
 use crate::stop::SeqStop;
 use gs_filter::Classes;
 use gs_game::ValidGame;
 use std::alloc::{AllocError, Global};
-
-/// The most sequences that a player may have.
-const MOST_SEQUENCES: u64 = 262_144;
 
 /// How many points a game has.
 pub(crate) fn point_total(game: &ValidGame) -> u32
@@ -67,28 +64,32 @@ pub(crate) fn slot_count(game: &ValidGame, classes: &Classes, player: u8) -> u64
     slots_between(game, classes, player, 0, point_total(game))
 }
 
-/// How many slots players 1 and 2 have, or the first player with more than 262,144 sequences.
-pub(crate) fn few_slots(game: &ValidGame, classes: &Classes) -> Result<(u32, u32), SeqStop>
+/// How many slots players 1 and 2 have, or the first player with more than `most` sequences.
+pub(crate) fn few_slots(
+    game: &ValidGame,
+    classes: &Classes,
+    most: u32,
+) -> Result<(u32, u32), SeqStop>
     requires { classes.now.parents ≡ (frame_in game.now).parents }
     ensures one { IfOk result (λ n. n.0 ≡ slots_in (frame_in game.now) classes.now.lists 1) }
     ensures two { IfOk result (λ n. n.1 ≡ slots_in (frame_in game.now) classes.now.lists 2) }
-    ensures few { OnOk result (HasFewSequences (frame_in game.now) classes.now.lists) }
-    ensures refused { IfErr result (IsTooLong (frame_in game.now) classes.now.lists) }
+    ensures few { OnOk result (HasSequencesWithin most (frame_in game.now) classes.now.lists) }
+    ensures refused { IfErr result (IsTooLong most (frame_in game.now) classes.now.lists) }
 {
-    let one = few_slots_of(game, classes, 1)?;
-    let two = few_slots_of(game, classes, 2)?;
+    let one = few_slots_of(game, classes, 1, most)?;
+    let two = few_slots_of(game, classes, 2, most)?;
     Ok((one, two))
 }
 
-/// How many slots a player has, where he has at most 262,144 sequences.
-fn few_slots_of(game: &ValidGame, classes: &Classes, player: u8) -> Result<u32, SeqStop>
+/// How many slots a player has, where he has at most `most` sequences.
+fn few_slots_of(game: &ValidGame, classes: &Classes, player: u8, most: u32) -> Result<u32, SeqStop>
     requires { classes.now.parents ≡ (frame_in game.now).parents }
     ensures value { IfOk result (λ n. n ≡ slots_in (frame_in game.now) classes.now.lists player) }
-    ensures few { OnOk result (sequence_count (frame_in game.now) classes.now.lists player ≤ 262144) }
-    ensures refused { IfErr result (HasOver (frame_in game.now) classes.now.lists player) }
+    ensures few { OnOk result (sequence_count (frame_in game.now) classes.now.lists player ≤ most) }
+    ensures refused { IfErr result (HasOver most (frame_in game.now) classes.now.lists player) }
 {
     let count = slot_count(game, classes, player) + 1;
-    if count > MOST_SEQUENCES {
+    if count > u64::from(most) {
         return Err(SeqStop::TooManySequences { player, count });
     }
     Ok(count as u32 - 1)

@@ -1,4 +1,4 @@
-use Rattle.std.proofs.Common.{◌≡◌, ◌+◌, ◌<◌, length, ap, sym, refl, ◌∙◌, subst, arith, None}
+use Rattle.std.proofs.Common.{◌≡◌, ◌<◌, length, ap, sym, refl, ◌∙◌, subst, arith, None}
 use Rattle.std.specs.Prelude.{option_map}
 use Rattle.gs_game.specs.Seen.{step_of}
 use Rattle.gs_game.specs.declared.positions.End.{End}

@@ -11,19 +11,20 @@ use Rattle.gs_seq.specs.Cells.{cell_count}
 use Rattle.gs_seq.specs.Games.{frame_in}
 use Rattle.gs_seq.specs.Rows.{AreRows}
 use Rattle.gs_seq.specs.Slots.{AreOffsets, slot_count}
-use Rattle.gs_seq.specs.Stops.{HasFewSequences, IsStopOf, IsTooLong}
+use Rattle.gs_seq.specs.Stops.{HasSequencesWithin, IsStopAt, IsTooLong}
+use Rattle.gs_seq.specs.declared.limits.Limits.{Limits}
 use Rattle.gs_seq.specs.declared.stop.SeqStop.{SeqStop}
 use Rattle.gs_seq.specs.declared.stop.SeqStop.TheVariants.{TooManySequences, TooManyCells, Memory}
-use Rattle.gs_seq.proofs.form.Abstract.of.Goals as goal
+use Rattle.gs_seq.proofs.form.Abstract.within.Goals as goal
 
 -- what holds of one game and its classes holds of the same ones by another name
 carried : (g h : ValidGame) (c d : Filter) (P : Frame → ClassLists → Type 0) → g ≡ h → c ≡ d → P (frame_in g) c.lists → P (frame_in h) d.lists
 carried g h c d P same alike p = subst (λ (x : ValidGame). P (frame_in x) d.lists) same (subst (λ (x : Filter). P (frame_in g) x.lists) alike p)
 
-too_long : (f : Frame) (lists : ClassLists) (e : SeqStop) → IsTooLong f lists e → IsStopOf f lists e
-too_long f lists (TooManySequences player count) h = h
-too_long f lists (TooManyCells count) h = ⊎_elim (λ one. absurd one) (λ two. absurd two.1) h
-too_long f lists Memory h = tt
+too_long : (most : Limits) (f : Frame) (lists : ClassLists) (e : SeqStop) → IsTooLong most.sequences f lists e → IsStopAt most f lists e
+too_long most f lists (TooManySequences player count) h = h
+too_long most f lists (TooManyCells count) h = ⊎_elim (λ one. absurd one) (λ two. absurd two.1) h
+too_long most f lists Memory h = tt
 
 pub returns-in_err-one-clause-refused : goal.returns-in_err-one-clause-refused
 returns-in_err-one-clause-refused c =
@@ -31,10 +32,10 @@ returns-in_err-one-clause-refused c =
     let game = c.game-game.result.now in
     let classes = c.classes-classes.result.now in
     let same : game ≡ s.signals.now.game.now = c.game-game.ensures ∙ ap (λ (x : Signals). x.game.now) c.signals-signals.ensures.held in
-    let long = carried game s.signals.now.game.now classes s.classes.now (λ f lists. IsTooLong f lists c.in_err-one.field-0.0) same c.classes-classes.ensures.held c.in_err-one.ensures.refused in
+    let long = carried game s.signals.now.game.now classes s.classes.now (λ f lists. IsTooLong c.args.most.sequences f lists c.in_err-one.field-0.0) same c.classes-classes.ensures.held c.in_err-one.ensures.refused in
     let f = frame_in s.signals.now.game.now in
     let e = err_from_is_err_and c.from_residual.result c.from_residual.ensures.1 in
-    subst (λ r. IfErr r (IsStopOf f s.classes.now.lists)) (sym e.1) (subst (IsStopOf f s.classes.now.lists) (sym e.2) (too_long f s.classes.now.lists c.in_err-one.field-0.0 long))
+    subst (λ r. IfErr r (IsStopAt c.args.most f s.classes.now.lists)) (sym e.1) (subst (IsStopAt c.args.most f s.classes.now.lists) (sym e.2) (too_long c.args.most f s.classes.now.lists c.in_err-one.field-0.0 long))
 
 pub rows_of-requires-clause-lossless : goal.rows_of-requires-clause-lossless
 rows_of-requires-clause-lossless c =
@@ -47,15 +48,15 @@ cells-requires-clause-rows c =
     subst (AreRows (frame_in c.game-game.result.now) c.classes-classes.result.now.lists) (sym c.deref.ensures.value)
     (subst (λ (x : ValidGame). AreRows (frame_in x) c.classes-classes.result.now.lists c.in_ok-rows.rows.items) (sym c.game-game.ensures) c.in_ok-rows.ensures)
 
-pub returns-then-count-gt-MOST_CELLS-clause-refused : goal.returns-then-count-gt-MOST_CELLS-clause-refused
-returns-then-count-gt-MOST_CELLS-clause-refused c =
+pub returns-then-count-most-clause-refused : goal.returns-then-count-most-clause-refused
+returns-then-count-most-clause-refused c =
     let s = c.args.lossless.now in
     let game = c.game-game.result.now in
     let classes = c.classes-classes.result.now in
     let same : game ≡ s.signals.now.game.now = c.game-game.ensures ∙ ap (λ (x : Signals). x.game.now) c.signals-signals.ensures.held in
-    let few = carried game s.signals.now.game.now classes s.classes.now HasFewSequences same c.classes-classes.ensures.held c.in_ok-one.ensures.few in
+    let few = carried game s.signals.now.game.now classes s.classes.now (HasSequencesWithin c.args.most.sequences) same c.classes-classes.ensures.held c.in_ok-one.ensures.few in
     let count = carried game s.signals.now.game.now classes s.classes.now (λ f lists. c.in_ok-count.count ≡ cell_count f lists) same c.classes-classes.ensures.held c.in_ok-count.ensures in
-    (few, count, c.if-count-gt-MOST_CELLS.true)
+    (few, count, c.if-count-most.true)
 
 pub invariant_of-result : goal.invariant_of-result
 invariant_of-result c =
@@ -63,13 +64,23 @@ invariant_of-result c =
     let game = c.game-game.result.now in
     let classes = c.classes-classes.result.now in
     let same : game ≡ s.signals.now.game.now = c.game-game.ensures ∙ ap (λ (x : Signals). x.game.now) c.signals-signals.ensures.held in
-    let few = carried game s.signals.now.game.now classes s.classes.now HasFewSequences same c.classes-classes.ensures.held c.in_ok-one.ensures.few in
+    let few = carried game s.signals.now.game.now classes s.classes.now (HasSequencesWithin c.args.most.sequences) same c.classes-classes.ensures.held c.in_ok-one.ensures.few in
     let count = carried game s.signals.now.game.now classes s.classes.now (λ f lists. c.in_ok-count.count ≡ cell_count f lists) same c.classes-classes.ensures.held c.in_ok-count.ensures in
     record {
-      small = record { sequences = few; cells = omega (arith, count, c.if-count-gt-MOST_CELLS.false) };
+      few = record { one = omega (arith, few.one, c.requires); two = omega (arith, few.two, c.requires) };
       placed = carried game s.signals.now.game.now classes s.classes.now (λ f lists. AreOffsets f lists c.in_ok-offsets.offsets.items) same c.classes-classes.ensures.held c.in_ok-offsets.ensures;
       ones = carried game s.signals.now.game.now classes s.classes.now (λ f lists. c.in_ok-one.one ≡ slot_count f lists 1) same c.classes-classes.ensures.held c.in_ok-one.ensures.one;
       twos = carried game s.signals.now.game.now classes s.classes.now (λ f lists. c.in_ok-one.two ≡ slot_count f lists 2) same c.classes-classes.ensures.held c.in_ok-one.ensures.two;
       paired = carried c.signals-signals.result.now.game.now s.signals.now.game.now classes s.classes.now (λ f lists. AreRows f lists c.in_ok-rows.rows.items)
           (ap (λ (x : Signals). x.game.now) c.signals-signals.ensures.held) c.classes-classes.ensures.held c.in_ok-rows.ensures;
     }
+
+pub returns-clause-small : goal.returns-clause-small
+returns-clause-small c =
+    let s = c.args.lossless.now in
+    let game = c.game-game.result.now in
+    let classes = c.classes-classes.result.now in
+    let same : game ≡ s.signals.now.game.now = c.game-game.ensures ∙ ap (λ (x : Signals). x.game.now) c.signals-signals.ensures.held in
+    let few = carried game s.signals.now.game.now classes s.classes.now (HasSequencesWithin c.args.most.sequences) same c.classes-classes.ensures.held c.in_ok-one.ensures.few in
+    let count = carried game s.signals.now.game.now classes s.classes.now (λ f lists. c.in_ok-count.count ≡ cell_count f lists) same c.classes-classes.ensures.held c.in_ok-count.ensures in
+    record { sequences = few; cells = omega (arith, count, c.if-count-most.false) }
