@@ -1,0 +1,106 @@
+-- What a game file states, with no word of the order in which it is checked: the keys of its tables, with their types and ranges, and the game.
+-- Source: this project's game files.
+use Rattle.std.specs.Prelude.{ℕ, pos, ◌≡◌, ◌≤◌, ◌⊎◌, true, List, [], ◌∷◌, Some, None, length, replicate}
+use Rattle.std.specs.Str.{is_utf8}
+use Rattle.toml.specs.Data.{Data, Items, Members, get_member, as_str, as_integer, as_array, as_table}
+use Rattle.toml.specs.Parse.{parse_document}
+use Rattle.gs_bet.specs.Limit.{limit_bet}
+use Rattle.gs_card.specs.DeckFaults.{fault_of as deck_fault_of}
+use Rattle.gs_card.specs.Decks.{DeckValue, deck_of}
+use Rattle.gs_game.specs.Refusals.{first_refusal}
+use Rattle.gs_model.specs.Betting.{Bet}
+use Rattle.gs_model.specs.Game.{Round, Ranking}
+use Rattle.gs_model.specs.Outcome.{categories}
+use Rattle.gs_file.specs.JsonForm.{ranking_text}
+use Rattle.gs_file.specs.Keys.{key_text, has_only, top_keys, tree_keys, limit_keys}
+use Rattle.gs_file.specs.Reading.{FileGame, rules_of}
+use Rattle.gs_file.specs.Tables.{list_of}
+use Rattle.gs_file.specs.TreeTexts.{IsTextOf}
+use Rattle.gs_file.specs.declared.fault.Key.{Key}
+use Rattle.gs_file.specs.declared.fault.Key.TheVariants as key
+use Rattle.gs_file.specs.declared.version.Version.TheVariants.{One, Two}
+
+-- the key stands in the table, with a value of which this is true
+abbrev pub Has : Members → Key → (Data → Type 0) → Type 0
+Has table k P = (d : Data) × (get_member (key_text k) table ≡ Some d) × P d
+
+-- the key does not stand there
+abbrev pub HasNo : Members → Key → Type 0
+HasNo table k = get_member (key_text k) table ≡ None
+
+-- no key stands there but these
+abbrev pub HasOnly : Members → List Key → Type 0
+HasOnly table keys = has_only keys table ≡ true
+
+-- ---- values
+
+-- the value is this text
+abbrev pub IsText : List ℕ → Data → Type 0
+IsText text d = as_str d ≡ Some text
+
+-- the value is this whole number, which is from low to high
+abbrev pub IsNumber : ℕ → ℕ → ℕ → Data → Type 0
+IsNumber low high n d = (as_integer d ≡ Some (pos n)) × (low ≤ n) × (n ≤ high)
+
+-- two lists are as long, and their members go together one by one
+abbrev pub OneByOne : {A B : Type 0} → (A → B → Type 0) → List A → List B → Type 0
+OneByOne R [] [] = Unit {0}
+OneByOne R [] (y ∷ ys) = ⊥
+OneByOne R (x ∷ xs) [] = ⊥
+OneByOne R (x ∷ xs) (y ∷ ys) = R x y × OneByOne R xs ys
+
+-- the value is a list of such values
+abbrev pub IsList : {A : Type 0} → (A → Data → Type 0) → List A → Data → Type 0
+IsList R xs d = (items : Items) × (as_array d ≡ Some items) × OneByOne R xs (list_of items)
+
+-- ---- a round
+
+-- a round is bet by a tree's text, or by a bet and a cap
+abbrev pub StatesBetting : Bet → Members → Type 0
+StatesBetting t table =
+    ((text : List ℕ) × HasOnly table tree_keys × Has table key.Tree (IsText text) × IsTextOf text t)
+    ⊎ ((bet : ℕ) × (cap : ℕ) × HasOnly table limit_keys × Has table key.Bet (IsNumber 1 2048 bet) × Has table key.Cap (IsNumber 0 8 cap) × (t ≡ limit_bet bet cap))
+
+-- the table states the round
+pub record StatesRound (round : Round) (table : Members) : Type 0 where
+  pub private : Has table key.Private (IsNumber 0 2 round.private)
+  pub public : Has table key.Public (IsNumber 0 3 round.public)
+  pub betting : StatesBetting round.tree table
+
+-- the value is a table that states the round
+abbrev pub IsRound : Round → Data → Type 0
+IsRound round d = (table : Members) × (as_table d ≡ Some table) × StatesRound round table
+
+-- ---- the game
+
+-- the text of the copies, which is empty where the key is left out
+abbrev pub StatesCopies : List ℕ → Members → Type 0
+StatesCopies copies table = (HasNo table key.Copies × (copies ≡ [])) ⊎ Has table key.Copies (IsText copies)
+
+-- the texts of ranks, suits and copies are without fault, and make the deck
+pub record StatesDeck (d : DeckValue) (table : Members) : Type 0 where
+  pub ranks : Has table key.Ranks (IsText d.ranks)
+  pub suits : Has table key.Suits (IsText d.suits)
+  pub copies : List ℕ
+  pub copies_are : StatesCopies copies table
+  pub good : deck_fault_of d.ranks d.suits copies ≡ None
+  pub made : d ≡ deck_of d.ranks d.suits copies
+
+-- version 1 has no bonuses, so that all are 1; version 2 has one from 1 to 9 for each category
+abbrev pub StatesBonus : Ranking → List ℕ → Members → Type 0
+StatesBonus r bonus table =
+    (HasOnly table (top_keys One) × Has table key.Version (IsNumber 1 1 1) × (bonus ≡ replicate (categories r) 1))
+    ⊎ (HasOnly table (top_keys Two) × Has table key.Version (IsNumber 2 2 2) × Has table key.Bonus (IsList (IsNumber 1 9) bonus) × (length bonus ≡ categories r))
+
+-- the table states the game, which keeps the rules
+pub record StatesGame (g : FileGame) (table : Members) : Type 0 where
+  pub deck : StatesDeck g.deck table
+  pub ranking : Has table key.Ranking (IsText (ranking_text g.ranking))
+  pub bonus : StatesBonus g.ranking g.bonus table
+  pub ante : Has table key.Ante (IsNumber 1 4096 g.ante)
+  pub rounds : Has table key.Round (IsList IsRound g.rounds)
+  pub lawful : first_refusal (rules_of g) ≡ None
+
+-- the bytes are a text whose table states the game
+abbrev pub FileStates : List ℕ → FileGame → Type 0
+FileStates bytes g = (is_utf8 bytes ≡ true) × ((table : Members) × (parse_document bytes ≡ Some table) × StatesGame g table)
