@@ -1,0 +1,53 @@
+-- A fault of the program is the one that reading meets first.
+use Rattle.std.proofs.Common.{◌≢◌, Result, Ok, Err, refl}
+use Rattle.gs_file.specs.Answers.{Fails}
+use Rattle.gs_file.specs.Faults.{Fault}
+use Rattle.gs_file.specs.Reading.{FileGame}
+use Rattle.gs_file.specs.declared.fault.FileFault.{FileFault}
+use Rattle.gs_file.specs.declared.fault.FileFault.TheVariants as fault
+use Rattle.gs_game.specs.declared.faults.GameFault.{GameFault}
+use Rattle.gs_game.specs.declared.faults.GameFault.TheVariants as rules
+use Rattle.gs_file.specs.Answers.{FailsByRules}
+use Rattle.gs_reply.specs.Refusals.{Refusal, Bad_game}
+use Rattle.gs_reply.specs.Replies.{Answers, OfReading, Reply, Refuses, Tells}
+use Rattle.gs_reply.specs.declared.answers.Answer.{Answer}
+use Rattle.gs_reply.specs.declared.answers.Answer.TheVariants as answer
+
+by_rules : (f : GameFault) (g : FileGame) → FailsByRules f (Ok g) → ⊥
+by_rules (rules.Rounds count) g h = cc
+by_rules rules.NoPrivate g h = cc
+by_rules (rules.RankingCards own all) g h = cc
+by_rules (rules.NotEnoughCards need have) g h = cc
+by_rules (rules.NoEven round) g h = cc
+by_rules (rules.Uneven round path) g h = cc
+by_rules (rules.PutTooLarge chips) g h = cc
+by_rules (rules.TooManyLines count) g h = cc
+by_rules (rules.TooHeavy weight) g h = cc
+by_rules (rules.TooManySignals round) g h = cc
+by_rules rules.TooManyDeals g h = cc
+by_rules rules.Memory g h = h
+
+-- a game that is read has no fault
+no_fault : (f : FileFault) (g : FileGame) → f ≢ fault.Memory → Fails f (Ok g) → ⊥
+no_fault fault.NotText g told h = cc
+no_fault fault.NotToml g told h = cc
+no_fault (fault.MissingKey place) g told h = cc
+no_fault (fault.UnknownKey round) g told h = cc
+no_fault (fault.WrongType place) g told h = cc
+no_fault (fault.BadVersion version) g told h = cc
+no_fault (fault.Range place) g told h = cc
+no_fault (fault.Deck why) g told h = cc
+no_fault (fault.TreeText round why) g told h = cc
+no_fault (fault.Game why) g told h = by_rules why g h
+no_fault fault.Memory g told h = told refl
+
+-- an answer that tells a refusal answers so, where the refusal is said
+pub tells_answer : (says : Reply → Type 0) (a : Answer) (why : Refusal) → says (Refuses why) → Tells a why → Answers says a
+tells_answer says (answer.Prints text) why s t = absurd t
+tells_answer says (answer.Refuses kind line) why s t = (why, s, t)
+
+-- a refusal of the file is what it says
+pub refused : (says : FileGame → Reply → Type 0) (read : Result FileGame Fault) (f : FileFault) (a : Answer) → f ≢ fault.Memory → Fails f read
+    → ((why : Fault) → Fails {Y = FileGame} f (Err why) → Tells a (Bad_game why)) → Answers (OfReading says read) a
+refused says (Ok g) f a told h line = absurd (no_fault f g told h)
+refused says (Err why) f a told h line = tells_answer (OfReading says (Err why)) a (Bad_game why) refl (line why h)

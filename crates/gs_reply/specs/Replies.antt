@@ -1,0 +1,27 @@
+-- What an input asks to be printed, or why it is refused.
+use Rattle.std.specs.Prelude.{◌≡◌, ℕ, List, Result, Ok, Err}
+use Rattle.gs_file.specs.Faults.{Fault}
+use Rattle.gs_file.specs.Reading.{FileGame}
+use Rattle.gs_reply.specs.Refusals.{Refusal, Bad_game, cause_of, line_of}
+use Rattle.gs_reply.specs.declared.answers.Answer.{Answer}
+use Rattle.gs_reply.specs.declared.answers.Answer.TheVariants as answer
+
+-- a text to print, or a refusal
+pub data Reply : Type 0 where
+  Prints : List ℕ → Reply
+  Refuses : Refusal → Reply
+
+-- what is said of the game that a file states; a file that states none is refused for its first fault
+abbrev pub OfReading : (FileGame → Reply → Type 0) → Result FileGame Fault → Reply → Type 0
+OfReading says (Ok g) reply = says g reply
+OfReading says (Err why) reply = reply ≡ Refuses (Bad_game why)
+
+-- an answer tells a refusal: its kind and its line
+abbrev pub Tells : Answer → Refusal → Type 0
+Tells (answer.Prints text) why = ⊥
+Tells (answer.Refuses kind line) why = (kind ≡ cause_of why) × (line.items ≡ line_of why)
+
+-- an answer of the program is a reply of which this is true
+abbrev pub Answers : (Reply → Type 0) → Answer → Type 0
+Answers says (answer.Prints text) = says (Prints text.items)
+Answers says (answer.Refuses kind line) = (why : Refusal) × says (Refuses why) × Tells (answer.Refuses kind line) why

@@ -1,0 +1,19 @@
+//! What an input is answered: a text to print, or why it is refused, with the line that tells it.
+#![tactic(auto)]
+
+mod answers;
+mod games;
+mod numbers;
+mod queries;
+mod signals;
+mod solving;
+
+pub use answers::{Answer, Cause};
+pub use games::{bad_game, other_game};
+pub use numbers::wrong_number;
+pub use queries::bad_query;
+pub use signals::unlike;
+pub use solving::{
+    many_cells, many_pivots, many_raw_cells, many_sequences, many_table_numbers, overflow_at_step,
+    overflow_of_total,
+};

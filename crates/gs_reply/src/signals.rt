@@ -1,0 +1,39 @@
+//! Refusals of classes.
+
+ghost use Rattle.std.specs.Prelude.{◌≡◌, ◌<◌, ◌≤◌, IfOk, length};
+ghost use Rattle.gs_model.specs.Game.{round_count};
+ghost use Rattle.gs_model.specs.Signals.{signal_at, signals as signals_in};
+ghost use Rattle.gs_reply.specs.Refusals.{Unlike_pair};
+ghost use Rattle.gs_reply.specs.Replies.{Tells};
+ghost use Rattle.gs_tree.specs.Texts.{signal_text};
+ghost use Rattle.gs_tree.specs.Trees.{deck_of, rules_of};
+
+use crate::answers::{Answer, Cause};
+use gs_tree::Signals;
+use std::alloc::{AllocError, Global};
+
+/// The refusal of classes in which two signals of a round are unlike.
+pub fn unlike(
+    alloc: Global,
+    signals: &Signals,
+    round: u8,
+    first: u32,
+    second: u32,
+) -> Result<Answer, AllocError>
+    requires some { 0 < round }
+    requires last { round ≤ round_count (rules_of signals.now) }
+    requires first { first < length (signals_in (rules_of signals.now) round) }
+    requires second { second < length (signals_in (rules_of signals.now) round) }
+    ensures { IfOk result (λ a. Tells a (Unlike_pair round (signal_text (deck_of signals.now) (signal_at (rules_of signals.now) round first)) (signal_text (deck_of signals.now) (signal_at (rules_of signals.now) round second)))) }
+{
+    let mut line = format!(in alloc; "unlike: round {round} ")?;
+    line.push_str(signals.text(alloc, round, first)?.as_str())?;
+    line.push_str(" ")?;
+    line.push_str(signals.text(alloc, round, second)?.as_str())?;
+    line.push_str("\n")?;
+    let cause = Cause::Unlike;
+    Ok(Answer::Refuses {
+        cause,
+        line: line.into_bytes(),
+    })
+}

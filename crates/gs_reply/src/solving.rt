@@ -1,0 +1,100 @@
+//! Refusals of games that are too large, and of solutions whose numbers or paths are.
+
+ghost use Rattle.std.specs.Prelude.{◌≡◌, ◌++◌, IfOk, codes};
+ghost use Rattle.std.specs.Fmt.{decimal};
+ghost use Rattle.gs_reply.specs.Refusals.{Overflows, At_step, At_total, Many_pivots, Too_large, Sequences, Cells, Table_numbers, Raw_cells};
+ghost use Rattle.gs_reply.specs.Replies.{Tells};
+
+use crate::answers::{Answer, Cause};
+use std::alloc::{AllocError, Global};
+use std::fmt::Write;
+
+/// The refusal of a solution at a number of its path, by the step, the row and the column where it stands.
+pub fn overflow_at_step(
+    alloc: Global,
+    step: u32,
+    row: u32,
+    column: u32,
+    number: i128,
+) -> Result<Answer, AllocError>
+    ensures { IfOk result (λ a. Tells a (Overflows (At_step step row column number))) }
+{
+    let mut line = format!(in alloc; "overflow: step {step}")?;
+    write!(line, " row {row}")?;
+    write!(line, " column {column}")?;
+    write!(line, " number {number}\n")?;
+    Ok(Answer::Refuses {
+        cause: Cause::Overflow,
+        line: line.into_bytes(),
+    })
+}
+
+/// The refusal of a solution at a player's total.
+pub fn overflow_of_total(alloc: Global, player: u8, multiple: u128) -> Result<Answer, AllocError>
+    ensures { IfOk result (λ a. Tells a (Overflows (At_total player multiple))) }
+{
+    let mut line = format!(in alloc; "overflow: player {player}")?;
+    write!(line, " total {multiple}\n")?;
+    Ok(Answer::Refuses {
+        cause: Cause::Overflow,
+        line: line.into_bytes(),
+    })
+}
+
+/// The refusal of a solution whose path is too long.
+pub fn many_pivots(alloc: Global) -> Result<Answer, AllocError>
+    ensures { IfOk result (λ a. Tells a Many_pivots) }
+{
+    let line = String::from_str(alloc, "more than 8192 pivots\n")?.into_bytes();
+    let cause = Cause::PivotLimit;
+    Ok(Answer::Refuses { cause, line })
+}
+
+/// The refusal of a game in which a player has too many sequences.
+pub fn many_sequences(alloc: Global, player: u8, count: u64) -> Result<Answer, AllocError>
+    ensures { IfOk result (λ a. Tells a (Too_large (Sequences player count))) }
+{
+    let mut line = format!(in alloc; "too large: sequences of player {player}")?;
+    write!(line, ": {count}\n")?;
+    Ok(Answer::Refuses {
+        cause: Cause::TooLarge,
+        line: line.into_bytes(),
+    })
+}
+
+// What there is too much of, and how much.
+fn too_many(alloc: Global, what: &str, count: u64) -> Result<Vec<u8>, AllocError>
+    ensures { IfOk result (λ line. line.items ≡ codes "too large: " ++ what.now ++ decimal count ++ codes "\n") }
+{
+    let mut line = String::from_str(alloc, "too large: ")?;
+    line.push_str(what)?;
+    write!(line, "{count}\n")?;
+    Ok(line.into_bytes())
+}
+
+/// The refusal of a game with too many pairs of classes over its ends.
+pub fn many_cells(alloc: Global, count: u64) -> Result<Answer, AllocError>
+    ensures { IfOk result (λ a. Tells a (Too_large (Cells count))) }
+{
+    let line = too_many(alloc, "cells: ", count)?;
+    let cause = Cause::TooLarge;
+    Ok(Answer::Refuses { cause, line })
+}
+
+/// The refusal of a game whose program has too large a table.
+pub fn many_table_numbers(alloc: Global, count: u64) -> Result<Answer, AllocError>
+    ensures { IfOk result (λ a. Tells a (Too_large (Table_numbers count))) }
+{
+    let line = too_many(alloc, "table numbers: ", count)?;
+    let cause = Cause::TooLarge;
+    Ok(Answer::Refuses { cause, line })
+}
+
+/// The refusal of a game with too many pairs of raw signals over its ends.
+pub fn many_raw_cells(alloc: Global, count: u64) -> Result<Answer, AllocError>
+    ensures { IfOk result (λ a. Tells a (Too_large (Raw_cells count))) }
+{
+    let line = too_many(alloc, "raw cells: ", count)?;
+    let cause = Cause::TooLarge;
+    Ok(Answer::Refuses { cause, line })
+}
