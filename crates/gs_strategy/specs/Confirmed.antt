@@ -1,0 +1,34 @@
+-- Strategies that are confirmed: the classes are lossless, the game in sequence form keeps its limits, and the numbers are the verdict on the plans.
+use Rattle.std.specs.Prelude.{ℕ, ℤ, unsigned_abs}
+use Rattle.gs_model.specs.Frame.{Frame}
+use Rattle.gs_model.specs.Lossless.{IsLossless}
+use Rattle.gs_model.specs.Plans.{Plan, lift}
+use Rattle.gs_model.specs.Verdict.{IsVerdict}
+use Rattle.gs_seq.specs.Slots.{plan_of}
+use Rattle.gs_seq.specs.Stops.{IsSmall}
+use Rattle.gs_strategy.specs.Values.{IsFractionOf, Numbers, Parts, Strategy, Weights, frame_in}
+
+-- the frame of a strategy's game
+abbrev pub frame_of : Strategy → Frame
+frame_of s = frame_in s.game
+
+-- the raw plan that a player's weights stand for: at a raw signal the weights of its class
+abbrev pub raw_plan : Strategy → Weights → Plan
+raw_plan s w = lift (frame_of s) s.classes (plan_of (frame_of s) s.classes w.total w.weights)
+
+-- a fraction as a numerator with a sign and a denominator
+abbrev pub over : Parts → ℤ × ℕ
+over p = (p.0, unsigned_abs p.1)
+
+-- reduced fractions that are the value of the strategy's plans and what each player could still gain by any raw plan
+pub record AreNumbersOf (s : Strategy) (n : Numbers) : Type 0 where
+  pub value : IsFractionOf n.value
+  pub gap1 : IsFractionOf n.gap1
+  pub gap2 : IsFractionOf n.gap2
+  pub verdict : IsVerdict (frame_of s) (raw_plan s s.one) (raw_plan s s.two) (over n.value) (over n.gap1) (over n.gap2)
+
+-- the classes are lossless, and the numbers are those of the plans
+pub record IsConfirmed (s : Strategy) : Type 0 where
+  pub lossless : IsLossless (frame_of s) s.classes
+  pub small : IsSmall (frame_of s) s.classes
+  pub numbers : AreNumbersOf s s.numbers
