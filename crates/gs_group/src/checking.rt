@@ -1,0 +1,56 @@
+//! The command `check`.
+
+ghost use Rattle.std.specs.Prelude.{◌≡◌, IfOk};
+ghost use Rattle.gs_file.specs.Views.{valid_view};
+ghost use Rattle.gs_group.specs.Checking.{Checks, ChecksGame};
+ghost use Rattle.gs_reply.specs.Replies.{Answers};
+
+use crate::grouping::{classes_of, lossless_of};
+use crate::telling::told;
+use gs_file::{FileFault, read_game};
+use gs_game::ValidGame;
+use gs_lossless::CheckStop;
+use gs_reply::{Answer, bad_game, unlike};
+use gs_tree::Signals;
+use gs_words::Grouping;
+use std::alloc::{AllocError, Global};
+
+// What `check` says of a game.
+fn checked(
+    alloc: Global,
+    game: &ValidGame,
+    grouping: Grouping,
+    summary: bool,
+) -> Result<Answer, AllocError>
+    ensures { IfOk result (Answers (ChecksGame grouping summary (valid_view game.now))) }
+{
+    let signals = Signals::of(alloc, game)?;
+    let classes = classes_of(alloc, &signals, grouping)?;
+    let _rounds = classes.rounds();
+    match lossless_of(alloc, &signals, &classes, grouping) {
+        Ok(_) => Ok(Answer::Prints(told(alloc, &signals, &classes, summary)?)),
+        Err(CheckStop::Unlike { round, second, .. }) => {
+            let first = classes.first(round, classes.class_of(round, second));
+            unlike(alloc, &signals, round, first, second)
+        }
+        Err(CheckStop::Memory) => Err(AllocError),
+    }
+}
+
+/// What `check` answers to the bytes of a game file: the text of its classes in this grouping, or their summary, where they are lossless; or why it
+/// is refused.
+pub fn check_answer(
+    alloc: Global,
+    bytes: &[u8],
+    grouping: Grouping,
+    summary: bool,
+) -> Result<Answer, AllocError>
+    ensures { IfOk result (Answers (Checks grouping summary bytes.now)) }
+{
+    let game = match read_game(alloc, bytes) {
+        Ok(game) => game,
+        Err(FileFault::Memory) => return Err(AllocError),
+        Err(fault) => return bad_game(alloc, &fault),
+    };
+    checked(alloc, &game, grouping, summary)
+}

@@ -1,0 +1,64 @@
+//! The classes of a grouping.
+
+ghost use Rattle.std.specs.Prelude.{◌≡◌, IfErr, IfOk};
+ghost use Rattle.gs_filter.specs.Filter.{single_classes};
+ghost use Rattle.gs_group.specs.Checking.{IsGrouping};
+ghost use Rattle.gs_lossless.specs.Stops.{IsUnlike, IsUnlikeIn};
+ghost use Rattle.gs_model.specs.Frame.{frame_of};
+ghost use Rattle.gs_model.specs.Lossless.{IsLossless};
+ghost use Rattle.gs_tree.specs.Trees.{rules_of};
+ghost use Rattle.gs_words.specs.declared.request.Grouping.TheVariants.{Coarsest};
+
+use gs_filter::Classes;
+use gs_lossless::{CheckStop, Lossless, check};
+use gs_split::split;
+use gs_tree::Signals;
+use gs_words::Grouping;
+use std::alloc::{AllocError, Global};
+
+// The coarsest lossless classes that refine those of ordered game isomorphism.
+fn coarsest(alloc: Global, signals: &Signals) -> Result<Classes, AllocError>
+    ensures grouping { IfOk result (λ c. IsGrouping Coarsest (rules_of signals.now) c.lists) }
+    ensures parents { IfOk result (λ c. c.parents ≡ (frame_of (rules_of signals.now)).parents) }
+{
+    let classes = gs_iso::shrink(alloc, signals)?;
+    split(alloc, signals, &classes)
+}
+
+/// The classes of a grouping.
+pub fn classes_of(
+    alloc: Global,
+    signals: &Signals,
+    grouping: Grouping,
+) -> Result<Classes, AllocError>
+    ensures grouping { IfOk result (λ c. IsGrouping grouping (rules_of signals.now) c.lists) }
+    ensures parents { IfOk result (λ c. c.parents ≡ (frame_of (rules_of signals.now)).parents) }
+{
+    match grouping {
+        Grouping::Isomorphism => gs_iso::shrink(alloc, signals),
+        Grouping::Coarsest => coarsest(alloc, signals),
+        Grouping::Single => Classes::identity(alloc, signals.parents()),
+    }
+}
+
+/// The classes of a grouping as lossless ones, or the first unlike pair. Only signal classes are compared: the others are known to be lossless.
+pub fn lossless_of<'a>(
+    alloc: Global,
+    signals: &'a Signals<'a>,
+    classes: &'a Classes,
+    grouping: Grouping,
+) -> Result<Lossless<'a>, CheckStop>
+    requires parents { classes.now.parents ≡ (frame_of (rules_of signals.now)).parents }
+    requires grouping { IsGrouping grouping (rules_of signals.now) classes.now.lists }
+    ensures held_signals { IfOk result (λ l. l.signals.now ≡ signals.entry.now) }
+    ensures held_classes { IfOk result (λ l. l.classes.now ≡ classes.entry.now) }
+    ensures lossless { IfOk result (λ _. IsLossless (frame_of (rules_of signals.entry.now)) classes.entry.now.lists) }
+    ensures unlike { IfErr result (IsUnlikeIn (frame_of (rules_of signals.entry.now)) classes.entry.now.lists) }
+    ensures refuted { IfErr result (λ e. IsUnlike e → IsLossless (frame_of (rules_of signals.entry.now)) classes.entry.now.lists → ⊥) }
+    ensures single { IfErr result (λ e. IsUnlike e → classes.entry.now.lists ≡ single_classes classes.entry.now.parents → ⊥) }
+{
+    match grouping {
+        Grouping::Isomorphism => check(alloc, signals, classes),
+        Grouping::Coarsest | Grouping::Single => Ok(Lossless::known(signals, classes)),
+    }
+}

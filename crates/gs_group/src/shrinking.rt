@@ -1,0 +1,35 @@
+//! The command `shrink`.
+
+ghost use Rattle.std.specs.Prelude.{◌≡◌, IfOk};
+ghost use Rattle.gs_file.specs.Views.{valid_view};
+ghost use Rattle.gs_group.specs.Shrinking.{IsShrunk, Shrinks};
+ghost use Rattle.gs_reply.specs.Replies.{Answers};
+
+use crate::telling::told;
+use gs_file::{FileFault, read_game};
+use gs_game::ValidGame;
+use gs_reply::{Answer, bad_game};
+use gs_tree::Signals;
+use std::alloc::{AllocError, Global};
+
+// The text of the signal classes of a game, or their summary.
+fn shrunk(alloc: Global, game: &ValidGame, summary: bool) -> Result<Vec<u8>, AllocError>
+    ensures { IfOk result (λ text. IsShrunk summary (valid_view game.now) text.items) }
+{
+    let signals = Signals::of(alloc, game)?;
+    let classes = gs_iso::shrink(alloc, &signals)?;
+    told(alloc, &signals, &classes, summary)
+}
+
+/// What `shrink` answers to the bytes of a game file: the text of its signal classes, or their summary; or why it is refused.
+pub fn shrink_answer(alloc: Global, bytes: &[u8], summary: bool) -> Result<Answer, AllocError>
+    ensures { IfOk result (Answers (Shrinks summary bytes.now)) }
+{
+    let game = match read_game(alloc, bytes) {
+        Ok(game) => game,
+        Err(FileFault::Memory) => return Err(AllocError),
+        Err(fault) => return bad_game(alloc, &fault),
+    };
+    let text = shrunk(alloc, &game, summary)?;
+    Ok(Answer::Prints(text))
+}
