@@ -1,0 +1,134 @@
+//! The texts of what is wrong with a strategy file.
+
+ghost use Rattle.std.specs.Prelude.{◌≡◌, ◌≢◌, ◌++◌, ℕ, IfOk, codes};
+ghost use Rattle.std.specs.Fmt.{decimal};
+ghost use Rattle.gs_file.specs.Faults.{Fault as GameRule};
+ghost use Rattle.gs_filter.specs.FaultText.{fault_text as class_fault_text};
+ghost use Rattle.gs_frac.specs.FaultText.{fault_text as fraction_fault_text};
+ghost use Rattle.gs_strategy.specs.Faults.{Fault, IsFault as IsStoreFault};
+ghost use Rattle.gs_text.specs.FaultText.{IsFault, fault_text};
+ghost use Rattle.gs_text.specs.StoreText.{part_text as text_of_part, plan_text as text_of_plan, store_text as text_of_store};
+ghost use Rattle.gs_file.specs.declared.fault.FileFault.TheVariants as file;
+
+use crate::faults::file_fault_text;
+use gs_file::FileFault;
+use gs_filter::ClassFault;
+use gs_frac::FracFault;
+use gs_seq::PlanFault;
+use gs_strategy::{Part, StoreFault};
+use std::alloc::{AllocError, Global};
+use std::fmt::Write;
+
+/// The name of a part.
+fn part_text(part: Part) -> &'static str
+    ensures { result.now ≡ text_of_part part }
+{
+    match part {
+        Part::Top => "file",
+        Part::Version => "version",
+        Part::Classes => "classes",
+        Part::Player1 => "player1",
+        Part::Player2 => "player2",
+        Part::Value => "value",
+        Part::Gap1 => "gap1",
+        Part::Gap2 => "gap2",
+    }
+}
+
+/// What is wrong, and a number behind it.
+fn numbered(alloc: Global, wrong: &str, number: u64) -> Result<Vec<u8>, AllocError>
+    ensures { IfOk result (λ v. v.items ≡ wrong.now ++ decimal number) }
+{
+    let mut text = String::from_str(alloc, wrong)?;
+    write!(text, "{number}")?;
+    Ok(text.into_bytes())
+}
+
+/// A part of a wrong shape.
+fn shape_text(alloc: Global, part: Part) -> Result<Vec<u8>, AllocError>
+    ensures { IfOk result (λ v. v.items ≡ codes "shape of " ++ text_of_part part) }
+{
+    let mut text = String::from_str(alloc, "shape of ")?;
+    text.push_str(part_text(part))?;
+    Ok(text.into_bytes())
+}
+
+/// A game that is none.
+fn game_text(alloc: Global, fault: &FileFault) -> Result<Vec<u8>, AllocError>
+    requires { fault.now ≢ file.Memory }
+    ensures { IfOk result (λ v. (why : GameRule) → IsFault fault.now why → v.items ≡ codes "game: " ++ fault_text why) }
+{
+    let mut text = String::from_str(alloc, "game: ")?.into_bytes();
+    let wrong = file_fault_text(alloc, fault)?;
+    text.extend_from_slice(&wrong)?;
+    Ok(text)
+}
+
+/// Class numbers that are no classes.
+fn classes_text(alloc: Global, fault: &ClassFault) -> Result<Vec<u8>, AllocError>
+    ensures { IfOk result (λ v. v.items ≡ codes "classes: " ++ class_fault_text fault.now) }
+{
+    let mut text = String::from_str(alloc, "classes: ")?;
+    let wrong = fault.to_string(alloc)?;
+    text.push_str(wrong.as_str())?;
+    Ok(text.into_bytes())
+}
+
+/// A place where a player's weights do not add up.
+fn flow_text(alloc: Global, player: u8, point: u32, class: u32) -> Result<Vec<u8>, AllocError>
+    ensures { IfOk result (λ v. v.items ≡ codes "player " ++ decimal player ++ codes " flow at point " ++ decimal point ++ codes " class " ++ decimal class) }
+{
+    let mut text = format!(in alloc; "player {player}")?;
+    write!(text, " flow at point {point}")?;
+    write!(text, " class {class}")?;
+    Ok(text.into_bytes())
+}
+
+/// A player's weights, and what is wrong with them.
+fn player_text(alloc: Global, player: u8, wrong: &str) -> Result<Vec<u8>, AllocError>
+    ensures { IfOk result (λ v. v.items ≡ codes "player " ++ decimal player ++ wrong.now) }
+{
+    let mut text = format!(in alloc; "player {player}")?;
+    text.push_str(wrong)?;
+    Ok(text.into_bytes())
+}
+
+/// Weights that are no plan.
+fn plan_text(alloc: Global, player: u8, fault: PlanFault) -> Result<Vec<u8>, AllocError>
+    ensures { IfOk result (λ v. v.items ≡ text_of_plan player fault) }
+{
+    match fault {
+        PlanFault::Length { .. } => player_text(alloc, player, " length"),
+        PlanFault::Total => player_text(alloc, player, " total"),
+        PlanFault::Flow { point, class } => flow_text(alloc, player, point, class),
+    }
+}
+
+/// A text that is no fraction's.
+fn fraction_fault(alloc: Global, part: Part, fault: &FracFault) -> Result<Vec<u8>, AllocError>
+    ensures { IfOk result (λ v. v.items ≡ text_of_part part ++ codes " " ++ fraction_fault_text fault.now) }
+{
+    let mut text = String::from_str(alloc, part_text(part))?;
+    text.push_str(" ")?;
+    let wrong = fault.to_string(alloc)?;
+    text.push_str(wrong.as_str())?;
+    Ok(text.into_bytes())
+}
+
+/// Why a strategy file is refused, without an end of line.
+pub fn store_fault_text(alloc: Global, fault: &StoreFault) -> Result<Vec<u8>, AllocError>
+    requires { (why : Fault) × IsStoreFault fault.now why }
+    ensures { IfOk result (λ text. (why : Fault) → IsStoreFault fault.now why → text.items ≡ text_of_store why) }
+{
+    match fault {
+        StoreFault::NotJson => Ok(String::from_str(alloc, "not JSON")?.into_bytes()),
+        StoreFault::Shape(part) => shape_text(alloc, *part),
+        StoreFault::Version(number) => numbered(alloc, "version ", *number),
+        StoreFault::Game(fault) => game_text(alloc, fault),
+        StoreFault::Classes(fault) => classes_text(alloc, fault),
+        StoreFault::Plan { player, fault } => plan_text(alloc, *player, *fault),
+        StoreFault::Fraction { part, fault } => fraction_fault(alloc, *part, fault),
+        StoreFault::NotCanonical { at } => numbered(alloc, "not canonical at ", *at),
+        StoreFault::Memory => Ok(String::from_str(alloc, "out of memory")?.into_bytes()),
+    }
+}

@@ -1,0 +1,57 @@
+//! The texts of verdicts and mixtures.
+
+ghost use Rattle.std.specs.Prelude.{◌≡◌, ◌++◌, [], IfOk, OnOk, codes, string_bytes};
+ghost use Rattle.gs_strategy.specs.Views.{numbers_of, parts_of};
+ghost use Rattle.gs_text.specs.VerdictText.{mix_text as text_of_mix, number_line, verdict_text as text_of_verdict};
+
+use gs_frac::{Fraction, Verdict};
+use gs_lift::Mixture;
+use std::alloc::{AllocError, Global};
+use std::fmt::Write;
+
+/// Adds a space, a fraction and the end of the line.
+fn push_number(text: &mut String, alloc: Global, number: &Fraction) -> Result<(), AllocError>
+    ensures { OnOk result (string_bytes text.new ≡ string_bytes text.old ++ number_line [] (parts_of number.now)) }
+{
+    text.push_str(" ")?;
+    let written = number.to_text(alloc)?;
+    text.push_str(written.as_str())?;
+    text.push_str("\n")
+}
+
+/// Adds a name and a fraction as a line.
+fn push_line(
+    text: &mut String,
+    alloc: Global,
+    name: &str,
+    number: &Fraction,
+) -> Result<(), AllocError>
+    ensures { OnOk result (string_bytes text.new ≡ string_bytes text.old ++ number_line name.now (parts_of number.now)) }
+{
+    text.push_str(name)?;
+    push_number(text, alloc, number)
+}
+
+/// The value and the gaps of both players, a line each.
+pub fn verdict_text(alloc: Global, verdict: &Verdict) -> Result<Vec<u8>, AllocError>
+    ensures { IfOk result (λ text. text.items ≡ text_of_verdict (numbers_of verdict.now)) }
+{
+    let mut text = String::new(alloc);
+    push_line(&mut text, alloc, "value", &verdict.value)?;
+    push_line(&mut text, alloc, "gap1", &verdict.gap1)?;
+    push_line(&mut text, alloc, "gap2", &verdict.gap2)?;
+    Ok(text.into_bytes())
+}
+
+/// Each move of a mixture by its letter with its share, and then a gap, a line each.
+pub fn mix_text(alloc: Global, mixture: &Mixture, gap: &Fraction) -> Result<Vec<u8>, AllocError>
+    ensures { IfOk result (λ text. text.items ≡ text_of_mix mixture.now (parts_of gap.now)) }
+{
+    let mut text = String::new(alloc);
+    for (letter, share) in mixture.pairs() {
+        text.push(char::from(*letter))?;
+        push_number(&mut text, alloc, share)?;
+    }
+    push_line(&mut text, alloc, "gap", gap)?;
+    Ok(text.into_bytes())
+}
