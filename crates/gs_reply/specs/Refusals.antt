@@ -1,13 +1,17 @@
 -- Why an input is refused, and the line that tells it.
-use Rattle.std.specs.Prelude.{ℕ, ℤ, List, ◌++◌, codes}
+use Rattle.std.specs.Prelude.{ℕ, ℤ, List, [], ◌++◌, codes}
 use Rattle.std.specs.Fmt.{decimal, signed_decimal}
 use Rattle.gs_file.specs.Faults.{Fault}
 use Rattle.gs_frac.specs.Texts.{fraction_text}
 use Rattle.gs_lift.specs.declared.fault.QueryFault.{QueryFault}
 use Rattle.gs_lift.specs.declared.fault.QueryFault.TheVariants as query
+use Rattle.gs_strategy.specs.Faults.{Fault as StrategyFault}
 use Rattle.gs_text.specs.FaultText.{fault_text}
+use Rattle.gs_text.specs.StoreText.{store_text}
 use Rattle.gs_reply.specs.declared.answers.Cause.{Cause}
 use Rattle.gs_reply.specs.declared.answers.Cause.TheVariants as cause
+use Rattle.gs_reply.specs.declared.strategies.Which.{Which}
+use Rattle.gs_reply.specs.declared.strategies.Which.TheVariants.{Only, First, Second}
 
 -- what there is too much of, and how much: sequences of a player, pairs of classes over all ends, numbers of a program's table, pairs of raw signals
 -- over all ends
@@ -23,14 +27,15 @@ pub data Overflowing : Type 0 where
   At_total : ℕ → ℕ → Overflowing
 
 -- why an input is refused: it is no game file; its classes have an unlike pair in a round, here by the texts of the two signals; its solution overflows
--- or takes too many pivots; its game is too large; a number, by its name, is stated otherwise than it was found; a query names no spot; two games
--- differ
+-- or takes too many pivots; its game is too large; it is no strategy file; a number, by its name, is stated otherwise than it was found; a query names
+-- no spot; two games differ
 pub data Refusal : Type 0 where
   Bad_game : Fault → Refusal
   Unlike_pair : ℕ → List ℕ → List ℕ → Refusal
   Overflows : Overflowing → Refusal
   Many_pivots : Refusal
   Too_large : Limit → Refusal
+  Bad_strategy : Which → StrategyFault → Refusal
   Wrong_number : List ℕ → ℤ × ℤ → ℤ × ℤ → Refusal
   Bad_query : QueryFault → Refusal
   Other_game : Refusal
@@ -42,6 +47,7 @@ cause_of (Unlike_pair round first second) = cause.Unlike
 cause_of (Overflows at) = cause.Overflow
 cause_of Many_pivots = cause.PivotLimit
 cause_of (Too_large limit) = cause.TooLarge
+cause_of (Bad_strategy which why) = cause.BadStrategy
 cause_of (Wrong_number name stated found) = cause.WrongNumbers
 cause_of (Bad_query why) = cause.BadQuery
 cause_of Other_game = cause.OtherGame
@@ -64,6 +70,12 @@ query_text query.Player = codes "player"
 query_text query.Signal = codes "signal"
 query_text query.Round = codes "round"
 
+-- which file it is, where a command reads two
+abbrev pub which_text : Which → List ℕ
+which_text Only = []
+which_text First = codes "first: "
+which_text Second = codes "second: "
+
 -- the line that tells a refusal
 abbrev pub line_of : Refusal → List ℕ
 line_of (Bad_game why) = codes "bad game: " ++ fault_text why ++ codes "\n"
@@ -71,6 +83,7 @@ line_of (Unlike_pair round first second) = codes "unlike: round " ++ decimal rou
 line_of (Overflows at) = codes "overflow: " ++ overflow_text at ++ codes "\n"
 line_of Many_pivots = codes "more than 8192 pivots\n"
 line_of (Too_large limit) = codes "too large: " ++ limit_text limit ++ codes "\n"
+line_of (Bad_strategy which why) = codes "bad strategy: " ++ which_text which ++ store_text why ++ codes "\n"
 line_of (Wrong_number name stated found) =
     codes "wrong numbers: " ++ name ++ codes " " ++ fraction_text stated.0 stated.1 ++ codes " found " ++ fraction_text found.0 found.1 ++ codes "\n"
 line_of (Bad_query why) = codes "bad query: " ++ query_text why ++ codes "\n"

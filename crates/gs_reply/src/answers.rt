@@ -13,6 +13,8 @@ pub enum Cause {
     PivotLimit,
     /// The game is too large for what is asked.
     TooLarge,
+    /// The input is no strategy file.
+    BadStrategy,
     /// A number that is stated is not the one that was found.
     WrongNumbers,
     /// A line, a player and a signal name no spot.

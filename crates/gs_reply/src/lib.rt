@@ -7,6 +7,7 @@ mod numbers;
 mod queries;
 mod signals;
 mod solving;
+mod strategies;
 
 pub use answers::{Answer, Cause};
 pub use games::{bad_game, other_game};
@@ -17,3 +18,4 @@ pub use solving::{
     many_cells, many_pivots, many_raw_cells, many_sequences, many_table_numbers, overflow_at_step,
     overflow_of_total,
 };
+pub use strategies::{Which, bad_strategy};
