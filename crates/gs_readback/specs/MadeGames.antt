@@ -1,0 +1,38 @@
+-- The games that the words of `make` ask for. Source: the rules of Kuhn's, Leduc and Rhode Island hold'em (Gilpin and Sandholm 2007), with limit betting.
+use Rattle.std.specs.Prelude.{ℕ, ◌≡◌, ◌≤◌, [], map, take, replicate, codes, None, Ok}
+use Rattle.gs_bet.specs.Limit.{limit_bet}
+use Rattle.gs_card.specs.Decks.{deck_of}
+use Rattle.gs_file.specs.Reading.{FileGame, read_at, rules_of}
+use Rattle.gs_game.specs.Refusals.{first_refusal}
+use Rattle.gs_made.specs.Made.{ante_of, last, made_game, rounds_of}
+use Rattle.gs_made.specs.declared.kind.Kind.{Kind}
+use Rattle.gs_made.specs.declared.kind.Kind.TheVariants.{Kuhn, Leduc, Rhode}
+use Rattle.gs_model.specs.Game.{Round, Ranking, High, Pair, Three}
+use Rattle.gs_model.specs.Outcome.{categories}
+
+-- how a kind of game ranks hands
+abbrev pub ranking_for : Kind → Ranking
+ranking_for Kuhn = High
+ranking_for Leduc = Pair
+ranking_for Rhode = Three
+
+-- a round of so many private and public cards, with limit betting of this bet
+abbrev pub round_for : ℕ → ℕ × ℕ × ℕ → Round
+round_for cap r = record { private = r.0; public = r.1; tree = limit_bet r.2 cap }
+
+-- the game of a kind with so many of the highest ranks and of the first suits, one copy of each card, no bonuses, and at most `cap` bets and raises in a round
+abbrev pub game_for : Kind → ℕ → ℕ → ℕ → FileGame
+game_for kind ranks suits cap = record {
+  deck = deck_of (last ranks (codes "23456789TJQKA")) (take suits (codes "shdc")) [];
+  ranking = ranking_for kind;
+  bonus = replicate (categories (ranking_for kind)) 1;
+  ante = ante_of kind;
+  rounds = map (round_for cap) (rounds_of kind);
+}
+
+-- a made game file is read back as the game that its words ask for, wherever that game keeps the rules
+abbrev pub MadeFilesAreReadBack : Type 0
+MadeFilesAreReadBack =
+    (kind : Kind) (ranks suits cap : ℕ) → 1 ≤ ranks → ranks ≤ 13 → 1 ≤ suits → suits ≤ 4 → cap ≤ 8
+    → first_refusal (rules_of (game_for kind ranks suits cap)) ≡ None
+    → read_at (made_game kind ranks suits cap) ≡ Ok (game_for kind ranks suits cap)
