@@ -28,7 +28,7 @@ pub data Overflowing : Type 0 where
 
 -- why an input is refused: it is no game file; its classes have an unlike pair in a round, here by the texts of the two signals; its solution overflows
 -- or takes too many pivots; its game is too large; it is no strategy file; a number, by its name, is stated otherwise than it was found; a query names
--- no spot; two games differ
+-- no spot; two games differ; a certificate is none or does not hold, here by the text of what is wrong with it
 pub data Refusal : Type 0 where
   Bad_game : Fault → Refusal
   Unlike_pair : ℕ → List ℕ → List ℕ → Refusal
@@ -39,6 +39,7 @@ pub data Refusal : Type 0 where
   Wrong_number : List ℕ → ℤ × ℤ → ℤ × ℤ → Refusal
   Bad_query : QueryFault → Refusal
   Other_game : Refusal
+  Bad_certificate : List ℕ → Refusal
 
 -- the kind of a refusal
 abbrev pub cause_of : Refusal → Cause
@@ -51,6 +52,7 @@ cause_of (Bad_strategy which why) = cause.BadStrategy
 cause_of (Wrong_number name stated found) = cause.WrongNumbers
 cause_of (Bad_query why) = cause.BadQuery
 cause_of Other_game = cause.OtherGame
+cause_of (Bad_certificate why) = cause.BadCertificate
 
 abbrev pub limit_text : Limit → List ℕ
 limit_text (Sequences player count) = codes "sequences of player " ++ decimal player ++ codes ": " ++ decimal count
@@ -88,3 +90,4 @@ line_of (Wrong_number name stated found) =
     codes "wrong numbers: " ++ name ++ codes " " ++ fraction_text stated.0 stated.1 ++ codes " found " ++ fraction_text found.0 found.1 ++ codes "\n"
 line_of (Bad_query why) = codes "bad query: " ++ query_text why ++ codes "\n"
 line_of Other_game = codes "other game\n"
+line_of (Bad_certificate why) = codes "bad certificate: " ++ why ++ codes "\n"

@@ -21,6 +21,8 @@ pub enum Cause {
     BadQuery,
     /// Two strategies are of two games.
     OtherGame,
+    /// The input holds no certificate, or one that does not hold.
+    BadCertificate,
 }
 
 /// A text to print, or a refusal with the line that tells it.

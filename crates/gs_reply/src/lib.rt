@@ -2,6 +2,7 @@
 #![tactic(auto)]
 
 mod answers;
+mod certificates;
 mod games;
 mod numbers;
 mod queries;
@@ -10,6 +11,7 @@ mod solving;
 mod strategies;
 
 pub use answers::{Answer, Cause};
+pub use certificates::bad_certificate;
 pub use games::{bad_game, other_game};
 pub use numbers::wrong_number;
 pub use queries::bad_query;
