@@ -1,15 +1,10 @@
 -- What the reader of game files accepts is what states a game, both ways.
-use Rattle.std.proofs.Common.{◌≡◌, ℕ, zero, suc, ◌≤◌, ◌==◌, Bool, true, false, List, [], ◌∷◌, length, replicate, Option, Some, None, Ok, Err, ℤ, pos, negsuc, codes, refl, sym, ap, ap₂, ◌∙◌, subst, inl, inr, ◌⊎◌, arith, Ordering, Less, Equal, Greater}
-use Rattle.std.specs.Prelude.{if◌then◌else◌, is_some}
-use Rattle.std.specs.Ordering.{is_eq, match_ordering, nat_cmp}
-use Rattle.std.specs.Cmp.Lexicographic.{slice_cmp}
+use Rattle.std.proofs.Common.{◌≡◌, ℕ, suc, ◌≤◌, ◌==◌, Bool, true, false, List, [], ◌∷◌, length, replicate, Option, Some, None, Ok, Err, ℤ, pos, codes, refl, sym, ap, ◌∙◌, subst, inl, inr}
+use Rattle.std.specs.Prelude.{if◌then◌else◌}
 use Rattle.std.specs.Str.{bytes_eq, is_utf8}
-use Rattle.std.proofs.lemmas.Bool.{and_parts, eq-eqb, eqb-true, false≢true}
-use Rattle.std.proofs.lemmas.Map.Text.{is_eq-slice_cmp}
-use Rattle.std.proofs.lemmas.Slice.Eq.{bytes_eq-Decides}
-use Rattle.toml.specs.Data.{Data, Members, no_members, member, as_integer, as_str, get_member}
+use Rattle.std.proofs.lemmas.Bool.{eq-eqb, eqb-true}
+use Rattle.toml.specs.Data.{Data, Members, get_member}
 use Rattle.toml.specs.Parse.{parse_document}
-use Rattle.gs_bet.specs.Limit.{limit_bet}
 use Rattle.gs_card.specs.DeckFaults.{fault_of as deck_fault_of}
 use Rattle.gs_card.specs.Decks.{DeckValue, deck_of}
 use Rattle.gs_card.specs.declared.faults.DeckFault.{DeckFault}
@@ -17,39 +12,18 @@ use Rattle.gs_game.specs.Refusals.{Refusal}
 use Rattle.gs_model.specs.Betting.{Bet}
 use Rattle.gs_model.specs.Game.{Round as Rules, Ranking, High, Pair, Three}
 use Rattle.gs_model.specs.Outcome.{categories}
-use Rattle.gs_file.specs.Faults.{bad_version, wrong_type, missing_key, range, deck, not_text, not_toml, game, ◌>>=◌}
-use Rattle.gs_file.specs.JsonForm.{ranking_text, version_number}
-use Rattle.gs_file.specs.Keys.{has_only, is_among, key_text, limit_keys, top, top_keys, tree_keys, within_round}
-use Rattle.gs_file.specs.Reading.{FileGame, Play, Tree_text, Limit_of, Round, Stated, Top, TopValues, bonus_at, bonus_numbers, bonus_value, counted, deck_at, deck_made, game_at, limit_round_at, parsed_at, play_tree, play_within, ranking_at, read_at, round_at, round_built, round_within, stated_at, text_at, tree_round_at, typed_at, unless_refused, values_at, version_at, version_of}
-use Rattle.gs_file.specs.States.{FileStates, Has, HasOnly, IsList, IsNumber, IsRound, IsText, OneByOne, StatesBetting, StatesBonus, StatesCopies, StatesDeck, StatesGame, StatesRound}
-use Rattle.gs_file.specs.Tables.{each, list_of, only, required, tables_in, text, text_or_empty, whole_number, whole_numbers_in, within}
-use Rattle.gs_file.specs.TreeTexts.{IsTextOf, IsTreeRead}
+use Rattle.gs_file.specs.Faults.{range, deck, not_text, not_toml, game}
+use Rattle.gs_file.specs.JsonForm.{ranking_text}
+use Rattle.gs_file.specs.Keys.{key_text, top}
+use Rattle.gs_file.specs.Reading.{FileGame, Play, Tree_text, Limit_of, Round, Stated, Top, TopValues, bonus_at, counted, deck_at, deck_made, game_at, parsed_at, ranking_at, read_at, round_at, round_built, round_within, stated_at, text_at, typed_at, unless_refused, values_at}
+use Rattle.gs_file.specs.States.{FileStates, Has, IsNumber, IsRound, OneByOne, StatesBetting, StatesBonus, StatesCopies, StatesDeck, StatesGame, StatesRound}
+use Rattle.gs_file.specs.Tables.{each, list_of, text, within}
 use Rattle.gs_file.specs.declared.fault.Key.{Key}
 use Rattle.gs_file.specs.declared.fault.Key.TheVariants as key
-use Rattle.gs_file.specs.declared.version.Version.{Version}
-use Rattle.gs_file.specs.declared.version.Version.TheVariants.{One, Two}
 use Rattle.gs_file.proofs.RoundCounts.{counted_is}
-use Rattle.gs_file.proofs.Stating.{IsTable, IsWhole, after, between, each_is, each_ok, found_ok, never, numbers_is, numbers_ok, only_ok, same_ok, tables_is, tables_ok, through, within_is, within_ok}
-use Rattle.gs_file.proofs.Trees.{is_read, reads_tree}
-
--- ---- keys and words
-
-same_bytes : (xs ys : List ℕ) → bytes_eq xs ys ≡ true → xs ≡ ys
-same_bytes xs ys e = (bytes_eq-Decides xs ys).0 e
-
--- a key that is none of those that may stand in a table does not stand there
-absent : (keys : List Key) (k : Key) (table : Members) → HasOnly table keys → is_among keys (key_text k) ≡ false → get_member (key_text k) table ≡ None
-absent keys k no_members o n = refl
-absent keys k (member name d rest) o n =
-    let (here, more) = and_parts (is_among keys name) (has_only keys rest) o in
-    by (slice_cmp nat_cmp (key_text k) name) refl here (absent keys k rest more n)
-  where
-    by : (c : Ordering) → slice_cmp nat_cmp (key_text k) name ≡ c → is_among keys name ≡ true → get_member (key_text k) rest ≡ None → match_ordering c (get_member (key_text k) rest) (Some d) (get_member (key_text k) rest) ≡ None
-    by Less e here none = none
-    by Greater e here none = none
-    by Equal e here none =
-        let eq = sym (is_eq-slice_cmp (key_text k) name) ∙ ap is_eq e in
-        absurd (false≢true (sym n ∙ ap (is_among keys) (same_bytes (key_text k) name eq) ∙ here))
+use Rattle.gs_file.proofs.Stating.{IsTable, IsWhole, after, between, each_is, each_ok, found_ok, never, same_ok, through, within_is, within_ok}
+use Rattle.gs_file.proofs.StatedRounds.{PlayHas, PlayIn, PlayMade, RoundHas, RoundIn, RoundMade, round_in_is, round_in_ok, round_is, round_made_is, round_made_ok, round_ok, same_bytes}
+use Rattle.gs_file.proofs.StatedTop.{BonusTyped, CopiesTyped, VersionHas, top_is, top_ok, typed_is, typed_ok}
 
 none_some : {A : Type 0} (x : A) → None ≡ Some x → ⊥
 none_some x e = cc
@@ -66,281 +40,6 @@ text_ok bytes text e = by (is_utf8 bytes) e
     by : (b : Bool) → (if b then Ok bytes else Err not_text) ≡ Ok text → (b ≡ true) × (bytes ≡ text)
     by true e = (refl, same_ok bytes text e)
     by false e = absurd (never not_text text e)
-
--- ---- the values at the top
-
-abbrev IsVersion : Version → Data → Type 0
-IsVersion v d = IsNumber (version_number v) (version_number v) (version_number v) d
-
-abbrev VersionHas : Option Data → Members → Type 0
-VersionHas bonus table =
-    (HasOnly table (top_keys One) × Has table key.Version (IsVersion One) × (bonus ≡ None))
-    ⊎ ((d : Data) × HasOnly table (top_keys Two) × Has table key.Version (IsVersion Two) × (get_member (key_text key.Bonus) table ≡ Some d) × (bonus ≡ Some d))
-
-record TopHas (v : TopValues) (table : Members) : Type 0 where
-  version : VersionHas v.bonus table
-  ranks : get_member (key_text key.Ranks) table ≡ Some v.ranks
-  suits : get_member (key_text key.Suits) table ≡ Some v.suits
-  copies : get_member (key_text key.Copies) table ≡ v.copies
-  ranking : get_member (key_text key.Ranking) table ≡ Some v.ranking
-  ante : get_member (key_text key.Ante) table ≡ Some v.ante
-  rounds : get_member (key_text key.Round) table ≡ Some v.rounds
-
-which_version : (z : ℤ) (v : Version) → version_of z ≡ Ok v → z ≡ pos (version_number v)
-which_version (pos zero) v e = absurd (never (bad_version (pos zero)) v e)
-which_version (pos (suc zero)) v e = ap (λ w. pos (version_number w)) (same_ok One v e)
-which_version (pos (suc (suc zero))) v e = ap (λ w. pos (version_number w)) (same_ok Two v e)
-which_version (pos (suc (suc (suc n)))) v e = absurd (never (bad_version (pos (suc (suc (suc n))))) v e)
-which_version (negsuc n) v e = absurd (never (bad_version (negsuc n)) v e)
-
-version_ok : (table : Members) (v : Version) → version_at table ≡ Ok v → Has table key.Version (IsVersion v)
-unfolding version_at
-version_ok table v e =
-    let (d, ed, e1) = after (required table (top key.Version)) (λ value. whole_number (top key.Version) value >>= version_of) v e in
-    let (z, ez, e2) = after (whole_number (top key.Version) d) version_of v e1 in
-    let found = found_ok (get_member (key_text key.Version) table) (missing_key (top key.Version)) d ed in
-    let whole = found_ok (as_integer d) (wrong_type (top key.Version)) z ez in
-    (d, found, (whole ∙ ap Some (which_version z v e2), omega arith, omega arith))
-
-bonus_ok : (v : Version) (table : Members) (bonus : Option Data) → bonus_value v table ≡ Ok bonus → HasOnly table (top_keys v) → Has table key.Version (IsVersion v) → VersionHas bonus table
-bonus_ok One table bonus e o h = inl (o, h, sym (same_ok None bonus e))
-bonus_ok Two table bonus e o h =
-    let (d, ed, e1) = after (required table (top key.Bonus)) (λ d. Ok (Some d)) bonus e in
-    inr (d, o, h, found_ok (get_member (key_text key.Bonus) table) (missing_key (top key.Bonus)) d ed, sym (same_ok (Some d) bonus e1))
-
-top_ok : (table : Members) (v : TopValues) → values_at table ≡ Ok v → TopHas v table
-unfolding values_at
-top_ok table v e =
-    let (version, ev, e1) = after (version_at table) _ v e in
-    let (u, eo, e2) = after (only (top_keys version) 0 table) _ v e1 in
-    let (ranks, er, e3) = after (required table (top key.Ranks)) _ v e2 in
-    let (suits, es, e4) = after (required table (top key.Suits)) _ v e3 in
-    let (ranking, ek, e5) = after (required table (top key.Ranking)) _ v e4 in
-    let (bonus, eb, e6) = after (bonus_value version table) _ v e5 in
-    let (ante, ea, e7) = after (required table (top key.Ante)) _ v e6 in
-    let (rounds, en, e8) = after (required table (top key.Round)) _ v e7 in
-    subst (λ w. TopHas w table) (same_ok _ v e8) (record {
-      version = bonus_ok version table bonus eb (only_ok (top_keys version) 0 table u eo) (version_ok table version ev);
-      ranks = found_ok (get_member (key_text key.Ranks) table) (missing_key (top key.Ranks)) ranks er;
-      suits = found_ok (get_member (key_text key.Suits) table) (missing_key (top key.Suits)) suits es;
-      copies = refl;
-      ranking = found_ok (get_member (key_text key.Ranking) table) (missing_key (top key.Ranking)) ranking ek;
-      ante = found_ok (get_member (key_text key.Ante) table) (missing_key (top key.Ante)) ante ea;
-      rounds = found_ok (get_member (key_text key.Round) table) (missing_key (top key.Round)) rounds en;
-    })
-
-top_is : (table : Members) (v : TopValues) → TopHas v table → values_at table ≡ Ok v
-unfolding values_at version_at
-top_is table v h = by h.version
-  where
-    by : VersionHas v.bonus table → values_at table ≡ Ok v
-    by (inl (o, (d, m, i), none)) = rw (m, i.0, o, h.ranks, h.suits, h.ranking, h.ante, h.rounds, h.copies, sym none) refl
-    by (inr (b, o, (d, m, i), n, some)) = rw (m, i.0, o, h.ranks, h.suits, h.ranking, n, h.ante, h.rounds, h.copies, sym some) refl
-
--- ---- their types
-
-abbrev CopiesTyped : List ℕ → Option Data → Type 0
-CopiesTyped copies None = copies ≡ []
-CopiesTyped copies (Some d) = IsText copies d
-
-abbrev BonusTyped : Option (List ℤ) → Option Data → Type 0
-BonusTyped numbers None = numbers ≡ None
-BonusTyped numbers (Some d) = (zs : List ℤ) × (numbers ≡ Some zs) × IsList IsWhole zs d
-
-record TypedHas (t : Top) (v : TopValues) : Type 0 where
-  ranks : IsText t.ranks v.ranks
-  suits : IsText t.suits v.suits
-  copies : CopiesTyped t.copies v.copies
-  ranking : IsText t.ranking v.ranking
-  bonus : BonusTyped t.bonus v.bonus
-  ante : IsWhole t.ante v.ante
-  rounds : IsList IsTable t.rounds v.rounds
-
-copies_ok : (o : Option Data) (copies : List ℕ) → text_or_empty (top key.Copies) o ≡ Ok copies → CopiesTyped copies o
-copies_ok None copies e = sym (same_ok [] copies e)
-copies_ok (Some d) copies e = found_ok (as_str d) (wrong_type (top key.Copies)) copies e
-
-copies_is : (o : Option Data) (copies : List ℕ) → CopiesTyped copies o → text_or_empty (top key.Copies) o ≡ Ok copies
-copies_is None copies h = rw h refl
-copies_is (Some d) copies h = rw h refl
-
-numbers_typed : (o : Option Data) (numbers : Option (List ℤ)) → bonus_numbers o ≡ Ok numbers → BonusTyped numbers o
-numbers_typed None numbers e = sym (same_ok None numbers e)
-numbers_typed (Some d) numbers e =
-    let (zs, ez, e1) = after (whole_numbers_in (top key.Bonus) d) (λ numbers. Ok (Some numbers)) numbers e in
-    (zs, sym (same_ok (Some zs) numbers e1), numbers_ok (top key.Bonus) d zs ez)
-
-typed_numbers : (o : Option Data) (numbers : Option (List ℤ)) → BonusTyped numbers o → bonus_numbers o ≡ Ok numbers
-typed_numbers None numbers h = rw h refl
-typed_numbers (Some d) numbers h = rw (numbers_is (top key.Bonus) d h.0 h.2, h.1) refl
-
-typed_ok : (v : TopValues) (t : Top) → typed_at v ≡ Ok t → TypedHas t v
-unfolding typed_at
-typed_ok v t e =
-    let (ranks, er, e1) = after (text (top key.Ranks) v.ranks) _ t e in
-    let (suits, es, e2) = after (text (top key.Suits) v.suits) _ t e1 in
-    let (copies, ec, e3) = after (text_or_empty (top key.Copies) v.copies) _ t e2 in
-    let (ranking, ek, e4) = after (text (top key.Ranking) v.ranking) _ t e3 in
-    let (bonus, eb, e5) = after (bonus_numbers v.bonus) _ t e4 in
-    let (ante, ea, e6) = after (whole_number (top key.Ante) v.ante) _ t e5 in
-    let (rounds, en, e7) = after (tables_in (top key.Round) v.rounds) _ t e6 in
-    subst (λ w. TypedHas w v) (same_ok _ t e7) (record {
-      ranks = found_ok (as_str v.ranks) (wrong_type (top key.Ranks)) ranks er;
-      suits = found_ok (as_str v.suits) (wrong_type (top key.Suits)) suits es;
-      copies = copies_ok v.copies copies ec;
-      ranking = found_ok (as_str v.ranking) (wrong_type (top key.Ranking)) ranking ek;
-      bonus = numbers_typed v.bonus bonus eb;
-      ante = found_ok (as_integer v.ante) (wrong_type (top key.Ante)) ante ea;
-      rounds = tables_ok (top key.Round) v.rounds rounds en;
-    })
-
-typed_is : (v : TopValues) (t : Top) → TypedHas t v → typed_at v ≡ Ok t
-unfolding typed_at
-typed_is v t h =
-    rw (h.ranks, h.suits, copies_is v.copies t.copies h.copies, h.ranking, typed_numbers v.bonus t.bonus h.bonus, h.ante, tables_is (top key.Round) v.rounds t.rounds h.rounds) refl
-
--- ---- rounds
-
-abbrev PlayHas : Play ℤ → Members → Type 0
-PlayHas (Tree_text words) table = HasOnly table tree_keys × Has table key.Tree (IsText words)
-PlayHas (Limit_of bet most) table = HasOnly table limit_keys × Has table key.Bet (IsWhole bet) × Has table key.Cap (IsWhole most)
-
--- a round's table has these numbers and this betting
-record RoundHas (r : Round ℤ) (table : Members) : Type 0 where
-  private : Has table key.Private (IsWhole r.private)
-  public : Has table key.Public (IsWhole r.public)
-  play : PlayHas r.play table
-
-tree_round_ok : (n : ℕ) (table : Members) (r : Round ℤ) → tree_round_at n table ≡ Ok r → RoundHas r table
-unfolding tree_round_at
-tree_round_ok n table r e =
-    let (u, eo, e1) = after (only tree_keys n table) _ r e in
-    let (p, ep, e2) = after (required table (within_round n key.Private)) _ r e1 in
-    let (q, eq, e3) = after (required table (within_round n key.Public)) _ r e2 in
-    let (t, et, e4) = after (required table (within_round n key.Tree)) _ r e3 in
-    let (private, ei, e5) = after (whole_number (within_round n key.Private) p) _ r e4 in
-    let (public, ej, e6) = after (whole_number (within_round n key.Public) q) _ r e5 in
-    let (tree, ek, e7) = after (text (within_round n key.Tree) t) _ r e6 in
-    subst (λ w. RoundHas w table) (same_ok _ r e7) (record {
-      private = (p, found_ok (get_member (key_text key.Private) table) (missing_key (within_round n key.Private)) p ep, found_ok (as_integer p) (wrong_type (within_round n key.Private)) private ei);
-      public = (q, found_ok (get_member (key_text key.Public) table) (missing_key (within_round n key.Public)) q eq, found_ok (as_integer q) (wrong_type (within_round n key.Public)) public ej);
-      play = (only_ok tree_keys n table u eo, (t, found_ok (get_member (key_text key.Tree) table) (missing_key (within_round n key.Tree)) t et, found_ok (as_str t) (wrong_type (within_round n key.Tree)) tree ek));
-    })
-
-limit_round_ok : (n : ℕ) (table : Members) (r : Round ℤ) → limit_round_at n table ≡ Ok r → RoundHas r table
-unfolding limit_round_at
-limit_round_ok n table r e =
-    let (u, eo, e1) = after (only limit_keys n table) _ r e in
-    let (p, ep, e2) = after (required table (within_round n key.Private)) _ r e1 in
-    let (q, eq, e3) = after (required table (within_round n key.Public)) _ r e2 in
-    let (b, eb, e4) = after (required table (within_round n key.Bet)) _ r e3 in
-    let (c, ec, e5) = after (required table (within_round n key.Cap)) _ r e4 in
-    let (private, ei, e6) = after (whole_number (within_round n key.Private) p) _ r e5 in
-    let (public, ej, e7) = after (whole_number (within_round n key.Public) q) _ r e6 in
-    let (bet, ek, e8) = after (whole_number (within_round n key.Bet) b) _ r e7 in
-    let (cap, el, e9) = after (whole_number (within_round n key.Cap) c) _ r e8 in
-    subst (λ w. RoundHas w table) (same_ok _ r e9) (record {
-      private = (p, found_ok (get_member (key_text key.Private) table) (missing_key (within_round n key.Private)) p ep, found_ok (as_integer p) (wrong_type (within_round n key.Private)) private ei);
-      public = (q, found_ok (get_member (key_text key.Public) table) (missing_key (within_round n key.Public)) q eq, found_ok (as_integer q) (wrong_type (within_round n key.Public)) public ej);
-      play = (
-        only_ok limit_keys n table u eo,
-        (b, found_ok (get_member (key_text key.Bet) table) (missing_key (within_round n key.Bet)) b eb, found_ok (as_integer b) (wrong_type (within_round n key.Bet)) bet ek),
-        (c, found_ok (get_member (key_text key.Cap) table) (missing_key (within_round n key.Cap)) c ec, found_ok (as_integer c) (wrong_type (within_round n key.Cap)) cap el),
-      );
-    })
-
-round_ok : (n : ℕ) (table : Members) (r : Round ℤ) → round_at n table ≡ Ok r → RoundHas r table
-unfolding round_at
-round_ok n table r e = by (is_some (get_member (key_text key.Tree) table)) e
-  where
-    by : (b : Bool) → (if b then tree_round_at n table else limit_round_at n table) ≡ Ok r → RoundHas r table
-    by true e = tree_round_ok n table r e
-    by false e = limit_round_ok n table r e
-
-round_is : (n : ℕ) (table : Members) (r : Round ℤ) → RoundHas r table → round_at n table ≡ Ok r
-unfolding round_at tree_round_at limit_round_at
-round_is n table r h = by r.play h.play refl
-  where
-    by : (play : Play ℤ) → PlayHas play table → r.play ≡ play → round_at n table ≡ Ok r
-    by (Tree_text words) (none_else, (t, found, is)) same =
-        let (p, fp, ip) = h.private in
-        let (q, fq, iq) = h.public in
-        rw (found, none_else, fp, fq, ip, iq, is) (ap (λ play. Ok (record { private = r.private; public = r.public; play = play })) (sym same))
-    by (Limit_of bet most) (none_else, (b, fb, ib), (c, fc, ic)) same =
-        let (p, fp, ip) = h.private in
-        let (q, fq, iq) = h.public in
-        let none = absent limit_keys key.Tree table none_else refl in
-        rw (none, none_else, fp, fq, fb, fc, ip, iq, ib, ic) (ap (λ play. Ok (record { private = r.private; public = r.public; play = play })) (sym same))
-
--- the numbers are in their ranges
-abbrev PlayIn : Play ℕ → Play ℤ → Type 0
-PlayIn (Tree_text text) play = play ≡ Tree_text text
-PlayIn (Limit_of bet cap) play = (play ≡ Limit_of (pos bet) (pos cap)) × (1 ≤ bet) × (bet ≤ 2048) × (0 ≤ cap) × (cap ≤ 8)
-
-record RoundIn (w : Round ℕ) (r : Round ℤ) : Type 0 where
-  private : (r.private ≡ pos w.private) × (0 ≤ w.private) × (w.private ≤ 2)
-  public : (r.public ≡ pos w.public) × (0 ≤ w.public) × (w.public ≤ 3)
-  play : PlayIn w.play r.play
-
-play_in_ok : (n : ℕ) (play : Play ℤ) (w : Play ℕ) → play_within n play ≡ Ok w → PlayIn w play
-play_in_ok n (Tree_text text) w e = subst (λ v. PlayIn v (Tree_text text)) (same_ok (Tree_text text) w e) refl
-play_in_ok n (Limit_of b c) w e =
-    let (bet, eb, e1) = after (within (within_round n key.Bet) 1 2048 b) _ w e in
-    let (cap, ec, e2) = after (within (within_round n key.Cap) 0 8 c) _ w e1 in
-    let (sb, lb, hb) = within_ok (within_round n key.Bet) 1 2048 b bet eb in
-    let (sc, lc, hc) = within_ok (within_round n key.Cap) 0 8 c cap ec in
-    subst (λ v. PlayIn v (Limit_of b c)) (same_ok (Limit_of bet cap) w e2) (ap₂ (λ (x y : ℤ). Limit_of x y) sb sc, lb, hb, lc, hc)
-
-play_in_is : (n : ℕ) (play : Play ℤ) (w : Play ℕ) → PlayIn w play → play_within n play ≡ Ok w
-play_in_is n play (Tree_text text) h = rw h refl
-play_in_is n play (Limit_of bet cap) (same, lb, hb, lc, hc) = rw same (rw (within_is (within_round n key.Bet) 1 2048 bet lb hb, within_is (within_round n key.Cap) 0 8 cap lc hc) refl)
-
-round_in_ok : (n : ℕ) (r : Round ℤ) (w : Round ℕ) → round_within n r ≡ Ok w → RoundIn w r
-unfolding round_within
-round_in_ok n r w e =
-    let (p, ep, e1) = after (within (within_round n key.Private) 0 2 r.private) _ w e in
-    let (q, eq, e2) = after (within (within_round n key.Public) 0 3 r.public) _ w e1 in
-    let (play, el, e3) = after (play_within n r.play) _ w e2 in
-    subst (λ v. RoundIn v r) (same_ok _ w e3) (record {
-      private = within_ok (within_round n key.Private) 0 2 r.private p ep;
-      public = within_ok (within_round n key.Public) 0 3 r.public q eq;
-      play = play_in_ok n r.play play el;
-    })
-
-round_in_is : (n : ℕ) (r : Round ℤ) (w : Round ℕ) → RoundIn w r → round_within n r ≡ Ok w
-unfolding round_within
-round_in_is n r w h =
-    let (sp, lp, hp) = h.private in
-    let (sq, lq, hq) = h.public in
-    rw (sp, sq) (rw (within_is (within_round n key.Private) 0 2 w.private lp hp, within_is (within_round n key.Public) 0 3 w.public lq hq, play_in_is n r.play w.play h.play) refl)
-
--- the round with its tree
-abbrev PlayMade : Bet → Play ℕ → Type 0
-PlayMade t (Tree_text text) = IsTextOf text t
-PlayMade t (Limit_of bet cap) = t ≡ limit_bet bet cap
-
-record RoundMade (b : Rules) (w : Round ℕ) : Type 0 where
-  private : b.private ≡ w.private
-  public : b.public ≡ w.public
-  tree : PlayMade b.tree w.play
-
-play_made_ok : (n : ℕ) (play : Play ℕ) (t : Bet) → play_tree n play ≡ Ok t → PlayMade t play
-play_made_ok n (Tree_text text) t e = subst (IsTreeRead n text) e (is_read n text)
-play_made_ok n (Limit_of bet cap) t e = sym (same_ok (limit_bet bet cap) t e)
-
-play_made_is : (n : ℕ) (play : Play ℕ) (t : Bet) → PlayMade t play → play_tree n play ≡ Ok t
-play_made_is n (Tree_text text) t h = reads_tree n text t h.sound h.is
-play_made_is n (Limit_of bet cap) t h = rw h refl
-
-round_made_ok : (n : ℕ) (w : Round ℕ) (b : Rules) → round_built n w ≡ Ok b → RoundMade b w
-unfolding round_built
-round_made_ok n w b e =
-    let (t, et, e1) = after (play_tree n w.play) _ b e in
-    subst (λ v. RoundMade v w) (same_ok _ b e1) (record { private = refl; public = refl; tree = play_made_ok n w.play t et })
-
-round_made_is : (n : ℕ) (w : Round ℕ) (b : Rules) → RoundMade b w → round_built n w ≡ Ok b
-unfolding round_built
-round_made_is n w b h = rw (play_made_is n w.play b.tree h.tree, sym h.private, sym h.public) refl
 
 -- ---- ranges
 
@@ -371,7 +70,8 @@ ranking_ok word r e = by (bytes_eq word (codes "high")) (bytes_eq word (codes "p
     by false false true ea eb ec e = subst (λ q. word ≡ ranking_text q) (same_ok Three r e) (same_bytes word (codes "three") ec)
     by false false false ea eb ec e = absurd (never (range (top key.Ranking)) r e)
 
-ranking_is : (r : Ranking) → ranking_at (ranking_text r) ≡ Ok r
+-- the word of a ranking is read as the ranking
+pub ranking_is : (r : Ranking) → ranking_at (ranking_text r) ≡ Ok r
 ranking_is High = refl
 ranking_is Pair = refl
 ranking_is Three = refl

@@ -59,7 +59,8 @@ IsList R xs d = (items : Items) × (as_array d ≡ Some items) × OneByOne R xs 
 abbrev pub StatesBetting : Bet → Members → Type 0
 StatesBetting t table =
     ((text : List ℕ) × HasOnly table tree_keys × Has table key.Tree (IsText text) × IsTextOf text t)
-    ⊎ ((bet : ℕ) × (cap : ℕ) × HasOnly table limit_keys × Has table key.Bet (IsNumber 1 2048 bet) × Has table key.Cap (IsNumber 0 8 cap) × (t ≡ limit_bet bet cap))
+    ⊎ ((bet : ℕ) × (cap : ℕ) × HasOnly table limit_keys × Has table key.Bet (IsNumber 1 2048 bet) × Has table key.Cap (IsNumber 0 8 cap)
+    × (t ≡ limit_bet bet cap))
 
 -- the table states the round
 pub record StatesRound (round : Round) (table : Members) : Type 0 where
@@ -90,7 +91,8 @@ pub record StatesDeck (d : DeckValue) (table : Members) : Type 0 where
 abbrev pub StatesBonus : Ranking → List ℕ → Members → Type 0
 StatesBonus r bonus table =
     (HasOnly table (top_keys One) × Has table key.Version (IsNumber 1 1 1) × (bonus ≡ replicate (categories r) 1))
-    ⊎ (HasOnly table (top_keys Two) × Has table key.Version (IsNumber 2 2 2) × Has table key.Bonus (IsList (IsNumber 1 9) bonus) × (length bonus ≡ categories r))
+    ⊎ (HasOnly table (top_keys Two) × Has table key.Version (IsNumber 2 2 2) × Has table key.Bonus (IsList (IsNumber 1 9) bonus)
+    × (length bonus ≡ categories r))
 
 -- the table states the game, which keeps the rules
 pub record StatesGame (g : FileGame) (table : Members) : Type 0 where
