@@ -1,0 +1,20 @@
+use Rattle.std.proofs.Common.{ap, sym, ◌∙◌, subst}
+use Rattle.gs_filter.specs.Filter.{Filter}
+use Rattle.gs_model.specs.Lossless.{IsLossless}
+use Rattle.gs_seq.specs.Cells.{cell_count}
+use Rattle.gs_seq.specs.Games.{frame_in}
+use Rattle.gs_tree.specs.declared.signals.Signals.{Signals}
+use Rattle.gs_raw.proofs.judging.raw_stop.Goals as goal
+
+pub cell_total-requires-clause-lossless : goal.cell_total-requires-clause-lossless
+cell_total-requires-clause-lossless c =
+    subst (λ (x : Signals). IsLossless (frame_in x.game.now) c.classes.result.now.lists) (sym c.signals.ensures.held)
+    (subst (λ (x : Filter). IsLossless (frame_in c.args.lossless.now.signals.now.game.now) x.lists) (sym c.classes.ensures.held) c.classes.ensures.lossless)
+
+pub returns-in-Ok : goal.returns-in-Ok
+returns-in-Ok c =
+    let f = frame_in c.args.lossless.now.signals.now.game.now in (
+      c.in-Ok.ensures ∙ ap (λ (x : Signals). cell_count (frame_in x.game.now) c.classes.result.now.lists) c.signals.ensures.held
+          ∙ ap (cell_count f) (ap (λ (x : Filter). x.lists) c.classes.ensures.held ∙ c.requires.singles),
+      c.if-count.true,
+    )
