@@ -1,0 +1,105 @@
+-- What the checks of a strategy find is what a command answers.
+use Rattle.std.proofs.Common.{◌≡◌, ◌<◌, ◌≤◌, ℕ, List, inl, inr, length, refl, sym, ap, subst, ◌∙◌, arith}
+use Rattle.gs_best.specs.Judged.{parts}
+use Rattle.gs_filter.specs.Filter.{Filter}
+use Rattle.gs_frac.specs.declared.value.Verdict.{Verdict}
+use Rattle.gs_game.specs.Games.{game_of}
+use Rattle.gs_game.specs.declared.valid.ValidGame.{ValidGame}
+use Rattle.gs_model.specs.Classes.{ClassLists, IsClasses, class_of, first_member, list_of}
+use Rattle.gs_model.specs.Frame.{frame_of as rules_frame}
+use Rattle.gs_model.specs.Game.{Game, round_count}
+use Rattle.gs_model.specs.Lossless.{IsFirstUnlike, IsLossless}
+use Rattle.gs_model.specs.Signals.{signal_at, signals}
+use Rattle.gs_model.specs.Verdict.{IsVerdict}
+use Rattle.gs_model.proofs.Ranges.{signal_count_is}
+use Rattle.gs_model.proofs.Walked.{last_round_of}
+use Rattle.gs_reply.proofs.Refused.{tells_answer}
+use Rattle.gs_reply.specs.Refusals.{Refusal, Unlike_pair, Limit, Too_large, Wrong_number}
+use Rattle.gs_reply.specs.Replies.{Answers, Reply, Tells}
+use Rattle.gs_reply.specs.declared.answers.Answer.{Answer}
+use Rattle.gs_seq.specs.Games.{frame_in}
+use Rattle.gs_seq.specs.Plans.{lifted}
+use Rattle.gs_seq.specs.Stops.{IsSmall, IsStopOf}
+use Rattle.gs_seq.specs.declared.plan.Plan.{Plan}
+use Rattle.gs_seq.specs.declared.stop.SeqStop.{SeqStop}
+use Rattle.gs_strategy.specs.Confirmed.{AreNumbersOf, IsConfirmed, frame_of}
+use Rattle.gs_strategy.specs.Values.{Parts, Strategy}
+use Rattle.gs_strategy.specs.Views.{numbers_of, strategy_of, stored_view}
+use Rattle.gs_strategy.specs.declared.stored.Stored.{Stored}
+use Rattle.gs_tree.specs.Texts.{signal_text}
+use Rattle.gs_confirm.proofs.Faults.{answers_map}
+use Rattle.gs_confirm.specs.Commands.{OfConfirmed}
+use Rattle.gs_confirm.specs.Troubles.{IsFirstWrong, IsTrouble, Passes}
+
+-- a trouble that is told is an answer
+pub trouble_told : (says : Strategy → Reply → Type 0) (s : Strategy) (why : Refusal) (a : Answer) → IsTrouble s why → Tells a why → Answers (OfConfirmed says s) a
+trouble_told says s why a h t = tells_answer (OfConfirmed says s) a why (inr (why, h, refl)) t
+
+-- ---- classes
+
+same_game : (says : Strategy → Reply → Type 0) (w v : ValidGame) (c : Filter) (one two : Plan) (n : Verdict) (a : Answer) → w ≡ v → Answers (OfConfirmed says (strategy_of w c one two n)) a → Answers (OfConfirmed says (strategy_of v c one two n)) a
+same_game says w v c one two n a e h = subst (λ (x : ValidGame). Answers (OfConfirmed says (strategy_of x c one two n)) a) e h
+
+pub unlike_told : (says : Strategy → Reply → Type 0) (w : ValidGame) (s : Stored) (round named first second : ℕ) (a : Answer) → w ≡ s.game
+    → IsFirstUnlike (frame_in w) s.classes.lists round named second → (IsLossless (frame_in w) s.classes.lists → ⊥) → first ≡ first_member s.classes.lists round (class_of s.classes.lists round second)
+    → Tells a (Unlike_pair round (signal_text w.game.deck (signal_at (game_of w.game) round first)) (signal_text w.game.deck (signal_at (game_of w.game) round second))) → Answers (OfConfirmed says (stored_view s)) a
+unlike_told says w s round named first second a e unlike not is t =
+    let same : named ≡ first = unlike.member ∙ sym is in
+    let here : IsFirstUnlike (frame_in w) s.classes.lists round first second = subst (λ n. IsFirstUnlike (frame_in w) s.classes.lists round n second) same unlike in
+    same_game says w s.game s.classes s.one s.two s.verdict a e
+    (trouble_told says (strategy_of w s.classes s.one s.two s.verdict) (Unlike_pair round _ _) a
+    (record { first = first; second = second; unlike = here; not_lossless = not; first_text = refl; second_text = refl }) t)
+
+-- the two signals of an unlike pair are signals of a round of the game
+pub record IsPairIn (g : Game) (round first second : ℕ) : Type 0 where
+  pub last : round ≤ round_count g
+  pub first_in : first < length (signals g round)
+  pub second_in : second < length (signals g round)
+
+pub pair_in : (g : Game) (parents : List (List ℕ)) (lists : ClassLists) (round named first second : ℕ) → parents ≡ (rules_frame g).parents → IsClasses parents lists → IsFirstUnlike (rules_frame g) lists round named second
+    → first < length (list_of lists round) → IsPairIn g round first second
+pair_in g parents lists round named first second e h unlike within =
+    let some : 0 < round = unlike.round_in.0 in
+    let top : round ≤ length (rules_frame g).parents = unlike.round_in.1 in
+    let n = last_round_of g in
+    let last : round ≤ round_count g = omega (arith, top, n) in
+    let count = signal_count_is g round some last in
+    let m : length parents ≡ length (rules_frame g).parents = ap (λ (ps : List (List ℕ)). length ps) e in
+    let long = h.lengths round some (omega (arith, top, m)) in
+    let at : length (list_of parents round) ≡ length (list_of (rules_frame g).parents round) = ap (λ (ps : List (List ℕ)). length (list_of ps round)) e in
+    let second_in = unlike.second_in in
+    record { last = last; first_in = omega (arith, within, long, at, count); second_in = omega (arith, second_in, count) }
+
+-- ---- sizes
+
+-- a stop of the game in sequence form is one of the strategy's
+pub stop_is : (s : Stored) (w : ValidGame) (k : Filter) (stop named : SeqStop) → w ≡ s.game → k ≡ s.classes → stop ≡ named → IsStopOf (frame_in w) k.lists stop → IsStopOf (frame_of (stored_view s)) s.classes.lists named
+stop_is s w k stop named e f same h =
+    let at_game = subst (λ (x : ValidGame). IsStopOf (frame_in x) k.lists stop) e h in
+    let at_classes = subst (λ (x : Filter). IsStopOf (frame_in s.game) x.lists stop) f at_game in
+    subst (λ (x : SeqStop). IsStopOf (frame_in s.game) s.classes.lists x) same at_classes
+
+pub large_told : (says : Strategy → Reply → Type 0) (s : Stored) (limit : Limit) (a : Answer) → IsLossless (frame_of (stored_view s)) s.classes.lists → Passes (stored_view s) limit → Tells a (Too_large limit) → Answers (OfConfirmed says (stored_view s)) a
+large_told says s limit a lossless passed t = trouble_told says (stored_view s) (Too_large limit) a (record { lossless = lossless; passed = passed }) t
+
+-- ---- numbers
+
+-- the verdict on the plans over a game and classes, which are those of the strategy
+pub numbers_are : (s : Stored) (w : ValidGame) (k : Filter) (n : Verdict) → w ≡ s.game → k ≡ s.classes
+    → IsVerdict (frame_in w) (lifted (frame_in w) k.lists s.one) (lifted (frame_in w) k.lists s.two) (parts n.value) (parts n.gap1) (parts n.gap2) → AreNumbersOf (stored_view s) (numbers_of n)
+numbers_are s w k n e f h =
+    let at_game = subst (λ (x : ValidGame). IsVerdict (frame_in x) (lifted (frame_in x) k.lists s.one) (lifted (frame_in x) k.lists s.two) (parts n.value) (parts n.gap1) (parts n.gap2)) e h in
+    let at_classes = subst (λ (x : Filter). IsVerdict (frame_in s.game) (lifted (frame_in s.game) x.lists s.one) (lifted (frame_in s.game) x.lists s.two) (parts n.value) (parts n.gap1) (parts n.gap2)) f at_game in
+    record { value = n.value.reduced; gap1 = n.gap1.reduced; gap2 = n.gap2.reduced; verdict = at_classes }
+
+pub wrong_told : (says : Strategy → Reply → Type 0) (s : Stored) (n : Verdict) (name : List ℕ) (stated found : Parts) (a : Answer) → IsLossless (frame_of (stored_view s)) s.classes.lists → IsSmall (frame_of (stored_view s)) s.classes.lists
+    → AreNumbersOf (stored_view s) (numbers_of n) → IsFirstWrong (numbers_of s.verdict) (numbers_of n) name stated found → Tells a (Wrong_number name stated found) → Answers (OfConfirmed says (stored_view s)) a
+wrong_told says s n name stated found a lossless small are first t =
+    trouble_told says (stored_view s) (Wrong_number name stated found) a (record { lossless = lossless; small = small; numbers = numbers_of n; are = are; first = first }) t
+
+pub confirmed_told : (says : Strategy → Reply → Type 0) (s : Stored) (n : Verdict) (a : Answer) → IsLossless (frame_of (stored_view s)) s.classes.lists → IsSmall (frame_of (stored_view s)) s.classes.lists
+    → AreNumbersOf (stored_view s) (numbers_of n) → numbers_of s.verdict ≡ numbers_of n → Answers (says (stored_view s)) a → Answers (OfConfirmed says (stored_view s)) a
+confirmed_told says s n a lossless small are same h =
+    let own : AreNumbersOf (stored_view s) (numbers_of s.verdict) = subst (AreNumbersOf (stored_view s)) (sym same) are in
+    let confirmed : IsConfirmed (stored_view s) = record { lossless = lossless; small = small; numbers = own } in
+    answers_map (says (stored_view s)) (OfConfirmed says (stored_view s)) (λ r said. inl (confirmed, said)) a h

@@ -1,0 +1,53 @@
+-- What the commands that read a strategy file say of its bytes.
+use Rattle.std.specs.Prelude.{◌≡◌, ◌⊎◌, ℕ, List, Ok, Err}
+use Rattle.gs_file.specs.declared.version.Version.TheVariants.{Two}
+use Rattle.gs_lift.specs.declared.fault.QueryFault.{QueryFault}
+use Rattle.gs_reply.specs.Refusals.{Refusal, Bad_query, Bad_strategy}
+use Rattle.gs_reply.specs.Replies.{Reply, Prints, Refuses}
+use Rattle.gs_reply.specs.declared.strategies.Which.TheVariants.{Only}
+use Rattle.gs_strategy.specs.Checks.{ReadResult, Reads}
+use Rattle.gs_strategy.specs.Confirmed.{IsConfirmed}
+use Rattle.gs_strategy.specs.Texts.{strategy_text}
+use Rattle.gs_strategy.specs.Values.{Strategy}
+use Rattle.gs_text.specs.VerdictText.{verdict_text}
+use Rattle.gs_confirm.specs.Queries.{IsBadQuery, IsQueried}
+use Rattle.gs_confirm.specs.Troubles.{IsTrouble}
+
+-- what is said of the strategy that bytes hold; bytes that hold none are refused for their first fault
+abbrev pub OfRead : (Strategy → Reply → Type 0) → ReadResult → Reply → Type 0
+OfRead says (Ok s) reply = says s reply
+OfRead says (Err why) reply = reply ≡ Refuses (Bad_strategy Only why)
+
+pub record OfStrategy (says : Strategy → Reply → Type 0) (bytes : List ℕ) (reply : Reply) : Type 0 where
+  pub read : ReadResult
+  pub reads : Reads bytes read
+  pub said : OfRead says read reply
+
+-- what is said of a strategy that is confirmed; one that is not is refused for its first trouble
+abbrev pub OfConfirmed : (Strategy → Reply → Type 0) → Strategy → Reply → Type 0
+OfConfirmed says s reply = (IsConfirmed s × says s reply) ⊎ ((why : Refusal) × IsTrouble s why × (reply ≡ Refuses why))
+
+-- the three lines of its numbers
+abbrev pub SaysNumbers : Strategy → Reply → Type 0
+SaysNumbers s reply = reply ≡ Prints (verdict_text s.numbers)
+
+-- its text in version 2
+abbrev pub SaysUpgraded : Strategy → Reply → Type 0
+SaysUpgraded s reply = reply ≡ Prints (strategy_text Two s)
+
+-- what a player does at the spot that texts name, or why they name none
+abbrev pub SaysQueried : ℕ → List ℕ → List ℕ → Strategy → Reply → Type 0
+SaysQueried player line signal s reply =
+    ((text : List ℕ) × IsQueried s player line signal text × (reply ≡ Prints text))
+    ⊎ ((why : QueryFault) × IsBadQuery s.game player line signal why × (reply ≡ Refuses (Bad_query why)))
+
+-- ---- the three commands
+
+abbrev pub Evaluates : List ℕ → Reply → Type 0
+Evaluates = OfStrategy (OfConfirmed SaysNumbers)
+
+abbrev pub Upgrades : List ℕ → Reply → Type 0
+Upgrades = OfStrategy (OfConfirmed SaysUpgraded)
+
+abbrev pub Queries : ℕ → List ℕ → List ℕ → List ℕ → Reply → Type 0
+Queries player line signal = OfStrategy (OfConfirmed (SaysQueried player line signal))

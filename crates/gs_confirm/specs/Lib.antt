@@ -1,0 +1,5 @@
+pub mod Troubles
+pub mod Queries
+pub mod Commands
+pub mod Asking
+pub mod Held

@@ -1,0 +1,63 @@
+-- What a query of a strategy asks for: the spot that its words name, and what the player does there.
+use Rattle.std.specs.Prelude.{◌≡◌, ◌≢◌, ℕ, ◌<◌, ◌≤◌, List, ◌==◌, if◌then◌else◌, Some}
+use Rattle.gs_file.specs.Reading.{FileGame, rules_of}
+use Rattle.gs_frac.specs.declared.value.Fraction.{Fraction}
+use Rattle.gs_game.specs.Lines.{lines, text_at}
+use Rattle.gs_lift.specs.Mixtures.{IsMixture}
+use Rattle.gs_lift.specs.declared.fault.QueryFault.{QueryFault}
+use Rattle.gs_lift.specs.declared.fault.QueryFault.TheVariants.{Line, Player, Signal, Round}
+use Rattle.gs_model.specs.Frame.{last_round, player_at, point_count, round_of, signal_count, trees_of}
+use Rattle.gs_model.specs.Positions.{at_point}
+use Rattle.gs_model.specs.Signals.{signal_at}
+use Rattle.gs_strategy.specs.Confirmed.{frame_of, raw_plan}
+use Rattle.gs_strategy.specs.Values.{Parts, Strategy, Weights, frame_in}
+use Rattle.gs_text.specs.VerdictText.{mix_text}
+use Rattle.gs_tree.specs.Texts.{signal_text}
+
+-- a text is the line of a point of a game
+abbrev pub NamesPoint : FileGame → List ℕ → ℕ → Type 0
+NamesPoint g line q = text_at (lines (trees_of (rules_of g))) (at_point q) ≡ Some line
+
+-- of a point of a player
+pub record NamesOwnPoint (g : FileGame) (player : ℕ) (line : List ℕ) (q : ℕ) : Type 0 where
+  pub in_range : q < point_count (frame_in g)
+  pub named : NamesPoint g line q
+  pub own : player_at (frame_in g) q ≡ player
+
+-- a text is that of a raw signal of a round
+pub record NamesSignal (g : FileGame) (round : ℕ) (text : List ℕ) (i : ℕ) : Type 0 where
+  pub in_range : i < signal_count (frame_in g) round
+  pub named : text ≡ signal_text g.deck (signal_at (rules_of g) round i)
+
+-- of some round
+abbrev pub NamesSomeSignal : FileGame → List ℕ → Type 0
+NamesSomeSignal g text = (round : ℕ) × (0 < round) × (round ≤ last_round (frame_in g)) × (i : ℕ) × NamesSignal g round text i
+
+-- the first rule that the words of a query break
+abbrev pub IsBadQuery : FileGame → ℕ → List ℕ → List ℕ → QueryFault → Type 0
+IsBadQuery g player line text Line = (q : ℕ) → NamesPoint g line q → ⊥
+IsBadQuery g player line text Player = (q : ℕ) × NamesPoint g line q × (player_at (frame_in g) q ≢ player)
+IsBadQuery g player line text Signal = (q : ℕ) × NamesOwnPoint g player line q × (NamesSomeSignal g text → ⊥)
+IsBadQuery g player line text Round =
+    (q : ℕ) × NamesOwnPoint g player line q × NamesSomeSignal g text × ((i : ℕ) → NamesSignal g (round_of (frame_in g) (at_point q)) text i → ⊥)
+
+-- a player's plan, and his gap
+abbrev pub weights_of_player : Strategy → ℕ → Weights
+weights_of_player s player = if player == 1 then s.one else s.two
+
+abbrev pub gap_of_player : Strategy → ℕ → Parts
+gap_of_player s player = if player == 1 then s.numbers.gap1 else s.numbers.gap2
+
+-- the mixture of the player's raw plan at a point and a raw signal, and then his gap
+pub record IsToldAt (s : Strategy) (player point place : ℕ) (text : List ℕ) : Type 0 where
+  pub moves : List (ℕ × Fraction)
+  pub mixture : IsMixture (frame_of s) (raw_plan s (weights_of_player s player)) point place moves
+  pub printed : text ≡ mix_text moves (gap_of_player s player)
+
+-- these at the point and the raw signal that the texts name
+pub record IsQueried (s : Strategy) (player : ℕ) (line signal text : List ℕ) : Type 0 where
+  pub point : ℕ
+  pub place : ℕ
+  pub own : NamesOwnPoint s.game player line point
+  pub named : NamesSignal s.game (round_of (frame_of s) (at_point point)) signal place
+  pub told : IsToldAt s player point place text

@@ -1,0 +1,59 @@
+-- Why a strategy is not confirmed: the checks stand in their order, and each trouble applies where none before it does.
+use Rattle.std.specs.Prelude.{◌≡◌, ◌≢◌, ◌⊎◌, ℕ, List, codes}
+use Rattle.gs_file.specs.Reading.{rules_of}
+use Rattle.gs_model.specs.Lossless.{IsFirstUnlike, IsLossless}
+use Rattle.gs_model.specs.Signals.{signal_at}
+use Rattle.gs_reply.specs.Refusals.{Limit, Sequences, Cells, Table_numbers, Raw_cells, Refusal, Bad_game, Unlike_pair, Overflows, Many_pivots, Too_large, Bad_strategy, Wrong_number, Bad_query, Other_game}
+use Rattle.gs_seq.specs.Stops.{IsSmall, IsStopOf}
+use Rattle.gs_seq.specs.declared.stop.SeqStop.TheVariants.{TooManySequences, TooManyCells}
+use Rattle.gs_strategy.specs.Confirmed.{AreNumbersOf, frame_of}
+use Rattle.gs_strategy.specs.Values.{Numbers, Parts, Strategy}
+use Rattle.gs_tree.specs.Texts.{signal_text}
+
+-- the classes are not lossless, and this is their first unlike pair, by its round and the texts of the two signals
+pub record IsUnlikePair (s : Strategy) (round : ℕ) (one two : List ℕ) : Type 0 where
+  pub first : ℕ
+  pub second : ℕ
+  pub unlike : IsFirstUnlike (frame_of s) s.classes round first second
+  pub not_lossless : IsLossless (frame_of s) s.classes → ⊥
+  pub first_text : one ≡ signal_text s.game.deck (signal_at (rules_of s.game) round first)
+  pub second_text : two ≡ signal_text s.game.deck (signal_at (rules_of s.game) round second)
+
+-- the limit is the first that the game in sequence form passes
+abbrev pub Passes : Strategy → Limit → Type 0
+Passes s (Sequences player count) = IsStopOf (frame_of s) s.classes (TooManySequences player count)
+Passes s (Cells count) = IsStopOf (frame_of s) s.classes (TooManyCells count)
+Passes s (Table_numbers count) = ⊥
+Passes s (Raw_cells count) = ⊥
+
+-- the classes are lossless, and the game is too large
+pub record IsTooLarge (s : Strategy) (limit : Limit) : Type 0 where
+  pub lossless : IsLossless (frame_of s) s.classes
+  pub passed : Passes s limit
+
+-- the first of the three numbers that is stated otherwise than it was found, by its name
+abbrev pub IsFirstWrong : Numbers → Numbers → List ℕ → Parts → Parts → Type 0
+IsFirstWrong stated found name one other =
+    ((name ≡ codes "value") × (one ≡ stated.value) × (other ≡ found.value) × (stated.value ≢ found.value))
+    ⊎ (((name ≡ codes "gap1") × (one ≡ stated.gap1) × (other ≡ found.gap1) × (stated.value ≡ found.value) × (stated.gap1 ≢ found.gap1))
+    ⊎ ((name ≡ codes "gap2") × (one ≡ stated.gap2) × (other ≡ found.gap2) × (stated.value ≡ found.value) × (stated.gap1 ≡ found.gap1) × (stated.gap2 ≢ found.gap2)))
+
+-- the classes are lossless, the game is small, and a number is not that of the plans
+pub record IsWrongNumber (s : Strategy) (name : List ℕ) (stated found : Parts) : Type 0 where
+  pub lossless : IsLossless (frame_of s) s.classes
+  pub small : IsSmall (frame_of s) s.classes
+  pub numbers : Numbers
+  pub are : AreNumbersOf s numbers
+  pub first : IsFirstWrong s.numbers numbers name stated found
+
+-- the refusal of a strategy that is not confirmed
+abbrev pub IsTrouble : Strategy → Refusal → Type 0
+IsTrouble s (Unlike_pair round one two) = IsUnlikePair s round one two
+IsTrouble s (Too_large limit) = IsTooLarge s limit
+IsTrouble s (Wrong_number name stated found) = IsWrongNumber s name stated found
+IsTrouble s (Bad_game why) = ⊥
+IsTrouble s (Overflows at) = ⊥
+IsTrouble s Many_pivots = ⊥
+IsTrouble s (Bad_strategy which why) = ⊥
+IsTrouble s (Bad_query why) = ⊥
+IsTrouble s Other_game = ⊥

@@ -1,0 +1,57 @@
+//! The commands that read a strategy file.
+
+ghost use Rattle.std.specs.Prelude.{◌≡◌, ◌<◌, ◌≤◌, IfOk};
+ghost use Rattle.gs_confirm.specs.Asking.{says_of};
+ghost use Rattle.gs_confirm.specs.Commands.{Evaluates, OfConfirmed, OfStrategy, Queries, Upgrades};
+ghost use Rattle.gs_reply.specs.Replies.{Answers};
+
+use crate::asking::{Ask, Query};
+use crate::confirming::of_strategy;
+use gs_reply::{Answer, Which, bad_strategy};
+use gs_strategy::{StoreFault, read_strategy};
+use std::alloc::{AllocError, Global};
+
+// What a command answers to the bytes of a strategy file.
+fn answered(alloc: Global, ask: &Ask<'_>, bytes: &[u8]) -> Result<Answer, AllocError>
+    ensures { IfOk result (Answers (OfStrategy (OfConfirmed (says_of ask.now)) bytes.now)) }
+{
+    match read_strategy(alloc, bytes) {
+        Ok(stored) => of_strategy(alloc, ask, &stored),
+        Err(StoreFault::Memory) => Err(AllocError),
+        Err(fault) => bad_strategy(alloc, Which::Only, &fault),
+    }
+}
+
+/// The value and the gaps that the strategy file states, where they are those of its plans; or why it is refused.
+pub fn evaluate_answer(alloc: Global, bytes: &[u8]) -> Result<Answer, AllocError>
+    ensures { IfOk result (Answers (Evaluates bytes.now)) }
+{
+    answered(alloc, &Ask::Evaluate, bytes)
+}
+
+/// What a player does at the point and the raw signal that two texts name, and his gap; or why the file or the texts are refused.
+pub fn query_answer(
+    alloc: Global,
+    player: u8,
+    line: &str,
+    signal: &str,
+    bytes: &[u8],
+) -> Result<Answer, AllocError>
+    requires some { 0 < player }
+    requires two { player ≤ 2 }
+    ensures { IfOk result (Answers (Queries player line.now signal.now bytes.now)) }
+{
+    let query = Query {
+        player,
+        line,
+        signal,
+    };
+    answered(alloc, &Ask::Query(query), bytes)
+}
+
+/// The text in version 2 of what the strategy file holds, where its numbers are those of its plans; or why it is refused.
+pub fn upgrade_answer(alloc: Global, bytes: &[u8]) -> Result<Answer, AllocError>
+    ensures { IfOk result (Answers (Upgrades bytes.now)) }
+{
+    answered(alloc, &Ask::Upgrade, bytes)
+}

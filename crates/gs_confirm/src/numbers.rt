@@ -1,0 +1,52 @@
+//! Stated numbers beside those that were found.
+
+ghost use Rattle.std.specs.Prelude.{◌≡◌, ◌↔◌, IsTrue, MatchOption};
+ghost use Rattle.gs_confirm.specs.Troubles.{IsFirstWrong};
+ghost use Rattle.gs_strategy.specs.Views.{numbers_of, parts_of};
+
+use gs_frac::{Fraction, Verdict};
+
+/// A number by its name, as it is stated and as it was found.
+#[derive(Clone, Copy)]
+pub struct Wrong {
+    pub name: &'static str,
+    pub stated: Fraction,
+    pub found: Fraction,
+}
+
+// Whether two fractions have the same parts.
+fn are_same(one: &Fraction, two: &Fraction) -> bool
+    ensures { IsTrue result ↔ (parts_of one.now ≡ parts_of two.now) }
+{
+    one.num == two.num && one.den == two.den
+}
+
+// A number by its name.
+fn named(name: &'static str, stated: &Fraction, found: &Fraction) -> Wrong
+    ensures name { result.name.now ≡ name.entry.now }
+    ensures stated { parts_of result.stated ≡ parts_of stated.now }
+    ensures found { parts_of result.found ≡ parts_of found.now }
+{
+    Wrong {
+        name,
+        stated: *stated,
+        found: *found,
+    }
+}
+
+/// The first of the three numbers that is stated otherwise than it was found.
+pub fn first_wrong(stated: &Verdict, found: &Verdict) -> Option<Wrong>
+    ensures { MatchOption result (numbers_of stated.now ≡ numbers_of found.now)
+        (λ w. IsFirstWrong (numbers_of stated.now) (numbers_of found.now) w.name.now (parts_of w.stated) (parts_of w.found)) }
+{
+    if !are_same(&stated.value, &found.value) {
+        return Some(named("value", &stated.value, &found.value));
+    }
+    if !are_same(&stated.gap1, &found.gap1) {
+        return Some(named("gap1", &stated.gap1, &found.gap1));
+    }
+    if !are_same(&stated.gap2, &found.gap2) {
+        return Some(named("gap2", &stated.gap2, &found.gap2));
+    }
+    None
+}
