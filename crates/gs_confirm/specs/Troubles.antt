@@ -3,7 +3,7 @@ use Rattle.std.specs.Prelude.{◌≡◌, ◌≢◌, ◌⊎◌, ℕ, List, codes}
 use Rattle.gs_file.specs.Reading.{rules_of}
 use Rattle.gs_model.specs.Lossless.{IsFirstUnlike, IsLossless}
 use Rattle.gs_model.specs.Signals.{signal_at}
-use Rattle.gs_reply.specs.Refusals.{Limit, Sequences, Cells, Table_numbers, Raw_cells, Refusal, Bad_game, Unlike_pair, Overflows, Many_pivots, Too_large, Bad_strategy, Wrong_number, Bad_query, Other_game}
+use Rattle.gs_reply.specs.Refusals.{Limit, Sequences, Cells, Table_numbers, Raw_cells, Refusal, Unlike_pair, Too_large, Wrong_number}
 use Rattle.gs_seq.specs.Stops.{IsSmall, IsStopOf}
 use Rattle.gs_seq.specs.declared.stop.SeqStop.TheVariants.{TooManySequences, TooManyCells}
 use Rattle.gs_strategy.specs.Confirmed.{AreNumbersOf, frame_of}
@@ -46,14 +46,9 @@ pub record IsWrongNumber (s : Strategy) (name : List ℕ) (stated found : Parts)
   pub are : AreNumbersOf s numbers
   pub first : IsFirstWrong s.numbers numbers name stated found
 
--- the refusal of a strategy that is not confirmed
+-- the refusal of a strategy that is not confirmed; the others are none
 abbrev pub IsTrouble : Strategy → Refusal → Type 0
 IsTrouble s (Unlike_pair round one two) = IsUnlikePair s round one two
 IsTrouble s (Too_large limit) = IsTooLarge s limit
 IsTrouble s (Wrong_number name stated found) = IsWrongNumber s name stated found
-IsTrouble s (Bad_game why) = ⊥
-IsTrouble s (Overflows at) = ⊥
-IsTrouble s Many_pivots = ⊥
-IsTrouble s (Bad_strategy which why) = ⊥
-IsTrouble s (Bad_query why) = ⊥
-IsTrouble s Other_game = ⊥
+IsTrouble s other = ⊥
