@@ -1,20 +1,18 @@
--- What a request says of an input.
-use Rattle.std.specs.Prelude.{◌≡◌, ℕ, List, Bool, true, false}
-use Rattle.gs_made.specs.Made.{made_game}
-use Rattle.gs_words.specs.declared.request.Request.{Request}
-use Rattle.gs_words.specs.declared.request.Request.TheVariants.{Shrink, Check, Make}
-use Rattle.gs_answer.specs.Checking.{Checks}
-use Rattle.gs_answer.specs.Shrinking.{Shrinks}
-use Rattle.gs_answer.specs.Verdicts.{Verdict, Prints}
+-- What a task says of an input: for each task the definition of its family.
+use Rattle.std.specs.Prelude.{ℕ, List, Bool, true, false}
+use Rattle.gs_answer.specs.Making.{Makes}
+use Rattle.gs_group.specs.Checking.{Checks}
+use Rattle.gs_group.specs.Shrinking.{Shrinks}
+use Rattle.gs_reply.specs.Replies.{Reply}
+use Rattle.gs_words.specs.Tasks.{Task, Shrink, Check, Make}
 
--- whether a request reads an input
-abbrev pub reads : Request → Bool
-reads (Shrink summary) = true
-reads (Check grouping summary) = true
-reads (Make kind ranks suits cap) = false
+-- whether a task reads an input: all do but `make`
+abbrev pub reads : Task → Bool
+reads (Make kind ranks suits cap summary) = false
+reads _ = true
 
--- what a request says of the bytes of its input; a game is made whatever they are
-abbrev pub Asks : Request → List ℕ → Verdict → Type 0
-Asks (Shrink summary) bytes verdict = Shrinks summary bytes verdict
-Asks (Check grouping summary) bytes verdict = Checks grouping summary bytes verdict
-Asks (Make kind ranks suits cap) bytes verdict = verdict ≡ Prints (made_game kind ranks suits cap)
+-- what a task says of the bytes of its input; a game is made whatever they are
+abbrev pub Asks : Task → List ℕ → Reply → Type 0
+Asks (Shrink summary) bytes reply = Shrinks summary bytes reply
+Asks (Check grouping summary) bytes reply = Checks grouping summary bytes reply
+Asks (Make kind ranks suits cap summary) bytes reply = Makes kind ranks suits cap summary reply

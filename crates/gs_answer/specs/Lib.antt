@@ -1,4 +1,2 @@
 pub mod Asking
-pub mod Checking
-pub mod Shrinking
-pub mod Verdicts
+pub mod Making

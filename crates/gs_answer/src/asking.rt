@@ -2,30 +2,50 @@
 
 ghost use Rattle.std.specs.Prelude.{◌≡◌, IfOk};
 ghost use Rattle.gs_answer.specs.Asking.{Asks, reads};
-ghost use Rattle.gs_answer.specs.Verdicts.{Answers};
-ghost use Rattle.gs_words.specs.Requests.{IsInRange};
+ghost use Rattle.gs_answer.specs.Making.{Makes};
+ghost use Rattle.gs_reply.specs.Replies.{Answers};
+ghost use Rattle.gs_words.specs.Tasks.{IsInRange, Make, task_of};
 
-use crate::answers::Answer;
-use crate::checking::check_answer;
-use crate::shrinking::shrink_answer;
-use gs_made::made_game;
+use gs_group::{check_answer, shrink_answer};
+use gs_made::{Kind, made_game};
+use gs_reply::Answer;
 use gs_words::Request;
 use std::alloc::{AllocError, Global};
 
 /// Whether a request reads an input.
 pub fn reads_input(request: Request) -> bool
-    ensures { result ≡ reads request }
+    ensures { result ≡ reads (task_of request) }
 {
     match request {
-        Request::Shrink { .. } | Request::Check { .. } => true,
         Request::Make { .. } => false,
+        _ => true,
+    }
+}
+
+// A made game's file, or the summary of its signal classes.
+fn made(
+    alloc: Global,
+    kind: Kind,
+    ranks: u8,
+    suits: u8,
+    cap: u8,
+    summary: bool,
+) -> Result<Answer, AllocError>
+    requires { IsInRange (Make kind ranks suits cap summary) }
+    ensures { IfOk result (Answers (Makes kind ranks suits cap summary)) }
+{
+    let file = made_game(alloc, kind, ranks, suits, cap)?;
+    if summary {
+        shrink_answer(alloc, file.as_bytes(), true)
+    } else {
+        Ok(Answer::Prints(file.into_bytes()))
     }
 }
 
 /// What a request asks to be printed of the bytes of its input, or why they are refused.
 pub fn answer(alloc: Global, request: Request, bytes: &[u8]) -> Result<Answer, AllocError>
-    requires { IsInRange request }
-    ensures { IfOk result (Answers (Asks request bytes.now)) }
+    requires { IsInRange (task_of request) }
+    ensures { IfOk result (Answers (Asks (task_of request) bytes.now)) }
 {
     match request {
         Request::Shrink { summary } => shrink_answer(alloc, bytes, summary),
@@ -35,6 +55,7 @@ pub fn answer(alloc: Global, request: Request, bytes: &[u8]) -> Result<Answer, A
             ranks,
             suits,
             cap,
-        } => Ok(Answer::Prints(made_game(alloc, kind, ranks, suits, cap)?)),
+            summary,
+        } => made(alloc, kind, ranks, suits, cap, summary),
     }
 }

@@ -1,12 +1,6 @@
-//! What the commands answer: a text to print, or why an input is refused.
+//! What the program answers to a request: a text to print, or why its input is refused.
 #![tactic(auto)]
 
-mod answers;
 mod asking;
-mod checking;
-mod reading;
-mod shrinking;
-mod telling;
 
-pub use answers::{Answer, Cause};
 pub use asking::{answer, reads_input};

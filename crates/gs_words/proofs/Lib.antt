@@ -1,4 +1,5 @@
 pub mod Simple
+pub mod Added
 pub mod Numbers
 pub mod Options
 pub mod AnyOrder

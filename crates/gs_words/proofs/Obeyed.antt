@@ -5,7 +5,8 @@ use Rattle.std.specs.Str.{bytes_eq}
 use Rattle.std.proofs.lemmas.Bool.{and_parts, cases_Bool, false≢true}
 use Rattle.std.proofs.lemmas.Slice.Eq.{bytes_eq-Decides}
 use Rattle.clap.specs.Walk.{Rule, Text}
-use Rattle.gs_words.specs.Plain.{Given, OptionOf, valued, flagged, given_for, is_given_as, is_plain_value, name_of, obeys}
+use Rattle.gs_words.specs.Commands.{OptionOf}
+use Rattle.gs_words.specs.Plain.{Given, valued, flagged, given_for, is_given_as, is_plain_value, name_of, obeys}
 use Rattle.gs_words.proofs.Options.{IsValued, IsFlag}
 use Rattle.gs_words.proofs.AnyOrder.{AreGiven, IsGiven}
 

@@ -1,4 +1,6 @@
-pub mod Program
 pub mod Values
+pub mod Commands
+pub mod Program
+pub mod Tasks
 pub mod Requests
 pub mod Plain

@@ -1,18 +1,9 @@
--- Plain words: a command that is built, and options of it in their long form.
-use Rattle.std.specs.Prelude.{ℕ, Bool, true, false, not, ◌&&◌, ◌||◌, ◌==◌, List, [], ◌∷◌, Option, Some, None, is_some, is_none, codes, if◌then◌else◌}
+-- Plain words: a command, and options of it in their long form.
+use Rattle.std.specs.Prelude.{ℕ, Bool, true, false, not, ◌&&◌, ◌||◌, ◌==◌, List, [], ◌∷◌, Option, Some, None, is_none, codes, if◌then◌else◌}
 use Rattle.std.specs.List.{list_all, list_any}
 use Rattle.std.specs.Str.{bytes_eq}
-use Rattle.gs_words.specs.Values.{grouping_of, kind_of, number_in}
-
-pub data BuiltCommand : Type 0 where
-  shrink : BuiltCommand
-  check : BuiltCommand
-  make : BuiltCommand
-
-abbrev pub command_word : BuiltCommand → List ℕ
-command_word shrink = codes "shrink"
-command_word check = codes "check"
-command_word make = codes "make"
+use Rattle.gs_words.specs.Commands.{OptionOf, options_of}
+use Rattle.gs_words.specs.declared.names.CommandName.{CommandName}
 
 -- an option as it is given, with its value or as a flag
 pub data Given : Type 0 where
@@ -32,25 +23,6 @@ abbrev pub option_words : List Given → List (List ℕ)
 option_words [] = []
 option_words (valued name value ∷ rest) = long_word name ∷ value ∷ option_words rest
 option_words (flagged name ∷ rest) = long_word name ∷ option_words rest
-
--- an option that a command has: a flag, or one whose value obeys a rule
-pub record OptionOf : Type 0 where
-  pub name : List ℕ
-  pub is_required : Bool
-  pub rule : Option (List ℕ → Bool)
-
-abbrev pub summary : OptionOf
-summary = record { name = codes "summary"; is_required = false; rule = None }
-
-abbrev pub required : List ℕ → (List ℕ → Bool) → OptionOf
-required name obeys = record { name = name; is_required = true; rule = Some obeys }
-
-abbrev pub options_of : BuiltCommand → List OptionOf
-options_of shrink = summary ∷ []
-options_of check = record { name = codes "classes"; is_required = false; rule = Some (λ word. is_some (grouping_of word)) } ∷ summary ∷ []
-options_of make =
-    required (codes "kind") (λ word. is_some (kind_of word)) ∷ required (codes "ranks") (λ word. is_some (number_in 1 13 word))
-    ∷ required (codes "suits") (λ word. is_some (number_in 1 4 word)) ∷ required (codes "cap") (λ word. is_some (number_in 0 8 word)) ∷ []
 
 -- not empty, and not beginning with a hyphen
 abbrev pub is_plain_value : List ℕ → Bool
@@ -72,7 +44,7 @@ stand_once [] = true
 stand_once (g ∷ gs) = list_all (λ other. not (bytes_eq (name_of g) (name_of other))) gs && stand_once gs
 
 -- each is an option of the command, none stands twice, and all that are required are there
-abbrev pub are_plain : BuiltCommand → List Given → Bool
+abbrev pub are_plain : CommandName → List Given → Bool
 are_plain command gs =
     list_all (λ g. list_any (λ option. is_given_as option g) (options_of command)) gs
     && (stand_once gs && list_all (λ option. not option.is_required || list_any (λ g. bytes_eq (name_of g) option.name) gs) (options_of command))

@@ -1,40 +1,42 @@
 -- The command that words are read by.
-use Rattle.std.specs.Prelude.{◌≡◌, Some, true, false, codes}
-use Rattle.clap.specs.Words.{App, Rule, Text, new_app, new_rule, app_of, with_rule, with_subcommand}
+use Rattle.std.specs.Prelude.{◌≡◌, ℕ, List, Bool, Option, Some, None, true, false, codes, fold, map}
+use Rattle.clap.specs.Words.{App, Rule, new_app, new_rule, app_of, with_rule, with_subcommand}
 use Rattle.clap.specs.Simple.{on_top}
 use Rattle.clap.specs.declared.builder.command.Command.{Command}
 use Rattle.clap.specs.declared.builder.command.Command.TheViews.{out-Command}
+use Rattle.clap.specs.declared.builder.ArgAction.{ArgAction}
 use Rattle.clap.specs.declared.builder.ArgAction.TheVariants.{SetTrue}
+use Rattle.gs_words.specs.Commands.{OptionOf, command_word, commands, options_of}
+use Rattle.gs_words.specs.declared.names.CommandName.{CommandName}
 
 -- the command is this one, and no argument of it is global
 abbrev pub Is : App → Command → Type 0
 Is app c = (app_of c ≡ app) × ((out-Command c).has_globals ≡ false)
 
--- the flag `--summary`
-abbrev pub summary : Rule
-summary = record (new_rule (codes "summary")) { long = Some (codes "summary"); action = Some SetTrue }
+-- a flag is set, and another option takes its value
+abbrev pub action_by : Option (List ℕ → Bool) → Option ArgAction
+action_by None = Some SetTrue
+action_by (Some rule) = None
 
--- `--name` with one value
-abbrev pub optional : Text → Rule
-optional name = record (new_rule name) { long = Some name }
+-- `--name`, with one value or as a flag
+abbrev pub rule_for : OptionOf → Rule
+rule_for o = record (new_rule o.name) { long = Some o.name; required = o.is_required; action = action_by o.rule }
 
-abbrev pub required : Text → Rule
-required name = record (new_rule name) { long = Some name; required = true }
+-- a command with options
+abbrev pub with_options : List ℕ → List OptionOf → App
+with_options word options = fold with_rule (new_app word) (map rule_for options)
 
-abbrev pub shrink : App
-shrink = with_rule (new_app (codes "shrink")) summary
-
-abbrev pub check : App
-check = with_rule (with_rule (new_app (codes "check")) (optional (codes "classes"))) summary
-
-abbrev pub make : App
-make =
-    with_rule (with_rule (with_rule (with_rule (new_app (codes "make")) (required (codes "kind"))) (required (codes "ranks"))) (required (codes "suits")))
-    (required (codes "cap"))
+-- a command with its options
+abbrev pub app_for : CommandName → App
+app_for c = with_options (command_word c) (options_of c)
 
 -- a command must follow, and no program's name stands first
 abbrev pub bare : App
 bare = on_top (λ s. record s { no_binary_name = true; subcommand_required = true }) (new_app (codes "gameshrink"))
 
+-- some commands behind it
+abbrev pub with_commands : List CommandName → App
+with_commands names = fold (λ (app : App) c. with_subcommand app (app_for c).top) bare names
+
 abbrev pub program : App
-program = with_subcommand (with_subcommand (with_subcommand bare shrink.top) check.top) make.top
+program = with_commands commands

@@ -1,15 +1,19 @@
 //! The command that words are read by.
 
-ghost use Rattle.std.specs.Prelude.{◌≡◌, IfOk, false};
+ghost use Rattle.std.specs.Prelude.{◌≡◌, List, [], ◌∷◌, ◌++◌, IfOk, codes, false, true};
 ghost use Rattle.clap.specs.Words.{rule_of};
-ghost use Rattle.gs_words.specs.Program.{Is, bare, check, make, optional, program as whole, required, shrink, summary};
+ghost use Rattle.gs_words.specs.Commands.{classes, required, summary};
+ghost use Rattle.gs_words.specs.Program.{Is, app_for, bare, program as whole, rule_for, with_commands, with_options};
+ghost use Rattle.gs_words.specs.declared.names.CommandName.{CommandName};
+ghost use Rattle.gs_words.specs.declared.names.CommandName.TheVariants as name;
 
+use crate::names::{COMMANDS, CommandName};
 use clap::{Arg, ArgAction, Command};
 use std::alloc::{AllocError, Global};
 
 // The flag for a summary.
 fn summary_flag<'a>(alloc: Global) -> Arg<'a>
-    ensures rule { rule_of result ≡ summary }
+    ensures rule { rule_of result ≡ rule_for summary }
     ensures local { result.global ≡ false }
 {
     Arg::new(alloc, "summary")
@@ -17,44 +21,63 @@ fn summary_flag<'a>(alloc: Global) -> Arg<'a>
         .action(ArgAction::SetTrue)
 }
 
-// An option with one value.
-fn optional_value<'a>(alloc: Global, name: &'a str) -> Arg<'a>
-    ensures rule { rule_of result ≡ optional name.entry.now }
+// The option for a grouping.
+fn classes_option<'a>(alloc: Global) -> Arg<'a>
+    ensures rule { rule_of result ≡ rule_for classes }
     ensures local { result.global ≡ false }
 {
-    Arg::new(alloc, name).long(name)
+    Arg::new(alloc, "classes").long("classes")
 }
 
 // An option with one value that has to be given.
 fn required_value<'a>(alloc: Global, name: &'a str) -> Arg<'a>
-    ensures rule { rule_of result ≡ required name.entry.now }
+    ensures rule { rule_of result ≡ rule_for (required name.entry.now (λ _. true)) }
     ensures local { result.global ≡ false }
 {
     Arg::new(alloc, name).long(name).required(true)
 }
 
 fn shrink_command<'a>(alloc: Global) -> Result<Command<'a>, AllocError>
-    ensures { IfOk result (Is shrink) }
+    ensures { IfOk result (Is (app_for name.Shrink)) }
 {
     Command::new(alloc, "shrink").arg(summary_flag(alloc))
 }
 
 fn check_command<'a>(alloc: Global) -> Result<Command<'a>, AllocError>
-    ensures { IfOk result (Is check) }
+    ensures { IfOk result (Is (app_for name.Check)) }
 {
     Command::new(alloc, "check")
-        .arg(optional_value(alloc, "classes"))?
+        .arg(classes_option(alloc))?
         .arg(summary_flag(alloc))
 }
 
-fn make_command<'a>(alloc: Global) -> Result<Command<'a>, AllocError>
-    ensures { IfOk result (Is make) }
+// The command `make` without its last options.
+fn made_command<'a>(alloc: Global) -> Result<Command<'a>, AllocError>
+    ensures { IfOk result (Is (with_options (codes "make") (required (codes "kind") (λ _. true) ∷ required (codes "ranks") (λ _. true) ∷ required (codes "suits") (λ _. true) ∷ []))) }
 {
     Command::new(alloc, "make")
         .arg(required_value(alloc, "kind"))?
         .arg(required_value(alloc, "ranks"))?
-        .arg(required_value(alloc, "suits"))?
-        .arg(required_value(alloc, "cap"))
+        .arg(required_value(alloc, "suits"))
+}
+
+fn make_command<'a>(alloc: Global) -> Result<Command<'a>, AllocError>
+    ensures { IfOk result (Is (app_for name.Make)) }
+{
+    made_command(alloc)?
+        .arg(required_value(alloc, "cap"))?
+        .arg(summary_flag(alloc))
+}
+
+// A command with its options.
+fn command_for<'a>(alloc: Global, name: CommandName) -> Result<Command<'a>, AllocError>
+    ensures { IfOk result (Is (app_for name)) }
+{
+    match name {
+        CommandName::Shrink => shrink_command(alloc),
+        CommandName::Check => check_command(alloc),
+        CommandName::Make => make_command(alloc),
+    }
 }
 
 fn bare_command<'a>(alloc: Global) -> Command<'a>
@@ -65,12 +88,25 @@ fn bare_command<'a>(alloc: Global) -> Command<'a>
         .subcommand_required(true)
 }
 
+// A command with one subcommand more.
+fn with_command<'a>(
+    command: Command<'a>,
+    alloc: Global,
+    name: CommandName,
+) -> Result<Command<'a>, AllocError>
+    ensures { IfOk result (λ r. (names : List CommandName) → Is (with_commands names) command.entry → Is (with_commands (names ++ name ∷ [])) r) }
+{
+    command.subcommand(command_for(alloc, name)?)
+}
+
 /// The program's command.
 pub(crate) fn program<'a>(alloc: Global) -> Result<Command<'a>, AllocError>
     ensures { IfOk result (Is whole) }
 {
-    bare_command(alloc)
-        .subcommand(shrink_command(alloc)?)?
-        .subcommand(check_command(alloc)?)?
-        .subcommand(make_command(alloc)?)
+    let names = COMMANDS;
+    let mut command = bare_command(alloc);
+    for name in &names {
+        command = with_command(command, alloc, *name)?;
+    }
+    Ok(command)
 }

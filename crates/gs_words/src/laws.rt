@@ -1,16 +1,18 @@
 //! A law of plain words.
 
 ghost use Rattle.std.specs.Prelude.{◌≡◌, [], ◌∷◌, List, Some, true, codes, IsTrue, IsSome};
-ghost use Rattle.gs_words.specs.Plain.{BuiltCommand, Given, are_plain, command_word, given_for, option_words};
-ghost use Rattle.gs_words.specs.Requests.{request_by, request_of};
+ghost use Rattle.gs_words.specs.Commands.{command_word};
+ghost use Rattle.gs_words.specs.Plain.{Given, are_plain, given_for, option_words};
+ghost use Rattle.gs_words.specs.Requests.{request_of, task_for};
+ghost use Rattle.gs_words.specs.Tasks.{Check};
+ghost use Rattle.gs_words.specs.declared.names.CommandName.{CommandName};
 ghost use Rattle.gs_words.specs.declared.request.Grouping.TheVariants.{Single};
-ghost use Rattle.gs_words.specs.declared.request.Request.TheVariants.{Check};
 
 /// Plain words are never refused, and ask for what their options say. Plain words are a command and
 /// then options of it in any order, each once and each that is required; an option is `--name` and a
 /// value, which is not empty, does not begin with `-` and obeys the option's rule, or a flag.
 pub fn plain_words_are_read()
-    ensures read { (command : BuiltCommand) (options : List Given) → IsTrue (are_plain command options) → IsSome (request_of (command_word command ∷ option_words options)) }
-    ensures meant { (command : BuiltCommand) (options : List Given) → IsTrue (are_plain command options) → request_of (command_word command ∷ option_words options) ≡ request_by (command_word command) (given_for options) }
+    ensures read { (command : CommandName) (options : List Given) → IsTrue (are_plain command options) → IsSome (request_of (command_word command ∷ option_words options)) }
+    ensures meant { (command : CommandName) (options : List Given) → IsTrue (are_plain command options) → request_of (command_word command ∷ option_words options) ≡ task_for command (given_for options) }
     ensures example { request_of (codes "check" ∷ codes "--summary" ∷ codes "--classes" ∷ codes "raw" ∷ []) ≡ Some (Check Single true) }
 {}

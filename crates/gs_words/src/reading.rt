@@ -2,15 +2,28 @@
 
 ghost use Rattle.std.specs.Prelude.{◌≡◌, ◌≤◌, codes, IfOk, IfSome, map, string_bytes, option_map, option_and_then};
 ghost use Rattle.clap.specs.Words.{first_of, rows_of, found_of, subcommand_rows_of};
+ghost use Rattle.gs_words.specs.Requests.{grouping_in, is_set as is_true, make_of, task_for, task_in, IsStopFor, ReadsWords, TakesWords};
+ghost use Rattle.gs_words.specs.Tasks.{task_of, IsInRange};
 ghost use Rattle.gs_words.specs.Values.{number_in};
-ghost use Rattle.gs_words.specs.Requests.{check_of, is_set as is_true, make_of, request_in as asked_in, IsInRange, ReadsWords, TakesWords};
+ghost use Rattle.gs_words.specs.declared.names.CommandName.TheVariants as command;
 
 use crate::command::program;
+use crate::names::{CommandName, command_named};
 use crate::request::{Grouping, Request, WordsStop};
 use crate::values::{grouping, kind, number};
 use clap::ArgMatches;
 use clap::error::ErrorKind;
 use std::alloc::Global;
+
+// Why words are not taken, by the kind of the error.
+fn stop_for(kind: ErrorKind) -> WordsStop
+    ensures { IsStopFor kind result }
+{
+    match kind {
+        ErrorKind::OutOfMemory => WordsStop::Memory,
+        _ => WordsStop::Usage,
+    }
+}
 
 // The words as the program's command takes them.
 fn taken<'a>(alloc: Global, words: &'a [String]) -> Result<ArgMatches<'a>, WordsStop>
@@ -22,10 +35,7 @@ fn taken<'a>(alloc: Global, words: &'a [String]) -> Result<ArgMatches<'a>, Words
     };
     match command.try_get_matches_from(words) {
         Ok(matches) => Ok(matches),
-        Err(error) => match error.kind() {
-            ErrorKind::OutOfMemory => Err(WordsStop::Memory),
-            _ => Err(WordsStop::Usage),
-        },
+        Err(error) => Err(stop_for(error.kind())),
     }
 }
 
@@ -54,32 +64,49 @@ fn number_of(options: &ArgMatches, name: &str, least: u32, most: u32) -> Option<
     number(value_of(options, name)?, least, most)
 }
 
-fn check_request(options: &ArgMatches) -> Option<Request>
-    ensures value { result ≡ check_of (first_of (codes "classes") (rows_of (found_of options.now))) (is_true (first_of (codes "summary") (rows_of (found_of options.now)))) }
-    ensures within { IfSome result IsInRange }
+// The grouping that the command is given.
+fn grouping_of(options: &ArgMatches) -> Option<Grouping>
+    ensures { result ≡ grouping_in (first_of (codes "classes") (rows_of (found_of options.now))) }
 {
-    let grouping = match value_of(options, "classes") {
-        Some(word) => grouping(word)?,
-        None => Grouping::Coarsest,
-    };
-    let summary = is_set(options, "summary");
-    Some(Request::Check { grouping, summary })
+    match value_of(options, "classes") {
+        Some(word) => grouping(word),
+        None => Some(Grouping::Coarsest),
+    }
 }
 
 fn make_request(options: &ArgMatches) -> Option<Request>
-    ensures value { result ≡ make_of (first_of (codes "kind") (rows_of (found_of options.now))) (first_of (codes "ranks") (rows_of (found_of options.now))) (first_of (codes "suits") (rows_of (found_of options.now))) (first_of (codes "cap") (rows_of (found_of options.now))) }
-    ensures within { IfSome result IsInRange }
+    ensures value { option_map task_of result ≡ make_of (first_of (codes "kind") (rows_of (found_of options.now))) (first_of (codes "ranks") (rows_of (found_of options.now))) (first_of (codes "suits") (rows_of (found_of options.now))) (first_of (codes "cap") (rows_of (found_of options.now))) (first_of (codes "summary") (rows_of (found_of options.now))) }
+    ensures within { IfSome result (λ r. IsInRange (task_of r)) }
 {
     let kind = kind(value_of(options, "kind")?)?;
     let ranks = number_of(options, "ranks", 1, 13)? as u8;
     let suits = number_of(options, "suits", 1, 4)? as u8;
     let cap = number_of(options, "cap", 0, 8)? as u8;
+    let summary = is_set(options, "summary");
     Some(Request::Make {
         kind,
         ranks,
         suits,
         cap,
+        summary,
     })
+}
+
+// What a command with options asks for.
+fn request_for(name: CommandName, options: &ArgMatches) -> Option<Request>
+    ensures value { option_map task_of result ≡ task_for name (λ option. first_of option (rows_of (found_of options.now))) }
+    ensures within { IfSome result (λ r. IsInRange (task_of r)) }
+{
+    match name {
+        CommandName::Shrink => Some(Request::Shrink {
+            summary: is_set(options, "summary"),
+        }),
+        CommandName::Check => Some(Request::Check {
+            grouping: grouping_of(options)?,
+            summary: is_set(options, "summary"),
+        }),
+        CommandName::Make => make_request(options),
+    }
 }
 
 // The command that was entered, by its name and its options.
@@ -91,18 +118,11 @@ fn entered<'m, 'a>(matches: &'m ArgMatches<'a>) -> Option<(&'a str, &'m ArgMatch
 
 // What the words that were taken ask for.
 fn request_in(matches: &ArgMatches) -> Option<Request>
-    ensures value { result ≡ option_and_then asked_in (subcommand_rows_of matches.now) }
-    ensures within { IfSome result IsInRange }
+    ensures value { option_map task_of result ≡ option_and_then task_in (subcommand_rows_of matches.now) }
+    ensures within { IfSome result (λ r. IsInRange (task_of r)) }
 {
     let (name, options) = entered(matches)?;
-    match name {
-        "shrink" => Some(Request::Shrink {
-            summary: is_set(options, "summary"),
-        }),
-        "check" => check_request(options),
-        "make" => make_request(options),
-        _ => None,
-    }
+    request_for(command_named(name)?, options)
 }
 
 /// What the words ask for, the first of which is the command. They are read with `clap`: that it
@@ -111,7 +131,7 @@ fn request_in(matches: &ArgMatches) -> Option<Request>
 #[tactic(auto, unfolding(crate::specs::Requests::request_of))]
 pub fn read_words(alloc: Global, words: &[String]) -> Result<Request, WordsStop>
     ensures reads { ReadsWords result (map string_bytes words.now) }
-    ensures within { IfOk result IsInRange }
+    ensures within { IfOk result (λ r. IsInRange (task_of r)) }
 {
     let matches = taken(alloc, words)?;
     match request_in(&matches) {

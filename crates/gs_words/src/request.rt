@@ -14,7 +14,7 @@ pub enum Grouping {
 }
 
 /// What words ask for.
-#[derive(Clone, Copy, Debug, PartialEq, Eq, Hash)]
+#[derive(Clone, Copy, Debug, PartialEq, Eq)]
 pub enum Request {
     /// The signal classes of a game, or only how many there are.
     Shrink {
@@ -26,12 +26,13 @@ pub enum Request {
         summary: bool,
     },
     /// The game file of a well-known game with 1 to 13 ranks, 1 to 4 suits and at most 8 bets and
-    /// raises in a round.
+    /// raises in a round, or only how many signal classes that game has.
     Make {
         kind: Kind,
         ranks: u8,
         suits: u8,
         cap: u8,
+        summary: bool,
     },
 }
 

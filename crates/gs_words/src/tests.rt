@@ -5,26 +5,26 @@ use gs_made::Kind;
 use std::alloc::Global;
 use std::test::Fail;
 
-// What the words of a line ask for, with one space between two words.
-fn read(alloc: Global, line: &str) -> Result<Request, WordsStop> {
+// The words of a line, with one space between two words.
+fn words_of(alloc: Global, line: &str) -> Result<Vec<String>, Fail> {
     let mut words = Vec::new(alloc);
     for word in line.split(' ') {
-        let word = String::from_str(alloc, word).map_err(|_| WordsStop::Memory)?;
-        words.push(word).map_err(|_| WordsStop::Memory)?;
+        words.push(String::from_str(alloc, word)?)?;
     }
-    read_words(alloc, &words)
+    Ok(words)
 }
 
 const fn check(grouping: Grouping, summary: bool) -> Request {
     Request::Check { grouping, summary }
 }
 
-const fn make(kind: Kind, ranks: u8, suits: u8, cap: u8) -> Request {
+const fn make(kind: Kind, ranks: u8, suits: u8, cap: u8, summary: bool) -> Request {
     Request::Make {
         kind,
         ranks,
         suits,
         cap,
+        summary,
     }
 }
 
@@ -51,19 +51,24 @@ fn requests(rt: HostRuntime) -> Result<(), Fail> {
         ("check --classes=ogi", check(Grouping::Isomorphism, false)),
         (
             "make --kind kuhn --ranks 3 --suits 1 --cap 1",
-            make(Kind::Kuhn, 3, 1, 1),
+            make(Kind::Kuhn, 3, 1, 1, false),
         ),
         (
             "make --cap 0 --suits 4 --ranks 13 --kind leduc",
-            make(Kind::Leduc, 13, 4, 0),
+            make(Kind::Leduc, 13, 4, 0, false),
         ),
         (
             "make --ranks 1 --kind rhode --cap 8 --suits 2",
-            make(Kind::Rhode, 1, 2, 8),
+            make(Kind::Rhode, 1, 2, 8, false),
+        ),
+        (
+            "make --kind rhode --ranks 13 --summary --suits 4 --cap 3",
+            make(Kind::Rhode, 13, 4, 3, true),
         ),
     ];
     for (line, request) in table {
-        assert_eq!(rt; read(rt.alloc(), line), Ok(request), "at {line:?}");
+        let words = words_of(rt.alloc(), line)?;
+        assert_eq!(rt; read_words(rt.alloc(), &words), Ok(request), "at {line:?}");
     }
     Ok(())
 }
@@ -101,7 +106,7 @@ fn refused_words(rt: HostRuntime) -> Result<(), Fail> {
         "make --kind kuhn --ranks 3 --cap 1",
         "make --kind kuhn --ranks 3 --suits 1",
         "make --kind kuhn --ranks 3 --suits 1 --cap 1 --cap 1",
-        "make --kind kuhn --ranks 3 --suits 1 --cap 1 --summary",
+        "make --kind kuhn --ranks 3 --suits 1 --cap 1 --summary --summary",
         "make --kind poker --ranks 3 --suits 1 --cap 1",
         "make --kind kuhn --ranks 0 --suits 1 --cap 1",
         "make --kind kuhn --ranks 14 --suits 1 --cap 1",
@@ -115,8 +120,9 @@ fn refused_words(rt: HostRuntime) -> Result<(), Fail> {
         "make --kind kuhn --ranks 3 --suits 1 --cap 9",
         "make --kind kuhn --ranks 3 --suits 1 --cap 00",
     ] {
+        let words = words_of(rt.alloc(), line)?;
         assert_eq!(rt;
-            read(rt.alloc(), line),
+            read_words(rt.alloc(), &words),
             Err(WordsStop::Usage),
             "at {line:?}"
         );

@@ -5,12 +5,13 @@ use Rattle.std.specs.declared.alloc.Global.{Global}
 use Rattle.std.specs.Prelude.{Vec}
 use Rattle.std.specs.Io.KnownBytes.{Consumes, Appends, IsAtEnd}
 use Rattle.gs_answer.specs.Asking.{Asks, reads}
-use Rattle.gs_answer.specs.Verdicts.{Verdict, Prints, Refuses, Refusal, cause_of, line_of}
 use Rattle.gs_io.specs.Causes.{Rose}
 use Rattle.gs_io.specs.Moves.{ReadsAll, TookPrefix}
 use Rattle.gs_io.specs.declared.ReadStop.{ReadStop}
+use Rattle.gs_reply.specs.Refusals.{Refusal, cause_of, line_of}
+use Rattle.gs_reply.specs.Replies.{Reply, Prints, Refuses}
 use Rattle.gs_words.specs.Requests.{request_of}
-use Rattle.gs_words.specs.declared.request.Request.{Request}
+use Rattle.gs_words.specs.Tasks.{Task}
 use Rattle.shrink_cli.specs.Told.{TellsTo}
 use Rattle.shrink_cli.specs.Statuses.{status_of}
 use Rattle.shrink_cli.specs.declared.status.Status.{Status}
@@ -29,9 +30,9 @@ pub record Ends : Type 0 where
 abbrev pub most_bytes : ℕ
 most_bytes = 16777216
 
--- the words ask for a request, of which this is true
-abbrev pub Asked : List (List ℕ) → (Request → Type 0) → Type 0
-Asked words what = (request : Request) × (request_of words ≡ Some request) × what request
+-- the words ask for a task, of which this is true
+abbrev pub Asked : List (List ℕ) → (Task → Type 0) → Type 0
+Asked words what = (task : Task) × (request_of words ≡ Some task) × what task
 
 -- nothing was read
 abbrev pub Unread : Ends → Ends → Type 0
@@ -44,12 +45,12 @@ pub record ReadsWhole (old new : Ends) (bytes : List ℕ) : Type 0 where
   pub few : length bytes ≤ most_bytes
   pub faults : new.read_faults ≡ old.read_faults
 
--- the input of a request: all bytes of the source where it reads them, else none
+-- the input of a task: all bytes of the source where it reads one, else none
 abbrev pub Inputs : Bool → Ends → Ends → List ℕ → Type 0
 Inputs true old new bytes = ReadsWhole old new bytes
 Inputs false old new bytes = (bytes ≡ []) × Unread old new
 
--- what reading the input of a request does to the source, by its answer
+-- what reading the input of a task does to the source, by its answer
 abbrev pub ReadsInput : Bool → Option (List ℕ) → Option (List ℕ) → ℕ → ℕ → Result (Vec ℕ Global) ReadStop → Type 0
 ReadsInput true old new before now result = ReadsAll (λ v. v.items) most_bytes old new before now result
 ReadsInput false old new before now (Ok v) = (v.items ≡ []) × (new ≡ old) × (now ≡ before)
@@ -67,42 +68,45 @@ Tells old new line = TellsTo old.told old.tell_faults new.told new.tell_faults l
 abbrev pub Silent : Ends → Ends → Type 0
 Silent old new = (new.told ≡ old.told) × (new.tell_faults ≡ old.tell_faults)
 
--- the input of the request was read, and this is what it asks for
-pub record IsAnswered (request : Request) (old new : Ends) (verdict : Verdict) : Type 0 where
+-- the input of the task was read, and this is what it says of it
+pub record IsAnswered (task : Task) (old new : Ends) (reply : Reply) : Type 0 where
   pub bytes : List ℕ
-  pub input : Inputs (reads request) old new bytes
-  pub says : Asks request bytes verdict
+  pub input : Inputs (reads task) old new bytes
+  pub says : Asks task bytes reply
 
 -- the input was refused with this status
-pub record IsRefused (request : Request) (old new : Ends) (s : Status) : Type 0 where
+pub record IsRefused (task : Task) (old new : Ends) (s : Status) : Type 0 where
   pub why : Refusal
-  pub answered : IsAnswered request old new (Refuses why)
+  pub answered : IsAnswered task old new (Refuses why)
   pub status : status_of (cause_of why) ≡ s
   pub quiet : Quiet old new
   pub told : Tells old new (line_of why)
 
--- a front of the source was taken, and nothing unless the words ask for a request that reads it
+-- a front of the source was taken, and nothing unless the words ask for a task that reads it
 pub record TookInput (words : List (List ℕ)) (old new : Ends) : Type 0 where
   pub front : TookPrefix (most_bytes + 1) old.left new.left
-  pub unread : (new.left ≡ old.left) ⊎ Asked words (λ request. reads request ≡ true)
+  pub unread : (new.left ≡ old.left) ⊎ Asked words (λ task. reads task ≡ true)
 
--- what each status says
+-- the line that names the commands
+abbrev pub usage_line : List ℕ
+usage_line = codes "usage: gameshrink shrink, check or make\n"
+
+-- what each status says; every other status is that of a refusal
 abbrev pub RunsTo : List (List ℕ) → Ends → Ends → Status → Type 0
 RunsTo words old new status.Ok =
-    Asked words (λ request. ((text : List ℕ) × IsAnswered request old new (Prints text) × Appends old.given new.given text)
+    Asked words (λ task. ((text : List ℕ) × IsAnswered task old new (Prints text) × Appends old.given new.given text)
     × (new.write_faults ≡ old.write_faults) × Silent old new)
 RunsTo words old new status.Usage =
-    (request_of words ≡ None) × Unread old new × Quiet old new × Tells old new (codes "usage: gameshrink shrink, check, solve, play, evaluate, query or make\n")
+    (request_of words ≡ None) × Unread old new × Quiet old new × Tells old new usage_line
 RunsTo words old new status.ReadFault =
-    Asked words (λ request. (reads request ≡ true) × (TookPrefix (most_bytes + 1) old.left new.left × Rose old.read_faults new.read_faults) × Quiet old new
+    Asked words (λ task. (reads task ≡ true) × (TookPrefix (most_bytes + 1) old.left new.left × Rose old.read_faults new.read_faults) × Quiet old new
     × Tells old new (codes "read fault\n"))
 RunsTo words old new status.TooLong =
-    Asked words (λ request. (reads request ≡ true) × ((bytes : List ℕ) × Consumes old.left new.left bytes × (length bytes ≡ most_bytes + 1))
+    Asked words (λ task. (reads task ≡ true) × ((bytes : List ℕ) × Consumes old.left new.left bytes × (length bytes ≡ most_bytes + 1))
     × (new.read_faults ≡ old.read_faults) × Quiet old new × Tells old new (codes "input longer than 16777216 bytes\n"))
 RunsTo words old new status.Memory =
     TookInput words old new × (new.read_faults ≡ old.read_faults) × Quiet old new × Tells old new (codes "out of memory\n")
 RunsTo words old new status.WriteFault =
-    Asked words (λ request. ((text : List ℕ) × IsAnswered request old new (Prints text) × ((count : ℕ) × (count < length text) × Appends old.given new.given (take count text)))
+    Asked words (λ task. ((text : List ℕ) × IsAnswered task old new (Prints text) × ((count : ℕ) × (count < length text) × Appends old.given new.given (take count text)))
     × Rose old.write_faults new.write_faults × Tells old new (codes "write fault\n"))
-RunsTo words old new status.BadGame = Asked words (λ request. IsRefused request old new status.BadGame)
-RunsTo words old new status.Unlike = Asked words (λ request. IsRefused request old new status.Unlike)
+RunsTo words old new s = Asked words (λ task. IsRefused task old new s)

@@ -2,14 +2,16 @@
 
 ghost use Rattle.std.specs.Prelude.{◌≡◌, codes, map, string_bytes};
 ghost use Rattle.gs_answer.specs.Asking.{reads};
-ghost use Rattle.shrink_cli.specs.Promises.{ChecksWell, Completes, MakesAtLast, MakesWell, ShrinksWell};
-ghost use Rattle.shrink_cli.specs.Running.{ReadsInput, RunsTo};
+ghost use Rattle.gs_words.specs.Tasks.{task_of};
+ghost use Rattle.shrink_cli.specs.Promises.{Keeps};
+ghost use Rattle.shrink_cli.specs.Running.{ReadsInput, RunsTo, usage_line};
 ghost use Rattle.shrink_cli.specs.Told.{TellsTo};
 ghost use Rattle.shrink_cli.specs.declared.status.Status.TheVariants as status;
 
 use crate::status::Status;
-use gs_answer::{Answer, answer, reads_input};
+use gs_answer::{answer, reads_input};
 use gs_io::{ReadStop, Sink, Source, read_all, write_all};
+use gs_reply::Answer;
 use gs_words::{Request, WordsStop, read_words};
 use std::alloc::Global;
 
@@ -34,9 +36,9 @@ fn refuse<E: Sink>(err: &mut E, status: Status, line: &str) -> Status
 // Tells the words that can be used.
 pub(crate) fn refuse_words<E: Sink>(err: &mut E) -> Status
     ensures status { result ≡ status.Usage }
-    ensures told { TellsTo (E.given err.old) (E.faults err.old) (E.given err.new) (E.faults err.new) (codes "usage: gameshrink shrink, check, solve, play, evaluate, query or make\n") }
+    ensures told { TellsTo (E.given err.old) (E.faults err.old) (E.given err.new) (E.faults err.new) usage_line }
 {
-    let usage = "usage: gameshrink shrink, check, solve, play, evaluate, query or make\n";
+    let usage = "usage: gameshrink shrink, check or make\n";
     refuse(err, Status::Usage, usage)
 }
 
@@ -50,7 +52,7 @@ pub(crate) fn out_of_memory<E: Sink>(err: &mut E) -> Status
 
 // The bytes of the input that a request reads; none where it reads none.
 fn input<S: Source>(alloc: Global, source: &mut S, request: Request) -> Result<Vec<u8>, ReadStop>
-    ensures { ReadsInput (reads request) (S.left source.old) (S.left source.new) (S.faults source.old) (S.faults source.new) result }
+    ensures { ReadsInput (reads (task_of request)) (S.left source.old) (S.left source.new) (S.faults source.old) (S.faults source.new) result }
 {
     if reads_input(request) {
         read_all(alloc, source, MOST_BYTES)
@@ -86,7 +88,7 @@ fn run_words<S: Source, O: Sink, E: Sink>(
         Err(ReadStop::Memory) => return out_of_memory(err),
     };
     match answer(alloc, request, &bytes) {
-        Ok(Answer::Prints(text)) => match write_all(out, text.as_bytes()) {
+        Ok(Answer::Prints(text)) => match write_all(out, &text) {
             Ok(()) => Status::Ok,
             Err(_) => refuse(err, Status::WriteFault, "write fault\n"),
         },
@@ -111,33 +113,7 @@ pub fn run<S: Source, O: Sink, E: Sink>(
     out: &mut O,
     err: &mut E,
 ) -> Status
-    // What each status says of the words, of the input and of the three ends.
-    ensures runs { RunsTo (map string_bytes words.now)
-        (record { left = S.left source.old; read_faults = S.faults source.old; given = O.given out.old; write_faults = O.faults out.old; told = E.given err.old; tell_faults = E.faults err.old })
-        (record { left = S.left source.new; read_faults = S.faults source.new; given = O.given out.new; write_faults = O.faults out.new; told = E.given err.new; tell_faults = E.faults err.new })
-        result }
-    // At status 0 `shrink` printed the signal classes of the game, or their summary.
-    ensures headline { ShrinksWell (map string_bytes words.now)
-        (record { left = S.left source.old; read_faults = S.faults source.old; given = O.given out.old; write_faults = O.faults out.old; told = E.given err.old; tell_faults = E.faults err.old })
-        (record { left = S.left source.new; read_faults = S.faults source.new; given = O.given out.new; write_faults = O.faults out.new; told = E.given err.new; tell_faults = E.faults err.new })
-        result }
-    // At status 0 `check` printed the classes that it was asked for, which are lossless, or their summary.
-    ensures checked { ChecksWell (map string_bytes words.now)
-        (record { left = S.left source.old; read_faults = S.faults source.old; given = O.given out.old; write_faults = O.faults out.old; told = E.given err.old; tell_faults = E.faults err.old })
-        (record { left = S.left source.new; read_faults = S.faults source.new; given = O.given out.new; write_faults = O.faults out.new; told = E.given err.new; tell_faults = E.faults err.new })
-        result }
-    // At status 0 `make` printed the game file that it was asked for, and read nothing.
-    ensures made { MakesWell (map string_bytes words.now)
-        (record { left = S.left source.old; read_faults = S.faults source.old; given = O.given out.old; write_faults = O.faults out.old; told = E.given err.old; tell_faults = E.faults err.old })
-        (record { left = S.left source.new; read_faults = S.faults source.new; given = O.given out.new; write_faults = O.faults out.new; told = E.given err.new; tell_faults = E.faults err.new })
-        result }
-    // Over an accepted game file the run ends well or without memory, with no fault of the outside; a check of the signal classes may refuse them.
-    ensures complete { Completes (map string_bytes words.now)
-        (record { left = S.left source.old; read_faults = S.faults source.old; given = O.given out.old; write_faults = O.faults out.old; told = E.given err.old; tell_faults = E.faults err.old })
-        (record { left = S.left source.new; read_faults = S.faults source.new; given = O.given out.new; write_faults = O.faults out.new; told = E.given err.new; tell_faults = E.faults err.new })
-        result }
-    // What reads nothing ends well or without memory, with no fault of the outside.
-    ensures made_at_last { MakesAtLast (map string_bytes words.now)
+    ensures { Keeps (map string_bytes words.now)
         (record { left = S.left source.old; read_faults = S.faults source.old; given = O.given out.old; write_faults = O.faults out.old; told = E.given err.old; tell_faults = E.faults err.old })
         (record { left = S.left source.new; read_faults = S.faults source.new; given = O.given out.new; write_faults = O.faults out.new; told = E.given err.new; tell_faults = E.faults err.new })
         result }

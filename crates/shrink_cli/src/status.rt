@@ -1,6 +1,6 @@
 //! How a run of the program ends.
 
-use gs_answer::Cause;
+use gs_reply::Cause;
 
 /// How a run of the program ends.
 #[derive(Clone, Copy, Debug, PartialEq, Eq)]
@@ -21,6 +21,22 @@ pub enum Status {
     BadGame,
     /// The classes are not lossless.
     Unlike,
+    /// A number of the solution, or of its path, is too large.
+    Overflow,
+    /// The solution's path is too long.
+    PivotLimit,
+    /// The game is too large for what is asked.
+    TooLarge,
+    /// The input is no strategy file.
+    BadStrategy,
+    /// A number of the strategy is not the one that was found.
+    WrongNumbers,
+    /// The query names no spot.
+    BadQuery,
+    /// The two strategies are of two games.
+    OtherGame,
+    /// The certificate is none, or does not hold.
+    BadCertificate,
 }
 
 impl Status {
@@ -34,6 +50,14 @@ impl Status {
         match cause {
             Cause::BadGame => Status::BadGame,
             Cause::Unlike => Status::Unlike,
+            Cause::Overflow => Status::Overflow,
+            Cause::PivotLimit => Status::PivotLimit,
+            Cause::TooLarge => Status::TooLarge,
+            Cause::BadStrategy => Status::BadStrategy,
+            Cause::WrongNumbers => Status::WrongNumbers,
+            Cause::BadQuery => Status::BadQuery,
+            Cause::OtherGame => Status::OtherGame,
+            Cause::BadCertificate => Status::BadCertificate,
         }
     }
 
@@ -50,6 +74,14 @@ impl Status {
             Status::TooLong => 6,
             Status::BadGame => 7,
             Status::Unlike => 8,
+            Status::Overflow => 9,
+            Status::PivotLimit => 10,
+            Status::TooLarge => 11,
+            Status::BadStrategy => 12,
+            Status::WrongNumbers => 13,
+            Status::BadQuery => 14,
+            Status::OtherGame => 16,
+            Status::BadCertificate => 17,
         }
     }
 }

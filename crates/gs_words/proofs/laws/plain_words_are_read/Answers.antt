@@ -1,5 +1,6 @@
 use Rattle.std.proofs.Common.{[], ◌∷◌, codes, refl}
-use Rattle.gs_words.specs.Plain.{check, flagged, valued}
+use Rattle.gs_words.specs.Plain.{flagged, valued}
+use Rattle.gs_words.specs.declared.names.CommandName.TheVariants.{Check}
 use Rattle.gs_words.proofs.Plain.{plain_meant, plain_read}
 use Rattle.gs_words.proofs.laws.plain_words_are_read.Goals as goal
 
@@ -10,4 +11,4 @@ pub returns-clause-meant : goal.returns-clause-meant
 returns-clause-meant c command options plain = plain_meant command options plain
 
 pub returns-clause-example : goal.returns-clause-example
-returns-clause-example c = plain_meant check (flagged (codes "summary") ∷ valued (codes "classes") (codes "raw") ∷ []) refl
+returns-clause-example c = plain_meant Check (flagged (codes "summary") ∷ valued (codes "classes") (codes "raw") ∷ []) refl

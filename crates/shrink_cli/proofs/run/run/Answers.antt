@@ -1,19 +1,23 @@
-use Rattle.std.proofs.Common.{map, string_bytes}
-use Rattle.shrink_cli.specs.Running.{Ends}
-use Rattle.shrink_cli.proofs.Ends.{checks, complete, makes, makes_at_last, shrinks}
+use Rattle.std.proofs.Common.{ℕ, List, map, string_bytes}
+use Rattle.shrink_cli.proofs.Completed.{completes, completes_games, files_at_last, makes_at_last}
+use Rattle.shrink_cli.proofs.Promised.{checks, makes, shrinks}
+use Rattle.shrink_cli.specs.Promises.{Keeps}
+use Rattle.shrink_cli.specs.Running.{Ends, RunsTo}
+use Rattle.shrink_cli.specs.declared.status.Status.{Status}
 use Rattle.shrink_cli.proofs.run.run.Goals as goal
 
-pub returns-clause-headline : goal.returns-clause-headline
-returns-clause-headline g c = shrinks (map string_bytes c.args.words.now) _ _ c.run_words.result c.run_words.ensures
+-- all promises come of what each status says
+kept : (words : List (List ℕ)) (old new : Ends) (s : Status) → RunsTo words old new s → Keeps words old new s
+kept words old new s h = record {
+  runs = h;
+  shrinks = shrinks words old new s h;
+  checks = checks words old new s h;
+  makes = makes words old new s h;
+  completes = completes words old new s h;
+  completes_games = completes_games words old new s h;
+  makes_at_last = makes_at_last words old new s h;
+  files_at_last = files_at_last words old new s h;
+}
 
-pub returns-clause-checked : goal.returns-clause-checked
-returns-clause-checked g c = checks (map string_bytes c.args.words.now) _ _ c.run_words.result c.run_words.ensures
-
-pub returns-clause-made : goal.returns-clause-made
-returns-clause-made g c = makes (map string_bytes c.args.words.now) _ _ c.run_words.result c.run_words.ensures
-
-pub returns-clause-complete : goal.returns-clause-complete
-returns-clause-complete g c = complete (map string_bytes c.args.words.now) _ _ c.run_words.result c.run_words.ensures
-
-pub returns-clause-made_at_last : goal.returns-clause-made_at_last
-returns-clause-made_at_last g c = makes_at_last (map string_bytes c.args.words.now) _ _ c.run_words.result c.run_words.ensures
+pub returns : goal.returns
+returns g c = kept (map string_bytes c.args.words.now) _ _ c.run_words.result c.run_words.ensures

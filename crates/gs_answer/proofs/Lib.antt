@@ -1,2 +1,0 @@
-mod Checked
-mod Refused

@@ -1,0 +1,30 @@
+-- One command more.
+use Rattle.std.proofs.Common.{◌≡◌, ◌++◌, ◌||◌, ℕ, ◌+◌, ◌<◌, List, [], ◌∷◌, Bool, false, refl, ap, sym, subst, ◌∙◌, fold, length, take, get_or, add-one}
+use Rattle.std.proofs.Math.Seq.{take-length, take-suc}
+use Rattle.std.proofs.lemmas.List.Sums.{fold-append}
+use Rattle.clap.specs.Words.{AddsSubcommand, App, Shape, app_of, shape_of, with_subcommand}
+use Rattle.clap.specs.declared.builder.command.Command.{Command}
+use Rattle.gs_words.specs.Program.{Is, app_for, bare, with_commands}
+use Rattle.gs_words.specs.declared.names.CommandName.{CommandName}
+
+neither : (a b : Bool) → a ≡ false → b ≡ false → (a || b) ≡ false
+neither a b e f = rw (e, f) refl
+
+-- a command behind those that were there
+behind : (names : List CommandName) (c : CommandName) → with_commands (names ++ c ∷ []) ≡ with_subcommand (with_commands names) (app_for c).top
+behind names c = fold-append (λ (app : App) (n : CommandName). with_subcommand app (app_for n).top) bare names (c ∷ [])
+
+pub added : (names : List CommandName) (c : CommandName) (old sub new : Command) → Is (with_commands names) old → Is (app_for c) sub → AddsSubcommand old sub new → Is (with_commands (names ++ c ∷ [])) new
+added names c old sub new is one adds = (
+  adds.shape one.1 ∙ (ap (λ (a : App). with_subcommand a (shape_of sub)) is.0 ∙ (ap (λ (a : App). with_subcommand (with_commands names) a.top) one.0 ∙ sym (behind names c))),
+  adds.globals ∙ neither _ _ is.1 one.1,
+)
+
+-- the commands up to a place, and the one there
+pub next : (names : List CommandName) (i : ℕ) (d : CommandName) (new : Command) → i < length names → Is (with_commands (take i names ++ get_or names i d ∷ [])) new → Is (with_commands (take (i + 1) names)) new
+next names i d new lt is = subst (λ (cs : List CommandName). Is (with_commands cs) new) (sym (ap (λ n. take n names) (add-one i) ∙ take-suc names i d lt)) is
+
+-- all of them
+pub all_of : (names : List CommandName) (i : ℕ) (new : Command) → i ≡ length names → Is (with_commands (take i names)) new → Is (with_commands names) new
+all_of names i new e is =
+    subst (λ (cs : List CommandName). Is (with_commands cs) new) (take-length names) (subst (λ n. Is (with_commands (take n names)) new) e is)

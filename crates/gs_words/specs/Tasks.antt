@@ -1,0 +1,22 @@
+-- What the program is asked to do: a request with its texts.
+use Rattle.std.specs.Prelude.{ℕ, ◌≤◌, Bool, List}
+use Rattle.gs_made.specs.declared.kind.Kind.{Kind}
+use Rattle.gs_words.specs.declared.request.Grouping.{Grouping}
+use Rattle.gs_words.specs.declared.request.Request.{Request}
+use Rattle.gs_words.specs.declared.request.Request.TheVariants as request
+
+pub data Task : Type 0 where
+  Shrink : (summary : Bool) → Task
+  Check : (grouping : Grouping) (summary : Bool) → Task
+  Make : (kind : Kind) (ranks suits cap : ℕ) (summary : Bool) → Task
+
+abbrev pub task_of : Request → Task
+task_of (request.Shrink summary) = Shrink summary
+task_of (request.Check grouping summary) = Check grouping summary
+task_of (request.Make kind ranks suits cap summary) = Make kind ranks suits cap summary
+
+-- the numbers of a task are in their ranges
+abbrev pub IsInRange : Task → Type 0
+IsInRange (Shrink summary) = Unit {0}
+IsInRange (Check grouping summary) = Unit {0}
+IsInRange (Make kind ranks suits cap summary) = ((1 ≤ ranks) × (ranks ≤ 13)) × ((1 ≤ suits) × (suits ≤ 4)) × (cap ≤ 8)

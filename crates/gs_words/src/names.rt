@@ -1,0 +1,31 @@
+//! The commands by their names.
+
+ghost use Rattle.std.specs.Prelude.{◌≡◌};
+ghost use Rattle.gs_words.specs.Commands.{command_of};
+
+/// A command of the program.
+#[derive(Clone, Copy, Debug, PartialEq, Eq)]
+pub enum CommandName {
+    Shrink,
+    Check,
+    Make,
+}
+
+/// All commands, in the order in which they were made.
+pub(crate) const COMMANDS: [CommandName; 3] = [
+    CommandName::Shrink,
+    CommandName::Check,
+    CommandName::Make,
+];
+
+/// The command that a word names.
+pub(crate) fn command_named(word: &str) -> Option<CommandName>
+    ensures { result ≡ command_of word.now }
+{
+    match word {
+        "shrink" => Some(CommandName::Shrink),
+        "check" => Some(CommandName::Check),
+        "make" => Some(CommandName::Make),
+        _ => None,
+    }
+}

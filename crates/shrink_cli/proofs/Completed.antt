@@ -1,0 +1,133 @@
+-- How a run ends where nothing outside fails.
+use Rattle.std.proofs.Common.{◌≡◌, ◌⊎◌, inl, inr, ⊎_elim, ℕ, ◌+◌, ◌<◌, ◌≤◌, ◌++◌, true, false, Bool, List, [], length, Result, Ok, Err, Some, None, Option, refl, sym, ap, ◌∙◌, subst, arith}
+use Rattle.std.proofs.lemmas.List.{append-nil, length-append}
+use Rattle.std.specs.Io.KnownBytes.{Consumes, IsAtEnd}
+use Rattle.gs_answer.specs.Asking.{Asks, reads}
+use Rattle.gs_file.specs.Reading.{FileGame, read_at}
+use Rattle.gs_group.specs.Checking.{ChecksGame}
+use Rattle.gs_group.specs.Shrinking.{ShrinksGame}
+use Rattle.gs_io.specs.Causes.{Rose}
+use Rattle.gs_made.specs.declared.kind.Kind.{Kind}
+use Rattle.gs_reply.specs.Refusals.{Refusal, Bad_game, Unlike_pair, Overflows, Many_pivots, Too_large, Bad_strategy, Wrong_number, Bad_query, Other_game, Bad_certificate, cause_of}
+use Rattle.gs_reply.specs.Replies.{OfReading, Reply, Prints, Refuses}
+use Rattle.gs_words.specs.Requests.{request_of}
+use Rattle.gs_words.specs.Tasks.{Task, Shrink, Check, Make}
+use Rattle.gs_words.specs.declared.request.Grouping.{Grouping}
+use Rattle.gs_words.specs.declared.request.Grouping.TheVariants.{Isomorphism, Coarsest, Single}
+use Rattle.shrink_cli.proofs.Promised.{same_task}
+use Rattle.shrink_cli.specs.Promises.{AreUnlike, Completes, CompletesGames, EndsSo, FilesAtLast, IsEnd, MakesAtLast}
+use Rattle.shrink_cli.specs.Running.{Ends, RunsTo, Asked, Inputs, IsAnswered, IsRefused, ReadsWhole, most_bytes}
+use Rattle.shrink_cli.specs.Statuses.{status_of}
+use Rattle.shrink_cli.specs.declared.status.Status.{Status}
+use Rattle.shrink_cli.specs.declared.status.Status.TheVariants as status
+
+-- what was read to the end is all that was there
+all_read : (new : Option (List ℕ)) (xs ys : List ℕ) → Consumes (Some xs) new ys → IsAtEnd new → xs ≡ ys
+all_read None xs ys c e = absurd c
+all_read (Some zs) xs ys c e = c ∙ (ap (λ r. ys ++ r) e ∙ append-nil ys)
+
+no_more : (new : Option (List ℕ)) (xs ys : List ℕ) → Consumes (Some xs) new ys → length ys ≤ length xs
+no_more None xs ys c = absurd c
+no_more (Some zs) xs ys c = rw (c, length-append) (omega arith)
+
+same_input : (old new : Ends) (bytes found : List ℕ) → old.left ≡ Some bytes → ReadsWhole old new found → found ≡ bytes
+same_input old new bytes found e whole = sym (all_read new.left bytes found (subst (λ (l : Option (List ℕ)). Consumes l new.left found) e whole.taken) whole.end)
+
+-- what a task that reads says of its input, it says of what was left
+says_of : (task : Task) (old new : Ends) (bytes : List ℕ) (reply : Reply) → reads task ≡ true → old.left ≡ Some bytes → IsAnswered task old new reply → Asks task bytes reply
+says_of task old new bytes reply r e a =
+    let whole : ReadsWhole old new a.bytes = subst (λ (b : Bool). Inputs b old new a.bytes) r a.input in
+    subst (λ (b : List ℕ). Asks task b reply) (same_input old new bytes a.bytes e whole) a.says
+
+-- what the words ask for ended so, whatever its status
+abbrev Says : Task → List ℕ → Ends → Ends → Type 0
+Says task bytes old new = (reply : Reply) → IsAnswered task old new reply → Asks task bytes reply
+
+well : (words : List (List ℕ)) (task : Task) (old new : Ends) (bytes : List ℕ) → Says task bytes old new → RunsTo words old new status.Ok → request_of words ≡ Some task → EndsSo (Asks task bytes) status.Ok
+well words task old new bytes says h asked =
+    let a = subst (λ (t : Task). (text : List ℕ) × IsAnswered t old new (Prints text)) (same_task words h.0 task h.1 asked) (h.2.0.0, h.2.0.1) in
+    inl (refl, (a.0, says (Prints a.0) a.1))
+
+refused : (words : List (List ℕ)) (task : Task) (old new : Ends) (bytes : List ℕ) (s : Status) → Says task bytes old new → Asked words (λ t. IsRefused t old new s) → request_of words ≡ Some task → EndsSo (Asks task bytes) s
+refused words task old new bytes s says h asked =
+    let a = subst (λ (t : Task). IsRefused t old new s) (same_task words h.0 task h.1 asked) h.2 in
+    inr (inr (a.why, says (Refuses a.why) a.answered, a.status))
+
+pub completes : (words : List (List ℕ)) (old new : Ends) (s : Status) → RunsTo words old new s → Completes words old new s
+completes words old new status.Ok h task bytes asked r e few good = well words task old new bytes (λ reply. says_of task old new bytes reply r e) h asked
+completes words old new status.Memory h task bytes asked r e few good = inr (inl refl)
+completes words old new status.Usage h task bytes asked r e few good = let bad = h.0 in cc
+completes words old new status.ReadFault h task bytes asked r e few good = absurd (good.0 h.2.1.1)
+completes words old new status.WriteFault h task bytes asked r e few good = absurd (good.1 h.2.1)
+completes words old new status.TooLong h task bytes asked r e few good =
+    let more = no_more new.left bytes h.2.1.0 (subst (λ (l : Option (List ℕ)). Consumes l new.left h.2.1.0) e h.2.1.1) in
+    let long = h.2.1.2 in
+    absurd (omega arith)
+completes words old new s h task bytes asked r e few good = refused words task old new bytes s (λ reply. says_of task old new bytes reply r e) h asked
+
+-- ---- tasks over accepted games
+
+kept : (grouping : Grouping) (summary : Bool) (g : FileGame) (why : Refusal) (s : Status) → ChecksGame grouping summary g (Refuses why) → status_of (cause_of why) ≡ s → IsEnd (Check grouping summary) g s
+kept Isomorphism summary g (Unlike_pair round one two) s h e = inr (inr (sym e, record { classes = h.1.classes; are = h.1.are; not_lossless = h.1.not_lossless }))
+kept Coarsest summary g (Unlike_pair round one two) s h e = let bad = h.0 in cc
+kept Single summary g (Unlike_pair round one two) s h e = let bad = h.0 in cc
+kept grouping summary g (Bad_game why) s h e = absurd h
+kept grouping summary g (Overflows at) s h e = absurd h
+kept grouping summary g Many_pivots s h e = absurd h
+kept grouping summary g (Too_large limit) s h e = absurd h
+kept grouping summary g (Bad_strategy which why) s h e = absurd h
+kept grouping summary g (Wrong_number name stated found) s h e = absurd h
+kept grouping summary g (Bad_query why) s h e = absurd h
+kept grouping summary g Other_game s h e = absurd h
+kept grouping summary g (Bad_certificate why) s h e = absurd h
+
+-- well or without memory is an end of every task
+ended : (task : Task) (g : FileGame) (s : Status) → (s ≡ status.Ok) ⊎ (s ≡ status.Memory) → IsEnd task g s
+ended (Check Isomorphism summary) g s (inl e) = inl e
+ended (Check Isomorphism summary) g s (inr e) = inr (inl e)
+ended (Check Coarsest summary) g s h = h
+ended (Check Single summary) g s h = h
+ended (Shrink summary) g s h = h
+ended (Make kind ranks suits cap summary) g s h = h
+
+-- a task over an accepted game is not refused, but for classes that are not lossless
+refusable : (task : Task) (g : FileGame) (bytes : List ℕ) (why : Refusal) (s : Status) → read_at bytes ≡ Ok g → Asks task bytes (Refuses why) → status_of (cause_of why) ≡ s → reads task ≡ true → IsEnd task g s
+refusable (Shrink summary) g bytes why s read says e r = absurd (subst (λ x. OfReading (ShrinksGame summary) x (Refuses why)) read says)
+refusable (Check grouping summary) g bytes why s read says e r = kept grouping summary g why s (subst (λ x. OfReading (ChecksGame grouping summary) x (Refuses why)) read says) e
+refusable (Make kind ranks suits cap summary) g bytes why s read says e r = cc
+
+over_game : (task : Task) (g : FileGame) (bytes : List ℕ) (s : Status) → read_at bytes ≡ Ok g → reads task ≡ true → EndsSo (Asks task bytes) s → IsEnd task g s
+over_game task g bytes s read r (inl h) = ended task g s (inl h.0)
+over_game task g bytes s read r (inr (inl e)) = ended task g s (inr e)
+over_game task g bytes s read r (inr (inr h)) = refusable task g bytes h.0 s read h.1 h.2 r
+
+pub completes_games : (words : List (List ℕ)) (old new : Ends) (s : Status) → RunsTo words old new s → CompletesGames words old new s
+completes_games words old new s runs task bytes g asked r e few read good = over_game task g bytes s read r (completes words old new s runs task bytes asked r e few good)
+
+-- ---- tasks that read nothing
+
+-- they say the same of any bytes
+says_of_none : (task : Task) (old new : Ends) (bytes : List ℕ) (reply : Reply) → reads task ≡ false → IsAnswered task old new reply → Asks task bytes reply
+says_of_none (Make kind ranks suits cap summary) old new bytes reply r a = a.says
+says_of_none (Shrink summary) old new bytes reply r a = cc
+says_of_none (Check grouping summary) old new bytes reply r a = cc
+
+reads_not : (words : List (List ℕ)) (one two : Task) → request_of words ≡ Some one → request_of words ≡ Some two → reads one ≡ true → reads two ≡ false → ⊥
+reads_not words one two a b t f = let e = same_task words one two a b in let bad : true ≡ false = sym t ∙ ap reads e ∙ f in cc
+
+pub makes_at_last : (words : List (List ℕ)) (old new : Ends) (s : Status) → RunsTo words old new s → MakesAtLast words old new s
+makes_at_last words old new status.Ok h task bytes asked r writes = well words task old new bytes (λ reply. says_of_none task old new bytes reply r) h asked
+makes_at_last words old new status.Memory h task bytes asked r writes = inr (inl refl)
+makes_at_last words old new status.Usage h task bytes asked r writes = let bad = h.0 in cc
+makes_at_last words old new status.ReadFault h task bytes asked r writes = absurd (reads_not words h.0 task h.1 asked h.2.0 r)
+makes_at_last words old new status.WriteFault h task bytes asked r writes = absurd (writes h.2.1)
+makes_at_last words old new status.TooLong h task bytes asked r writes = absurd (reads_not words h.0 task h.1 asked h.2.0 r)
+makes_at_last words old new s h task bytes asked r writes = refused words task old new bytes s (λ reply. says_of_none task old new bytes reply r) h asked
+
+made_well : (kind : Kind) (ranks suits cap : ℕ) (s : Status) → EndsSo (Asks (Make kind ranks suits cap false) []) s → (s ≡ status.Ok) ⊎ (s ≡ status.Memory)
+made_well kind ranks suits cap s (inl h) = inl h.0
+made_well kind ranks suits cap s (inr (inl e)) = inr e
+made_well kind ranks suits cap s (inr (inr h)) = let bad = h.1 in cc
+
+pub files_at_last : (words : List (List ℕ)) (old new : Ends) (s : Status) → RunsTo words old new s → FilesAtLast words old new s
+files_at_last words old new s runs kind ranks suits cap asked writes = made_well kind ranks suits cap s (makes_at_last words old new s runs (Make kind ranks suits cap false) [] asked refl writes)
