@@ -1,10 +1,11 @@
 -- What a task says of an input: for each task the definition of its family.
 use Rattle.std.specs.Prelude.{ℕ, List, Bool, true, false}
 use Rattle.gs_answer.specs.Making.{Makes}
+use Rattle.gs_confirm.specs.Commands.{Evaluates, Queries, Upgrades}
 use Rattle.gs_group.specs.Checking.{Checks}
 use Rattle.gs_group.specs.Shrinking.{Shrinks}
 use Rattle.gs_reply.specs.Replies.{Reply}
-use Rattle.gs_words.specs.Tasks.{Task, Shrink, Check, Make}
+use Rattle.gs_words.specs.Tasks.{Task, Shrink, Check, Make, Evaluate, Query, Upgrade}
 
 -- whether a task reads an input: all do but `make`
 abbrev pub reads : Task → Bool
@@ -16,3 +17,6 @@ abbrev pub Asks : Task → List ℕ → Reply → Type 0
 Asks (Shrink summary) bytes reply = Shrinks summary bytes reply
 Asks (Check grouping summary) bytes reply = Checks grouping summary bytes reply
 Asks (Make kind ranks suits cap summary) bytes reply = Makes kind ranks suits cap summary reply
+Asks Evaluate bytes reply = Evaluates bytes reply
+Asks (Query player line signal) bytes reply = Queries player line signal bytes reply
+Asks Upgrade bytes reply = Upgrades bytes reply

@@ -6,6 +6,7 @@ ghost use Rattle.gs_answer.specs.Making.{Makes};
 ghost use Rattle.gs_reply.specs.Replies.{Answers};
 ghost use Rattle.gs_words.specs.Tasks.{IsInRange, Make, task_of};
 
+use gs_confirm::{evaluate_answer, query_answer, upgrade_answer};
 use gs_group::{check_answer, shrink_answer};
 use gs_made::{Kind, made_game};
 use gs_reply::Answer;
@@ -14,7 +15,7 @@ use std::alloc::{AllocError, Global};
 
 /// Whether a request reads an input.
 pub fn reads_input(request: Request) -> bool
-    ensures { result ≡ reads (task_of request) }
+    ensures { result ≡ reads (task_of request.entry) }
 {
     match request {
         Request::Make { .. } => false,
@@ -45,7 +46,7 @@ fn made(
 /// What a request asks to be printed of the bytes of its input, or why they are refused.
 pub fn answer(alloc: Global, request: Request, bytes: &[u8]) -> Result<Answer, AllocError>
     requires { IsInRange (task_of request) }
-    ensures { IfOk result (Answers (Asks (task_of request) bytes.now)) }
+    ensures { IfOk result (Answers (Asks (task_of request.entry) bytes.now)) }
 {
     match request {
         Request::Shrink { summary } => shrink_answer(alloc, bytes, summary),
@@ -57,5 +58,12 @@ pub fn answer(alloc: Global, request: Request, bytes: &[u8]) -> Result<Answer, A
             cap,
             summary,
         } => made(alloc, kind, ranks, suits, cap, summary),
+        Request::Evaluate => evaluate_answer(alloc, bytes),
+        Request::Query {
+            player,
+            line,
+            signal,
+        } => query_answer(alloc, player, line, signal, bytes),
+        Request::Upgrade => upgrade_answer(alloc, bytes),
     }
 }

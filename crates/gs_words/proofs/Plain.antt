@@ -14,12 +14,12 @@ use Rattle.clap.proofs.OnLiterals.{clap_on_literals}
 use Rattle.gs_words.specs.Commands.{command_word, commands, options_of}
 use Rattle.gs_words.specs.Plain.{Given, are_plain, given_for, name_of, option_words, stand_once}
 use Rattle.gs_words.specs.Program.{program}
-use Rattle.gs_words.specs.Requests.{grouping_in, is_set, make_with, request_of, task_for, task_in}
+use Rattle.gs_words.specs.Requests.{grouping_in, is_set, make_with, query_with, request_of, task_for, task_in}
 use Rattle.gs_words.specs.Tasks.{Task}
 use Rattle.gs_words.specs.Values.{grouping_of, kind_of, number_in}
 use Rattle.gs_made.specs.declared.kind.Kind.{Kind}
 use Rattle.gs_words.specs.declared.names.CommandName.{CommandName}
-use Rattle.gs_words.specs.declared.names.CommandName.TheVariants.{Shrink, Check, Make}
+use Rattle.gs_words.specs.declared.names.CommandName.TheVariants.{Shrink, Check, Evaluate, Query, Make, Upgrade}
 use Rattle.gs_words.specs.declared.request.Grouping.{Grouping}
 use Rattle.gs_words.proofs.AnyOrder.{AreGiven, all_rows, has_good_default, taken_in_any_order}
 use Rattle.gs_words.proofs.Rows.{is_there, same_flag, same_value}
@@ -56,25 +56,37 @@ enters : (c : CommandName) (ws : List Text) → fold (walked top.rules names) (w
 unfolding clap_on_literals
 enters Shrink ws = stop_more top.rules names nothing_held (codes "shrink") [] ws
 enters Check ws = stop_more top.rules names nothing_held (codes "check") [] ws
+enters Evaluate ws = stop_more top.rules names nothing_held (codes "evaluate") [] ws
+enters Query ws = stop_more top.rules names nothing_held (codes "query") [] ws
 enters Make ws = stop_more top.rules names nothing_held (codes "make") [] ws
+enters Upgrade ws = stop_more top.rules names nothing_held (codes "upgrade") [] ws
 
 is_met : (c : CommandName) (ws : List Text) → walk_fault top names (walk_from nothing_held) (command_word c ∷ ws) ≡ []
 unfolding clap_on_literals
 is_met Shrink ws = stopped_fault top names (walk_from nothing_held) (codes "shrink", []) ws
 is_met Check ws = stopped_fault top names (walk_from nothing_held) (codes "check", []) ws
+is_met Evaluate ws = stopped_fault top names (walk_from nothing_held) (codes "evaluate", []) ws
+is_met Query ws = stopped_fault top names (walk_from nothing_held) (codes "query", []) ws
 is_met Make ws = stopped_fault top names (walk_from nothing_held) (codes "make", []) ws
+is_met Upgrade ws = stopped_fault top names (walk_from nothing_held) (codes "upgrade", []) ws
 
 -- words that the level of the command takes are taken
 taken : (c : CommandName) (ws : List Text) → level_fault (shape_of c) [] nothing_held ws false [] ≡ [] → fault_of program (command_word c ∷ ws) ≡ []
 unfolding defaults_fault
 taken Shrink ws h = rw (is_met Shrink ws, enters Shrink ws, h)
 taken Check ws h = rw (is_met Check ws, enters Check ws, h)
+taken Evaluate ws h = rw (is_met Evaluate ws, enters Evaluate ws, h)
+taken Query ws h = rw (is_met Query ws, enters Query ws, h)
 taken Make ws h = rw (is_met Make ws, enters Make ws, h)
+taken Upgrade ws h = rw (is_met Upgrade ws, enters Upgrade ws, h)
 
 rows : (c : CommandName) (ws : List Text) (end : Held) → fold (walked (shape_of c).rules []) (walk_from nothing_held) ws ≡ walk_from end → subcommand_of program (command_word c ∷ ws) ≡ Some (command_word c, finished (shape_of c).rules end)
 rows Shrink ws end e = rw (enters Shrink ws, e)
 rows Check ws end e = rw (enters Check ws, e)
+rows Evaluate ws end e = rw (enters Evaluate ws, e)
+rows Query ws end e = rw (enters Query ws, e)
 rows Make ws end e = rw (enters Make ws, e)
+rows Upgrade ws end e = rw (enters Upgrade ws, e)
 
 asked : (words : List Text) (name : Text) (found : List Row) → fault_of program words ≡ [] → subcommand_of program words ≡ Some (name, found) → request_of words ≡ task_in (name, found)
 unfolding request_of
@@ -88,12 +100,18 @@ rule_at s i = unwrap_or (slice_get s.rules i) (new_rule [])
 known : (c : CommandName) → AreKnown (shape_of c).rules (options_of c)
 known Shrink = ((rule_at (shape_of Shrink) 0, record { named = record { long = refl; dashes = refl; by_long = refl; id = refl }; takes = refl; most = refl; set = refl; range = refl; missing = refl; passes = refl }), tt)
 known Check = ((rule_at (shape_of Check) 0, record { named = record { long = refl; dashes = refl; by_long = refl; id = refl }; takes = refl; by_id = refl; most = refl; same = refl; set = refl; range = refl; passes = λ v. refl }), ((rule_at (shape_of Check) 1, record { named = record { long = refl; dashes = refl; by_long = refl; id = refl }; takes = refl; most = refl; set = refl; range = refl; missing = refl; passes = refl }), tt))
+known Evaluate = tt
+known Query = ((rule_at (shape_of Query) 0, record { named = record { long = refl; dashes = refl; by_long = refl; id = refl }; takes = refl; by_id = refl; most = refl; same = refl; set = refl; range = refl; passes = λ v. refl }), ((rule_at (shape_of Query) 1, record { named = record { long = refl; dashes = refl; by_long = refl; id = refl }; takes = refl; by_id = refl; most = refl; same = refl; set = refl; range = refl; passes = λ v. refl }), ((rule_at (shape_of Query) 2, record { named = record { long = refl; dashes = refl; by_long = refl; id = refl }; takes = refl; by_id = refl; most = refl; same = refl; set = refl; range = refl; passes = λ v. refl }), tt)))
 known Make = ((rule_at (shape_of Make) 0, record { named = record { long = refl; dashes = refl; by_long = refl; id = refl }; takes = refl; by_id = refl; most = refl; same = refl; set = refl; range = refl; passes = λ v. refl }), ((rule_at (shape_of Make) 1, record { named = record { long = refl; dashes = refl; by_long = refl; id = refl }; takes = refl; by_id = refl; most = refl; same = refl; set = refl; range = refl; passes = λ v. refl }), ((rule_at (shape_of Make) 2, record { named = record { long = refl; dashes = refl; by_long = refl; id = refl }; takes = refl; by_id = refl; most = refl; same = refl; set = refl; range = refl; passes = λ v. refl }), ((rule_at (shape_of Make) 3, record { named = record { long = refl; dashes = refl; by_long = refl; id = refl }; takes = refl; by_id = refl; most = refl; same = refl; set = refl; range = refl; passes = λ v. refl }), ((rule_at (shape_of Make) 4, record { named = record { long = refl; dashes = refl; by_long = refl; id = refl }; takes = refl; most = refl; set = refl; range = refl; missing = refl; passes = refl }), tt)))))
+known Upgrade = tt
 
 good_defaults : (c : CommandName) → list_all has_good_default (shape_of c).rules ≡ true
 good_defaults Shrink = refl
 good_defaults Check = refl
+good_defaults Evaluate = refl
+good_defaults Query = refl
 good_defaults Make = refl
+good_defaults Upgrade = refl
 
 -- plain words, as their three parts
 record ArePlain (c : CommandName) (gs : List Given) : Type 0 where
@@ -126,9 +144,24 @@ has_all gs p =
     let s = and_parts (is_there_of gs (codes "suits")) (is_there_of gs (codes "cap") && true) r.1 in
     record { kind = k.0; ranks = r.0; suits = s.0; cap = (and_parts (is_there_of gs (codes "cap")) true s.1).0 }
 
+-- what has to be given to `query` is given
+record HasQuery (gs : List Given) : Type 0 where
+  player : is_there_of gs (codes "player") ≡ true
+  line : is_there_of gs (codes "line") ≡ true
+  signal : is_there_of gs (codes "signal") ≡ true
+
+has_query : (gs : List Given) → ArePlain Query gs → HasQuery gs
+has_query gs p =
+    let l = and_parts (is_there_of gs (codes "player")) (is_there_of gs (codes "line") && (is_there_of gs (codes "signal") && true)) p.complete in
+    let s = and_parts (is_there_of gs (codes "line")) (is_there_of gs (codes "signal") && true) l.1 in
+    record { player = l.0; line = s.0; signal = (and_parts (is_there_of gs (codes "signal")) true s.1).0 }
+
 make_checks : (found : List Row) → is_given (codes "kind") found ≡ true → is_given (codes "ranks") found ≡ true → is_given (codes "suits") found ≡ true → is_given (codes "cap") found ≡ true
     → check_fault (shape_of Make) found false ≡ []
 make_checks found k r s c = rw (k, r, s, c) refl
+
+query_checks : (found : List Row) → is_given (codes "player") found ≡ true → is_given (codes "line") found ≡ true → is_given (codes "signal") found ≡ true → check_fault (shape_of Query) found false ≡ []
+query_checks found p l s = rw (p, l, s) refl
 
 no_checks_shrink : (found : List Row) → check_fault (shape_of Shrink) found false ≡ []
 no_checks_shrink found = refl
@@ -136,13 +169,25 @@ no_checks_shrink found = refl
 no_checks_check : (found : List Row) → check_fault (shape_of Check) found false ≡ []
 no_checks_check found = refl
 
+no_checks_evaluate : (found : List Row) → check_fault (shape_of Evaluate) found false ≡ []
+no_checks_evaluate found = refl
+
+no_checks_upgrade : (found : List Row) → check_fault (shape_of Upgrade) found false ≡ []
+no_checks_upgrade found = refl
+
 checks : (c : CommandName) (gs : List Given) (given : AreGiven (shape_of c).rules gs) → ArePlain c gs → check_fault (shape_of c) (all_rows (shape_of c).rules gs given) false ≡ []
 checks Shrink gs given p = no_checks_shrink (all_rows (shape_of Shrink).rules gs given)
 checks Check gs given p = no_checks_check (all_rows (shape_of Check).rules gs given)
+checks Evaluate gs given p = no_checks_evaluate (all_rows (shape_of Evaluate).rules gs given)
+checks Query gs given p =
+    let R = (shape_of Query).rules in
+    let all = has_query gs p in
+    query_checks (all_rows R gs given) (is_there R gs given (codes "player") all.player) (is_there R gs given (codes "line") all.line) (is_there R gs given (codes "signal") all.signal)
 checks Make gs given p =
     let R = (shape_of Make).rules in
     let all = has_all gs p in
     make_checks (all_rows R gs given) (is_there R gs given (codes "kind") all.kind) (is_there R gs given (codes "ranks") all.ranks) (is_there R gs given (codes "suits") all.suits) (is_there R gs given (codes "cap") all.cap)
+checks Upgrade gs given p = no_checks_upgrade (all_rows (shape_of Upgrade).rules gs given)
 
 -- ---- what they ask for
 
@@ -150,7 +195,10 @@ checks Make gs given p =
 entered_for : (c : CommandName) (found : List Row) → task_in (command_word c, found) ≡ task_for c (λ option. first_of option found)
 entered_for Shrink found = refl
 entered_for Check found = refl
+entered_for Evaluate found = refl
+entered_for Query found = refl
 entered_for Make found = refl
+entered_for Upgrade found = refl
 
 shrink_meant : (found : List Row) (gs : List Given) → is_set (first_of (codes "summary") found) ≡ is_set (given_for gs (codes "summary")) → task_for Shrink (λ option. first_of option found) ≡ task_for Shrink (given_for gs)
 shrink_meant found gs s = rw s refl
@@ -158,6 +206,10 @@ shrink_meant found gs s = rw s refl
 check_meant : (found : List Row) (gs : List Given) → first_of (codes "classes") found ≡ given_for gs (codes "classes") → is_set (first_of (codes "summary") found) ≡ is_set (given_for gs (codes "summary"))
     → task_for Check (λ option. first_of option found) ≡ task_for Check (given_for gs)
 check_meant found gs c s = rw (c, s) refl
+
+query_meant : (found : List Row) (gs : List Given) → first_of (codes "player") found ≡ given_for gs (codes "player") → first_of (codes "line") found ≡ given_for gs (codes "line")
+    → first_of (codes "signal") found ≡ given_for gs (codes "signal") → task_for Query (λ option. first_of option found) ≡ task_for Query (given_for gs)
+query_meant found gs p l s = rw (p, l, s) refl
 
 make_meant : (found : List Row) (gs : List Given) → first_of (codes "kind") found ≡ given_for gs (codes "kind") → first_of (codes "ranks") found ≡ given_for gs (codes "ranks") → first_of (codes "suits") found ≡ given_for gs (codes "suits")
     → first_of (codes "cap") found ≡ given_for gs (codes "cap") → is_set (first_of (codes "summary") found) ≡ is_set (given_for gs (codes "summary")) → task_for Make (λ option. first_of option found) ≡ task_for Make (given_for gs)
@@ -170,9 +222,14 @@ same_task Shrink gs given =
 same_task Check gs given =
     let R = (shape_of Check).rules in
     check_meant (all_rows R gs given) gs (same_value R gs given (codes "classes") refl) (same_flag R gs given (codes "summary") refl)
+same_task Evaluate gs given = refl
+same_task Query gs given =
+    let R = (shape_of Query).rules in
+    query_meant (all_rows R gs given) gs (same_value R gs given (codes "player") refl) (same_value R gs given (codes "line") refl) (same_value R gs given (codes "signal") refl)
 same_task Make gs given =
     let R = (shape_of Make).rules in
     make_meant (all_rows R gs given) gs (same_value R gs given (codes "kind") refl) (same_value R gs given (codes "ranks") refl) (same_value R gs given (codes "suits") refl) (same_value R gs given (codes "cap") refl) (same_flag R gs given (codes "summary") refl)
+same_task Upgrade gs given = refl
 
 -- plain words ask for what their options say
 pub plain_meant : (c : CommandName) (gs : List Given) → IsTrue (are_plain c gs) → request_of (command_word c ∷ option_words gs) ≡ task_for c (given_for gs)
@@ -198,6 +255,12 @@ some_made (Some k) (Some r) None c u hk hr hs hc = hs
 some_made (Some k) None s c u hk hr hs hc = hr
 some_made None r s c u hk hr hs hc = hk
 
+some_query : (player : Option ℕ) (line signal : Option Text) → is_some player ≡ true → is_some line ≡ true → is_some signal ≡ true → is_some (query_with player line signal) ≡ true
+some_query (Some p) (Some l) (Some s) hp hl hs = refl
+some_query (Some p) (Some l) None hp hl hs = hs
+some_query (Some p) None s hp hl hs = hl
+some_query None l s hp hl hs = hp
+
 -- classes that are given in their form, or not at all, are a grouping
 some_grouping : (c : CommandName) (gs : List Given) → RuleIs (options_of c) (codes "classes") (λ word. is_some (grouping_of word)) → ArePlain c gs → is_some (grouping_in (given_for gs (codes "classes"))) ≡ true
 some_grouping c gs rules p =
@@ -218,10 +281,22 @@ some_make gs p =
     let c = passed os (codes "cap") (λ word. is_some (number_in 0 8 word)) gs (λ e. absurd (false≢true e), (λ e. absurd (false≢true e), (λ e. absurd (false≢true e), (λ _. (refl, λ _ h. h), (λ e. absurd (false≢true e), tt))))) p.forms all.cap in
     rw (k.1, r.1, s.1, c.1) (some_made (kind_of k.0) (number_in 1 13 r.0) (number_in 1 4 s.0) (number_in 0 8 c.0) (is_set (given_for gs (codes "summary"))) k.2 r.2 s.2 c.2)
 
+some_queried : (gs : List Given) → ArePlain Query gs → is_some (task_for Query (given_for gs)) ≡ true
+some_queried gs p =
+    let all = has_query gs p in
+    let os = options_of Query in
+    let n = passed os (codes "player") (λ word. is_some (number_in 1 2 word)) gs (λ _. (refl, λ _ h. h), (λ e. absurd (false≢true e), (λ e. absurd (false≢true e), tt))) p.forms all.player in
+    let l = passed os (codes "line") (λ word. true) gs (λ e. absurd (false≢true e), (λ _. (refl, λ _ h. h), (λ e. absurd (false≢true e), tt))) p.forms all.line in
+    let s = passed os (codes "signal") (λ word. true) gs (λ e. absurd (false≢true e), (λ e. absurd (false≢true e), (λ _. (refl, λ _ h. h), tt))) p.forms all.signal in
+    rw (n.1, l.1, s.1) (some_query (number_in 1 2 n.0) (Some l.0) (Some s.0) n.2 refl refl)
+
 some_task : (c : CommandName) (gs : List Given) → ArePlain c gs → is_some (task_for c (given_for gs)) ≡ true
 some_task Shrink gs p = refl
 some_task Check gs p = some_mapped _ (grouping_in (given_for gs (codes "classes"))) (some_grouping Check gs (λ _. (refl, λ _ h. h), (λ e. absurd (false≢true e), tt)) p)
+some_task Evaluate gs p = refl
+some_task Query gs p = some_queried gs p
 some_task Make gs p = some_make gs p
+some_task Upgrade gs p = refl
 
 -- plain words are a request
 pub plain_read : (c : CommandName) (gs : List Given) → IsTrue (are_plain c gs) → IsSome (request_of (command_word c ∷ option_words gs))

@@ -9,7 +9,7 @@ use Rattle.clap.specs.declared.parser.matches.ArgMatches.{ArgMatches}
 use Rattle.gs_made.specs.declared.kind.Kind.{Kind}
 use Rattle.gs_words.specs.Commands.{command_of}
 use Rattle.gs_words.specs.Program.{program}
-use Rattle.gs_words.specs.Tasks.{Task, task_of, Shrink, Check, Make}
+use Rattle.gs_words.specs.Tasks.{Task, task_of, Shrink, Check, Evaluate, Query, Make, Upgrade}
 use Rattle.gs_words.specs.Values.{grouping_of, kind_of, number_in}
 use Rattle.gs_words.specs.declared.names.CommandName.{CommandName}
 use Rattle.gs_words.specs.declared.names.CommandName.TheVariants as command
@@ -29,6 +29,10 @@ abbrev pub grouping_in : Option Text → Option Grouping
 grouping_in None = Some Coarsest
 grouping_in (Some word) = grouping_of word
 
+abbrev pub query_with : Option ℕ → Option Text → Option Text → Option Task
+query_with (Some player) (Some line) (Some signal) = Some (Query player line signal)
+query_with _ _ _ = None
+
 abbrev pub make_with : Option Kind → Option ℕ → Option ℕ → Option ℕ → Bool → Option Task
 make_with (Some kind) (Some ranks) (Some suits) (Some cap) summary = Some (Make kind ranks suits cap summary)
 make_with _ _ _ _ summary = None
@@ -42,7 +46,10 @@ make_of kind ranks suits cap summary =
 abbrev pub task_for : CommandName → (Text → Option Text) → Option Task
 task_for command.Shrink given = Some (Shrink (is_set (given (codes "summary"))))
 task_for command.Check given = option_map (λ grouping. Check grouping (is_set (given (codes "summary")))) (grouping_in (given (codes "classes")))
+task_for command.Evaluate given = Some Evaluate
+task_for command.Query given = query_with (option_and_then (number_in 1 2) (given (codes "player"))) (given (codes "line")) (given (codes "signal"))
 task_for command.Make given = make_of (given (codes "kind")) (given (codes "ranks")) (given (codes "suits")) (given (codes "cap")) (given (codes "summary"))
+task_for command.Upgrade given = Some Upgrade
 
 -- what a command that was entered with these options asks for
 abbrev pub task_in : Text × List Row → Option Task

@@ -8,15 +8,24 @@ use Rattle.gs_words.specs.declared.request.Request.TheVariants as request
 pub data Task : Type 0 where
   Shrink : (summary : Bool) → Task
   Check : (grouping : Grouping) (summary : Bool) → Task
+  Evaluate : Task
+  Query : (player : ℕ) (line signal : List ℕ) → Task
   Make : (kind : Kind) (ranks suits cap : ℕ) (summary : Bool) → Task
+  Upgrade : Task
 
 abbrev pub task_of : Request → Task
 task_of (request.Shrink summary) = Shrink summary
 task_of (request.Check grouping summary) = Check grouping summary
+task_of request.Evaluate = Evaluate
+task_of (request.Query player line signal) = Query player line.now signal.now
 task_of (request.Make kind ranks suits cap summary) = Make kind ranks suits cap summary
+task_of request.Upgrade = Upgrade
 
 -- the numbers of a task are in their ranges
 abbrev pub IsInRange : Task → Type 0
 IsInRange (Shrink summary) = Unit {0}
 IsInRange (Check grouping summary) = Unit {0}
+IsInRange Evaluate = Unit {0}
+IsInRange (Query player line signal) = (1 ≤ player) × (player ≤ 2)
 IsInRange (Make kind ranks suits cap summary) = ((1 ≤ ranks) × (ranks ≤ 13)) × ((1 ≤ suits) × (suits ≤ 4)) × (cap ≤ 8)
+IsInRange Upgrade = Unit {0}

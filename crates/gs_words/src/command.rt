@@ -51,6 +51,15 @@ fn check_command<'a>(alloc: Global) -> Result<Command<'a>, AllocError>
         .arg(summary_flag(alloc))
 }
 
+fn query_command<'a>(alloc: Global) -> Result<Command<'a>, AllocError>
+    ensures { IfOk result (Is (app_for name.Query)) }
+{
+    Command::new(alloc, "query")
+        .arg(required_value(alloc, "player"))?
+        .arg(required_value(alloc, "line"))?
+        .arg(required_value(alloc, "signal"))
+}
+
 // The command `make` without its last options.
 fn made_command<'a>(alloc: Global) -> Result<Command<'a>, AllocError>
     ensures { IfOk result (Is (with_options (codes "make") (required (codes "kind") (λ _. true) ∷ required (codes "ranks") (λ _. true) ∷ required (codes "suits") (λ _. true) ∷ []))) }
@@ -76,7 +85,10 @@ fn command_for<'a>(alloc: Global, name: CommandName) -> Result<Command<'a>, Allo
     match name {
         CommandName::Shrink => shrink_command(alloc),
         CommandName::Check => check_command(alloc),
+        CommandName::Evaluate => Ok(Command::new(alloc, "evaluate")),
+        CommandName::Query => query_command(alloc),
         CommandName::Make => make_command(alloc),
+        CommandName::Upgrade => Ok(Command::new(alloc, "upgrade")),
     }
 }
 

@@ -8,14 +8,20 @@ ghost use Rattle.gs_words.specs.Commands.{command_of};
 pub enum CommandName {
     Shrink,
     Check,
+    Evaluate,
+    Query,
     Make,
+    Upgrade,
 }
 
 /// All commands, in the order in which they were made.
-pub(crate) const COMMANDS: [CommandName; 3] = [
+pub(crate) const COMMANDS: [CommandName; 6] = [
     CommandName::Shrink,
     CommandName::Check,
+    CommandName::Evaluate,
+    CommandName::Query,
     CommandName::Make,
+    CommandName::Upgrade,
 ];
 
 /// The command that a word names.
@@ -25,7 +31,10 @@ pub(crate) fn command_named(word: &str) -> Option<CommandName>
     match word {
         "shrink" => Some(CommandName::Shrink),
         "check" => Some(CommandName::Check),
+        "evaluate" => Some(CommandName::Evaluate),
+        "query" => Some(CommandName::Query),
         "make" => Some(CommandName::Make),
+        "upgrade" => Some(CommandName::Upgrade),
         _ => None,
     }
 }

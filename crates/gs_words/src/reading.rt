@@ -2,7 +2,7 @@
 
 ghost use Rattle.std.specs.Prelude.{◌≡◌, ◌≤◌, codes, IfOk, IfSome, map, string_bytes, option_map, option_and_then};
 ghost use Rattle.clap.specs.Words.{first_of, rows_of, found_of, subcommand_rows_of};
-ghost use Rattle.gs_words.specs.Requests.{grouping_in, is_set as is_true, make_of, task_for, task_in, IsStopFor, ReadsWords, TakesWords};
+ghost use Rattle.gs_words.specs.Requests.{grouping_in, is_set as is_true, make_of, query_with, task_for, task_in, IsStopFor, ReadsWords, TakesWords};
 ghost use Rattle.gs_words.specs.Tasks.{task_of, IsInRange};
 ghost use Rattle.gs_words.specs.Values.{number_in};
 ghost use Rattle.gs_words.specs.declared.names.CommandName.TheVariants as command;
@@ -74,7 +74,21 @@ fn grouping_of(options: &ArgMatches) -> Option<Grouping>
     }
 }
 
-fn make_request(options: &ArgMatches) -> Option<Request>
+fn query_request<'a>(options: &ArgMatches<'a>) -> Option<Request<'a>>
+    ensures value { option_map task_of result ≡ query_with (option_and_then (number_in 1 2) (first_of (codes "player") (rows_of (found_of options.now)))) (first_of (codes "line") (rows_of (found_of options.now))) (first_of (codes "signal") (rows_of (found_of options.now))) }
+    ensures within { IfSome result (λ r. IsInRange (task_of r)) }
+{
+    let player = number_of(options, "player", 1, 2)? as u8;
+    let line = value_of(options, "line")?;
+    let signal = value_of(options, "signal")?;
+    Some(Request::Query {
+        player,
+        line,
+        signal,
+    })
+}
+
+fn make_request<'a>(options: &ArgMatches<'a>) -> Option<Request<'a>>
     ensures value { option_map task_of result ≡ make_of (first_of (codes "kind") (rows_of (found_of options.now))) (first_of (codes "ranks") (rows_of (found_of options.now))) (first_of (codes "suits") (rows_of (found_of options.now))) (first_of (codes "cap") (rows_of (found_of options.now))) (first_of (codes "summary") (rows_of (found_of options.now))) }
     ensures within { IfSome result (λ r. IsInRange (task_of r)) }
 {
@@ -93,7 +107,7 @@ fn make_request(options: &ArgMatches) -> Option<Request>
 }
 
 // What a command with options asks for.
-fn request_for(name: CommandName, options: &ArgMatches) -> Option<Request>
+fn request_for<'a>(name: CommandName, options: &ArgMatches<'a>) -> Option<Request<'a>>
     ensures value { option_map task_of result ≡ task_for name (λ option. first_of option (rows_of (found_of options.now))) }
     ensures within { IfSome result (λ r. IsInRange (task_of r)) }
 {
@@ -105,7 +119,10 @@ fn request_for(name: CommandName, options: &ArgMatches) -> Option<Request>
             grouping: grouping_of(options)?,
             summary: is_set(options, "summary"),
         }),
+        CommandName::Evaluate => Some(Request::Evaluate),
+        CommandName::Query => query_request(options),
         CommandName::Make => make_request(options),
+        CommandName::Upgrade => Some(Request::Upgrade),
     }
 }
 
@@ -117,7 +134,7 @@ fn entered<'m, 'a>(matches: &'m ArgMatches<'a>) -> Option<(&'a str, &'m ArgMatch
 }
 
 // What the words that were taken ask for.
-fn request_in(matches: &ArgMatches) -> Option<Request>
+fn request_in<'a>(matches: &ArgMatches<'a>) -> Option<Request<'a>>
     ensures value { option_map task_of result ≡ option_and_then task_in (subcommand_rows_of matches.now) }
     ensures within { IfSome result (λ r. IsInRange (task_of r)) }
 {
@@ -129,8 +146,8 @@ fn request_in(matches: &ArgMatches) -> Option<Request>
 /// refuses them, a request for help included, is `Usage`, and so is a value that its option does
 /// not take.
 #[tactic(auto, unfolding(crate::specs::Requests::request_of))]
-pub fn read_words(alloc: Global, words: &[String]) -> Result<Request, WordsStop>
-    ensures reads { ReadsWords result (map string_bytes words.now) }
+pub fn read_words<'w>(alloc: Global, words: &'w [String]) -> Result<Request<'w>, WordsStop>
+    ensures reads { ReadsWords result (map string_bytes words.entry.now) }
     ensures within { IfOk result (λ r. IsInRange (task_of r)) }
 {
     let matches = taken(alloc, words)?;

@@ -13,9 +13,9 @@ pub enum Grouping {
     Single,
 }
 
-/// What words ask for.
+/// What words ask for. The texts of a query are words of the command line.
 #[derive(Clone, Copy, Debug, PartialEq, Eq)]
-pub enum Request {
+pub enum Request<'w> {
     /// The signal classes of a game, or only how many there are.
     Shrink {
         summary: bool,
@@ -24,6 +24,14 @@ pub enum Request {
     Check {
         grouping: Grouping,
         summary: bool,
+    },
+    /// The numbers of a strategy, once they are found to be right.
+    Evaluate,
+    /// What a player, 1 or 2, does at a line with a signal.
+    Query {
+        player: u8,
+        line: &'w str,
+        signal: &'w str,
     },
     /// The game file of a well-known game with 1 to 13 ranks, 1 to 4 suits and at most 8 bets and
     /// raises in a round, or only how many signal classes that game has.
@@ -34,6 +42,8 @@ pub enum Request {
         cap: u8,
         summary: bool,
     },
+    /// A strategy's text in the latest version.
+    Upgrade,
 }
 
 /// Why words are not read.

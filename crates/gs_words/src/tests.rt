@@ -14,11 +14,11 @@ fn words_of(alloc: Global, line: &str) -> Result<Vec<String>, Fail> {
     Ok(words)
 }
 
-const fn check(grouping: Grouping, summary: bool) -> Request {
+const fn check(grouping: Grouping, summary: bool) -> Request<'static> {
     Request::Check { grouping, summary }
 }
 
-const fn make(kind: Kind, ranks: u8, suits: u8, cap: u8, summary: bool) -> Request {
+const fn make(kind: Kind, ranks: u8, suits: u8, cap: u8, summary: bool) -> Request<'static> {
     Request::Make {
         kind,
         ranks,
@@ -65,6 +65,16 @@ fn requests(rt: HostRuntime) -> Result<(), Fail> {
             "make --kind rhode --ranks 13 --summary --suits 4 --cap 3",
             make(Kind::Rhode, 13, 4, 3, true),
         ),
+        ("evaluate", Request::Evaluate),
+        (
+            "query --signal Js/+Qs --player 2 --line /kb",
+            Request::Query {
+                player: 2,
+                line: "/kb",
+                signal: "Js/+Qs",
+            },
+        ),
+        ("upgrade", Request::Upgrade),
     ];
     for (line, request) in table {
         let words = words_of(rt.alloc(), line)?;
@@ -107,6 +117,12 @@ fn refused_words(rt: HostRuntime) -> Result<(), Fail> {
         "make --kind kuhn --ranks 3 --suits 1",
         "make --kind kuhn --ranks 3 --suits 1 --cap 1 --cap 1",
         "make --kind kuhn --ranks 3 --suits 1 --cap 1 --summary --summary",
+        "evaluate --classes raw",
+        "query --player 1 --line /",
+        "query --player 0 --line / --signal Js",
+        "query --player 3 --line / --signal Js",
+        "query --player 1 --line / --signal -Js",
+        "upgrade more",
         "make --kind poker --ranks 3 --suits 1 --cap 1",
         "make --kind kuhn --ranks 0 --suits 1 --cap 1",
         "make --kind kuhn --ranks 14 --suits 1 --cap 1",

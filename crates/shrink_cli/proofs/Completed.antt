@@ -3,19 +3,25 @@ use Rattle.std.proofs.Common.{◌≡◌, ◌⊎◌, inl, inr, ⊎_elim, ℕ, ◌
 use Rattle.std.proofs.lemmas.List.{append-nil, length-append}
 use Rattle.std.specs.Io.KnownBytes.{Consumes, IsAtEnd}
 use Rattle.gs_answer.specs.Asking.{Asks, reads}
+use Rattle.gs_confirm.specs.Commands.{OfConfirmed as SaysConfirmed, OfRead, OfStrategy, SaysNumbers, SaysQueried, SaysUpgraded}
 use Rattle.gs_file.specs.Reading.{FileGame, read_at}
+use Rattle.gs_file.specs.declared.version.Version.{Version}
 use Rattle.gs_group.specs.Checking.{ChecksGame}
 use Rattle.gs_group.specs.Shrinking.{ShrinksGame}
 use Rattle.gs_io.specs.Causes.{Rose}
 use Rattle.gs_made.specs.declared.kind.Kind.{Kind}
 use Rattle.gs_reply.specs.Refusals.{Refusal, Bad_game, Unlike_pair, Overflows, Many_pivots, Too_large, Bad_strategy, Wrong_number, Bad_query, Other_game, Bad_certificate, cause_of}
 use Rattle.gs_reply.specs.Replies.{OfReading, Reply, Prints, Refuses}
+use Rattle.gs_strategy.specs.Checks.{ReadResult}
+use Rattle.gs_strategy.specs.Laws.{IsStrategy}
+use Rattle.gs_strategy.specs.Texts.{strategy_text}
+use Rattle.gs_strategy.specs.Values.{Strategy}
+use Rattle.gs_strategy.proofs.Only.{only}
 use Rattle.gs_words.specs.Requests.{request_of}
-use Rattle.gs_words.specs.Tasks.{Task, Shrink, Check, Make}
+use Rattle.gs_words.specs.Tasks.{Task, Shrink, Check, Make, Evaluate, Query, Upgrade}
 use Rattle.gs_words.specs.declared.request.Grouping.{Grouping}
-use Rattle.gs_words.specs.declared.request.Grouping.TheVariants.{Isomorphism, Coarsest, Single}
 use Rattle.shrink_cli.proofs.Promised.{same_task}
-use Rattle.shrink_cli.specs.Promises.{AreUnlike, Completes, CompletesGames, EndsSo, FilesAtLast, IsEnd, MakesAtLast}
+use Rattle.shrink_cli.specs.Promises.{AreUnlike, Completes, CompletesGame, CompletesStrategy, EndsChecked, EndsSo, EndsWell, FilesAtLast, MakesAtLast}
 use Rattle.shrink_cli.specs.Running.{Ends, RunsTo, Asked, Inputs, IsAnswered, IsRefused, ReadsWhole, most_bytes}
 use Rattle.shrink_cli.specs.Statuses.{status_of}
 use Rattle.shrink_cli.specs.declared.status.Status.{Status}
@@ -65,12 +71,29 @@ completes words old new status.TooLong h task bytes asked r e few good =
     absurd (omega arith)
 completes words old new s h task bytes asked r e few good = refused words task old new bytes s (λ reply. says_of task old new bytes reply r e) h asked
 
--- ---- tasks over accepted games
+-- what is said otherwise ends otherwise
+ends_so : (one two : Reply → Type 0) (s : Status) → ((reply : Reply) → one reply → two reply) → EndsSo one s → EndsSo two s
+ends_so one two s f (inl h) = inl (h.0, (h.1.0, f (Prints h.1.0) h.1.1))
+ends_so one two s f (inr (inl e)) = inr (inl e)
+ends_so one two s f (inr (inr h)) = inr (inr (h.0, f (Refuses h.0) h.1, h.2))
 
-kept : (grouping : Grouping) (summary : Bool) (g : FileGame) (why : Refusal) (s : Status) → ChecksGame grouping summary g (Refuses why) → status_of (cause_of why) ≡ s → IsEnd (Check grouping summary) g s
-kept Isomorphism summary g (Unlike_pair round one two) s h e = inr (inr (sym e, record { classes = h.1.classes; are = h.1.are; not_lossless = h.1.not_lossless }))
-kept Coarsest summary g (Unlike_pair round one two) s h e = let bad = h.0 in cc
-kept Single summary g (Unlike_pair round one two) s h e = let bad = h.0 in cc
+-- ---- accepted games
+
+-- what is said of a game file is said of its game
+over_game : (says : FileGame → Reply → Type 0) (g : FileGame) (bytes : List ℕ) (s : Status) → read_at bytes ≡ Ok g → EndsSo (OfReading says (read_at bytes)) s → EndsSo (says g) s
+over_game says g bytes s read h = ends_so (OfReading says (read_at bytes)) (says g) s (λ reply. subst (λ x. OfReading says x reply) read) h
+
+shrunk : (summary : Bool) (g : FileGame) (s : Status) → EndsSo (ShrinksGame summary g) s → EndsWell s
+shrunk summary g s (inl h) = inl h.0
+shrunk summary g s (inr (inl e)) = inr e
+shrunk summary g s (inr (inr h)) = absurd h.1
+
+pub shrinks_at_last : (words : List (List ℕ)) (old new : Ends) (s : Status) → RunsTo words old new s → (summary : Bool) → CompletesGame (Shrink summary) (λ _ t. EndsWell t) words old new s
+shrinks_at_last words old new s runs summary bytes g asked e few read good =
+    shrunk summary g s (over_game (ShrinksGame summary) g bytes s read (completes words old new s runs (Shrink summary) bytes asked refl e few good))
+
+kept : (grouping : Grouping) (summary : Bool) (g : FileGame) (why : Refusal) (s : Status) → ChecksGame grouping summary g (Refuses why) → status_of (cause_of why) ≡ s → EndsChecked grouping g s
+kept grouping summary g (Unlike_pair round one two) s h e = inr (inr (sym e, h.0, record { classes = h.1.classes; are = h.1.are; not_lossless = h.1.not_lossless }))
 kept grouping summary g (Bad_game why) s h e = absurd h
 kept grouping summary g (Overflows at) s h e = absurd h
 kept grouping summary g Many_pivots s h e = absurd h
@@ -81,28 +104,34 @@ kept grouping summary g (Bad_query why) s h e = absurd h
 kept grouping summary g Other_game s h e = absurd h
 kept grouping summary g (Bad_certificate why) s h e = absurd h
 
--- well or without memory is an end of every task
-ended : (task : Task) (g : FileGame) (s : Status) → (s ≡ status.Ok) ⊎ (s ≡ status.Memory) → IsEnd task g s
-ended (Check Isomorphism summary) g s (inl e) = inl e
-ended (Check Isomorphism summary) g s (inr e) = inr (inl e)
-ended (Check Coarsest summary) g s h = h
-ended (Check Single summary) g s h = h
-ended (Shrink summary) g s h = h
-ended (Make kind ranks suits cap summary) g s h = h
+checked : (grouping : Grouping) (summary : Bool) (g : FileGame) (s : Status) → EndsSo (ChecksGame grouping summary g) s → EndsChecked grouping g s
+checked grouping summary g s (inl h) = inl h.0
+checked grouping summary g s (inr (inl e)) = inr (inl e)
+checked grouping summary g s (inr (inr h)) = kept grouping summary g h.0 s h.1 h.2
 
--- a task over an accepted game is not refused, but for classes that are not lossless
-refusable : (task : Task) (g : FileGame) (bytes : List ℕ) (why : Refusal) (s : Status) → read_at bytes ≡ Ok g → Asks task bytes (Refuses why) → status_of (cause_of why) ≡ s → reads task ≡ true → IsEnd task g s
-refusable (Shrink summary) g bytes why s read says e r = absurd (subst (λ x. OfReading (ShrinksGame summary) x (Refuses why)) read says)
-refusable (Check grouping summary) g bytes why s read says e r = kept grouping summary g why s (subst (λ x. OfReading (ChecksGame grouping summary) x (Refuses why)) read says) e
-refusable (Make kind ranks suits cap summary) g bytes why s read says e r = cc
+pub checks_at_last : (words : List (List ℕ)) (old new : Ends) (s : Status) → RunsTo words old new s → (grouping : Grouping) (summary : Bool) → CompletesGame (Check grouping summary) (EndsChecked grouping) words old new s
+checks_at_last words old new s runs grouping summary bytes g asked e few read good =
+    checked grouping summary g s (over_game (ChecksGame grouping summary) g bytes s read (completes words old new s runs (Check grouping summary) bytes asked refl e few good))
 
-over_game : (task : Task) (g : FileGame) (bytes : List ℕ) (s : Status) → read_at bytes ≡ Ok g → reads task ≡ true → EndsSo (Asks task bytes) s → IsEnd task g s
-over_game task g bytes s read r (inl h) = ended task g s (inl h.0)
-over_game task g bytes s read r (inr (inl e)) = ended task g s (inr e)
-over_game task g bytes s read r (inr (inr h)) = refusable task g bytes h.0 s read h.1 h.2 r
+-- ---- strategies
 
-pub completes_games : (words : List (List ℕ)) (old new : Ends) (s : Status) → RunsTo words old new s → CompletesGames words old new s
-completes_games words old new s runs task bytes g asked r e few read good = over_game task g bytes s read r (completes words old new s runs task bytes asked r e few good)
+-- what is said of a strategy's text is said of the strategy
+over_strategy : (says : Strategy → Reply → Type 0) (version : Version) (t : Strategy) (s : Status) → IsStrategy version t → EndsSo (OfStrategy (SaysConfirmed says) (strategy_text version t)) s → EndsSo (SaysConfirmed says t) s
+over_strategy says version t s is h =
+    ends_so (OfStrategy (SaysConfirmed says) (strategy_text version t)) (SaysConfirmed says t) s (λ reply o. subst (λ (x : ReadResult). OfRead (SaysConfirmed says) x reply) (only version t o.read is o.reads) o.said) h
+
+pub evaluates_at_last : (words : List (List ℕ)) (old new : Ends) (s : Status) → RunsTo words old new s → CompletesStrategy Evaluate SaysNumbers words old new s
+evaluates_at_last words old new s runs version t asked is e few good =
+    over_strategy SaysNumbers version t s is (completes words old new s runs Evaluate (strategy_text version t) asked refl e few good)
+
+pub queries_at_last : (words : List (List ℕ)) (old new : Ends) (s : Status) → RunsTo words old new s → (player : ℕ) (line signal : List ℕ)
+    → CompletesStrategy (Query player line signal) (SaysQueried player line signal) words old new s
+queries_at_last words old new s runs player line signal version t asked is e few good =
+    over_strategy (SaysQueried player line signal) version t s is (completes words old new s runs (Query player line signal) (strategy_text version t) asked refl e few good)
+
+pub upgrades_at_last : (words : List (List ℕ)) (old new : Ends) (s : Status) → RunsTo words old new s → CompletesStrategy Upgrade SaysUpgraded words old new s
+upgrades_at_last words old new s runs version t asked is e few good =
+    over_strategy SaysUpgraded version t s is (completes words old new s runs Upgrade (strategy_text version t) asked refl e few good)
 
 -- ---- tasks that read nothing
 
@@ -111,6 +140,9 @@ says_of_none : (task : Task) (old new : Ends) (bytes : List ℕ) (reply : Reply)
 says_of_none (Make kind ranks suits cap summary) old new bytes reply r a = a.says
 says_of_none (Shrink summary) old new bytes reply r a = cc
 says_of_none (Check grouping summary) old new bytes reply r a = cc
+says_of_none Evaluate old new bytes reply r a = cc
+says_of_none (Query player line signal) old new bytes reply r a = cc
+says_of_none Upgrade old new bytes reply r a = cc
 
 reads_not : (words : List (List ℕ)) (one two : Task) → request_of words ≡ Some one → request_of words ≡ Some two → reads one ≡ true → reads two ≡ false → ⊥
 reads_not words one two a b t f = let e = same_task words one two a b in let bad : true ≡ false = sym t ∙ ap reads e ∙ f in cc
@@ -124,7 +156,7 @@ makes_at_last words old new status.WriteFault h task bytes asked r writes = absu
 makes_at_last words old new status.TooLong h task bytes asked r writes = absurd (reads_not words h.0 task h.1 asked h.2.0 r)
 makes_at_last words old new s h task bytes asked r writes = refused words task old new bytes s (λ reply. says_of_none task old new bytes reply r) h asked
 
-made_well : (kind : Kind) (ranks suits cap : ℕ) (s : Status) → EndsSo (Asks (Make kind ranks suits cap false) []) s → (s ≡ status.Ok) ⊎ (s ≡ status.Memory)
+made_well : (kind : Kind) (ranks suits cap : ℕ) (s : Status) → EndsSo (Asks (Make kind ranks suits cap false) []) s → EndsWell s
 made_well kind ranks suits cap s (inl h) = inl h.0
 made_well kind ranks suits cap s (inr (inl e)) = inr e
 made_well kind ranks suits cap s (inr (inr h)) = let bad = h.1 in cc

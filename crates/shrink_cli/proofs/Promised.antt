@@ -1,7 +1,11 @@
 -- What a run at status 0 printed, command by command.
-use Rattle.std.proofs.Common.{◌≡◌, ℕ, List, Bool, true, false, Result, Ok, Err, Some, refl, sym, ◌∙◌, subst}
+use Rattle.std.proofs.Common.{◌≡◌, inl, inr, ℕ, List, Bool, true, false, Result, Ok, Err, Some, refl, sym, ◌∙◌, subst}
 use Rattle.std.specs.Io.KnownBytes.{Appends}
+use Rattle.gs_answer.specs.Asking.{Asks, reads}
 use Rattle.gs_answer.specs.Making.{Makes}
+use Rattle.gs_confirm.specs.Commands.{OfConfirmed as SaysConfirmed, OfRead, OfStrategy, SaysNumbers, SaysQueried, SaysUpgraded}
+use Rattle.gs_confirm.specs.Queries.{IsQueried}
+use Rattle.gs_file.specs.declared.version.Version.TheVariants.{Two}
 use Rattle.gs_file.specs.Faults.{Fault}
 use Rattle.gs_file.specs.Reading.{FileGame, read_at}
 use Rattle.gs_group.specs.Checking.{ChecksGame}
@@ -9,10 +13,16 @@ use Rattle.gs_group.specs.Shrinking.{ShrinksGame}
 use Rattle.gs_made.specs.Made.{made_game}
 use Rattle.gs_made.specs.declared.kind.Kind.{Kind}
 use Rattle.gs_reply.specs.Replies.{OfReading, Reply, Prints}
+use Rattle.gs_strategy.specs.Checks.{ReadResult, Reads}
+use Rattle.gs_strategy.specs.Confirmed.{IsConfirmed}
+use Rattle.gs_strategy.specs.Texts.{strategy_text}
+use Rattle.gs_strategy.specs.Values.{Strategy}
+use Rattle.gs_strategy.proofs.Only.{found}
+use Rattle.gs_text.specs.VerdictText.{verdict_text}
 use Rattle.gs_words.specs.Requests.{request_of}
-use Rattle.gs_words.specs.Tasks.{Task, Shrink, Check, Make}
-use Rattle.shrink_cli.specs.Promises.{ChecksWell, IsMade, MakesWell, ShrinksWell}
-use Rattle.shrink_cli.specs.Running.{Ends, IsAnswered, RunsTo}
+use Rattle.gs_words.specs.Tasks.{Task, Shrink, Check, Make, Evaluate, Query, Upgrade}
+use Rattle.shrink_cli.specs.Promises.{ChecksWell, EvaluatesWell, IsMade, MakesWell, OfConfirmed, PrintsSo, QueriesWell, ShrinksWell, UpgradesWell}
+use Rattle.shrink_cli.specs.Running.{Ends, Inputs, IsAnswered, RunsTo}
 use Rattle.shrink_cli.specs.declared.status.Status.{Status}
 use Rattle.shrink_cli.specs.declared.status.Status.TheVariants as status
 
@@ -52,3 +62,58 @@ pub makes : (words : List (List ℕ)) (old new : Ends) (s : Status) → RunsTo w
 makes words old new s runs kind ranks suits cap summary asked e =
     let p = printed words old new s (Make kind ranks suits cap summary) runs asked e in
     (p.1.input.1, (p.0, p.2, is_made kind ranks suits cap summary p.0 p.1.says))
+
+-- ---- strategy files
+
+-- a text is said of a strategy that is confirmed
+confirmed : (says : Strategy → Reply → Type 0) (tells : Strategy → List ℕ → Type 0) (bytes text : List ℕ) (read : ReadResult) → ((t : Strategy) → says t (Prints text) → tells t text) → Reads bytes read
+    → OfRead (SaysConfirmed says) read (Prints text) → OfConfirmed tells bytes text
+confirmed says tells bytes text (Ok t) told reads (inl h) = record {
+  strategy = t;
+  accepted = reads;
+  written = found bytes t reads;
+  confirmed = h.0;
+  on_raw_cards = h.0.numbers.verdict;
+  said = told t h.1;
+}
+confirmed says tells bytes text (Ok t) told reads (inr h) = let bad = h.2 in cc
+confirmed says tells bytes text (Err why) told reads h = cc
+
+-- what is printed of a strategy file is said of its strategy
+of_strategy : (task : Task) (says : Strategy → Reply → Type 0) (tells : Strategy → List ℕ → Type 0) (old new : Ends) → ((t : Strategy) (text : List ℕ) → says t (Prints text) → tells t text)
+    → ((text bytes : List ℕ) → Asks task bytes (Prints text) → OfStrategy (SaysConfirmed says) bytes (Prints text)) → reads task ≡ true → IsPrinted task old new → PrintsSo (OfConfirmed tells) old new
+of_strategy task says tells old new told asks r p =
+    let said = asks p.0 p.1.bytes p.1.says in
+    record {
+      bytes = p.1.bytes;
+      read = subst (λ (b : Bool). Inputs b old new p.1.bytes) r p.1.input;
+      text = p.0;
+      printed = p.2;
+      said = confirmed says tells p.1.bytes p.0 said.read (λ t. told t p.0) said.reads said.said;
+    }
+
+number_lines : (t : Strategy) (text : List ℕ) → SaysNumbers t (Prints text) → text ≡ verdict_text t.numbers
+number_lines t text h = cc
+
+pub evaluates : (words : List (List ℕ)) (old new : Ends) (s : Status) → RunsTo words old new s → EvaluatesWell words old new s
+evaluates words old new s runs asked e =
+    of_strategy Evaluate SaysNumbers (λ t text. text ≡ verdict_text t.numbers) old new number_lines (λ text bytes h. h) refl (printed words old new s Evaluate runs asked e)
+
+upgraded : (t : Strategy) (text : List ℕ) → SaysUpgraded t (Prints text) → text ≡ strategy_text Two t
+upgraded t text h = cc
+
+pub upgrades : (words : List (List ℕ)) (old new : Ends) (s : Status) → RunsTo words old new s → UpgradesWell words old new s
+upgrades words old new s runs asked e =
+    of_strategy Upgrade SaysUpgraded (λ t text. text ≡ strategy_text Two t) old new upgraded (λ text bytes h. h) refl (printed words old new s Upgrade runs asked e)
+
+same_text : (one two : List ℕ) → Prints one ≡ Prints two → two ≡ one
+same_text one two e = cc
+
+queried : (player : ℕ) (line signal : List ℕ) (t : Strategy) (text : List ℕ) → SaysQueried player line signal t (Prints text) → IsQueried t player line signal text
+queried player line signal t text (inl h) = subst (λ (x : List ℕ). IsQueried t player line signal x) (same_text text h.0 h.2) h.1
+queried player line signal t text (inr h) = let bad = h.2 in cc
+
+pub queries : (words : List (List ℕ)) (old new : Ends) (s : Status) → RunsTo words old new s → QueriesWell words old new s
+queries words old new s runs player line signal asked e =
+    of_strategy (Query player line signal) (SaysQueried player line signal) (λ t text. IsQueried t player line signal text) old new (queried player line signal) (λ text bytes h. h) refl
+    (printed words old new s (Query player line signal) runs asked e)

@@ -2,7 +2,11 @@
 use Rattle.std.specs.Prelude.{◌≡◌, ◌⊎◌, ℕ, ◌≤◌, List, Bool, length, Some, Ok, true, false}
 use Rattle.std.specs.Io.KnownBytes.{Appends}
 use Rattle.gs_answer.specs.Asking.{Asks, reads}
+use Rattle.gs_confirm.specs.Commands.{OfConfirmed as SaysConfirmed, SaysNumbers, SaysQueried, SaysUpgraded}
+use Rattle.gs_confirm.specs.Queries.{IsQueried}
 use Rattle.gs_file.specs.Reading.{FileGame, read_at, rules_of}
+use Rattle.gs_file.specs.declared.version.Version.{Version}
+use Rattle.gs_file.specs.declared.version.Version.TheVariants.{Two}
 use Rattle.gs_group.specs.Checking.{IsChecked}
 use Rattle.gs_group.specs.Shrinking.{IsShrunk}
 use Rattle.gs_io.specs.Causes.{Rose}
@@ -12,10 +16,17 @@ use Rattle.gs_model.specs.Classes.{ClassLists}
 use Rattle.gs_model.specs.Frame.{frame_of}
 use Rattle.gs_model.specs.Lossless.{IsLossless}
 use Rattle.gs_model.specs.SignalClasses.{IsSignalClasses}
+use Rattle.gs_model.specs.Verdict.{IsVerdict}
 use Rattle.gs_reply.specs.Refusals.{Refusal, cause_of}
 use Rattle.gs_reply.specs.Replies.{Reply, Prints, Refuses}
+use Rattle.gs_strategy.specs.Checks.{Reads}
+use Rattle.gs_strategy.specs.Confirmed.{IsConfirmed, over, raw_plan}
+use Rattle.gs_strategy.specs.Laws.{IsStrategy, IsTextOf}
+use Rattle.gs_strategy.specs.Texts.{strategy_text}
+use Rattle.gs_strategy.specs.Values.{Strategy, frame_in}
+use Rattle.gs_text.specs.VerdictText.{verdict_text}
 use Rattle.gs_words.specs.Requests.{request_of}
-use Rattle.gs_words.specs.Tasks.{Task, Shrink, Check, Make}
+use Rattle.gs_words.specs.Tasks.{Task, Shrink, Check, Make, Evaluate, Query, Upgrade}
 use Rattle.gs_words.specs.declared.request.Grouping.{Grouping}
 use Rattle.gs_words.specs.declared.request.Grouping.TheVariants.{Isomorphism}
 use Rattle.shrink_cli.specs.Running.{Ends, ReadsWhole, RunsTo, Unread, most_bytes}
@@ -57,6 +68,31 @@ MakesWell words old new s =
     (kind : Kind) (ranks suits cap : ℕ) (summary : Bool) → request_of words ≡ Some (Make kind ranks suits cap summary) → s ≡ status.Ok
     → Unread old new × ((text : List ℕ) × Appends old.given new.given text × IsMade kind ranks suits cap summary text)
 
+-- The bytes are the text, in version 1 or 2, of a strategy that passes all checks of a strategy file. Its classes are lossless, and its three numbers
+-- are the value of its two plans over raw cards and their gaps: no strategy of a player, using any raw cards, gains more than the gap that is stated for
+-- him, and some strategy gains it. Further this is said of the strategy and of the text.
+pub record OfConfirmed (says : Strategy → List ℕ → Type 0) (bytes text : List ℕ) : Type 0 where
+  pub strategy : Strategy
+  pub accepted : Reads bytes (Ok strategy)
+  pub written : IsTextOf bytes strategy
+  pub confirmed : IsConfirmed strategy
+  pub on_raw_cards : IsVerdict (frame_in strategy.game) (raw_plan strategy strategy.one) (raw_plan strategy strategy.two) (over strategy.numbers.value) (over strategy.numbers.gap1)
+      (over strategy.numbers.gap2)
+  pub said : says strategy text
+
+-- what `evaluate` prints: the three lines of the numbers
+abbrev pub EvaluatesWell : List (List ℕ) → Ends → Ends → Status → Type 0
+EvaluatesWell words old new s = request_of words ≡ Some Evaluate → s ≡ status.Ok → PrintsSo (OfConfirmed (λ t text. text ≡ verdict_text t.numbers)) old new
+
+-- what `query` prints: the player's mixture at the point and the raw signal that the words name, and his gap
+abbrev pub QueriesWell : List (List ℕ) → Ends → Ends → Status → Type 0
+QueriesWell words old new s =
+    (player : ℕ) (line signal : List ℕ) → request_of words ≡ Some (Query player line signal) → s ≡ status.Ok → PrintsSo (OfConfirmed (λ t text. IsQueried t player line signal text)) old new
+
+-- what `upgrade` prints: the text in version 2
+abbrev pub UpgradesWell : List (List ℕ) → Ends → Ends → Status → Type 0
+UpgradesWell words old new s = request_of words ≡ Some Upgrade → s ≡ status.Ok → PrintsSo (OfConfirmed (λ t text. text ≡ strategy_text Two t)) old new
+
 -- ---- how a run ends where nothing outside fails
 
 -- no read and no write to the output failed, and neither count stands at its last value
@@ -80,16 +116,25 @@ pub record AreUnlike (g : FileGame) : Type 0 where
   pub are : IsSignalClasses (rules_of g) classes
   pub not_lossless : IsLossless (frame_of (rules_of g)) classes → ⊥
 
--- the status of a task over an accepted game: well, or without memory; a check of the signal classes may refuse them
-abbrev pub IsEnd : Task → FileGame → Status → Type 0
-IsEnd (Check Isomorphism summary) g s = (s ≡ status.Ok) ⊎ ((s ≡ status.Memory) ⊎ ((s ≡ status.Unlike) × AreUnlike g))
-IsEnd _ g s = (s ≡ status.Ok) ⊎ (s ≡ status.Memory)
+-- over an accepted game file, which is not too long, a task ends so
+abbrev pub CompletesGame : Task → (FileGame → Status → Type 0) → List (List ℕ) → Ends → Ends → Status → Type 0
+CompletesGame task ends words old new s =
+    (bytes : List ℕ) (g : FileGame) → request_of words ≡ Some task → old.left ≡ Some bytes → length bytes ≤ most_bytes → read_at bytes ≡ Ok g → NothingFailed old new
+    → ends g s
 
--- a task that reads an accepted game file, which is not too long, ends so
-abbrev pub CompletesGames : List (List ℕ) → Ends → Ends → Status → Type 0
-CompletesGames words old new s =
-    (task : Task) (bytes : List ℕ) (g : FileGame) → request_of words ≡ Some task → reads task ≡ true → old.left ≡ Some bytes → length bytes ≤ most_bytes
-    → read_at bytes ≡ Ok g → NothingFailed old new → IsEnd task g s
+-- well, or without memory
+abbrev pub EndsWell : Status → Type 0
+EndsWell s = (s ≡ status.Ok) ⊎ (s ≡ status.Memory)
+
+-- the same, or at the refusal of signal classes that are not lossless
+abbrev pub EndsChecked : Grouping → FileGame → Status → Type 0
+EndsChecked grouping g s = (s ≡ status.Ok) ⊎ ((s ≡ status.Memory) ⊎ ((s ≡ status.Unlike) × (grouping ≡ Isomorphism) × AreUnlike g))
+
+-- over the text of a strategy, which is not too long, a task ends well, without memory, or at the exact place of a refusal
+abbrev pub CompletesStrategy : Task → (Strategy → Reply → Type 0) → List (List ℕ) → Ends → Ends → Status → Type 0
+CompletesStrategy task says words old new s =
+    (version : Version) (t : Strategy) → request_of words ≡ Some task → IsStrategy version t → old.left ≡ Some (strategy_text version t)
+    → length (strategy_text version t) ≤ most_bytes → NothingFailed old new → EndsSo (SaysConfirmed says t) s
 
 -- a task that reads nothing ends so as it says, whatever the source is
 abbrev pub MakesAtLast : List (List ℕ) → Ends → Ends → Status → Type 0
@@ -100,7 +145,7 @@ MakesAtLast words old new s =
 abbrev pub FilesAtLast : List (List ℕ) → Ends → Ends → Status → Type 0
 FilesAtLast words old new s =
     (kind : Kind) (ranks suits cap : ℕ) → request_of words ≡ Some (Make kind ranks suits cap false) → (Rose old.write_faults new.write_faults → ⊥)
-    → (s ≡ status.Ok) ⊎ (s ≡ status.Memory)
+    → EndsWell s
 
 -- ---- all of it
 
@@ -112,8 +157,15 @@ pub record Keeps (words : List (List ℕ)) (old new : Ends) (s : Status) : Type 
   pub shrinks : ShrinksWell words old new s
   pub checks : ChecksWell words old new s
   pub makes : MakesWell words old new s
+  pub evaluates : EvaluatesWell words old new s
+  pub queries : QueriesWell words old new s
+  pub upgrades : UpgradesWell words old new s
   -- with no fault of the outside
   pub completes : Completes words old new s
-  pub completes_games : CompletesGames words old new s
+  pub shrinks_at_last : (summary : Bool) → CompletesGame (Shrink summary) (λ _ t. EndsWell t) words old new s
+  pub checks_at_last : (grouping : Grouping) (summary : Bool) → CompletesGame (Check grouping summary) (EndsChecked grouping) words old new s
+  pub evaluates_at_last : CompletesStrategy Evaluate SaysNumbers words old new s
+  pub queries_at_last : (player : ℕ) (line signal : List ℕ) → CompletesStrategy (Query player line signal) (SaysQueried player line signal) words old new s
+  pub upgrades_at_last : CompletesStrategy Upgrade SaysUpgraded words old new s
   pub makes_at_last : MakesAtLast words old new s
   pub files_at_last : FilesAtLast words old new s

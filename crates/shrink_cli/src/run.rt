@@ -38,7 +38,7 @@ pub(crate) fn refuse_words<E: Sink>(err: &mut E) -> Status
     ensures status { result ≡ status.Usage }
     ensures told { TellsTo (E.given err.old) (E.faults err.old) (E.given err.new) (E.faults err.new) usage_line }
 {
-    let usage = "usage: gameshrink shrink, check or make\n";
+    let usage = "usage: gameshrink shrink, check, evaluate, query, make or upgrade\n";
     refuse(err, Status::Usage, usage)
 }
 
@@ -52,7 +52,7 @@ pub(crate) fn out_of_memory<E: Sink>(err: &mut E) -> Status
 
 // The bytes of the input that a request reads; none where it reads none.
 fn input<S: Source>(alloc: Global, source: &mut S, request: Request) -> Result<Vec<u8>, ReadStop>
-    ensures { ReadsInput (reads (task_of request)) (S.left source.old) (S.left source.new) (S.faults source.old) (S.faults source.new) result }
+    ensures { ReadsInput (reads (task_of request.entry)) (S.left source.old) (S.left source.new) (S.faults source.old) (S.faults source.new) result }
 {
     if reads_input(request) {
         read_all(alloc, source, MOST_BYTES)

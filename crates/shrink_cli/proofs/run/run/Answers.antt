@@ -1,6 +1,6 @@
 use Rattle.std.proofs.Common.{ℕ, List, map, string_bytes}
-use Rattle.shrink_cli.proofs.Completed.{completes, completes_games, files_at_last, makes_at_last}
-use Rattle.shrink_cli.proofs.Promised.{checks, makes, shrinks}
+use Rattle.shrink_cli.proofs.Completed.{checks_at_last, completes, evaluates_at_last, files_at_last, makes_at_last, queries_at_last, shrinks_at_last, upgrades_at_last}
+use Rattle.shrink_cli.proofs.Promised.{checks, evaluates, makes, queries, shrinks, upgrades}
 use Rattle.shrink_cli.specs.Promises.{Keeps}
 use Rattle.shrink_cli.specs.Running.{Ends, RunsTo}
 use Rattle.shrink_cli.specs.declared.status.Status.{Status}
@@ -13,8 +13,15 @@ kept words old new s h = record {
   shrinks = shrinks words old new s h;
   checks = checks words old new s h;
   makes = makes words old new s h;
+  evaluates = evaluates words old new s h;
+  queries = queries words old new s h;
+  upgrades = upgrades words old new s h;
   completes = completes words old new s h;
-  completes_games = completes_games words old new s h;
+  shrinks_at_last = shrinks_at_last words old new s h;
+  checks_at_last = checks_at_last words old new s h;
+  evaluates_at_last = evaluates_at_last words old new s h;
+  queries_at_last = queries_at_last words old new s h;
+  upgrades_at_last = upgrades_at_last words old new s h;
   makes_at_last = makes_at_last words old new s h;
   files_at_last = files_at_last words old new s h;
 }
