@@ -8,3 +8,4 @@ mod numbers;
 mod saying;
 
 pub use commands::{evaluate_answer, query_answer, upgrade_answer};
+pub use numbers::{Wrong, first_wrong};

@@ -1,0 +1,37 @@
+-- What a certificate says of a strategy, and what `certify` prints.
+use Rattle.std.specs.Prelude.{◌≡◌, List, ◌++◌, ℕ}
+use Rattle.gs_best.specs.Answers.{AreBestValues}
+use Rattle.gs_certificate.specs.Checks.{AreSmall, IsSound}
+use Rattle.gs_certificate.specs.Promises.{AreReached, BoundsAll}
+use Rattle.gs_certificate.specs.Texts.{certificate_text}
+use Rattle.gs_certificate.specs.Views.{certificate_view}
+use Rattle.gs_certificate.specs.declared.certificate.Certificate.{Certificate}
+use Rattle.gs_confirm.specs.Commands.{OfConfirmed, OfStrategy}
+use Rattle.gs_file.specs.declared.version.Version.TheVariants.{Two}
+use Rattle.gs_reply.specs.Replies.{Reply, Prints}
+use Rattle.gs_strategy.specs.Confirmed.{frame_of, raw_plan}
+use Rattle.gs_strategy.specs.Texts.{strategy_text}
+use Rattle.gs_strategy.specs.Values.{Strategy}
+
+-- the certificate holds of the strategy's plans, with numbers below 2^90 in size; so each bound holds of all raw plans: none of the player, using any
+-- raw cards, is paid more against the other's plan
+pub record IsCertificateOf (s : Strategy) (c : Certificate) : Type 0 where
+  pub small : AreSmall c
+  pub sound : IsSound (frame_of s) s.classes (raw_plan s s.one) (raw_plan s s.two) c
+  pub bounds : BoundsAll (frame_of s) (raw_plan s s.one) (raw_plan s s.two) c
+
+-- the strategy's text in version 2, and behind it the text of the certificate of both players' best values, whose bounds are reached by raw plans
+pub record IsCertified (s : Strategy) (text : List ℕ) : Type 0 where
+  pub certificate : Certificate
+  pub holds : IsCertificateOf s certificate
+  pub first : AreBestValues (frame_of s) s.classes 1 (raw_plan s s.two) certificate.values1.items
+  pub second : AreBestValues (frame_of s) s.classes 2 (raw_plan s s.one) certificate.values2.items
+  pub reached : AreReached (frame_of s) (raw_plan s s.one) (raw_plan s s.two) certificate
+  pub printed : text ≡ strategy_text Two s ++ certificate_text (certificate_view certificate)
+
+abbrev pub SaysCertified : Strategy → Reply → Type 0
+SaysCertified s reply = (text : List ℕ) × IsCertified s text × (reply ≡ Prints text)
+
+-- what `certify` says of the bytes of a strategy file
+abbrev pub Certifies : List ℕ → Reply → Type 0
+Certifies = OfStrategy (OfConfirmed SaysCertified)

@@ -1,0 +1,18 @@
+-- What each command says of a strategy that was read. Of private functions.
+use Rattle.gs_confirm.specs.Commands.{OfConfirmed}
+use Rattle.gs_reply.specs.Replies.{Reply}
+use Rattle.gs_strategy.specs.Values.{Strategy}
+use Rattle.gs_certificate.specs.Checks.{AreSmall}
+use Rattle.gs_certify.specs.Certificates.{SaysCertified}
+use Rattle.gs_certify.specs.Verifying.{SaysChecked}
+use Rattle.gs_certify.specs.declared.task.Task.{Task}
+use Rattle.gs_certify.specs.declared.task.Task.TheVariants.{Certify, Verify}
+
+abbrev pub says_of : Task → Strategy → Reply → Type 0
+says_of Certify s reply = OfConfirmed SaysCertified s reply
+says_of (Verify c) s reply = SaysChecked s c.now reply
+
+-- the numbers of a certificate that is to be checked are below 2^90 in size
+abbrev pub IsModest : Task → Type 0
+IsModest Certify = Unit {0}
+IsModest (Verify c) = AreSmall c.now

@@ -1,0 +1,75 @@
+-- What `verify` says of two lines: a strategy's text, and a certificate's. The numbers that the strategy states are not looked at.
+use Rattle.std.specs.Prelude.{◌≡◌, ◌⊎◌, ℕ, List, ◌++◌, Err, codes}
+use Rattle.gs_certificate.specs.Checks.{AreSmall, IsFault}
+use Rattle.gs_certificate.specs.FaultTexts.{cert_fault_text, cert_text_fault_text}
+use Rattle.gs_certificate.specs.Reading.{Reads}
+use Rattle.gs_certificate.specs.Texts.{Stated, certificate_text}
+use Rattle.gs_certificate.specs.Views.{certificate_view}
+use Rattle.gs_certificate.specs.declared.certificate.Certificate.{Certificate}
+use Rattle.gs_certificate.specs.declared.fault.CertFault.{CertFault}
+use Rattle.gs_certificate.specs.declared.text_fault.CertTextFault.{CertTextFault}
+use Rattle.gs_confirm.specs.Commands.{OfStrategy}
+use Rattle.gs_confirm.specs.Troubles.{IsTooLarge, IsUnlikePair}
+use Rattle.gs_frac.specs.Texts.{fraction_text}
+use Rattle.gs_json.specs.FirstLine.{first_line}
+use Rattle.gs_model.specs.Lossless.{IsLossless}
+use Rattle.gs_model.specs.Verdict.{IsValue}
+use Rattle.gs_reply.specs.Refusals.{Bad_certificate, Too_large, Unlike_pair}
+use Rattle.gs_reply.specs.Replies.{Reply, Prints, Refuses}
+use Rattle.gs_seq.specs.Stops.{IsSmall}
+use Rattle.gs_strategy.specs.Confirmed.{frame_of, over, raw_plan}
+use Rattle.gs_strategy.specs.Values.{IsFractionOf, Parts, Strategy}
+use Rattle.gs_certify.specs.Certificates.{IsCertificateOf}
+
+-- a line of words and a number
+abbrev pub number_line : List ℕ → Parts → List ℕ
+number_line words p = words ++ fraction_text p.0 p.1 ++ codes "\n"
+
+-- the value of the plans, and each player's bound
+abbrev pub bounds_text : Parts → Stated → List ℕ
+bounds_text value c = number_line (codes "value ") value ++ number_line (codes "player1 at most ") c.one.bound ++ number_line (codes "player2 at most ") c.two.bound
+
+-- the classes are lossless, the certificate holds of the plans, and these are their value and the bounds
+pub record IsVerified (s : Strategy) (c : Certificate) (text : List ℕ) : Type 0 where
+  pub lossless : IsLossless (frame_of s) s.classes
+  pub small : IsSmall (frame_of s) s.classes
+  pub holds : IsCertificateOf s c
+  pub value : Parts
+  pub fraction : IsFractionOf value
+  pub value_is : IsValue (frame_of s) (raw_plan s s.one) (raw_plan s s.two) (over value).0 (over value).1
+  pub printed : text ≡ bounds_text value (certificate_view c)
+
+-- the certificate does not hold, and this is the text of the first thing that is wrong with it
+pub record IsUnsound (s : Strategy) (c : Certificate) (text : List ℕ) : Type 0 where
+  pub lossless : IsLossless (frame_of s) s.classes
+  pub small : IsSmall (frame_of s) s.classes
+  pub why : CertFault
+  pub fault : IsFault (frame_of s) s.classes (raw_plan s s.one) (raw_plan s s.two) c why
+  pub told : text ≡ cert_fault_text why
+
+-- what is said of a strategy and a certificate
+abbrev pub SaysChecked : Strategy → Certificate → Reply → Type 0
+SaysChecked s c (Prints text) = IsVerified s c text
+SaysChecked s c (Refuses (Unlike_pair round one two)) = IsUnlikePair s round one two
+SaysChecked s c (Refuses (Too_large limit)) = IsTooLarge s limit
+SaysChecked s c (Refuses (Bad_certificate text)) = IsUnsound s c text
+SaysChecked s c (Refuses why) = ⊥
+
+-- the bytes are the text of a certificate with numbers below 2^90 in size
+pub record IsTextOf (bytes : List ℕ) (c : Certificate) : Type 0 where
+  pub text : bytes ≡ certificate_text (certificate_view c)
+  pub small : AreSmall c
+
+-- the bytes are no certificate's text, and this is the first fault
+pub record IsNoText (bytes : List ℕ) (reply : Reply) : Type 0 where
+  pub why : CertTextFault
+  pub reads : Reads bytes (Err why)
+  pub told : reply ≡ Refuses (Bad_certificate (cert_text_fault_text why))
+
+-- what is said of a strategy and the bytes of a certificate
+abbrev pub SaysVerified : List ℕ → Strategy → Reply → Type 0
+SaysVerified bytes s reply = IsNoText bytes reply ⊎ ((c : Certificate) × IsTextOf bytes c × SaysChecked s c reply)
+
+-- what `verify` says of two files: the bytes up to the first line feed with it, and those behind it
+abbrev pub Verifies : List ℕ → Reply → Type 0
+Verifies bytes = OfStrategy (SaysVerified (first_line bytes).1) (first_line bytes).0

@@ -1,0 +1,36 @@
+//! The text that `certify` prints.
+
+ghost use Rattle.std.specs.Prelude.{◌≡◌, IfOk};
+ghost use Rattle.gs_confirm.specs.Held.{Holds};
+ghost use Rattle.gs_strategy.specs.Views.{stored_view};
+ghost use Rattle.gs_certify.specs.Certificates.{IsCertified};
+
+use gs_best::round_total;
+use gs_certificate::{certificate_text, make_certificate};
+use gs_seq::Abstract;
+use gs_strategy::{Stored, write_strategy};
+use std::alloc::{AllocError, Global};
+
+/// A strategy's text in version 2, and behind it the text of its certificate.
+pub(crate) fn certified_text(
+    alloc: Global,
+    stored: &Stored,
+    form: &Abstract,
+) -> Result<Vec<u8>, AllocError>
+    requires { Holds form.now.lossless.now stored.now }
+    ensures { IfOk result (λ text. IsCertified (stored_view stored.now) text.items) }
+{
+    let _rounds = round_total(form);
+    let c = make_certificate(alloc, form, &stored.one, &stored.two)?;
+    let line = certificate_text(alloc, &c)?;
+    let mut text = write_strategy(
+        alloc,
+        &stored.game,
+        &stored.classes,
+        &stored.one,
+        &stored.two,
+        &stored.verdict,
+    )?;
+    text.extend_from_slice(&line)?;
+    Ok(text)
+}

@@ -1,0 +1,10 @@
+//! What is asked of a strategy.
+
+use gs_certificate::Certificate;
+
+/// What a command asks of a strategy: its certificate, or whether a certificate holds.
+#[derive(Clone, Copy)]
+pub(crate) enum Task<'c> {
+    Certify,
+    Verify(&'c Certificate),
+}

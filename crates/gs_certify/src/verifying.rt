@@ -1,0 +1,87 @@
+//! A certificate beside the plans of a strategy.
+
+ghost use Rattle.std.specs.Prelude.{◌≡◌, ◌++◌, IfOk, OnOk, string_bytes};
+ghost use Rattle.gs_certificate.specs.Checks.{AreSmall};
+ghost use Rattle.gs_certificate.specs.FaultTexts.{cert_fault_text as text_of_fault, cert_text_fault_text as text_of_text_fault};
+ghost use Rattle.gs_certificate.specs.Views.{certificate_view};
+ghost use Rattle.gs_confirm.specs.Held.{Holds};
+ghost use Rattle.gs_model.specs.Lossless.{IsLossless};
+ghost use Rattle.gs_reply.specs.Refusals.{Bad_certificate};
+ghost use Rattle.gs_reply.specs.Replies.{Answers, Tells};
+ghost use Rattle.gs_seq.specs.Stops.{IsSmall};
+ghost use Rattle.gs_strategy.specs.Confirmed.{frame_of};
+ghost use Rattle.gs_strategy.specs.Views.{parts_of, stored_view};
+ghost use Rattle.gs_certify.specs.Verifying.{SaysChecked, bounds_text as text_of_bounds, number_line};
+
+use crate::value::value_of;
+use gs_certificate::{
+    CertFault, CertTextFault, Certificate, cert_fault_text, cert_text_fault_text, check_certificate,
+};
+use gs_frac::Fraction;
+use gs_reply::{Answer, bad_certificate};
+use gs_seq::Abstract;
+use gs_strategy::Stored;
+use std::alloc::{AllocError, Global};
+
+// Adds a line of words and a number.
+fn push_line(
+    text: &mut String,
+    alloc: Global,
+    words: &str,
+    number: &Fraction,
+) -> Result<(), AllocError>
+    ensures { OnOk result (string_bytes text.new ≡ string_bytes text.old ++ number_line words.now (parts_of number.now)) }
+{
+    text.push_str(words)?;
+    text.push_str(number.to_text(alloc)?.as_str())?;
+    text.push_str("\n")
+}
+
+// The value of two plans, and each player's bound.
+fn bounds_text(alloc: Global, value: &Fraction, c: &Certificate) -> Result<Vec<u8>, AllocError>
+    ensures { IfOk result (λ text. text.items ≡ text_of_bounds (parts_of value.now) (certificate_view c.now)) }
+{
+    let mut text = String::new(alloc);
+    push_line(&mut text, alloc, "value ", value)?;
+    push_line(&mut text, alloc, "player1 at most ", &c.bound1)?;
+    push_line(&mut text, alloc, "player2 at most ", &c.bound2)?;
+    Ok(text.into_bytes())
+}
+
+// The refusal of a certificate that does not hold.
+fn unsound(alloc: Global, fault: &CertFault) -> Result<Answer, AllocError>
+    ensures { IfOk result (λ a. Tells a (Bad_certificate (text_of_fault fault.now))) }
+{
+    let why = cert_fault_text(alloc, fault)?;
+    bad_certificate(alloc, &why)
+}
+
+/// The refusal of bytes that are no certificate's text.
+pub(crate) fn no_text(alloc: Global, fault: &CertTextFault) -> Result<Answer, AllocError>
+    ensures { IfOk result (λ a. Tells a (Bad_certificate (text_of_text_fault fault.now))) }
+{
+    let why = cert_text_fault_text(alloc, fault)?;
+    bad_certificate(alloc, &why)
+}
+
+/// The value of a strategy's plans and the bounds of a certificate, where it holds; or the first thing that is wrong with it.
+pub(crate) fn checked(
+    alloc: Global,
+    stored: &Stored,
+    form: &Abstract,
+    c: &Certificate,
+) -> Result<Answer, AllocError>
+    requires held { Holds form.now.lossless.now stored.now }
+    requires lossless { IsLossless (frame_of (stored_view stored.now)) stored.now.classes.lists }
+    requires small { IsSmall (frame_of (stored_view stored.now)) stored.now.classes.lists }
+    requires modest { AreSmall c.now }
+    ensures { IfOk result (Answers (SaysChecked (stored_view stored.now) c.now)) }
+{
+    match check_certificate(form, &stored.one, &stored.two, c) {
+        Some(fault) => unsound(alloc, &fault),
+        None => {
+            let value = value_of(form, &stored.one, &stored.two);
+            Ok(Answer::Prints(bounds_text(alloc, &value, c)?))
+        }
+    }
+}
