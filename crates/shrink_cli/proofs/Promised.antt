@@ -21,7 +21,7 @@ use Rattle.gs_strategy.proofs.Only.{found}
 use Rattle.gs_text.specs.VerdictText.{verdict_text}
 use Rattle.gs_words.specs.Requests.{request_of}
 use Rattle.gs_words.specs.Tasks.{Task, Shrink, Check, Make, Evaluate, Query, Upgrade}
-use Rattle.shrink_cli.specs.Promises.{ChecksWell, EvaluatesWell, IsMade, MakesWell, OfConfirmed, PrintsSo, QueriesWell, ShrinksWell, UpgradesWell}
+use Rattle.shrink_cli.specs.Promises.{ChecksWell, EvaluatesWell, IsMade, MakesWell, OfConfirmed, PrintsSo, PrintsWell, QueriesWell, ShrinksWell, UpgradesWell}
 use Rattle.shrink_cli.specs.Running.{Ends, Inputs, IsAnswered, RunsTo}
 use Rattle.shrink_cli.specs.declared.status.Status.{Status}
 use Rattle.shrink_cli.specs.declared.status.Status.TheVariants as status
@@ -38,6 +38,11 @@ pub printed : (words : List (List ℕ)) (old new : Ends) (s : Status) (task : Ta
 printed words old new s task runs asked e =
     let h : RunsTo words old new status.Ok = subst (RunsTo words old new) e runs in
     subst (λ (t : Task). IsPrinted t old new) (same_task words h.0 task h.1 asked) h.2.0
+
+pub prints : (words : List (List ℕ)) (old new : Ends) (s : Status) → RunsTo words old new s → PrintsWell words old new s
+prints words old new s runs task asked r e =
+    let p = printed words old new s task runs asked e in
+    record { bytes = p.1.bytes; read = subst (λ (b : Bool). Inputs b old new p.1.bytes) r p.1.input; text = p.0; printed = p.2; said = p.1.says }
 
 -- what is said of a text was said of a game that was read
 pub of_reading : (says : FileGame → Reply → Type 0) (read : Result FileGame Fault) (text : List ℕ) → OfReading says read (Prints text) → (g : FileGame) × (read ≡ Ok g) × says g (Prints text)

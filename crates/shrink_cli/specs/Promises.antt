@@ -44,6 +44,11 @@ pub record PrintsSo (says : List ℕ → List ℕ → Type 0) (old new : Ends) :
   pub printed : Appends old.given new.given text
   pub said : says bytes text
 
+-- every command that reads printed a text that its definition says of the bytes
+abbrev pub PrintsWell : List (List ℕ) → Ends → Ends → Status → Type 0
+PrintsWell words old new s =
+    (task : Task) → request_of words ≡ Some task → reads task ≡ true → s ≡ status.Ok → PrintsSo (λ bytes text. Asks task bytes (Prints text)) old new
+
 -- the bytes are an accepted game file, and this is said of its game and of the text
 abbrev pub OfGame : (FileGame → List ℕ → Type 0) → List ℕ → List ℕ → Type 0
 OfGame says bytes text = (g : FileGame) × (read_at bytes ≡ Ok g) × says g text
@@ -154,6 +159,7 @@ pub record Keeps (words : List (List ℕ)) (old new : Ends) (s : Status) : Type 
   -- each status says what went to the three ends, and why
   pub runs : RunsTo words old new s
   -- at status 0
+  pub prints : PrintsWell words old new s
   pub shrinks : ShrinksWell words old new s
   pub checks : ChecksWell words old new s
   pub makes : MakesWell words old new s

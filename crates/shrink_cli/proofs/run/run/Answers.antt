@@ -1,6 +1,6 @@
 use Rattle.std.proofs.Common.{ℕ, List, map, string_bytes}
 use Rattle.shrink_cli.proofs.Completed.{checks_at_last, completes, evaluates_at_last, files_at_last, makes_at_last, queries_at_last, shrinks_at_last, upgrades_at_last}
-use Rattle.shrink_cli.proofs.Promised.{checks, evaluates, makes, queries, shrinks, upgrades}
+use Rattle.shrink_cli.proofs.Promised.{checks, evaluates, makes, prints, queries, shrinks, upgrades}
 use Rattle.shrink_cli.specs.Promises.{Keeps}
 use Rattle.shrink_cli.specs.Running.{Ends, RunsTo}
 use Rattle.shrink_cli.specs.declared.status.Status.{Status}
@@ -10,6 +10,7 @@ use Rattle.shrink_cli.proofs.run.run.Goals as goal
 kept : (words : List (List ℕ)) (old new : Ends) (s : Status) → RunsTo words old new s → Keeps words old new s
 kept words old new s h = record {
   runs = h;
+  prints = prints words old new s h;
   shrinks = shrinks words old new s h;
   checks = checks words old new s h;
   makes = makes words old new s h;
