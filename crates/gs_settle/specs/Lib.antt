@@ -1,0 +1,6 @@
+pub mod Settling
+pub mod Texts
+pub mod Playing
+pub mod Solving
+pub mod Paths
+pub mod Tasks

@@ -1,0 +1,46 @@
+-- What `path` says of a game over classes.
+use Rattle.std.specs.Prelude.{◌≡◌, ℕ, ◌+◌, List, [], ◌∷◌, ◌++◌, codes}
+use Rattle.std.specs.Fmt.{decimal}
+use Rattle.gs_file.specs.Reading.{FileGame}
+use Rattle.gs_frac.specs.Texts.{fraction_text}
+use Rattle.gs_frac.specs.declared.value.Fraction.{Fraction}
+use Rattle.gs_model.specs.Classes.{ClassLists}
+use Rattle.gs_reply.specs.Replies.{Reply, Prints, Refuses}
+use Rattle.gs_rows.specs.Program.{Listing}
+use Rattle.gs_rows.specs.declared.Program.{Program}
+use Rattle.gs_simplex.specs.Trace.{IsTrace}
+use Rattle.gs_simplex.specs.declared.answer.PathTrace.{PathTrace}
+use Rattle.gs_simplex.specs.declared.answer.Turn.{Turn}
+use Rattle.gs_solve.specs.Solutions.{IsGamePath, most_pivots}
+use Rattle.gs_strategy.specs.Values.{frame_in}
+use Rattle.gs_settle.specs.Solving.{SaysStopped}
+
+-- the line of a pivot: its number, the column that enters, and the one that leaves
+abbrev pub turn_line : ℕ → Turn → List ℕ
+turn_line number turn = decimal number ++ codes " enters " ++ decimal turn.enter ++ codes " leaves " ++ decimal turn.leave ++ codes "\n"
+
+-- the lines of pivots, after so many
+abbrev pub turn_lines : ℕ → List Turn → List ℕ
+turn_lines before [] = []
+turn_lines before (turn ∷ turns) = turn_line (before + 1) turn ++ turn_lines (before + 1) turns
+
+-- the line of the aim's value, behind a word
+abbrev pub value_line : List ℕ → Fraction → List ℕ
+value_line word f = word ++ fraction_text f.num f.den ++ codes "\n"
+
+-- the lines of a path: the aim's value after the opening, each pivot, and the aim's value at the end
+abbrev pub path_text : PathTrace → List ℕ
+path_text t = value_line (codes "opening ") t.start ++ turn_lines 0 t.turns.items ++ value_line (codes "aim ") t.aim
+
+-- the lines of the path of the game's program
+pub record IsPathShown (g : FileGame) (lists : ClassLists) (text : List ℕ) : Type 0 where
+  pub program : Program
+  pub opening : Listing
+  pub path : IsGamePath (frame_in g) lists program opening
+  pub trace : PathTrace
+  pub shown : IsTrace program opening most_pivots trace
+  pub printed : text ≡ path_text trace
+
+abbrev pub ShowsPath : FileGame → ClassLists → Reply → Type 0
+ShowsPath g lists (Prints text) = IsPathShown g lists text
+ShowsPath g lists (Refuses why) = SaysStopped g lists why

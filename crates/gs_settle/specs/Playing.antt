@@ -1,0 +1,22 @@
+-- What `play` says of a game over classes.
+use Rattle.std.specs.Prelude.{ℕ, List}
+use Rattle.gs_file.specs.Reading.{FileGame}
+use Rattle.gs_model.specs.Classes.{ClassLists}
+use Rattle.gs_model.specs.Play.{IsFictitiousPlay}
+use Rattle.gs_reply.specs.Replies.{Reply, Prints, Refuses}
+use Rattle.gs_seq.specs.Plans.{class_plan}
+use Rattle.gs_seq.specs.declared.plan.Plan.{Plan}
+use Rattle.gs_strategy.specs.Values.{frame_in}
+use Rattle.gs_settle.specs.Texts.{IsTextOf}
+
+-- the strategy of both players' plans after so many turns of fictitious play
+pub record IsPlayed (turns : ℕ) (g : FileGame) (lists : ClassLists) (text : List ℕ) : Type 0 where
+  pub one : Plan
+  pub two : Plan
+  pub played : IsFictitiousPlay (frame_in g) lists turns (class_plan (frame_in g) lists one) (class_plan (frame_in g) lists two)
+  pub told : IsTextOf g lists one two text
+
+-- no game is refused
+abbrev pub Plays : ℕ → FileGame → ClassLists → Reply → Type 0
+Plays turns g lists (Prints text) = IsPlayed turns g lists text
+Plays turns g lists (Refuses why) = ⊥

@@ -1,0 +1,36 @@
+-- What `solve` says of a game over classes.
+use Rattle.std.specs.Prelude.{◌≡◌, ℕ, List, pos}
+use Rattle.gs_file.specs.Reading.{FileGame}
+use Rattle.gs_model.specs.Classes.{ClassLists}
+use Rattle.gs_reply.specs.Refusals.{Refusal, Overflows, At_step, At_total, Many_pivots, Too_large, Table_numbers}
+use Rattle.gs_reply.specs.Replies.{Reply, Prints, Refuses}
+use Rattle.gs_seq.specs.declared.plan.Plan.{Plan}
+use Rattle.gs_solve.specs.Solutions.{IsSolution, IsSolveStop}
+use Rattle.gs_solve.specs.declared.stop.SolveStop.TheVariants.{TableTooLarge, Wide, Pivots, Total}
+use Rattle.gs_strategy.specs.Values.{frame_in}
+use Rattle.gs_settle.specs.Texts.{IsTextOf}
+
+-- the strategy of two plans from which no raw plan of either player gains, read off the end of the path of the game's program: both gaps are 0 over 1
+pub record IsSolved (g : FileGame) (lists : ClassLists) (text : List ℕ) : Type 0 where
+  pub one : Plan
+  pub two : Plan
+  pub solution : IsSolution (frame_in g) lists one two
+  pub told : IsTextOf g lists one two text
+  pub gap1 : told.strategy.numbers.gap1 ≡ (pos 0, pos 1)
+  pub gap2 : told.strategy.numbers.gap2 ≡ (pos 0, pos 1)
+
+-- where the path of the game's program stops before its end, or the program's table has too many numbers
+abbrev pub SaysStopped : FileGame → ClassLists → Refusal → Type 0
+SaysStopped g lists (Too_large (Table_numbers count)) = IsSolveStop (frame_in g) lists (TableTooLarge count)
+SaysStopped g lists (Overflows (At_step step row column number)) = IsSolveStop (frame_in g) lists (Wide step row column number)
+SaysStopped g lists Many_pivots = IsSolveStop (frame_in g) lists Pivots
+SaysStopped g lists why = ⊥
+
+-- a solution is also refused where a plan's least total is too large
+abbrev pub SaysUnsolved : FileGame → ClassLists → Refusal → Type 0
+SaysUnsolved g lists (Overflows (At_total player multiple)) = IsSolveStop (frame_in g) lists (Total player multiple)
+SaysUnsolved g lists why = SaysStopped g lists why
+
+abbrev pub Solves : FileGame → ClassLists → Reply → Type 0
+Solves g lists (Prints text) = IsSolved g lists text
+Solves g lists (Refuses why) = SaysUnsolved g lists why

@@ -1,0 +1,53 @@
+//! The commands that settle a game: `play`, `solve` and `path`, from the bytes of a game file and a grouping of its signals to a strategy's text or to
+//! the lines of a path.
+#![tactic(auto)]
+
+mod lines;
+mod paths;
+mod playing;
+mod settling;
+mod solving;
+mod tasks;
+mod writing;
+
+ghost use Rattle.std.specs.Prelude.{◌≤◌, IfOk};
+ghost use Rattle.gs_reply.specs.Replies.{Answers};
+ghost use Rattle.gs_settle.specs.Paths.{ShowsPath};
+ghost use Rattle.gs_settle.specs.Playing.{Plays};
+ghost use Rattle.gs_settle.specs.Settling.{Settles};
+ghost use Rattle.gs_settle.specs.Solving.{Solves};
+
+use gs_reply::Answer;
+use gs_words::Grouping;
+use settling::settle;
+use std::alloc::{AllocError, Global};
+use tasks::Task;
+
+/// What `play` answers to the bytes of a game file: the text of the strategy of both players' plans after so many turns of fictitious play over the
+/// classes of a grouping; or why the file is refused.
+pub fn play_answer(
+    alloc: Global,
+    bytes: &[u8],
+    grouping: Grouping,
+    turns: u32,
+) -> Result<Answer, AllocError>
+    requires few { turns ≤ 1000000 }
+    ensures { IfOk result (Answers (Settles (Plays turns) grouping bytes.now)) }
+{
+    settle(alloc, bytes, grouping, Task::Play { turns })
+}
+
+/// What `solve` answers to the bytes of a game file: the text of a strategy over the classes of a grouping whose gaps are both 0; or why the file is
+/// refused.
+pub fn solve_answer(alloc: Global, bytes: &[u8], grouping: Grouping) -> Result<Answer, AllocError>
+    ensures { IfOk result (Answers (Settles Solves grouping bytes.now)) }
+{
+    settle(alloc, bytes, grouping, Task::Solve)
+}
+
+/// What `path` answers to the bytes of a game file: the lines of the path on which `solve` finds its strategy; or why the file is refused.
+pub fn path_answer(alloc: Global, bytes: &[u8], grouping: Grouping) -> Result<Answer, AllocError>
+    ensures { IfOk result (Answers (Settles ShowsPath grouping bytes.now)) }
+{
+    settle(alloc, bytes, grouping, Task::Path)
+}

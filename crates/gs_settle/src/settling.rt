@@ -1,0 +1,128 @@
+//! From the bytes of a game file to a game in sequence form over classes, and what is asked of it.
+
+ghost use Rattle.std.specs.Prelude.{◌≡◌, IfOk};
+ghost use Rattle.gs_file.specs.Views.{valid_view};
+ghost use Rattle.gs_filter.specs.Filter.{single_classes};
+ghost use Rattle.gs_group.specs.Checking.{IsGrouping};
+ghost use Rattle.gs_lossless.specs.Stops.{IsUnlike, IsUnlikeIn};
+ghost use Rattle.gs_model.specs.Frame.{frame_of};
+ghost use Rattle.gs_model.specs.Lossless.{IsLossless};
+ghost use Rattle.gs_reply.specs.Replies.{Answers};
+ghost use Rattle.gs_seq.specs.Abstracts.{frame_of as frame_by, lists_of};
+ghost use Rattle.gs_seq.specs.Games.{frame_in};
+ghost use Rattle.gs_seq.specs.Stops.{IsSmall, IsStopOf};
+ghost use Rattle.gs_settle.specs.Settling.{OfForm, OfGrouping, SaysLarge, SaysUnlike, Settles, game_in};
+ghost use Rattle.gs_settle.specs.Tasks.{IsFew, Says};
+ghost use Rattle.gs_tree.specs.Trees.{rules_of};
+
+use crate::paths::shown;
+use crate::playing::played;
+use crate::solving::solved;
+use crate::tasks::Task;
+use gs_file::{FileFault, read_game};
+use gs_filter::Classes;
+use gs_game::ValidGame;
+use gs_group::{classes_of, lossless_of};
+use gs_lossless::{CheckStop, Lossless};
+use gs_reply::{Answer, bad_game, many_cells, many_sequences, unlike};
+use gs_seq::{Abstract, SeqStop};
+use gs_tree::Signals;
+use gs_words::Grouping;
+use std::alloc::{AllocError, Global};
+
+// What is asked of a game in sequence form.
+fn over_form(alloc: Global, form: &Abstract, task: Task) -> Result<Answer, AllocError>
+    requires few { IsFew task }
+    requires small { IsSmall (frame_by form.now) (lists_of form.now) }
+    ensures { IfOk result (Answers (Says task (game_in form.now) (lists_of form.now))) }
+{
+    match task {
+        Task::Play { turns } => played(alloc, form, turns),
+        Task::Solve => solved(alloc, form),
+        Task::Path => shown(alloc, form),
+    }
+}
+
+// The refusal of a game that is too large.
+fn too_large(alloc: Global, lossless: &Lossless, stop: SeqStop) -> Result<Answer, AllocError>
+    requires { IsStopOf (frame_in lossless.now.signals.now.game.now) lossless.now.classes.now.lists stop }
+    ensures { IfOk result (Answers (SaysLarge (valid_view lossless.now.signals.now.game.now) lossless.now.classes.now.lists)) }
+{
+    match stop {
+        SeqStop::TooManySequences { player, count } => many_sequences(alloc, player, count),
+        SeqStop::TooManyCells { count } => many_cells(alloc, count),
+        SeqStop::Memory => Err(AllocError),
+    }
+}
+
+// What is asked of a game over lossless classes, or that it is too large.
+fn over_classes(alloc: Global, lossless: &Lossless, task: Task) -> Result<Answer, AllocError>
+    requires { IsFew task }
+    ensures { IfOk result (Answers (OfForm (Says task) (valid_view lossless.now.signals.now.game.now) lossless.now.classes.now.lists)) }
+{
+    match Abstract::of(alloc, lossless) {
+        Ok(form) => over_form(alloc, &form, task),
+        Err(stop) => too_large(alloc, lossless, stop),
+    }
+}
+
+// The refusal of classes that are not lossless.
+fn not_lossless(
+    alloc: Global,
+    signals: &Signals,
+    classes: &Classes,
+    grouping: Grouping,
+    stop: CheckStop,
+) -> Result<Answer, AllocError>
+    requires parents { classes.now.parents ≡ (frame_of (rules_of signals.now)).parents }
+    requires grouping { IsGrouping grouping (rules_of signals.now) classes.now.lists }
+    requires unlike { IsUnlikeIn (frame_of (rules_of signals.now)) classes.now.lists stop }
+    requires refuted { IsUnlike stop → IsLossless (frame_of (rules_of signals.now)) classes.now.lists → ⊥ }
+    requires single { IsUnlike stop → classes.now.lists ≡ single_classes classes.now.parents → ⊥ }
+    ensures { IfOk result (Answers (SaysUnlike grouping (valid_view signals.now.game.now))) }
+{
+    let _rounds = classes.rounds();
+    match stop {
+        CheckStop::Unlike { round, second, .. } => {
+            let first = classes.first(round, classes.class_of(round, second));
+            unlike(alloc, signals, round, first, second)
+        }
+        CheckStop::Memory => Err(AllocError),
+    }
+}
+
+// What is asked of a game over the classes of a grouping, or their first unlike pair.
+fn over_game(
+    alloc: Global,
+    game: &ValidGame,
+    grouping: Grouping,
+    task: Task,
+) -> Result<Answer, AllocError>
+    requires { IsFew task }
+    ensures { IfOk result (Answers (OfGrouping grouping (Says task) (valid_view game.now))) }
+{
+    let signals = Signals::of(alloc, game)?;
+    let classes = classes_of(alloc, &signals, grouping)?;
+    match lossless_of(alloc, &signals, &classes, grouping) {
+        Ok(lossless) => over_classes(alloc, &lossless, task),
+        Err(stop) => not_lossless(alloc, &signals, &classes, grouping, stop),
+    }
+}
+
+/// What is asked of the bytes of a game file over the classes of a grouping, or why they are refused.
+pub(crate) fn settle(
+    alloc: Global,
+    bytes: &[u8],
+    grouping: Grouping,
+    task: Task,
+) -> Result<Answer, AllocError>
+    requires { IsFew task }
+    ensures { IfOk result (Answers (Settles (Says task) grouping bytes.now)) }
+{
+    let game = match read_game(alloc, bytes) {
+        Ok(game) => game,
+        Err(FileFault::Memory) => return Err(AllocError),
+        Err(fault) => return bad_game(alloc, &fault),
+    };
+    over_game(alloc, &game, grouping, task)
+}

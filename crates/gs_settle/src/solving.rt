@@ -1,0 +1,46 @@
+//! The command `solve`.
+
+ghost use Rattle.std.specs.Prelude.{◌≡◌, ◌≢◌, IfOk};
+ghost use Rattle.gs_model.specs.Classes.{ClassLists};
+ghost use Rattle.gs_reply.specs.Replies.{Answers};
+ghost use Rattle.gs_seq.specs.Abstracts.{frame_of, lists_of};
+ghost use Rattle.gs_seq.specs.Stops.{IsSmall};
+ghost use Rattle.gs_settle.specs.Settling.{game_in};
+ghost use Rattle.gs_settle.specs.Solving.{Solves};
+ghost use Rattle.gs_solve.specs.Solutions.{IsSolveStop};
+
+use crate::writing::text_of;
+use gs_reply::{Answer, many_pivots, many_table_numbers, overflow_at_step, overflow_of_total};
+use gs_seq::Abstract;
+use gs_solve::{SolveStop, solve};
+use std::alloc::{AllocError, Global};
+
+/// The refusal of a game that is not solved.
+fn unsolved(alloc: Global, form: &Abstract, stop: SolveStop) -> Result<Answer, AllocError>
+    requires { IsSolveStop (frame_of form.now) (lists_of form.now) stop }
+    ensures { IfOk result (Answers (Solves (game_in form.now) (lists_of form.now))) }
+{
+    match stop {
+        SolveStop::TableTooLarge { count } => many_table_numbers(alloc, count),
+        SolveStop::Wide {
+            step,
+            row,
+            col,
+            number,
+        } => overflow_at_step(alloc, step, row, col, number),
+        SolveStop::Pivots => many_pivots(alloc),
+        SolveStop::Total { player, multiple } => overflow_of_total(alloc, player, multiple),
+        SolveStop::Memory => Err(AllocError),
+    }
+}
+
+/// The text of plans with no gaps.
+pub(crate) fn solved(alloc: Global, form: &Abstract) -> Result<Answer, AllocError>
+    requires { IsSmall (frame_of form.now) (lists_of form.now) }
+    ensures { IfOk result (Answers (Solves (game_in form.now) (lists_of form.now))) }
+{
+    match solve(alloc, form) {
+        Ok((one, two)) => Ok(Answer::Prints(text_of(alloc, form, &one, &two)?)),
+        Err(stop) => unsolved(alloc, form, stop),
+    }
+}

@@ -1,0 +1,34 @@
+//! The text of a strategy.
+
+ghost use Rattle.std.specs.Prelude.{IfOk};
+ghost use Rattle.gs_seq.specs.Abstracts.{frame_of, lists_of};
+ghost use Rattle.gs_seq.specs.Plans.{IsPlanOf};
+ghost use Rattle.gs_seq.specs.Stops.{IsSmall};
+ghost use Rattle.gs_settle.specs.Settling.{game_in};
+ghost use Rattle.gs_settle.specs.Texts.{IsTextOf};
+
+use gs_best::{Work, verdict};
+use gs_seq::{Abstract, Plan};
+use gs_strategy::write_strategy;
+use std::alloc::{AllocError, Global};
+
+/// The text of the strategy of a game, its classes and two plans, with the verdict on these plans.
+pub(crate) fn text_of(
+    alloc: Global,
+    form: &Abstract,
+    one: &Plan,
+    two: &Plan,
+) -> Result<Vec<u8>, AllocError>
+    requires small { IsSmall (frame_of form.now) (lists_of form.now) }
+    requires one { IsPlanOf (frame_of form.now) (lists_of form.now) 1 one.now }
+    requires two { IsPlanOf (frame_of form.now) (lists_of form.now) 2 two.now }
+    ensures { IfOk result (λ text. IsTextOf (game_in form.now) (lists_of form.now) one.now two.now text.items) }
+{
+    let lossless = form.lossless();
+    let signals = lossless.signals();
+    let classes = lossless.classes();
+    let _rounds = classes.rounds();
+    let mut work = Work::new(alloc, form)?;
+    let found = verdict(form, one, two, &mut work);
+    write_strategy(alloc, signals.game(), classes, one, two, &found)
+}
