@@ -1,0 +1,66 @@
+use Rattle.std.proofs.Common.{◌≡◌, ◌≤◌, ◌++◌, List, inl, sym, ap, ◌∙◌, subst}
+use Rattle.std.proofs.lemmas.Result.{IfOk-weaker}
+use Rattle.gs_card.specs.Decks.{DeckValue}
+use Rattle.gs_file.specs.Reading.{FileGame, rules_of as rules_in}
+use Rattle.gs_game.specs.Games.{game_of}
+use Rattle.gs_game.specs.declared.valid.ValidGame.{ValidGame}
+use Rattle.gs_model.specs.Frame.{Frame, frame_of as frame}
+use Rattle.gs_model.specs.Game.{Game}
+use Rattle.gs_raw.specs.Cells.{raw_cell_count}
+use Rattle.gs_reply.specs.Replies.{Prints}
+use Rattle.gs_seq.specs.Games.{frame_in}
+use Rattle.gs_seq.specs.Plans.{IsPlanOf}
+use Rattle.gs_strategy.specs.Values.{Parts}
+use Rattle.gs_strategy.specs.Views.{numbers_of, stored_view}
+use Rattle.gs_text.specs.VerdictText.{verdict_text}
+use Rattle.gs_tree.specs.Trees.{deck_of, rules_of}
+use Rattle.gs_compare.specs.Judging.{AreHands, hands_text}
+use Rattle.gs_compare.proofs.Judged.{are_judged}
+use Rattle.gs_compare.proofs.Replies.{too_many}
+use Rattle.gs_compare.proofs.judging.fought.Goals as goal
+
+pub raw_verdict-requires-clause-first : goal.raw_verdict-requires-clause-first
+raw_verdict-requires-clause-first c = subst (λ (g : ValidGame). c.args.one.now.classes.parents ≡ (frame_in g).parents) (sym c.in_ok-signals.ensures) c.args.one.now.parents
+
+pub raw_verdict-requires-clause-second : goal.raw_verdict-requires-clause-second
+raw_verdict-requires-clause-second c =
+    let frames : frame_in c.in_ok-signals.signals.game.now ≡ frame_in c.args.two.now.game = ap frame_in c.in_ok-signals.ensures ∙ ap (λ (v : FileGame). frame (rules_in v)) c.requires in
+    c.args.two.now.parents ∙ ap (λ (h : Frame). h.parents) (sym frames)
+
+pub raw_verdict-requires-clause-one : goal.raw_verdict-requires-clause-one
+raw_verdict-requires-clause-one c = subst (λ (g : ValidGame). IsPlanOf (frame_in g) c.args.one.now.classes.lists 1 c.args.one.now.one) (sym c.in_ok-signals.ensures) c.args.one.now.first
+
+pub raw_verdict-requires-clause-two : goal.raw_verdict-requires-clause-two
+raw_verdict-requires-clause-two c =
+    let frames : frame_in c.in_ok-signals.signals.game.now ≡ frame_in c.args.two.now.game = ap frame_in c.in_ok-signals.ensures ∙ ap (λ (v : FileGame). frame (rules_in v)) c.requires in
+    subst (λ (h : Frame). IsPlanOf h c.args.two.now.classes.lists 2 c.args.two.now.two) (sym frames) c.args.two.now.second
+
+pub returns-in-Ok : goal.returns-in-Ok
+returns-in-Ok c =
+    let x = c.args.one.now in
+    let y = c.args.two.now in
+    let s = c.in_ok-signals.signals in
+    let f = frame_in s.game.now in
+    let second : f ≡ frame_in y.game = ap frame_in c.in_ok-signals.ensures ∙ ap (λ (v : FileGame). frame (rules_in v)) c.requires in
+    let put = c.in_ok-push_hands-in-Ok.ensures in
+    let deck : deck_of s ≡ x.game.game.deck = ap (λ (v : ValidGame). v.game.deck) c.in_ok-signals.ensures in
+    let rules : rules_of s ≡ game_of x.game.game = ap (λ (v : ValidGame). game_of v.game) c.in_ok-signals.ensures in
+    let lines : hands_text (deck_of s) (rules_of s) put.0 ≡ hands_text x.game.game.deck (game_of x.game.game) put.0 =
+    ap (λ (d : DeckValue). hands_text d (rules_of s) put.0) deck ∙ ap (λ (g : Game). hands_text x.game.game.deck g put.0) rules in
+    inl (
+      subst (λ (g : ValidGame). raw_cell_count (frame_in g) ≤ 16777216) c.in_ok-signals.ensures c.in-Ok.ensures.small,
+      (
+        numbers_of c.in-Ok.verdict,
+        are_judged f x y c.in-Ok.verdict (ap frame_in c.in_ok-signals.ensures) second c.in-Ok.ensures.verdict,
+        (put.0, put.1, ap Prints (put.2 ∙ ap (λ t. t ++ hands_text (deck_of s) (rules_of s) put.0) c.in_ok-text-in-Ok.ensures ∙ ap (λ t. verdict_text (numbers_of c.in-Ok.verdict) ++ t) lines)),
+      ),
+    )
+
+pub returns-in-Err-TooManyCells : goal.returns-in-Err-TooManyCells
+returns-in-Err-TooManyCells c =
+    let x = stored_view c.args.one.now in
+    let y = stored_view c.args.two.now in
+    let f = frame_in c.in_ok-signals.signals.game.now in
+    IfOk-weaker c.many_raw_cells.result _ _
+    (λ a t. too_many f x y (λ n reply. (hands : List Parts) × AreHands x y hands × (reply ≡ Prints (verdict_text n ++ hands_text x.game.deck (rules_in x.game) hands))) c.in-Err-TooManyCells.count c.in-Err-TooManyCells.field-0 a
+    (ap frame_in c.in_ok-signals.ensures) c.in-Err-TooManyCells.field-0-is c.in-Err-TooManyCells.ensures.refused t) c.many_raw_cells.ensures

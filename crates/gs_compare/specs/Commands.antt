@@ -1,0 +1,51 @@
+-- What `judge` and `duel` say of the bytes of strategy files.
+use Rattle.std.specs.Prelude.{◌≡◌, ◌≢◌, ◌⊎◌, ◌++◌, ◌<◌, ◌≤◌, ℕ, List, Ok, Err}
+use Rattle.gs_file.specs.Reading.{rules_of}
+use Rattle.gs_json.specs.FirstLine.{first_line}
+use Rattle.gs_raw.specs.Cells.{raw_cell_count}
+use Rattle.gs_reply.specs.Refusals.{Bad_strategy, Other_game, Raw_cells, Too_large}
+use Rattle.gs_reply.specs.Replies.{Reply, Prints, Refuses}
+use Rattle.gs_reply.specs.declared.strategies.Which.{Which}
+use Rattle.gs_reply.specs.declared.strategies.Which.TheVariants.{Only, First, Second}
+use Rattle.gs_strategy.specs.Checks.{ReadResult, Reads}
+use Rattle.gs_strategy.specs.Confirmed.{frame_of}
+use Rattle.gs_strategy.specs.Values.{Numbers, Parts, Strategy}
+use Rattle.gs_text.specs.VerdictText.{verdict_text}
+use Rattle.gs_compare.specs.Judging.{AreHands, AreJudged, hands_text}
+
+-- what is said of the strategy that a file holds; a file that holds none is refused for its first fault
+abbrev pub OfRead : Which → (Strategy → Reply → Type 0) → ReadResult → Reply → Type 0
+OfRead which says (Ok s) reply = says s reply
+OfRead which says (Err why) reply = reply ≡ Refuses (Bad_strategy which why)
+
+pub record OfFile (which : Which) (says : Strategy → Reply → Type 0) (bytes : List ℕ) (reply : Reply) : Type 0 where
+  pub read : ReadResult
+  pub reads : Reads bytes read
+  pub said : OfRead which says read reply
+
+-- what is said of the numbers of two strategies of one game, where it has at most 16,777,216 raw cells; a game with more is too large
+abbrev pub OnRawCards : (Numbers → Reply → Type 0) → Strategy → Strategy → Reply → Type 0
+OnRawCards says one two reply =
+    ((raw_cell_count (frame_of one) ≤ 16777216) × ((n : Numbers) × AreJudged one two n × says n reply))
+    ⊎ ((16777216 < raw_cell_count (frame_of one)) × (reply ≡ Refuses (Too_large (Raw_cells (raw_cell_count (frame_of one))))))
+
+-- the value and the gaps of a strategy's plans, a line each
+abbrev pub SaysJudged : Strategy → Reply → Type 0
+SaysJudged s = OnRawCards (λ n reply. reply ≡ Prints (verdict_text n)) s s
+
+-- the value and the gaps of two strategies, and what each raw signal of round 1 is worth, a line each
+abbrev pub SaysHands : Strategy → Strategy → Reply → Type 0
+SaysHands one two = OnRawCards (λ n reply. (hands : List Parts) × AreHands one two hands × (reply ≡ Prints (verdict_text n ++ hands_text one.game.deck (rules_of one.game) hands))) one two
+
+-- two strategies of two games are refused
+abbrev pub SaysDuel : Strategy → Strategy → Reply → Type 0
+SaysDuel one two reply = ((one.game ≢ two.game) × (reply ≡ Refuses Other_game)) ⊎ ((one.game ≡ two.game) × SaysHands one two reply)
+
+-- ---- the two commands
+
+abbrev pub Judges : List ℕ → Reply → Type 0
+Judges = OfFile Only SaysJudged
+
+-- the first file is one line; the first file's fault is told before the second's
+abbrev pub Duels : List ℕ → Reply → Type 0
+Duels bytes = OfFile First (λ one. OfFile Second (SaysDuel one) (first_line bytes).1) (first_line bytes).0

@@ -1,0 +1,45 @@
+-- Two strategies judged on raw cards: player 1's plan of the first against player 2's of the second, each over the classes of its own strategy,
+-- lossless or not.
+use Rattle.std.specs.Prelude.{◌≡◌, ◌++◌, ◌<◌, ℕ, List, codes, get_or, length, pos}
+use Rattle.std.specs.List.{flat_map, range_with_len}
+use Rattle.gs_card.specs.Decks.{DeckValue}
+use Rattle.gs_model.specs.Frame.{signal_count}
+use Rattle.gs_model.specs.Game.{Game}
+use Rattle.gs_model.specs.Payoff.{IsHandValue}
+use Rattle.gs_model.specs.Plans.{Plan}
+use Rattle.gs_model.specs.Signals.{signal_at}
+use Rattle.gs_model.specs.Verdict.{IsJudgedVerdict}
+use Rattle.gs_seq.specs.Slots.{plan_of}
+use Rattle.gs_strategy.specs.Confirmed.{frame_of, over, raw_plan}
+use Rattle.gs_strategy.specs.Values.{IsFractionOf, Numbers, Parts, Strategy, Weights}
+use Rattle.gs_text.specs.VerdictText.{number_line}
+use Rattle.gs_tree.specs.Texts.{signal_text}
+
+-- the plan over a strategy's classes that weights are
+abbrev pub plan_in : Strategy → Weights → Plan
+plan_in s w = plan_of (frame_of s) s.classes w.total w.weights
+
+-- reduced fractions that are the value of the two plans, and what each player could still gain by any raw plan
+pub record AreJudged (one two : Strategy) (n : Numbers) : Type 0 where
+  pub value : IsFractionOf n.value
+  pub gap1 : IsFractionOf n.gap1
+  pub gap2 : IsFractionOf n.gap2
+  pub verdict : IsJudgedVerdict (frame_of one) one.classes (plan_in one one.one) two.classes (plan_in two two.two) (over n.value) (over n.gap1) (over n.gap2)
+
+-- a reduced fraction that is what a raw signal of round 1 is worth to player 1
+pub record IsHand (one two : Strategy) (signal : ℕ) (p : Parts) : Type 0 where
+  pub reduced : IsFractionOf p
+  pub value : IsHandValue (frame_of one) (raw_plan one one.one) (raw_plan two two.two) signal (over p).0 (over p).1
+
+-- so of each raw signal of round 1, in order
+pub record AreHands (one two : Strategy) (hands : List Parts) : Type 0 where
+  pub long : length hands ≡ signal_count (frame_of one) 1
+  pub each : (signal : ℕ) (d : Parts) → signal < signal_count (frame_of one) 1 → IsHand one two signal (get_or hands signal d)
+
+-- the line of a raw signal of round 1: its text and its value
+abbrev pub hand_line : DeckValue → Game → ℕ → Parts → List ℕ
+hand_line d g signal p = number_line (codes "hand " ++ signal_text d (signal_at g 1 signal)) p
+
+-- these lines of all of them
+abbrev pub hands_text : DeckValue → Game → List Parts → List ℕ
+hands_text d g hands = flat_map (λ signal. hand_line d g signal (get_or hands signal (pos 0, pos 1))) (range_with_len 0 (length hands))

@@ -1,0 +1,69 @@
+//! Strategies that were read, judged on raw cards.
+
+ghost use Rattle.std.specs.Prelude.{◌≡◌, IfOk};
+ghost use Rattle.gs_compare.specs.Commands.{SaysDuel, SaysHands, SaysJudged};
+ghost use Rattle.gs_file.specs.Views.{valid_view};
+ghost use Rattle.gs_reply.specs.Replies.{Answers};
+ghost use Rattle.gs_strategy.specs.Views.{stored_view};
+
+use crate::games::same_game;
+use crate::hands::push_hands;
+use gs_raw::{RawStop, raw_verdict};
+use gs_reply::{Answer, many_raw_cells, other_game};
+use gs_strategy::Stored;
+use gs_text::verdict_text;
+use gs_tree::Signals;
+use std::alloc::{AllocError, Global};
+
+/// What the plans of a strategy are answered: their value and gaps on raw cards.
+pub(crate) fn judged(alloc: Global, stored: &Stored) -> Result<Answer, AllocError>
+    ensures { IfOk result (Answers (SaysJudged (stored_view stored.now))) }
+{
+    let Stored {
+        classes,
+        one,
+        two,
+        ..
+    } = stored;
+    let signals = Signals::of(alloc, &stored.game)?;
+    match raw_verdict(alloc, &signals, classes, one, classes, two) {
+        Ok(verdict) => Ok(Answer::Prints(verdict_text(alloc, &verdict)?)),
+        Err(RawStop::TooManyCells { count }) => many_raw_cells(alloc, count),
+        Err(RawStop::Memory) => Err(AllocError),
+    }
+}
+
+// What two strategies of one game are answered: the value and gaps of player 1's plan of the first against player 2's of the second, and the hands.
+fn fought(alloc: Global, one: &Stored, two: &Stored) -> Result<Answer, AllocError>
+    requires { valid_view one.now.game ≡ valid_view two.now.game }
+    ensures { IfOk result (Answers (SaysHands (stored_view one.now) (stored_view two.now))) }
+{
+    let signals = Signals::of(alloc, &one.game)?;
+    match raw_verdict(
+        alloc,
+        &signals,
+        &one.classes,
+        &one.one,
+        &two.classes,
+        &two.two,
+    ) {
+        Ok(verdict) => {
+            let mut text = verdict_text(alloc, &verdict)?;
+            push_hands(&mut text, alloc, &signals, one, two)?;
+            Ok(Answer::Prints(text))
+        }
+        Err(RawStop::TooManyCells { count }) => many_raw_cells(alloc, count),
+        Err(RawStop::Memory) => Err(AllocError),
+    }
+}
+
+/// What two strategies are answered.
+pub(crate) fn dueled(alloc: Global, one: &Stored, two: &Stored) -> Result<Answer, AllocError>
+    ensures { IfOk result (Answers (SaysDuel (stored_view one.now) (stored_view two.now))) }
+{
+    if same_game(alloc, &one.game, &two.game)? {
+        fought(alloc, one, two)
+    } else {
+        other_game(alloc)
+    }
+}
