@@ -1,4 +1,5 @@
 pub mod Fits
+pub mod Guesses
 pub mod Reduce
 pub mod Places
 pub mod Tables

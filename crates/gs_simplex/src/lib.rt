@@ -8,6 +8,7 @@
 mod answer;
 mod best;
 mod choice;
+mod exact;
 pub mod laws;
 mod path;
 mod row;

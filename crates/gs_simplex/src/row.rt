@@ -1,11 +1,12 @@
 // The arithmetic of one row: its products stay in place where they are narrow, and take 128 bits otherwise; a row is divided by its greatest common divisor.
 
-ghost use Rattle.std.specs.Prelude.{◌≡◌, MatchOption, ℕ, ◌+◌, ◌-◌, ◌*◌, ◌<◌, ◌≤◌, ◌^◌, IsTrue, ℤ, pos, ◌+ℤ◌, ◌-ℤ◌, ◌*ℤ◌, ◌<ℤ◌, unsigned_abs, length};
+ghost use Rattle.std.specs.Prelude.{◌≡◌, ◌≢◌, MatchOption, ℕ, ◌+◌, ◌-◌, ◌*◌, ◌<◌, ◌≤◌, ◌^◌, IsTrue, ℤ, pos, ◌+ℤ◌, ◌-ℤ◌, ◌*ℤ◌, ◌<ℤ◌, unsigned_abs, length};
 ghost use Prim.Native.Nat.{◌∣◌};
 ghost use Rattle.std.specs.Int.{IsGcd};
 ghost use Rattle.gs_rows.specs.Rows.{IsNarrow, IsPrimitive};
 ghost use Rattle.gs_simplex.specs.Numbers.{at, AllNarrow, AllWithin, AllAtMost, IsShared, IsQuotient, IsWideQuotient, IsReduced, IsReducedTo, IsDivided};
 
+use crate::exact::{Divisor, short_gcd};
 use gs_frac::gcd;
 
 /// A number of 63 bits or more, and the column where it stands, from 0.
@@ -41,6 +42,22 @@ fn narrow_quotient(number: i64, by: u64) -> i64
     number / (by as i64)
 }
 
+// The same by the divisor's guess, and by division where that is none.
+fn guessed_quotient(number: i64, by: u64, divisor: &Divisor) -> i64
+    requires same { divisor.now.number ≡ pos by }
+    requires some { 0 < by }
+    requires small { by < 2 ^ 62 }
+    requires narrow { IsNarrow number }
+    requires divides { by ∣ unsigned_abs number }
+    ensures value { number ≡ pos by *ℤ result }
+    ensures narrow { IsNarrow result }
+{
+    match divisor.quotient(number) {
+        Some(quotient) => quotient,
+        None => narrow_quotient(number, by),
+    }
+}
+
 // The greatest common divisor of a number above 0 and another one.
 fn shared(own: i64, far: i64) -> u64
     requires own { pos 0 <ℤ own }
@@ -53,10 +70,7 @@ fn shared(own: i64, far: i64) -> u64
     if own == 1 {
         return 1;
     }
-    gcd(
-        u128::from(far.unsigned_abs()),
-        u128::from(own.unsigned_abs()),
-    ) as u64
+    short_gcd(far.unsigned_abs(), own.unsigned_abs())
 }
 
 // Whether all sums of a product with `own` and one with `far` are narrow, where the numbers are at most `row` and `lead` in size.
@@ -154,17 +168,21 @@ fn divisor(mixed: &[i128]) -> u128
     found
 }
 
-// The greatest common divisor of the divisor so far, 0 for none, and a narrow number above 0.
-fn narrow_common_divisor(found: u64, number: u64) -> u64
-    requires some { 0 < number }
-    requires narrow { number < 2 ^ 62 }
-    ensures divisor { IsGcd found number result }
-    ensures narrow { result < 2 ^ 62 }
+// The greatest common divisor of the divisor so far, 0 for none, and a narrow number other than 0.
+fn narrow_common_divisor(found: Divisor, number: i64) -> Divisor
+    requires some { number ≢ pos 0 }
+    requires narrow { IsNarrow number }
+    requires narrow_found { IsNarrow found.number }
+    ensures divisor { IsGcd (unsigned_abs found.number) (unsigned_abs number) (unsigned_abs result.number) }
+    ensures narrow { IsNarrow result.number }
 {
-    if found != 0 && number % found == 0 {
-        return found;
+    match found.quotient(number) {
+        Some(_) => found,
+        None => {
+            let next = short_gcd(found.number.unsigned_abs(), number.unsigned_abs());
+            Divisor::of(next as i64)
+        }
     }
-    gcd(u128::from(found), u128::from(number)) as u64
 }
 
 // The greatest number that divides all of the narrow numbers of `row`, 0 where all are 0.
@@ -173,18 +191,17 @@ fn narrow_divisor(row: &[i64]) -> u64
     ensures divides { (j : ℕ) → j < length row.now → result ∣ unsigned_abs (at row.now j) }
     ensures greatest { (d : ℕ) → ((j : ℕ) → j < length row.now → d ∣ unsigned_abs (at row.now j)) → d ∣ result }
 {
-    let mut found: u64 = 0;
+    let mut found = Divisor::of(0);
     for number in row {
-        let size = number.unsigned_abs();
-        if size == 0 {
+        if *number == 0 {
             continue;
         }
-        found = narrow_common_divisor(found, size);
-        if found == 1 {
+        found = narrow_common_divisor(found, *number);
+        if found.number.unsigned_abs() == 1 {
             return 1;
         }
     }
-    found
+    found.number.unsigned_abs()
 }
 
 // `number` over `by`, which divides it.
@@ -235,8 +252,9 @@ fn divide_all(row: &mut [i64], by: u64)
     requires divides { (j : ℕ) → j < length row.old → by ∣ unsigned_abs (at row.old j) }
     ensures { IsQuotient by row.old row.new (length row.old) }
 {
+    let divisor = Divisor::of(by as i64);
     for j in 0..row.len() {
-        row[j] = narrow_quotient(row[j], by);
+        row[j] = guessed_quotient(row[j], by, &divisor);
     }
 }
 

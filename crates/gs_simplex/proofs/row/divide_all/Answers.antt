@@ -4,8 +4,8 @@ use Rattle.gs_simplex.specs.Numbers.{at}
 use Rattle.gs_simplex.proofs.Fits.{kept_64}
 use Rattle.gs_simplex.proofs.row.divide_all.Goals as goal
 
-pub narrow_quotient-requires-clause-divides : goal.narrow_quotient-requires-clause-divides
-narrow_quotient-requires-clause-divides c =
+pub guessed_quotient-requires-clause-divides : goal.guessed_quotient-requires-clause-divides
+guessed_quotient-requires-clause-divides c =
     let j = c.loop-j.j in let x = at c.loop-j.row j in
     let e = c.loop-j.invariant.left j (omega arith) in
     let N : ℤ → Type 0 = λ t. unsigned_abs t < 2 ^ 62 in

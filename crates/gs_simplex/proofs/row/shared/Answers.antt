@@ -1,4 +1,4 @@
-use Rattle.std.proofs.Common.{◌≡◌, ℕ, ◌<◌, ◌^◌, unsigned_abs, w64, ap, subst, ◌∙◌, arith}
+use Rattle.std.proofs.Common.{◌≡◌, ℕ, unsigned_abs, w64, ap, subst, ◌∙◌, arith}
 use Prim.Native.Nat.{◌∣◌}
 use Rattle.std.proofs.Math.Nat.{one-dvd}
 use Rattle.std.proofs.lemmas.Int.{ints, to_z-of_z}
@@ -10,19 +10,16 @@ returns-then-own-eq1-clause-of_far c = one-dvd _
 
 pub returns-clause-of_own : goal.returns-clause-of_own
 returns-clause-of_own c =
-    let e : c.from-2.result ≡ unsigned_abs c.args.own = c.from-2.ensures ∙ c.unsigned_abs-2.ensures.value ∙ ap unsigned_abs (to_z-of_z w64 c.args.own c.ranges.own) in
-    let P : ℕ → Type 0 = λ t. c.gcd.result ∣ t in subst P e c.gcd.ensures.divides.1
+    let e : c.unsigned_abs-2.result ≡ unsigned_abs c.args.own = c.unsigned_abs-2.ensures.value ∙ ap unsigned_abs (to_z-of_z w64 c.args.own c.ranges.own) in
+    let P : ℕ → Type 0 = λ t. c.short_gcd.result ∣ t in subst P e c.short_gcd.ensures.1
 
 pub returns-clause-of_far : goal.returns-clause-of_far
 returns-clause-of_far c =
-    let e : c.from.result ≡ unsigned_abs c.args.far = c.from.ensures ∙ c.unsigned_abs.ensures.value ∙ ap unsigned_abs (to_z-of_z w64 c.args.far c.ranges.far) in
-    let P : ℕ → Type 0 = λ t. c.gcd.result ∣ t in subst P e c.gcd.ensures.divides.0
+    let e : c.unsigned_abs.result ≡ unsigned_abs c.args.far = c.unsigned_abs.ensures.value ∙ ap unsigned_abs (to_z-of_z w64 c.args.far c.ranges.far) in
+    let P : ℕ → Type 0 = λ t. c.short_gcd.result ∣ t in subst P e c.short_gcd.ensures.0
 
 pub returns-clause-some : goal.returns-clause-some
-returns-clause-some c = (divisor_bounds c.gcd.result (unsigned_abs c.args.own) (omega (arith, ints, c.requires.own)) c.requires.narrow (returns-clause-of_own c)).0
+returns-clause-some c = (divisor_bounds c.short_gcd.result (unsigned_abs c.args.own) (omega (arith, ints, c.requires.own)) c.requires.narrow (returns-clause-of_own c)).0
 
 pub returns-clause-small : goal.returns-clause-small
-returns-clause-small c = (divisor_bounds c.gcd.result (unsigned_abs c.args.own) (omega (arith, ints, c.requires.own)) c.requires.narrow (returns-clause-of_own c)).1
-
-pub overflow_cast-result : goal.overflow_cast-result
-overflow_cast-result c = let h : c.gcd.result < 2 ^ 62 = returns-clause-small c in record { fits = omega arith }
+returns-clause-small c = (divisor_bounds c.short_gcd.result (unsigned_abs c.args.own) (omega (arith, ints, c.requires.own)) c.requires.narrow (returns-clause-of_own c)).1
