@@ -7,6 +7,8 @@ mod commands;
 mod laws;
 mod saying;
 mod task;
+#[cfg(test)]
+mod tests;
 mod value;
 mod verifying;
 
