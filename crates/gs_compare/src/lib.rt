@@ -5,5 +5,7 @@ mod commands;
 mod games;
 mod hands;
 mod judging;
+#[cfg(test)]
+mod tests;
 
 pub use commands::{duel_answer, judge_answer};
