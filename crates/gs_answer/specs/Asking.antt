@@ -1,11 +1,18 @@
 -- What a task says of an input: for each task the definition of its family.
 use Rattle.std.specs.Prelude.{ℕ, List, Bool, true, false}
 use Rattle.gs_answer.specs.Making.{Makes}
+use Rattle.gs_certify.specs.Certificates.{Certifies}
+use Rattle.gs_certify.specs.Verifying.{Verifies}
+use Rattle.gs_compare.specs.Commands.{Duels, Judges}
 use Rattle.gs_confirm.specs.Commands.{Evaluates, Queries, Upgrades}
 use Rattle.gs_group.specs.Checking.{Checks}
 use Rattle.gs_group.specs.Shrinking.{Shrinks}
 use Rattle.gs_reply.specs.Replies.{Reply}
-use Rattle.gs_words.specs.Tasks.{Task, Shrink, Check, Make, Evaluate, Query, Upgrade}
+use Rattle.gs_words.specs.Tasks.{Task, Shrink, Check, Make, Evaluate, Query, Upgrade, Certify, Verify, Solve, Play, Path, Judge, Duel}
+use Rattle.gs_settle.specs.Paths.{ShowsPath}
+use Rattle.gs_settle.specs.Playing.{Plays}
+use Rattle.gs_settle.specs.Settling.{Settles}
+use Rattle.gs_settle.specs.Solving.{Solves}
 
 -- whether a task reads an input: all do but `make`
 abbrev pub reads : Task → Bool
@@ -20,3 +27,10 @@ Asks (Make kind ranks suits cap summary) bytes reply = Makes kind ranks suits ca
 Asks Evaluate bytes reply = Evaluates bytes reply
 Asks (Query player line signal) bytes reply = Queries player line signal bytes reply
 Asks Upgrade bytes reply = Upgrades bytes reply
+Asks Certify bytes reply = Certifies bytes reply
+Asks Verify bytes reply = Verifies bytes reply
+Asks (Solve grouping) bytes reply = Settles Solves grouping bytes reply
+Asks (Play grouping turns) bytes reply = Settles (Plays turns) grouping bytes reply
+Asks (Path grouping) bytes reply = Settles ShowsPath grouping bytes reply
+Asks Judge bytes reply = Judges bytes reply
+Asks Duel bytes reply = Duels bytes reply

@@ -6,10 +6,13 @@ ghost use Rattle.gs_answer.specs.Making.{Makes};
 ghost use Rattle.gs_reply.specs.Replies.{Answers};
 ghost use Rattle.gs_words.specs.Tasks.{IsInRange, Make, task_of};
 
+use gs_certify::{certify_answer, verify_answer};
+use gs_compare::{duel_answer, judge_answer};
 use gs_confirm::{evaluate_answer, query_answer, upgrade_answer};
 use gs_group::{check_answer, shrink_answer};
 use gs_made::{Kind, made_game};
 use gs_reply::Answer;
+use gs_settle::{path_answer, play_answer, solve_answer};
 use gs_words::Request;
 use std::alloc::{AllocError, Global};
 
@@ -51,6 +54,9 @@ pub fn answer(alloc: Global, request: Request, bytes: &[u8]) -> Result<Answer, A
     match request {
         Request::Shrink { summary } => shrink_answer(alloc, bytes, summary),
         Request::Check { grouping, summary } => check_answer(alloc, bytes, grouping, summary),
+        Request::Solve { grouping } => solve_answer(alloc, bytes, grouping),
+        Request::Play { grouping, turns } => play_answer(alloc, bytes, grouping, turns),
+        Request::Path { grouping } => path_answer(alloc, bytes, grouping),
         Request::Make {
             kind,
             ranks,
@@ -65,5 +71,9 @@ pub fn answer(alloc: Global, request: Request, bytes: &[u8]) -> Result<Answer, A
             signal,
         } => query_answer(alloc, player, line, signal, bytes),
         Request::Upgrade => upgrade_answer(alloc, bytes),
+        Request::Certify => certify_answer(alloc, bytes),
+        Request::Verify => verify_answer(alloc, bytes),
+        Request::Judge => judge_answer(alloc, bytes),
+        Request::Duel => duel_answer(alloc, bytes),
     }
 }

@@ -3,20 +3,27 @@ use Rattle.std.specs.Prelude.{ℕ, Bool, true, false, List, [], ◌∷◌, find,
 use Rattle.std.specs.Str.{bytes_eq}
 use Rattle.gs_words.specs.Values.{grouping_of, kind_of, number_in}
 use Rattle.gs_words.specs.declared.names.CommandName.{CommandName}
-use Rattle.gs_words.specs.declared.names.CommandName.TheVariants.{Shrink, Check, Evaluate, Query, Make, Upgrade}
+use Rattle.gs_words.specs.declared.names.CommandName.TheVariants.{Shrink, Check, Solve, Play, Evaluate, Query, Make, Upgrade, Judge, Duel, Certify, Verify, Path}
 
 -- the word that names a command
 abbrev pub command_word : CommandName → List ℕ
 command_word Shrink = codes "shrink"
 command_word Check = codes "check"
+command_word Solve = codes "solve"
+command_word Play = codes "play"
 command_word Evaluate = codes "evaluate"
 command_word Query = codes "query"
 command_word Make = codes "make"
 command_word Upgrade = codes "upgrade"
+command_word Judge = codes "judge"
+command_word Duel = codes "duel"
+command_word Certify = codes "certify"
+command_word Verify = codes "verify"
+command_word Path = codes "path"
 
 -- all commands, in the order in which they were made
 abbrev pub commands : List CommandName
-commands = Shrink ∷ Check ∷ Evaluate ∷ Query ∷ Make ∷ Upgrade ∷ []
+commands = Shrink ∷ Check ∷ Solve ∷ Play ∷ Evaluate ∷ Query ∷ Make ∷ Upgrade ∷ Judge ∷ Duel ∷ Certify ∷ Verify ∷ Path ∷ []
 
 -- the command that a word names
 abbrev pub command_of : List ℕ → Option CommandName
@@ -47,9 +54,16 @@ numbered name least most = required name (λ word. is_some (number_in least most
 abbrev pub options_of : CommandName → List OptionOf
 options_of Shrink = summary ∷ []
 options_of Check = classes ∷ summary ∷ []
+options_of Solve = classes ∷ []
+options_of Play = classes ∷ numbered (codes "turns") 0 1000000 ∷ []
 options_of Evaluate = []
 options_of Query = numbered (codes "player") 1 2 ∷ required (codes "line") (λ word. true) ∷ required (codes "signal") (λ word. true) ∷ []
 options_of Make =
     required (codes "kind") (λ word. is_some (kind_of word)) ∷ numbered (codes "ranks") 1 13 ∷ numbered (codes "suits") 1 4 ∷ numbered (codes "cap") 0 8
     ∷ summary ∷ []
 options_of Upgrade = []
+options_of Judge = []
+options_of Duel = []
+options_of Certify = []
+options_of Verify = []
+options_of Path = classes ∷ []

@@ -9,7 +9,7 @@ use Rattle.clap.specs.declared.parser.matches.ArgMatches.{ArgMatches}
 use Rattle.gs_made.specs.declared.kind.Kind.{Kind}
 use Rattle.gs_words.specs.Commands.{command_of}
 use Rattle.gs_words.specs.Program.{program}
-use Rattle.gs_words.specs.Tasks.{Task, task_of, Shrink, Check, Evaluate, Query, Make, Upgrade}
+use Rattle.gs_words.specs.Tasks.{Task, task_of, Shrink, Check, Solve, Play, Evaluate, Query, Make, Upgrade, Judge, Duel, Certify, Verify, Path}
 use Rattle.gs_words.specs.Values.{grouping_of, kind_of, number_in}
 use Rattle.gs_words.specs.declared.names.CommandName.{CommandName}
 use Rattle.gs_words.specs.declared.names.CommandName.TheVariants as command
@@ -29,6 +29,10 @@ abbrev pub grouping_in : Option Text → Option Grouping
 grouping_in None = Some Coarsest
 grouping_in (Some word) = grouping_of word
 
+abbrev pub play_with : Option Grouping → Option ℕ → Option Task
+play_with (Some grouping) (Some turns) = Some (Play grouping turns)
+play_with _ _ = None
+
 abbrev pub query_with : Option ℕ → Option Text → Option Text → Option Task
 query_with (Some player) (Some line) (Some signal) = Some (Query player line signal)
 query_with _ _ _ = None
@@ -46,10 +50,17 @@ make_of kind ranks suits cap summary =
 abbrev pub task_for : CommandName → (Text → Option Text) → Option Task
 task_for command.Shrink given = Some (Shrink (is_set (given (codes "summary"))))
 task_for command.Check given = option_map (λ grouping. Check grouping (is_set (given (codes "summary")))) (grouping_in (given (codes "classes")))
+task_for command.Solve given = option_map (λ grouping. Solve grouping) (grouping_in (given (codes "classes")))
+task_for command.Play given = play_with (grouping_in (given (codes "classes"))) (option_and_then (number_in 0 1000000) (given (codes "turns")))
 task_for command.Evaluate given = Some Evaluate
 task_for command.Query given = query_with (option_and_then (number_in 1 2) (given (codes "player"))) (given (codes "line")) (given (codes "signal"))
 task_for command.Make given = make_of (given (codes "kind")) (given (codes "ranks")) (given (codes "suits")) (given (codes "cap")) (given (codes "summary"))
 task_for command.Upgrade given = Some Upgrade
+task_for command.Judge given = Some Judge
+task_for command.Duel given = Some Duel
+task_for command.Certify given = Some Certify
+task_for command.Verify given = Some Verify
+task_for command.Path given = option_map (λ grouping. Path grouping) (grouping_in (given (codes "classes")))
 
 -- what a command that was entered with these options asks for
 abbrev pub task_in : Text × List Row → Option Task

@@ -51,6 +51,20 @@ fn check_command<'a>(alloc: Global) -> Result<Command<'a>, AllocError>
         .arg(summary_flag(alloc))
 }
 
+fn solve_command<'a>(alloc: Global) -> Result<Command<'a>, AllocError>
+    ensures { IfOk result (Is (app_for name.Solve)) }
+{
+    Command::new(alloc, "solve").arg(classes_option(alloc))
+}
+
+fn play_command<'a>(alloc: Global) -> Result<Command<'a>, AllocError>
+    ensures { IfOk result (Is (app_for name.Play)) }
+{
+    Command::new(alloc, "play")
+        .arg(classes_option(alloc))?
+        .arg(required_value(alloc, "turns"))
+}
+
 fn query_command<'a>(alloc: Global) -> Result<Command<'a>, AllocError>
     ensures { IfOk result (Is (app_for name.Query)) }
 {
@@ -78,6 +92,12 @@ fn make_command<'a>(alloc: Global) -> Result<Command<'a>, AllocError>
         .arg(summary_flag(alloc))
 }
 
+fn path_command<'a>(alloc: Global) -> Result<Command<'a>, AllocError>
+    ensures { IfOk result (Is (app_for name.Path)) }
+{
+    Command::new(alloc, "path").arg(classes_option(alloc))
+}
+
 // A command with its options.
 fn command_for<'a>(alloc: Global, name: CommandName) -> Result<Command<'a>, AllocError>
     ensures { IfOk result (Is (app_for name)) }
@@ -85,10 +105,17 @@ fn command_for<'a>(alloc: Global, name: CommandName) -> Result<Command<'a>, Allo
     match name {
         CommandName::Shrink => shrink_command(alloc),
         CommandName::Check => check_command(alloc),
+        CommandName::Solve => solve_command(alloc),
+        CommandName::Play => play_command(alloc),
         CommandName::Evaluate => Ok(Command::new(alloc, "evaluate")),
         CommandName::Query => query_command(alloc),
         CommandName::Make => make_command(alloc),
         CommandName::Upgrade => Ok(Command::new(alloc, "upgrade")),
+        CommandName::Judge => Ok(Command::new(alloc, "judge")),
+        CommandName::Duel => Ok(Command::new(alloc, "duel")),
+        CommandName::Certify => Ok(Command::new(alloc, "certify")),
+        CommandName::Verify => Ok(Command::new(alloc, "verify")),
+        CommandName::Path => path_command(alloc),
     }
 }
 

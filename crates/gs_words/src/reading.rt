@@ -2,7 +2,7 @@
 
 ghost use Rattle.std.specs.Prelude.{◌≡◌, ◌≤◌, codes, IfOk, IfSome, map, string_bytes, option_map, option_and_then};
 ghost use Rattle.clap.specs.Words.{first_of, rows_of, found_of, subcommand_rows_of};
-ghost use Rattle.gs_words.specs.Requests.{grouping_in, is_set as is_true, make_of, query_with, task_for, task_in, IsStopFor, ReadsWords, TakesWords};
+ghost use Rattle.gs_words.specs.Requests.{grouping_in, is_set as is_true, make_of, play_with, query_with, task_for, task_in, IsStopFor, ReadsWords, TakesWords};
 ghost use Rattle.gs_words.specs.Tasks.{task_of, IsInRange};
 ghost use Rattle.gs_words.specs.Values.{number_in};
 ghost use Rattle.gs_words.specs.declared.names.CommandName.TheVariants as command;
@@ -74,6 +74,15 @@ fn grouping_of(options: &ArgMatches) -> Option<Grouping>
     }
 }
 
+fn play_request<'a>(options: &ArgMatches<'a>) -> Option<Request<'a>>
+    ensures value { option_map task_of result ≡ play_with (grouping_in (first_of (codes "classes") (rows_of (found_of options.now)))) (option_and_then (number_in 0 1000000) (first_of (codes "turns") (rows_of (found_of options.now)))) }
+    ensures within { IfSome result (λ r. IsInRange (task_of r)) }
+{
+    let grouping = grouping_of(options)?;
+    let turns = number_of(options, "turns", 0, 1_000_000)?;
+    Some(Request::Play { grouping, turns })
+}
+
 fn query_request<'a>(options: &ArgMatches<'a>) -> Option<Request<'a>>
     ensures value { option_map task_of result ≡ query_with (option_and_then (number_in 1 2) (first_of (codes "player") (rows_of (found_of options.now)))) (first_of (codes "line") (rows_of (found_of options.now))) (first_of (codes "signal") (rows_of (found_of options.now))) }
     ensures within { IfSome result (λ r. IsInRange (task_of r)) }
@@ -119,10 +128,21 @@ fn request_for<'a>(name: CommandName, options: &ArgMatches<'a>) -> Option<Reques
             grouping: grouping_of(options)?,
             summary: is_set(options, "summary"),
         }),
+        CommandName::Solve => Some(Request::Solve {
+            grouping: grouping_of(options)?,
+        }),
+        CommandName::Play => play_request(options),
         CommandName::Evaluate => Some(Request::Evaluate),
         CommandName::Query => query_request(options),
         CommandName::Make => make_request(options),
         CommandName::Upgrade => Some(Request::Upgrade),
+        CommandName::Judge => Some(Request::Judge),
+        CommandName::Duel => Some(Request::Duel),
+        CommandName::Certify => Some(Request::Certify),
+        CommandName::Verify => Some(Request::Verify),
+        CommandName::Path => Some(Request::Path {
+            grouping: grouping_of(options)?,
+        }),
     }
 }
 

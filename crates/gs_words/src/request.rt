@@ -25,6 +25,15 @@ pub enum Request<'w> {
         grouping: Grouping,
         summary: bool,
     },
+    /// A strategy over these classes that no player can gain against.
+    Solve {
+        grouping: Grouping,
+    },
+    /// The strategy over these classes after so many turns of play, at most 1,000,000.
+    Play {
+        grouping: Grouping,
+        turns: u32,
+    },
     /// The numbers of a strategy, once they are found to be right.
     Evaluate,
     /// What a player, 1 or 2, does at a line with a signal.
@@ -44,6 +53,18 @@ pub enum Request<'w> {
     },
     /// A strategy's text in the latest version.
     Upgrade,
+    /// The numbers of a strategy over any classes.
+    Judge,
+    /// The numbers of two strategies against each other.
+    Duel,
+    /// A certificate of a strategy's bounds.
+    Certify,
+    /// The bounds that a certificate of a strategy shows.
+    Verify,
+    /// The steps by which a strategy over these classes is found.
+    Path {
+        grouping: Grouping,
+    },
 }
 
 /// Why words are not read.

@@ -65,6 +65,32 @@ fn requests(rt: HostRuntime) -> Result<(), Fail> {
             "make --kind rhode --ranks 13 --summary --suits 4 --cap 3",
             make(Kind::Rhode, 13, 4, 3, true),
         ),
+        (
+            "solve",
+            Request::Solve {
+                grouping: Grouping::Coarsest,
+            },
+        ),
+        (
+            "solve --classes ogi",
+            Request::Solve {
+                grouping: Grouping::Isomorphism,
+            },
+        ),
+        (
+            "play --turns 0",
+            Request::Play {
+                grouping: Grouping::Coarsest,
+                turns: 0,
+            },
+        ),
+        (
+            "play --turns 1000000 --classes raw",
+            Request::Play {
+                grouping: Grouping::Single,
+                turns: 1_000_000,
+            },
+        ),
         ("evaluate", Request::Evaluate),
         (
             "query --signal Js/+Qs --player 2 --line /kb",
@@ -75,6 +101,16 @@ fn requests(rt: HostRuntime) -> Result<(), Fail> {
             },
         ),
         ("upgrade", Request::Upgrade),
+        ("judge", Request::Judge),
+        ("duel", Request::Duel),
+        ("certify", Request::Certify),
+        ("verify", Request::Verify),
+        (
+            "path --classes split",
+            Request::Path {
+                grouping: Grouping::Coarsest,
+            },
+        ),
     ];
     for (line, request) in table {
         let words = words_of(rt.alloc(), line)?;
@@ -117,12 +153,21 @@ fn refused_words(rt: HostRuntime) -> Result<(), Fail> {
         "make --kind kuhn --ranks 3 --suits 1",
         "make --kind kuhn --ranks 3 --suits 1 --cap 1 --cap 1",
         "make --kind kuhn --ranks 3 --suits 1 --cap 1 --summary --summary",
+        "play",
+        "play --turns 1000001",
+        "play --turns -1",
+        "play --turns 1 --summary",
+        "solve --turns 1",
         "evaluate --classes raw",
         "query --player 1 --line /",
         "query --player 0 --line / --signal Js",
         "query --player 3 --line / --signal Js",
         "query --player 1 --line / --signal -Js",
         "upgrade more",
+        "judge --summary",
+        "duel duel",
+        "certify verify",
+        "path --turns 1",
         "make --kind poker --ranks 3 --suits 1 --cap 1",
         "make --kind kuhn --ranks 0 --suits 1 --cap 1",
         "make --kind kuhn --ranks 14 --suits 1 --cap 1",

@@ -12,13 +12,17 @@ use Rattle.gs_io.specs.Causes.{Rose}
 use Rattle.gs_made.specs.declared.kind.Kind.{Kind}
 use Rattle.gs_reply.specs.Refusals.{Refusal, Bad_game, Unlike_pair, Overflows, Many_pivots, Too_large, Bad_strategy, Wrong_number, Bad_query, Other_game, Bad_certificate, cause_of}
 use Rattle.gs_reply.specs.Replies.{OfReading, Reply, Prints, Refuses}
+use Rattle.gs_settle.specs.Paths.{ShowsPath}
+use Rattle.gs_settle.specs.Playing.{Plays}
+use Rattle.gs_settle.specs.Settling.{OfGrouping}
+use Rattle.gs_settle.specs.Solving.{Solves}
 use Rattle.gs_strategy.specs.Checks.{ReadResult}
 use Rattle.gs_strategy.specs.Laws.{IsStrategy}
 use Rattle.gs_strategy.specs.Texts.{strategy_text}
 use Rattle.gs_strategy.specs.Values.{Strategy}
 use Rattle.gs_strategy.proofs.Only.{only}
 use Rattle.gs_words.specs.Requests.{request_of}
-use Rattle.gs_words.specs.Tasks.{Task, Shrink, Check, Make, Evaluate, Query, Upgrade}
+use Rattle.gs_words.specs.Tasks.{Task, Shrink, Check, Make, Evaluate, Query, Upgrade, Certify, Verify, Solve, Play, Path, Judge, Duel}
 use Rattle.gs_words.specs.declared.request.Grouping.{Grouping}
 use Rattle.shrink_cli.proofs.Promised.{same_task}
 use Rattle.shrink_cli.specs.Promises.{AreUnlike, Completes, CompletesGame, CompletesStrategy, EndsChecked, EndsSo, EndsWell, FilesAtLast, MakesAtLast}
@@ -113,6 +117,21 @@ pub checks_at_last : (words : List (List ℕ)) (old new : Ends) (s : Status) →
 checks_at_last words old new s runs grouping summary bytes g asked e few read good =
     checked grouping summary g s (over_game (ChecksGame grouping summary) g bytes s read (completes words old new s runs (Check grouping summary) bytes asked refl e few good))
 
+-- ---- games over classes
+
+pub solves_at_last : (words : List (List ℕ)) (old new : Ends) (s : Status) → RunsTo words old new s → (grouping : Grouping) → CompletesGame (Solve grouping) (λ g. EndsSo (OfGrouping grouping Solves g)) words old new s
+solves_at_last words old new s runs grouping bytes g asked e few read good =
+    over_game (OfGrouping grouping Solves) g bytes s read (completes words old new s runs (Solve grouping) bytes asked refl e few good)
+
+pub plays_at_last : (words : List (List ℕ)) (old new : Ends) (s : Status) → RunsTo words old new s → (grouping : Grouping) (turns : ℕ)
+    → CompletesGame (Play grouping turns) (λ g. EndsSo (OfGrouping grouping (Plays turns) g)) words old new s
+plays_at_last words old new s runs grouping turns bytes g asked e few read good =
+    over_game (OfGrouping grouping (Plays turns)) g bytes s read (completes words old new s runs (Play grouping turns) bytes asked refl e few good)
+
+pub paths_at_last : (words : List (List ℕ)) (old new : Ends) (s : Status) → RunsTo words old new s → (grouping : Grouping) → CompletesGame (Path grouping) (λ g. EndsSo (OfGrouping grouping ShowsPath g)) words old new s
+paths_at_last words old new s runs grouping bytes g asked e few read good =
+    over_game (OfGrouping grouping ShowsPath) g bytes s read (completes words old new s runs (Path grouping) bytes asked refl e few good)
+
 -- ---- strategies
 
 -- what is said of a strategy's text is said of the strategy
@@ -140,6 +159,13 @@ says_of_none : (task : Task) (old new : Ends) (bytes : List ℕ) (reply : Reply)
 says_of_none (Make kind ranks suits cap summary) old new bytes reply r a = a.says
 says_of_none (Shrink summary) old new bytes reply r a = cc
 says_of_none (Check grouping summary) old new bytes reply r a = cc
+says_of_none Certify old new bytes reply r a = cc
+says_of_none Verify old new bytes reply r a = cc
+says_of_none (Solve grouping) old new bytes reply r a = cc
+says_of_none (Play grouping turns) old new bytes reply r a = cc
+says_of_none (Path grouping) old new bytes reply r a = cc
+says_of_none Judge old new bytes reply r a = cc
+says_of_none Duel old new bytes reply r a = cc
 says_of_none Evaluate old new bytes reply r a = cc
 says_of_none (Query player line signal) old new bytes reply r a = cc
 says_of_none Upgrade old new bytes reply r a = cc

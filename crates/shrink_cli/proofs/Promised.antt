@@ -13,6 +13,12 @@ use Rattle.gs_group.specs.Shrinking.{ShrinksGame}
 use Rattle.gs_made.specs.Made.{made_game}
 use Rattle.gs_made.specs.declared.kind.Kind.{Kind}
 use Rattle.gs_reply.specs.Replies.{OfReading, Reply, Prints}
+use Rattle.gs_model.specs.Classes.{ClassLists}
+use Rattle.gs_settle.specs.Paths.{IsPathShown, ShowsPath}
+use Rattle.gs_settle.specs.Playing.{IsPlayed, Plays}
+use Rattle.gs_settle.specs.Settling.{OfGrouping}
+use Rattle.gs_settle.specs.Solving.{IsSolved, Solves}
+use Rattle.gs_words.specs.declared.request.Grouping.{Grouping}
 use Rattle.gs_strategy.specs.Checks.{ReadResult, Reads}
 use Rattle.gs_strategy.specs.Confirmed.{IsConfirmed}
 use Rattle.gs_strategy.specs.Texts.{strategy_text}
@@ -20,8 +26,8 @@ use Rattle.gs_strategy.specs.Values.{Strategy}
 use Rattle.gs_strategy.proofs.Only.{found}
 use Rattle.gs_text.specs.VerdictText.{verdict_text}
 use Rattle.gs_words.specs.Requests.{request_of}
-use Rattle.gs_words.specs.Tasks.{Task, Shrink, Check, Make, Evaluate, Query, Upgrade}
-use Rattle.shrink_cli.specs.Promises.{ChecksWell, EvaluatesWell, IsMade, MakesWell, OfConfirmed, PrintsSo, PrintsWell, QueriesWell, ShrinksWell, UpgradesWell}
+use Rattle.gs_words.specs.Tasks.{Task, Shrink, Check, Make, Evaluate, Query, Upgrade, Solve, Play, Path}
+use Rattle.shrink_cli.specs.Promises.{ChecksWell, EvaluatesWell, IsMade, MakesWell, OfClasses, OfConfirmed, OfGame, PathsWell, PlaysWell, PrintsSo, PrintsWell, QueriesWell, ShrinksWell, SolvesWell, UpgradesWell}
 use Rattle.shrink_cli.specs.Running.{Ends, Inputs, IsAnswered, RunsTo}
 use Rattle.shrink_cli.specs.declared.status.Status.{Status}
 use Rattle.shrink_cli.specs.declared.status.Status.TheVariants as status
@@ -67,6 +73,37 @@ pub makes : (words : List (List ℕ)) (old new : Ends) (s : Status) → RunsTo w
 makes words old new s runs kind ranks suits cap summary asked e =
     let p = printed words old new s (Make kind ranks suits cap summary) runs asked e in
     (p.1.input.1, (p.0, p.2, is_made kind ranks suits cap summary p.0 p.1.says))
+
+-- ---- games over classes
+
+-- what is said of the classes of a grouping
+settled : (grouping : Grouping) (says : FileGame → ClassLists → Reply → Type 0) (tells : FileGame → ClassLists → List ℕ → Type 0) (g : FileGame) (text : List ℕ)
+    → ((lists : ClassLists) → says g lists (Prints text) → tells g lists text) → OfGrouping grouping says g (Prints text) → OfClasses grouping tells g text
+settled grouping says tells g text told (inl h) = absurd h
+settled grouping says tells g text told (inr (lists, grouped, lossless, inl h)) = absurd h
+settled grouping says tells g text told (inr (lists, grouped, lossless, inr h)) =
+    record { classes = lists; grouped = grouped; lossless = lossless; small = h.0; said = told lists h.1 }
+
+of_game_classes : (grouping : Grouping) (says : FileGame → ClassLists → Reply → Type 0) (tells : FileGame → ClassLists → List ℕ → Type 0) (bytes text : List ℕ)
+    → ((g : FileGame) (lists : ClassLists) → says g lists (Prints text) → tells g lists text) → OfReading (OfGrouping grouping says) (read_at bytes) (Prints text) → OfGame (OfClasses grouping tells) bytes text
+of_game_classes grouping says tells bytes text told h =
+    let r = of_reading (OfGrouping grouping says) (read_at bytes) text h in
+    (r.0, r.1, settled grouping says tells r.0 text (told r.0) r.2)
+
+pub solves : (words : List (List ℕ)) (old new : Ends) (s : Status) → RunsTo words old new s → SolvesWell words old new s
+solves words old new s runs grouping asked e =
+    let p = printed words old new s (Solve grouping) runs asked e in
+    record { bytes = p.1.bytes; read = p.1.input; text = p.0; printed = p.2; said = of_game_classes grouping Solves IsSolved p.1.bytes p.0 (λ g lists h. h) p.1.says }
+
+pub plays : (words : List (List ℕ)) (old new : Ends) (s : Status) → RunsTo words old new s → PlaysWell words old new s
+plays words old new s runs grouping turns asked e =
+    let p = printed words old new s (Play grouping turns) runs asked e in
+    record { bytes = p.1.bytes; read = p.1.input; text = p.0; printed = p.2; said = of_game_classes grouping (Plays turns) (IsPlayed turns) p.1.bytes p.0 (λ g lists h. h) p.1.says }
+
+pub paths : (words : List (List ℕ)) (old new : Ends) (s : Status) → RunsTo words old new s → PathsWell words old new s
+paths words old new s runs grouping asked e =
+    let p = printed words old new s (Path grouping) runs asked e in
+    record { bytes = p.1.bytes; read = p.1.input; text = p.0; printed = p.2; said = of_game_classes grouping ShowsPath IsPathShown p.1.bytes p.0 (λ g lists h. h) p.1.says }
 
 -- ---- strategy files
 

@@ -7,7 +7,7 @@ use Rattle.gs_confirm.specs.Queries.{IsQueried}
 use Rattle.gs_file.specs.Reading.{FileGame, read_at, rules_of}
 use Rattle.gs_file.specs.declared.version.Version.{Version}
 use Rattle.gs_file.specs.declared.version.Version.TheVariants.{Two}
-use Rattle.gs_group.specs.Checking.{IsChecked}
+use Rattle.gs_group.specs.Checking.{IsChecked, IsGrouping}
 use Rattle.gs_group.specs.Shrinking.{IsShrunk}
 use Rattle.gs_io.specs.Causes.{Rose}
 use Rattle.gs_made.specs.Made.{made_game}
@@ -19,6 +19,11 @@ use Rattle.gs_model.specs.SignalClasses.{IsSignalClasses}
 use Rattle.gs_model.specs.Verdict.{IsVerdict}
 use Rattle.gs_reply.specs.Refusals.{Refusal, cause_of}
 use Rattle.gs_reply.specs.Replies.{Reply, Prints, Refuses}
+use Rattle.gs_seq.specs.Stops.{IsSmall}
+use Rattle.gs_settle.specs.Paths.{IsPathShown, ShowsPath}
+use Rattle.gs_settle.specs.Playing.{IsPlayed, Plays}
+use Rattle.gs_settle.specs.Settling.{OfGrouping}
+use Rattle.gs_settle.specs.Solving.{IsSolved, Solves}
 use Rattle.gs_strategy.specs.Checks.{Reads}
 use Rattle.gs_strategy.specs.Confirmed.{IsConfirmed, over, raw_plan}
 use Rattle.gs_strategy.specs.Laws.{IsStrategy, IsTextOf}
@@ -26,7 +31,7 @@ use Rattle.gs_strategy.specs.Texts.{strategy_text}
 use Rattle.gs_strategy.specs.Values.{Strategy, frame_in}
 use Rattle.gs_text.specs.VerdictText.{verdict_text}
 use Rattle.gs_words.specs.Requests.{request_of}
-use Rattle.gs_words.specs.Tasks.{Task, Shrink, Check, Make, Evaluate, Query, Upgrade}
+use Rattle.gs_words.specs.Tasks.{Task, Shrink, Check, Make, Evaluate, Query, Upgrade, Solve, Play, Path}
 use Rattle.gs_words.specs.declared.request.Grouping.{Grouping}
 use Rattle.gs_words.specs.declared.request.Grouping.TheVariants.{Isomorphism}
 use Rattle.shrink_cli.specs.Running.{Ends, ReadsWhole, RunsTo, Unread, most_bytes}
@@ -72,6 +77,27 @@ abbrev pub MakesWell : List (List ℕ) → Ends → Ends → Status → Type 0
 MakesWell words old new s =
     (kind : Kind) (ranks suits cap : ℕ) (summary : Bool) → request_of words ≡ Some (Make kind ranks suits cap summary) → s ≡ status.Ok
     → Unread old new × ((text : List ℕ) × Appends old.given new.given text × IsMade kind ranks suits cap summary text)
+
+-- the classes of the grouping are lossless, the game over them keeps the limits, and this is said of the game, the classes and the text
+pub record OfClasses (grouping : Grouping) (says : FileGame → ClassLists → List ℕ → Type 0) (g : FileGame) (text : List ℕ) : Type 0 where
+  pub classes : ClassLists
+  pub grouped : IsGrouping grouping (rules_of g) classes
+  pub lossless : IsLossless (frame_in g) classes
+  pub small : IsSmall (frame_in g) classes
+  pub said : says g classes text
+
+-- what `solve` prints: the strategy file of two plans of which neither player gains on raw cards
+abbrev pub SolvesWell : List (List ℕ) → Ends → Ends → Status → Type 0
+SolvesWell words old new s = (grouping : Grouping) → request_of words ≡ Some (Solve grouping) → s ≡ status.Ok → PrintsSo (OfGame (OfClasses grouping IsSolved)) old new
+
+-- what `play` prints: the strategy file of both players' plans after so many turns of fictitious play
+abbrev pub PlaysWell : List (List ℕ) → Ends → Ends → Status → Type 0
+PlaysWell words old new s =
+    (grouping : Grouping) (turns : ℕ) → request_of words ≡ Some (Play grouping turns) → s ≡ status.Ok → PrintsSo (OfGame (OfClasses grouping (IsPlayed turns))) old new
+
+-- what `path` prints: the lines of the path on which `solve` finds its plans
+abbrev pub PathsWell : List (List ℕ) → Ends → Ends → Status → Type 0
+PathsWell words old new s = (grouping : Grouping) → request_of words ≡ Some (Path grouping) → s ≡ status.Ok → PrintsSo (OfGame (OfClasses grouping IsPathShown)) old new
 
 -- The bytes are the text, in version 1 or 2, of a strategy that passes all checks of a strategy file. Its classes are lossless, and its three numbers
 -- are the value of its two plans over raw cards and their gaps: no strategy of a player, using any raw cards, gains more than the gap that is stated for
@@ -163,6 +189,9 @@ pub record Keeps (words : List (List ℕ)) (old new : Ends) (s : Status) : Type 
   pub shrinks : ShrinksWell words old new s
   pub checks : ChecksWell words old new s
   pub makes : MakesWell words old new s
+  pub solves : SolvesWell words old new s
+  pub plays : PlaysWell words old new s
+  pub paths : PathsWell words old new s
   pub evaluates : EvaluatesWell words old new s
   pub queries : QueriesWell words old new s
   pub upgrades : UpgradesWell words old new s
@@ -170,6 +199,9 @@ pub record Keeps (words : List (List ℕ)) (old new : Ends) (s : Status) : Type 
   pub completes : Completes words old new s
   pub shrinks_at_last : (summary : Bool) → CompletesGame (Shrink summary) (λ _ t. EndsWell t) words old new s
   pub checks_at_last : (grouping : Grouping) (summary : Bool) → CompletesGame (Check grouping summary) (EndsChecked grouping) words old new s
+  pub solves_at_last : (grouping : Grouping) → CompletesGame (Solve grouping) (λ g. EndsSo (OfGrouping grouping Solves g)) words old new s
+  pub plays_at_last : (grouping : Grouping) (turns : ℕ) → CompletesGame (Play grouping turns) (λ g. EndsSo (OfGrouping grouping (Plays turns) g)) words old new s
+  pub paths_at_last : (grouping : Grouping) → CompletesGame (Path grouping) (λ g. EndsSo (OfGrouping grouping ShowsPath g)) words old new s
   pub evaluates_at_last : CompletesStrategy Evaluate SaysNumbers words old new s
   pub queries_at_last : (player : ℕ) (line signal : List ℕ) → CompletesStrategy (Query player line signal) (SaysQueried player line signal) words old new s
   pub upgrades_at_last : CompletesStrategy Upgrade SaysUpgraded words old new s

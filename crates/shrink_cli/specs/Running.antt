@@ -89,7 +89,7 @@ pub record TookInput (words : List (List ℕ)) (old new : Ends) : Type 0 where
 
 -- the line that names the commands
 abbrev pub usage_line : List ℕ
-usage_line = codes "usage: gameshrink shrink, check, evaluate, query, make or upgrade\n"
+usage_line = codes "usage: gameshrink shrink, check, solve, play, evaluate, query, make, upgrade, judge, duel, certify, verify or path\n"
 
 -- what each status says; every other status is that of a refusal
 abbrev pub RunsTo : List (List ℕ) → Ends → Ends → Status → Type 0

@@ -38,7 +38,8 @@ pub(crate) fn refuse_words<E: Sink>(err: &mut E) -> Status
     ensures status { result ≡ status.Usage }
     ensures told { TellsTo (E.given err.old) (E.faults err.old) (E.given err.new) (E.faults err.new) usage_line }
 {
-    let usage = "usage: gameshrink shrink, check, evaluate, query, make or upgrade\n";
+    let usage =
+        "usage: gameshrink shrink, check, solve, play, evaluate, query, make, upgrade, judge, duel, certify, verify or path\n";
     refuse(err, Status::Usage, usage)
 }
 

@@ -92,12 +92,12 @@ shrink|cap|cap|0 3 1 0|4||write fault~
 shrink|cap|cap|2 9 0 1|3||
 shrink|cap|cap|2 9 0 2|3||read faul
 make --kind kuhn --ranks 3 --suits 1 --cap 1|cap|cap|1 3 2 0|4|ver|write fault~
-|cap|cap|1 9 1 0|2||usage: gameshrink shrink, check, evaluate, query, make or upgrade~
-frob|cap|cap|0 9 0 0|2||usage: gameshrink shrink, check, evaluate, query, make or upgrade~
-shrink shrink|cap|cap|0 9 0 0|2||usage: gameshrink shrink, check, evaluate, query, make or upgrade~
-play --turns 01|cap|cap|0 9 0 0|2||usage: gameshrink shrink, check, evaluate, query, make or upgrade~
-check --classes all|cap|cap|0 9 0 0|2||usage: gameshrink shrink, check, evaluate, query, make or upgrade~
-make --kind rhode --ranks 14 --suits 4 --cap 3|cap|cap|0 9 0 0|2||usage: gameshrink shrink, check, evaluate, query, make or upgrade~
+|cap|cap|1 9 1 0|2||usage: gameshrink shrink, check, solve, play, evaluate, query, make, upgrade, judge, duel, certify, verify or path~
+frob|cap|cap|0 9 0 0|2||usage: gameshrink shrink, check, solve, play, evaluate, query, make, upgrade, judge, duel, certify, verify or path~
+shrink shrink|cap|cap|0 9 0 0|2||usage: gameshrink shrink, check, solve, play, evaluate, query, make, upgrade, judge, duel, certify, verify or path~
+play --turns 01|cap|cap|0 9 0 0|2||usage: gameshrink shrink, check, solve, play, evaluate, query, make, upgrade, judge, duel, certify, verify or path~
+check --classes all|cap|cap|0 9 0 0|2||usage: gameshrink shrink, check, solve, play, evaluate, query, make, upgrade, judge, duel, certify, verify or path~
+make --kind rhode --ranks 14 --suits 4 --cap 3|cap|cap|0 9 0 0|2||usage: gameshrink shrink, check, solve, play, evaluate, query, make, upgrade, judge, duel, certify, verify or path~
 ";
 
 /// How a run ended: its status, what went out and what was told.

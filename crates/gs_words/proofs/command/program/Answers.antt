@@ -11,5 +11,5 @@ loop-name-preserved c = record {
 
 pub returns : goal.returns
 returns c =
-    let all : c.loop-name.name-index ≡ 6 = omega (arith, c.loop-name-test.false, c.loop-name.auto.name-index-end) in
+    let all : c.loop-name.name-index ≡ 13 = omega (arith, c.loop-name-test.false, c.loop-name.auto.name-index-end) in
     all_of commands c.loop-name.name-index c.loop-name.command all c.loop-name.invariant.so_far

@@ -1,6 +1,6 @@
 use Rattle.std.proofs.Common.{ℕ, List, map, string_bytes}
-use Rattle.shrink_cli.proofs.Completed.{checks_at_last, completes, evaluates_at_last, files_at_last, makes_at_last, queries_at_last, shrinks_at_last, upgrades_at_last}
-use Rattle.shrink_cli.proofs.Promised.{checks, evaluates, makes, prints, queries, shrinks, upgrades}
+use Rattle.shrink_cli.proofs.Completed.{checks_at_last, completes, evaluates_at_last, files_at_last, makes_at_last, paths_at_last, plays_at_last, queries_at_last, shrinks_at_last, solves_at_last, upgrades_at_last}
+use Rattle.shrink_cli.proofs.Promised.{checks, evaluates, makes, paths, plays, prints, queries, shrinks, solves, upgrades}
 use Rattle.shrink_cli.specs.Promises.{Keeps}
 use Rattle.shrink_cli.specs.Running.{Ends, RunsTo}
 use Rattle.shrink_cli.specs.declared.status.Status.{Status}
@@ -14,12 +14,18 @@ kept words old new s h = record {
   shrinks = shrinks words old new s h;
   checks = checks words old new s h;
   makes = makes words old new s h;
+  solves = solves words old new s h;
+  plays = plays words old new s h;
+  paths = paths words old new s h;
   evaluates = evaluates words old new s h;
   queries = queries words old new s h;
   upgrades = upgrades words old new s h;
   completes = completes words old new s h;
   shrinks_at_last = shrinks_at_last words old new s h;
   checks_at_last = checks_at_last words old new s h;
+  solves_at_last = solves_at_last words old new s h;
+  plays_at_last = plays_at_last words old new s h;
+  paths_at_last = paths_at_last words old new s h;
   evaluates_at_last = evaluates_at_last words old new s h;
   queries_at_last = queries_at_last words old new s h;
   upgrades_at_last = upgrades_at_last words old new s h;
