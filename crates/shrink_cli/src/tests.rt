@@ -6,6 +6,9 @@ use super::*;
 use gs_io::{MemSink, MemSource, SureSource};
 use std::alloc::{AllocError, Global};
 use std::test::Fail;
+use strategies::STRATEGY_RUNS;
+
+mod strategies;
 
 /// Kuhn's game: three ranks and one suit. A tilde stands for the end of a line, here and below.
 const KUHN: &str =
@@ -121,7 +124,7 @@ fn run_over(
 {
     let bytes = Vec::from_slice(alloc, input)?;
     let mut source = MemSource::new(bytes, 16, Vec::from_slice(alloc, &[fails.0])?);
-    let mut out = MemSink::new(alloc, 1000, piece, Vec::from_slice(alloc, &[fails.1])?)?;
+    let mut out = MemSink::new(alloc, 10_000, piece, Vec::from_slice(alloc, &[fails.1])?)?;
     let mut err = MemSink::new(alloc, 1000, 9, Vec::from_slice(alloc, &[fails.2])?)?;
     let status = run(alloc, words, &mut source, &mut out, &mut err);
     Ok(Outcome { status, out, err })
@@ -171,6 +174,29 @@ fn numbers_in(alloc: Global, row: &str) -> Result<Vec<u32>, AllocError> {
 fn each_status_with_its_texts(rt: HostRuntime) -> Result<(), Fail> {
     let alloc = rt.alloc();
     for row in RUNS.lines() {
+        let mut parts = row.split('|');
+        let words = words_in(alloc, parts.next().ok_or("words")?)?;
+        let old = parts.next().ok_or("old")?;
+        let input = input_of(alloc, old, parts.next().ok_or("new")?)?;
+        let numbers = numbers_in(alloc, parts.next().ok_or("numbers")?)?;
+        assert_eq!(rt; numbers.len(), 4, "{row}");
+        assert!(rt; 1 <= numbers[1], "{row}");
+        let fails = (numbers[0], numbers[2], numbers[3]);
+        let end = run_over(alloc, &words, input.as_bytes(), fails, numbers[1])?;
+        let code = parts.next().ok_or("code")?.parse::<u8>()?;
+        let out = text_of(alloc, parts.next().ok_or("out")?)?;
+        let err = text_of(alloc, parts.next().ok_or("err")?)?;
+        assert_eq!(rt; end.status.code(), code, "{row}");
+        assert_eq!(rt; end.out.given(), out.as_bytes(), "{row}");
+        assert_eq!(rt; end.err.given(), err.as_bytes(), "{row}");
+    }
+    Ok(())
+}
+
+#[test]
+fn each_command_over_strategies(rt: HostRuntime) -> Result<(), Fail> {
+    let alloc = rt.alloc();
+    for row in STRATEGY_RUNS.lines() {
         let mut parts = row.split('|');
         let words = words_in(alloc, parts.next().ok_or("words")?)?;
         let old = parts.next().ok_or("old")?;
