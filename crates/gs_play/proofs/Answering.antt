@@ -1,0 +1,21 @@
+-- The plan that puts all on the moves of best totals is a plan.
+use Rattle.std.proofs.Common.{◌≡◌, ℕ, ◌<◌, List, length, refl}
+use Rattle.gs_model.specs.BestAnswers.{IsFirstBestPlan, Values}
+use Rattle.gs_model.specs.Classes.{ClassLists, IsClasses}
+use Rattle.gs_model.specs.Frame.{Frame, point_count}
+use Rattle.gs_model.specs.FrameFacts.{InRange, IsWalked}
+use Rattle.gs_model.specs.Lossless.{IsLossless}
+use Rattle.gs_model.specs.Plans.{Plan, lift}
+use Rattle.gs_seq.specs.Slots.{IsPlan, plan_of, slot_count}
+use Rattle.gs_best.specs.Puts.{ArePutBefore}
+use Rattle.gs_best.proofs.AllOn.{put_is_plan}
+use Rattle.gs_totals.specs.ClassTotals.{AreBestTotals}
+use Rattle.gs_totals.proofs.TotalAnswers.{chosen_is_best}
+
+pub put_best : (f : Frame) → InRange f → (lists : ClassLists) → IsClasses f.parents lists → IsLossless f lists → (player : ℕ) → IsWalked f player → (y : Plan) (v : Values) (move : ℕ → ℕ → ℕ) (weights : List ℕ)
+    → AreBestTotals f lists player y v move → ArePutBefore f lists player move weights (point_count f) → IsFirstBestPlan f lists player (lift f lists y) (plan_of f lists 1 weights)
+put_best f r lists k lossless player w y v move weights best puts = chosen_is_best f r lists k lossless player w y v move best (plan_of f lists 1 weights) refl (λ q c m lq own lc lm. puts q c lq own lc m lm)
+
+pub put_plan : (f : Frame) → InRange f → (lists : ClassLists) → IsClasses f.parents lists → IsLossless f lists → (player : ℕ) → IsWalked f player → (y : Plan) (v : Values) (move : ℕ → ℕ → ℕ) (weights : List ℕ)
+    → AreBestTotals f lists player y v move → ArePutBefore f lists player move weights (point_count f) → length weights ≡ slot_count f lists player → IsPlan f lists player 1 weights
+put_plan f r lists k lossless player w y v move weights best puts long = put_is_plan f r lists k player w (lift f lists y) weights long (put_best f r lists k lossless player w y v move weights best puts)

@@ -1,0 +1,52 @@
+use Rattle.std.proofs.Common.{◌≡◌, ℕ, ◌+◌, ◌*◌, ◌<◌, List, length, slice_index, sym, ap, ◌∙◌, subst, arith}
+use Rattle.std.proofs.Math.Nat.{mul-le-mul_left}
+use Rattle.std.specs.Vec.{with_items}
+use Rattle.std.proofs.lemmas.List.{with_items_is}
+use Rattle.gs_seq.specs.Abstracts.{frame_of, lists_of}
+use Rattle.gs_seq.specs.Slots.{plan_of}
+use Rattle.gs_best.proofs.Forms.{form_classes, form_in_range, form_walked}
+use Rattle.gs_totals.specs.KeptSums.{AreAlike, plus_times}
+use Rattle.gs_play.specs.Added.{AreAdded}
+use Rattle.gs_play.proofs.Within.{added_alike, weight_within}
+use Rattle.gs_play.proofs.adding.add_times.Goals as goal
+
+pub add_weights-requires-clause-fits : goal.add_weights-requires-clause-fits
+add_weights-requires-clause-fits c =
+    let a = c.args.form.now in
+    let player = c.args.player in
+    let k = form_classes a c.round_total-rounds.ensures.sound in
+    let w = form_walked a player c.requires.some c.requires.two in
+    let sum = c.args.sum.now in
+    let more = c.args.more.now in
+    λ slot l.
+    let one = ap (λ (zs : List ℕ). slice_index zs slot) c.deref_mut.ensures.value in
+    let two = ap (λ (zs : List ℕ). c.args.times * slice_index zs slot) c.deref.ensures.value in
+    let long = ap (λ (zs : List ℕ). length zs) c.deref_mut.ensures.value in
+    let room : slot < length sum.weights.items = omega (arith, l, long) in
+    let room_more : slot < length more.weights.items = omega (arith, room, c.requires.sum.plan.long, c.requires.more.plan.long) in
+    let first = weight_within (frame_of a) (form_in_range a) (lists_of a) k player w sum.total sum.weights.items c.requires.sum.plan slot room in
+    let second = weight_within (frame_of a) (form_in_range a) (lists_of a) k player w more.total more.weights.items c.requires.more.plan slot room_more in
+    let most = mul-le-mul_left c.args.times second in
+    let is = ap (λ n. c.args.times * n) c.requires.one in
+    omega (arith, one, two, first, most, is, c.requires.total)
+
+pub returns-clause-sum : goal.returns-clause-sum
+returns-clause-sum c =
+    let a = c.args.form.now in
+    let f = frame_of a in
+    let lists = lists_of a in
+    let player = c.args.player in
+    let k = form_classes a c.round_total-rounds.ensures.sound in
+    let w = form_walked a player c.requires.some c.requires.two in
+    let sum = c.args.sum.now in
+    let more = c.args.more.now in
+    let times = c.args.times in
+    let new = c.add_weights.new.weights in
+    let long : length new ≡ sum.weights.len = omega (arith, sum.weights.ok.0, c.add_weights.ensures.long, ap (λ (zs : List ℕ). length zs) c.deref_mut.ensures.value) in
+    let same = with_items_is sum.weights new long in
+    let added : AreAdded sum.weights.items more.weights.items times new =
+    subst (λ (zs : List ℕ). AreAdded zs more.weights.items times new) c.deref_mut.ensures.value (subst (λ (zs : List ℕ). AreAdded c.deref_mut.result.now zs times new) c.deref.ensures.value c.add_weights.ensures) in
+    let t : c.from.result ≡ times = c.from.ensures in
+    subst (λ n. AreAlike f lists player (plan_of f lists (sum.total + n) (with_items sum.weights new).items) (plus_times (plan_of f lists sum.total sum.weights.items) times (plan_of f lists more.total more.weights.items))) (sym t)
+    (subst (λ (zs : List ℕ). AreAlike f lists player (plan_of f lists (sum.total + times) zs) (plus_times (plan_of f lists sum.total sum.weights.items) times (plan_of f lists more.total more.weights.items))) (sym same)
+    (added_alike f (form_in_range a) lists k player w sum.total more.total times sum.weights.items more.weights.items new c.requires.one c.requires.sum.plan.long added))

@@ -1,0 +1,67 @@
+use Rattle.std.proofs.Common.{◌≡◌, ℕ, ◌≤◌, ◌++◌, List, length, take, drop, sym, ap, ◌∙◌, subst, arith, Vec}
+use Rattle.std.specs.Prelude.{ℤ}
+use Rattle.std.specs.declared.alloc.Global.{Global}
+use Rattle.gs_model.specs.Frame.{point_count}
+use Rattle.gs_seq.specs.Abstracts.{frame_of, lists_of}
+use Rattle.gs_seq.specs.Plans.{class_plan}
+use Rattle.gs_seq.specs.Slots.{IsPlan, slot_count}
+use Rattle.gs_best.specs.Puts.{ArePutBefore}
+use Rattle.gs_best.specs.Tables.{moves_of, start_of}
+use Rattle.gs_best.proofs.Filled.{written}
+use Rattle.gs_best.proofs.Forms.{form_classes, form_in_range, form_lossless, form_walked}
+use Rattle.gs_totals.specs.ClassTotals.{AreBestTotals}
+use Rattle.gs_totals.specs.Places.{AreEndSums, totals_of}
+use Rattle.gs_play.proofs.Answering.{put_plan}
+use Rattle.gs_play.proofs.seats.answer.Goals as goal
+
+pub find-requires-clause-long : goal.find-requires-clause-long
+find-requires-clause-long c = ap (λ (l : List ℕ). length l) c.deref_mut-2.ensures.value ∙ c.requires.seat.room.answer.plan.long
+
+pub returns-clause-answered : goal.returns-clause-answered
+returns-clause-answered c =
+    let a = c.args.form.now in
+    let f = frame_of a in
+    let lists = lists_of a in
+    let player = c.args.player in
+    let y = class_plan f lists c.args.other.now in
+    let old = c.args.seat.now.picks in
+    let was = c.args.seat.now.answer.weights in
+    let picks = c.find.new.picks in
+    let weights = c.find.new.weights in
+    let picks_are = written old.len picks (drop (length picks) old.items) (omega (arith, c.find.auto.picks, ap (λ (l : List ℕ). length l) c.deref_mut.ensures.value, old.ok.0)) in
+    let weights_are = written was.len weights (drop (length weights) was.items) (omega (arith, c.find.auto.weights, ap (λ (l : List ℕ). length l) c.deref_mut-2.ensures.value, was.ok.0)) in
+    record {
+      best = subst (λ l. AreBestTotals f lists player y (totals_of f lists player y c.find.new.totals.points.items) (moves_of f lists l)) (sym picks_are) c.find.ensures.best;
+      puts = subst (λ l. ArePutBefore f lists player (moves_of f lists l) (take was.len (weights ++ drop (length weights) was.items)) (point_count f)) (sym picks_are)
+          (subst (λ l. ArePutBefore f lists player (moves_of f lists picks) l (point_count f)) (sym weights_are) c.find.ensures.puts);
+    }
+
+pub returns-clause-seat : goal.returns-clause-seat
+returns-clause-seat c =
+    let a = c.args.form.now in
+    let f = frame_of a in
+    let lists = lists_of a in
+    let player = c.args.player in
+    let y = class_plan f lists c.args.other.now in
+    let room = c.requires.seat.room in
+    let old = c.args.seat.now.picks in
+    let was = c.args.seat.now.answer.weights in
+    let picks = c.find.new.picks in
+    let weights = c.find.new.weights in
+    let picks_are = written old.len picks (drop (length picks) old.items) (omega (arith, c.find.auto.picks, ap (λ (l : List ℕ). length l) c.deref_mut.ensures.value, old.ok.0)) in
+    let weights_are = written was.len weights (drop (length weights) was.items) (omega (arith, c.find.auto.weights, ap (λ (l : List ℕ). length l) c.deref_mut-2.ensures.value, was.ok.0)) in
+    let long : length weights ≡ slot_count f lists player = c.find.auto.weights ∙ ap (λ (l : List ℕ). length l) c.deref_mut-2.ensures.value ∙ room.answer.plan.long in
+    let plan = put_plan f (form_in_range a) lists (form_classes a c.round_total-rounds.ensures.sound) (form_lossless a) player (form_walked a player c.requires.some c.requires.two) y (totals_of f lists player y c.find.new.totals.points.items) (moves_of f lists picks) weights
+    c.find.ensures.best c.find.ensures.puts long in
+    record {
+      room = record {
+        answer = record {
+          player_is = room.answer.player_is;
+          plan = subst (λ t. IsPlan f lists player t (take was.len (weights ++ drop (length weights) was.items))) (sym room.one) (subst (IsPlan f lists player 1) (sym weights_are) plan);
+        };
+        one = room.one;
+        rows = c.find.ensures.rows;
+        picks = subst (λ l. start_of f lists (point_count f) ≤ length l) (sym picks_are) (omega (arith, room.picks, c.find.auto.picks, ap (λ (l : List ℕ). length l) c.deref_mut.ensures.value));
+      };
+      paid = subst (λ (l : Vec ℤ Global). AreEndSums f lists player y l.items) (sym c.find.ensures.paid) c.requires.seat.paid;
+    }

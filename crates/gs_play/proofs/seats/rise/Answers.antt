@@ -1,0 +1,20 @@
+use Rattle.std.proofs.Common.{List, ℕ, sym, subst, Vec}
+use Rattle.std.specs.Prelude.{ℤ}
+use Rattle.std.specs.declared.alloc.Global.{Global}
+use Rattle.gs_seq.specs.Abstracts.{frame_of, lists_of}
+use Rattle.gs_seq.specs.Plans.{class_plan}
+use Rattle.gs_best.specs.Tables.{moves_of}
+use Rattle.gs_totals.specs.ClassTotals.{IsFollowed}
+use Rattle.gs_totals.specs.Places.{AreEndSums, totals_of}
+use Rattle.gs_play.proofs.seats.rise.Goals as goal
+
+pub returns-clause-rises : goal.returns-clause-rises
+returns-clause-rises c =
+    let f = frame_of c.args.form.now in
+    let lists = lists_of c.args.form.now in
+    let player = c.args.player in
+    let b = class_plan f lists c.args.more.now in
+    record {
+      paid = subst (λ (l : Vec ℤ Global). AreEndSums f lists player b l.items) (sym c.follow.ensures.paid) c.read_ends.ensures.paid;
+      followed = subst (λ (l : List ℕ). IsFollowed f lists player b (totals_of f lists player b c.follow.new.totals.points.items) (moves_of f lists l)) c.deref.ensures.value c.follow.ensures.followed;
+    }

@@ -1,0 +1,45 @@
+-- What a player holds while the turns go on. Of private functions.
+use Rattle.std.specs.Prelude.{ℕ, ◌-◌, ◌<◌, ◌≤◌, ◌≡◌, List, length}
+use Rattle.gs_model.specs.Classes.{ClassLists}
+use Rattle.gs_model.specs.Frame.{Frame, point_count}
+use Rattle.gs_model.specs.Plans.{Plan as ModelPlan}
+use Rattle.gs_model.specs.Play.{IsFictitiousPlay}
+use Rattle.gs_seq.specs.Plans.{IsPlanOf, class_plan}
+use Rattle.gs_best.specs.Puts.{ArePutBefore}
+use Rattle.gs_best.specs.Tables.{moves_of, start_of}
+use Rattle.gs_totals.specs.ClassTotals.{AreBestTotals, IsFollowed}
+use Rattle.gs_totals.specs.Places.{AreEndSums, totals_of}
+use Rattle.gs_totals.specs.Room.{HasRows}
+use Rattle.gs_totals.specs.declared.places.Totals.{Totals}
+use Rattle.gs_play.specs.declared.seats.Seat.{Seat}
+
+-- room for a player's totals and choices, and an answer of his
+pub record HasRoom (f : Frame) (lists : ClassLists) (player : ℕ) (s : Seat) : Type 0 where
+  pub answer : IsPlanOf f lists player s.answer
+  pub one : s.answer.total ≡ 1
+  pub rows : HasRows f lists s.totals
+  pub picks : start_of f lists (point_count f) ≤ length s.picks.items
+
+-- and what ends pay him against the other's plan y
+pub record IsSeat (f : Frame) (lists : ClassLists) (player : ℕ) (y : ModelPlan) (s : Seat) : Type 0 where
+  pub room : HasRoom f lists player s
+  pub paid : AreEndSums f lists player y s.totals.ends.items
+
+-- his best totals against y, and the answer that puts all on the moves that they choose
+pub record HasAnswered (f : Frame) (lists : ClassLists) (player : ℕ) (y : ModelPlan) (s : Seat) : Type 0 where
+  pub best : AreBestTotals f lists player y (totals_of f lists player y s.totals.points.items) (moves_of f lists s.picks.items)
+  pub puts : ArePutBefore f lists player (moves_of f lists s.picks.items) s.answer.weights.items (point_count f)
+
+-- what the other's answer b adds to them each turn
+pub record HasRises (f : Frame) (lists : ClassLists) (player : ℕ) (b : ModelPlan) (picks : List ℕ) (steps : Totals) : Type 0 where
+  pub paid : AreEndSums f lists player b steps.ends.items
+  pub followed : IsFollowed f lists player b (totals_of f lists player b steps.points.items) (moves_of f lists picks)
+
+-- both players hold their plans after some turns: as many as a plan's total less one
+pub record ArePlaying (f : Frame) (lists : ClassLists) (one two : Seat) : Type 0 where
+  pub plan_one : IsPlanOf f lists 1 one.plan
+  pub plan_two : IsPlanOf f lists 2 two.plan
+  pub seat_one : IsSeat f lists 1 (class_plan f lists two.plan) one
+  pub seat_two : IsSeat f lists 2 (class_plan f lists one.plan) two
+  pub total : two.plan.total ≡ one.plan.total
+  pub played : IsFictitiousPlay f lists (one.plan.total - 1) (class_plan f lists one.plan) (class_plan f lists two.plan)

@@ -1,0 +1,251 @@
+//! What each player holds while the turns go on.
+
+ghost use Rattle.std.specs.Prelude.{◌≡◌, ◌-◌, ◌+◌, ◌*◌, ◌<◌, ◌≤◌, ◌^◌, ℕ, IfOk, pos, get_or, length};
+ghost use Rattle.gs_filter.specs.Filter.{IsSound};
+ghost use Rattle.gs_model.specs.Classes.{IsClass};
+ghost use Rattle.gs_model.specs.Frame.{end_count, other_player, point_count, round_of};
+ghost use Rattle.gs_model.specs.Play.{IsFirstMoves};
+ghost use Rattle.gs_model.specs.Positions.{at_end};
+ghost use Rattle.gs_seq.specs.Abstracts.{frame_of, lists_of};
+ghost use Rattle.gs_seq.specs.Plans.{IsPlanOf, class_plan};
+ghost use Rattle.gs_seq.specs.Slots.{slot_count};
+ghost use Rattle.gs_best.specs.Puts.{ArePutBefore};
+ghost use Rattle.gs_best.specs.Tables.{moves_of, start_of};
+ghost use Rattle.gs_totals.specs.ClassTotals.{AreBestTotals};
+ghost use Rattle.gs_totals.specs.Jumps.{AreBeforeChange, line};
+ghost use Rattle.gs_totals.specs.KeptSums.{AreAlike, plus_times};
+ghost use Rattle.gs_totals.specs.Places.{AreEndSums, AreInMoves, AreSmallRows, end_start, totals_of};
+ghost use Rattle.gs_totals.specs.Room.{HasRows, HasScratch, IsPlaced};
+ghost use Rattle.gs_play.specs.Seats.{HasAnswered, HasRises, HasRoom, IsSeat};
+
+use crate::adding::add_times;
+use gs_best::{Deviator, round_total};
+use gs_seq::{Abstract, Plan};
+use gs_totals::{
+    Course, Places, Scratch, Totals, advance, fill, follow, lasting, picks_for, put_all, read_ends,
+};
+use std::alloc::{AllocError, Global};
+
+/// A player's plan so far and his best answer, and what these rest on: his class totals against the other's plan, and the moves that they choose.
+#[derive(Drop)]
+pub(crate) struct Seat {
+    pub(crate) plan: Plan,
+    pub(crate) answer: Plan,
+    pub(crate) totals: Totals,
+    pub(crate) picks: Vec<u8>,
+}
+
+/// A player with the plan that takes the first move everywhere.
+pub(crate) fn seat_of(alloc: Global, form: &Abstract, player: u8) -> Result<Seat, AllocError>
+    requires some { 0 < player }
+    requires two { player ≤ 2 }
+    ensures room { IfOk result (HasRoom (frame_of form.now) (lists_of form.now) player) }
+    ensures plan { IfOk result (λ s. IsPlanOf (frame_of form.now) (lists_of form.now) player s.plan) }
+    ensures first { IfOk result (λ s. IsFirstMoves (frame_of form.now) (lists_of form.now) player (class_plan (frame_of form.now) (lists_of form.now) s.plan)) }
+{
+    let plan = form.first_plan(alloc, player)?;
+    let answer = form.first_plan(alloc, player)?;
+    let totals = Totals::of(alloc, form)?;
+    let picks = picks_for(alloc, form)?;
+    Ok(Seat {
+        plan,
+        answer,
+        totals,
+        picks,
+    })
+}
+
+/// Reads what ends pay a player against the other's plan.
+pub(crate) fn begin(form: &Abstract, player: u8, places: &Places, seat: &mut Seat, other: &Plan)
+    requires some { 0 < player }
+    requires two { player ≤ 2 }
+    requires placed { IsPlaced (frame_of form.now) (lists_of form.now) places.now }
+    requires room { HasRoom (frame_of form.now) (lists_of form.now) player seat.old }
+    requires plan { IsPlanOf (frame_of form.now) (lists_of form.now) player seat.old.plan }
+    requires other { IsPlanOf (frame_of form.now) (lists_of form.now) (other_player player) other.now }
+    ensures seat { IsSeat (frame_of form.now) (lists_of form.now) player (class_plan (frame_of form.now) (lists_of form.now) other.now) seat.new }
+    ensures plan { seat.new.plan ≡ seat.old.plan }
+{
+    let side = Deviator {
+        form,
+        player,
+        other,
+    };
+    read_ends(&side, places, &mut seat.totals);
+}
+
+/// Finds a player's best totals against the other's plan with the moves that they choose, and the weights of the plan that puts all on them.
+fn find(
+    form: &Abstract,
+    player: u8,
+    places: &Places,
+    totals: &mut Totals,
+    picks: &mut [u8],
+    weights: &mut [u64],
+    other: &Plan,
+    scratch: &mut Scratch,
+)
+    requires some { 0 < player }
+    requires two { player ≤ 2 }
+    requires placed { IsPlaced (frame_of form.now) (lists_of form.now) places.now }
+    requires rows { HasRows (frame_of form.now) (lists_of form.now) totals.old }
+    requires paid { AreEndSums (frame_of form.now) (lists_of form.now) player (class_plan (frame_of form.now) (lists_of form.now) other.now) totals.old.ends.items }
+    requires picks { start_of (frame_of form.now) (lists_of form.now) (point_count (frame_of form.now)) ≤ length picks.old }
+    requires long { length weights.old ≡ slot_count (frame_of form.now) (lists_of form.now) player }
+    requires other { IsPlanOf (frame_of form.now) (lists_of form.now) (other_player player) other.now }
+    requires scratch { HasScratch (frame_of form.now) (lists_of form.now) scratch.old }
+    ensures scratch { HasScratch (frame_of form.now) (lists_of form.now) scratch.new }
+    ensures rows { HasRows (frame_of form.now) (lists_of form.now) totals.new }
+    ensures paid { totals.new.ends ≡ totals.old.ends }
+    ensures best { let f = frame_of form.now in let lists = lists_of form.now in let y = class_plan f lists other.now in
+        AreBestTotals f lists player y (totals_of f lists player y totals.new.points.items) (moves_of f lists picks.new) }
+    ensures puts { let f = frame_of form.now in let lists = lists_of form.now in ArePutBefore f lists player (moves_of f lists picks.new) weights.new (point_count f) }
+{
+    let side = Deviator {
+        form,
+        player,
+        other,
+    };
+    fill(&side, places, totals, picks, scratch);
+    put_all(form, player, places, picks, weights);
+}
+
+/// Finds a player's best answer to the other's plan.
+pub(crate) fn answer(
+    form: &Abstract,
+    player: u8,
+    places: &Places,
+    seat: &mut Seat,
+    other: &Plan,
+    scratch: &mut Scratch,
+)
+    requires some { 0 < player }
+    requires two { player ≤ 2 }
+    requires placed { IsPlaced (frame_of form.now) (lists_of form.now) places.now }
+    requires seat { IsSeat (frame_of form.now) (lists_of form.now) player (class_plan (frame_of form.now) (lists_of form.now) other.now) seat.old }
+    requires other { IsPlanOf (frame_of form.now) (lists_of form.now) (other_player player) other.now }
+    requires scratch { HasScratch (frame_of form.now) (lists_of form.now) scratch.old }
+    ensures scratch { HasScratch (frame_of form.now) (lists_of form.now) scratch.new }
+    ensures seat { IsSeat (frame_of form.now) (lists_of form.now) player (class_plan (frame_of form.now) (lists_of form.now) other.now) seat.new }
+    ensures answered { HasAnswered (frame_of form.now) (lists_of form.now) player (class_plan (frame_of form.now) (lists_of form.now) other.now) seat.new }
+    ensures plan { seat.new.plan ≡ seat.old.plan }
+{
+    let _rounds = round_total(form);
+    find(
+        form,
+        player,
+        places,
+        &mut seat.totals,
+        &mut seat.picks,
+        &mut seat.answer.weights,
+        other,
+        scratch,
+    );
+}
+
+/// Finds what the other's answer adds to a player's totals each turn, as long as his choices stay.
+pub(crate) fn rise(
+    form: &Abstract,
+    player: u8,
+    places: &Places,
+    seat: &Seat,
+    more: &Plan,
+    steps: &mut Totals,
+    scratch: &mut Scratch,
+)
+    requires some { 0 < player }
+    requires two { player ≤ 2 }
+    requires placed { IsPlaced (frame_of form.now) (lists_of form.now) places.now }
+    requires room { HasRoom (frame_of form.now) (lists_of form.now) player seat.now }
+    requires moves { let f = frame_of form.now in let lists = lists_of form.now in AreInMoves f lists player (moves_of f lists seat.now.picks.items) }
+    requires more { IsPlanOf (frame_of form.now) (lists_of form.now) (other_player player) more.now }
+    requires rows { HasRows (frame_of form.now) (lists_of form.now) steps.old }
+    requires scratch { HasScratch (frame_of form.now) (lists_of form.now) scratch.old }
+    ensures scratch { HasScratch (frame_of form.now) (lists_of form.now) scratch.new }
+    ensures rows { HasRows (frame_of form.now) (lists_of form.now) steps.new }
+    ensures rises { HasRises (frame_of form.now) (lists_of form.now) player (class_plan (frame_of form.now) (lists_of form.now) more.now) seat.now.picks.items steps.new }
+{
+    let side = Deviator {
+        form,
+        player,
+        other: more,
+    };
+    read_ends(&side, places, steps);
+    follow(&side, places, steps, &seat.picks, scratch);
+}
+
+/// A number of turns, at most so many, in which no choice of a player changes.
+pub(crate) fn lasts(
+    form: &Abstract,
+    player: u8,
+    places: &Places,
+    seat: &Seat,
+    other: &Plan,
+    more: &Plan,
+    steps: &Totals,
+    scratch: &mut Scratch,
+    times: u32,
+) -> u32
+    requires some { 0 < player }
+    requires two { player ≤ 2 }
+    requires placed { IsPlaced (frame_of form.now) (lists_of form.now) places.now }
+    requires seat { IsSeat (frame_of form.now) (lists_of form.now) player (class_plan (frame_of form.now) (lists_of form.now) other.now) seat.now }
+    requires answered { HasAnswered (frame_of form.now) (lists_of form.now) player (class_plan (frame_of form.now) (lists_of form.now) other.now) seat.now }
+    requires other { IsPlanOf (frame_of form.now) (lists_of form.now) (other_player player) other.now }
+    requires more { IsPlanOf (frame_of form.now) (lists_of form.now) (other_player player) more.now }
+    requires rows { HasRows (frame_of form.now) (lists_of form.now) steps.now }
+    requires rises { HasRises (frame_of form.now) (lists_of form.now) player (class_plan (frame_of form.now) (lists_of form.now) more.now) seat.now.picks.items steps.now }
+    requires scratch { HasScratch (frame_of form.now) (lists_of form.now) scratch.old }
+    ensures scratch { HasScratch (frame_of form.now) (lists_of form.now) scratch.new }
+    ensures lasts { let f = frame_of form.now in let lists = lists_of form.now in
+        AreBeforeChange f lists player (totals_of f lists player (class_plan f lists other.now) seat.now.totals.points.items)
+        (totals_of f lists player (class_plan f lists more.now) steps.now.points.items) (moves_of f lists seat.now.picks.items) result }
+    ensures most { result ≤ times }
+    ensures some { 0 < times → 0 < result }
+{
+    let course = Course {
+        form,
+        player,
+        other,
+        more,
+        places,
+        totals: &seat.totals,
+        steps,
+        picks: &seat.picks,
+    };
+    lasting(&course, scratch, times)
+}
+
+/// Adds a player's answer to his plan so many times, and to his totals what the other's answer adds each time.
+pub(crate) fn move_on(
+    form: &Abstract,
+    player: u8,
+    places: &Places,
+    seat: &mut Seat,
+    steps: &Totals,
+    times: u32,
+)
+    requires some { 0 < player }
+    requires two { player ≤ 2 }
+    requires placed { IsPlaced (frame_of form.now) (lists_of form.now) places.now }
+    requires room { HasRoom (frame_of form.now) (lists_of form.now) player seat.old }
+    requires plan { IsPlanOf (frame_of form.now) (lists_of form.now) player seat.old.plan }
+    requires total { seat.old.plan.total + times ≤ 2 ^ 36 }
+    requires rows { HasRows (frame_of form.now) (lists_of form.now) steps.now }
+    requires small { AreSmallRows (frame_of form.now) (lists_of form.now) seat.old.totals.ends.items }
+    requires small_steps { AreSmallRows (frame_of form.now) (lists_of form.now) steps.now.ends.items }
+    requires few { times ≤ 2 ^ 20 }
+    ensures room { HasRoom (frame_of form.now) (lists_of form.now) player seat.new }
+    ensures player { seat.new.plan.player ≡ seat.old.plan.player }
+    ensures total { seat.new.plan.total ≡ seat.old.plan.total + times }
+    ensures long { length seat.new.plan.weights.items ≡ slot_count (frame_of form.now) (lists_of form.now) player }
+    ensures sum { let f = frame_of form.now in let lists = lists_of form.now in
+        AreAlike f lists player (class_plan f lists seat.new.plan) (plus_times (class_plan f lists seat.old.plan) times (class_plan f lists seat.old.answer)) }
+    ensures lines { let f = frame_of form.now in let lists = lists_of form.now in
+        (z c : ℕ) → z < end_count f → IsClass lists (round_of f (at_end z)) c
+        → get_or seat.new.totals.ends.items (end_start f lists z + (c - 1)) (pos 0)
+        ≡ line (get_or seat.old.totals.ends.items (end_start f lists z + (c - 1)) (pos 0)) (get_or steps.now.ends.items (end_start f lists z + (c - 1)) (pos 0)) times }
+{
+    advance(form, places, &mut seat.totals, steps, times);
+    add_times(form, player, &mut seat.plan, &seat.answer, times);
+}

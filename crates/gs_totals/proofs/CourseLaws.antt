@@ -1,0 +1,121 @@
+-- What a course holds: its totals and steps are small, and no move is ahead of the chosen one.
+use Rattle.std.proofs.Common.{◌≡◌, ◌≢◌, ℕ, ◌+◌, ◌-◌, ◌^◌, ◌<◌, ◌≤◌, List, get_or, sym, ap, ◌∙◌, subst, arith}
+use Rattle.std.specs.Prelude.{IsTrue, ℤ, pos, ◌-ℤ◌, nat_lt, slice_index, unsigned_abs}
+use Rattle.std.proofs.lemmas.Int.{ints}
+use borrow.Author.Differences.{abs_is}
+use Rattle.gs_filter.specs.Filter.{IsSound}
+use Rattle.gs_model.specs.BestAnswers.{Values}
+use Rattle.gs_model.specs.Classes.{ClassLists, IsClass, class_count}
+use Rattle.gs_model.specs.Frame.{Frame, move_count, player_at, point_count, round_of}
+use Rattle.gs_model.specs.Plans.{Plan}
+use Rattle.gs_model.specs.Positions.{at_point}
+use Rattle.gs_best.specs.Tables.{start_of}
+use Rattle.gs_best.specs.declared.deviator.Deviator.{Deviator}
+use Rattle.gs_totals.specs.ClassTotals.{IsFollowed, total_worth}
+use Rattle.gs_totals.specs.Courses.{StaysBehind, frame_in, lists_in, moves_chosen, totals_added, totals_now}
+use Rattle.gs_totals.specs.Lasting.{AreBehind, IsBehind, IsNotAhead}
+use Rattle.gs_totals.specs.Merged.{AreModestFrom, AreWorths}
+use Rattle.gs_totals.specs.Places.{IsFollowedFrom}
+use Rattle.gs_totals.specs.declared.course.Course.{Course}
+use Rattle.gs_totals.proofs.Behind.{behind_same}
+use Rattle.gs_totals.proofs.Known.{known_modest, worth_modest}
+
+from_some : (f : Frame) (lists : ClassLists) (player : ℕ) (y : Plan) (v : Values) (move : ℕ → ℕ → ℕ) (from : ℕ) → IsFollowed f lists player y v move → IsFollowedFrom f lists player v move from
+from_some f lists player y v move from h = record {
+  in_range = λ q c lo. h.in_range q c;
+  reached = λ q c lo. h.reached q c;
+  at_others = λ q c lo. h.at_others q c;
+}
+
+abbrev pub now_side : Course → Deviator
+now_side k = record { form = k.form; player = k.player; other = k.other; some = k.some; two = k.two; plan = k.plan }
+
+abbrev pub added_side : Course → Deviator
+added_side k = record { form = k.form; player = k.player; other = k.more; some = k.some; two = k.two; plan = k.added }
+
+apart : (a b : ℤ) → unsigned_abs a < 2 ^ 110 → unsigned_abs b < 2 ^ 110 → unsigned_abs (a -ℤ b) < 2 ^ 120
+apart a b h g = omega (arith, ints, abs_is a, abs_is b, abs_is (a -ℤ b), h, g)
+
+module _ (k : Course) (s : IsSound k.form.now.lossless.now.classes.now) where
+  pub now_modest : (q : ℕ) → AreModestFrom (frame_in k) (lists_in k) (totals_now k) q
+  now_modest q = known_modest (now_side k) s k.totals.now.points.items (moves_chosen k) q (from_some (frame_in k) (lists_in k) k.player _ (totals_now k) (moves_chosen k) q k.best.followed)
+
+  pub added_modest : (q : ℕ) → AreModestFrom (frame_in k) (lists_in k) (totals_added k) q
+  added_modest q = known_modest (added_side k) s k.steps.now.points.items (moves_chosen k) q (from_some (frame_in k) (lists_in k) k.player _ (totals_added k) (moves_chosen k) q k.rise)
+
+  module _ (q m c : ℕ) (lq : q < point_count (frame_in k)) (lm : m < move_count (frame_in k) q) (lc : IsClass (lists_in k) (round_of (frame_in k) (at_point q)) c) where
+    pub gap_small : unsigned_abs (totals_now k (at_point q) c -ℤ total_worth (frame_in k) (lists_in k) (totals_now k) q m c) < 2 ^ 120
+    gap_small =
+        let even : q ≤ q = omega arith in
+        let a = now_modest q (at_point q) c lq even lc in
+        let b = worth_modest (now_side k) s (totals_now k) q m c (now_modest (q + 1)) lq lm lc in
+        apart (totals_now k (at_point q) c) (total_worth (frame_in k) (lists_in k) (totals_now k) q m c) (omega (arith, a)) (omega (arith, b))
+
+    pub gain_small : unsigned_abs (total_worth (frame_in k) (lists_in k) (totals_added k) q m c -ℤ totals_added k (at_point q) c) < 2 ^ 120
+    gain_small =
+        let even : q ≤ q = omega arith in
+        let a = added_modest q (at_point q) c lq even lc in
+        let b = worth_modest (added_side k) s (totals_added k) q m c (added_modest (q + 1)) lq lm lc in
+        apart (total_worth (frame_in k) (lists_in k) (totals_added k) q m c) (totals_added k (at_point q) c) (omega (arith, b)) (omega (arith, a))
+
+    pub not_ahead : player_at (frame_in k) q ≡ k.player → IsNotAhead (nat_lt m (moves_chosen k q c)) (totals_now k (at_point q) c) (total_worth (frame_in k) (lists_in k) (totals_now k) q m c)
+    not_ahead own = record {
+      most = k.best.greatest.none_more q m c lq own lm lc;
+      less = λ t. k.best.greatest.none_before q m c lq own lc (before_from m (moves_chosen k q c) t);
+    }
+      where
+        before_from : (m n : ℕ) → IsTrue (nat_lt m n) → m < n
+        before_from m n t = grind (arith, t)
+
+-- a move's rows, class by class
+module _ (k : Course) (q m start count : ℕ) (at : start ≡ start_of (frame_in k) (lists_in k) q) (all : count ≡ class_count (lists_in k) (round_of (frame_in k) (at_point q))) (values worths slopes rises : List ℤ) (values_are : values ≡ k.totals.now.points.items)
+    (slopes_are : slopes ≡ k.steps.now.points.items) (w : AreWorths (frame_in k) (lists_in k) (totals_now k) q m worths) (r : AreWorths (frame_in k) (lists_in k) (totals_added k) q m rises) where
+  class_at : (i : ℕ) → i < count → IsClass (lists_in k) (round_of (frame_in k) (at_point q)) (i + 1)
+  class_at i l = (omega arith, omega (arith, l, all))
+
+  place : (i : ℕ) → start + i ≡ start_of (frame_in k) (lists_in k) q + (i + 1 - 1)
+  place i = omega (arith, at)
+
+  pick_at : (i : ℕ) → get_or k.picks.now (start + i) 0 ≡ moves_chosen k q (i + 1)
+  pick_at i = ap (λ n. get_or k.picks.now n 0) (place i)
+
+  value_at : (i : ℕ) → get_or values (start + i) (pos 0) ≡ totals_now k (at_point q) (i + 1)
+  value_at i = ap (λ (l : List ℤ). get_or l (start + i) (pos 0)) values_are ∙ ap (λ n. get_or k.totals.now.points.items n (pos 0)) (place i)
+
+  slope_at : (i : ℕ) → get_or slopes (start + i) (pos 0) ≡ totals_added k (at_point q) (i + 1)
+  slope_at i = ap (λ (l : List ℤ). get_or l (start + i) (pos 0)) slopes_are ∙ ap (λ n. get_or k.steps.now.points.items n (pos 0)) (place i)
+
+  worth_at : (i : ℕ) → i < count → get_or worths i (pos 0) ≡ total_worth (frame_in k) (lists_in k) (totals_now k) q m (i + 1)
+  worth_at i l = let e : i ≡ i + 1 - 1 = omega arith in ap (λ n. get_or worths n (pos 0)) e ∙ w (i + 1) (class_at i l)
+
+  rise_at : (i : ℕ) → i < count → get_or rises i (pos 0) ≡ total_worth (frame_in k) (lists_in k) (totals_added k) q m (i + 1)
+  rise_at i l = let e : i ≡ i + 1 - 1 = omega arith in ap (λ n. get_or rises n (pos 0)) e ∙ r (i + 1) (class_at i l)
+
+  module _ (s : IsSound k.form.now.lossless.now.classes.now) (lq : q < point_count (frame_in k)) (lm : m < move_count (frame_in k) q) where
+    pub all_gaps : (i : ℕ) → i < count → unsigned_abs (get_or values (start + i) (pos 0) -ℤ get_or worths i (pos 0)) < 2 ^ 120
+    all_gaps i l =
+        subst (λ x. unsigned_abs (x -ℤ get_or worths i (pos 0)) < 2 ^ 120) (sym (value_at i))
+        (subst (λ x. unsigned_abs (totals_now k (at_point q) (i + 1) -ℤ x) < 2 ^ 120) (sym (worth_at i l)) (gap_small k s q m (i + 1) lq lm (class_at i l)))
+
+    pub all_gains : (i : ℕ) → i < count → unsigned_abs (get_or rises i (pos 0) -ℤ get_or slopes (start + i) (pos 0)) < 2 ^ 120
+    all_gains i l =
+        subst (λ x. unsigned_abs (x -ℤ get_or slopes (start + i) (pos 0)) < 2 ^ 120) (sym (rise_at i l))
+        (subst (λ x. unsigned_abs (total_worth (frame_in k) (lists_in k) (totals_added k) q m (i + 1) -ℤ x) < 2 ^ 120) (sym (slope_at i)) (gain_small k s q m (i + 1) lq lm (class_at i l)))
+
+    pub all_ahead : player_at (frame_in k) q ≡ k.player → (i : ℕ) → i < count → slice_index k.picks.now (start + i) ≢ m → IsNotAhead (nat_lt m (slice_index k.picks.now (start + i))) (get_or values (start + i) (pos 0)) (get_or worths i (pos 0))
+    all_ahead own i l ne =
+        subst (λ p. IsNotAhead (nat_lt m p) (get_or values (start + i) (pos 0)) (get_or worths i (pos 0))) (sym (pick_at i))
+        (subst (λ x. IsNotAhead (nat_lt m (moves_chosen k q (i + 1))) x (get_or worths i (pos 0))) (sym (value_at i))
+        (subst (λ x. IsNotAhead (nat_lt m (moves_chosen k q (i + 1))) (totals_now k (at_point q) (i + 1)) x) (sym (worth_at i l)) (not_ahead k s q m (i + 1) lq lm (class_at i l) own)))
+
+  pub all_behind : (times : ℕ) → AreBehind count m start k.picks.now values worths slopes rises times → StaysBehind k q m times
+  all_behind times h c lc ne =
+      let i = c - 1 in
+      let e : i + 1 ≡ c = omega (arith, lc.0) in
+      let l : i < count = omega (arith, lc.0, lc.1, all) in
+      let pick = pick_at i ∙ ap (moves_chosen k q) e in
+      let b = h i l (λ x. ne (sym pick ∙ x)) in
+      subst (λ p. IsBehind (nat_lt m p) (totals_now k (at_point q) c) (total_worth (frame_in k) (lists_in k) (totals_now k) q m c) (totals_added k (at_point q) c) (total_worth (frame_in k) (lists_in k) (totals_added k) q m c) times) pick
+      (behind_same (nat_lt m (get_or k.picks.now (start + i) 0)) (get_or values (start + i) (pos 0)) (totals_now k (at_point q) c) (get_or worths i (pos 0)) (total_worth (frame_in k) (lists_in k) (totals_now k) q m c) (get_or slopes (start + i) (pos 0))
+      (totals_added k (at_point q) c) (get_or rises i (pos 0)) (total_worth (frame_in k) (lists_in k) (totals_added k) q m c) times (value_at i ∙ ap (totals_now k (at_point q)) e)
+      (worth_at i l ∙ ap (total_worth (frame_in k) (lists_in k) (totals_now k) q m) e) (slope_at i ∙ ap (totals_added k (at_point q)) e) (rise_at i l ∙ ap (total_worth (frame_in k) (lists_in k) (totals_added k) q m) e) b)

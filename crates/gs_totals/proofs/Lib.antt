@@ -1,0 +1,15 @@
+pub mod WorthTotals
+pub mod TotalsBest
+pub mod SumLaws
+pub mod JumpLaws
+pub mod TotalAnswers
+pub mod TotalBounds
+pub mod Greatest
+pub mod Stepping
+pub mod EndStarts
+pub mod Gathers
+pub mod Known
+pub mod Behind
+pub mod SmallEnds
+pub mod CourseLaws
+pub mod Reading

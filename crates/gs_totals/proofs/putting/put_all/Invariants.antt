@@ -1,0 +1,16 @@
+use Rattle.std.proofs.Common.{◌≡◌, length}
+use Rattle.gs_seq.specs.Abstracts.{frame_of, lists_of}
+use Rattle.gs_seq.specs.Firsts.{IsClear}
+use Rattle.gs_seq.specs.Slots.{slot_count, slots_before}
+use Rattle.gs_best.specs.Puts.{ArePutBefore}
+use Rattle.gs_best.specs.Tables.{moves_of}
+use Rattle.gs_totals.proofs.putting.put_all.Given as goal
+
+abbrev pub invariant-loop-point : goal.invariant-loop-point
+invariant-loop-point l =
+    let f = frame_of l.form in let lists = lists_of l.form in
+    record {
+      long : length l.weights ≡ slot_count f lists l.player;
+      puts : ArePutBefore f lists l.player (moves_of f lists l.picks) l.weights l.point;
+      clear : IsClear (slots_before f lists l.player l.point) l.weights;
+    }

@@ -1,0 +1,140 @@
+use Rattle.std.proofs.Common.{◌≡◌, ◌+◌, ◌-◌, ◌*◌, ◌<◌, ◌≤◌, length, get_or, set, sym, ap, ◌∙◌, subst, arith, ⊎_elim, get_or-set_other}
+use Rattle.std.proofs.Math.Nat.{mul-le-mul_right}
+use Rattle.std.proofs.lemmas.Bool.{cases_eq}
+use Rattle.std.proofs.lemmas.List.{get_or_read}
+use Rattle.gs_model.specs.Classes.{IsClass, class_count, first_member}
+use Rattle.gs_model.specs.Frame.{last_step, move_count, point_count, round_of}
+use Rattle.gs_model.specs.Plans.{lift, number_before}
+use Rattle.gs_model.specs.Positions.{at_point}
+use Rattle.gs_seq.specs.Abstracts.{frame_of, lists_of}
+use Rattle.gs_seq.specs.Firsts.{Agree, IsClear}
+use Rattle.gs_seq.specs.Slots.{plan_of, slot_of, slots_before}
+use Rattle.gs_seq.proofs.Firsts.{slots_own}
+use Rattle.gs_seq.proofs.SlotLaws.{slots_le}
+use Rattle.gs_best.specs.Puts.{IsPutAt}
+use Rattle.gs_best.specs.Tables.{moves_of, start_of}
+use Rattle.gs_best.proofs.AllOn.{put_here, put_kept}
+use Rattle.gs_best.proofs.Forms.{form_classes, form_in_range, form_walked}
+use Rattle.gs_best.proofs.Starts.{place_before}
+use Rattle.gs_totals.proofs.putting.put_point.Goals as goal
+
+pub bounds-picks-start : goal.bounds-picks-start
+bounds-picks-start c =
+    let a = c.args.form.now in
+    let f = frame_of a in
+    let lists = lists_of a in
+    let q = c.args.point in
+    let p = c.args.player in
+    let before = c.loop-before.before in
+    let placed = c.requires.placed in
+    let start : c.index.result.now ≡ start_of f lists q = get_or_read c.args.places.now.points.items q _ (omega (arith, c.requires.point, placed.many_points)) c.index.ensures 0 ∙ placed.points q c.requires.point in
+    let all = c.class_total-before-end.ensures.value ∙ ap (class_count lists) c.round_at.ensures.value in
+    let class : IsClass lists (round_of f (at_point q)) (before + 1) = (omega arith, omega (arith, all, c.loop-before-test.true)) in
+    let place = place_before f lists q (before + 1) (point_count f) class c.requires.point in
+    omega (arith, start, place, c.requires.picks)
+
+pub coming-came-requires-clause-long : goal.coming-came-requires-clause-long
+coming-came-requires-clause-long c =
+    let a = c.args.form.now in
+    let f = frame_of a in
+    let lists = lists_of a in
+    let q = c.args.point in
+    let p = c.args.player in
+    omega (arith, c.loop-before.auto.weights, c.requires.long, ap (λ p. slots_before f lists p q) c.requires.own, slots_le f lists p q (point_count f) (omega (arith, c.requires.point)))
+
+pub slot-slot-requires-clause-choice : goal.slot-slot-requires-clause-choice
+slot-slot-requires-clause-choice c =
+    let a = c.args.form.now in
+    let f = frame_of a in
+    let lists = lists_of a in
+    let q = c.args.point in
+    let p = c.args.player in
+    let before = c.loop-before.before in
+    let placed = c.requires.placed in
+    let start : c.index.result.now ≡ start_of f lists q = get_or_read c.args.places.now.points.items q _ (omega (arith, c.requires.point, placed.many_points)) c.index.ensures 0 ∙ placed.points q c.requires.point in
+    let all = c.class_total-before-end.ensures.value ∙ ap (class_count lists) c.round_at.ensures.value in
+    let class : IsClass lists (round_of f (at_point q)) (before + 1) = (omega arith, omega (arith, all, c.loop-before-test.true)) in
+    let place = place_before f lists q (before + 1) (point_count f) class c.requires.point in
+    let move = moves_of f lists c.args.picks.now in
+    let spot : c.index.result.now + before ≡ start_of f lists q + (before + 1 - 1) = omega (arith, start) in
+    let pick : get_or c.args.picks.now (c.index.result.now + before) 0 ≡ move q (before + 1) = ap (λ n. get_or c.args.picks.now n 0) spot in
+    let in_moves : move q (before + 1) < move_count f q = c.requires.moves q (before + 1) c.requires.point c.requires.own class in
+    omega (arith, pick, in_moves)
+
+pub loop-before-preserved : goal.loop-before-preserved
+loop-before-preserved c =
+    let a = c.args.form.now in
+    let f = frame_of a in
+    let lists = lists_of a in
+    let q = c.args.point in
+    let p = c.args.player in
+    let before = c.loop-before.before in
+    let placed = c.requires.placed in
+    let start : c.index.result.now ≡ start_of f lists q = get_or_read c.args.places.now.points.items q _ (omega (arith, c.requires.point, placed.many_points)) c.index.ensures 0 ∙ placed.points q c.requires.point in
+    let all = c.class_total-before-end.ensures.value ∙ ap (class_count lists) c.round_at.ensures.value in
+    let class : IsClass lists (round_of f (at_point q)) (before + 1) = (omega arith, omega (arith, all, c.loop-before-test.true)) in
+    let place = place_before f lists q (before + 1) (point_count f) class c.requires.point in
+    let move = moves_of f lists c.args.picks.now in
+    let spot : c.index.result.now + before ≡ start_of f lists q + (before + 1 - 1) = omega (arith, start) in
+    let pick : get_or c.args.picks.now (c.index.result.now + before) 0 ≡ move q (before + 1) = ap (λ n. get_or c.args.picks.now n 0) spot in
+    let in_moves : move q (before + 1) < move_count f q = c.requires.moves q (before + 1) c.requires.point c.requires.own class in
+    let weights = c.loop-before.weights in
+    let came = c.coming-came.result in
+    let slot = c.slot-slot.result in
+    let many = move_count f q in
+    let ranged = form_in_range a in
+    let sound = form_classes a c.round_total-rounds.ensures.sound in
+    let w = form_walked a p c.requires.some c.requires.two in
+    let whose = ap (λ p. slots_before f lists p q) c.requires.own in
+    let at : slot ≡ slot_of f lists q (before + 1) (move q (before + 1)) = c.slot-slot.ensures.value ∙ ap (slot_of f lists q (before + 1)) pick in
+    let one : before + 1 - 1 ≡ before = omega arith in
+    let there : slot ≡ slots_before f lists p q + (before * many + move q (before + 1)) = omega (arith, at, whose, ap (λ k. k * many) one) in
+    let row : (before + 1) * many ≡ before * many + many = omega arith in
+    let rows = mul-le-mul_right many class.1 in
+    let inside : slot < length weights = omega (arith, there, in_moves, slots_own f lists p q c.requires.own, slots_le f lists p (q + 1) (point_count f) (omega (arith, c.requires.point)), rows, row, c.loop-before.auto.weights, c.requires.long) in
+    let is : came ≡ number_before f (lift f lists (plan_of f lists 1 weights)) (last_step f p (at_point q)) (round_of f (at_point q)) (first_member lists (round_of f (at_point q)) (before + 1)) =
+    c.coming-came.ensures
+    ∙ ap (λ p. number_before f (lift f lists (plan_of f lists 1 weights)) (last_step f p (at_point q)) (round_of f (at_point q)) (first_member lists (round_of f (at_point q)) (before + 1))) c.requires.own in
+    let clear : IsClear (slots_before f lists p q + (before + 1 - 1) * many) weights = λ k lk. c.loop-before.invariant.clear k (omega (arith, lk, ap (λ k. k * many) one)) in
+    let same : Agree slot weights (set weights slot came) = λ j lj. get_or-set_other weights slot j came 0 (omega (arith, lj)) in
+    record {
+      kept = λ k lk. get_or-set_other weights slot k came 0 (omega (arith, lk, there)) ∙ c.loop-before.invariant.kept k lk;
+      here = λ k lo hi. ⊎_elim
+          (λ e. subst (λ n. IsPutAt f lists p move (set weights slot came) q n) (sym e)
+          (put_here f ranged lists sound p w move q c.requires.point c.requires.own (before + 1) class weights slot came at in_moves inside is clear))
+          (λ other.
+          let less : k ≤ before = omega arith in
+          put_kept f ranged lists sound p w move q c.requires.point c.requires.own k (lo, omega (arith, class.1, less)) slot weights (set weights slot came)
+          (omega (arith, there, mul-le-mul_right many less)) same (c.loop-before.invariant.here k lo less))
+          (cases_eq k (before + 1));
+      clear = λ k lk.
+          (let after : slot < k = omega (arith, there, in_moves, row, lk) in
+          get_or-set_other weights slot k came 0 (omega (arith, after)) ∙ c.loop-before.invariant.clear k (omega (arith, row, lk)));
+    }
+
+pub returns-clause-here : goal.returns-clause-here
+returns-clause-here c =
+    let a = c.args.form.now in
+    let f = frame_of a in
+    let lists = lists_of a in
+    let q = c.args.point in
+    let p = c.args.player in
+    let before = c.loop-before.before in
+    let placed = c.requires.placed in
+    let start : c.index.result.now ≡ start_of f lists q = get_or_read c.args.places.now.points.items q _ (omega (arith, c.requires.point, placed.many_points)) c.index.ensures 0 ∙ placed.points q c.requires.point in
+    let all = c.class_total-before-end.ensures.value ∙ ap (class_count lists) c.round_at.ensures.value in
+    λ e le. c.loop-before.invariant.here e le.0 (omega (arith, le.1, all, c.loop-before-test.false))
+
+pub returns-clause-clear : goal.returns-clause-clear
+returns-clause-clear c =
+    let a = c.args.form.now in
+    let f = frame_of a in
+    let lists = lists_of a in
+    let q = c.args.point in
+    let p = c.args.player in
+    let before = c.loop-before.before in
+    let placed = c.requires.placed in
+    let start : c.index.result.now ≡ start_of f lists q = get_or_read c.args.places.now.points.items q _ (omega (arith, c.requires.point, placed.many_points)) c.index.ensures 0 ∙ placed.points q c.requires.point in
+    let all = c.class_total-before-end.ensures.value ∙ ap (class_count lists) c.round_at.ensures.value in
+    let whole : before ≡ class_count lists (round_of f (at_point q)) = omega (arith, c.loop-before-test.false, c.loop-before.auto.before-end, all) in
+    λ k l. c.loop-before.invariant.clear k (omega (arith, l, slots_own f lists p q c.requires.own, ap (λ n. n * move_count f q) whole))

@@ -1,0 +1,18 @@
+use Rattle.std.proofs.Common.{ℕ, ◌+◌, ◌*◌, ◌<◌, ◌≤◌}
+use Rattle.gs_model.specs.Frame.{move_count}
+use Rattle.gs_seq.specs.Abstracts.{frame_of, lists_of}
+use Rattle.gs_seq.specs.Firsts.{Agree, IsClear}
+use Rattle.gs_seq.specs.Slots.{slots_before}
+use Rattle.gs_best.specs.Puts.{IsPutAt}
+use Rattle.gs_best.specs.Tables.{moves_of}
+use Rattle.gs_totals.proofs.putting.put_point.Given as goal
+
+abbrev pub invariant-loop-before : goal.invariant-loop-before
+invariant-loop-before l =
+    let f = frame_of l.form in let lists = lists_of l.form in
+    let first = slots_before f lists l.player l.point in
+    record {
+      kept : Agree first l.fn.weights l.weights;
+      here : (c : ℕ) → 0 < c → c ≤ l.before → IsPutAt f lists l.player (moves_of f lists l.picks) l.weights l.point c;
+      clear : IsClear (first + l.before * move_count f l.point) l.weights;
+    }

@@ -1,0 +1,45 @@
+use Rattle.std.proofs.Common.{◌≡◌, length, sym, ap, ◌∙◌, subst, arith, ⊎_elim}
+use Rattle.std.proofs.lemmas.Bool.{cases_eq}
+use Rattle.gs_model.specs.Frame.{player_at, point_count}
+use Rattle.gs_totals.specs.Courses.{LastsAt, frame_in}
+use Rattle.gs_totals.proofs.Behind.{lasts_less}
+use Rattle.gs_totals.proofs.staying.lasting_all.Goals as goal
+use Rattle.gs_totals.proofs.staying.lasting_all.Goals.{then-chooser-course, else-chooser-course}
+
+pub loop-point-preserved : goal.loop-point-preserved
+loop-point-preserved c =
+    let k = c.args.course.now in
+    let q = c.loop-point.point in
+    let left = c.loop-point.left in
+    let i = c.loop-point.invariant in
+    elim c.if-chooser-course.branch [
+      | then-chooser-course w ↦
+          let e = w.lasting_point-left.ensures in
+          let less = w.lasting_point-left.result in
+          record {
+            worths = λ j some top. omega (arith, i.worths j some top, w.lasting_point-left.auto.worths, ap length w.worths-is);
+            rises = λ j some top. omega (arith, i.rises j some top, w.lasting_point-left.auto.rises, ap length w.rises-is);
+            lasts = λ p lp own. subst (LastsAt k p) (sym w.left-is) (⊎_elim
+                (λ (same : p ≡ q). subst (λ p. LastsAt k p less) (sym same) e.lasts)
+                (λ (other : p ≡ q → ⊥). lasts_less k p left less e.most (i.lasts p (omega arith) own))
+                (cases_eq p q));
+            most = omega (arith, w.left-is, e.most, i.most);
+            some = λ s. let n = e.some (i.some s) in omega (arith, w.left-is, n);
+          }
+      | else-chooser-course w ↦
+          record {
+            worths = λ j some top. omega (arith, i.worths j some top, ap length w.worths-is);
+            rises = λ j some top. omega (arith, i.rises j some top, ap length w.rises-is);
+            lasts = λ p lp own. subst (LastsAt k p) (sym w.left-is) (⊎_elim
+                (λ (same : p ≡ q). absurd (w.if-chooser-course.false (c.chooser.ensures ∙ subst (λ p. player_at (frame_in k) p ≡ k.player) same own)))
+                (λ (other : p ≡ q → ⊥). i.lasts p (omega arith) own)
+                (cases_eq p q));
+            most = omega (arith, w.left-is, i.most);
+            some = λ s. let n = i.some s in omega (arith, w.left-is, n);
+          }
+    ]
+
+pub returns-clause-lasts : goal.returns-clause-lasts
+returns-clause-lasts c =
+    let all : c.loop-point.point ≡ point_count (frame_in c.args.course.now) = omega (arith, c.loop-point-test.false, c.loop-point.auto.point-end, c.point_total-point-end.ensures) in
+    λ q e lq own le. c.loop-point.invariant.lasts q (omega (arith, lq, all)) own e le

@@ -1,0 +1,30 @@
+use Rattle.std.proofs.Common.{◌≡◌, sym, subst, arith, ⊎_elim}
+use Rattle.std.proofs.lemmas.Bool.{cases_eq}
+use Rattle.gs_model.specs.Frame.{move_count}
+use Rattle.gs_totals.specs.Courses.{StaysBehind, frame_in}
+use Rattle.gs_totals.proofs.Behind.{lasts_by, stays_less}
+use Rattle.gs_totals.proofs.staying.lasting_point.Goals as goal
+
+pub loop-choice-preserved : goal.loop-choice-preserved
+loop-choice-preserved c =
+    let k = c.args.course.now in
+    let q = c.args.point in
+    let i = c.loop-choice.invariant in
+    let e = c.lasting_move-left.ensures in
+    record {
+      worths = λ j some top. omega (arith, i.worths j some top, c.lasting_move-left.auto.worths);
+      rises = λ j some top. omega (arith, i.rises j some top, c.lasting_move-left.auto.rises);
+      behind = λ m lm. ⊎_elim
+          (λ (same : m ≡ c.loop-choice.choice). subst (λ n. StaysBehind k q n c.lasting_move-left.result) (sym same) e.behind)
+          (λ (other : m ≡ c.loop-choice.choice → ⊥). stays_less k q m c.loop-choice.left c.lasting_move-left.result e.most (i.behind m (omega arith)))
+          (cases_eq m c.loop-choice.choice);
+      most = omega (arith, i.most, e.most);
+      some = λ s. e.some (i.some s);
+    }
+
+pub returns-clause-lasts : goal.returns-clause-lasts
+returns-clause-lasts c =
+    let k = c.args.course.now in
+    let q = c.args.point in
+    let all : c.loop-choice.choice ≡ move_count (frame_in k) q = omega (arith, c.loop-choice-test.false, c.loop-choice.auto.choice-end, c.move_total-choice-end.ensures.value) in
+    lasts_by k q c.loop-choice.left c.requires.point c.requires.own (λ m lm. c.loop-choice.invariant.behind m (omega (arith, lm, all)))

@@ -1,0 +1,27 @@
+-- Turns in which no choice changes. While both players' choices stay, each turn adds the same answers, so all totals move on straight lines; a choice stays as
+-- long as no move overtakes it, and how long that is, is a quotient.
+use Rattle.std.specs.Prelude.{ℕ, ◌+◌, ◌-◌, ◌/◌, ◌<◌, ◌≤◌, ◌≡◌, ℤ, pos, ◌+ℤ◌, ◌*ℤ◌}
+use Rattle.gs_model.specs.BestAnswers.{Values}
+use Rattle.gs_model.specs.Classes.{ClassLists, IsClass}
+use Rattle.gs_model.specs.Frame.{Frame, move_count, player_at, point_count, round_of}
+use Rattle.gs_model.specs.Positions.{at_point}
+use Rattle.gs_totals.specs.ClassTotals.{total_worth}
+
+-- a number after so many turns, by what it is now and what each turn adds
+abbrev pub line : ℤ → ℤ → ℕ → ℤ
+line now rise k = now +ℤ pos k *ℤ rise
+
+-- a table after so many turns
+abbrev pub tables_after : Values → Values → ℕ → Values
+tables_after v d k g c = line (v g c) (d g c) k
+
+-- a number of turns within which the chosen place among n worths stays the first greatest: no later place becomes greater, and no earlier one as great
+pub record IsBeforeChange (worth rise : ℕ → ℤ) (n place times : ℕ) : Type 0 where
+  pub later : (m gap gain : ℕ) → place < m → m < n → worth place ≡ worth m +ℤ pos gap → rise m ≡ rise place +ℤ pos gain → 0 < gain → times ≤ gap / gain + 1
+  pub earlier : (m gap gain : ℕ) → m < place → worth place ≡ worth m +ℤ pos gap → rise m ≡ rise place +ℤ pos gain → 0 < gain → times ≤ (gap + gain - 1) / gain
+
+-- a number of turns within which no choice of a player changes, by his class totals and what each turn adds to them
+abbrev pub AreBeforeChange : Frame → ClassLists → ℕ → Values → Values → (ℕ → ℕ → ℕ) → ℕ → Type 0
+AreBeforeChange f lists player v d move times =
+    (q c : ℕ) → q < point_count f → player_at f q ≡ player → IsClass lists (round_of f (at_point q)) c
+    → IsBeforeChange (λ m. total_worth f lists v q m c) (λ m. total_worth f lists d q m c) (move_count f q) (move q c) times

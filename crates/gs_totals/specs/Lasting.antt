@@ -1,0 +1,21 @@
+-- For how many turns a chosen move stays ahead of another one.
+use Rattle.std.specs.Prelude.{ℕ, ◌+◌, ◌-◌, ◌/◌, ◌<◌, ◌≤◌, ◌≡◌, ◌≢◌, Bool, IsTrue, List, get_or, slice_index, nat_lt, ℤ, pos, ◌+ℤ◌, ◌≤ℤ◌, ◌<ℤ◌, if◌then◌else◌}
+
+-- a number of turns in which a gain each turn does not close a gap; a move before the chosen one overtakes it as soon as it is as great
+abbrev pub IsWithinGap : Bool → ℕ → ℕ → ℕ → Type 0
+IsWithinGap before gap gain times = times ≤ (if before then (gap + gain - 1) / gain else (gap / gain + 1))
+
+-- a number of turns in which a worth that rises does not overtake a value that rises
+abbrev pub IsBehind : Bool → ℤ → ℤ → ℤ → ℤ → ℕ → Type 0
+IsBehind before value worth slope rise times = (gap gain : ℕ) → value ≡ worth +ℤ pos gap → rise ≡ slope +ℤ pos gain → 0 < gain → IsWithinGap before gap gain times
+
+-- where a worth stands: at most the value, and below it where its move is before the chosen one
+pub record IsNotAhead (before : Bool) (value worth : ℤ) : Type 0 where
+  pub most : worth ≤ℤ value
+  pub less : IsTrue before → worth <ℤ value
+
+-- so for each of so many classes that have not chosen the move
+abbrev pub AreBehind : ℕ → ℕ → ℕ → List ℕ → List ℤ → List ℤ → List ℤ → List ℤ → ℕ → Type 0
+AreBehind count choice start picks values worths slopes rises times =
+    (k : ℕ) → k < count → slice_index picks (start + k) ≢ choice
+    → IsBehind (nat_lt choice (slice_index picks (start + k))) (get_or values (start + k) (pos 0)) (get_or worths k (pos 0)) (get_or slopes (start + k) (pos 0)) (get_or rises k (pos 0)) times

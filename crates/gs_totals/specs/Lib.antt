@@ -1,0 +1,9 @@
+pub mod ClassTotals
+pub mod KeptSums
+pub mod Jumps
+pub mod Faced
+pub mod Places
+pub mod Merged
+pub mod Room
+pub mod Lasting
+pub mod Courses

@@ -1,0 +1,57 @@
+-- Class totals kept in lists: rows of a number for each class, one for each end and one for each point, each behind the one before.
+use Rattle.std.specs.Prelude.{ℕ, ◌+◌, ◌-◌, ◌^◌, ◌<◌, ◌≤◌, ◌≡◌, ◌≢◌, List, get_or, slice_index, ℤ, pos, ◌≤ℤ◌, ◌<ℤ◌, sum_by, unsigned_abs}
+use Rattle.std.specs.List.{range_with_len}
+use Rattle.gs_model.specs.BestAnswers.{Values}
+use Rattle.gs_model.specs.Classes.{ClassLists, IsClass, class_count}
+use Rattle.gs_model.specs.Frame.{Frame, choices_at, end_count, move_count, player_at, point_count, round_of}
+use Rattle.gs_model.specs.Plans.{Plan}
+use Rattle.gs_model.specs.Positions.{at_end, at_point}
+use Rattle.gs_model.specs.Sums.{sum_z}
+use Rattle.gs_seq.specs.Payoffs.{end_sum}
+use Rattle.gs_best.specs.Tables.{start_of}
+use Rattle.gs_totals.specs.ClassTotals.{total_worth}
+
+-- how many classes the round of an end has
+abbrev pub end_classes : Frame → ClassLists → ℕ → ℕ
+end_classes f lists z = class_count lists (round_of f (at_end z))
+
+-- the place of an end's first class
+abbrev pub end_start : Frame → ClassLists → ℕ → ℕ
+end_start f lists z = sum_by (end_classes f lists) (range_with_len 0 z)
+
+-- for each end the place of its first class
+abbrev pub AreEndStarts : Frame → ClassLists → List ℕ → Type 0
+AreEndStarts f lists starts = (z : ℕ) → z < end_count f → slice_index starts z ≡ end_start f lists z
+
+-- a list has what each end pays the members of each class against the other's plan y
+abbrev pub AreEndSums : Frame → ClassLists → ℕ → Plan → List ℤ → Type 0
+AreEndSums f lists player y sums = (z c : ℕ) → z < end_count f → IsClass lists (round_of f (at_end z)) c → get_or sums (end_start f lists z + (c - 1)) (pos 0) ≡ end_sum f lists player y z c
+
+-- the class totals of a list at points; at an end what it pays
+abbrev pub totals_of : Frame → ClassLists → ℕ → Plan → List ℤ → Values
+totals_of f lists player y values (at_point q) c = get_or values (start_of f lists q + (c - 1)) (pos 0)
+totals_of f lists player y values (at_end z) c = end_sum f lists player y z c
+
+-- at the points from one on each own class follows its move, and the other's points add up
+pub record IsFollowedFrom (f : Frame) (lists : ClassLists) (player : ℕ) (v : Values) (move : ℕ → ℕ → ℕ) (from : ℕ) : Type 0 where
+  pub in_range : (q c : ℕ) → from ≤ q → q < point_count f → player_at f q ≡ player → IsClass lists (round_of f (at_point q)) c → move q c < move_count f q
+  pub reached : (q c : ℕ) → from ≤ q → q < point_count f → player_at f q ≡ player → IsClass lists (round_of f (at_point q)) c → v (at_point q) c ≡ total_worth f lists v q (move q c) c
+  pub at_others : (q c : ℕ) → from ≤ q → q < point_count f → player_at f q ≢ player → IsClass lists (round_of f (at_point q)) c → v (at_point q) c ≡ sum_z (λ m. total_worth f lists v q m c) (choices_at f q)
+
+-- and that move is the first of greatest worth
+pub record AreFirstFrom (f : Frame) (lists : ClassLists) (player : ℕ) (v : Values) (move : ℕ → ℕ → ℕ) (from : ℕ) : Type 0 where
+  pub none_more : (q m c : ℕ) → from ≤ q → q < point_count f → player_at f q ≡ player → m < move_count f q → IsClass lists (round_of f (at_point q)) c → total_worth f lists v q m c ≤ℤ v (at_point q) c
+  pub none_before : (q m c : ℕ) → from ≤ q → q < point_count f → player_at f q ≡ player → IsClass lists (round_of f (at_point q)) c → m < move q c → total_worth f lists v q m c <ℤ v (at_point q) c
+
+-- both
+pub record AreBestFrom (f : Frame) (lists : ClassLists) (player : ℕ) (v : Values) (move : ℕ → ℕ → ℕ) (from : ℕ) : Type 0 where
+  pub followed : IsFollowedFrom f lists player v move from
+  pub greatest : AreFirstFrom f lists player v move from
+
+-- each class of a player's points has a move of its point
+abbrev pub AreInMoves : Frame → ClassLists → ℕ → (ℕ → ℕ → ℕ) → Type 0
+AreInMoves f lists player move = (q c : ℕ) → q < point_count f → player_at f q ≡ player → IsClass lists (round_of f (at_point q)) c → move q c < move_count f q
+
+-- the numbers of all ends are below 2^90 in size
+abbrev pub AreSmallRows : Frame → ClassLists → List ℤ → Type 0
+AreSmallRows f lists sums = (z c : ℕ) → z < end_count f → IsClass lists (round_of f (at_end z)) c → unsigned_abs (get_or sums (end_start f lists z + (c - 1)) (pos 0)) < 2 ^ 90

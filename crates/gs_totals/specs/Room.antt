@@ -1,0 +1,29 @@
+-- Room for class totals.
+use Rattle.std.specs.Prelude.{◌≤◌, length}
+use Rattle.gs_model.specs.Classes.{ClassLists}
+use Rattle.gs_model.specs.Frame.{Frame, end_count, point_count}
+use Rattle.gs_best.specs.Sizes.{IsWide}
+use Rattle.gs_best.specs.Tables.{AreStarts, start_of}
+use Rattle.gs_totals.specs.Places.{AreEndStarts, end_start}
+use Rattle.gs_totals.specs.declared.places.Places.{Places}
+use Rattle.gs_totals.specs.declared.places.Scratch.{Scratch}
+use Rattle.gs_totals.specs.declared.places.Totals.{Totals}
+
+-- each row starts where it should
+pub record IsPlaced (f : Frame) (lists : ClassLists) (p : Places) : Type 0 where
+  pub many_ends : end_count f ≤ length p.ends.items
+  pub many_points : point_count f ≤ length p.points.items
+  pub ends : AreEndStarts f lists p.ends.items
+  pub points : AreStarts f lists p.points.items
+
+-- there is a number for each class of each end and each point
+pub record HasRows (f : Frame) (lists : ClassLists) (t : Totals) : Type 0 where
+  pub ends : end_start f lists (end_count f) ≤ length t.ends.items
+  pub points : start_of f lists (point_count f) ≤ length t.points.items
+
+-- the rows to work on are long enough
+pub record HasScratch (f : Frame) (lists : ClassLists) (s : Scratch) : Type 0 where
+  pub worths : IsWide f lists (length s.worths.items)
+  pub rises : IsWide f lists (length s.rises.items)
+  pub best : IsWide f lists (length s.best.items)
+  pub moves : IsWide f lists (length s.moves.items)

@@ -1,0 +1,21 @@
+//! Class totals: what the members of a class gain together against a plan of the other player, by sums that are kept from plan to plan.
+#![tactic(auto)]
+
+mod above;
+mod course;
+mod ends;
+mod filling;
+mod following;
+mod merging;
+mod places;
+mod putting;
+mod rows;
+mod staying;
+
+pub use course::Course;
+pub use ends::{advance, read_ends};
+pub use filling::fill;
+pub use following::follow;
+pub use places::{Places, Scratch, Totals, picks_for};
+pub use putting::put_all;
+pub use staying::lasting;

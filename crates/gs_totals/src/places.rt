@@ -1,0 +1,162 @@
+//! Room for class totals, and where their rows start.
+
+ghost use Rattle.std.specs.Prelude.{◌≡◌, ◌≤◌, IfOk, length};
+ghost use Rattle.gs_model.specs.Frame.{end_count, point_count};
+ghost use Rattle.gs_seq.specs.Abstracts.{frame_of, lists_of};
+ghost use Rattle.gs_best.specs.Forms.{game_in};
+ghost use Rattle.gs_best.specs.Sizes.{IsWide};
+ghost use Rattle.gs_best.specs.Tables.{AreStarts, start_of};
+ghost use Rattle.gs_totals.specs.Places.{AreEndStarts, end_start};
+ghost use Rattle.gs_totals.specs.Room.{HasRows, HasScratch, IsPlaced};
+
+use gs_best::{class_total, end_round, point_total, round_at, round_total};
+use gs_game::ValidGame;
+use gs_seq::Abstract;
+use std::alloc::{AllocError, Global};
+
+/// Where the rows of ends and of points start: each row has a number for each class of the round, behind the row before.
+#[derive(Drop)]
+pub struct Places {
+    pub(crate) ends: Vec<u32>,
+    pub(crate) points: Vec<u32>,
+}
+
+/// Class totals: what ends pay against a plan, and what points are worth.
+#[derive(Drop)]
+pub struct Totals {
+    pub(crate) ends: Vec<i128>,
+    pub(crate) points: Vec<i128>,
+}
+
+/// Rows of a number for each class, to work on.
+#[derive(Drop)]
+pub struct Scratch {
+    // what a move is worth
+    pub(crate) worths: Vec<i128>,
+    // what a turn adds to that
+    pub(crate) rises: Vec<i128>,
+    // what a point is worth by the moves so far
+    pub(crate) best: Vec<i128>,
+    // and the first best one of them
+    pub(crate) moves: Vec<u8>,
+}
+
+/// The game.
+fn game<'a>(form: &Abstract<'a>) -> &'a ValidGame
+    ensures { result.now ≡ game_in form.now }
+{
+    form.lossless().signals().game()
+}
+
+/// How many ends there are.
+pub(crate) fn end_total(form: &Abstract) -> u32
+    ensures { result ≡ end_count (frame_of form.now) }
+{
+    game(form).ends().len() as u32
+}
+
+/// Writes where the row of each point starts.
+fn place_points(form: &Abstract, starts: &mut [u32])
+    requires { point_count (frame_of form.now) ≤ length starts.old }
+    ensures { AreStarts (frame_of form.now) (lists_of form.now) starts.new }
+{
+    let mut start = 0;
+    for point in 0..point_total(form) {
+        starts[point as usize] = start;
+        start += class_total(form, round_at(form, point));
+    }
+}
+
+/// Writes where the row of each end starts.
+fn place_ends(form: &Abstract, starts: &mut [u32])
+    requires { end_count (frame_of form.now) ≤ length starts.old }
+    ensures { AreEndStarts (frame_of form.now) (lists_of form.now) starts.new }
+{
+    let _rounds = round_total(form);
+    let mut start = 0;
+    for end in 0..end_total(form) {
+        starts[end as usize] = start;
+        start += class_total(form, end_round(form, end));
+    }
+}
+
+/// How many numbers the rows of all points have.
+fn point_room(form: &Abstract) -> u32
+    ensures { result ≡ start_of (frame_of form.now) (lists_of form.now) (point_count (frame_of form.now)) }
+{
+    let mut total = 0;
+    for point in 0..point_total(form) {
+        total += class_total(form, round_at(form, point));
+    }
+    total
+}
+
+/// How many numbers the rows of all ends have.
+fn end_room(form: &Abstract) -> u32
+    ensures { result ≡ end_start (frame_of form.now) (lists_of form.now) (end_count (frame_of form.now)) }
+{
+    let _rounds = round_total(form);
+    let mut total = 0;
+    for end in 0..end_total(form) {
+        total += class_total(form, end_round(form, end));
+    }
+    total
+}
+
+/// The most classes that a round has.
+fn widest(form: &Abstract) -> u32
+    ensures { IsWide (frame_of form.now) (lists_of form.now) result }
+{
+    let mut most = 0;
+    for before in 0..round_total(form) {
+        most = class_total(form, before + 1).max(most);
+    }
+    most
+}
+
+impl Places {
+    /// Where the rows of a game start.
+    pub fn of(alloc: Global, form: &Abstract) -> Result<Places, AllocError>
+        ensures { IfOk result (IsPlaced (frame_of form.now) (lists_of form.now)) }
+    {
+        let mut ends = vec![in alloc; 0u32; end_total(form) as usize]?;
+        let mut points = vec![in alloc; 0u32; point_total(form) as usize]?;
+        place_ends(form, &mut ends);
+        place_points(form, &mut points);
+        Ok(Places { ends, points })
+    }
+}
+
+impl Totals {
+    /// Room for the class totals of a game.
+    pub fn of(alloc: Global, form: &Abstract) -> Result<Totals, AllocError>
+        ensures { IfOk result (HasRows (frame_of form.now) (lists_of form.now)) }
+    {
+        let ends = vec![in alloc; 0i128; end_room(form) as usize]?;
+        let points = vec![in alloc; 0i128; point_room(form) as usize]?;
+        Ok(Totals { ends, points })
+    }
+}
+
+/// A move for each number of the rows of points.
+pub fn picks_for(alloc: Global, form: &Abstract) -> Result<Vec<u8>, AllocError>
+    ensures { IfOk result (λ v. start_of (frame_of form.now) (lists_of form.now) (point_count (frame_of form.now)) ≤ length v.items) }
+{
+    let picks = vec![in alloc; 0u8; point_room(form) as usize]?;
+    Ok(picks)
+}
+
+impl Scratch {
+    /// Rows for the classes of any round of a game.
+    pub fn of(alloc: Global, form: &Abstract) -> Result<Scratch, AllocError>
+        ensures { IfOk result (HasScratch (frame_of form.now) (lists_of form.now)) }
+    {
+        let wide = widest(form) as usize;
+        Ok(Scratch {
+            worths: vec![in alloc; 0i128; wide]?,
+            rises: vec![in alloc; 0i128; wide]?,
+            best: vec![in alloc; 0i128; wide]?,
+            moves: vec![in alloc; 0u8; wide]?,
+        })
+    }
+}

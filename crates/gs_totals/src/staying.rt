@@ -1,0 +1,200 @@
+//! For how many turns choices last.
+
+ghost use Rattle.std.specs.Prelude.{ℕ, ◌≡◌, ◌≢◌, ◌+◌, ◌-◌, ◌/◌, ◌<◌, ◌≤◌, ◌^◌, ◌+ℤ◌, ◌-ℤ◌, ◌≤ℤ◌, ◌<ℤ◌, IsTrue, pos, length, get_or, slice_index, nat_lt, unsigned_abs, if◌then◌else◌};
+ghost use Rattle.gs_model.specs.Frame.{move_count, player_at, point_count};
+ghost use Rattle.gs_best.specs.Sizes.{IsWide};
+ghost use Rattle.gs_totals.specs.Courses.{Lasts, LastsAt, StaysBehind, frame_in, lists_in};
+ghost use Rattle.gs_totals.specs.Room.{HasScratch};
+ghost use Rattle.gs_totals.specs.Lasting.{AreBehind, IsBehind, IsNotAhead, IsWithinGap};
+
+use crate::course::Course;
+use crate::places::Scratch;
+use crate::rows::read_worths;
+use gs_best::{Deviator, chooser, class_total, move_total, point_total, round_at, round_total};
+
+/// A number of turns, at most so many, in which a gain each turn does not close a gap.
+fn within_gap(before: bool, gap: u128, gain: u128, times: u32) -> u32
+    requires gain { 0 < gain }
+    requires gap { IsTrue before → 0 < gap }
+    requires small { gap + gain < 2 ^ 128 }
+    ensures within { IsWithinGap before gap gain result }
+    ensures most { result ≤ times }
+    ensures some { 0 < times → 0 < result }
+{
+    let most = if before {
+        (gap + gain - 1) / gain
+    } else {
+        gap / gain + 1
+    };
+    if most < u128::from(times) {
+        most as u32
+    } else {
+        times
+    }
+}
+
+/// How far a number is above another.
+fn above(greater: i128, less: i128) -> u128
+    requires { unsigned_abs (greater -ℤ less) < 2 ^ 120 }
+    ensures value { result ≡ unsigned_abs (greater -ℤ less) }
+    ensures small { result < 2 ^ 120 }
+{
+    (greater - less).unsigned_abs()
+}
+
+/// A number of turns, at most so many, in which a worth that rises does not overtake a value that rises.
+fn behind(before: bool, value: i128, worth: i128, slope: i128, rise: i128, times: u32) -> u32
+    requires ahead { IsNotAhead before value worth }
+    requires gap { unsigned_abs (value -ℤ worth) < 2 ^ 120 }
+    requires gain { unsigned_abs (rise -ℤ slope) < 2 ^ 120 }
+    ensures behind { IsBehind before value worth slope rise result }
+    ensures most { result ≤ times }
+    ensures some { 0 < times → 0 < result }
+{
+    if slope < rise {
+        let gap = above(value, worth);
+        let gain = above(rise, slope);
+        within_gap(before, gap, gain, times)
+    } else {
+        times
+    }
+}
+
+/// A number of turns, at most so many, in which no class that has chosen another move of a point turns to this one.
+fn behind_all(
+    choice: u8,
+    picks: &[u8],
+    start: usize,
+    count: usize,
+    values: &[i128],
+    worths: &[i128],
+    slopes: &[i128],
+    rises: &[i128],
+    times: u32,
+) -> u32
+    requires picks { start + count ≤ length picks.now }
+    requires values { start + count ≤ length values.now }
+    requires worths { count ≤ length worths.now }
+    requires slopes { start + count ≤ length slopes.now }
+    requires rises { count ≤ length rises.now }
+    requires ahead { (k : ℕ) → k < count → slice_index picks.now (start + k) ≢ choice
+        → IsNotAhead (nat_lt choice (slice_index picks.now (start + k))) (get_or values.now (start + k) (pos 0)) (get_or worths.now k (pos 0)) }
+    requires gaps { (k : ℕ) → k < count → unsigned_abs (get_or values.now (start + k) (pos 0) -ℤ get_or worths.now k (pos 0)) < 2 ^ 120 }
+    requires gains { (k : ℕ) → k < count → unsigned_abs (get_or rises.now k (pos 0) -ℤ get_or slopes.now (start + k) (pos 0)) < 2 ^ 120 }
+    ensures behind { AreBehind count choice start picks.now values.now worths.now slopes.now rises.now result }
+    ensures most { result ≤ times }
+    ensures some { 0 < times → 0 < result }
+{
+    let mut left = times;
+    for class in 0..count {
+        let pick = picks[start + class];
+        if pick != choice {
+            left = behind(
+                choice < pick,
+                values[start + class],
+                worths[class],
+                slopes[start + class],
+                rises[class],
+                left,
+            );
+        }
+    }
+    left
+}
+
+/// A number of turns, at most so many, in which no class of an own point turns to a move; both rows are written anew.
+fn lasting_move(
+    course: &Course<'_>,
+    point: u32,
+    choice: u8,
+    worths: &mut [i128],
+    rises: &mut [i128],
+    times: u32,
+) -> u32
+    requires point { point < point_count (frame_in course.now) }
+    requires own { player_at (frame_in course.now) point ≡ course.now.player }
+    requires choice { choice < move_count (frame_in course.now) point }
+    requires worths { IsWide (frame_in course.now) (lists_in course.now) (length worths.old) }
+    requires rises { IsWide (frame_in course.now) (lists_in course.now) (length rises.old) }
+    ensures behind { StaysBehind course.now point choice result }
+    ensures most { result ≤ times }
+    ensures some { 0 < times → 0 < result }
+{
+    let _rounds = round_total(course.form);
+    let now = Deviator {
+        form: course.form,
+        player: course.player,
+        other: course.other,
+    };
+    let added = Deviator {
+        form: course.form,
+        player: course.player,
+        other: course.more,
+    };
+    read_worths(&now, course.places, course.totals, point, choice, worths);
+    read_worths(&added, course.places, course.steps, point, choice, rises);
+    let start = course.places.points[point as usize] as usize;
+    let count = class_total(course.form, round_at(course.form, point)) as usize;
+    behind_all(
+        choice,
+        course.picks,
+        start,
+        count,
+        &course.totals.points,
+        worths,
+        &course.steps.points,
+        rises,
+        times,
+    )
+}
+
+/// A number of turns, at most so many, in which no choice at an own point changes.
+fn lasting_point(
+    course: &Course<'_>,
+    point: u32,
+    worths: &mut [i128],
+    rises: &mut [i128],
+    times: u32,
+) -> u32
+    requires point { point < point_count (frame_in course.now) }
+    requires own { player_at (frame_in course.now) point ≡ course.now.player }
+    requires worths { IsWide (frame_in course.now) (lists_in course.now) (length worths.old) }
+    requires rises { IsWide (frame_in course.now) (lists_in course.now) (length rises.old) }
+    ensures lasts { LastsAt course.now point result }
+    ensures most { result ≤ times }
+    ensures some { 0 < times → 0 < result }
+{
+    let mut left = times;
+    for choice in 0..move_total(course.form, point) {
+        left = lasting_move(course, point, choice, worths, rises, left);
+    }
+    left
+}
+
+/// A number of turns, at most so many, in which no choice at any own point changes.
+fn lasting_all(course: &Course<'_>, worths: &mut [i128], rises: &mut [i128], times: u32) -> u32
+    requires worths { IsWide (frame_in course.now) (lists_in course.now) (length worths.old) }
+    requires rises { IsWide (frame_in course.now) (lists_in course.now) (length rises.old) }
+    ensures lasts { Lasts course.now result }
+    ensures most { result ≤ times }
+    ensures some { 0 < times → 0 < result }
+{
+    let mut left = times;
+    for point in 0..point_total(course.form) {
+        if chooser(course.form, point) == course.player {
+            left = lasting_point(course, point, worths, rises, left);
+        }
+    }
+    left
+}
+
+/// A number of turns, at most so many, in which no choice of the player changes.
+pub fn lasting(course: &Course<'_>, scratch: &mut Scratch, times: u32) -> u32
+    requires { HasScratch (frame_in course.now) (lists_in course.now) scratch.old }
+    ensures scratch { HasScratch (frame_in course.now) (lists_in course.now) scratch.new }
+    ensures lasts { Lasts course.now result }
+    ensures most { result ≤ times }
+    ensures some { 0 < times → 0 < result }
+{
+    lasting_all(course, &mut scratch.worths, &mut scratch.rises, times)
+}
