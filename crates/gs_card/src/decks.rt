@@ -154,6 +154,17 @@ impl Deck {
         })
     }
 
+    /// A deck of the same cards.
+    pub fn copy(&self, alloc: Global) -> Result<Deck, AllocError>
+        ensures { IfOk result (λ deck. deck ≡ self.now) }
+    {
+        Ok(Deck {
+            ranks: Vec::from_slice(alloc, &self.ranks)?,
+            suits: Vec::from_slice(alloc, &self.suits)?,
+            counts: Vec::from_slice(alloc, &self.counts)?,
+        })
+    }
+
     /// The letters of the ranks, the lowest rank first.
     pub fn ranks(&self) -> &[u8]
         ensures letters { result.now ≡ self.now.ranks }

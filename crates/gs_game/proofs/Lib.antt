@@ -23,3 +23,6 @@ pub mod Playable
 pub mod LineWriting
 pub mod Ways
 pub mod Singles
+pub mod GoingOn
+pub mod StopLaws
+pub mod SomeWays

@@ -109,7 +109,7 @@ signals_total w g (suc round) sizes =
 -- ---- deals
 
 -- the ways of the opponent's signals beside a signal, and their number
-facing_ways : (rs : List Round) (left : List ℕ) (s : Signal) → length s ≡ length rs → total (λ (v : ℕ × Signal). v.0) (facing left rs s) ≡ sequences ways left (privates rs)
+pub facing_ways : (rs : List Round) (left : List ℕ) (s : Signal) → length s ≡ length rs → total (λ (v : ℕ × Signal). v.0) (facing left rs s) ≡ sequences ways left (privates rs)
 facing_ways [] left s h = omega arith
 facing_ways (r ∷ rs) left [] h = absurd (omega (arith, h))
 facing_ways (r ∷ rs) left (p ∷ s) h =
@@ -168,7 +168,7 @@ path-once left [] = refl
 path-once left (p ∷ s) = let r = path-once (left_after (left_after left p.own) p.public) s in omega (arith, r)
 
 -- the deals of one signal, and the opponent's signals beside it, give the same triples
-same_triples : (g : Game) (i : ℕ) (f : Triple → ℕ) → i < length (signals g (round_count g))
+pub same_triples : (g : Game) (i : ℕ) (f : Triple → ℕ) → i < length (signals g (round_count g))
     → total (λ (d : Deal). f (signal_at g (round_count g) d.two, d.weight, d.outcome)) (filter (λ (d : Deal). d.one == i) (deals g))
     ≡ total (λ (v : ℕ × Signal). f (v.1, path_weight g.copies (signal_at g (round_count g) i) * v.0, signal_outcome g (signal_at g (round_count g) i) v.1))
     (facing (left_by g.copies (signal_at g (round_count g) i)) g.rounds (signal_at g (round_count g) i))
@@ -198,7 +198,7 @@ count_at g i h =
     let f = path-once g.copies s in
     rw f (omega (arith, e))
 
-in-range : (P : ℕ → Type 0) (a n : ℕ) → ((k : ℕ) → a ≤ k → k < a + n → P k) → AllByRecursion P (range_with_len a n)
+pub in-range : (P : ℕ → Type 0) (a n : ℕ) → ((k : ℕ) → a ≤ k → k < a + n → P k) → AllByRecursion P (range_with_len a n)
 in-range P a zero h = tt
 in-range P a (suc n) h = (h a (omega arith) (omega arith), in-range P (a + 1) n (λ k low high. h k (omega arith) (omega arith)))
 

@@ -85,7 +85,7 @@ one-key v k a (suc n) low high = elim (cases_eq k a) [
         let here : cond (eqb k a) v 0 ≡ 0 = rw (ne_eqb k a (λ e. absurd (omega (arith, e, h)))) refl in
         omega (arith, here, no-key v k (a + 1) n (omega arith))
 
-total-two : {X : Type 0} (f g : X → ℕ) (xs : List X) → total (λ x. f x + g x) xs ≡ total f xs + total g xs
+pub total-two : {X : Type 0} (f g : X → ℕ) (xs : List X) → total (λ x. f x + g x) xs ≡ total f xs + total g xs
 total-two f g [] = refl
 total-two f g (x ∷ xs) = omega (arith, total-two f g xs)
 

@@ -14,7 +14,7 @@ abbrev pub Single : List ℕ → Type 0
 Single left = (card : ℕ) → get_or left card 0 ≤ 1
 
 -- a kind's cards can be chosen where there are as many
-choose_some : (n k : ℕ) → k ≤ n → 0 < choose n k
+pub choose_some : (n k : ℕ) → k ≤ n → 0 < choose n k
 choose_some n zero l = omega arith
 choose_some zero (suc k) l = absurd (omega arith)
 choose_some (suc n) (suc k) l = omega (arith, choose_some n k (omega arith))

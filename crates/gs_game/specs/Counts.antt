@@ -9,6 +9,7 @@ abbrev mutual
   ends_of more fold = 1
   ends_of more even = more
 
+  -- the ends below the moves of a choice
   pub move_ends : ℕ → Moves → ℕ
   move_ends more none = 0
   move_ends more (move letter chips next moves) = ends_of more next + move_ends more moves
@@ -20,6 +21,7 @@ abbrev mutual
   points_of more fold = 0
   points_of more even = more
 
+  -- the points below the moves of a choice
   pub move_points : ℕ → Moves → ℕ
   move_points more none = 0
   move_points more (move letter chips next moves) = points_of more next + move_points more moves
@@ -29,6 +31,7 @@ abbrev pub ends_in : List Bet → ℕ
 ends_in [] = 1
 ends_in (t ∷ ts) = ends_of (ends_in ts) t
 
+-- how many points the rounds that are left have
 abbrev pub points_in : List Bet → ℕ
 points_in [] = 0
 points_in (t ∷ ts) = points_of (points_in ts) t

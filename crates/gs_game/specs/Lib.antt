@@ -9,3 +9,4 @@ pub mod Limits
 pub mod Valid
 pub mod Sequences
 pub mod Lines
+pub mod GoingOn

@@ -7,7 +7,7 @@ use Rattle.gs_model.specs.Outcome.{IsBonus}
 use Rattle.gs_model.specs.Signals.{signals}
 use Rattle.gs_game.specs.Refusals.{own_cards, public_cards, ranks}
 
--- the numbers of signals and deals that a valid game may have, and the weight of all deals
+-- a valid game has 1 to 4 rounds, and its numbers of signals and deals, and the weight of all deals, are within the limits
 pub record IsWithinLimits (g : Game) : Type 0 where
   pub some_round : 0 < round_count g
   pub few_rounds : round_count g ≤ 4

@@ -17,6 +17,7 @@ abbrev mutual
   tree_lines go_on before fold = record { points = []; ends = before ∷ [] }
   tree_lines go_on before even = go_on before
 
+  -- the same of the positions that the moves of a choice lead to
   pub move_lines : (List ℕ → Texts) → List ℕ → Moves → Texts
   move_lines go_on before none = record { points = []; ends = [] }
   move_lines go_on before (move letter chips next moves) =
@@ -49,6 +50,7 @@ abbrev mutual
   follow go_on more_points more_ends points ends fold (b ∷ text) = None
   follow go_on more_points more_ends points ends even text = go_on points ends text
 
+  -- the same at a choice, whose next letter names the move
   pub follow_moves : (ℕ → ℕ → List ℕ → Option Target) → ℕ → ℕ → ℕ → ℕ → Moves → ℕ → List ℕ → Option Target
   follow_moves go_on more_points more_ends points ends none b text = None
   follow_moves go_on more_points more_ends points ends (move letter chips next moves) b text =
@@ -64,16 +66,19 @@ follow_from (t ∷ ts) points ends (b ∷ text) = if b == 47 then follow (follow
 
 -- ---- the numbers of points and ends along the way are small
 
+-- each tree of the rounds that are left but the last has an even leaf, and the numbers of their points and ends stay below 2^32
 pub record RoundsFollow (ts : List Bet) (points ends : ℕ) : Type 0 where
   pub evens : no_even_from 1 ts ≡ None
   pub few_points : points + points_in ts < 2 ^ 32
   pub few_ends : ends + ends_in ts < 2 ^ 32
 
+-- the same of a tree and the rounds after it
 pub record TreeFollows (rest : List Bet) (t : Bet) (points ends : ℕ) : Type 0 where
   pub evens : no_even_from 1 rest ≡ None
   pub few_points : points + points_of (points_in rest) t < 2 ^ 32
   pub few_ends : ends + ends_of (ends_in rest) t < 2 ^ 32
 
+-- the same of the moves of a choice and the rounds after it
 pub record MovesFollow (rest : List Bet) (ms : Moves) (points ends : ℕ) : Type 0 where
   pub evens : no_even_from 1 rest ≡ None
   pub few_points : points + move_points (points_in rest) ms < 2 ^ 32
@@ -81,6 +86,7 @@ pub record MovesFollow (rest : List Bet) (ms : Moves) (points ends : ℕ) : Type
 
 -- ---- positions by number among so many points and ends
 
+-- the number of a position is below so many points, or so many ends
 abbrev pub IsAmong : ℕ → ℕ → Target → Type 0
 IsAmong points ends (at_point q) = q < points
 IsAmong points ends (at_end z) = z < ends

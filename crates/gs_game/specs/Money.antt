@@ -23,6 +23,7 @@ abbrev mutual
   has_even fold = false
   has_even even = true
 
+  -- whether some move of a choice leads to such a path
   pub any_even : Moves → Bool
   any_even none = false
   any_even (move letter chips next moves) = has_even next || any_even moves
@@ -35,6 +36,7 @@ abbrev mutual
   uneven_path path one two fold = None
   uneven_path path one two even = if one == two then None else Some path
 
+  -- the same of the moves of a choice, from the first on
   pub uneven_move : List ℕ → ℕ → ℕ → ℕ → Moves → Option (List ℕ)
   uneven_move path one two player none = None
   uneven_move path one two player (move letter chips next moves) =
@@ -47,6 +49,7 @@ abbrev mutual
   most_put go_on one two fold = max one two
   most_put go_on one two even = go_on one two
 
+  -- the same of the moves of a choice: the most over them
   pub most_moved : (ℕ → ℕ → ℕ) → ℕ → ℕ → ℕ → Moves → ℕ
   most_moved go_on one two player none = 0
   most_moved go_on one two player (move letter chips next moves) =
@@ -61,14 +64,14 @@ most_in (t ∷ ts) one two = most_put (most_in ts) one two t
 abbrev pub put_above : ℕ → ℕ → ℕ → ℕ
 put_above above one two = max one two + above
 
--- how many acts stand within each other at most, and how much has been put at most, so that no sum grows large
+-- so many acts stand within each other in a tree, and so much has been put before it, that each player, by 4,096 chips an act, stays at 2^24 or below
 pub record Fits (one two : ℕ) (t : Bet) : Type 0 where
   pub left : ℕ
   pub sound : is_sound left t ≡ true
   pub room_one : one + left * 4096 ≤ 2 ^ 24
   pub room_two : two + left * 4096 ≤ 2 ^ 24
 
--- the same of the trees that moves lead to, before the move
+-- the same of the trees that moves lead to, with one act more for the move itself
 pub record MovesFit (one two : ℕ) (ms : Moves) : Type 0 where
   pub left : ℕ
   pub sound : are_sound left ms ≡ true

@@ -8,6 +8,7 @@ use Rattle.gs_model.specs.Signals.{signals}
 use Rattle.gs_model.specs.Walk.{walk}
 use Rattle.gs_game.specs.Money.{first_of, has_even, uneven_path, most_in}
 
+-- why a game is refused, with the numbers that tell it: eleven reasons, each named below by the definition that finds it
 pub data Refusal : Type 0 where
   rounds : ℕ → Refusal
   no_private : Refusal
@@ -27,6 +28,7 @@ pub data Refusal : Type 0 where
 abbrev pub own_cards : List Round → ℕ
 own_cards rs = sum_by (λ (r : Round). r.private) rs
 
+-- how many public cards there are over all rounds
 abbrev pub public_cards : List Round → ℕ
 public_cards rs = sum_by (λ (r : Round). r.public) rs
 
@@ -36,12 +38,15 @@ ranks High own all = own == 1
 ranks Pair own all = own == 1
 ranks Three own all = all == 3
 
+-- a game has no round, or more than 4 rounds
 unfoldable pub rounds_refusal : Game → Option Refusal
 rounds_refusal g = if nat_le 1 (round_count g) && nat_le (round_count g) 4 then None else Some (rounds (round_count g))
 
+-- round 1 gives no private card
 unfoldable pub private_refusal : Game → Option Refusal
 private_refusal g = if (round_at g 1).private == 0 then Some no_private else None
 
+-- the ranking cannot rank the hands of the game
 unfoldable pub ranking_refusal : Game → Option Refusal
 ranking_refusal g =
     let own = own_cards g.rounds in
@@ -54,6 +59,7 @@ copies_refusal g =
     let need = 2 * own_cards g.rounds + public_cards g.rounds in
     if nat_lt (sum g.copies) need then Some (not_enough_cards need (sum g.copies)) else None
 
+-- of the rules on rounds and cards the first that is broken: the rounds, the private card of round 1, the ranking, the copies
 unfoldable pub card_refusal : Game → Option Refusal
 card_refusal g = first_of (rounds_refusal g) (first_of (private_refusal g) (first_of (ranking_refusal g) (copies_refusal g)))
 
@@ -70,13 +76,16 @@ abbrev pub uneven_from : ℕ → List Bet → Option Refusal
 uneven_from round [] = None
 uneven_from round (t ∷ ts) = first_of (option_map (uneven round) (uneven_path [] 0 0 t)) (uneven_from (round + 1) ts)
 
+-- the greatest of some numbers, 0 of none
 abbrev pub greatest : List ℕ → ℕ
 greatest [] = 0
 greatest (x ∷ xs) = max x (greatest xs)
 
+-- a round before the last has no even leaf
 unfoldable pub even_refusal : Game → Option Refusal
 even_refusal g = no_even_from 1 (trees_of g)
 
+-- at some even leaf the two players have put different amounts in the round; the refusal tells the round of the first such leaf, and the letters to it
 unfoldable pub uneven_refusal : Game → Option Refusal
 uneven_refusal g = uneven_from 1 (trees_of g)
 
@@ -92,11 +101,13 @@ lines_refusal g =
     let ends = length (walk g.ante (trees_of g)).ends in
     if nat_lt 8192 ends then Some (too_many_lines (min ends (2 ^ 128 - 1))) else None
 
+-- of the rules on betting the first that is broken: even leaves, equal money, the most put, the number of ends
 unfoldable pub betting_refusal : Game → Option Refusal
 betting_refusal g = first_of (even_refusal g) (first_of (uneven_refusal g) (first_of (put_refusal g) (lines_refusal g)))
 
 -- ---- deals
 
+-- all deals together weigh more than 67,108,864
 unfoldable pub weight_refusal : Game → Option Refusal
 weight_refusal g = if nat_lt 67108864 (total_weight (frame_of g)) then Some (too_heavy (total_weight (frame_of g))) else None
 
@@ -105,16 +116,20 @@ abbrev pub signals_from : Game → ℕ → ℕ → Option Refusal
 signals_from g zero round = None
 signals_from g (suc left) round = if nat_lt 200000 (length (signals g round)) then Some (too_many_signals round) else signals_from g left (round + 1)
 
+-- some round has more than 200,000 raw signals: the first of them
 unfoldable pub signals_refusal : Game → Option Refusal
 signals_refusal g = signals_from g (round_count g) 1
 
+-- there are more than 8,000,000 deals
 unfoldable pub deals_refusal : Game → Option Refusal
 deals_refusal g = if nat_lt 8000000 (length (deals g)) then Some too_many_deals else None
 
+-- of the rules on deals the first that is broken: their weight, the raw signals of a round, their number
 unfoldable pub deal_refusal : Game → Option Refusal
 deal_refusal g = first_of (weight_refusal g) (first_of (signals_refusal g) (deals_refusal g))
 
 -- ---- the first that applies
 
+-- the first refusal that a game meets: of its cards, else of its betting, else of its deals
 unfoldable pub first_refusal : Game → Option Refusal
 first_refusal g = first_of (card_refusal g) (first_of (betting_refusal g) (deal_refusal g))

@@ -11,13 +11,16 @@ use Rattle.gs_game.specs.declared.positions.EndKind.{EndKind as StoredKind}
 use Rattle.gs_game.specs.declared.positions.EndKind.TheVariants as kinds
 use Rattle.gs_game.specs.declared.positions.End.{End as StoredEnd}
 
+-- a step of the program, as the definitions see it
 abbrev pub step_of : StoredStep → Step
 step_of s = record { point = s.point; choice = s.choice }
 
+-- where a move of the program leads, as the definitions see it
 abbrev pub target_of : StoredTarget → Target
 target_of (targets.Point q) = at_point q
 target_of (targets.End z) = at_end z
 
+-- a move of the program, as the definitions see it
 abbrev pub arrow_of : StoredArrow → Arrow
 arrow_of a = record { letter = a.letter; to = target_of a.to }
 
@@ -32,13 +35,16 @@ pub record OwnPoint : Type 0 where
 abbrev pub own_point : Point → OwnPoint
 own_point p = record { player = p.player; round = p.round; own = if p.player == 1 then p.one else p.two; moves = p.moves }
 
+-- a point of the program, as such a point
 abbrev pub point_of : StoredPoint → OwnPoint
 point_of p = record { player = p.player; round = p.round; own = option_map step_of p.own; moves = map arrow_of p.moves.items }
 
+-- how play ended in the program, as the definitions see it
 abbrev pub kind_of : StoredKind → EndKind
 kind_of kinds.Folded1 = model.Folded1
 kind_of kinds.Folded2 = model.Folded2
 kind_of kinds.Show = model.Show
 
+-- an end of the program, as the definitions see it
 abbrev pub end_of : StoredEnd → End
 end_of z = record { round = z.round; kind = kind_of z.kind; put = z.put; one = option_map step_of z.one; two = option_map step_of z.two }

@@ -12,7 +12,7 @@ use Rattle.gs_game.specs.declared.positions.Target.{Target as StoredTarget}
 abbrev pub walk_of : Game → Walked
 walk_of g = walk g.ante (trees_of g)
 
--- points, ends and start are those of the walk, and the weight is that of all deals
+-- points, ends and start are those of the walk of the game
 pub record IsWalkOf (g : Game) (points : List Point) (ends : List End) (start : StoredTarget) : Type 0 where
   pub points_are : map point_of points ≡ map own_point (walk_of g).points
   pub ends_are : map end_of ends ≡ (walk_of g).ends

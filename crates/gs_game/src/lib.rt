@@ -8,19 +8,19 @@ mod counting;
 mod deals;
 mod faults;
 mod game;
+mod laws;
 mod line_texts;
 mod lines;
 mod money;
 mod place;
 mod positions;
+mod stopped;
 mod valid;
 mod walk;
 
 pub use cards::are_single;
 pub use faults::GameFault;
 pub use game::{Game, Round};
+pub use laws::rounds_go_on;
 pub use positions::{Arrow, End, EndKind, Point, Step, Target};
 pub use valid::ValidGame;
-
-#[cfg(test)]
-mod tests;

@@ -1,4 +1,4 @@
-use Rattle.std.proofs.Common.{◌≡◌, ℕ, ◌∙◌, ap, arith, sum}
+use Rattle.std.proofs.Common.{◌≡◌, arith, sum}
 use Rattle.gs_game.specs.Sequences.{count_sequences, draws}
 use Rattle.gs_game.proofs.Singles.{single_all, single_drawn}
 use Rattle.gs_game.proofs.deals.count_deals.Goals as goal

@@ -1,0 +1,37 @@
+-- How many ways there are to go on after some rounds.
+use Rattle.std.specs.Prelude.{ℕ, ◌+◌, ◌-◌, ◌*◌, ◌<◌, ◌≤◌, ◌≡◌, List, [], ◌∷◌, ◌++◌, None, take, drop, sum}
+use Rattle.gs_model.specs.Classes.{ClassLists, list_of}
+use Rattle.gs_model.specs.Frame.{frame_of}
+use Rattle.gs_model.specs.Game.{Game, Round, round_count}
+use Rattle.gs_model.specs.Lossless.{weight_against}
+use Rattle.gs_game.specs.Refusals.{first_refusal}
+use Rattle.gs_game.specs.Sequences.{deal_sizes, draws, seen_sizes}
+
+-- one player's own cards over some rounds
+abbrev pub own_cards_of : List Round → ℕ
+own_cards_of [] = 0
+own_cards_of (r ∷ rs) = r.private + own_cards_of rs
+
+-- the cards that a player sees over some rounds: his own and the public ones
+abbrev pub cards_shown : List Round → ℕ
+cards_shown [] = 0
+cards_shown (r ∷ rs) = r.private + r.public + cards_shown rs
+
+-- the ways to deal the groups of the rounds after some, to both players, from the cards that the first rounds leave
+abbrev pub ways_on : Game → ℕ → ℕ
+ways_on g round = draws (sum g.copies - cards_shown (take round g.rounds) - own_cards_of (take round g.rounds)) (deal_sizes (drop round g.rounds))
+
+-- a game that deals the first rounds of another and then a round of no cards, from the same cards; how it is bet and how hands are ranked does not matter
+pub record StopsAfter (g : Game) (round : ℕ) (h : Game) : Type 0 where
+  pub copies : h.copies ≡ g.copies
+  pub sizes : seen_sizes h.rounds ≡ seen_sizes (take round g.rounds) ++ 0 ∷ 0 ∷ []
+
+-- after each round of a valid game there is a way to go on
+abbrev pub SomeGoOn : Type 0
+SomeGoOn = (g : Game) (round : ℕ) → first_refusal g ≡ None → 0 < ways_on g round
+
+-- what a signal of a round weighs against a class is what it weighs where the game stops after that round, times the ways to go on
+abbrev pub RoundsGoOn : Type 0
+RoundsGoOn =
+    (g h : Game) (round : ℕ) (lists others : ClassLists) → 0 < round → round ≤ round_count g → StopsAfter g round h → list_of others round ≡ list_of lists round
+    → (s c : ℕ) → weight_against (frame_of g) lists round s c ≡ ways_on g round * weight_against (frame_of h) others round s c

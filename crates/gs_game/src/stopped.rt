@@ -1,0 +1,78 @@
+//! The game that stops after some rounds.
+
+ghost use Rattle.std.specs.Prelude.{◌≡◌, ◌≤◌, ◌++◌, ◌∷◌, [], All, IfOk, OnOk, map};
+ghost use Rattle.gs_game.specs.Games.{HasFewCards, round_of};
+ghost use Rattle.gs_game.specs.Sequences.{seen_sizes};
+
+use crate::faults::GameFault;
+use crate::game::{Game, Round};
+use crate::valid::ValidGame;
+use gs_bet::limit_tree;
+use gs_card::Ranking;
+use std::alloc::{AllocError, Global};
+
+/// Adds a round of these cards. Nobody bets in it.
+fn push_round(
+    alloc: Global,
+    rounds: &mut Vec<Round>,
+    private: u8,
+    public: u8,
+) -> Result<(), AllocError>
+    requires private { private ≤ 2 }
+    requires public { public ≤ 3 }
+    requires few { All HasFewCards rounds.old.items }
+    ensures sizes { OnOk result (seen_sizes (map round_of rounds.new.items) ≡ seen_sizes (map round_of rounds.old.items) ++ private ∷ public ∷ []) }
+    ensures few { OnOk result (All HasFewCards rounds.new.items) }
+{
+    let tree = limit_tree(alloc, 1, 0)?;
+    rounds.push(Round {
+        private,
+        public,
+        tree,
+    })?;
+    Ok(())
+}
+
+/// Rounds that deal as these do, and then one that deals no cards.
+fn stopped_rounds(alloc: Global, rounds: &[Round]) -> Result<Vec<Round>, AllocError>
+    requires { All HasFewCards rounds.now }
+    ensures sizes { IfOk result (λ v. seen_sizes (map round_of v.items) ≡ seen_sizes (map round_of rounds.now) ++ 0 ∷ 0 ∷ []) }
+    ensures few { IfOk result (λ v. All HasFewCards v.items) }
+{
+    let mut stopped = Vec::new(alloc);
+    for round in rounds {
+        push_round(alloc, &mut stopped, round.private, round.public)?;
+    }
+    push_round(alloc, &mut stopped, 0, 0)?;
+    Ok(stopped)
+}
+
+impl ValidGame {
+    ghost use Rattle.std.specs.Prelude.{◌≤◌, IfOk, IfSome};
+    ghost use Rattle.gs_game.specs.Games.{game_of};
+    ghost use Rattle.gs_game.specs.GoingOn.{StopsAfter};
+    ghost use Rattle.gs_model.specs.Game.{round_count};
+
+    /// The game that stops after a round: its deals are the pairs of signals of that round. Hands are ranked by the own card there; none where the
+    /// rounds up to it deal more than one.
+    pub fn stopped(&self, alloc: Global, round: u8) -> Result<Option<ValidGame>, AllocError>
+        requires { round ≤ round_count (game_of self.now.game) }
+        ensures { IfOk result (λ o. IfSome o (λ v. StopsAfter (game_of self.now.game) round (game_of v.game))) }
+    {
+        let game = self.game();
+        let rounds = stopped_rounds(alloc, &game.rounds[..usize::from(round)])?;
+        let one: u8 = 1;
+        let stopped = Game {
+            deck: game.deck.copy(alloc)?,
+            ranking: Ranking::High,
+            bonus: vec![in alloc; one; 1]?,
+            ante: 1,
+            rounds,
+        };
+        match stopped.check(alloc) {
+            Ok(valid) => Ok(Some(valid)),
+            Err(GameFault::Memory) => Err(AllocError),
+            Err(_) => Ok(None),
+        }
+    }
+}
