@@ -3,3 +3,4 @@ pub mod Descent
 pub mod Weighed
 pub mod Settled
 pub mod Scanned
+pub mod Transfer

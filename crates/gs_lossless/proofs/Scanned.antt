@@ -70,31 +70,31 @@ pub none_apart : (f : Frame) (lists : ClassLists) (side : Side) (round end : ℕ
 none_apart f lists side round end None e h = h
 none_apart f lists side round end (Some s) e h = absurd (true≢false e)
 
-pub children_from : (f : Frame) (lists : ClassLists) (round end : ℕ) (r : Option ℕ) → round < last_round f → end ≡ signal_count f round → IsFirstApart f lists Children round end r → IsChildrenApart f lists round r
-children_from f lists round end None l e h = λ _. subst (AgreeBelow f lists Children round) e h
-children_from f lists round end (Some s) l e h = (l, subst (λ n. IsFirstApart f lists Children round n (Some s)) e h)
+pub children_from : (f : Frame) (lists : ClassLists) (round end : ℕ) (r : Option ℕ) → round < last_round f → IsFirstApart f lists Children round end r → IsChildrenApart f lists round end r
+children_from f lists round end None l h = λ _. h
+children_from f lists round end (Some s) l h = (l, h)
 
 abbrev pub or_else : Option ℕ → Option ℕ → Option ℕ
 or_else (Some s) other = Some s
 or_else None other = other
 
-pub unlike_from : (f : Frame) (lists : ClassLists) (round : ℕ) → 0 < round → (apart r : Option ℕ) → IsChildrenApart f lists round apart
-    → IsFirstApart f lists Deals round (unwrap_or apart (signal_count f round)) r → MatchUnlike f lists round (or_else r apart)
-unlike_from f lists round some None None k h = λ s l. alike_from f lists round (first_member lists round (class_of lists round s)) s some (h s l) (λ b. k b s l)
-unlike_from f lists round some (Some t) None k h = (
-  k.1.0,
-  (λ s l. alike_from f lists round (first_member lists round (class_of lists round s)) s some (h s l) (λ _. k.1.1 s l)),
-  (λ a. k.1.2 (agree_children f lists round (first_member lists round (class_of lists round t)) t k.0 a)),
-)
-unlike_from f lists round some None (Some u) k h = (
+pub unlike_from : (f : Frame) (lists : ClassLists) (round : ℕ) → 0 < round → (apart r : Option ℕ) → IsFirstApart f lists Deals round (signal_count f round) apart
+    → IsChildrenApart f lists round (unwrap_or apart (signal_count f round)) r → MatchUnlike f lists round (or_else r apart)
+unlike_from f lists round some None None h k = λ s l. alike_from f lists round (first_member lists round (class_of lists round s)) s some (h s l) (λ b. k b s l)
+unlike_from f lists round some (Some t) None h k = (
   h.0,
-  (λ s l. alike_from f lists round (first_member lists round (class_of lists round s)) s some (h.1 s l) (λ b. k b s (omega (arith, l, h.0)))),
-  (λ a. h.2 (agree_deals f lists round (first_member lists round (class_of lists round u)) u a)),
+  (λ s l. alike_from f lists round (first_member lists round (class_of lists round s)) s some (h.1 s l) (λ b. k b s l)),
+  (λ a. h.2 (agree_deals f lists round (first_member lists round (class_of lists round t)) t a)),
 )
-unlike_from f lists round some (Some t) (Some u) k h = (
-  omega (arith, h.0, k.1.0),
-  (λ s l. alike_from f lists round (first_member lists round (class_of lists round s)) s some (h.1 s l) (λ _. k.1.1 s (omega (arith, l, h.0)))),
-  (λ a. h.2 (agree_deals f lists round (first_member lists round (class_of lists round u)) u a)),
+unlike_from f lists round some None (Some u) h k = (
+  k.1.0,
+  (λ s l. alike_from f lists round (first_member lists round (class_of lists round s)) s some (h s (omega (arith, l, k.1.0))) (λ _. k.1.1 s l)),
+  (λ a. k.1.2 (agree_children f lists round (first_member lists round (class_of lists round u)) u k.0 a)),
+)
+unlike_from f lists round some (Some t) (Some u) h k = (
+  omega (arith, k.1.0, h.0),
+  (λ s l. alike_from f lists round (first_member lists round (class_of lists round s)) s some (h.1 s (omega (arith, l, k.1.0))) (λ _. k.1.1 s l)),
+  (λ a. k.1.2 (agree_children f lists round (first_member lists round (class_of lists round u)) u k.0 a)),
 )
 
 pub first_unlike_from : (f : Frame) (lists : ClassLists) (before first second class : ℕ) → before + 1 ≤ last_round f → MatchUnlike f lists (before + 1) (Some second) → class ≡ class_of lists (before + 1) second
@@ -123,9 +123,9 @@ not_single f l e s round first second u g =
     refuted f l e s round first second u (subst (IsLossless f) (sym (g ∙ ap single_classes e)) (singles f (single_are_classes f.parents)))
 
 -- the end of the second scan of a round
-pub end_in : (f : Frame) (lists : ClassLists) (round : ℕ) (apart : Option ℕ) → IsChildrenApart f lists round apart → unwrap_or apart (signal_count f round) ≤ signal_count f round
-end_in f lists round None h = omega arith
-end_in f lists round (Some t) h = omega (arith, h.1.0)
+pub end_in : (f : Frame) (lists : ClassLists) (round count : ℕ) (apart : Option ℕ) → IsFirstApart f lists Deals round count apart → unwrap_or apart count ≤ count
+end_in f lists round count None h = omega arith
+end_in f lists round count (Some t) h = omega (arith, h.0)
 
 pub reverse_one : (xs ys : List Part) → reverse xs ≡ reverse ys → xs ≡ ys
 reverse_one xs ys e = sym (reverse-reverse xs) ∙ ap reverse e ∙ reverse-reverse ys

@@ -28,11 +28,12 @@ abbrev pub MatchUnlike : Frame → ClassLists → ℕ → Option ℕ → Type 0
 MatchUnlike f lists round None = AreAlikeBelow f lists round (signal_count f round)
 MatchUnlike f lists round (Some s) = (s < signal_count f round) × AreAlikeBelow f lists round s × (Alike f lists round (first_member lists round (class_of lists round s)) s → ⊥)
 
+-- what a stop prints
 abbrev pub stop_text : CheckStop → List ℕ
 stop_text (Unlike round first second) = codes "unlike in round " ++ decimal round ++ codes " at " ++ decimal first ++ codes " and " ++ decimal second
 stop_text Memory = codes "out of memory"
 
--- the first signal of a round that has not the children of the first member of its class, or none
-abbrev pub IsChildrenApart : Frame → ClassLists → ℕ → Option ℕ → Type 0
-IsChildrenApart f lists round None = round < last_round f → AgreeBelow f lists Children round (signal_count f round)
-IsChildrenApart f lists round (Some s) = (round < last_round f) × IsFirstApart f lists Children round (signal_count f round) (Some s)
+-- the first signal of a round before `end` that has not the children of the first member of its class, or none
+abbrev pub IsChildrenApart : Frame → ClassLists → ℕ → ℕ → Option ℕ → Type 0
+IsChildrenApart f lists round end None = round < last_round f → AgreeBelow f lists Children round end
+IsChildrenApart f lists round end (Some s) = (round < last_round f) × IsFirstApart f lists Children round end (Some s)

@@ -1,8 +1,9 @@
 //! Lossless classes, and the check for them.
 
-ghost use Rattle.std.specs.Prelude.{◌≡◌, ◌<◌, ◌≤◌, IfOk, IfErr, IsTrue};
+ghost use Rattle.std.specs.Prelude.{◌≡◌, ◌<◌, ◌≤◌, IfOk, IfErr, IsTrue, length};
 ghost use Rattle.gs_model.specs.Frame.{frame_of, last_round};
 ghost use Rattle.gs_model.specs.Lossless.{IsLossless};
+ghost use Rattle.gs_model.specs.Signals.{signals as signals_in};
 ghost use Rattle.gs_filter.specs.Filter.{single_classes};
 ghost use Rattle.gs_tree.specs.Trees.{rules_of};
 ghost use Rattle.gs_lossless.specs.Stops.{IsChildrenApart, IsUnlike, IsUnlikeIn, MatchUnlike};
@@ -10,6 +11,7 @@ ghost use Rattle.gs_lossless.specs.Stops.{IsChildrenApart, IsUnlike, IsUnlikeIn,
 use crate::scan::first_apart;
 use crate::sides::Side;
 use crate::stop::CheckStop;
+use crate::stopped::first_deals_apart;
 use gs_filter::Classes;
 use gs_tree::Signals;
 use std::alloc::{AllocError, Global};
@@ -70,20 +72,21 @@ fn settles(alloc: Global, signals: &Signals, classes: &Classes) -> Result<bool, 
     Ok(first_apart(alloc, signals, classes, Side::Deals, last, end)?.is_none())
 }
 
-/// The first signal of a round whose children differ from those of the first member of its class. The last round has no children.
+/// The first signal of a round, of those before `end`, whose children differ from those of the first member of its class. The last round has no
+/// children.
 fn children_apart(
     alloc: Global,
     signals: &Signals,
     classes: &Classes,
     round: u8,
+    end: u32,
 ) -> Result<Option<u32>, AllocError>
     requires parents { classes.now.parents ≡ (frame_of (rules_of signals.now)).parents }
     requires some { 0 < round }
-    requires top { round ≤ last_round (frame_of (rules_of signals.now)) }
-    ensures { IfOk result (IsChildrenApart (frame_of (rules_of signals.now)) classes.now.lists round) }
+    requires within { end ≤ length (signals_in (rules_of signals.now) round) }
+    ensures { IfOk result (IsChildrenApart (frame_of (rules_of signals.now)) classes.now.lists round end) }
 {
     if round < signals.rounds() {
-        let end = signals.count(round);
         first_apart(alloc, signals, classes, Side::Children, round, end)
     } else {
         Ok(None)
@@ -102,9 +105,10 @@ fn unlike_in(
     requires top { round ≤ last_round (frame_of (rules_of signals.now)) }
     ensures { IfOk result (MatchUnlike (frame_of (rules_of signals.now)) classes.now.lists round) }
 {
-    let apart = children_apart(alloc, signals, classes, round)?;
-    let end = apart.unwrap_or(signals.count(round));
-    match first_apart(alloc, signals, classes, Side::Deals, round, end)? {
+    let count = signals.count(round);
+    let apart = first_deals_apart(alloc, signals, classes, round, count)?;
+    let end = apart.unwrap_or(count);
+    match children_apart(alloc, signals, classes, round, end)? {
         Some(signal) => Ok(Some(signal)),
         None => Ok(apart),
     }

@@ -8,8 +8,7 @@ mod runs;
 mod scan;
 mod sides;
 mod stop;
-#[cfg(test)]
-mod tests;
+mod stopped;
 
 pub use checking::{Lossless, check};
 pub use keys::side_keys;

@@ -1,6 +1,5 @@
-use Rattle.std.proofs.Common.{◌≡◌, ◌<◌, arith, sym, ◌∙◌}
-use Rattle.gs_model.specs.Frame.{frame_of, last_round, signal_count}
-use Rattle.gs_model.proofs.Ranges.{signal_count_is}
+use Rattle.std.proofs.Common.{◌<◌, arith}
+use Rattle.gs_model.specs.Frame.{frame_of, last_round}
 use Rattle.gs_tree.specs.Trees.{rules_of}
 use Rattle.gs_lossless.specs.Scans.{IsFirstApart}
 use Rattle.gs_lossless.specs.Stops.{IsChildrenApart}
@@ -10,15 +9,16 @@ use Rattle.gs_lossless.proofs.Scanned.{children_from}
 use Rattle.gs_lossless.proofs.Settled.{if_ok}
 use Rattle.gs_lossless.proofs.checking.children_apart.Goals as goal
 
+pub first_apart-requires-clause-side : goal.first_apart-requires-clause-side
+first_apart-requires-clause-side c = (c.requires.some, omega (arith, c.if-round-rounds.true, c.rounds.ensures.value, last_is (rules_of c.args.signals.now)))
+
 pub returns-then-round-rounds : goal.returns-then-round-rounds
 returns-then-round-rounds c =
-    let g = rules_of c.args.signals.now in
-    let f = frame_of g in
+    let f = frame_of (rules_of c.args.signals.now) in
     let lists = c.args.classes.now.lists in
-    let before : c.args.round < last_round f = omega (arith, c.if-round-rounds.true, c.rounds.ensures.value, last_is g) in
-    let all : c.count-end.result ≡ signal_count f c.args.round = c.count-end.ensures.value ∙ sym (signal_count_is g c.args.round c.requires.some (omega (arith, before, last_is g))) in
-    if_ok c.first_apart.result (IsFirstApart f lists Children c.args.round c.count-end.result) (IsChildrenApart f lists c.args.round)
-    (λ r h. children_from f lists c.args.round c.count-end.result r before all h) c.first_apart.ensures
+    let before : c.args.round < last_round f = omega (arith, c.if-round-rounds.true, c.rounds.ensures.value, last_is (rules_of c.args.signals.now)) in
+    if_ok c.first_apart.result (IsFirstApart f lists Children c.args.round c.args.end) (IsChildrenApart f lists c.args.round c.args.end)
+    (λ r h. children_from f lists c.args.round c.args.end r before h) c.first_apart.ensures
 
 pub returns-else-round-rounds : goal.returns-else-round-rounds
 returns-else-round-rounds c =

@@ -1,0 +1,79 @@
+//! The first signal of a round before the last whose deals weigh otherwise than those of the first member of its class.
+//!
+//! After a round all pairs of signals go on in as many ways, so the deals of the game that stops there are compared in place of all deals.
+
+ghost use Rattle.std.specs.Prelude.{◌≡◌, ◌<◌, ◌≤◌, ◌++◌, ◌∷◌, [], IfOk, IfSome, length, take};
+ghost use Rattle.gs_filter.specs.Rows.{rows};
+ghost use Rattle.gs_model.specs.Classes.{list_of};
+ghost use Rattle.gs_model.specs.Frame.{frame_of};
+ghost use Rattle.gs_model.specs.Signals.{signals as signals_in};
+ghost use Rattle.gs_tree.specs.Trees.{rules_of};
+ghost use Rattle.gs_lossless.specs.Amounts.{HasSide};
+ghost use Rattle.gs_lossless.specs.Scans.{IsFirstApart};
+ghost use Rattle.gs_lossless.specs.declared.sides.Side.TheVariants.{Deals};
+
+use crate::scan::first_apart;
+use crate::sides::Side;
+use gs_filter::{ClassFault, Classes};
+use gs_tree::Signals;
+use std::alloc::{AllocError, Global};
+
+/// The class lists of the first rounds, and the last of them once more: after it nothing more is seen.
+fn stopped_lists(alloc: Global, classes: &Classes, round: u8) -> Result<Vec<Vec<u32>>, AllocError>
+    requires some { 0 < round }
+    requires top { round ≤ length classes.now.lists }
+    ensures { IfOk result (λ v. rows v.items ≡ take round classes.now.lists ++ list_of classes.now.lists round ∷ []) }
+{
+    let lists = classes.lists();
+    let mut stopped = Vec::new(alloc);
+    for list in &lists[..usize::from(round)] {
+        stopped.push(Vec::from_slice(alloc, list)?)?;
+    }
+    stopped.push(Vec::from_slice(alloc, &lists[usize::from(round) - 1])?)?;
+    Ok(stopped)
+}
+
+/// The same classes where the game stops after a round; none where they are none there.
+fn stopped_classes(
+    alloc: Global,
+    stopped: &Signals,
+    classes: &Classes,
+    round: u8,
+) -> Result<Option<Classes>, AllocError>
+    requires some { 0 < round }
+    requires top { round ≤ length classes.now.lists }
+    ensures parents { IfOk result (λ o. IfSome o (λ c. c.parents ≡ (frame_of (rules_of stopped.now)).parents)) }
+    ensures same { IfOk result (λ o. IfSome o (λ c. list_of c.lists round ≡ list_of classes.now.lists round)) }
+{
+    let lists = stopped_lists(alloc, classes, round)?;
+    match Classes::new(alloc, stopped.parents(), lists) {
+        Ok(classes) => Ok(Some(classes)),
+        Err(ClassFault::Memory) => Err(AllocError),
+        Err(_) => Ok(None),
+    }
+}
+
+/// The first signal of a round, of those before `end`, whose deals weigh otherwise than those of the first member of its class.
+pub(crate) fn first_deals_apart(
+    alloc: Global,
+    signals: &Signals,
+    classes: &Classes,
+    round: u8,
+    end: u32,
+) -> Result<Option<u32>, AllocError>
+    requires parents { classes.now.parents ≡ (frame_of (rules_of signals.now)).parents }
+    requires side { HasSide (frame_of (rules_of signals.now)) Deals round }
+    requires within { end ≤ length (signals_in (rules_of signals.now) round) }
+    ensures { IfOk result (IsFirstApart (frame_of (rules_of signals.now)) classes.now.lists Deals round end) }
+{
+    let _rounds = classes.rounds();
+    if round < signals.rounds() {
+        if let Some(game) = signals.game().stopped(alloc, round)? {
+            let stopped = Signals::of(alloc, &game)?;
+            if let Some(seen) = stopped_classes(alloc, &stopped, classes, round)? {
+                return first_apart(alloc, &stopped, &seen, Side::Deals, round, end);
+            }
+        }
+    }
+    first_apart(alloc, signals, classes, Side::Deals, round, end)
+}
