@@ -2,7 +2,6 @@ pub mod Alike
 pub mod Each
 pub mod FirstSeen
 pub mod PairsSeen
-pub mod Weighed
 pub mod Chain
 pub mod Places
 pub mod Rows

@@ -18,8 +18,8 @@ use Rattle.gs_tree.proofs.Same.{public_self}
 use Rattle.gs_alike.specs.Alike.{AreAlike, AreStandIns, seen, seen_by}
 use Rattle.gs_alike.specs.FirstPairs.{AreFirstPairs}
 use Rattle.gs_alike.specs.Kinds.{AreKinds, hands_on}
-use Rattle.gs_alike.specs.Plain.{IsPlain}
-use Rattle.gs_alike.proofs.Weighed.{path_is, weight_is}
+use Rattle.gs_tree.specs.Plain.{IsPlain}
+use Rattle.gs_tree.proofs.Weighed.{path_is, weight_is}
 
 -- one element less of each
 cancelled : (x : ℕ) (xs ys : List ℕ) → IsPermutation (x ∷ xs) (x ∷ ys) → IsPermutation xs ys

@@ -1,4 +1,3 @@
 pub mod Alike
 pub mod FirstPairs
 pub mod Kinds
-pub mod Plain

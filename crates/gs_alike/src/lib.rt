@@ -5,7 +5,5 @@ mod boards;
 mod first;
 mod pairs;
 mod standing;
-#[cfg(test)]
-mod tests;
 
 pub use standing::stand_ins;

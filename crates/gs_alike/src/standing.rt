@@ -4,7 +4,7 @@ ghost use Rattle.std.specs.Prelude.{◌≡◌, IfOk, IsTrue, length};
 ghost use Rattle.gs_tree.specs.Trees.{rules_of};
 ghost use Rattle.gs_tree.specs.Walk.{last_count};
 ghost use Rattle.gs_alike.specs.Alike.{AreStandIns};
-ghost use Rattle.gs_alike.specs.Plain.{IsPlain};
+ghost use Rattle.gs_tree.specs.Plain.{IsPlain};
 
 use crate::boards::board_kinds;
 use crate::pairs::first_pairs;

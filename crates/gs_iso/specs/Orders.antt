@@ -19,5 +19,6 @@ leaf_of path d = (d.weight / path, d.outcome)
 abbrev pub leaf_eq : ℕ × ℤ → ℕ × ℤ → Bool
 leaf_eq x y = (x.0 == y.0) && int_eq x.1 y.1
 
+-- whether two children are the same
 abbrev pub child_eq : ℕ × ℕ → ℕ × ℕ → Bool
 child_eq x y = (x.0 == y.0) && (x.1 == y.1)

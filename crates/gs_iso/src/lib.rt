@@ -12,6 +12,3 @@ mod signal_classes;
 
 pub use pairings::pairing;
 pub use signal_classes::shrink;
-
-#[cfg(test)]
-mod tests;

@@ -74,7 +74,7 @@ fn class_lists(
 }
 
 /// The classes of recursive ordered game isomorphism: two signals of a round are of one class where they are isomorphic and, from round 2 on,
-/// their parents are of one class. Classes are numbered from 1 by first member.
+/// their parents are of one class. Classes are numbered from 1 by first member. This is the grouping of the algorithm GameShrink.
 ///
 /// Source: Gilpin and Sandholm, Lossless abstraction of imperfect information games, 2007.
 pub fn shrink(alloc: Global, signals: &Signals) -> Result<Classes, AllocError>

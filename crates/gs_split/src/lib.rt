@@ -6,8 +6,6 @@ mod parts;
 mod rounds;
 mod splitting;
 mod stays;
-#[cfg(test)]
-mod tests;
 mod turns;
 
 pub use splitting::split;

@@ -111,20 +111,28 @@ pub lines-count : (items : List (String Global)) (f : ℕ → List ℕ) (count :
 lines-count items f count e = sym (length-map items string_bytes) ∙ ap length e ∙ length-map-range_with_len f 1 count
 
 -- a turn of the loop over the classes of the signals
+pub lines-told : (count : ℕ) (texts : List (List ℕ)) (classes : List ℕ) (i : ℕ) (items : List (String Global)) (old new : String Global) (shown : List ℕ) → i < length classes → length texts ≡ length classes
+    → (1 ≤ get_or classes i 0) × (get_or classes i 0 ≤ count) → map string_bytes items ≡ map (open_line (zip (take i texts) (take i classes))) (range_with_len 1 count)
+    → get_or texts i shown ≡ shown → old ≡ get_or items (get_or classes i 0 - 1) old → string_bytes new ≡ string_bytes old ++ (codes " " ++ shown)
+    → map string_bytes (set items (get_or classes i 0 - 1) new) ≡ map (open_line (zip (take (i + 1) texts) (take (i + 1) classes))) (range_with_len 1 count)
+lines-told count texts classes i items old new shown lt same range e is_shown is_old grown =
+    let class = get_or classes i 0 in
+    let many : length items ≡ count = lines-count items (open_line (zip (take i texts) (take i classes))) count e in
+    let within : class - 1 < length items = omega (arith, many, range.0, range.1) in
+    let line : string_bytes new ≡ get_or (map string_bytes items) (class - 1) (string_bytes new) ++ (codes " " ++ shown) =
+    grown ∙ ap (λ r. r ++ (codes " " ++ shown)) (ap string_bytes is_old ∙ sym (get_or-map string_bytes items (class - 1) old (string_bytes new) within)) in
+    map-set string_bytes items (class - 1) new
+    ∙ lines-more count texts classes i (map string_bytes items) class shown (string_bytes new) (omega (arith, same)) lt is_shown (get_or_default_zero classes i class lt) range.0 range.1 e line
+
+-- that turn, where the texts are kept
 pub lines-turn : (count : ℕ) (texts : List (String Global)) (classes : List ℕ) (i : ℕ) (items : List (String Global)) (old new text : String Global) (shown : List ℕ) → i < length classes → length texts ≡ length classes
     → (1 ≤ get_or classes i 0) × (get_or classes i 0 ≤ count) → map string_bytes items ≡ map (open_line (zip (take i (map string_bytes texts)) (take i classes))) (range_with_len 1 count)
     → text ≡ get_or texts i text → shown ≡ string_bytes text → old ≡ get_or items (get_or classes i 0 - 1) old → string_bytes new ≡ string_bytes old ++ (codes " " ++ shown)
     → map string_bytes (set items (get_or classes i 0 - 1) new) ≡ map (open_line (zip (take (i + 1) (map string_bytes texts)) (take (i + 1) classes))) (range_with_len 1 count)
 lines-turn count texts classes i items old new text shown lt same range e is_text is_shown is_old grown =
-    let class = get_or classes i 0 in
-    let many : length items ≡ count = lines-count items (open_line (zip (take i (map string_bytes texts)) (take i classes))) count e in
-    let within : class - 1 < length items = omega (arith, many, range.0, range.1) in
     let long = length-map texts string_bytes in
-    let here : get_or (map string_bytes texts) i (string_bytes text) ≡ string_bytes text = get_or-map string_bytes texts i text (string_bytes text) (omega arith) ∙ ap string_bytes (sym is_text) in
-    let line : string_bytes new ≡ get_or (map string_bytes items) (class - 1) (string_bytes new) ++ (codes " " ++ string_bytes text) =
-    grown ∙ ap (λ r. string_bytes old ++ (codes " " ++ r)) is_shown ∙ ap (λ r. r ++ (codes " " ++ string_bytes text)) (ap string_bytes is_old ∙ sym (get_or-map string_bytes items (class - 1) old (string_bytes new) within)) in
-    map-set string_bytes items (class - 1) new
-    ∙ lines-more count (map string_bytes texts) classes i (map string_bytes items) class (string_bytes text) (string_bytes new) (omega (arith, long)) lt here (get_or_default_zero classes i class lt) range.0 range.1 e line
+    let here : get_or (map string_bytes texts) i shown ≡ shown = get_or-map string_bytes texts i text shown (omega arith) ∙ ap string_bytes (sym is_text) ∙ sym is_shown in
+    lines-told count (map string_bytes texts) classes i items old new shown lt (long ∙ same) range e here is_old grown
 
 range-more : (i : ℕ) → range_with_len 1 (i + 1) ≡ range_with_len 1 i ++ (i + 1) ∷ []
 range-more i = sym (map-id (range_with_len 1 (i + 1))) ∙ map-range_with_len_more (λ k. k) 1 i (i + 1) (omega arith) ∙ ap (λ r. r ++ (i + 1) ∷ []) (map-id (range_with_len 1 i))

@@ -15,13 +15,15 @@ use Rattle.gs_tree.specs.Texts.{signal_text}
 abbrev pub members_text : ℕ → List (List ℕ × ℕ) → List ℕ
 members_text c members = flat_map (λ m. if m.1 == c then codes " " ++ m.0 else []) members
 
--- the line of a class: its number, a colon, and its members in the order of the signals
+-- how the line of a class begins: its number and a colon
 abbrev pub begin_line : ℕ → List ℕ
 begin_line c = decimal c ++ codes ":"
 
+-- a class's line so far: its number, a colon, and its members in the order of the signals
 abbrev pub open_line : List (List ℕ × ℕ) → ℕ → List ℕ
 open_line members c = begin_line c ++ members_text c members
 
+-- a class's whole line
 abbrev pub class_line : List (List ℕ × ℕ) → ℕ → List ℕ
 class_line members c = open_line members c ++ codes "\n"
 

@@ -21,6 +21,7 @@ in_round n = if n == 0 then [] else codes " in round " ++ decimal n
 abbrev pub place_text : List ℕ → Place → List ℕ
 place_text wrong place = wrong ++ codes " " ++ key_text place.key ++ in_round place.round
 
+-- what is wrong with the texts of the deck
 abbrev pub deck_text : DeckFault → List ℕ
 deck_text cards.NoCards = codes "deck: no cards"
 deck_text cards.BadLetter = codes "deck: bad letter"

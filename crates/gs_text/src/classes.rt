@@ -1,10 +1,12 @@
 //! The class text.
 
-ghost use Rattle.std.specs.Prelude.{◌≡◌, ◌≤◌, ◌<◌, ◌-◌, ◌++◌, ◌^◌, [], ◌∷◌, All, IfOk, OnOk, length, map, flat_map, codes, string_bytes, vec_len, slice_set, slice_index_or};
+ghost use Rattle.std.specs.Prelude.{◌≡◌, ◌≤◌, ◌<◌, ◌-◌, ◌++◌, ◌^◌, [], ◌∷◌, All, IfOk, OnOk, length, map, flat_map, codes, string_bytes, vec_len, slice_index, slice_set, slice_index_or};
 ghost use Rattle.std.specs.List.{zip, range_with_len};
 ghost use Rattle.gs_model.specs.Classes.{list_of};
 ghost use Rattle.gs_model.specs.Numbering.{greatest};
 ghost use Rattle.gs_model.specs.Game.{round_count};
+ghost use Rattle.gs_model.specs.Signals.{parents, signal_at, signals as signals_in};
+ghost use Rattle.gs_tree.specs.Texts.{signal_text};
 ghost use Rattle.gs_tree.specs.Trees.{rules_of, deck_of};
 ghost use Rattle.gs_text.specs.ClassText.{begin_line, open_line, round_line, round_text, AreListsOf, signal_texts as texts_of_signals, class_text as text_of_classes};
 
@@ -75,27 +77,6 @@ fn push_lines(text: &mut String, lines: &[String]) -> Result<(), AllocError>
     Ok(())
 }
 
-// Adds the text of a round, by the texts of its signals and their classes.
-fn push_round(
-    alloc: Global,
-    text: &mut String,
-    round: u8,
-    texts: &[String],
-    classes: &[u32],
-    count: u32,
-) -> Result<(), AllocError>
-    requires lengths { length texts.now ≡ length classes.now }
-    requires few { length texts.now < 2 ^ 32 }
-    requires count { count ≡ greatest classes.now }
-    requires numbers { All (λ c. 1 ≤ c) classes.now }
-    ensures { OnOk result (string_bytes text.new ≡ string_bytes text.old ++ round_text round (map string_bytes texts.now) classes.now) }
-{
-    push_round_line(text, round, count, texts.len() as u32)?;
-    let lines = class_lines(alloc, texts, classes, count)?;
-    push_lines(text, &lines)?;
-    Ok(())
-}
-
 // The texts of the signals of a round, in order.
 fn signal_texts(alloc: Global, signals: &Signals, round: u8) -> Result<Vec<String>, AllocError>
     requires some { 0 < round }
@@ -108,6 +89,106 @@ fn signal_texts(alloc: Global, signals: &Signals, round: u8) -> Result<Vec<Strin
         texts.push(signals.text(alloc, round, signal)?)?;
     }
     Ok(texts)
+}
+
+// The parents of the signals of a round, by their places in the round before.
+fn parents_in<'a>(signals: &'a Signals, round: u8) -> &'a [u32]
+    requires some { 0 < round }
+    requires last { round ≤ round_count (rules_of signals.now) }
+    ensures { result.now ≡ parents (rules_of signals.entry.now) round }
+{
+    &signals.parents()[usize::from(round) - 1]
+}
+
+// Adds a member of a round after the first to the line of its class, by the text of its parent.
+fn push_member_below(
+    line: &mut String,
+    signals: &Signals,
+    round: u8,
+    signal: u32,
+    parent: &str,
+) -> Result<(), AllocError>
+    requires later { 1 < round }
+    requires last { round ≤ round_count (rules_of signals.now) }
+    requires in_range { signal < length (signals_in (rules_of signals.now) round) }
+    requires parent { parent.now ≡ signal_text (deck_of signals.now) (signal_at (rules_of signals.now) (round - 1) (slice_index (parents (rules_of signals.now) round) signal)) }
+    ensures { OnOk result (string_bytes line.new ≡ string_bytes line.old ++ (codes " " ++ signal_text (deck_of signals.now) (signal_at (rules_of signals.now) round signal))) }
+{
+    line.push_str(" ")?;
+    signals.push_text_below(line, round, signal, parent)
+}
+
+// The line of each class of a round after the first, without its end, by the texts of the round before: no text of the round itself is kept.
+fn lines_below(
+    alloc: Global,
+    signals: &Signals,
+    round: u8,
+    above: &[String],
+    classes: &[u32],
+    count: u32,
+) -> Result<Vec<String>, AllocError>
+    requires later { 1 < round }
+    requires last { round ≤ round_count (rules_of signals.now) }
+    requires above { map string_bytes above.now ≡ texts_of_signals (deck_of signals.now) (rules_of signals.now) (round - 1) }
+    requires lengths { length classes.now ≡ length (signals_in (rules_of signals.now) round) }
+    requires numbers { All (λ c. (1 ≤ c) × (c ≤ count)) classes.now }
+    ensures { IfOk result (λ lines. map string_bytes lines.items ≡ map (open_line (zip (texts_of_signals (deck_of signals.now) (rules_of signals.now) round) classes.now)) (range_with_len 1 count)) }
+{
+    let _few = signals.count(round);
+    let parents = parents_in(signals, round);
+    let mut lines = begun_lines(alloc, count)?;
+    for (index, class) in classes.iter().enumerate() {
+        let owner = parents[index] as usize;
+        let parent = above[owner].as_str();
+        let line = &mut lines[*class as usize - 1];
+        push_member_below(line, signals, round, index as u32, parent)?;
+    }
+    Ok(lines)
+}
+
+// The line of each class of a round, without its end.
+fn round_lines(
+    alloc: Global,
+    signals: &Signals,
+    round: u8,
+    classes: &[u32],
+    count: u32,
+) -> Result<Vec<String>, AllocError>
+    requires some { 0 < round }
+    requires last { round ≤ round_count (rules_of signals.now) }
+    requires lengths { length classes.now ≡ length (signals_in (rules_of signals.now) round) }
+    requires numbers { All (λ c. (1 ≤ c) × (c ≤ count)) classes.now }
+    ensures { IfOk result (λ lines. map string_bytes lines.items ≡ map (open_line (zip (texts_of_signals (deck_of signals.now) (rules_of signals.now) round) classes.now)) (range_with_len 1 count)) }
+{
+    if round == 1 {
+        let texts = signal_texts(alloc, signals, round)?;
+        return class_lines(alloc, &texts, classes, count);
+    }
+    let above = signal_texts(alloc, signals, round - 1)?;
+    lines_below(alloc, signals, round, &above, classes, count)
+}
+
+// Adds the text of a round, by the classes of its signals.
+fn push_round(
+    alloc: Global,
+    text: &mut String,
+    signals: &Signals,
+    round: u8,
+    classes: &[u32],
+    count: u32,
+) -> Result<(), AllocError>
+    requires some { 0 < round }
+    requires last { round ≤ round_count (rules_of signals.now) }
+    requires lengths { length classes.now ≡ length (signals_in (rules_of signals.now) round) }
+    requires count { count ≡ greatest classes.now }
+    requires numbers { All (λ c. 1 ≤ c) classes.now }
+    ensures { OnOk result (string_bytes text.new ≡ string_bytes text.old ++ round_text round (texts_of_signals (deck_of signals.now) (rules_of signals.now) round) classes.now) }
+{
+    let total = signals.count(round);
+    push_round_line(text, round, count, total)?;
+    let lines = round_lines(alloc, signals, round, classes, count)?;
+    push_lines(text, &lines)?;
+    Ok(())
 }
 
 // Adds the text of a round of some classes.
@@ -123,10 +204,9 @@ fn push_classes(
     requires last { round ≤ round_count (rules_of signals.now) }
     ensures { OnOk result (string_bytes text.new ≡ string_bytes text.old ++ round_text round (texts_of_signals (deck_of signals.now) (rules_of signals.now) round) (list_of classes.now.lists round)) }
 {
-    let texts = signal_texts(alloc, signals, round)?;
     let list = &classes.lists()[usize::from(round) - 1];
     let count = classes.classes(round);
-    push_round(alloc, text, round, &texts, list, count)
+    push_round(alloc, text, signals, round, list, count)
 }
 
 /// The class text: for each round a line with its numbers of classes and signals, and a line for

@@ -17,3 +17,6 @@ pub mod Linked
 pub mod Steps
 pub mod Rests
 pub mod Named
+pub mod Coded
+pub mod Rounds
+pub mod Weighed

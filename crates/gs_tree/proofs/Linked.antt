@@ -27,10 +27,10 @@ pub record IsLast (key : ℕ → List ℕ) (n : ℕ) (b : List ℕ) (last : ℕ)
 decided : (x y : List ℕ) → Decides (pointwise nat_eq x y) (x ≡ y)
 decided x y = slice_eq-Decides Decides-eqb x y (pointwise nat_eq x y) refl
 
-equal : (x y : List ℕ) → pointwise nat_eq x y ≡ true → x ≡ y
+pub equal : (x y : List ℕ) → pointwise nat_eq x y ≡ true → x ≡ y
 equal x y e = (decided x y).0 e
 
-unequal : (x y : List ℕ) → pointwise nat_eq x y ≡ false → x ≢ y
+pub unequal : (x y : List ℕ) → pointwise nat_eq x y ≡ false → x ≢ y
 unequal x y e same = true≢false (sym ((decided x y).1 same) ∙ e)
 
 pub last_some : (key : ℕ → List ℕ) (n : ℕ) (b : List ℕ) (last : ℕ) → last_place key n b ≡ Some last → IsLast key n b last
@@ -87,6 +87,12 @@ pub record AreLinked (key : ℕ → List ℕ) (n count : ℕ) (firsts nexts : Li
 
 pub none_linked : (key : ℕ → List ℕ) (count : ℕ) → AreLinked key 0 count [] []
 none_linked key count = record { firsts_long = refl; nexts_long = refl; first = λ i l. absurd (omega arith); next = λ i l. absurd (omega arith) }
+
+pub start_linked : (key : ℕ → List ℕ) (count : ℕ) (firsts nexts : List ℕ) → firsts ≡ [] → nexts ≡ [] → AreLinked key 0 count firsts nexts
+start_linked key count firsts nexts f h =
+    let P : List ℕ → Type 0 = λ x. AreLinked key 0 count x nexts in
+    let Q : List ℕ → Type 0 = λ x. AreLinked key 0 count [] x in
+    subst P (sym f) (subst Q (sym h) (none_linked key count))
 
 -- one more member of a list, read
 old_read : (P : ℕ → ℕ → Type 0) (xs : List ℕ) (n y : ℕ) → length xs ≡ n → ((i : ℕ) → i < n → P i (get_or xs i 0)) → P n y → (i : ℕ) → i < n + 1 → P i (get_or (xs ++ y ∷ []) i 0)

@@ -86,3 +86,18 @@ power_fits w (suc (suc (suc (suc (suc n))))) l h = absurd (omega arith)
 
 pub few_product : (w s i : ℕ) → i < 3 → w ≤ 9 ^ i → s ≤ 9 → w * s ≤ 729
 few_product w s i l h k = product_small w s 81 9 (at_two w i (omega arith) h) k
+
+-- the ways to a signal of a round
+pub path_small : (g : Game) (round i : ℕ) → IsDealable g → All (λ c. c ≤ 9) g.copies → round ≤ round_count g → i < length (signals g round) → path_weight g.copies (signal_at g round i) ≤ 59049 ^ round
+path_small g zero zero h few le l = omega arith
+path_small g zero (suc i) h few le l = absurd (omega arith)
+path_small g (suc n) i h few le l =
+    let c = is_child g (suc n) i (omega arith) l in
+    let before : suc n - 1 ≡ n = omega arith in
+    let p : ℕ = get_or (parents g (suc n)) i 0 in
+    let Q : ℕ → Type 0 = λ k. p < length (signals g k) in
+    let R : ℕ → Type 0 = λ k. path_weight g.copies (signal_at g k p) ≤ 59049 ^ k in
+    let S : ℕ → Type 0 = λ w. w ≤ 59049 ^ suc n in
+    let parent : path_weight g.copies (signal_at g n p) ≤ 59049 ^ n = path_small g n p h few (omega arith) (subst Q before c.parent_in) in
+    let edge = last_edge_small g (suc n) i h few (omega arith) le l in
+    subst S (sym (path_step g (suc n) i c)) (power_step (path_weight g.copies (signal_at g (suc n - 1) p)) (last_edge g.copies (signal_at g (suc n) i)) (suc n) (omega arith) (subst R (sym before) parent) edge)

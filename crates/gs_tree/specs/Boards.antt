@@ -1,5 +1,5 @@
 -- Last-round signals that show the same public cards: for each the first one and the next one.
-use Rattle.std.specs.Prelude.{ℕ, ◌≡◌, ◌<◌, true, false, List, Option, Some, None, length, slice_index, slice_set}
+use Rattle.std.specs.Prelude.{ℕ, ◌≡◌, ◌<◌, ◌+◌, ◌*◌, true, false, List, [], ◌∷◌, Option, Some, None, if◌then◌else◌, length, nat_lt, slice_index, slice_set}
 use Rattle.gs_model.specs.Game.{Game}
 use Rattle.gs_tree.specs.Walk.{last_count, shows_same}
 
@@ -23,3 +23,12 @@ first_beside (Some last) firsts = slice_index firsts last
 abbrev pub linked : Option ℕ → List ℕ → List ℕ
 linked None nexts = nexts
 linked (Some last) nexts = slice_set nexts last (length nexts)
+
+-- the number of a list of cards, whose digits stand behind those of another number
+abbrev pub code_behind : ℕ → ℕ → List ℕ → ℕ
+code_behind kinds code [] = code
+code_behind kinds code (card ∷ cards) = code_behind kinds (code * kinds + card) cards
+
+-- what an entry of a table of signals names: none where it is no less than their number
+abbrev pub seen_last : ℕ → ℕ → Option ℕ
+seen_last count entry = if nat_lt entry count then Some entry else None

@@ -1,11 +1,12 @@
 //! Last-round signals that show the same public cards.
 
-ghost use Rattle.std.specs.Prelude.{◌≡◌, ◌<◌, ◌^◌, ◌++◌, ◌∷◌, [], IfOk, IfSome, OnOk, length};
+ghost use Rattle.std.specs.Prelude.{◌≡◌, ◌≤◌, ◌<◌, All, ◌^◌, ◌++◌, ◌∷◌, [], IfOk, IfSome, OnOk, length, replicate};
+ghost use Rattle.gs_card.specs.Decks.{kinds};
 ghost use Rattle.gs_game.specs.Games.{game_of};
 ghost use Rattle.gs_game.specs.Limits.{IsWithinLimits};
 ghost use Rattle.gs_model.specs.Game.{round_count};
 ghost use Rattle.gs_model.specs.Signals.{public_cards, signal_at};
-ghost use Rattle.gs_tree.specs.Boards.{AreBoards, first_beside, linked};
+ghost use Rattle.gs_tree.specs.Boards.{AreBoards, code_behind, first_beside, linked, seen_last};
 ghost use Rattle.gs_tree.specs.Kept.{AreHands};
 ghost use Rattle.gs_tree.specs.Walk.{last_count};
 
@@ -33,13 +34,65 @@ fn numbers_of(alloc: Global, cards: &[Card]) -> Result<Vec<u8>, AllocError>
 
 /// The public cards that a signal of the last round shows.
 fn board_of(alloc: Global, game: &Game, hands: &Hands, signal: u32) -> Result<Vec<u8>, AllocError>
-    requires hands { AreHands (game_of game.now) hands.now.paths.items hands.now.owns.items hands.now.publics.items hands.now.own hands.now.public }
+    requires hands { AreHands (game_of game.now) (round_count (game_of game.now)) hands.now.paths.items hands.now.owns.items hands.now.publics.items hands.now.own hands.now.public }
     requires signal_in { signal < last_count (game_of game.now) }
     ensures { IfOk result (λ v. v.items ≡ public_cards (signal_at (game_of game.now) (round_count (game_of game.now)) signal)) }
 {
     let public = part(&hands.publics, hands.public, signal);
     let board = numbers_of(alloc, public)?;
     Ok(board)
+}
+
+/// The signal that a table names, where it names one of the first `count`.
+fn seen_last(count: u32, entry: u32) -> Option<u32>
+    ensures { result ≡ seen_last count entry }
+{
+    if entry < count { Some(entry) } else { None }
+}
+
+/// How many lists of so many cards there are.
+fn code_count(kinds: usize, cards: usize) -> usize
+    requires few_kinds { kinds ≤ 52 }
+    requires few_cards { cards ≤ 3 }
+    ensures { result ≡ kinds ^ cards }
+{
+    let mut count = 1;
+    for _ in 0..cards {
+        count *= kinds;
+    }
+    count
+}
+
+/// A table of last signals before any was seen: all entries name none.
+fn none_seen(alloc: Global, count: u32, places: usize) -> Result<Vec<u32>, AllocError>
+    ensures { IfOk result (λ v. v.items ≡ replicate places count) }
+{
+    vec![in alloc; count; places]
+}
+
+/// The number of a list of cards among all lists that are as long.
+fn code(kinds: usize, cards: &[Card]) -> usize
+    requires few_kinds { kinds ≤ 52 }
+    requires few_cards { length cards.now ≤ 3 }
+    requires of_deck { All (λ card. card < kinds) cards.now }
+    ensures { result ≡ code_behind kinds 0 cards.now }
+{
+    let mut code = 0;
+    for card in cards {
+        code = code * kinds + usize::from(card.number());
+    }
+    code
+}
+
+/// The number of the public cards that a signal of the last round shows.
+fn board_code(game: &Game, hands: &Hands, signal: u32) -> usize
+    requires hands { AreHands (game_of game.now) (round_count (game_of game.now)) hands.now.paths.items hands.now.owns.items hands.now.publics.items hands.now.own hands.now.public }
+    requires few { hands.now.public ≤ 3 }
+    requires signal_in { signal < last_count (game_of game.now) }
+    ensures { result ≡ code_behind (kinds game.now.deck) 0 (public_cards (signal_at (game_of game.now) (round_count (game_of game.now)) signal)) }
+{
+    let kinds = usize::from(game.deck.kinds());
+    code(kinds, part(&hands.publics, hands.public, signal))
 }
 
 /// Adds the next signal, from the last one before it that shows the same public cards.
@@ -63,9 +116,33 @@ fn push_linked(boards: &mut Boards, before: Option<u32>, count: u32) -> Result<(
     Ok(())
 }
 
-/// The signals of the last round beside each other.
-pub(crate) fn link_boards(alloc: Global, game: &Game, hands: &Hands) -> Result<Boards, AllocError>
-    requires hands { AreHands (game_of game.now) hands.now.paths.items hands.now.owns.items hands.now.publics.items hands.now.own hands.now.public }
+/// The signals of the last round beside each other, where each shows at most three public cards: a table has a place for each list of as many.
+fn link_by_table(alloc: Global, game: &Game, hands: &Hands) -> Result<Boards, AllocError>
+    requires hands { AreHands (game_of game.now) (round_count (game_of game.now)) hands.now.paths.items hands.now.owns.items hands.now.publics.items hands.now.own hands.now.public }
+    requires limits { IsWithinLimits (game_of game.now) }
+    requires few { hands.now.public ≤ 3 }
+    ensures { IfOk result (λ b. AreBoards (game_of game.now) b.firsts.items b.nexts.items) }
+{
+    let count = hands.paths.len() as u32;
+    let kinds = usize::from(game.deck.kinds());
+    let mut boards = Boards {
+        firsts: Vec::with_capacity(alloc, hands.paths.len())?,
+        nexts: Vec::with_capacity(alloc, hands.paths.len())?,
+    };
+    // the last signal before the next one that shows these cards, or the number of all signals where there is none
+    let mut last = none_seen(alloc, count, code_count(kinds, hands.public))?;
+    for signal in 0..count {
+        let code = board_code(game, hands, signal);
+        let before = seen_last(count, last[code]);
+        last[code] = signal;
+        push_linked(&mut boards, before, count)?;
+    }
+    Ok(boards)
+}
+
+/// The signals of the last round beside each other, by a map of the boards.
+fn link_by_map(alloc: Global, game: &Game, hands: &Hands) -> Result<Boards, AllocError>
+    requires hands { AreHands (game_of game.now) (round_count (game_of game.now)) hands.now.paths.items hands.now.owns.items hands.now.publics.items hands.now.own hands.now.public }
     requires limits { IsWithinLimits (game_of game.now) }
     ensures { IfOk result (λ b. AreBoards (game_of game.now) b.firsts.items b.nexts.items) }
 {
@@ -81,4 +158,17 @@ pub(crate) fn link_boards(alloc: Global, game: &Game, hands: &Hands) -> Result<B
         push_linked(&mut boards, before, count)?;
     }
     Ok(boards)
+}
+
+/// The signals of the last round beside each other.
+pub(crate) fn link_boards(alloc: Global, game: &Game, hands: &Hands) -> Result<Boards, AllocError>
+    requires hands { AreHands (game_of game.now) (round_count (game_of game.now)) hands.now.paths.items hands.now.owns.items hands.now.publics.items hands.now.own hands.now.public }
+    requires limits { IsWithinLimits (game_of game.now) }
+    ensures { IfOk result (λ b. AreBoards (game_of game.now) b.firsts.items b.nexts.items) }
+{
+    if hands.public <= 3 {
+        link_by_table(alloc, game, hands)
+    } else {
+        link_by_map(alloc, game, hands)
+    }
 }

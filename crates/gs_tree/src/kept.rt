@@ -1,6 +1,6 @@
 //! What is kept of the last round's signals to weigh deals.
 
-ghost use Rattle.std.specs.Prelude.{◌≡◌, ◌≤◌, ◌<◌, ◌+◌, ◌*◌, All, IfOk, drop, length, map, take};
+ghost use Rattle.std.specs.Prelude.{◌≡◌, ◌≤◌, ◌<◌, ◌+◌, ◌*◌, ◌++◌, ◌∷◌, [], suc, All, IfOk, IsTrue, OnOk, drop, length, map, take};
 ghost use Rattle.gs_card.specs.Rankings.{ranking_of};
 ghost use Rattle.gs_game.specs.Games.{game_of};
 ghost use Rattle.gs_game.specs.Limits.{IsDealable, IsWithinLimits};
@@ -10,16 +10,17 @@ ghost use Rattle.gs_model.specs.Signals.{signal_at, signals};
 ghost use Rattle.gs_model.specs.ViewTree.{signal_strength};
 ghost use Rattle.gs_rank.specs.Hands.{IsStrength};
 ghost use Rattle.gs_tree.specs.Kept.{AreHands};
+ghost use Rattle.gs_tree.specs.Plain.{IsPlain};
 ghost use Rattle.gs_tree.specs.Tables.{AreTables};
 ghost use Rattle.gs_tree.specs.Walk.{last_count};
 
-use crate::tables::{Tables, path_of, push_hand};
+use crate::tables::Tables;
 use gs_card::Card;
-use gs_game::Game;
+use gs_game::{Game, are_single};
 use gs_rank::strength;
 use std::alloc::{AllocError, Global};
 
-/// The cards of the last round's signals, and the ways to take all that each shows. The cards of each stand behind those of the one before:
+/// The cards of a round's signals, and the ways to take all that each shows. The cards of each stand behind those of the one before:
 /// all signals have as many.
 #[derive(Drop)]
 pub(crate) struct Hands {
@@ -31,27 +32,40 @@ pub(crate) struct Hands {
     pub(crate) public: usize,
 }
 
-/// For each signal of the last round the ways to take all that it shows.
-fn paths(alloc: Global, game: &Game, tables: &Tables) -> Result<Vec<u64>, AllocError>
+/// The one way to take nothing, for the empty signal before round 1.
+fn first_path(alloc: Global) -> Result<Vec<u64>, AllocError>
+    ensures { IfOk result (λ v. v.items ≡ 1 ∷ []) }
+{
+    let mut paths = Vec::with_capacity(alloc, 1)?;
+    paths.push(1)?;
+    Ok(paths)
+}
+
+/// For each signal of a round the ways to take all that it shows, from those for the round before it.
+fn next_paths(
+    alloc: Global,
+    game: &Game,
+    tables: &Tables,
+    round: usize,
+    before: &[u64],
+) -> Result<Vec<u64>, AllocError>
     requires tables { AreTables (game_of game.now) tables.now.parents.items tables.now.layers.items }
     requires all { length tables.now.layers.items ≡ round_count (game_of game.now) }
     requires limits { IsWithinLimits (game_of game.now) }
     requires dealable { IsDealable (game_of game.now) }
-    ensures { IfOk result (λ v. v.items ≡ map (path_weight (game_of game.now).copies) (signals (game_of game.now) (round_count (game_of game.now)))) }
+    requires round_in { round < length tables.now.layers.items }
+    requires before { before.now ≡ map (path_weight (game_of game.now).copies) (signals (game_of game.now) round) }
+    ensures { IfOk result (λ v. v.items ≡ map (path_weight (game_of game.now).copies) (signals (game_of game.now) (suc round))) }
 {
-    let layer = &tables.layers[tables.layers.len() - 1];
-    let count = layer.shown.len() as u32;
-    let mut found = Vec::with_capacity(alloc, layer.shown.len())?;
-    for signal in 0..count {
-        found.push(path_of(
-            game,
-            &tables.parents,
-            &tables.layers,
-            tables.layers.len(),
-            signal,
-        ))?;
+    let _kinds = game.deck.kinds();
+    let parents = &tables.parents[round];
+    let edges = &tables.layers[round].edges;
+    let mut paths = Vec::with_capacity(alloc, edges.len())?;
+    for (signal, edge) in edges.iter().enumerate() {
+        let path = before[parents[signal] as usize];
+        paths.push(path * *edge)?;
     }
-    Ok(found)
+    Ok(paths)
 }
 
 /// One of the equal parts of some cards, by its place.
@@ -63,28 +77,50 @@ pub(crate) fn part(cards: &[Card], each: usize, place: u32) -> &[Card]
     &cards[start..start + each]
 }
 
-/// The hands of the last round's signals.
-pub(crate) fn gather(alloc: Global, game: &Game, tables: &Tables) -> Result<Hands, AllocError>
+/// Adds cards behind others, one by one: they are few.
+fn push_all(cards: &mut Vec<Card>, more: &[Card]) -> Result<(), AllocError>
+    ensures { OnOk result (cards.new.items ≡ cards.old.items ++ more.now) }
+{
+    for card in more {
+        cards.push(*card)?;
+    }
+    Ok(())
+}
+
+/// Adds the cards of a signal: those of its parent, and those that its last round shows.
+fn push_hand(cards: &mut Vec<Card>, parent: &[Card], last: &[Card]) -> Result<(), AllocError>
+    ensures { OnOk result (cards.new.items ≡ cards.old.items ++ (parent.now ++ last.now)) }
+{
+    push_all(cards, parent)?;
+    push_all(cards, last)
+}
+
+/// The hands of the signals of the round after the first `round` rounds, from the hands of the round before it.
+fn next_hands(
+    alloc: Global,
+    game: &Game,
+    tables: &Tables,
+    round: usize,
+    before: &Hands,
+) -> Result<Hands, AllocError>
     requires tables { AreTables (game_of game.now) tables.now.parents.items tables.now.layers.items }
     requires all { length tables.now.layers.items ≡ round_count (game_of game.now) }
     requires limits { IsWithinLimits (game_of game.now) }
     requires dealable { IsDealable (game_of game.now) }
-    ensures { IfOk result (λ h. AreHands (game_of game.now) h.paths.items h.owns.items h.publics.items h.own h.public) }
+    requires round_in { round < length tables.now.layers.items }
+    requires before { AreHands (game_of game.now) round before.now.paths.items before.now.owns.items before.now.publics.items before.now.own before.now.public }
+    ensures { IfOk result (λ h. AreHands (game_of game.now) (suc round) h.paths.items h.owns.items h.publics.items h.own h.public) }
 {
-    let paths = paths(alloc, game, tables)?;
-    let count = paths.len() as u32;
+    let paths = next_paths(alloc, game, tables, round, &before.paths)?;
+    let parents = &tables.parents[round];
     let mut owns = Vec::new(alloc);
     let mut publics = Vec::new(alloc);
-    for signal in 0..count {
-        push_hand(
-            &tables.parents,
-            &tables.layers,
-            tables.layers.len(),
-            signal,
-            game,
-            &mut owns,
-            &mut publics,
-        )?;
+    for (signal, shown) in tables.layers[round].shown.iter().enumerate() {
+        let parent = parents[signal];
+        let own = part(&before.owns, before.own, parent);
+        push_hand(&mut owns, own, shown.own.cards())?;
+        let public = part(&before.publics, before.public, parent);
+        push_hand(&mut publics, public, shown.public.cards())?;
     }
     let each = paths.len().max(1);
     let own = owns.len() / each;
@@ -98,9 +134,42 @@ pub(crate) fn gather(alloc: Global, game: &Game, tables: &Tables) -> Result<Hand
     })
 }
 
+/// The hands of the last round's signals, made round by round from the empty hand.
+pub(crate) fn gather(alloc: Global, game: &Game, tables: &Tables) -> Result<Hands, AllocError>
+    requires tables { AreTables (game_of game.now) tables.now.parents.items tables.now.layers.items }
+    requires all { length tables.now.layers.items ≡ round_count (game_of game.now) }
+    requires limits { IsWithinLimits (game_of game.now) }
+    requires dealable { IsDealable (game_of game.now) }
+    ensures { IfOk result (λ h. AreHands (game_of game.now) (round_count (game_of game.now)) h.paths.items h.owns.items h.publics.items h.own h.public) }
+{
+    let paths = first_path(alloc)?;
+    let owns = Vec::new(alloc);
+    let publics = Vec::new(alloc);
+    let mut hands = Hands {
+        paths,
+        owns,
+        publics,
+        own: 0,
+        public: 0,
+    };
+    for round in 0..tables.layers.len() {
+        hands = next_hands(alloc, game, tables, round, &hands)?;
+    }
+    Ok(hands)
+}
+
+/// Whether no kind of cards has more than one copy, and each player is dealt one private card.
+pub(crate) fn is_plain(game: &Game, hands: &Hands) -> bool
+    requires { AreHands (game_of game.now) (round_count (game_of game.now)) hands.now.paths.items hands.now.owns.items hands.now.publics.items hands.now.own hands.now.public }
+    ensures { IsTrue result → IsPlain (game_of game.now) }
+{
+    let copies = game.deck.counts();
+    hands.own == 1 && are_single(copies)
+}
+
 /// The strength of the hand that a last-round signal holds.
 fn strength_of(game: &Game, hands: &Hands, signal: u32) -> u32
-    requires hands { AreHands (game_of game.now) hands.now.paths.items hands.now.owns.items hands.now.publics.items hands.now.own hands.now.public }
+    requires hands { AreHands (game_of game.now) (round_count (game_of game.now)) hands.now.paths.items hands.now.owns.items hands.now.publics.items hands.now.own hands.now.public }
     requires dealable { IsDealable (game_of game.now) }
     requires signal_in { signal < last_count (game_of game.now) }
     ensures value { result ≡ signal_strength (game_of game.now) (signal_at (game_of game.now) (round_count (game_of game.now)) signal) }
@@ -114,7 +183,7 @@ fn strength_of(game: &Game, hands: &Hands, signal: u32) -> u32
 
 /// The strengths of the hands of all last-round signals.
 pub(crate) fn strengths(alloc: Global, game: &Game, hands: &Hands) -> Result<Vec<u32>, AllocError>
-    requires hands { AreHands (game_of game.now) hands.now.paths.items hands.now.owns.items hands.now.publics.items hands.now.own hands.now.public }
+    requires hands { AreHands (game_of game.now) (round_count (game_of game.now)) hands.now.paths.items hands.now.owns.items hands.now.publics.items hands.now.own hands.now.public }
     requires limits { IsWithinLimits (game_of game.now) }
     requires dealable { IsDealable (game_of game.now) }
     ensures value { IfOk result (λ v. v.items ≡ map (signal_strength (game_of game.now)) (signals (game_of game.now) (round_count (game_of game.now)))) }

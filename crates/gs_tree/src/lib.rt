@@ -10,8 +10,6 @@ mod layer;
 mod reading;
 mod signals;
 mod tables;
-#[cfg(test)]
-mod tests;
 mod texts;
 
 pub use deal::Deal;

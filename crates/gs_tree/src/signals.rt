@@ -1,6 +1,6 @@
 //! The raw signals of a game, round by round.
 
-ghost use Rattle.std.specs.Prelude.{◌≡◌, All, map, length};
+ghost use Rattle.std.specs.Prelude.{◌≡◌, ◌==◌, if◌then◌else◌, All, IsTrue, map, length};
 ghost use Rattle.std.specs.List.{range_with_len};
 ghost use Rattle.gs_model.specs.Game.{round_count};
 ghost use Rattle.gs_card.specs.Rankings.{ranking_of};
@@ -10,19 +10,28 @@ ghost use Rattle.gs_model.specs.ViewTree.{signal_strength};
 ghost use Rattle.gs_game.specs.Games.{game_of};
 ghost use Rattle.gs_tree.specs.Boards.{AreBoards};
 ghost use Rattle.gs_tree.specs.Kept.{AreHands};
+ghost use Rattle.gs_tree.specs.Plain.{IsPlain};
 ghost use Rattle.gs_tree.specs.Tables.{AreTables};
 
 use crate::boards::{Boards, link_boards};
 use crate::deal::Deal;
 use crate::deals::Deals;
-use crate::kept::{Hands, gather, part, strengths};
+use crate::kept::{Hands, gather, is_plain, part, strengths};
 use crate::layer::Layer;
 use crate::reading::is_text_of;
 use crate::tables::{Tables, build, push_signal, ways_beside};
+use crate::texts::push_seen;
 use gs_card::{Card, Deck};
 use gs_game::ValidGame;
 use gs_rank::outcome;
 use std::alloc::{AllocError, Global};
+
+/// What the deal of two signals that show the same public cards weighs, where any two different ones are as likely.
+fn pair_weight(one: u32, two: u32) -> u64
+    ensures { result ≡ if two == one then 0 else 1 }
+{
+    if one == two { 0 } else { 1 }
+}
 
 /// The raw signals of a game.
 ///
@@ -37,16 +46,19 @@ pub struct Signals<'g> {
     strengths: Vec<u32>,
     boards: Boards,
     hands: Hands,
+    // whether any two signals that show the same public cards are as likely
+    plain: bool,
     ghost tables: { AreTables (game_of game.now.game) parents.items layers.items },
     ghost ranked: { strengths.items ≡ map (signal_strength (game_of game.now.game)) (signals (game_of game.now.game) (round_count (game_of game.now.game))) },
     ghost beside: { AreBoards (game_of game.now.game) boards.firsts.items boards.nexts.items },
-    ghost dealt: { AreHands (game_of game.now.game) hands.paths.items hands.owns.items hands.publics.items hands.own hands.public },
+    ghost dealt: { AreHands (game_of game.now.game) (round_count (game_of game.now.game)) hands.paths.items hands.owns.items hands.publics.items hands.own hands.public },
     ghost strong: { All (IsStrength (ranking_of game.now.game.ranking)) strengths.items },
+    ghost even: { IsTrue plain → IsPlain (game_of game.now.game) },
     ghost counted: { length layers.items ≡ round_count (game_of game.now.game) },
 }
 
 impl<'g> Signals<'g> {
-    ghost use Rattle.std.specs.Prelude.{◌≡◌, ◌≢◌, ◌≤◌, ◌<◌, ◌+◌, ◌*◌, ◌==◌, ℕ, true, IfOk, IfSome, filter, map, length, string_bytes};
+    ghost use Rattle.std.specs.Prelude.{◌≡◌, ◌≢◌, ◌≤◌, ◌<◌, ◌+◌, ◌-◌, ◌++◌, ◌*◌, ◌==◌, ℕ, true, IfOk, IfSome, OnOk, slice_index, filter, map, length, string_bytes};
     ghost use Rattle.std.specs.List.{range_with_len};
     ghost use Rattle.gs_model.specs.Game.{round_count};
     ghost use Rattle.gs_model.specs.Signals.{signals, parents as parents_in, signal_at, child_count, first_child, last_edge, left_by, own_cards, public_cards};
@@ -66,6 +78,7 @@ impl<'g> Signals<'g> {
         let hands = gather(alloc, game.game(), &tables)?;
         let strengths = strengths(alloc, game.game(), &hands)?;
         let boards = link_boards(alloc, game.game(), &hands)?;
+        let plain = is_plain(game.game(), &hands);
         let Tables { parents, layers } = tables;
         Ok(Signals {
             game,
@@ -74,6 +87,7 @@ impl<'g> Signals<'g> {
             strengths,
             boards,
             hands,
+            plain,
         })
     }
 
@@ -201,6 +215,28 @@ impl<'g> Signals<'g> {
         Ok(text)
     }
 
+    /// Writes the text of a signal of a round after the first behind a text, by its parent's text: that, `/` and what the signal shows last.
+    pub fn push_text_below(
+        &self,
+        text: &mut String,
+        round: u8,
+        signal: u32,
+        parent: &str,
+    ) -> Result<(), AllocError>
+        requires later { 1 < round }
+        requires last { round ≤ round_count (rules_of self.now) }
+        requires in_range { signal < length (signals (rules_of self.now) round) }
+        requires parent { parent.now ≡ signal_text (deck_of self.now) (signal_at (rules_of self.now) (round - 1) (slice_index (parents_in (rules_of self.now) round) signal)) }
+        ensures { OnOk result (string_bytes text.new ≡ string_bytes text.old ++ signal_text (deck_of self.now) (signal_at (rules_of self.now) round signal)) }
+    {
+        let deck = self.deck();
+        let layer = &self.layers[usize::from(round) - 1];
+        let shown = &layer.shown[signal as usize];
+        text.push_str(parent)?;
+        text.push('/')?;
+        push_seen(text, deck, shown)
+    }
+
     /// The signal of a round whose text this is, if there is one. It takes no memory.
     pub fn index_of(&self, round: u8, text: &str) -> Option<u32>
         requires some { 0 < round }
@@ -300,6 +336,9 @@ impl<'g> Signals<'g> {
         requires same { shows_same (rules_of self.now) one two ≡ true }
         ensures { result ≡ (deal_at (rules_of self.now) one two).weight }
     {
+        if self.plain {
+            return pair_weight(one, two);
+        }
         self.path_weight(one) * self.own_ways(one, two)
     }
 

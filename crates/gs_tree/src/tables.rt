@@ -144,61 +144,6 @@ pub(crate) fn push_signal(
     push_seen(text, &game.deck, shown)
 }
 
-/// Adds the own and the public cards that a signal shows, round by round.
-pub(crate) fn push_hand(
-    parents: &[Vec<u32>],
-    layers: &[Layer],
-    round: usize,
-    signal: u32,
-    game: &Game,
-    own: &mut Vec<Card>,
-    public: &mut Vec<Card>,
-) -> Result<(), AllocError>
-    requires tables { AreTables (game_of game.now) parents.now layers.now }
-    requires round_in { round ≤ length layers.now }
-    requires signal_in { signal < length (signals (game_of game.now) round) }
-    ensures own { OnOk result (own.new.items ≡ own.old.items ++ own_cards (signal_at (game_of game.now) round signal)) }
-    ensures public { OnOk result (public.new.items ≡ public.old.items ++ public_cards (signal_at (game_of game.now) round signal)) }
-{
-    if round == 0 {
-        return Ok(());
-    }
-    let layer = &layers[round - 1];
-    let shown = &layer.shown[signal as usize];
-    let parent = parents[round - 1][signal as usize];
-    push_hand(parents, layers, round - 1, parent, game, own, public)?;
-    own.extend_from_slice(shown.own.cards())?;
-    public.extend_from_slice(shown.public.cards())?;
-    Ok(())
-}
-
-/// The ways to take all that a signal shows: the product of the edge weights on the way to it.
-pub(crate) fn path_of(
-    game: &Game,
-    parents: &[Vec<u32>],
-    layers: &[Layer],
-    round: usize,
-    signal: u32,
-) -> u64
-    requires tables { AreTables (game_of game.now) parents.now layers.now }
-    requires dealable { IsDealable (game_of game.now) }
-    requires round_in { round ≤ length layers.now }
-    requires all { length layers.now ≡ round_count (game_of game.now) }
-    requires few { length layers.now ≤ 4 }
-    requires signal_in { signal < length (signals (game_of game.now) round) }
-    ensures value { result ≡ path_weight (game_of game.now).copies (signal_at (game_of game.now) round signal) }
-    ensures small { result ≤ 59049 ^ round }
-{
-    if round == 0 {
-        return 1;
-    }
-    let _kinds = game.deck.kinds();
-    let layer = &layers[round - 1];
-    let edge = layer.edges[signal as usize];
-    let parent = parents[round - 1][signal as usize];
-    path_of(game, parents, layers, round - 1, parent) * edge
-}
-
 /// How often the card stands among cards.
 fn times(cards: &[Card], card: Card) -> u64
     ensures value { result ≡ count_by (λ other. other == card) cards.now }

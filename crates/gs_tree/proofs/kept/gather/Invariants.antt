@@ -1,12 +1,6 @@
-use Rattle.std.proofs.Common.{◌≡◌, take}
-use Rattle.std.specs.Prelude.{flat_map}
 use Rattle.gs_game.specs.Games.{game_of}
-use Rattle.gs_model.specs.Game.{round_count}
-use Rattle.gs_model.specs.Signals.{own_cards, public_cards, signals}
+use Rattle.gs_tree.specs.Kept.{AreHands}
 use Rattle.gs_tree.proofs.kept.gather.Given as goal
 
-abbrev pub invariant-loop-signal : goal.invariant-loop-signal
-invariant-loop-signal l = record {
-  owned : l.owns.items ≡ flat_map own_cards (take l.signal (signals (game_of l.game) (round_count (game_of l.game))));
-  shown : l.publics.items ≡ flat_map public_cards (take l.signal (signals (game_of l.game) (round_count (game_of l.game))));
-}
+abbrev pub invariant-loop-round : goal.invariant-loop-round
+invariant-loop-round l = AreHands (game_of l.game) l.round l.hands.paths.items l.hands.owns.items l.hands.publics.items l.hands.own l.hands.public

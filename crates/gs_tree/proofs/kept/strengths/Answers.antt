@@ -15,7 +15,7 @@ use Rattle.gs_tree.proofs.kept.strengths.Goals as goal
 pub strength_of-requires-clause-signal_in : goal.strength_of-requires-clause-signal_in
 strength_of-requires-clause-signal_in c =
     let k = c.args.hands.now in
-    let long : length k.paths.items ≡ last_count (game_of c.args.game.now) = paths_long (game_of c.args.game.now) k.paths.items k.owns.items k.publics.items k.own k.public c.requires.hands in
+    let long : length k.paths.items ≡ last_count (game_of c.args.game.now) = paths_long (game_of c.args.game.now) (round_count (game_of c.args.game.now)) k.paths.items k.owns.items k.publics.items k.own k.public c.requires.hands in
     omega (arith, long, k.paths.ok.0, c.len-count.ensures, c.loop-signal-test.true)
 
 pub loop-signal-preserved : goal.loop-signal-preserved
@@ -23,7 +23,7 @@ loop-signal-preserved c =
     let g : Game = game_of c.args.game.now in
     let k = c.args.hands.now in
     let ss : List Signal = signals g (round_count g) in
-    let long : length k.paths.items ≡ length ss = paths_long g k.paths.items k.owns.items k.publics.items k.own k.public c.requires.hands in
+    let long : length k.paths.items ≡ length ss = paths_long g (round_count g) k.paths.items k.owns.items k.publics.items k.own k.public c.requires.hands in
     let here : c.loop-signal.signal < length ss = omega (arith, long, k.paths.ok.0, c.len-count.ensures, c.loop-signal-test.true) in
     let P : List ℕ → Type 0 = λ x. All (IsStrength (ranking_of c.args.game.now.ranking)) x in
     record {

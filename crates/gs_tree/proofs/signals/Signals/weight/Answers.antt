@@ -4,6 +4,7 @@ use Rattle.gs_model.specs.Game.{Game, round_count}
 use Rattle.gs_model.specs.Signals.{signal_at, left_by}
 use Rattle.gs_tree.specs.Trees.{rules_of}
 use Rattle.gs_tree.specs.Walk.{deal_at}
+use Rattle.gs_tree.proofs.Weighed.{pair_weight_is}
 use Rattle.gs_tree.proofs.Weights.{deal_small}
 use Rattle.gs_tree.proofs.signals.Signals.weight.Goals as goal
 
@@ -18,3 +19,8 @@ overflow_mul-result c =
     ∙ ap (λ w. path_weight g.copies (signal_at g (round_count g) c.args.one) * w) c.own_ways.ensures
     ∙ sym (ap (λ b. cond b both 0) same) in
     omega (arith, weight, deal_small g c.args.one c.args.two c.requires.one_in c.requires.two_in, z.game.now.limits.weight_in)
+
+pub returns-then-self : goal.returns-then-self
+returns-then-self c =
+    let z = c.args.self.now in
+    c.pair_weight.ensures ∙ pair_weight_is (rules_of z) (z.even c.if-self.true) c.args.one c.args.two c.requires.one_in c.requires.two_in c.requires.same

@@ -1,0 +1,89 @@
+-- What the tables tell of the signals of the next round, and what is kept of these from the round before.
+use Rattle.std.proofs.Common.{◌≡◌, ℕ, zero, suc, ◌-◌, ◌*◌, ◌^◌, ◌<◌, ◌≤◌, ◌++◌, List, [], ◌∷◌, length, get_or, refl, sym, ap, ◌∙◌, arith, subst, All}
+use Rattle.std.specs.Global.{Vec}
+use Rattle.gs_game.specs.Limits.{IsDealable}
+use Rattle.gs_model.specs.Deals.{path_weight}
+use Rattle.gs_model.specs.Game.{Game, round_count}
+use Rattle.gs_model.specs.Signals.{Seen, Signal, last_edge, own_cards, parents, public_cards, signal_at, signals}
+use Rattle.gs_model.proofs.Ranges.{length-parents}
+use Rattle.gs_tree.specs.Kept.{AreHands}
+use Rattle.gs_tree.specs.Layers.{last_seen}
+use Rattle.gs_tree.specs.Shown.{seen_of}
+use Rattle.gs_tree.specs.Tables.{AreTables}
+use Rattle.gs_tree.specs.declared.layer.Layer.{Layer}
+use Rattle.gs_tree.specs.declared.layer.Shown.{Shown}
+use Rattle.gs_tree.proofs.Hands.{own_cards-push, public_cards-push}
+use Rattle.gs_tree.proofs.Lookups.{is_child, layer_of}
+use Rattle.gs_tree.proofs.Paths.{last_edge_small, path_small, path_step, power_fits, power_step}
+
+-- what the tables hold of a signal of the round after the first n
+pub record IsTold (g : Game) (n i : ℕ) (row : List ℕ) (l : Layer) : Type 0 where
+  pub row_long : i < length row
+  pub parent_in : get_or row i 0 < length (signals g n)
+  pub edge_is : get_or l.edges.items i 0 ≡ last_edge g.copies (signal_at g (suc n) i)
+  pub shows : (d : Shown) → seen_of (get_or l.shown.items i d) ≡ last_seen (signal_at g (suc n) i)
+  pub signal_is : signal_at g (suc n) i ≡ signal_at g n (get_or row i 0) ++ last_seen (signal_at g (suc n) i) ∷ []
+  pub path_is : path_weight g.copies (signal_at g (suc n) i) ≡ path_weight g.copies (signal_at g n (get_or row i 0)) * last_edge g.copies (signal_at g (suc n) i)
+
+module _ (g : Game) (ps : List (Vec ℕ)) (ls : List Layer) (n : ℕ) (t : AreTables g ps ls) (in' : n < length ls) where
+  before : suc n - 1 ≡ n
+  before = omega arith
+
+  -- as many as there are signals
+  pub layer_long : (l : Layer) → l ≡ get_or ls n l → (length l.shown.items ≡ length (signals g (suc n))) × (length l.edges.items ≡ length (signals g (suc n)))
+  layer_long l e =
+      let h = layer_of g ps ls (suc n) l t (omega arith) (omega (arith, in')) (e ∙ ap (λ k. get_or ls k l) (sym before)) in
+      (h.long, h.edges_long)
+
+  pub told : (row : Vec ℕ) (l : Layer) (i : ℕ) → row ≡ get_or ps n row → l ≡ get_or ls n l → i < length (signals g (suc n)) → IsTold g n i row.items l
+  told row l i r e m =
+      let h = layer_of g ps ls (suc n) l t (omega arith) (omega (arith, in')) (e ∙ ap (λ k. get_or ls k l) (sym before)) in
+      let rows : row.items ≡ parents g (suc n) = ap (λ (v : Vec ℕ). v.items) r ∙ t.owned n row in' in
+      let c = is_child g (suc n) i (omega arith) m in
+      let owner : get_or row.items i 0 ≡ get_or (parents g (suc n)) i 0 = ap (λ (x : List ℕ). get_or x i 0) rows in
+      let p : ℕ = get_or (parents g (suc n)) i 0 in
+      let last : Seen = last_seen (signal_at g (suc n) i) in
+      let P : ℕ → Type 0 = λ k. p < length (signals g k) in
+      record {
+        row_long = omega (arith, ap (λ (x : List ℕ). length x) rows, length-parents g (suc n), m);
+        parent_in = omega (arith, owner, subst P before c.parent_in);
+        edge_is = h.weighs i m;
+        shows = λ d. h.shows i d m;
+        signal_is = c.signal_is ∙ ap (λ k. signal_at g k p ++ last ∷ []) before ∙ ap (λ k. signal_at g n k ++ last ∷ []) (sym owner);
+        path_is = path_step g (suc n) i c ∙ ap (λ k. path_weight g.copies (signal_at g k p) * last_edge g.copies (signal_at g (suc n) i)) before
+            ∙ ap (λ k. path_weight g.copies (signal_at g n k) * last_edge g.copies (signal_at g (suc n) i)) (sym owner);
+      }
+
+-- the ways to a signal fit
+pub path_fits : (g : Game) (n i p a b : ℕ) → IsDealable g → All (λ c. c ≤ 9) g.copies → n < round_count g → round_count g ≤ 4 → i < length (signals g (suc n)) → p < length (signals g n) → a ≡ path_weight g.copies (signal_at g n p) → b ≡ last_edge g.copies (signal_at g (suc n) i) → a * b ≤ 12157665459056928801
+path_fits g n i p a b d few in' rounds m l e f =
+    let before : n ≡ suc n - 1 = omega arith in
+    let P : ℕ → Type 0 = λ k. a ≤ 59049 ^ k in
+    let small : a ≤ 59049 ^ n = omega (arith, e, path_small g n p d few (omega (arith, in')) l) in
+    let edge : b ≤ 59049 = omega (arith, f, last_edge_small g (suc n) i d few (omega arith) (omega (arith, in')) m) in
+    power_fits (a * b) (suc n) (omega (arith, in', rounds)) (power_step a b (suc n) (omega arith) (subst P before small) edge)
+
+-- the cards of a signal: its parent's, and those that it shows last
+pub own_hand : (s front : Signal) (last : Seen) (part cards : List ℕ) → s ≡ front ++ last ∷ [] → part ≡ own_cards front → cards ≡ last.own → part ++ cards ≡ own_cards s
+own_hand s front last part cards e p c = ap (λ x. x ++ cards) p ∙ ap (λ x. own_cards front ++ x) c ∙ sym (own_cards-push front last) ∙ ap own_cards (sym e)
+
+pub public_hand : (s front : Signal) (last : Seen) (part cards : List ℕ) → s ≡ front ++ last ∷ [] → part ≡ public_cards front → cards ≡ last.public → part ++ cards ≡ public_cards s
+public_hand s front last part cards e p c = ap (λ x. x ++ cards) p ∙ ap (λ x. public_cards front ++ x) c ∙ sym (public_cards-push front last) ∙ ap public_cards (sym e)
+
+-- the empty signal has no cards
+pub no_hands : (g : Game) (paths owns publics : List ℕ) → paths ≡ 1 ∷ [] → owns ≡ [] → publics ≡ [] → AreHands g 0 paths owns publics 0 0
+no_hands g paths owns publics p o q = record {
+  weighed = p;
+  owned = o;
+  shown = q;
+  own_each = λ i l. none i l;
+  public_each = λ i l. none_shown i l;
+}
+  where
+    none : (i : ℕ) → i < 1 → length (own_cards (signal_at g 0 i)) ≡ 0
+    none zero l = refl
+    none (suc i) l = absurd (omega arith)
+
+    none_shown : (i : ℕ) → i < 1 → length (public_cards (signal_at g 0 i)) ≡ 0
+    none_shown zero l = refl
+    none_shown (suc i) l = absurd (omega arith)

@@ -1,0 +1,34 @@
+use Rattle.std.proofs.Common.{◌≡◌, ◌+◌, ◌*◌, ◌≤◌, ℕ, List, [], ◌∷◌, ◌++◌, take, take_all, sym, ap, ◌∙◌, arith}
+use Rattle.std.proofs.lemmas.List.{take_more}
+use Rattle.gs_tree.specs.Boards.{code_behind}
+use Rattle.gs_tree.proofs.Coded.{code_fits, code_push}
+use Rattle.gs_tree.proofs.Paths.{product_small}
+use Rattle.gs_tree.proofs.boards.code.Goals as goal
+
+pub overflow_mul-code : goal.overflow_mul-code
+overflow_mul-code c =
+    let fits = code_fits c.args.kinds c.loop-card.card-index c.args.cards.now c.requires.few_kinds c.requires.few_cards c.requires.of_deck (omega arith) in
+    let small : c.loop-card.code * c.args.kinds ≤ 140608 * 52 = product_small c.loop-card.code c.args.kinds 140608 52 (omega (arith, fits, c.loop-card.invariant)) c.requires.few_kinds in
+    omega (arith, small)
+
+pub overflow_add-code : goal.overflow_add-code
+overflow_add-code c =
+    let fits = code_fits c.args.kinds c.loop-card.card-index c.args.cards.now c.requires.few_kinds c.requires.few_cards c.requires.of_deck (omega arith) in
+    let small : c.loop-card.code * c.args.kinds ≤ 140608 * 52 = product_small c.loop-card.code c.args.kinds 140608 52 (omega (arith, fits, c.loop-card.invariant)) c.requires.few_kinds in
+    omega (arith, small)
+
+pub loop-card-preserved : goal.loop-card-preserved
+loop-card-preserved c =
+    let k : ℕ = c.args.kinds in
+    let i : ℕ = c.loop-card.card-index in
+    let xs : List ℕ = c.args.cards.now in
+    let card : ℕ = c.card-item.result in
+    let here : c.from.result ≡ card = c.from.ensures ∙ c.number.ensures in
+    ap (λ n. c.loop-card.code * k + n) here
+    ∙ ap (λ n. n * k + card) c.loop-card.invariant
+    ∙ sym (code_push k 0 (take i xs) card)
+    ∙ ap (λ n. code_behind k 0 (take i xs ++ n ∷ [])) c.card-item.is
+    ∙ ap (code_behind k 0) (sym (take_more xs i card (omega arith)))
+
+pub returns : goal.returns
+returns c = c.loop-card.invariant ∙ ap (code_behind c.args.kinds 0) (take_all c.loop-card.card-index c.args.cards.now (omega arith))

@@ -1,0 +1,52 @@
+use Rattle.std.proofs.Common.{◌≡◌, suc, ◌+◌, ℕ, List, Option, Some, cond, length, ap, ◌∙◌, arith}
+use Rattle.std.specs.Prelude.{nat_eq}
+use lib.Pointwise.{pointwise}
+use Rattle.gs_game.specs.Games.{game_of}
+use Rattle.gs_model.specs.Game.{Game, round_count}
+use Rattle.gs_model.specs.Signals.{public_cards, signal_at}
+use Rattle.gs_tree.specs.Walk.{last_count}
+use Rattle.gs_tree.proofs.Linked.{are_boards, last_in, last_place, linked_more}
+use Rattle.gs_tree.proofs.Parts.{paths_long}
+use Rattle.gs_tree.proofs.boards.link_by_map.Goals as goal
+
+pub push_linked-requires-clause-before_in : goal.push_linked-requires-clause-before_in
+push_linked-requires-clause-before_in c =
+    let g : Game = game_of c.args.game.now in
+    let key : ℕ → List ℕ = λ i. public_cards (signal_at g (round_count g) i) in
+    let board = c.in_ok-board.board in
+    let last : c.in_ok-before.before ≡ last_place key c.loop-signal.signal board.items = c.in_ok-before.ensures.old ∙ c.loop-signal.invariant.found board in
+    last_in key c.loop-signal.signal board.items c.loop-signal.boards.firsts.items c.in_ok-before.before c.loop-signal.invariant.linked.firsts_long last
+
+pub loop-signal-preserved : goal.loop-signal-preserved
+loop-signal-preserved c =
+    let g : Game = game_of c.args.game.now in
+    let key : ℕ → List ℕ = λ i. public_cards (signal_at g (round_count g) i) in
+    let n : ℕ = c.loop-signal.signal in
+    let old = c.loop-signal.boards in
+    let board = c.in_ok-board.board in
+    let is : board.items ≡ key n = c.in_ok-board.ensures in
+    let last : c.in_ok-before.before ≡ last_place key n (key n) = c.in_ok-before.ensures.old ∙ c.loop-signal.invariant.found board ∙ ap (last_place key n) is in
+    let next : suc n ≡ n + 1 = omega arith in
+    record {
+      linked = linked_more key n c.len-count.result old.firsts.items old.nexts.items c.loop-signal.invariant.linked c.in_ok-before.before c.push_linked.new.boards.firsts.items c.push_linked.new.boards.nexts.items c.loop-signal-test.true last c.in_ok-push_linked.ensures.firsts c.in_ok-push_linked.ensures.nexts;
+      found = λ q.
+          c.in_ok-before.ensures.updates.0 q
+          ∙ ap (λ (o : Option ℕ). cond (pointwise nat_eq board.items q.items) (Some n) o) (c.loop-signal.invariant.found q)
+          ∙ ap (λ (x : List ℕ). cond (pointwise nat_eq x q.items) (Some n) (last_place key n q.items)) is
+          ∙ ap (λ k. last_place key k q.items) next;
+    }
+
+pub board_of-requires-clause-signal_in : goal.board_of-requires-clause-signal_in
+board_of-requires-clause-signal_in c =
+    let k = c.args.hands.now in
+    let long : length k.paths.items ≡ last_count (game_of c.args.game.now) = paths_long (game_of c.args.game.now) (round_count (game_of c.args.game.now)) k.paths.items k.owns.items k.publics.items k.own k.public c.requires.hands in
+    omega (arith, long, k.paths.ok.0, c.len-count.ensures, c.loop-signal-test.true)
+
+pub returns : goal.returns
+returns c =
+    let g : Game = game_of c.args.game.now in
+    let k = c.args.hands.now in
+    let long : length k.paths.items ≡ last_count g = paths_long g (round_count g) k.paths.items k.owns.items k.publics.items k.own k.public c.requires.hands in
+    let count : c.len-count.result ≡ last_count g = omega (arith, long, k.paths.ok.0, c.len-count.ensures) in
+    let done : c.loop-signal.signal ≡ last_count g = omega (arith, count, c.loop-signal.auto.signal-end, c.loop-signal-test.false) in
+    are_boards g c.loop-signal.signal c.len-count.result c.loop-signal.boards.firsts.items c.loop-signal.boards.nexts.items c.loop-signal.invariant.linked done count

@@ -1,0 +1,8 @@
+use Rattle.std.proofs.Common.{◌≡◌, suc, map, take}
+use Rattle.gs_game.specs.Games.{game_of}
+use Rattle.gs_model.specs.Deals.{path_weight}
+use Rattle.gs_model.specs.Signals.{signals}
+use Rattle.gs_tree.proofs.kept.next_paths.Given as goal
+
+abbrev pub invariant-loop-signal : goal.invariant-loop-signal
+invariant-loop-signal l = l.paths.items ≡ map (path_weight (game_of l.game).copies) (take l.signal (signals (game_of l.game) (suc l.round)))
