@@ -5,7 +5,7 @@ use Rattle.std.specs.Ordering.{int_eq}
 use Rattle.std.proofs.Math.IntN.{*ℤ-zero}
 use Rattle.std.proofs.lemmas.Bool.Decides.{Decides-eqb}
 use Rattle.std.proofs.lemmas.Int.{ints}
-use Rattle.std.proofs.lemmas.List.Sums.{sum_by-cons, sum_by-le-sum_by}
+use Rattle.std.proofs.lemmas.List.Sums.{sum_by-cons}
 use borrow.Author.Differences.{product_is}
 use Rattle.gs_lossless.specs.Amounts.{AreAmounts, amount}
 use Rattle.gs_lossless.specs.Sums.{weight_at}
@@ -13,7 +13,7 @@ use Rattle.gs_lossless.specs.declared.parts.Part.{Part}
 use Rattle.gs_lossless.specs.declared.sides.Side.TheVariants.{Deals}
 use Rattle.gs_model.specs.Classes.{ClassLists, InOneClass, class_of}
 use Rattle.gs_model.specs.Deals.{Deal}
-use Rattle.gs_model.specs.Frame.{Frame, at_round, last_round, signal_count, signals_in, total_weight}
+use Rattle.gs_model.specs.Frame.{Frame, at_round, last_round, signal_count, signals_in}
 use Rattle.gs_model.specs.Lossless.{IsLossless, weight_against, weight_with}
 use Rattle.gs_model.specs.Pairs.{pair_sum}
 use Rattle.gs_model.specs.Sums.{sum_z}
@@ -22,8 +22,7 @@ use Rattle.gs_model.proofs.Flow.{by_ancestor}
 use Rattle.gs_model.proofs.Known.{Tabled}
 use Rattle.gs_model.proofs.Lift.{both_out, one_guard, pair_exact, pair_test}
 use Rattle.gs_model.proofs.RawBound.{range_once}
-use Rattle.gs_model.proofs.Alike.{pos_one}
-use Rattle.gs_model.proofs.Regroup.{alike_total, sum_z-pos}
+use Rattle.gs_model.proofs.Regroup.{alike_total}
 use Rattle.gs_model.proofs.Total.{sum_z-same}
 use Rattle.gs_seq.proofs.ClassRows.{alike_lists, sum-same}
 
@@ -115,24 +114,3 @@ module _ (f : Frame) (h : Tabled f) (lists : ClassLists) (g : IsLossless f lists
   pair_is v c e s same l is =
       pair_by_members v c e same
       ∙ class_total_is f lists round (λ s. near s v e) c (near s v e) (λ t lt it. near_alike t s v e (record { first_in = lt; second_in = l; same = it ∙ sym is }))
-
-  times_one : (w : ℕ) → pos w *ℤ pos 1 ≡ pos w
-  times_one w = omega (arith, ints, product_is (pos w) (pos 1))
-
-  no_more : (b : Bool) (w : ℕ) → cond b w 0 ≤ w
-  no_more true w = omega arith
-  no_more false w = omega arith
-
-  -- the sums of a signal weigh no more than all deals
-  pub total_few : (s : ℕ) (parts : List Part) → AreAmounts f lists Deals round s parts → sum_by (λ (p : Part). p.weight) parts ≤ total_weight f
-  total_few s parts a =
-      let w : Part → ℕ = λ p. p.weight in
-      let u : Deal → ℕ = λ d. cond (one d == s) d.weight 0 in
-      let same = alike_lists pair_test pair_exact (λ (p : Part). (p.class, p.outcome)) w (λ (d : Deal). (two d, out d)) u (λ q. pos 1) parts f.deals
-      (λ q. sum-same (λ (p : Part). cond (pair_test (p.class, p.outcome) q) p.weight 0) (weight_at q.0 q.1) (λ p. both_out (int_eq p.outcome q.1) (p.class == q.0) p.weight) parts
-      ∙ a.sum q.0 q.1 ∙ amount_is s q) in
-      let left = sum_z-same (λ p. pos (w p) *ℤ pos 1) (λ p. pos (w p)) (λ p. times_one (w p)) parts ∙ sum_z-pos w parts in
-      let right = sum_z-same (λ d. pos (u d) *ℤ pos 1) (λ d. pos (u d)) (λ d. times_one (u d)) f.deals ∙ sum_z-pos u f.deals in
-      let e : sum_by w parts ≡ sum_by u f.deals = pos_one (sum_by w parts) (sum_by u f.deals) (sym left ∙ same ∙ right) in
-      let l : sum_by u f.deals ≤ total_weight f = sum_by-le-sum_by u (λ (d : Deal). d.weight) f.deals (λ d. no_more (one d == s) d.weight) in
-      omega (arith, e, l)

@@ -148,8 +148,8 @@ sum_by-reverse f [] = refl
 sum_by-reverse f (x ∷ xs) = ap (sum_by f) (reverse-append (x ∷ []) xs) ∙ omega (arith, sum_by_push f (reverse xs) x, sum_by-reverse f xs, sum_by-cons f x xs)
 
 -- the next part of one member fits beside the row so far
-pub gathered_few : (m : ℕ) (sums : List Part) (i : ℕ) (d : Part) (row : List Pair) → i < length sums → reverse row ≡ gathered m (reverse (take i sums)) → m * sum_by (λ (p : Part). p.weight) sums < 2 ^ 48
-    → sum_by (λ (q : Pair). q.weight) row + m * (get_or sums i d).weight < 2 ^ 48
+pub gathered_few : (m : ℕ) (sums : List Part) (i : ℕ) (d : Part) (row : List Pair) → i < length sums → reverse row ≡ gathered m (reverse (take i sums)) → m * sum_by (λ (p : Part). p.weight) sums < 2 ^ 32
+    → sum_by (λ (q : Pair). q.weight) row + m * (get_or sums i d).weight < 2 ^ 32
 gathered_few m sums i d row l e few =
     let w : Part → ℕ = λ p. p.weight in
     let v : Pair → ℕ = λ q. q.weight in

@@ -7,6 +7,7 @@ pub mod Gathered
 pub mod ClassRows
 pub mod ClassSums
 pub mod RowLaws
+pub mod RowFacts
 pub mod RowRoom
 pub mod Meeting
 pub mod CellLaws
@@ -15,7 +16,8 @@ pub mod Moves
 pub mod Turned
 pub mod Ends
 pub mod Sizes
-pub mod RowFacts
+pub mod EarlierRows
+pub mod Carried
 pub mod EndSums
 pub mod EndTotals
 pub mod Forms

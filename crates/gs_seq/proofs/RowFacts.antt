@@ -100,7 +100,7 @@ module _ (f : Frame) (t : Tabled f) (lists : ClassLists) (k : IsClasses f.parent
   plain true false w = refl
   plain false b w = refl
 
-  pair_weight_is : (c e : ℕ) → pair_weight f lists round c e ≡ pos (both_weight c e)
+  pub pair_weight_is : (c e : ℕ) → pair_weight f lists round c e ≡ pos (both_weight c e)
   pair_weight_is c e =
       sum_z-same (λ (d : Deal). cond (two_of d == e) (cond (one_of d == c) (pos d.weight *ℤ pos 1) (pos 0)) (pos 0)) (λ d. pos (cond (two_of d == e) (cond (one_of d == c) d.weight 0) 0))
       (λ d. plain (two_of d == e) (one_of d == c) d.weight) f.deals
@@ -187,7 +187,7 @@ module _ (f : Frame) (t : Tabled f) (lists : ClassLists) (k : IsClasses f.parent
       by false = omega (arith, ints, abs_is (pos 0))
 
   module _ (c : ℕ) (row : List Pair) (h : IsRow f lists round c row) where
-    weight_both : (e : ℕ) → weight_in row e ≡ both_weight c e
+    pub weight_both : (e : ℕ) → weight_in row e ≡ both_weight c e
     weight_both e = pos_one (weight_in row e) (both_weight c e) (h.weights e ∙ pair_weight_is c e)
 
     -- the pairs of a row are of classes of the other player

@@ -9,7 +9,7 @@ use Rattle.std.proofs.lemmas.Bool.Decides.{Decides-eqb}
 use Rattle.std.proofs.lemmas.Int.{ints}
 use Rattle.std.proofs.lemmas.List.Elements.{All-from_recursion}
 use Rattle.std.proofs.lemmas.List.FromFn.{fill_by_all}
-use Rattle.std.proofs.lemmas.List.Sums.{count_by-le-length, get_or-le-sum_by}
+use Rattle.std.proofs.lemmas.List.Sums.{get_or-le-sum_by}
 use borrow.Author.Differences.{product_is}
 use Rattle.gs_lossless.specs.Amounts.{AreAmounts}
 use Rattle.gs_lossless.specs.Sums.{Rises as Ascends, key_cmp}
@@ -34,7 +34,7 @@ use Rattle.gs_seq.proofs.Gathered.{StartsFrom, class_le, gathered-signed, gather
 
 -- ---- classes ascend
 
-abbrev RisesBy : List Pair → Type 0
+abbrev pub RisesBy : List Pair → Type 0
 RisesBy [] = Unit {0}
 RisesBy (p ∷ ps) = (0 < p.weight) × AllByRecursion (λ q. p.two < q.two) ps × RisesBy ps
 
@@ -42,7 +42,7 @@ further : (c d : ℕ) (row : List Pair) → c < d → AllByRecursion (λ q. d < 
 further c d [] l h = tt
 further c d (q ∷ qs) l h = (let k = h.0 in omega arith, further c d qs l h.1)
 
-join_rises : (p : Pair) (row : List Pair) → 0 < p.weight → RisesBy row → StartsFrom p.two row → RisesBy (join p row)
+pub join_rises : (p : Pair) (row : List Pair) → 0 < p.weight → RisesBy row → StartsFrom p.two row → RisesBy (join p row)
 join_rises p [] w r h = (w, tt, tt)
 join_rises p (q ∷ qs) w r h = by (q.two == p.two) refl
   where
@@ -79,7 +79,7 @@ weigh [] r i d l = absurd (omega arith)
 weigh (p ∷ ps) r zero d l = r.0
 weigh (p ∷ ps) r (suc i) d l = weigh ps r.2 i d (omega arith)
 
-by_index : (row : List Pair) → RisesBy row → Rises row
+pub by_index : (row : List Pair) → RisesBy row → Rises row
 by_index row r = record { ascends = ascend row r; some = weigh row r }
 
 -- ---- what the row holds
@@ -134,9 +134,6 @@ module _ (f : Frame) (h : Tabled f) (lists : ClassLists) (g : IsLossless f lists
   is_row positive = record { rises = by_index (gathered m ps) (gathered_rises m positive ps a.rises); weights = weights; signed = signed }
 
 -- ---- how many members
-
-pub size_few : (lists : ClassLists) (round c : ℕ) → class_size lists round c ≤ length (list_of lists round)
-size_few lists round c = count_by-le-length (λ x. x == c) (list_of lists round)
 
 -- a class has a member
 pub size_some : (lists : ClassLists) (round c s : ℕ) → s < length (list_of lists round) → class_of lists round s ≡ c → 0 < class_size lists round c

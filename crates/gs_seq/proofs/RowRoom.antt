@@ -1,6 +1,6 @@
 -- The row of a class of a valid game: that it fits, and that it is the row of the class.
-use Rattle.std.proofs.Common.{◌≡◌, ℕ, ◌*◌, ◌<◌, ◌≤◌, ◌^◌, List, length, reverse, ◌∙◌, arith, sum_by}
-use Rattle.std.proofs.Math.Nat.{mul-le-mul_right}
+use Rattle.std.proofs.Common.{◌≡◌, ℕ, ◌*◌, ◌<◌, ◌≤◌, ◌^◌, List, [], ap, length, reverse, ◌∙◌, arith, sum_by}
+use Rattle.std.proofs.lemmas.List.Sums.{sum_by-cons}
 use Rattle.gs_filter.specs.Filter.{Filter, IsSound}
 use Rattle.gs_game.specs.Games.{game_of}
 use Rattle.gs_game.specs.declared.valid.ValidGame.{ValidGame}
@@ -12,14 +12,12 @@ use Rattle.gs_model.specs.Classes.{class_of, class_size, list_of}
 use Rattle.gs_model.specs.Frame.{last_round, signal_count}
 use Rattle.gs_model.specs.Lossless.{IsLossless}
 use Rattle.gs_model.proofs.Known.{Tabled}
-use Rattle.gs_model.proofs.Ranges.{signal_count_is}
-use Rattle.gs_model.proofs.Walked.{last_round_of}
 use Rattle.gs_seq.specs.Games.{frame_in}
 use Rattle.gs_seq.specs.Rows.{IsRow, gathered}
-use Rattle.gs_seq.proofs.ClassSums.{total_few}
-use Rattle.gs_seq.proofs.Gathered.{sum_by-reverse}
+use Rattle.gs_seq.proofs.Gathered.{gathered-total, sum_by-reverse}
 use Rattle.gs_seq.proofs.Points.{playable}
-use Rattle.gs_seq.proofs.RowLaws.{is_row, size_few, size_is, size_some}
+use Rattle.gs_seq.proofs.RowFacts.{class_weight, classes_weigh, row_weighs}
+use Rattle.gs_seq.proofs.RowLaws.{is_row, size_is, size_some}
 use Rattle.gs_seq.proofs.SlotLaws.{over}
 
 pub table : (g : ValidGame) → Tabled (frame_in g)
@@ -30,21 +28,24 @@ module _ (g : ValidGame) (c : Filter) (e : c.parents ≡ (frame_in g).parents) (
   long : length (list_of c.lists round) ≡ signal_count (frame_in g) round
   long = (over (frame_in g) c e s).lengths round some top
 
-  few : members ≤ 200000
-  few =
-      let r = last_round_of (game_of g.game) in
-      let count = signal_count_is (game_of g.game) round some (omega (arith, top, r)) in
-      omega (arith, size, size_few c.lists round class, long, count, g.limits.signals_in round (omega (arith, top, r)))
-
-  light : sum_by (λ (p : Part). p.weight) sums ≤ 67108864
-  light = omega (arith, sum_by-reverse (λ (p : Part). p.weight) sums, total_few (frame_in g) (table g) c.lists h round some top first (reverse sums) a, g.limits.weight_in)
-
-  -- the class's weight is no more than a row holds
-  pub row_fits : members * sum_by (λ (p : Part). p.weight) sums < 2 ^ 48
-  row_fits = let most = mul-le-mul_right (sum_by (λ (p : Part). p.weight) sums) few in omega (arith, most, light)
-
   -- the row gathered from the first member's sums is the class's row
   pub row_is : first < length (list_of c.lists round) → class_of c.lists round first ≡ class → IsRow (frame_in g) c.lists round class (gathered members (reverse sums))
   row_is l member =
       is_row (frame_in g) (table g) c.lists h round some top first class members (reverse sums) (omega (arith, l, long)) member (size ∙ size_is (frame_in g) c.lists round class long) a
       (let one = size_some c.lists round class first l member in omega (arith, size, one))
+
+  -- the class's weight is no more than a row holds
+  pub row_fits : first < length (list_of c.lists round) → class_of c.lists round first ≡ class → members * sum_by (λ (p : Part). p.weight) sums < 2 ^ 32
+  row_fits l member =
+      let w : Part → ℕ = λ p. p.weight in
+      let k = over (frame_in g) c e s in
+      let weigh = class_weight (frame_in g) (table g) c.lists k round some top in
+      omega (
+        arith,
+        gathered-total members (reverse sums),
+        ap (λ n. members * n) (sum_by-reverse w sums),
+        row_weighs (frame_in g) (table g) c.lists k round some top class (gathered members (reverse sums)) (row_is l member),
+        classes_weigh (frame_in g) (table g) c.lists k round some top class 1,
+        sum_by-cons weigh class [],
+        g.limits.weight_in,
+      )

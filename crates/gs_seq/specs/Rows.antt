@@ -1,7 +1,9 @@
 -- The pairs of a class as a list, one for each class of the other player that it meets.
-use Rattle.std.specs.Prelude.{ℕ, ◌+◌, ◌-◌, ◌*◌, ◌<◌, ◌≤◌, ◌≡◌, ◌==◌, List, [], ◌∷◌, length, ℤ, pos, ◌+ℤ◌, ◌*ℤ◌, unsigned_abs, get_or, if◌then◌else◌, sum_by, Vec, vec_len}
+use Rattle.std.specs.Prelude.{All, map, filter, ℕ, ◌+◌, ◌-◌, ◌*◌, ◌<◌, ◌≤◌, ◌≡◌, ◌==◌, List, [], ◌∷◌, length, ℤ, pos, ◌+ℤ◌, ◌*ℤ◌, unsigned_abs, get_or, if◌then◌else◌, sum_by, Vec, vec_len}
 use Rattle.std.specs.declared.alloc.Global.{Global}
-use Rattle.gs_model.specs.Classes.{ClassLists, class_count, IsClass}
+use Rattle.std.specs.List.{range_with_len}
+use Rattle.gs_filter.specs.Filter.{Filter}
+use Rattle.gs_model.specs.Classes.{ClassLists, class_count, class_of, first_member, IsClass, list_of}
 use Rattle.gs_model.specs.Frame.{Frame, last_round}
 use Rattle.gs_model.specs.Sums.{sum_z}
 use Rattle.gs_lossless.specs.declared.parts.Part.{Part}
@@ -17,6 +19,7 @@ pub record Rises (row : List Pair) : Type 0 where
 abbrev pub weight_in : List Pair → ℕ → ℕ
 weight_in row e = sum_by (λ p. if p.two == e then p.weight else 0) row
 
+-- the signed weight that it holds for it
 abbrev pub signed_in : List Pair → ℕ → ℤ
 signed_in row e = sum_z (λ (p : Pair). if p.two == e then p.signed else pos 0) row
 
@@ -55,7 +58,7 @@ abbrev pub join : Pair → List Pair → List Pair
 join p [] = p ∷ []
 join p (q ∷ qs) = if q.two == p.two then together q p ∷ qs else p ∷ q ∷ qs
 
--- the row of some parts
+-- the row of some parts in ascending order
 abbrev pub gathered : ℕ → List Part → List Pair
 gathered members [] = []
 gathered members (p ∷ ps) = join (pair_of members p) (gathered members ps)
@@ -63,3 +66,32 @@ gathered members (p ∷ ps) = join (pair_of members p) (gathered members ps)
 -- signed weights are no larger than outcomes of 8 bits make them
 abbrev pub IsModerate : Pair → Type 0
 IsModerate p = unsigned_abs p.signed ≤ 128 * p.weight
+
+-- ---- rows from those of the next round
+
+-- the class of a round that a class of the next round descends from
+abbrev pub class_up : Filter → ℕ → ℕ → ℕ
+class_up c round k = class_of c.lists round (get_or (list_of c.parents (round + 1)) (first_member c.lists (round + 1) k) 0)
+
+-- of the first n classes of the next round those that descend from a class
+abbrev pub below_class : Filter → ℕ → ℕ → ℕ → List ℕ
+below_class c round class n = filter (λ k. class_up c round k == class) (range_with_len 1 n)
+
+-- these for each class of a round
+pub record AreBelow (c : Filter) (round n : ℕ) (below : List (Vec ℕ Global)) : Type 0 where
+  pub long : length below ≡ class_count c.lists round
+  pub each : (class : ℕ) (d : Vec ℕ Global) → IsClass c.lists round class → (get_or below (class - 1) d).items ≡ below_class c round class n
+
+-- a pair of the next round as a part: its weight counts for the class that its class descends from, and for no outcome
+abbrev pub part_up : Filter → ℕ → Pair → Part
+part_up c round p = record { class = class_up c round p.two; outcome = pos 0; weight = p.weight }
+
+-- the row of a class among those of a round
+abbrev pub row_at : List (Vec Pair Global) → ℕ → List Pair
+row_at rows k = get_or (map (λ row. row.items) rows) (k - 1) []
+
+-- a class of the next round has a row, of classes of that round
+pub record HasPairsBelow (c : Filter) (round : ℕ) (rows : List (Vec Pair Global)) (k : ℕ) : Type 0 where
+  pub some : 0 < k
+  pub top : k ≤ length rows
+  pub classes : All (λ p. IsClass c.lists (round + 1) p.two) (row_at rows k)

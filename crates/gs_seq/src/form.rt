@@ -26,7 +26,8 @@ const USUAL: Limits = Limits {
     cells: 4_194_304,
 };
 
-/// A game with lossless classes in sequence form: the slots of both players' plans, and the sums over deals by pairs of classes.
+/// A game with lossless classes in sequence form: the slots of both players' plans, and the sums over deals by pairs of classes. A point with a class of
+/// its round is an information set after abstraction.
 #[derive(Drop)]
 pub struct Abstract<'a> {
     lossless: &'a Lossless<'a>,
@@ -83,7 +84,7 @@ impl<'a> Abstract<'a> {
         let game = signals.game();
         let (one, two) = few_slots(game, classes, most.sequences)?;
         let offsets = offsets_of(alloc, game, classes)?;
-        let rows = rows_of(alloc, signals, classes)?;
+        let rows = rows_of(alloc, lossless)?;
         let count = cells(alloc, game, classes, &rows)?;
         if count > most.cells {
             return Err(SeqStop::TooManyCells { count });

@@ -1,6 +1,7 @@
 //! Games in sequence form over lossless classes: plans and their slots, sums over deals by pairs of classes, and what two plans pay.
 #![tactic(auto)]
 
+mod earlier;
 mod fault;
 mod first;
 mod flows;
@@ -11,13 +12,9 @@ mod numbers;
 mod pair;
 mod payoff;
 mod plan;
-#[cfg(test)]
-mod plan_tests;
 mod rows;
 mod slots;
 mod stop;
-#[cfg(test)]
-mod tests;
 
 pub use fault::PlanFault;
 pub use flows::{Source, plan_fault};

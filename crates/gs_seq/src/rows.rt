@@ -10,24 +10,23 @@ ghost use Rattle.gs_seq.specs.Cells.{cell_count};
 ghost use Rattle.gs_seq.specs.Games.{frame_in};
 ghost use Rattle.gs_seq.specs.Rows.{AreRows, AreRowsIn, IsModerate, IsRow, gathered, join, pair_of, pairs_of, together};
 
+use crate::earlier::rows_above;
 use crate::pair::Pair;
 use gs_filter::Classes;
 use gs_game::ValidGame;
-use gs_lossless::{Part, Side, side_keys, side_sums};
+use gs_lossless::{Lossless, Part, Side, side_keys, side_sums};
 use gs_tree::Signals;
 use std::alloc::{AllocError, Global};
 
 /// A weight times an outcome.
-fn product(weight: u64, outcome: i8) -> i64
-    requires { weight < 2 ^ 48 }
+fn product(weight: u32, outcome: i8) -> i64
     ensures { result ≡ pos weight *ℤ outcome }
 {
-    weight as i64 * i64::from(outcome)
+    i64::from(weight) * i64::from(outcome)
 }
 
 /// A weight times an outcome, with how large that can be.
-fn scaled(weight: u64, outcome: i8) -> i64
-    requires { weight < 2 ^ 48 }
+fn scaled(weight: u32, outcome: i8) -> i64
     ensures value { result ≡ pos weight *ℤ outcome }
     ensures size { unsigned_abs result ≤ 128 * weight }
 {
@@ -45,11 +44,11 @@ fn plus(first: i64, second: i64) -> i64
 
 /// What a part of one member of a class is for all members.
 fn pair_from(part: Part, members: u32) -> Pair
-    requires { members * part.weight < 2 ^ 48 }
+    requires { members * part.weight < 2 ^ 32 }
     ensures value { result ≡ pair_of members part }
     ensures moderate { IsModerate result }
 {
-    let weight = u64::from(members) * part.weight;
+    let weight = (u64::from(members) * part.weight) as u32;
     Pair {
         two: part.class,
         weight,
@@ -59,7 +58,7 @@ fn pair_from(part: Part, members: u32) -> Pair
 
 /// Two pairs of one class as one.
 fn joined(pair: Pair, more: Pair) -> Pair
-    requires few { pair.weight + more.weight < 2 ^ 48 }
+    requires few { pair.weight + more.weight < 2 ^ 32 }
     requires pair { IsModerate pair }
     requires more { IsModerate more }
     ensures value { result ≡ together pair more }
@@ -74,7 +73,7 @@ fn joined(pair: Pair, more: Pair) -> Pair
 
 /// Adds a pair to a row: the last pair takes it where both are of one class, or it stands behind it.
 fn add(row: &mut Vec<Pair>, pair: Pair) -> Result<(), AllocError>
-    requires few { sum_by (λ p. p.weight) row.old.items + pair.weight < 2 ^ 48 }
+    requires few { sum_by (λ p. p.weight) row.old.items + pair.weight < 2 ^ 32 }
     requires moderate { All IsModerate row.old.items }
     requires pair { IsModerate pair }
     ensures row { OnOk result (reverse row.new.items ≡ join pair (reverse row.old.items)) }
@@ -92,9 +91,9 @@ fn add(row: &mut Vec<Pair>, pair: Pair) -> Result<(), AllocError>
     Ok(())
 }
 
-/// The row of a class with so many members, by the sums of one of them in descending order.
-fn row_of(alloc: Global, sums: &[Part], members: u32) -> Result<Vec<Pair>, AllocError>
-    requires { members * sum_by (λ p. p.weight) sums.now < 2 ^ 48 }
+/// The row of a class with so many members, by the parts of one of them in descending order.
+pub(crate) fn row_of(alloc: Global, sums: &[Part], members: u32) -> Result<Vec<Pair>, AllocError>
+    requires { members * sum_by (λ p. p.weight) sums.now < 2 ^ 32 }
     ensures { IfOk result (λ v. v.items ≡ gathered members (reverse sums.now)) }
 {
     let mut row = Vec::with_capacity(alloc, sums.len())?;
@@ -151,20 +150,20 @@ fn rows_in(
     Ok(rows)
 }
 
-/// The rows of all rounds.
-pub(crate) fn rows_of(
-    alloc: Global,
-    signals: &Signals,
-    classes: &Classes,
-) -> Result<Vec<Vec<Vec<Pair>>>, AllocError>
-    requires parents { classes.now.parents ≡ (frame_in signals.now.game.now).parents }
-    requires lossless { IsLossless (frame_in signals.now.game.now) classes.now.lists }
-    ensures { IfOk result (λ v. AreRows (frame_in signals.now.game.now) classes.now.lists v.items) }
+/// The rows of all rounds: those of the last one by its deals, the others by those of the round behind each.
+pub(crate) fn rows_of(alloc: Global, lossless: &Lossless) -> Result<Vec<Vec<Vec<Pair>>>, AllocError>
+    ensures { IfOk result (λ v. AreRows (frame_in lossless.now.signals.now.game.now) lossless.now.classes.now.lists v.items) }
 {
-    let mut rows = Vec::new(alloc);
-    for before in 0..signals.rounds() {
-        rows.push(rows_in(alloc, signals, classes, before + 1)?)?;
+    let signals = lossless.signals();
+    let mut round = signals.rounds();
+    let mut rows = Vec::with_capacity(alloc, usize::from(round))?;
+    rows.push(rows_in(alloc, signals, lossless.classes(), round)?)?;
+    while round > 1 {
+        round -= 1;
+        let above = rows_above(alloc, lossless, round, &rows[rows.len() - 1])?;
+        rows.push(above)?;
     }
+    rows.reverse();
     Ok(rows)
 }
 
@@ -218,6 +217,7 @@ pub fn cell_total(alloc: Global, signals: &Signals, classes: &Classes) -> Result
     requires lossless { IsLossless (frame_in signals.now.game.now) classes.now.lists }
     ensures { IfOk result (λ n. n ≡ cell_count (frame_in signals.now.game.now) classes.now.lists) }
 {
-    let rows = rows_of(alloc, signals, classes)?;
+    let lossless = Lossless::known(signals, classes);
+    let rows = rows_of(alloc, &lossless)?;
     cells(alloc, signals.game(), classes, &rows)
 }

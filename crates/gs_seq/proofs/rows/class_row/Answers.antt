@@ -26,7 +26,7 @@ row_of-requires c =
     let sums = c.deref.result.now in
     let amounts = subst (λ xs. AreAmounts (frame_in c.args.signals.now.game.now) lists Deals c.args.round first (reverse xs)) (sym c.deref.ensures.value) (c.in_ok-sums.ensures lists c.requires.keys) in
     row_fits c.args.signals.now.game.now c.args.classes.now c.requires.parents c.rounds-rounds.ensures.sound c.requires.lossless c.args.round c.requires.some c.requires.top
-    c.args.class first c.size.result c.size.ensures sums amounts
+    c.args.class first c.size.result c.size.ensures sums amounts c.first-first.ensures.within c.first-first.ensures.member
 
 pub returns : goal.returns
 returns c =

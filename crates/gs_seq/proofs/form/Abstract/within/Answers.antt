@@ -1,11 +1,8 @@
 use Rattle.std.proofs.Common.{◌≡◌, ap, sym, ◌∙◌, subst, arith, ⊎_elim}
 use Rattle.std.specs.Prelude.{IfErr}
 use Rattle.std.proofs.lemmas.Result.{err_from_is_err_and}
-use Rattle.gs_filter.specs.Filter.{Filter}
-use Rattle.gs_game.specs.declared.valid.ValidGame.{ValidGame}
 use Rattle.gs_model.specs.Classes.{ClassLists}
 use Rattle.gs_model.specs.Frame.{Frame}
-use Rattle.gs_model.specs.Lossless.{IsLossless}
 use Rattle.gs_tree.specs.declared.signals.Signals.{Signals}
 use Rattle.gs_seq.specs.Cells.{cell_count}
 use Rattle.gs_seq.specs.Games.{frame_in}
@@ -15,11 +12,8 @@ use Rattle.gs_seq.specs.Stops.{HasSequencesWithin, IsStopAt, IsTooLong}
 use Rattle.gs_seq.specs.declared.limits.Limits.{Limits}
 use Rattle.gs_seq.specs.declared.stop.SeqStop.{SeqStop}
 use Rattle.gs_seq.specs.declared.stop.SeqStop.TheVariants.{TooManySequences, TooManyCells, Memory}
+use Rattle.gs_seq.proofs.Carried.{carried}
 use Rattle.gs_seq.proofs.form.Abstract.within.Goals as goal
-
--- what holds of one game and its classes holds of the same ones by another name
-carried : (g h : ValidGame) (c d : Filter) (P : Frame → ClassLists → Type 0) → g ≡ h → c ≡ d → P (frame_in g) c.lists → P (frame_in h) d.lists
-carried g h c d P same alike p = subst (λ (x : ValidGame). P (frame_in x) d.lists) same (subst (λ (x : Filter). P (frame_in g) x.lists) alike p)
 
 too_long : (most : Limits) (f : Frame) (lists : ClassLists) (e : SeqStop) → IsTooLong most.sequences f lists e → IsStopAt most f lists e
 too_long most f lists (TooManySequences player count) h = h
@@ -37,16 +31,14 @@ returns-in_err-one-clause-refused c =
     let e = err_from_is_err_and c.from_residual.result c.from_residual.ensures.1 in
     subst (λ r. IfErr r (IsStopAt c.args.most f s.classes.now.lists)) (sym e.1) (subst (IsStopAt c.args.most f s.classes.now.lists) (sym e.2) (too_long c.args.most f s.classes.now.lists c.in_err-one.field-0.0 long))
 
-pub rows_of-requires-clause-lossless : goal.rows_of-requires-clause-lossless
-rows_of-requires-clause-lossless c =
-    let s = c.args.lossless.now in
-    carried s.signals.now.game.now c.signals-signals.result.now.game.now s.classes.now c.classes-classes.result.now IsLossless
-    (sym (ap (λ (x : Signals). x.game.now) c.signals-signals.ensures.held)) (sym c.classes-classes.ensures.held) c.classes-classes.ensures.lossless
-
 pub cells-requires-clause-rows : goal.cells-requires-clause-rows
 cells-requires-clause-rows c =
-    subst (AreRows (frame_in c.game-game.result.now) c.classes-classes.result.now.lists) (sym c.deref.ensures.value)
-    (subst (λ (x : ValidGame). AreRows (frame_in x) c.classes-classes.result.now.lists c.in_ok-rows.rows.items) (sym c.game-game.ensures) c.in_ok-rows.ensures)
+    let s = c.args.lossless.now in
+    let game = c.game-game.result.now in
+    let classes = c.classes-classes.result.now in
+    let same : game ≡ s.signals.now.game.now = c.game-game.ensures ∙ ap (λ (x : Signals). x.game.now) c.signals-signals.ensures.held in
+    subst (AreRows (frame_in game) classes.lists) (sym c.deref.ensures.value)
+    (carried s.signals.now.game.now game s.classes.now classes (λ f lists. AreRows f lists c.in_ok-rows.rows.items) (sym same) (sym c.classes-classes.ensures.held) c.in_ok-rows.ensures)
 
 pub returns-then-count-most-clause-refused : goal.returns-then-count-most-clause-refused
 returns-then-count-most-clause-refused c =
@@ -71,8 +63,7 @@ invariant_of-result c =
       placed = carried game s.signals.now.game.now classes s.classes.now (λ f lists. AreOffsets f lists c.in_ok-offsets.offsets.items) same c.classes-classes.ensures.held c.in_ok-offsets.ensures;
       ones = carried game s.signals.now.game.now classes s.classes.now (λ f lists. c.in_ok-one.one ≡ slot_count f lists 1) same c.classes-classes.ensures.held c.in_ok-one.ensures.one;
       twos = carried game s.signals.now.game.now classes s.classes.now (λ f lists. c.in_ok-one.two ≡ slot_count f lists 2) same c.classes-classes.ensures.held c.in_ok-one.ensures.two;
-      paired = carried c.signals-signals.result.now.game.now s.signals.now.game.now classes s.classes.now (λ f lists. AreRows f lists c.in_ok-rows.rows.items)
-          (ap (λ (x : Signals). x.game.now) c.signals-signals.ensures.held) c.classes-classes.ensures.held c.in_ok-rows.ensures;
+      paired = c.in_ok-rows.ensures;
     }
 
 pub returns-clause-small : goal.returns-clause-small

@@ -1,0 +1,17 @@
+use Rattle.std.proofs.Common.{◌≡◌, ◌+◌, ◌-◌, subst, arith}
+use Rattle.gs_model.specs.Classes.{IsClass}
+use Rattle.gs_seq.proofs.EarlierRows.{below_more, up_is}
+use Rattle.gs_seq.proofs.earlier.classes_below.Goals as goal
+
+pub loop-before-preserved : goal.loop-before-preserved
+loop-before-preserved c =
+    let f = c.args.classes.now in
+    let n = c.loop-before.before in
+    let above = c.parent_class-above.result in
+    let test = c.loop-before-test.true in
+    let h : IsClass f.lists (c.args.round + 1) (n + 1) = (omega (arith, test), omega (arith, test, c.classes-before-end.ensures)) in
+    let back : c.args.round + 1 - 1 ≡ c.args.round = omega arith in
+    let own = subst (λ j. IsClass f.lists j above) back c.parent_class-above.ensures.class in
+    below_more f c.args.round n c.loop-before.below.items c.index_mut.result.now c.push.new.self above c.loop-before.invariant own
+    (up_is f c.rounds-rounds.ensures.sound c.args.round (n + 1) above c.requires.some c.requires.before_last h c.parent_class-above.ensures.value)
+    c.index_mut.ensures.value c.in_ok-push.ensures.items

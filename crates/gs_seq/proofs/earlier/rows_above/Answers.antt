@@ -1,0 +1,31 @@
+use Rattle.std.proofs.Common.{◌≡◌, ◌+◌, ◌-◌, ◌∙◌, ℕ, Vec, Global, ap, get_or, sym, subst, arith}
+use Rattle.gs_filter.specs.Filter.{Filter}
+use Rattle.gs_model.specs.Classes.{class_count}
+use Rattle.gs_seq.specs.Games.{frame_in}
+use Rattle.gs_seq.specs.Rows.{IsRow, below_class}
+use Rattle.gs_seq.specs.declared.pair.Pair.{Pair}
+use Rattle.gs_seq.proofs.CellLaws.{pushed}
+use Rattle.gs_seq.proofs.earlier.rows_above.Goals as goal
+
+pub row_above-requires-clause-below : goal.row_above-requires-clause-below
+row_above-requires-clause-below c =
+    let b = c.in_ok-below.ensures in
+    let d = c.index.result.now in
+    let n = c.loop-before.before in
+    let back : n + 1 - 1 ≡ n = omega arith in
+    let test = c.loop-before-test.true in
+    let each = b.each (n + 1) d (omega arith, omega (arith, test, c.classes-count.ensures)) in
+    c.deref.ensures.value ∙ ap (λ (v : Vec ℕ Global). v.items) c.index.ensures ∙ ap (λ j. (get_or c.in_ok-below.below.items j d).items) (sym back) ∙ each
+    ∙ ap (λ (x : Filter). below_class x c.args.round (n + 1) (class_count x.lists (c.args.round + 1))) c.classes-classes.ensures.held
+
+pub loop-before-preserved : goal.loop-before-preserved
+loop-before-preserved c =
+    let f = frame_in c.args.lossless.now.signals.now.game.now in
+    let lists = c.args.lossless.now.classes.now.lists in
+    let i = c.loop-before.invariant in
+    let above = c.loop-before.above in
+    record {
+      long = omega (arith, c.in_ok-push.ensures.len, i.long);
+      row = λ k d l. subst (λ vs. IsRow f lists c.args.round (k + 1) (get_or vs k d).items) (sym c.in_ok-push.ensures.items)
+          (pushed (λ j (v : Vec Pair Global). IsRow f lists c.args.round (j + 1) v.items) above.items c.in_ok-row.row c.loop-before.before (sym above.ok.0 ∙ i.long) i.row c.in_ok-row.ensures k d l);
+    }
