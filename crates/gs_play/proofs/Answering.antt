@@ -1,5 +1,5 @@
 -- The plan that puts all on the moves of best totals is a plan.
-use Rattle.std.proofs.Common.{◌≡◌, ℕ, ◌<◌, List, length, refl}
+use Rattle.std.proofs.Common.{◌≡◌, ℕ, List, length, refl, sym, ap, ◌∙◌}
 use Rattle.gs_model.specs.BestAnswers.{IsFirstBestPlan, Values}
 use Rattle.gs_model.specs.Classes.{ClassLists, IsClasses}
 use Rattle.gs_model.specs.Frame.{Frame, point_count}
@@ -19,3 +19,7 @@ put_best f r lists k lossless player w y v move weights best puts = chosen_is_be
 pub put_plan : (f : Frame) → InRange f → (lists : ClassLists) → IsClasses f.parents lists → IsLossless f lists → (player : ℕ) → IsWalked f player → (y : Plan) (v : Values) (move : ℕ → ℕ → ℕ) (weights : List ℕ)
     → AreBestTotals f lists player y v move → ArePutBefore f lists player move weights (point_count f) → length weights ≡ slot_count f lists player → IsPlan f lists player 1 weights
 put_plan f r lists k lossless player w y v move weights best puts long = put_is_plan f r lists k player w (lift f lists y) weights long (put_best f r lists k lossless player w y v move weights best puts)
+
+-- answers with the same weights are the same plan
+pub same_plan : (f : Frame) (lists : ClassLists) (one two : ℕ) (xs ys : List ℕ) → one ≡ 1 → two ≡ 1 → xs ≡ ys → plan_of f lists one xs ≡ plan_of f lists two ys
+same_plan f lists one two xs ys e1 e2 same = ap (λ t. plan_of f lists t xs) (e1 ∙ sym e2) ∙ ap (plan_of f lists two) same

@@ -1,9 +1,9 @@
 -- Turns taken at once keep what both players hold: their plans are those after so many turns more, and ends pay what they pay against the other's new plan.
-use Rattle.std.proofs.Common.{◌≡◌, ℕ, ◌+◌, ◌-◌, ◌*◌, ◌<◌, ◌≤◌, List, get_or, refl, sym, ap, ◌∙◌, subst, arith}
+use Rattle.std.proofs.Common.{◌≡◌, ℕ, ◌+◌, ◌-◌, ◌<◌, ◌≤◌, List, get_or, sym, ap, ◌∙◌, subst, arith}
 use Rattle.std.specs.Prelude.{◌==◌, ℤ, pos, ◌+ℤ◌, ◌*ℤ◌, if◌then◌else◌}
 use Rattle.gs_model.specs.BestAnswers.{Values}
 use Rattle.gs_model.specs.Classes.{ClassLists, IsClass, IsClasses, first_member}
-use Rattle.gs_model.specs.Frame.{Frame, end_count, last_step, move_count, other_player, payoff_to, player_at, point_count, round_of}
+use Rattle.gs_model.specs.Frame.{Frame, end_count, last_step, other_player, payoff_to, point_count, round_of}
 use Rattle.gs_model.specs.FrameFacts.{InRange, IsWalked}
 use Rattle.gs_model.specs.Lossless.{IsLossless}
 use Rattle.gs_model.specs.Plans.{Plan, lift, number_before}

@@ -1,10 +1,11 @@
 -- What a player holds while the turns go on. Of private functions.
-use Rattle.std.specs.Prelude.{ℕ, ◌-◌, ◌<◌, ◌≤◌, ◌≡◌, List, length}
+use Rattle.std.specs.Prelude.{ℕ, ◌-◌, ◌≤◌, ◌≡◌, List, length}
 use Rattle.gs_model.specs.Classes.{ClassLists}
 use Rattle.gs_model.specs.Frame.{Frame, point_count}
 use Rattle.gs_model.specs.Plans.{Plan as ModelPlan}
 use Rattle.gs_model.specs.Play.{IsFictitiousPlay}
 use Rattle.gs_seq.specs.Plans.{IsPlanOf, class_plan}
+use Rattle.gs_seq.specs.Slots.{slot_count}
 use Rattle.gs_best.specs.Puts.{ArePutBefore}
 use Rattle.gs_best.specs.Tables.{moves_of, start_of}
 use Rattle.gs_totals.specs.ClassTotals.{AreBestTotals, IsFollowed}
@@ -17,6 +18,7 @@ use Rattle.gs_play.specs.declared.seats.Seat.{Seat}
 pub record HasRoom (f : Frame) (lists : ClassLists) (player : ℕ) (s : Seat) : Type 0 where
   pub answer : IsPlanOf f lists player s.answer
   pub one : s.answer.total ≡ 1
+  pub next : length s.next.items ≡ slot_count f lists player
   pub rows : HasRows f lists s.totals
   pub picks : start_of f lists (point_count f) ≤ length s.picks.items
 

@@ -1,6 +1,6 @@
 //! What each player holds while the turns go on.
 
-ghost use Rattle.std.specs.Prelude.{◌≡◌, ◌-◌, ◌+◌, ◌*◌, ◌<◌, ◌≤◌, ◌^◌, ℕ, IfOk, pos, get_or, length};
+ghost use Rattle.std.specs.Prelude.{◌≡◌, ◌↔◌, IsTrue, ◌-◌, ◌+◌, ◌*◌, ◌<◌, ◌≤◌, ◌^◌, ℕ, IfOk, pos, get_or, length};
 ghost use Rattle.gs_filter.specs.Filter.{IsSound};
 ghost use Rattle.gs_model.specs.Classes.{IsClass};
 ghost use Rattle.gs_model.specs.Frame.{end_count, other_player, point_count, round_of};
@@ -8,7 +8,7 @@ ghost use Rattle.gs_model.specs.Play.{IsFirstMoves};
 ghost use Rattle.gs_model.specs.Positions.{at_end};
 ghost use Rattle.gs_seq.specs.Abstracts.{frame_of, lists_of};
 ghost use Rattle.gs_seq.specs.Plans.{IsPlanOf, class_plan};
-ghost use Rattle.gs_seq.specs.Slots.{slot_count};
+ghost use Rattle.gs_seq.specs.Slots.{plan_of, slot_count};
 ghost use Rattle.gs_best.specs.Puts.{ArePutBefore};
 ghost use Rattle.gs_best.specs.Tables.{moves_of, start_of};
 ghost use Rattle.gs_totals.specs.ClassTotals.{AreBestTotals};
@@ -23,14 +23,18 @@ use gs_best::{Deviator, round_total};
 use gs_seq::{Abstract, Plan};
 use gs_totals::{
     Course, Places, Scratch, Totals, advance, fill, follow, lasting, picks_for, put_all, read_ends,
+    renew_ends,
 };
 use std::alloc::{AllocError, Global};
+use std::mem::swap;
 
 /// A player's plan so far and his best answer, and what these rest on: his class totals against the other's plan, and the moves that they choose.
 #[derive(Drop)]
 pub(crate) struct Seat {
     pub(crate) plan: Plan,
     pub(crate) answer: Plan,
+    // the weights of the answer before, and room for the next one
+    pub(crate) next: Vec<u64>,
     pub(crate) totals: Totals,
     pub(crate) picks: Vec<u8>,
 }
@@ -45,24 +49,35 @@ pub(crate) fn seat_of(alloc: Global, form: &Abstract, player: u8) -> Result<Seat
 {
     let plan = form.first_plan(alloc, player)?;
     let answer = form.first_plan(alloc, player)?;
+    let next = vec![in alloc; 0u64; answer.weights.len()]?;
     let totals = Totals::of(alloc, form)?;
     let picks = picks_for(alloc, form)?;
     Ok(Seat {
         plan,
         answer,
+        next,
         totals,
         picks,
     })
 }
 
 /// Reads what ends pay a player against the other's plan.
-pub(crate) fn begin(form: &Abstract, player: u8, places: &Places, seat: &mut Seat, other: &Plan)
+pub(crate) fn begin(
+    form: &Abstract,
+    player: u8,
+    places: &Places,
+    seat: &mut Seat,
+    other: &Plan,
+    scratch: &mut Scratch,
+)
+    requires scratch { HasScratch (frame_of form.now) (lists_of form.now) scratch.old }
     requires some { 0 < player }
     requires two { player ≤ 2 }
     requires placed { IsPlaced (frame_of form.now) (lists_of form.now) places.now }
     requires room { HasRoom (frame_of form.now) (lists_of form.now) player seat.old }
     requires plan { IsPlanOf (frame_of form.now) (lists_of form.now) player seat.old.plan }
     requires other { IsPlanOf (frame_of form.now) (lists_of form.now) (other_player player) other.now }
+    ensures scratch { HasScratch (frame_of form.now) (lists_of form.now) scratch.new }
     ensures seat { IsSeat (frame_of form.now) (lists_of form.now) player (class_plan (frame_of form.now) (lists_of form.now) other.now) seat.new }
     ensures plan { seat.new.plan ≡ seat.old.plan }
 {
@@ -71,7 +86,7 @@ pub(crate) fn begin(form: &Abstract, player: u8, places: &Places, seat: &mut Sea
         player,
         other,
     };
-    read_ends(&side, places, &mut seat.totals);
+    read_ends(&side, places, &mut seat.totals, scratch);
 }
 
 /// Finds a player's best totals against the other's plan with the moves that they choose, and the weights of the plan that puts all on them.
@@ -110,7 +125,14 @@ fn find(
     put_all(form, player, places, picks, weights);
 }
 
-/// Finds a player's best answer to the other's plan.
+/// Whether two lists of weights are the same.
+fn is_same(first: &[u64], second: &[u64]) -> bool
+    ensures { IsTrue result ↔ (first.now ≡ second.now) }
+{
+    first == second
+}
+
+/// Finds a player's best answer to the other's plan, and says whether it is the same one as before.
 pub(crate) fn answer(
     form: &Abstract,
     player: u8,
@@ -118,7 +140,7 @@ pub(crate) fn answer(
     seat: &mut Seat,
     other: &Plan,
     scratch: &mut Scratch,
-)
+) -> bool
     requires some { 0 < player }
     requires two { player ≤ 2 }
     requires placed { IsPlaced (frame_of form.now) (lists_of form.now) places.now }
@@ -129,6 +151,8 @@ pub(crate) fn answer(
     ensures seat { IsSeat (frame_of form.now) (lists_of form.now) player (class_plan (frame_of form.now) (lists_of form.now) other.now) seat.new }
     ensures answered { HasAnswered (frame_of form.now) (lists_of form.now) player (class_plan (frame_of form.now) (lists_of form.now) other.now) seat.new }
     ensures plan { seat.new.plan ≡ seat.old.plan }
+    ensures next { seat.new.next.items ≡ seat.old.answer.weights.items }
+    ensures same { IsTrue result ↔ (seat.new.answer.weights.items ≡ seat.old.answer.weights.items) }
 {
     let _rounds = round_total(form);
     find(
@@ -137,10 +161,73 @@ pub(crate) fn answer(
         places,
         &mut seat.totals,
         &mut seat.picks,
-        &mut seat.answer.weights,
+        &mut seat.next,
         other,
         scratch,
     );
+    swap(&mut seat.next, &mut seat.answer.weights);
+    is_same(&seat.next, &seat.answer.weights)
+}
+
+/// Reads what the other's first answer pays a player each turn.
+pub(crate) fn read_steps(
+    form: &Abstract,
+    player: u8,
+    places: &Places,
+    more: &Plan,
+    steps: &mut Totals,
+    scratch: &mut Scratch,
+)
+    requires some { 0 < player }
+    requires two { player ≤ 2 }
+    requires placed { IsPlaced (frame_of form.now) (lists_of form.now) places.now }
+    requires more { IsPlanOf (frame_of form.now) (lists_of form.now) (other_player player) more.now }
+    requires rows { HasRows (frame_of form.now) (lists_of form.now) steps.old }
+    requires scratch { HasScratch (frame_of form.now) (lists_of form.now) scratch.old }
+    ensures scratch { HasScratch (frame_of form.now) (lists_of form.now) scratch.new }
+    ensures rows { HasRows (frame_of form.now) (lists_of form.now) steps.new }
+    ensures paid { AreEndSums (frame_of form.now) (lists_of form.now) player (class_plan (frame_of form.now) (lists_of form.now) more.now) steps.new.ends.items }
+{
+    let side = Deviator {
+        form,
+        player,
+        other: more,
+    };
+    read_ends(&side, places, steps, scratch);
+}
+
+/// Reads what the other's answer pays a player each turn, where it is not what the answer before paid.
+pub(crate) fn renew(
+    form: &Abstract,
+    player: u8,
+    places: &Places,
+    same: bool,
+    other: &Seat,
+    steps: &mut Totals,
+    scratch: &mut Scratch,
+)
+    requires some { 0 < player }
+    requires two { player ≤ 2 }
+    requires placed { IsPlaced (frame_of form.now) (lists_of form.now) places.now }
+    requires more { IsPlanOf (frame_of form.now) (lists_of form.now) (other_player player) other.now.answer }
+    requires before { length other.now.next.items ≡ slot_count (frame_of form.now) (lists_of form.now) (other_player player) }
+    requires rows { HasRows (frame_of form.now) (lists_of form.now) steps.old }
+    requires scratch { HasScratch (frame_of form.now) (lists_of form.now) scratch.old }
+    requires paid { AreEndSums (frame_of form.now) (lists_of form.now) player (plan_of (frame_of form.now) (lists_of form.now) other.now.answer.total other.now.next.items) steps.old.ends.items }
+    requires kept { IsTrue same → other.now.next.items ≡ other.now.answer.weights.items }
+    ensures scratch { HasScratch (frame_of form.now) (lists_of form.now) scratch.new }
+    ensures rows { HasRows (frame_of form.now) (lists_of form.now) steps.new }
+    ensures paid { AreEndSums (frame_of form.now) (lists_of form.now) player (class_plan (frame_of form.now) (lists_of form.now) other.now.answer) steps.new.ends.items }
+{
+    if same {
+        return;
+    }
+    let side = Deviator {
+        form,
+        player,
+        other: &other.answer,
+    };
+    renew_ends(&side, &other.next, places, steps, scratch);
 }
 
 /// Finds what the other's answer adds to a player's totals each turn, as long as his choices stay.
@@ -160,6 +247,7 @@ pub(crate) fn rise(
     requires moves { let f = frame_of form.now in let lists = lists_of form.now in AreInMoves f lists player (moves_of f lists seat.now.picks.items) }
     requires more { IsPlanOf (frame_of form.now) (lists_of form.now) (other_player player) more.now }
     requires rows { HasRows (frame_of form.now) (lists_of form.now) steps.old }
+    requires paid { AreEndSums (frame_of form.now) (lists_of form.now) player (class_plan (frame_of form.now) (lists_of form.now) more.now) steps.old.ends.items }
     requires scratch { HasScratch (frame_of form.now) (lists_of form.now) scratch.old }
     ensures scratch { HasScratch (frame_of form.now) (lists_of form.now) scratch.new }
     ensures rows { HasRows (frame_of form.now) (lists_of form.now) steps.new }
@@ -170,7 +258,6 @@ pub(crate) fn rise(
         player,
         other: more,
     };
-    read_ends(&side, places, steps);
     follow(&side, places, steps, &seat.picks, scratch);
 }
 
@@ -236,6 +323,7 @@ pub(crate) fn move_on(
     requires small_steps { AreSmallRows (frame_of form.now) (lists_of form.now) steps.now.ends.items }
     requires few { times ≤ 2 ^ 20 }
     ensures room { HasRoom (frame_of form.now) (lists_of form.now) player seat.new }
+    ensures answer { seat.new.answer ≡ seat.old.answer }
     ensures player { seat.new.plan.player ≡ seat.old.plan.player }
     ensures total { seat.new.plan.total ≡ seat.old.plan.total + times }
     ensures long { length seat.new.plan.weights.items ≡ slot_count (frame_of form.now) (lists_of form.now) player }

@@ -8,8 +8,10 @@ pub mod Greatest
 pub mod Stepping
 pub mod EndStarts
 pub mod Gathers
+pub mod Itself
 pub mod Known
 pub mod Behind
 pub mod SmallEnds
 pub mod CourseLaws
 pub mod Reading
+pub mod Renewals

@@ -13,19 +13,23 @@ use Rattle.gs_totals.specs.Lasting.{IsBehind}
 use Rattle.gs_totals.specs.Places.{totals_of}
 use Rattle.gs_totals.specs.declared.course.Course.{Course}
 
+-- the frame of a course's game
 abbrev pub frame_in : Course → Frame
 frame_in k = frame_of k.form.now
 
+-- the classes of a course
 abbrev pub lists_in : Course → ClassLists
 lists_in k = lists_of k.form.now
 
--- the totals, what a turn adds to them, and the chosen moves
+-- the class totals as they stand, against the other's plan so far
 abbrev pub totals_now : Course → Values
 totals_now k = totals_of (frame_in k) (lists_in k) k.player (class_plan (frame_in k) (lists_in k) k.other.now) k.totals.now.points.items
 
+-- what a turn adds to them: the class totals against the plan that a turn adds
 abbrev pub totals_added : Course → Values
 totals_added k = totals_of (frame_in k) (lists_in k) k.player (class_plan (frame_in k) (lists_in k) k.more.now) k.steps.now.points.items
 
+-- the move that is chosen at each point and class
 abbrev pub moves_chosen : Course → ℕ → ℕ → ℕ
 moves_chosen k = moves_of (frame_in k) (lists_in k) k.picks.now
 

@@ -22,6 +22,7 @@ kept_sum f lists value round u y c = sum_z (λ e. pos (number_after f lists y u 
 abbrev pub weight_sum : Frame → ClassLists → ℕ → Option Step → Plan → ℕ → ℤ
 weight_sum f lists = kept_sum f lists (λ o. pos 1)
 
+-- a part of the one above
 abbrev pub signed_sum : Frame → ClassLists → ℕ → Option Step → Plan → ℕ → ℤ
 signed_sum f lists = kept_sum f lists (λ o. o)
 

@@ -3,6 +3,7 @@ pub mod KeptSums
 pub mod Jumps
 pub mod Faced
 pub mod Places
+pub mod Renewed
 pub mod Merged
 pub mod Room
 pub mod Lasting

@@ -5,32 +5,20 @@ ghost use Rattle.gs_model.specs.Classes.{IsClass};
 ghost use Rattle.gs_model.specs.Frame.{end_count, round_of};
 ghost use Rattle.gs_model.specs.Positions.{at_end};
 ghost use Rattle.gs_seq.specs.Abstracts.{frame_of, lists_of};
-ghost use Rattle.gs_seq.specs.Payoffs.{end_sum};
 ghost use Rattle.gs_seq.specs.Plans.{class_plan};
+ghost use Rattle.gs_best.specs.Sizes.{IsWide};
 ghost use Rattle.gs_totals.specs.Jumps.{line};
-ghost use Rattle.gs_totals.specs.Places.{AreEndSums, AreSmallRows, end_classes, end_start};
-ghost use Rattle.gs_totals.specs.Room.{HasRows, IsPlaced};
+ghost use Rattle.gs_totals.specs.Places.{AreEndSums, AreSmallRows, end_start};
+ghost use Rattle.gs_totals.specs.Room.{HasRows, HasScratch, IsPlaced};
 
-use crate::places::{Places, Totals, end_total};
+use crate::paying::read_end;
+use crate::places::{Places, Scratch, Totals, end_total};
 use gs_best::{Deviator, class_total, end_round, round_total};
 use gs_seq::{Abstract, plus, scaled};
 
-/// What an end pays the members of each class together, from a place of a list on; the rest of the list is as it was.
-fn read_end(side: &Deviator<'_>, end: u32, start: usize, sums: &mut [i128])
-    requires end { end < end_count (frame_of side.now.form.now) }
-    requires room { start + end_classes (frame_of side.now.form.now) (lists_of side.now.form.now) end ≤ length sums.old }
-    ensures here { let f = frame_of side.now.form.now in let lists = lists_of side.now.form.now in
-        (c : ℕ) → IsClass lists (round_of f (at_end end)) c → get_or sums.new (start + (c - 1)) (pos 0) ≡ end_sum f lists side.now.player (class_plan f lists side.now.other.now) end c }
-    ensures before { (i : ℕ) → i < start → get_or sums.new i (pos 0) ≡ get_or sums.old i (pos 0) }
-{
-    let _rounds = round_total(side.form);
-    for class in 0..class_total(side.form, end_round(side.form, end)) {
-        sums[start + class as usize] = side.form.end_sum(side.player, side.other, end, class + 1);
-    }
-}
-
 /// What all ends pay the members of each class together.
-fn read_all(side: &Deviator<'_>, places: &Places, sums: &mut [i128])
+fn read_all(side: &Deviator<'_>, places: &Places, sums: &mut [i128], numbers: &mut [u64])
+    requires wide { IsWide (frame_of side.now.form.now) (lists_of side.now.form.now) (length numbers.old) }
     requires placed { IsPlaced (frame_of side.now.form.now) (lists_of side.now.form.now) places.now }
     requires room { end_start (frame_of side.now.form.now) (lists_of side.now.form.now) (end_count (frame_of side.now.form.now)) ≤ length sums.old }
     ensures { let f = frame_of side.now.form.now in let lists = lists_of side.now.form.now in
@@ -38,19 +26,21 @@ fn read_all(side: &Deviator<'_>, places: &Places, sums: &mut [i128])
 {
     for end in 0..end_total(side.form) {
         let start = places.ends[end as usize] as usize;
-        read_end(side, end, start, sums);
+        read_end(side, end, start, sums, numbers);
     }
 }
 
 /// Reads what ends pay a player against the other's plan, class by class.
-pub fn read_ends(side: &Deviator<'_>, places: &Places, totals: &mut Totals)
+pub fn read_ends(side: &Deviator<'_>, places: &Places, totals: &mut Totals, scratch: &mut Scratch)
+    requires scratch { HasScratch (frame_of side.now.form.now) (lists_of side.now.form.now) scratch.old }
     requires placed { IsPlaced (frame_of side.now.form.now) (lists_of side.now.form.now) places.now }
     requires rows { HasRows (frame_of side.now.form.now) (lists_of side.now.form.now) totals.old }
+    ensures scratch { HasScratch (frame_of side.now.form.now) (lists_of side.now.form.now) scratch.new }
     ensures rows { HasRows (frame_of side.now.form.now) (lists_of side.now.form.now) totals.new }
     ensures paid { let f = frame_of side.now.form.now in let lists = lists_of side.now.form.now in
         AreEndSums f lists side.now.player (class_plan f lists side.now.other.now) totals.new.ends.items }
 {
-    read_all(side, places, &mut totals.ends);
+    read_all(side, places, &mut totals.ends, &mut scratch.numbers);
 }
 
 /// A number to which a step is added so many times.

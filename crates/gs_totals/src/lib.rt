@@ -1,4 +1,5 @@
 //! Class totals: what the members of a class gain together against a plan of the other player, by sums that are kept from plan to plan.
+//! In the literature: counterfactual values, summed over a class.
 #![tactic(auto)]
 
 mod above;
@@ -7,8 +8,10 @@ mod ends;
 mod filling;
 mod following;
 mod merging;
+mod paying;
 mod places;
 mod putting;
+mod renewing;
 mod rows;
 mod staying;
 
@@ -18,4 +21,5 @@ pub use filling::fill;
 pub use following::follow;
 pub use places::{Places, Scratch, Totals, picks_for};
 pub use putting::put_all;
+pub use renewing::renew_ends;
 pub use staying::lasting;

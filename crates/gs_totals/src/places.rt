@@ -31,6 +31,8 @@ pub struct Totals {
 /// Rows of a number for each class, to work on.
 #[derive(Drop)]
 pub struct Scratch {
+    // the other player's numbers at an end
+    pub(crate) numbers: Vec<u64>,
     // what a move is worth
     pub(crate) worths: Vec<i128>,
     // what a turn adds to that
@@ -42,7 +44,7 @@ pub struct Scratch {
 }
 
 /// The game.
-fn game<'a>(form: &Abstract<'a>) -> &'a ValidGame
+pub(crate) fn game<'a>(form: &Abstract<'a>) -> &'a ValidGame
     ensures { result.now ≡ game_in form.now }
 {
     form.lossless().signals().game()
@@ -153,6 +155,7 @@ impl Scratch {
     {
         let wide = widest(form) as usize;
         Ok(Scratch {
+            numbers: vec![in alloc; 0u64; wide]?,
             worths: vec![in alloc; 0i128; wide]?,
             rises: vec![in alloc; 0i128; wide]?,
             best: vec![in alloc; 0i128; wide]?,

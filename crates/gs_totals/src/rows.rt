@@ -27,6 +27,17 @@ fn clear(sums: &mut [i128], count: usize)
     }
 }
 
+/// Copies so many numbers of a list, from a place on, into a row.
+fn copy(values: &[i128], start: usize, count: usize, sums: &mut [i128])
+    requires values { start + count ≤ length values.now }
+    requires sums { count ≤ length sums.old }
+    ensures { (k : ℕ) → k < count → get_or sums.new k (pos 0) ≡ get_or values.now (start + k) (pos 0) }
+{
+    for class in 0..count {
+        sums[class] = values[start + class];
+    }
+}
+
 /// Adds to a cleared row, for each class of a later round, the class's number at the class above it.
 fn gather(form: &Abstract, from: u8, to: u8, values: &[i128], start: usize, sums: &mut [i128])
     requires some { 0 < to }
@@ -55,8 +66,13 @@ fn read_row(form: &Abstract, from: u8, to: u8, values: &[i128], start: usize, su
     ensures { AreGathered (frame_of form.now) (lists_of form.now) from to values.now start sums.new }
 {
     let _rounds = round_total(form);
-    clear(sums, class_total(form, to) as usize);
-    gather(form, from, to, values, start, sums);
+    let count = class_total(form, to) as usize;
+    if from == to {
+        copy(values, start, count, sums);
+    } else {
+        clear(sums, count);
+        gather(form, from, to, values, start, sums);
+    }
 }
 
 /// What a move of a point is worth to each class of the point's round, where the totals of all later points are known.

@@ -1,4 +1,4 @@
-use Rattle.std.proofs.Common.{◌≡◌, ℕ, ◌≤◌, ◌++◌, List, length, take, drop, sym, ap, ◌∙◌, subst, arith, Vec}
+use Rattle.std.proofs.Common.{◌≡◌, ℕ, ◌≤◌, List, length, drop, sym, ap, ◌∙◌, subst, arith, Vec}
 use Rattle.std.specs.Prelude.{ℤ}
 use Rattle.std.specs.declared.alloc.Global.{Global}
 use Rattle.gs_model.specs.Frame.{point_count}
@@ -15,7 +15,7 @@ use Rattle.gs_play.proofs.Answering.{put_plan}
 use Rattle.gs_play.proofs.seats.answer.Goals as goal
 
 pub find-requires-clause-long : goal.find-requires-clause-long
-find-requires-clause-long c = ap (λ (l : List ℕ). length l) c.deref_mut-2.ensures.value ∙ c.requires.seat.room.answer.plan.long
+find-requires-clause-long c = ap (λ (l : List ℕ). length l) c.deref_mut-2.ensures.value ∙ c.requires.seat.room.next
 
 pub returns-clause-answered : goal.returns-clause-answered
 returns-clause-answered c =
@@ -25,15 +25,16 @@ returns-clause-answered c =
     let player = c.args.player in
     let y = class_plan f lists c.args.other.now in
     let old = c.args.seat.now.picks in
-    let was = c.args.seat.now.answer.weights in
+    let was = c.args.seat.now.next in
     let picks = c.find.new.picks in
     let weights = c.find.new.weights in
     let picks_are = written old.len picks (drop (length picks) old.items) (omega (arith, c.find.auto.picks, ap (λ (l : List ℕ). length l) c.deref_mut.ensures.value, old.ok.0)) in
     let weights_are = written was.len weights (drop (length weights) was.items) (omega (arith, c.find.auto.weights, ap (λ (l : List ℕ). length l) c.deref_mut-2.ensures.value, was.ok.0)) in
+    let answer_is : c.swap.new.y.items ≡ weights = ap (λ (v : Vec ℕ Global). v.items) c.swap.ensures.y_after ∙ weights_are in
     record {
       best = subst (λ l. AreBestTotals f lists player y (totals_of f lists player y c.find.new.totals.points.items) (moves_of f lists l)) (sym picks_are) c.find.ensures.best;
-      puts = subst (λ l. ArePutBefore f lists player (moves_of f lists l) (take was.len (weights ++ drop (length weights) was.items)) (point_count f)) (sym picks_are)
-          (subst (λ l. ArePutBefore f lists player (moves_of f lists picks) l (point_count f)) (sym weights_are) c.find.ensures.puts);
+      puts = subst (λ l. ArePutBefore f lists player (moves_of f lists l) c.swap.new.y.items (point_count f)) (sym picks_are)
+          (subst (λ l. ArePutBefore f lists player (moves_of f lists picks) l (point_count f)) (sym answer_is) c.find.ensures.puts);
     }
 
 pub returns-clause-seat : goal.returns-clause-seat
@@ -45,23 +46,35 @@ returns-clause-seat c =
     let y = class_plan f lists c.args.other.now in
     let room = c.requires.seat.room in
     let old = c.args.seat.now.picks in
-    let was = c.args.seat.now.answer.weights in
+    let was = c.args.seat.now.next in
     let picks = c.find.new.picks in
     let weights = c.find.new.weights in
     let picks_are = written old.len picks (drop (length picks) old.items) (omega (arith, c.find.auto.picks, ap (λ (l : List ℕ). length l) c.deref_mut.ensures.value, old.ok.0)) in
     let weights_are = written was.len weights (drop (length weights) was.items) (omega (arith, c.find.auto.weights, ap (λ (l : List ℕ). length l) c.deref_mut-2.ensures.value, was.ok.0)) in
-    let long : length weights ≡ slot_count f lists player = c.find.auto.weights ∙ ap (λ (l : List ℕ). length l) c.deref_mut-2.ensures.value ∙ room.answer.plan.long in
+    let answer_is : c.swap.new.y.items ≡ weights = ap (λ (v : Vec ℕ Global). v.items) c.swap.ensures.y_after ∙ weights_are in
+    let long : length weights ≡ slot_count f lists player = c.find.auto.weights ∙ ap (λ (l : List ℕ). length l) c.deref_mut-2.ensures.value ∙ room.next in
     let plan = put_plan f (form_in_range a) lists (form_classes a c.round_total-rounds.ensures.sound) (form_lossless a) player (form_walked a player c.requires.some c.requires.two) y (totals_of f lists player y c.find.new.totals.points.items) (moves_of f lists picks) weights
     c.find.ensures.best c.find.ensures.puts long in
     record {
       room = record {
         answer = record {
           player_is = room.answer.player_is;
-          plan = subst (λ t. IsPlan f lists player t (take was.len (weights ++ drop (length weights) was.items))) (sym room.one) (subst (IsPlan f lists player 1) (sym weights_are) plan);
+          plan = subst (λ t. IsPlan f lists player t c.swap.new.y.items) (sym room.one) (subst (IsPlan f lists player 1) (sym answer_is) plan);
         };
         one = room.one;
+        next = ap (λ (v : Vec ℕ Global). length v.items) c.swap.ensures.x_after ∙ room.answer.plan.long;
         rows = c.find.ensures.rows;
         picks = subst (λ l. start_of f lists (point_count f) ≤ length l) (sym picks_are) (omega (arith, room.picks, c.find.auto.picks, ap (λ (l : List ℕ). length l) c.deref_mut.ensures.value));
       };
       paid = subst (λ (l : Vec ℤ Global). AreEndSums f lists player y l.items) (sym c.find.ensures.paid) c.requires.seat.paid;
     }
+
+pub returns-clause-same : goal.returns-clause-same
+returns-clause-same c =
+    let e = c.is_same.ensures in
+    let before : c.deref.result.now ≡ c.args.seat.now.answer.weights.items = c.deref.ensures.value ∙ ap (λ (v : Vec ℕ Global). v.items) c.swap.ensures.x_after in
+    let now : c.deref-2.result.now ≡ c.swap.new.y.items = c.deref-2.ensures.value in
+    ((λ t. sym {A = List ℕ} now ∙ sym {A = List ℕ} (e.0 t) ∙ before), (λ h. e.1 (before ∙ sym {A = List ℕ} h ∙ sym {A = List ℕ} now)))
+
+pub returns-clause-next : goal.returns-clause-next
+returns-clause-next c = ap (λ (v : Vec ℕ Global). v.items) c.swap.ensures.x_after

@@ -15,6 +15,6 @@ returns-clause-rises c =
     let player = c.args.player in
     let b = class_plan f lists c.args.more.now in
     record {
-      paid = subst (λ (l : Vec ℤ Global). AreEndSums f lists player b l.items) (sym c.follow.ensures.paid) c.read_ends.ensures.paid;
+      paid = subst (λ (l : Vec ℤ Global). AreEndSums f lists player b l.items) (sym c.follow.ensures.paid) c.requires.paid;
       followed = subst (λ (l : List ℕ). IsFollowed f lists player b (totals_of f lists player b c.follow.new.totals.points.items) (moves_of f lists l)) c.deref.ensures.value c.follow.ensures.followed;
     }

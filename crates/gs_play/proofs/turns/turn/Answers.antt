@@ -1,4 +1,4 @@
-use Rattle.std.proofs.Common.{◌≡◌, ℕ, ◌+◌, ◌-◌, ◌^◌, ◌<◌, ◌≤◌, List, sym, ap, ◌∙◌, subst, arith}
+use Rattle.std.proofs.Common.{◌≡◌, ◌+◌, ◌-◌, ◌<◌, sym, ap, ◌∙◌, subst, arith}
 use Rattle.gs_model.specs.Play.{IsFictitiousPlay}
 use Rattle.gs_model.proofs.PlanLaws.{played_are_plans}
 use Rattle.gs_seq.specs.Abstracts.{frame_of, lists_of}
@@ -8,9 +8,10 @@ use Rattle.gs_best.specs.Tables.{moves_of}
 use Rattle.gs_best.proofs.Forms.{form_classes, form_in_range, form_lossless, form_walked}
 use Rattle.gs_totals.specs.Jumps.{AreBeforeChange}
 use Rattle.gs_totals.specs.KeptSums.{AreAlike, plus_times}
-use Rattle.gs_totals.specs.Places.{totals_of}
+use Rattle.gs_totals.specs.Places.{AreEndSums, totals_of}
 use Rattle.gs_totals.proofs.SmallEnds.{small_ends}
 use Rattle.gs_play.specs.Seats.{HasAnswered}
+use Rattle.gs_play.proofs.Answering.{same_plan}
 use Rattle.gs_play.proofs.Turned.{fewer, paid_on, turned}
 use Rattle.gs_play.proofs.turns.turn.Goals as goal
 
@@ -18,25 +19,58 @@ pub lasts-first-requires-clause-answered : goal.lasts-first-requires-clause-answ
 lasts-first-requires-clause-answered c =
     let f = frame_of c.args.form.now in
     let lists = lists_of c.args.form.now in
-    subst (λ (p : Plan). HasAnswered f lists 1 (class_plan f lists p) c.answer.new.seat) (sym c.answer-2.ensures.plan) c.answer.ensures.answered
+    subst (λ (p : Plan). HasAnswered f lists 1 (class_plan f lists p) c.answer-same_one.new.seat) (sym c.answer-same_two.ensures.plan) c.answer-same_one.ensures.answered
 
 pub move_on-requires-clause-small : goal.move_on-requires-clause-small
-move_on-requires-clause-small c = small_ends c.args.form.now c.round_total-rounds.ensures.sound 1 (omega arith) (omega arith) c.args.two.now.plan c.requires.playing.plan_two c.answer.new.seat.totals.ends.items c.answer.ensures.seat.paid
+move_on-requires-clause-small c = small_ends c.args.form.now c.round_total-rounds.ensures.sound 1 (omega arith) (omega arith) c.args.two.now.plan c.requires.playing.plan_two c.answer-same_one.new.seat.totals.ends.items c.answer-same_one.ensures.seat.paid
 
 pub move_on-requires-clause-small_steps : goal.move_on-requires-clause-small_steps
 move_on-requires-clause-small_steps c =
-    small_ends c.args.form.now c.round_total-rounds.ensures.sound 1 (omega arith) (omega arith) c.answer-2.new.seat.answer c.answer-2.ensures.seat.room.answer c.rise.new.steps.ends.items c.rise.ensures.rises.paid
+    small_ends c.args.form.now c.round_total-rounds.ensures.sound 1 (omega arith) (omega arith) c.answer-same_two.new.seat.answer c.answer-same_two.ensures.seat.room.answer c.rise.new.steps.ends.items c.rise.ensures.rises.paid
 
 pub move_on-requires-2-clause-small : goal.move_on-requires-2-clause-small
 move_on-requires-2-clause-small c =
     let f = frame_of c.args.form.now in
     let lists = lists_of c.args.form.now in
-    let plan = subst (λ (p : Plan). IsPlanOf f lists 1 p) (sym c.answer.ensures.plan) c.requires.playing.plan_one in
-    small_ends c.args.form.now c.round_total-rounds.ensures.sound 2 (omega arith) (omega arith) c.answer.new.seat.plan plan c.answer-2.new.seat.totals.ends.items c.answer-2.ensures.seat.paid
+    let plan = subst (λ (p : Plan). IsPlanOf f lists 1 p) (sym c.answer-same_one.ensures.plan) c.requires.playing.plan_one in
+    small_ends c.args.form.now c.round_total-rounds.ensures.sound 2 (omega arith) (omega arith) c.answer-same_one.new.seat.plan plan c.answer-same_two.new.seat.totals.ends.items c.answer-same_two.ensures.seat.paid
 
 pub move_on-requires-2-clause-small_steps : goal.move_on-requires-2-clause-small_steps
 move_on-requires-2-clause-small_steps c =
-    small_ends c.args.form.now c.round_total-rounds.ensures.sound 2 (omega arith) (omega arith) c.answer.new.seat.answer c.answer.ensures.seat.room.answer c.rise-2.new.steps.ends.items c.rise-2.ensures.rises.paid
+    small_ends c.args.form.now c.round_total-rounds.ensures.sound 2 (omega arith) (omega arith) c.answer-same_one.new.seat.answer c.answer-same_one.ensures.seat.room.answer c.rise-2.new.steps.ends.items c.rise-2.ensures.rises.paid
+
+pub renew-requires-clause-paid : goal.renew-requires-clause-paid
+renew-requires-clause-paid c =
+    let f = frame_of c.args.form.now in
+    let lists = lists_of c.args.form.now in
+    let old = c.args.two.now.answer in
+    let new = c.answer-same_two.new.seat in
+    subst (λ y. AreEndSums f lists 1 y c.args.desk.now.steps_one.ends.items)
+    (sym (same_plan f lists new.answer.total old.total new.next.items old.weights.items c.answer-same_two.ensures.seat.room.one c.requires.playing.seat_two.room.one c.answer-same_two.ensures.next)) c.requires.steps.to_one
+
+pub renew-requires-clause-kept : goal.renew-requires-clause-kept
+renew-requires-clause-kept c = λ t. c.answer-same_two.ensures.next ∙ sym (c.answer-same_two.ensures.same.0 t)
+
+pub renew-requires-2-clause-paid : goal.renew-requires-2-clause-paid
+renew-requires-2-clause-paid c =
+    let f = frame_of c.args.form.now in
+    let lists = lists_of c.args.form.now in
+    let old = c.args.one.now.answer in
+    let new = c.answer-same_one.new.seat in
+    subst (λ y. AreEndSums f lists 2 y c.args.desk.now.steps_two.ends.items)
+    (sym (same_plan f lists new.answer.total old.total new.next.items old.weights.items c.answer-same_one.ensures.seat.room.one c.requires.playing.seat_one.room.one c.answer-same_one.ensures.next)) c.requires.steps.to_two
+
+pub renew-requires-2-clause-kept : goal.renew-requires-2-clause-kept
+renew-requires-2-clause-kept c = λ t. c.answer-same_one.ensures.next ∙ sym (c.answer-same_one.ensures.same.0 t)
+
+pub returns-clause-steps : goal.returns-clause-steps
+returns-clause-steps c =
+    let f = frame_of c.args.form.now in
+    let lists = lists_of c.args.form.now in
+    record {
+      to_one = subst (λ (p : Plan). AreEndSums f lists 1 (class_plan f lists p) c.rise.new.steps.ends.items) (sym c.move_on-2.ensures.answer) c.rise.ensures.rises.paid;
+      to_two = subst (λ (p : Plan). AreEndSums f lists 2 (class_plan f lists p) c.rise-2.new.steps.ends.items) (sym c.move_on.ensures.answer) c.rise-2.ensures.rises.paid;
+    }
 
 pub returns-clause-playing : goal.returns-clause-playing
 returns-clause-playing c =
@@ -48,8 +82,8 @@ returns-clause-playing c =
     let w1 = form_walked a 1 (omega arith) (omega arith) in
     let w2 = form_walked a 2 (omega arith) (omega arith) in
     let before = c.requires.playing in
-    let one = c.answer.new.seat in
-    let two = c.answer-2.new.seat in
+    let one = c.answer-same_one.new.seat in
+    let two = c.answer-same_two.new.seat in
     let n = c.args.one.now.plan.total - 1 in
     let times = c.lasts-times.result in
     let some : 0 < times = c.lasts-times.ensures.some (c.lasts-first.ensures.some c.requires.some) in
@@ -65,36 +99,36 @@ returns-clause-playing c =
     let v2 = totals_of f lists 2 x two.totals.points.items in
     let d1 = totals_of f lists 1 by c.rise.new.steps.points.items in
     let d2 = totals_of f lists 2 bx c.rise-2.new.steps.points.items in
-    let played : IsFictitiousPlay f lists n x y = subst (λ (p : Plan). IsFictitiousPlay f lists n (class_plan f lists p) y) (sym c.answer.ensures.plan) before.played in
+    let played : IsFictitiousPlay f lists n x y = subst (λ (p : Plan). IsFictitiousPlay f lists n (class_plan f lists p) y) (sym c.answer-same_one.ensures.plan) before.played in
     let within1 : AreBeforeChange f lists 1 v1 d1 m1 times =
     fewer f lists 1 v1 d1 m1 c.lasts-first.result times c.lasts-times.ensures.most
-    (subst (λ (p : Plan). AreBeforeChange f lists 1 (totals_of f lists 1 (class_plan f lists p) one.totals.points.items) d1 m1 c.lasts-first.result) c.answer-2.ensures.plan c.lasts-first.ensures.lasts) in
+    (subst (λ (p : Plan). AreBeforeChange f lists 1 (totals_of f lists 1 (class_plan f lists p) one.totals.points.items) d1 m1 c.lasts-first.result) c.answer-same_two.ensures.plan c.lasts-first.ensures.lasts) in
     let alike1 : AreAlike f lists 1 x' (plus_times x times bx) = c.move_on.ensures.sum in
-    let alike2 : AreAlike f lists 2 y' (plus_times y times by) = subst (λ (p : Plan). AreAlike f lists 2 y' (plus_times (class_plan f lists p) times by)) c.answer-2.ensures.plan c.move_on-2.ensures.sum in
+    let alike2 : AreAlike f lists 2 y' (plus_times y times by) = subst (λ (p : Plan). AreAlike f lists 2 y' (plus_times (class_plan f lists p) times by)) c.answer-same_two.ensures.plan c.move_on-2.ensures.sum in
     let after : IsFictitiousPlay f lists (n + times) x' y' =
-    turned f r lists k (form_lossless a) w1 w2 n times some x y one.answer.total two.answer.total one.answer.weights.items two.answer.weights.items v1 d1 v2 d2 m1 m2 played c.answer.ensures.answered.best c.rise.ensures.rises.followed within1
-    c.answer.ensures.seat.room.one c.answer.ensures.answered.puts c.answer-2.ensures.answered.best c.rise-2.ensures.rises.followed c.lasts-times.ensures.lasts c.answer-2.ensures.seat.room.one c.answer-2.ensures.answered.puts x' y' alike1 alike2 in
+    turned f r lists k (form_lossless a) w1 w2 n times some x y one.answer.total two.answer.total one.answer.weights.items two.answer.weights.items v1 d1 v2 d2 m1 m2 played c.answer-same_one.ensures.answered.best c.rise.ensures.rises.followed within1
+    c.answer-same_one.ensures.seat.room.one c.answer-same_one.ensures.answered.puts c.answer-same_two.ensures.answered.best c.rise-2.ensures.rises.followed c.lasts-times.ensures.lasts c.answer-same_two.ensures.seat.room.one c.answer-same_two.ensures.answered.puts x' y' alike1 alike2 in
     let positive = before.plan_one.plan.plan.total_in.0 in
-    let same_one = ap (λ (p : Plan). p.total) c.answer.ensures.plan in
-    let same_two = ap (λ (p : Plan). p.total) c.answer-2.ensures.plan in
+    let same_one = ap (λ (p : Plan). p.total) c.answer-same_one.ensures.plan in
+    let same_two = ap (λ (p : Plan). p.total) c.answer-same_two.ensures.plan in
     let plans = played_are_plans f lists r w1 w2 k (n + times) x' y' (omega (arith, c.requires.few, c.lasts-times.ensures.most, c.lasts-first.ensures.most)) after in
     let turns : n + times ≡ c.move_on.new.seat.plan.total - 1 = omega (arith, c.move_on.ensures.total, same_one, positive) in
     record {
       plan_one = record {
-        player_is = c.move_on.ensures.player ∙ ap (λ (p : Plan). p.player) c.answer.ensures.plan ∙ before.plan_one.player_is;
+        player_is = c.move_on.ensures.player ∙ ap (λ (p : Plan). p.player) c.answer-same_one.ensures.plan ∙ before.plan_one.player_is;
         plan = record { long = c.move_on.ensures.long; plan = plans.0 };
       };
       plan_two = record {
-        player_is = c.move_on-2.ensures.player ∙ ap (λ (p : Plan). p.player) c.answer-2.ensures.plan ∙ before.plan_two.player_is;
+        player_is = c.move_on-2.ensures.player ∙ ap (λ (p : Plan). p.player) c.answer-same_two.ensures.plan ∙ before.plan_two.player_is;
         plan = record { long = c.move_on-2.ensures.long; plan = plans.1 };
       };
       seat_one = record {
         room = c.move_on.ensures.room;
-        paid = paid_on f r lists k 1 w2 y by y' times one.totals.ends.items c.rise.new.steps.ends.items c.move_on.new.seat.totals.ends.items c.answer.ensures.seat.paid c.rise.ensures.rises.paid alike2 c.move_on.ensures.lines;
+        paid = paid_on f r lists k 1 w2 y by y' times one.totals.ends.items c.rise.new.steps.ends.items c.move_on.new.seat.totals.ends.items c.answer-same_one.ensures.seat.paid c.rise.ensures.rises.paid alike2 c.move_on.ensures.lines;
       };
       seat_two = record {
         room = c.move_on-2.ensures.room;
-        paid = paid_on f r lists k 2 w1 x bx x' times two.totals.ends.items c.rise-2.new.steps.ends.items c.move_on-2.new.seat.totals.ends.items c.answer-2.ensures.seat.paid c.rise-2.ensures.rises.paid alike1 c.move_on-2.ensures.lines;
+        paid = paid_on f r lists k 2 w1 x bx x' times two.totals.ends.items c.rise-2.new.steps.ends.items c.move_on-2.new.seat.totals.ends.items c.answer-same_two.ensures.seat.paid c.rise-2.ensures.rises.paid alike1 c.move_on-2.ensures.lines;
       };
       total = omega (arith, c.move_on.ensures.total, c.move_on-2.ensures.total, same_one, same_two, before.total);
       played = subst (λ m. IsFictitiousPlay f lists m x' y') turns after;

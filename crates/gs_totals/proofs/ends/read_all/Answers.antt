@@ -12,6 +12,9 @@ use Rattle.gs_totals.proofs.EndStarts.{end_before, end_starts_le, end_starts_mor
 use Rattle.gs_totals.proofs.Known.{facing}
 use Rattle.gs_totals.proofs.ends.read_all.Goals as goal
 
+pub read_end-requires-clause-wide : goal.read_end-requires-clause-wide
+read_end-requires-clause-wide c = λ j some top. omega (arith, c.requires.wide j some top, c.loop-end.auto.numbers)
+
 pub read_end-requires-clause-room : goal.read_end-requires-clause-room
 read_end-requires-clause-room c =
     let d = c.args.side.now in

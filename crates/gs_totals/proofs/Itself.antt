@@ -1,0 +1,39 @@
+-- In its own round a class gathers itself alone.
+use Rattle.std.proofs.Common.{◌≡◌, ℕ, ◌+◌, ◌-◌, ◌<◌, ◌≤◌, Bool, true, false, cond, List, get_or, refl, sym, ap, ◌∙◌, arith, eqb}
+use Rattle.std.specs.Prelude.{◌==◌, ℤ, pos}
+use Rattle.std.proofs.lemmas.Bool.Decides.{Decides-eqb, same_from_decides}
+use Rattle.gs_model.specs.Classes.{ClassLists, IsClass, IsClasses, class_count, class_of, classes_in, first_member}
+use Rattle.gs_model.specs.Frame.{Frame, last_round}
+use Rattle.gs_model.specs.FrameFacts.{InRange}
+use Rattle.gs_model.proofs.RawBound.{range_once}
+use Rattle.gs_model.proofs.Tables.{is_table}
+use Rattle.gs_model.proofs.Total.{pick_one}
+use Rattle.gs_best.proofs.Ranges.{sum_same}
+use Rattle.gs_best.proofs.Shares.{first_class}
+use Rattle.gs_totals.specs.ClassTotals.{class_above, gathered}
+use Rattle.gs_totals.specs.Merged.{AreGathered, row_from}
+
+turn : (a b : ℕ) → eqb a b ≡ eqb b a
+turn a b = same_from_decides (eqb a b) (eqb b a) (Decides-eqb a b) ((λ e. sym ((Decides-eqb b a).0 e)), (λ e. (Decides-eqb b a).1 (sym e)))
+
+picked : (b : Bool) (x y : ℤ) → (b ≡ true → x ≡ y) → cond b x (pos 0) ≡ cond b y (pos 0)
+picked true x y h = h refl
+picked false x y h = refl
+
+pub gathered_itself : (f : Frame) → InRange f → (lists : ClassLists) → IsClasses f.parents lists → (i c : ℕ) (v : ℕ → ℤ) → 0 < i → i ≤ last_round f → IsClass lists i c → gathered f lists i i v c ≡ v c
+gathered_itself f r lists k i c v some top lc =
+    let h = is_table f r in
+    sum_same (λ e. cond (class_above f lists i i e == c) (v e) (pos 0)) (λ e. cond (eqb c e) (v c) (pos 0)) 1 (class_count lists i)
+    (λ e lo hi.
+    let le : IsClass lists i e = (omega arith, omega arith) in
+    let above : class_above f lists i i e ≡ e = ap (class_of lists i) (h.itself i (first_member lists i e)) ∙ first_class f lists k i e some top le in
+    ap (λ n. cond (n == c) (v e) (pos 0)) above ∙ ap (λ b. cond b (v e) (pos 0)) (turn e c) ∙ picked (eqb c e) (v e) (v c) (λ t. ap v (sym ((Decides-eqb c e).0 t))))
+    ∙ pick_one (eqb c) (v c) (classes_in lists i) (range_once c 1 (class_count lists i) lc.0 (let top_c = lc.1 in omega arith))
+
+-- so a row that is copied from its own round is gathered
+pub copied_gathers : (f : Frame) → InRange f → (lists : ClassLists) → IsClasses f.parents lists → (from to : ℕ) → from ≡ to → 0 < to → to ≤ last_round f → (values : List ℤ) (start : ℕ) (sums : List ℤ)
+    → ((k : ℕ) → k < class_count lists to → get_or sums k (pos 0) ≡ get_or values (start + k) (pos 0)) → AreGathered f lists from to values start sums
+copied_gathers f r lists k from to same some top values start sums copied c lc =
+    let inside : c - 1 < class_count lists to = omega (arith, lc.0, lc.1) in
+    copied (c - 1) inside ∙ sym (gathered_itself f r lists k to c (row_from values start) some top lc)
+    ∙ ap (λ i. gathered f lists i to (row_from values start) c) (sym same)

@@ -1,0 +1,16 @@
+-- Two lists of weights of a player before an end.
+use Rattle.std.specs.Prelude.{ℕ, ◌≡◌, List, slice_index}
+use Rattle.gs_model.specs.Classes.{ClassLists, IsClass}
+use Rattle.gs_model.specs.Frame.{Frame, round_of}
+use Rattle.gs_model.specs.Pairs.{class_number}
+use Rattle.gs_model.specs.Plans.{Plan}
+use Rattle.gs_model.specs.Positions.{Step, at_end, at_point}
+use Rattle.gs_seq.specs.Slots.{slot_of}
+
+-- they agree at a step: at each class of its point
+abbrev pub AgreeAt : Frame → ClassLists → Step → List ℕ → List ℕ → Type 0
+AgreeAt f lists u before now = (c : ℕ) → IsClass lists (round_of f (at_point u.point)) c → slice_index before (slot_of f lists u.point c u.choice) ≡ slice_index now (slot_of f lists u.point c u.choice)
+
+-- two plans of a player have the same numbers at an end
+abbrev pub AreSameAt : Frame → ClassLists → ℕ → Plan → Plan → ℕ → Type 0
+AreSameAt f lists player x y z = (e : ℕ) → IsClass lists (round_of f (at_end z)) e → class_number f lists player x z e ≡ class_number f lists player y z e

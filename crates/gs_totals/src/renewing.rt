@@ -1,0 +1,135 @@
+//! What ends pay against a plan, from what they pay against another one: only the ends where both differ are read anew.
+
+ghost use Rattle.std.specs.Prelude.{◌≡◌, ◌↔◌, ◌+◌, ◌-◌, ◌<◌, ◌≤◌, ℕ, IsTrue, length, pos, get_or, option_map};
+ghost use Rattle.gs_game.specs.Seen.{step_of};
+ghost use Rattle.gs_model.specs.Classes.{IsClass};
+ghost use Rattle.gs_model.specs.Frame.{end_count, last_step, move_count, other_player, player_at, point_count, round_of};
+ghost use Rattle.gs_model.specs.Positions.{at_end};
+ghost use Rattle.gs_seq.specs.Abstracts.{frame_of, lists_of};
+ghost use Rattle.gs_seq.specs.Payoffs.{end_sum};
+ghost use Rattle.gs_seq.specs.Plans.{class_plan};
+ghost use Rattle.gs_seq.specs.Slots.{plan_of, slot_count};
+ghost use Rattle.gs_best.specs.Sizes.{IsWide};
+ghost use Rattle.gs_totals.specs.Places.{AreEndSums, end_classes, end_start};
+ghost use Rattle.gs_totals.specs.Renewed.{AgreeAt, AreSameAt};
+ghost use Rattle.gs_totals.specs.Room.{HasRows, HasScratch, IsPlaced};
+
+use crate::paying::{end_in, read_end};
+use crate::places::{Places, Scratch, Totals, end_total};
+use gs_best::{Deviator, class_total, round_at, round_total};
+use gs_game::Step;
+use gs_seq::Abstract;
+
+/// A player's last step before an end.
+fn step_before(form: &Abstract, player: u8, end: u32) -> Option<Step>
+    requires { end < end_count (frame_of form.now) }
+    ensures { last_step (frame_of form.now) player (at_end end) ≡ option_map step_of result }
+{
+    let at = end_in(form, end);
+    if player == 1 { at.one } else { at.two }
+}
+
+/// Whether two lists of a player's weights agree at a step of his, at each class of its point.
+fn agree_at(form: &Abstract, step: Step, before: &[u64], now: &[u64]) -> bool
+    requires point { step.point < point_count (frame_of form.now) }
+    requires choice { step.choice < move_count (frame_of form.now) step.point }
+    requires before { length before.now ≡ slot_count (frame_of form.now) (lists_of form.now) (player_at (frame_of form.now) step.point) }
+    requires now { length now.now ≡ slot_count (frame_of form.now) (lists_of form.now) (player_at (frame_of form.now) step.point) }
+    ensures { IsTrue result ↔ AgreeAt (frame_of form.now) (lists_of form.now) (step_of step) before.now now.now }
+{
+    let _rounds = round_total(form);
+    for class in 0..class_total(form, round_at(form, step.point)) {
+        let slot = form.slot(step.point, class + 1, step.choice) as usize;
+        let first = before[slot];
+        let second = now[slot];
+        if first != second {
+            return false;
+        }
+    }
+    true
+}
+
+/// Whether the other player's plan has the same numbers at an end as with other weights, by the weights of his last step.
+fn is_same_at(side: &Deviator<'_>, before: &[u64], end: u32) -> bool
+    requires before { length before.now ≡ slot_count (frame_of side.now.form.now) (lists_of side.now.form.now) (other_player side.now.player) }
+    requires end { end < end_count (frame_of side.now.form.now) }
+    ensures { let f = frame_of side.now.form.now in let lists = lists_of side.now.form.now in
+        IsTrue result → AreSameAt f lists (other_player side.now.player) (plan_of f lists side.now.other.now.total before.now) (class_plan f lists side.now.other.now) end }
+{
+    let _rounds = round_total(side.form);
+    match step_before(side.form, side.other.player, end) {
+        None => true,
+        Some(step) => agree_at(side.form, step, before, &side.other.weights),
+    }
+}
+
+/// Reads what an end pays anew where the other player's plan differs there from what it was with other weights.
+fn renew_end(
+    side: &Deviator<'_>,
+    before: &[u64],
+    end: u32,
+    start: usize,
+    sums: &mut [i128],
+    numbers: &mut [u64],
+)
+    requires before { length before.now ≡ slot_count (frame_of side.now.form.now) (lists_of side.now.form.now) (other_player side.now.player) }
+    requires end { end < end_count (frame_of side.now.form.now) }
+    requires wide { IsWide (frame_of side.now.form.now) (lists_of side.now.form.now) (length numbers.old) }
+    requires room { start + end_classes (frame_of side.now.form.now) (lists_of side.now.form.now) end ≤ length sums.old }
+    requires paid { let f = frame_of side.now.form.now in let lists = lists_of side.now.form.now in
+        (c : ℕ) → IsClass lists (round_of f (at_end end)) c → get_or sums.old (start + (c - 1)) (pos 0) ≡ end_sum f lists side.now.player (plan_of f lists side.now.other.now.total before.now) end c }
+    ensures here { let f = frame_of side.now.form.now in let lists = lists_of side.now.form.now in
+        (c : ℕ) → IsClass lists (round_of f (at_end end)) c → get_or sums.new (start + (c - 1)) (pos 0) ≡ end_sum f lists side.now.player (class_plan f lists side.now.other.now) end c }
+    ensures before { (i : ℕ) → i < start → get_or sums.new i (pos 0) ≡ get_or sums.old i (pos 0) }
+    ensures behind { (i : ℕ) → start + end_classes (frame_of side.now.form.now) (lists_of side.now.form.now) end ≤ i → get_or sums.new i (pos 0) ≡ get_or sums.old i (pos 0) }
+{
+    if is_same_at(side, before, end) {
+        return;
+    }
+    read_end(side, end, start, sums, numbers);
+}
+
+/// Reads what all ends pay anew where the other player's plan differs there from what it was with other weights.
+fn renew_all(
+    side: &Deviator<'_>,
+    before: &[u64],
+    places: &Places,
+    sums: &mut [i128],
+    numbers: &mut [u64],
+)
+    requires before { length before.now ≡ slot_count (frame_of side.now.form.now) (lists_of side.now.form.now) (other_player side.now.player) }
+    requires wide { IsWide (frame_of side.now.form.now) (lists_of side.now.form.now) (length numbers.old) }
+    requires placed { IsPlaced (frame_of side.now.form.now) (lists_of side.now.form.now) places.now }
+    requires room { end_start (frame_of side.now.form.now) (lists_of side.now.form.now) (end_count (frame_of side.now.form.now)) ≤ length sums.old }
+    requires paid { let f = frame_of side.now.form.now in let lists = lists_of side.now.form.now in
+        AreEndSums f lists side.now.player (plan_of f lists side.now.other.now.total before.now) sums.old }
+    ensures { let f = frame_of side.now.form.now in let lists = lists_of side.now.form.now in
+        AreEndSums f lists side.now.player (class_plan f lists side.now.other.now) sums.new }
+{
+    for end in 0..end_total(side.form) {
+        let start = places.ends[end as usize] as usize;
+        renew_end(side, before, end, start, sums, numbers);
+    }
+}
+
+/// Reads what ends pay a player against the other's plan, where it is known what they pay with other weights.
+pub fn renew_ends(
+    side: &Deviator<'_>,
+    before: &[u64],
+    places: &Places,
+    totals: &mut Totals,
+    scratch: &mut Scratch,
+)
+    requires before { length before.now ≡ slot_count (frame_of side.now.form.now) (lists_of side.now.form.now) (other_player side.now.player) }
+    requires scratch { HasScratch (frame_of side.now.form.now) (lists_of side.now.form.now) scratch.old }
+    requires placed { IsPlaced (frame_of side.now.form.now) (lists_of side.now.form.now) places.now }
+    requires rows { HasRows (frame_of side.now.form.now) (lists_of side.now.form.now) totals.old }
+    requires paid { let f = frame_of side.now.form.now in let lists = lists_of side.now.form.now in
+        AreEndSums f lists side.now.player (plan_of f lists side.now.other.now.total before.now) totals.old.ends.items }
+    ensures scratch { HasScratch (frame_of side.now.form.now) (lists_of side.now.form.now) scratch.new }
+    ensures rows { HasRows (frame_of side.now.form.now) (lists_of side.now.form.now) totals.new }
+    ensures paid { let f = frame_of side.now.form.now in let lists = lists_of side.now.form.now in
+        AreEndSums f lists side.now.player (class_plan f lists side.now.other.now) totals.new.ends.items }
+{
+    renew_all(side, before, places, &mut totals.ends, &mut scratch.numbers);
+}
