@@ -3,6 +3,7 @@ pub mod Guesses
 pub mod Reduce
 pub mod Places
 pub mod Tables
+pub mod Lives
 pub mod Starts
 pub mod Choosing
 pub mod Paths

@@ -17,13 +17,18 @@ pub record IsDivisor (d count : ℕ) (f : ℕ → ℤ) : Type 0 where
   pub greatest : (e : ℕ) → ((j : ℕ) → j < count → e ∣ unsigned_abs (f j)) → e ∣ d
 
 -- one more number among those divided
+pub one_more_of : (f : ℕ → ℤ) (i found next m : ℕ) → m ≡ unsigned_abs (f i) → IsGcd found m next
+    → ((j : ℕ) → j < i → found ∣ unsigned_abs (f j)) × ((d : ℕ) → ((j : ℕ) → j < i → d ∣ unsigned_abs (f j)) → d ∣ found)
+    → ((j : ℕ) → j < i + 1 → next ∣ unsigned_abs (f j)) × ((d : ℕ) → ((j : ℕ) → j < i + 1 → d ∣ unsigned_abs (f j)) → d ∣ next)
+one_more_of f i found next m e g inv = (
+  below_more (λ j. next ∣ unsigned_abs (f j)) i (λ j h. dvd_trans next g.0 (inv.0 j h)) (let P : ℕ → Type 0 = λ t. next ∣ t in subst P e g.1),
+  λ d h. g.2 d (inv.1 d (λ j l. h j (omega arith))) (let P : ℕ → Type 0 = λ t. d ∣ t in subst P (sym e) (h i (omega arith))),
+)
+
 pub one_more : (xs : List ℤ) (i found next m : ℕ) → m ≡ unsigned_abs (at xs i) → IsGcd found m next
     → ((j : ℕ) → j < i → found ∣ unsigned_abs (at xs j)) × ((d : ℕ) → ((j : ℕ) → j < i → d ∣ unsigned_abs (at xs j)) → d ∣ found)
     → ((j : ℕ) → j < i + 1 → next ∣ unsigned_abs (at xs j)) × ((d : ℕ) → ((j : ℕ) → j < i + 1 → d ∣ unsigned_abs (at xs j)) → d ∣ next)
-one_more xs i found next m e g inv = (
-  below_more (λ j. next ∣ unsigned_abs (at xs j)) i (λ j h. dvd_trans next g.0 (inv.0 j h)) (let P : ℕ → Type 0 = λ t. next ∣ t in subst P e g.1),
-  λ d h. g.2 d (inv.1 d (λ j l. h j (omega arith))) (let P : ℕ → Type 0 = λ t. d ∣ t in subst P (sym e) (h i (omega arith))),
-)
+one_more xs i found next m e g inv = one_more_of (at xs) i found next m e g inv
 
 abs_zero : (z : ℤ) → unsigned_abs z ≡ 0 → z ≡ pos 0
 abs_zero z e = omega (arith, ints)

@@ -15,9 +15,11 @@ IsEntering aim count (Some e) = (e < count) × (pos 0 <ℤ aim e) × ((j : ℕ) 
 abbrev pub Before : Ratio → Ratio → Type 0
 Before a b = ((a.side *ℤ b.over) <ℤ (b.side *ℤ a.over)) ⊎ ((a.side *ℤ b.over ≡ b.side *ℤ a.over) × (a.column < b.column))
 
+-- the ratio of a is less than that of b, or equal with a column of no higher index
 abbrev pub NotAfter : Ratio → Ratio → Type 0
 NotAfter a b = ((a.side *ℤ b.over) ≤ℤ (b.side *ℤ a.over)) × (a.side *ℤ b.over ≡ b.side *ℤ a.over → a.column ≤ b.column)
 
+-- both numbers of a ratio are below 2^62 in size
 abbrev pub IsNarrowRatio : Ratio → Type 0
 IsNarrowRatio a = IsNarrow a.side × IsNarrow a.over
 
@@ -33,6 +35,7 @@ pub record IsRatio (p : Program) (l : Listing) (rows : ℕ → ℕ → ℤ) (e k
 pub record IsNoRatio (p : Program) (l : Listing) (rows : ℕ → ℕ → ℤ) (e k : ℕ) : Type 0 where
   pub pair : (r : ℕ) × (c : ℕ) × (slice_index_or l k (0, 0) ≡ (r + 1, c + 1)) × (IsFree p c ⊎ rows r e ≤ℤ pos 0)
 
+-- a ratio is that of the row at place k, or there is none and the row may not leave
 abbrev pub IsRatioAt : Program → Listing → (ℕ → ℕ → ℤ) → ℕ → ℕ → Option Ratio → Type 0
 IsRatioAt p l rows e k None = IsNoRatio p l rows e k
 IsRatioAt p l rows e k (Some a) = IsRatio p l rows e k a
@@ -48,6 +51,7 @@ pub record IsLeast (p : Program) (l : Listing) (rows : ℕ → ℕ → ℤ) (e c
   pub here : (k : ℕ) × (k < count) × IsRatio p l rows e k a
   pub others : (k : ℕ) → k < count → (IsNoRatio p l rows e k) ⊎ ((b : Ratio) × (IsRatio p l rows e k b) × NotAfter a b)
 
+-- the least ratio among the first places, or none where none of them may leave
 abbrev pub IsLeastSoFar : Program → Listing → (ℕ → ℕ → ℤ) → ℕ → ℕ → Option Ratio → Type 0
 IsLeastSoFar p l rows e count None = (k : ℕ) → k < count → IsNoRatio p l rows e k
 IsLeastSoFar p l rows e count (Some a) = IsLeast p l rows e count a

@@ -5,6 +5,7 @@ use Rattle.gs_rows.specs.Program.{rows_of, Listing, IsListed, IsFree, IsRowsOf, 
 use Rattle.gs_simplex.specs.Numbers.{AllNarrow}
 use Rattle.gs_simplex.specs.Table.{table_rows, table_aim, IsTable}
 
+-- a row has this width and narrow numbers
 pub record IsWideRow (width : ℕ) (row : List ℤ) : Type 0 where
   pub long : length row ≡ width
   pub narrow : AllNarrow row
@@ -13,6 +14,7 @@ pub record IsWideRow (width : ℕ) (row : List ℤ) : Type 0 where
 abbrev pub IsNewPair : Listing → ℕ → Type 0
 IsNewPair o step = (k : ℕ) → k < step → ((slice_index_or o k (0, 0)).0 ≢ (slice_index_or o step (0, 0)).0) × ((slice_index_or o k (0, 0)).1 ≢ (slice_index_or o step (0, 0)).1)
 
+-- the pair at this step can be taken after those before it
 pub record CanTakeAt (p : Program) (rows : ℕ → ℕ → ℤ) (o : Listing) (step : ℕ) : Type 0 where
   pub pair : (r : ℕ) × (c : ℕ) × (slice_index_or o step (0, 0) ≡ (r + 1, c + 1)) × CanTake p (take step o) r c × (rows r c ≢ pos 0)
 

@@ -1,6 +1,7 @@
 pub mod Numbers
 pub mod Table
 pub mod Choice
+pub mod Live
 pub mod State
 pub mod Values
 pub mod Answer

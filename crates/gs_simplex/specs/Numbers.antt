@@ -56,6 +56,7 @@ pub record IsReducedTo (lead : ℕ → ℤ) (c width : ℕ) (old : ℕ → ℤ) 
 abbrev pub cell : List ℤ → ℕ → ℕ → ℕ → ℤ
 cell xs width i j = at xs (i * width + j)
 
+-- the numbers of a row are all 0, or no number but 1 divides them all
 abbrev pub IsRowPrimitive : List ℤ → ℕ → ℕ → Type 0
 IsRowPrimitive xs width i = IsPrimitive (width - 1) (cell xs width i)
 

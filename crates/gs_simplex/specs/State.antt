@@ -9,11 +9,13 @@ use Rattle.gs_simplex.specs.declared.path.Choice.TheVariants.{Ends, Unbounded, L
 use Rattle.gs_simplex.specs.Numbers.{cell}
 use Rattle.gs_simplex.specs.Table.{table_rows, table_aim, IsTable, IsTableAfter, IsWideAfter}
 use Rattle.gs_simplex.specs.declared.table.Table.{Table}
+use Rattle.gs_simplex.specs.Live.{HasPlaces}
 
 -- the room beside the table is as wide as its rows
 pub record HasRoom (p : Program) (t : Table) : Type 0 where
   pub lead : vec_len t.lead ≡ p.cols + 2
   pub mixed : vec_len t.mixed ≡ p.cols + 2
+  pub live : HasPlaces p t.live
 
 -- the program's rows and the aim's as a table, not yet divided
 pub record IsRaw (p : Program) (xs : List ℤ) : Type 0 where

@@ -15,6 +15,7 @@ table_rows p xs i j = cell xs (p.cols + 2) i j
 abbrev pub table_aim : Program → List ℤ → ℕ → ℤ
 table_aim p xs j = if nat_eq j p.cols then neg_ℤ (cell xs (p.cols + 2) p.rows j) else cell xs (p.cols + 2) p.rows j
 
+-- rows of full width one after the other, narrow, with 0 in the further place of each program row
 pub record IsTable (p : Program) (xs : List ℤ) : Type 0 where
   pub long : length xs ≡ (p.rows + 1) * (p.cols + 2)
   pub zero : (i : ℕ) → i < p.rows → cell xs (p.cols + 2) i (p.cols + 1) ≡ pos 0

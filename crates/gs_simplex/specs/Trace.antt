@@ -66,6 +66,7 @@ pub record IsNoted (p : Program) (o : Listing) (n : ℕ) (made : List Turn) (fou
   pub bases_long : length found ≡ n + 1
   pub bases : (k : ℕ) → k < n + 1 → HoldsAt (λ b. IsBasisAt p o (length o + k) b.items) found k
 
+-- the log holds these
 abbrev pub IsLog : Program → Listing → ℕ → Log → Type 0
 IsLog p o n log = IsNoted p o n log.turns.items log.bases.items
 

@@ -15,7 +15,7 @@ use gs_rows::Program;
 use std::alloc::{AllocError, Global};
 
 // Notes the row of each listed column, from 1.
-fn mark_rows(p: &Program, basis: &[(u32, u32)], rows: &mut [u32])
+pub(crate) fn mark_rows(p: &Program, basis: &[(u32, u32)], rows: &mut [u32])
     requires small_rows { p.now.rows < 2 ^ 31 }
     requires pairs { IsPairList p.now basis.now }
     requires long { length rows.old ≡ p.now.cols }

@@ -2,6 +2,7 @@
 //!
 //! [`run`] follows the path of a program from an opening: it lists the opening's pairs one after the other and then makes pivots. Each step's rows are
 //! whole numbers without a common divisor; the crate `gs_rows` says which rows they are, and that no basis comes twice.
+//! What is called aim, price and opening here is called objective, reduced cost and starting basis in the literature.
 //! Sources: Bland 1977, "New finite pivoting rules for the simplex method"; Edmonds 1967 for elimination in whole numbers.
 #![tactic(auto)]
 
@@ -10,6 +11,7 @@ mod best;
 mod choice;
 mod exact;
 pub mod laws;
+mod live;
 mod path;
 mod row;
 mod start;

@@ -3,7 +3,7 @@
 ghost use Rattle.std.specs.Prelude.{◌≡◌, ◌≢◌, MatchOption, MatchResult, ℕ, ◌+◌, ◌*◌, ◌<◌, ◌≤◌, ◌^◌, ℤ, pos, length, slice_index_or, slice_set, unsigned_abs, Some};
 ghost use Rattle.gs_rows.specs.Program.{IsShaped, IsPairList, IsOpening, IsRowsOf};
 ghost use Rattle.gs_rows.specs.Path.{NoneEnters};
-ghost use Rattle.gs_simplex.specs.Table.{table_rows, table_aim, stated, IsTable, IsPrimitiveTable, IsTableAfter, IsWideAfter};
+ghost use Rattle.gs_simplex.specs.Table.{table_rows, table_aim, stated, IsTable, IsTableAfter, IsWideAfter};
 ghost use Rattle.gs_simplex.specs.State.{HasRoom, IsStart, IsState, IsChoice, IsPivoted, IsWidePivot, IsEnd, IsTurned};
 ghost use Rattle.gs_simplex.specs.Answer.{IsSmall, IsStop};
 ghost use Rattle.gs_simplex.specs.Trace.{IsBegun};
@@ -82,7 +82,7 @@ pub(crate) fn open(p: &Program, opening: &[(u32, u32)], table: &mut Table) -> Re
 {
     for step in 0..opening.len() {
         let (row, column) = pair_at(p, opening, step);
-        if let Some(cell) = table.list(p, row, column) {
+        if let Some(cell) = table.list(p, &opening[..step], row, column) {
             return Err(wide_stop(p, step as u32 + 1, cell));
         }
     }
@@ -118,7 +118,7 @@ fn pivot(
     requires room { HasRoom p.now table.old }
     requires table { IsTable p.now table.old.numbers.items }
     requires pairs { IsPairList p.now basis.old }
-    requires primitive { IsPrimitiveTable p.now table.old.numbers.items }
+    requires rows { IsRowsOf p.now basis.old (table_rows p.now table.old.numbers.items) (table_aim p.now table.old.numbers.items) }
     requires inside { place < length basis.old }
     requires column { column < p.now.cols }
     requires small_rows { p.now.rows < 2 ^ 31 }
@@ -130,7 +130,7 @@ fn pivot(
         (λ w. IsWidePivot p.now basis.old table.old.numbers.items place column w.row w.column w.number) }
 {
     let (row, _) = pair_at(p, basis, place);
-    if let Some(cell) = table.list(p, row, column) {
+    if let Some(cell) = table.list(p, basis, row, column) {
         return Some(cell);
     }
     basis[place] = (row as u32 + 1, column as u32 + 1);

@@ -5,6 +5,7 @@ ghost use Prim.Native.Nat.{◌∣◌};
 ghost use Rattle.std.specs.Int.{IsGcd};
 ghost use Rattle.gs_rows.specs.Rows.{IsNarrow, IsPrimitive};
 ghost use Rattle.gs_simplex.specs.Numbers.{at, AllNarrow, AllWithin, AllAtMost, IsShared, IsQuotient, IsWideQuotient, IsReduced, IsReducedTo, IsDivided};
+ghost use Rattle.gs_simplex.specs.Live.{IsSupport};
 
 use crate::exact::{Divisor, short_gcd};
 use gs_frac::gcd;
@@ -23,6 +24,18 @@ pub(crate) fn greatest(numbers: &[i64]) -> u64
     let mut most: u64 = 0;
     for number in numbers {
         most = most.max(number.unsigned_abs());
+    }
+    most
+}
+
+// The same of a row that is 0 outside the first `found` places.
+fn greatest_at(row: &[i64], places: &[u32], found: usize) -> u64
+    requires support { IsSupport places.now found (length row.now) (at row.now) (at row.now) }
+    ensures { AllAtMost row.now result }
+{
+    let mut most: u64 = 0;
+    for k in 0..found {
+        most = most.max(row[places[k] as usize].unsigned_abs());
     }
     most
 }
@@ -94,8 +107,9 @@ fn narrow_mixed_number(own: i64, x: i64, far: i64, y: i64) -> i64
 }
 
 // Sets `row` to `own` times itself less `far` times `lead`, number by number, where that stays narrow.
-fn mix_narrow(lead: &[i64], row: &mut [i64], own: i64, far: i64)
+fn mix_narrow(lead: &[i64], row: &mut [i64], places: &[u32], found: usize, own: i64, far: i64)
     requires same_length { length lead.now ≡ length row.old }
+    requires support { IsSupport places.now found (length row.old) (at row.old) (at lead.now) }
     requires narrow_lead { AllNarrow lead.now }
     requires narrow_row { AllNarrow row.old }
     requires narrow { (j : ℕ) → j < length row.old →
@@ -103,7 +117,8 @@ fn mix_narrow(lead: &[i64], row: &mut [i64], own: i64, far: i64)
     ensures mixed { (j : ℕ) → j < length row.old → at row.new j ≡ own *ℤ at row.old j -ℤ far *ℤ at lead.now j }
     ensures narrow { AllNarrow row.new }
 {
-    for j in 0..row.len() {
+    for k in 0..found {
+        let j = places[k] as usize;
         row[j] = narrow_mixed_number(own, row[j], far, lead[j]);
     }
 }
@@ -271,6 +286,57 @@ pub(crate) fn divide_row(row: &mut [i64])
     }
 }
 
+// The greatest number that divides all of a row of narrow numbers that is 0 outside the first `found` places; 0 where all are 0.
+fn divisor_at(row: &[i64], places: &[u32], found: usize) -> u64
+    requires narrow { AllNarrow row.now }
+    requires support { IsSupport places.now found (length row.now) (at row.now) (at row.now) }
+    ensures divides { (j : ℕ) → j < length row.now → result ∣ unsigned_abs (at row.now j) }
+    ensures greatest { (d : ℕ) → ((j : ℕ) → j < length row.now → d ∣ unsigned_abs (at row.now j)) → d ∣ result }
+{
+    let mut common = Divisor::of(0);
+    for k in 0..found {
+        let number = row[places[k] as usize];
+        if number == 0 {
+            continue;
+        }
+        common = narrow_common_divisor(common, number);
+        if common.number.unsigned_abs() == 1 {
+            return 1;
+        }
+    }
+    common.number.unsigned_abs()
+}
+
+// Divides each number of a row that is 0 outside the first `found` places by `by`, which divides it.
+fn divide_all_at(row: &mut [i64], places: &[u32], found: usize, by: u64)
+    requires some { 0 < by }
+    requires small { by < 2 ^ 62 }
+    requires narrow { AllNarrow row.old }
+    requires support { IsSupport places.now found (length row.old) (at row.old) (at row.old) }
+    requires divides { (j : ℕ) → j < length row.old → by ∣ unsigned_abs (at row.old j) }
+    ensures { IsQuotient by row.old row.new (length row.old) }
+{
+    let divisor = Divisor::of(by as i64);
+    for k in 0..found {
+        let j = places[k] as usize;
+        row[j] = guessed_quotient(row[j], by, &divisor);
+    }
+}
+
+// Divides a row that is 0 outside the first `found` places by its greatest common divisor.
+fn divide_row_at(row: &mut [i64], places: &[u32], found: usize)
+    requires some { 0 < length row.old }
+    requires narrow { AllNarrow row.old }
+    requires support { IsSupport places.now found (length row.old) (at row.old) (at row.old) }
+    ensures divided { IsDivided (length row.old) (at row.old) (at row.new) }
+    ensures narrow { AllNarrow row.new }
+{
+    let by = divisor_at(row, places, found).max(1);
+    if by > 1 {
+        divide_all_at(row, places, found, by);
+    }
+}
+
 // Both numbers over the greatest common divisor, the first of which is above 0.
 fn multipliers(own: i64, far: i64) -> (i64, i64)
     requires own { pos 0 <ℤ own }
@@ -285,15 +351,18 @@ fn multipliers(own: i64, far: i64) -> (i64, i64)
 }
 
 // Clears column `c` of `row` by the lead, whose number there is above 0 and whose numbers are at most `most` in size: `row` becomes the lead's number in
-// `c` times itself less its own number in `c` times the lead, divided by all common divisors. It answers the first number that is then not narrow; the
-// row is left half done.
+// `c` times itself less its own number in `c` times the lead, divided by all common divisors. Outside the first `found` places both are 0. It answers the
+// first number that is then not narrow; the row is left half done.
 pub(crate) fn reduce_row(
     lead: &[i64],
     most: u64,
     c: usize,
     row: &mut [i64],
     mixed: &mut [i128],
+    places: &[u32],
+    found: usize,
 ) -> Option<WideNumber>
+    requires support { IsSupport places.now found (length row.old) (at row.old) (at lead.now) }
     requires long { length row.old ≡ length lead.now }
     requires room { length mixed.old ≡ length row.old }
     requires most { AllAtMost lead.now most }
@@ -309,9 +378,9 @@ pub(crate) fn reduce_row(
         return None;
     }
     let (own, far) = multipliers(lead[c], row[c]);
-    if stays_narrow(own, far, greatest(row), most) {
-        mix_narrow(lead, row, own, far);
-        divide_row(row);
+    if stays_narrow(own, far, greatest_at(row, places, found), most) {
+        mix_narrow(lead, row, places, found, own, far);
+        divide_row_at(row, places, found);
         return None;
     }
     mix(lead, row, own, far, mixed);

@@ -1,11 +1,12 @@
 // The rows of the empty list: the program's, each divided by its greatest common divisor.
 
-ghost use Rattle.std.specs.Prelude.{◌≡◌, ℕ, ◌+◌, ◌-◌, ◌*◌, ◌<◌, ◌≤◌, ◌++◌, [], ◌∷◌, ◌⊎◌, ℤ, pos, ◌*ℤ◌, length, OnOk, IfOk, slice_index_or};
+ghost use Rattle.std.specs.Prelude.{◌≡◌, ℕ, ◌+◌, ◌-◌, ◌*◌, ◌^◌, ◌<◌, ◌≤◌, ◌++◌, [], ◌∷◌, ◌⊎◌, ℤ, pos, ◌*ℤ◌, length, OnOk, IfOk, slice_index_or};
 ghost use Rattle.gs_rows.specs.Program.{IsShaped, IsRowsOf};
 ghost use Rattle.gs_simplex.specs.Numbers.{at, cell, AllNarrow, IsDivided};
 ghost use Rattle.gs_simplex.specs.Table.{table_rows, table_aim, IsTable};
 ghost use Rattle.gs_simplex.specs.State.{HasRoom, IsRaw, IsStart};
 
+use crate::live::Live;
 use crate::row::divide_row;
 use crate::table::Table;
 use gs_rows::Program;
@@ -67,6 +68,8 @@ fn divide_rows(numbers: &mut [i64], count: usize, width: usize)
 impl Table {
     // The rows of the empty list.
     pub(crate) fn start(alloc: Global, p: &Program) -> Result<Table, AllocError>
+        requires small_rows { p.now.rows < 2 ^ 31 }
+        requires small_cols { p.now.cols < 2 ^ 31 }
         requires shaped { IsShaped p.now }
         requires small { (p.now.rows + 1) * (p.now.cols + 1) ≤ 1048576 }
         ensures { IfOk result (IsStart p.now) }
@@ -76,10 +79,12 @@ impl Table {
         divide_rows(&mut numbers, p.rows as usize, width);
         let lead = vec![in alloc; 0i64; width]?;
         let mixed = vec![in alloc; 0i128; width]?;
+        let live = Live::room(alloc, p)?;
         Ok(Table {
             numbers,
             lead,
             mixed,
+            live,
         })
     }
 }

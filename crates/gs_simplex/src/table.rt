@@ -2,9 +2,12 @@
 
 ghost use Rattle.std.specs.Prelude.{◌≡◌, ◌≢◌, MatchOption, ℕ, ◌+◌, ◌-◌, ◌*◌, ◌<◌, ◌≤◌, ◌^◌, ◌⊎◌, ℤ, pos, neg_ℤ, ◌+ℤ◌, ◌-ℤ◌, ◌*ℤ◌, ◌<ℤ◌, unsigned_abs, length};
 ghost use Rattle.gs_rows.specs.Rows.{IsNarrow, IsPrimitive};
+ghost use Rattle.gs_rows.specs.Program.{IsPairList, IsRowsOf};
+ghost use Rattle.gs_simplex.specs.Live.{IsSupport, IsLive};
 ghost use Rattle.gs_simplex.specs.Table.{table_rows, table_aim, IsTable, IsPrimitiveTable, IsTableAfter, IsWideAfter};
 ghost use Rattle.gs_simplex.specs.Numbers.{at, cell, AllNarrow, AllAtMost, IsReduced, IsReducedTo, IsTurned, IsCleared, IsClearedTo, IsRowPrimitive};
 
+use crate::live::Live;
 use crate::row::{WideNumber, greatest, reduce_row};
 use gs_rows::Program;
 
@@ -62,7 +65,10 @@ fn reduce_at(
     most: u64,
     c: usize,
     mixed: &mut [i128],
+    places: &[u32],
+    found: usize,
 ) -> Option<WideNumber>
+    requires support { IsSupport places.now found (length lead.now) (λ j. at numbers.old (start + j)) (at lead.now) }
     requires inside { start + length lead.now ≤ length numbers.old }
     requires most { AllAtMost lead.now most }
     requires column { c < length lead.now }
@@ -78,10 +84,10 @@ fn reduce_at(
 {
     let end = start + lead.len();
     let row = &mut numbers[start..end];
-    reduce_row(lead, most, c, row, mixed)
+    reduce_row(lead, most, c, row, mixed, places, found)
 }
 
-// Clears column `c` of all `count` rows but `r`. It answers the first number, by row and column, that is not narrow.
+// Clears column `c` of all `count` rows but `r`, looking at the first `found` places, of which the first is the row's own. It answers the first number, by row and column, that is not narrow.
 fn clear_column(
     numbers: &mut [i64],
     count: usize,
@@ -89,7 +95,11 @@ fn clear_column(
     lead: &[i64],
     c: usize,
     mixed: &mut [i128],
+    places: &mut [u32],
+    found: usize,
+    owns: &[u32],
 ) -> Option<WideCell>
+    requires live { IsLive places.old owns.now found count r (length lead.now) (cell numbers.old (length lead.now)) (at lead.now) }
     requires long { length numbers.old ≡ count * length lead.now }
     requires column { c < length lead.now }
     requires room { length mixed.old ≡ length lead.now }
@@ -107,7 +117,8 @@ fn clear_column(
         if i == r {
             continue;
         }
-        if let Some(wide) = reduce_at(numbers, i * width, lead, most, c, mixed) {
+        places[0] = owns[i];
+        if let Some(wide) = reduce_at(numbers, i * width, lead, most, c, mixed, places, found) {
             return Some(WideCell {
                 row: i,
                 column: wide.column,
@@ -118,22 +129,32 @@ fn clear_column(
     None
 }
 
-/// The rows of a step, with room for the row of a pivot and for one row's products.
+/// The rows of a step, with room for the row of a pivot, for one row's products and for the columns to look at.
 #[derive(Drop)]
 pub(crate) struct Table {
     pub(crate) numbers: Vec<i64>,
     pub(crate) lead: Vec<i64>,
     pub(crate) mixed: Vec<i128>,
+    pub(crate) live: Live,
 }
 
 impl Table {
     ghost use Rattle.gs_simplex.specs.State.{HasRoom};
 
-    // Lists row `r` with column `c`. It answers the first number, by row and column, that is then not narrow.
-    pub(crate) fn list(&mut self, p: &Program, r: usize, c: usize) -> Option<WideCell>
+    // Lists row `r` with column `c` after the list `basis`. It answers the first number, by row and column, that is then not narrow.
+    pub(crate) fn list(
+        &mut self,
+        p: &Program,
+        basis: &[(u32, u32)],
+        r: usize,
+        c: usize,
+    ) -> Option<WideCell>
+        requires small_rows { p.now.rows < 2 ^ 31 }
+        requires small_cols { p.now.cols < 2 ^ 31 }
         requires room { HasRoom p.now self.old }
         requires table { IsTable p.now self.old.numbers.items }
-        requires primitive { IsPrimitiveTable p.now self.old.numbers.items }
+        requires pairs { IsPairList p.now basis.now }
+        requires rows { IsRowsOf p.now basis.now (table_rows p.now self.old.numbers.items) (table_aim p.now self.old.numbers.items) }
         requires row { r < p.now.rows }
         requires column { c < p.now.cols }
         requires nonzero { table_rows p.now self.old.numbers.items r c ≢ pos 0 }
@@ -144,6 +165,17 @@ impl Table {
         let width = p.cols as usize + 2;
         let count = p.rows as usize + 1;
         take_lead(&mut self.numbers, r * width, c, &mut self.lead);
-        clear_column(&mut self.numbers, count, r, &self.lead, c, &mut self.mixed)
+        let found = self.live.find(p, basis, r);
+        clear_column(
+            &mut self.numbers,
+            count,
+            r,
+            &self.lead,
+            c,
+            &mut self.mixed,
+            &mut self.live.places,
+            found,
+            &self.live.owns,
+        )
     }
 }

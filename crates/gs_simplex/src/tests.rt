@@ -91,7 +91,9 @@ fn can_take(p: &Program, numbers: &[i64], opening: &[(u32, u32)], step: usize) -
 }
 
 fn take_all(p: &Program, opening: &[(u32, u32)], table: &mut Table) -> bool
-    requires { IsStart p.now table.old }
+    requires small_rows { p.now.rows < 2 ^ 31 }
+    requires small_cols { p.now.cols < 2 ^ 31 }
+    requires start { IsStart p.now table.old }
     ensures { IsTrue result → IsTaken p.now opening.now (length opening.now) table.new.numbers.items }
 {
     for step in 0..opening.len() {
@@ -99,7 +101,7 @@ fn take_all(p: &Program, opening: &[(u32, u32)], table: &mut Table) -> bool
             return false;
         }
         let (row, column) = opening[step];
-        if let Some(_) = table.list(p, row as usize - 1, column as usize - 1) {
+        if let Some(_) = table.list(p, &opening[..step], row as usize - 1, column as usize - 1) {
             return false;
         }
     }

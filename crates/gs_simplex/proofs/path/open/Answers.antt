@@ -2,7 +2,7 @@ use Rattle.std.proofs.Common.{◌+◌, take, sym, subst, arith}
 use Rattle.gs_simplex.specs.declared.answer.Stop.{Stop}
 use Rattle.gs_simplex.specs.Table.{IsTableAfter, IsWideAfter}
 use Rattle.gs_simplex.specs.Answer.{IsStop}
-use Rattle.gs_simplex.proofs.Paths.{rows_of_so_far, primitive_of, so_far_start, none_of, open_nonzero, open_wide, open_pairs, open_next, opening_pairs, empty_pairs}
+use Rattle.gs_simplex.proofs.Paths.{rows_of_so_far, so_far_start, none_of, open_nonzero, open_wide, open_pairs, open_next, opening_pairs, empty_pairs}
 use Rattle.gs_simplex.proofs.path.open.Goals as goal
 
 pub loop-step-init : goal.loop-step-init
@@ -13,10 +13,15 @@ loop-step-init c =
 pub pair_at-row-requires-clause-pairs : goal.pair_at-row-requires-clause-pairs
 pair_at-row-requires-clause-pairs c = opening_pairs c.args.p.now c.args.opening.now c.requires.opens
 
-pub list-requires-clause-primitive : goal.list-requires-clause-primitive
-list-requires-clause-primitive c =
+pub list-requires-clause-pairs : goal.list-requires-clause-pairs
+list-requires-clause-pairs c =
+    let v = c.loop-step.invariant in let t = c.loop-step.step in
+    open_pairs c.args.p.now c.args.opening.now t c.pair_at-row.result.0 c.pair_at-row.result.1 c.loop-step.table.numbers.items c.requires.opens c.loop-step-test.true c.pair_at-row.ensures.pair v.table v.so_far t (omega (arith, c.loop-step-test.true))
+
+pub list-requires-clause-rows : goal.list-requires-clause-rows
+list-requires-clause-rows c =
     let p = c.args.p.now in let o = c.args.opening.now in let t = c.loop-step.step in let xs = c.loop-step.table.numbers.items in
-    primitive_of p (take t o) xs (rows_of_so_far p o t (take t o) xs c.loop-step.invariant.so_far)
+    rows_of_so_far p o t (take t o) xs c.loop-step.invariant.so_far
 
 pub list-requires-clause-nonzero : goal.list-requires-clause-nonzero
 list-requires-clause-nonzero c =

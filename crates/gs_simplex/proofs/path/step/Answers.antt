@@ -6,7 +6,7 @@ use Rattle.gs_simplex.specs.Table.{table_rows, table_aim, stated}
 use Rattle.gs_simplex.specs.Choice.{IsLeaving}
 use Rattle.gs_simplex.specs.State.{IsSoFar, IsPivoted, IsWidePivot}
 use Rattle.gs_simplex.specs.Answer.{IsStop}
-use Rattle.gs_simplex.proofs.Paths.{rows_of_so_far, primitive_of, turn_at, none_of, pivots_stops, unbounded_stops, pivot_next, pivot_wide}
+use Rattle.gs_simplex.proofs.Paths.{rows_of_so_far, turn_at, none_of, pivots_stops, unbounded_stops, pivot_next, pivot_wide}
 use Rattle.gs_simplex.proofs.path.step.Goals as goal
 
 pub choose-requires-clause-rows : goal.choose-requires-clause-rows
@@ -30,10 +30,10 @@ returns-then-made-limit c =
     let T : ℕ → Type 0 = λ k. IsSoFar p o (length o + k) l xs in
     (c.requires.small, pivots_stops p o c.args.limit l xs e w.1.0 w.1.1 (subst T c.if-made-limit.true v.so_far) v.table w.0 w.1.4)
 
-pub pivot-requires-clause-primitive : goal.pivot-requires-clause-primitive
-pivot-requires-clause-primitive c =
+pub pivot-requires-clause-rows : goal.pivot-requires-clause-rows
+pivot-requires-clause-rows c =
     let p = c.args.p.now in let o = c.args.opening.now in let l = c.args.basis.now in let xs = c.args.table.now.numbers.items in
-    primitive_of p l xs (rows_of_so_far p o (length o + c.args.made) l xs c.requires.state.so_far)
+    rows_of_so_far p o (length o + c.args.made) l xs c.requires.state.so_far
 
 pub returns-in-Some : goal.returns-in-Some
 returns-in-Some c =

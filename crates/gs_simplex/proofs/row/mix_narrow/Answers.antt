@@ -1,38 +1,62 @@
-use Rattle.std.proofs.Common.{◌≡◌, ◌≢◌, ℕ, ◌+◌, ◌<◌, ◌^◌, List, length, set, ℤ, ◌-ℤ◌, ◌*ℤ◌, unsigned_abs, to_z, of_z, w64, get_or-set_other, get_or-set_same, below_more, refl, sym, ap, subst, ◌∙◌, arith}
+use Rattle.std.proofs.Common.{◌≡◌, ◌<◌, ◌^◌, length, slice_index, ◌+◌, ◌*◌, ℤ, ◌-ℤ◌, ◌*ℤ◌, unsigned_abs, to_z, of_z, w64, sym, ap, subst, ◌∙◌, arith}
+use Rattle.std.proofs.lemmas.Int.{to_z-of_z}
 use Rattle.gs_simplex.specs.Numbers.{at}
 use Rattle.gs_simplex.proofs.Fits.{kept_64}
+use Rattle.gs_simplex.proofs.Lives.{still_old, left_more, done_more, all_written, mixed_zero}
 use Rattle.gs_simplex.proofs.row.mix_narrow.Goals as goal
 
-module _ (own far : ℤ) (old lead row : List ℤ) (j : ℕ) (r : ℤ) (jl : j < length row) (narrow : unsigned_abs r < 2 ^ 62)
-    (here : at row j ≡ at old j) (narrow_old : unsigned_abs (at old j) < 2 ^ 62) (narrow_lead : unsigned_abs (at lead j) < 2 ^ 62)
-    (value : r ≡ own *ℤ to_z w64 (of_z w64 (at row j)) -ℤ far *ℤ to_z w64 (of_z w64 (at lead j))) where
-  pub other : (k : ℕ) → k ≢ j → at (set row j (to_z w64 (of_z w64 r))) k ≡ at row k
-  other k ne = rw get_or-set_other refl
+-- the product as it is stored
+stored_is : (own far x y r old : ℤ) → unsigned_abs r < 2 ^ 62 → unsigned_abs old < 2 ^ 62 → unsigned_abs y < 2 ^ 62 → x ≡ old → r ≡ own *ℤ to_z w64 (of_z w64 x) -ℤ far *ℤ to_z w64 (of_z w64 y)
+    → to_z w64 (of_z w64 r) ≡ own *ℤ old -ℤ far *ℤ y
+stored_is own far x y r old hr ho hy e v =
+    kept_64 r hr ∙ v ∙ ap (λ t. own *ℤ to_z w64 (of_z w64 t) -ℤ far *ℤ to_z w64 (of_z w64 y)) e ∙ ap (λ t. own *ℤ t -ℤ far *ℤ to_z w64 (of_z w64 y)) (kept_64 old ho) ∙ ap (λ t. own *ℤ old -ℤ far *ℤ t) (kept_64 y hy)
 
-  pub same : at (set row j (to_z w64 (of_z w64 r))) j ≡ r
-  same = rw get_or-set_same (kept_64 r narrow)
+-- a bound on products as they are passed
+stored_bound : (own own' far far' x x' y y' : ℤ) → own' ≡ own → far' ≡ far → x' ≡ x → y' ≡ y → unsigned_abs own * unsigned_abs x + unsigned_abs far * unsigned_abs y < 2 ^ 62
+    → unsigned_abs own' * unsigned_abs x' + unsigned_abs far' * unsigned_abs y' < 2 ^ 62
+stored_bound own own' far far' x x' y y' e f g h b =
+    let A : ℤ → Type 0 = λ t. unsigned_abs t * unsigned_abs x' + unsigned_abs far' * unsigned_abs y' < 2 ^ 62 in let B : ℤ → Type 0 = λ t. unsigned_abs own * unsigned_abs x' + unsigned_abs t * unsigned_abs y' < 2 ^ 62 in
+    let C : ℤ → Type 0 = λ t. unsigned_abs own * unsigned_abs t + unsigned_abs far * unsigned_abs y' < 2 ^ 62 in let D : ℤ → Type 0 = λ t. unsigned_abs own * unsigned_abs x + unsigned_abs far * unsigned_abs t < 2 ^ 62 in
+    subst A (sym e) (subst B (sym f) (subst C (sym g) (subst D (sym h) b)))
 
-  pub mixed_more : ((k : ℕ) → k < j → at row k ≡ own *ℤ at old k -ℤ far *ℤ at lead k) → (k : ℕ) → k < j + 1 → at (set row j (to_z w64 (of_z w64 r))) k ≡ own *ℤ at old k -ℤ far *ℤ at lead k
-  mixed_more inv = below_more _ _
-      (λ k l. other k (λ q. omega arith) ∙ inv k l)
-      (same ∙ value ∙ ap (λ t. own *ℤ to_z w64 (of_z w64 t) -ℤ far *ℤ to_z w64 (of_z w64 (at lead j))) here
-      ∙ ap (λ t. own *ℤ t -ℤ far *ℤ to_z w64 (of_z w64 (at lead j))) (kept_64 (at old j) narrow_old) ∙ ap (λ t. own *ℤ at old j -ℤ far *ℤ t) (kept_64 (at lead j) narrow_lead))
+pub narrow_mixed_number-requires : goal.narrow_mixed_number-requires
+narrow_mixed_number-requires c =
+    let v = c.loop-k.invariant in let k = c.loop-k.k in let old = c.args.row.now in let lead = c.args.lead.now in let row = c.loop-k.row in let places = c.args.places.now in let j = slice_index places k in
+    let u = c.requires.support in let kf = c.loop-k-test.true in
+    let inside : j < length old = u.inside k kf in
+    let here : at row j ≡ at old j = still_old places c.args.found k (length old) (at old) (at lead) old row (at old j) u kf c.loop-k.auto.row v.left in
+    stored_bound c.args.own (to_z w64 (of_z w64 c.args.own)) c.args.far (to_z w64 (of_z w64 c.args.far)) (at old j) (to_z w64 (of_z w64 (at row j))) (at lead j) (to_z w64 (of_z w64 (at lead j)))
+    (to_z-of_z w64 c.args.own c.ranges.own) (to_z-of_z w64 c.args.far c.ranges.far) (ap (λ t. to_z w64 (of_z w64 t)) here ∙ kept_64 (at old j) (c.requires.narrow_row j inside)) (kept_64 (at lead j) (c.requires.narrow_lead j (omega (arith, c.requires.same_length))))
+    (c.requires.narrow j inside)
 
-  pub narrow_more : ((k : ℕ) → k < j → unsigned_abs (at row k) < 2 ^ 62) → (k : ℕ) → k < j + 1 → unsigned_abs (at (set row j (to_z w64 (of_z w64 r))) k) < 2 ^ 62
-  narrow_more inv =
-      let P : ℤ → Type 0 = λ t. unsigned_abs t < 2 ^ 62 in
-      below_more _ _ (λ k l. subst P (sym (other k (λ q. omega arith))) (inv k l)) (subst P (sym same) narrow)
-
-pub loop-j-preserved : goal.loop-j-preserved
-loop-j-preserved c =
-    let v = c.loop-j.invariant in let j = c.loop-j.j in let old = c.args.row.now in let lead = c.args.lead.now in let row = c.loop-j.row in
-    let r = c.narrow_mixed_number.result in let n = c.narrow_mixed_number.ensures in
+pub loop-k-preserved : goal.loop-k-preserved
+loop-k-preserved c =
+    let v = c.loop-k.invariant in let k = c.loop-k.k in let old = c.args.row.now in let lead = c.args.lead.now in let row = c.loop-k.row in let places = c.args.places.now in
+    let r = c.narrow_mixed_number.result in let n = c.narrow_mixed_number.ensures in let z = to_z w64 (of_z w64 r) in let j = slice_index places k in
     let own = to_z w64 (of_z w64 c.args.own) in let far = to_z w64 (of_z w64 c.args.far) in
-    let here : at row j ≡ at old j = v.left j (omega arith) in
-    let jl : j < length row = omega arith in
-    let no = c.requires.narrow_row j (omega arith) in let nl = c.requires.narrow_lead j (omega arith) in
+    let u = c.requires.support in let kf = c.loop-k-test.true in let long : length row ≡ length old = c.loop-k.auto.row in
+    let inside : j < length old = u.inside k kf in
+    let here : at row j ≡ at old j = still_old places c.args.found k (length old) (at old) (at lead) old row z u kf long v.left in
+    let no = c.requires.narrow_row j inside in let nl = c.requires.narrow_lead j (omega (arith, c.requires.same_length)) in
+    let is : z ≡ own *ℤ at old j -ℤ far *ℤ at lead j = stored_is own far (at row j) (at lead j) r (at old j) n.narrow no nl here n.value in
+    let small : unsigned_abs z < 2 ^ 62 = (let P : ℤ → Type 0 = λ t. unsigned_abs t < 2 ^ 62 in subst P (sym (kept_64 r n.narrow)) n.narrow) in
     record {
-      mixed = mixed_more own far old lead row j r jl n.narrow here no nl n.value v.mixed;
-      narrow = narrow_more own far old lead row j r jl n.narrow here no nl n.value v.narrow;
-      left = λ k l. other own far old lead row j r jl n.narrow here no nl n.value k (λ q. omega arith) ∙ v.left k (omega arith);
+      mixed = done_more places c.args.found k (length old) (at old) (at lead) old row z u kf long v.left (λ i (t : ℤ). t ≡ own *ℤ at old i -ℤ far *ℤ at lead i) v.mixed is;
+      narrow = done_more places c.args.found k (length old) (at old) (at lead) old row z u kf long v.left (λ i (t : ℤ). unsigned_abs t < 2 ^ 62) v.narrow small;
+      left = left_more places c.args.found k (length old) (at old) (at lead) old row z u kf long v.left;
     }
+
+pub returns-clause-mixed : goal.returns-clause-mixed
+returns-clause-mixed c =
+    let v = c.loop-k.invariant in let old = c.args.row.now in let lead = c.args.lead.now in let row = c.loop-k.row in let places = c.args.places.now in
+    let own = to_z w64 (of_z w64 c.args.own) in let far = to_z w64 (of_z w64 c.args.far) in let u = c.requires.support in
+    λ j h. (all_written (λ j (t : ℤ). t ≡ own *ℤ at old j -ℤ far *ℤ at lead j) places c.args.found (length old) (at old) (at lead) row u (λ k h. v.mixed k (omega arith))
+    (λ j h none. mixed_zero own far (at old j) (at lead j) (at row j) (v.left j (λ i il. none i (omega arith))) (u.outside j h none).0 (u.outside j h none).1) j h)
+    ∙ ap (λ t. t *ℤ at old j -ℤ far *ℤ at lead j) (to_z-of_z w64 c.args.own c.ranges.own) ∙ ap (λ t. c.args.own *ℤ at old j -ℤ t *ℤ at lead j) (to_z-of_z w64 c.args.far c.ranges.far)
+
+pub returns-clause-narrow : goal.returns-clause-narrow
+returns-clause-narrow c =
+    let v = c.loop-k.invariant in let old = c.args.row.now in let row = c.loop-k.row in let places = c.args.places.now in let u = c.requires.support in
+    let P : ℤ → Type 0 = λ t. unsigned_abs t < 2 ^ 62 in
+    λ j h. all_written (λ i (t : ℤ). unsigned_abs t < 2 ^ 62) places c.args.found (length old) (at old) (at c.args.lead.now) row u (λ k l. v.narrow k (omega arith))
+    (λ i l none. subst P (sym (v.left i (λ k m. none k (omega arith)))) (c.requires.narrow_row i l)) j (omega (arith, c.loop-k.auto.row))

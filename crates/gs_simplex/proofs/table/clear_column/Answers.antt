@@ -1,6 +1,7 @@
-use Rattle.std.proofs.Common.{◌≡◌, ◌≢◌, MatchOption, Option, Some, None, ◌⊎◌, ℕ, ◌+◌, ◌-◌, ◌*◌, ◌<◌, ◌≤◌, ℤ, List, length, refl, sym, subst, ◌∙◌, arith, below_more}
+use Rattle.std.proofs.Common.{◌≡◌, ◌≢◌, MatchOption, Option, Some, None, ◌⊎◌, ℕ, ◌+◌, ◌-◌, ◌*◌, ◌<◌, ◌≤◌, ℤ, List, length, slice_index, refl, sym, subst, ◌∙◌, arith, below_more, get_or-set_other}
 use Rattle.gs_simplex.specs.Numbers.{at, cell, AllNarrow, IsReduced, IsReducedTo, IsClearedTo}
 use Rattle.gs_simplex.proofs.Fits.{kept_128}
+use Rattle.gs_simplex.proofs.Lives.{support_same, support_of}
 use Rattle.gs_simplex.proofs.Places.{primitive_same_row, reduced_same, reduced_to_same, row_ends, row_apart}
 use Rattle.gs_simplex.proofs.table.clear_column.Goals as goal
 
@@ -13,7 +14,14 @@ loop-i-preserved-then-i-r c =
       left = λ h l j jw. v.left h (omega arith) j jw;
       kept = v.kept;
       narrow = v.narrow;
+      places = v.places;
     }
+
+pub reduce_at-requires-clause-support : goal.reduce_at-requires-clause-support
+reduce_at-requires-clause-support c =
+    let v = c.loop-i.invariant in let w = length c.args.lead.now in let i = c.loop-i.i in let old = c.args.numbers.now in let now = c.loop-i.numbers in let lead = at c.args.lead.now in
+    support_same _ c.args.found w (cell old w i) (cell now w i) lead lead (λ j h. sym (v.left i (omega arith) j h)) (λ j h. refl)
+    (support_of c.args.places.now c.loop-i.places c.args.owns.now c.args.found c.args.count c.args.r w i (cell old w) lead c.requires.live c.loop-i-test.true c.if-i-r.false c.loop-i.auto.places v.places)
 
 pub reduce_at-requires-clause-primitive : goal.reduce_at-requires-clause-primitive
 reduce_at-requires-clause-primitive c =
@@ -78,6 +86,7 @@ loop-i-preserved c =
       left = left_more old now new lead c.args.count w c.args.r c.args.c i c.requires.column c.if-i-r.false v.done v.left v.kept c.reduce_at.ensures.others a.0;
       kept = kept_more old now new lead c.args.count w c.args.r c.args.c i c.requires.column c.if-i-r.false v.done v.left v.kept c.reduce_at.ensures.others a.0;
       narrow = a.1;
+      places = λ k h. get_or-set_other c.loop-i.places 0 k (slice_index c.args.owns.now i) 0 (λ e. omega arith) ∙ v.places k h;
     }
 
 pub returns : goal.returns

@@ -1,4 +1,4 @@
-use Rattle.std.proofs.Common.{◌≡◌, ◌≢◌, ℕ, ◌<◌, ◌≤◌, length}
+use Rattle.std.proofs.Common.{◌≡◌, ◌≢◌, ℕ, ◌<◌, ◌≤◌, length, slice_index}
 use Rattle.gs_simplex.specs.Numbers.{at, cell, AllNarrow, IsReduced}
 use Rattle.gs_simplex.proofs.table.clear_column.Given as goal
 
@@ -9,4 +9,5 @@ invariant-loop-i l = record {
   left : (h : ℕ) → (l.i ≤ h) → (j : ℕ) → j < length l.lead → cell l.numbers (length l.lead) h j ≡ cell l.fn.numbers (length l.lead) h j;
   kept : (j : ℕ) → j < length l.lead → cell l.numbers (length l.lead) l.r j ≡ cell l.fn.numbers (length l.lead) l.r j;
   narrow : AllNarrow l.numbers;
+  places : (k : ℕ) → 0 < k → slice_index l.places k ≡ slice_index l.fn.places k;
 }

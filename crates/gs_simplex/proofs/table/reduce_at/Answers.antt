@@ -4,6 +4,8 @@ use Rattle.std.proofs.lemmas.List.{length-drop, length-take-le}
 use Rattle.gs_rows.specs.Rows.{IsPrimitive}
 use Rattle.gs_simplex.specs.declared.row.WideNumber.{WideNumber}
 use Rattle.gs_simplex.specs.Numbers.{at, AllNarrow, IsReduced, IsReducedTo}
+use Rattle.gs_simplex.specs.Live.{IsSupport}
+use Rattle.gs_simplex.proofs.Lives.{support_same}
 use Rattle.gs_simplex.proofs.Places.{at_part, length_put, at_put_below, at_put_inside, at_put_above, narrow_put, primitive_same_row, reduced_same, reduced_to_same}
 use Rattle.gs_simplex.proofs.table.reduce_at.Goals as goal
 
@@ -19,6 +21,14 @@ pub reduce_row-requires-clause-primitive : goal.reduce_row-requires-clause-primi
 reduce_row-requires-clause-primitive c =
     let some : 0 < length c.args.lead.now = omega (arith, c.requires.column) in
     part_primitive c.args.numbers.now c.args.start (length c.args.lead.now) (c.args.start + length c.args.lead.now - c.args.start) refl c.requires.inside some c.requires.primitive
+
+pub reduce_row-requires-clause-support : goal.reduce_row-requires-clause-support
+reduce_row-requires-clause-support c =
+    let xs = c.args.numbers.now in let w = length c.args.lead.now in let s = c.args.start in let n = s + w - s in
+    let row = take n (drop s xs) in
+    let P : ℕ → Type 0 = λ k. IsSupport c.args.places.now c.args.found k (at row) (at c.args.lead.now) in
+    subst P (sym (part_long xs s w n refl c.requires.inside))
+    (support_same c.args.places.now c.args.found w (λ j. at xs (s + j)) (at row) (at c.args.lead.now) (at c.args.lead.now) (λ j h. sym (at_part xs s n j (omega arith))) (λ j h. refl) c.requires.support)
 
 others : (xs ys : List ℤ) (start width n : ℕ) → n ≡ start + width - start → start + width ≤ length xs → length ys ≡ n → (k : ℕ) → (k < start) ⊎ (start + width ≤ k) → at (put_mid start n xs ys) k ≡ at xs k
 others xs ys start width n e h long k w = elim w [ inl l ↦ at_put_below xs ys start n k l (omega arith) | inr l ↦ at_put_above xs ys start n k (omega arith) long (omega arith) ]

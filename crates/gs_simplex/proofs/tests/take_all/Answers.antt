@@ -1,10 +1,11 @@
-use Rattle.std.proofs.Common.{◌≡◌, ℕ, ◌+◌, ◌-◌, ◌<◌, List, ℤ, length, slice_index_or, refl, ap, subst, arith}
+use Rattle.std.proofs.Common.{◌≡◌, ℕ, ◌+◌, ◌-◌, ◌<◌, List, ℤ, length, take, slice_index_or, refl, ap, subst, arith}
 use Rattle.gs_rows.specs.declared.Program.{Program}
 use Rattle.gs_rows.specs.Program.{Listing}
+use Rattle.gs_rows.proofs.PairLists.{opened_pair_list}
 use Rattle.gs_simplex.specs.Table.{table_rows, IsTableAfter, IsWideAfter}
 use Rattle.gs_simplex.specs.Conditions.{CanTakeAt, IsTaken}
 use Rattle.gs_simplex.proofs.Paths.{none_of}
-use Rattle.gs_simplex.proofs.Checks.{taken_more}
+use Rattle.gs_simplex.proofs.Checks.{front_opened, taken_more}
 use Rattle.gs_simplex.proofs.tests.take_all.Goals as goal
 
 -- the pair as the code reads it
@@ -14,6 +15,14 @@ step_taken p o t xs ys new h e can u w =
     let f : (slice_index_or o t (0, 0)).0 - 1 ≡ a.0 = omega (arith, ap (λ (x : ℕ × ℕ). x.0) a.2) in let g : (slice_index_or o t (0, 0)).1 - 1 ≡ a.1 = omega (arith, ap (λ (x : ℕ × ℕ). x.1) a.2) in
     let P : ℕ → Type 0 = λ k. IsTableAfter p xs new k ((slice_index_or o t (0, 0)).1 - 1) in let Q : ℕ → Type 0 = λ k. IsTableAfter p xs new a.0 k in
     taken_more p o t a.0 a.1 xs new h a.2 a.3 u (subst Q g (subst P f w))
+
+pub list-requires-clause-pairs : goal.list-requires-clause-pairs
+list-requires-clause-pairs c =
+    let p = c.args.p.now in let o = c.args.opening.now in let t = c.loop-step.step in
+    opened_pair_list p (take t o) (front_opened p o t c.loop-step.table.numbers.items (omega (arith, c.loop-step-test.true)) c.loop-step.invariant.taken)
+
+pub list-requires-clause-rows : goal.list-requires-clause-rows
+list-requires-clause-rows c = c.loop-step.invariant.taken.rows
 
 pub loop-step-preserved : goal.loop-step-preserved
 loop-step-preserved c =

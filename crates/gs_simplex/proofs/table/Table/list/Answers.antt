@@ -6,9 +6,13 @@ use Rattle.gs_rows.specs.declared.Program.{Program}
 use Rattle.gs_rows.specs.Rows.{IsNarrow, IsPrimitive}
 use Rattle.gs_simplex.specs.declared.table.WideCell.{WideCell}
 use Rattle.gs_simplex.specs.Numbers.{at, cell, AllNarrow, IsTurned, IsCleared, IsClearedTo}
-use Rattle.gs_simplex.specs.Table.{table_rows, IsTable, IsPrimitiveTable, IsTableAfter, IsWideAfter}
+use Rattle.gs_simplex.specs.Table.{table_rows, table_aim, IsTable, IsPrimitiveTable, IsTableAfter, IsWideAfter}
 use Rattle.gs_simplex.proofs.Places.{row_inside, row_apart, primitive_same_row}
 use Rattle.gs_simplex.proofs.Tables.{rows_primitive, primitive_flipped, table_after, wide_from}
+use Rattle.gs_rows.specs.Program.{Listing, IsPairList, IsRowsOf}
+use Rattle.gs_simplex.specs.Live.{IsFound, IsLive}
+use Rattle.gs_simplex.proofs.Lives.{live_of}
+use Rattle.gs_simplex.proofs.Paths.{primitive_of}
 use Rattle.gs_simplex.proofs.table.Table.list.Goals as goal
 
 taken : (n : ℕ) (xs ys : List ℤ) → length xs ≡ n → take n (xs ++ ys) ≡ xs
@@ -110,6 +114,38 @@ module _ (p : Program) (items old mid mid' lead lead' : List ℤ) (r c : ℕ) (r
       let N : List ℤ → Type 0 = λ x. MatchOption res (IsTableAfter p items x r c) (λ w. IsWideAfter p items r c w.row w.column w.number) in
       subst N (sym en) (subst O eo a)
 
+  kept_items : (i : ℕ) → i ≢ r → (j : ℕ) → j < p.cols + 2 → cell mid (p.cols + 2) i j ≡ cell items (p.cols + 2) i j
+  kept_items i ne j h = others_at p old mid lead r c rows cols table_old prim_old nonzero_old u (i * (p.cols + 2) + j) (row_apart (p.cols + 2) i r j h ne) ∙ ap (λ (x : List ℤ). at x (i * (p.cols + 2) + j)) eo
+
+  turned_items : IsTurned (cell items (p.cols + 2) r) (at lead) c (p.cols + 2)
+  turned_items = let P : List ℤ → Type 0 = λ x. IsTurned (cell x (p.cols + 2) r) (at lead) c (p.cols + 2) in subst P eo (turned_at p old mid lead r c rows cols table_old prim_old nonzero_old u)
+
+  live' : (l : Listing) (places places' owns owns' : List ℕ) (found : ℕ) → IsPairList p l → IsRowsOf p l (table_rows p items) (table_aim p items) → IsFound p l r places owns found → places' ≡ places → owns' ≡ owns
+      → IsLive places' owns' found (p.rows + 1) r (length lead') (cell mid' (length lead')) (at lead')
+  live' l places places' owns owns' found pairs of f ep ew =
+      let W : ℕ → Type 0 = λ w. IsLive places' owns' found (p.rows + 1) r w (cell mid' w) (at lead') in
+      let M : List ℤ → Type 0 = λ m. IsLive places' owns' found (p.rows + 1) r (p.cols + 2) (cell m (p.cols + 2)) (at lead') in
+      let L : List ℤ → Type 0 = λ x. IsLive places' owns' found (p.rows + 1) r (p.cols + 2) (cell mid (p.cols + 2)) (at x) in
+      let A : List ℕ → Type 0 = λ x. IsLive x owns' found (p.rows + 1) r (p.cols + 2) (cell mid (p.cols + 2)) (at lead) in
+      let B : List ℕ → Type 0 = λ x. IsLive places x found (p.rows + 1) r (p.cols + 2) (cell mid (p.cols + 2)) (at lead) in
+      subst W (sym wide') (subst M (sym em) (subst L (sym el) (subst A (sym ep) (subst B (sym ew) (live_of p l r c found places owns items mid (at lead) pairs table of rows f kept_items turned_items)))))
+
+pub clear_column-requires-clause-live : goal.clear_column-requires-clause-live
+clear_column-requires-clause-live c =
+    let p = c.args.p.now in let old = c.deref_mut.result.now in let mid = c.take_lead.new.numbers in let lead = c.take_lead.new.lead in
+    let u : IsTaken p old mid lead c.args.r c.args.c = record {
+      long = c.take_lead.auto.numbers;
+      wide = omega (arith, c.take_lead.auto.lead, c.deref_mut-2.ensures.len, c.requires.room.lead);
+      same = c.take_lead.ensures.same;
+      turned = c.take_lead.ensures.turned;
+      others = c.take_lead.ensures.others;
+    } in
+    live' p c.args.self.now.numbers.items old mid c.deref_mut-3.result.now lead c.deref.result.now c.args.r c.args.c c.requires.row c.requires.column c.requires.table (primitive_of p c.args.basis.now c.args.self.now.numbers.items c.requires.rows) c.requires.nonzero u
+    c.deref_mut.ensures.value
+    (c.deref_mut-3.ensures.value ∙ taken c.args.self.now.numbers.len mid (drop (length mid) c.args.self.now.numbers.items) (omega (arith, c.take_lead.auto.numbers, c.deref_mut.ensures.len)))
+    (c.deref.ensures.value ∙ taken c.args.self.now.lead.len lead (drop (length lead) c.args.self.now.lead.items) (omega (arith, c.take_lead.auto.lead, c.deref_mut-2.ensures.len)))
+    c.args.basis.now c.find-found.new.self.places.items c.deref_mut-5.result.now c.find-found.new.self.owns.items c.deref-2.result.now c.find-found.result c.requires.pairs c.requires.rows c.find-found.ensures.found c.deref_mut-5.ensures.value c.deref-2.ensures.value
+
 pub clear_column-requires-clause-narrow : goal.clear_column-requires-clause-narrow
 clear_column-requires-clause-narrow c =
     let p = c.args.p.now in let old = c.deref_mut.result.now in let mid = c.take_lead.new.numbers in let lead = c.take_lead.new.lead in
@@ -120,7 +156,7 @@ clear_column-requires-clause-narrow c =
       turned = c.take_lead.ensures.turned;
       others = c.take_lead.ensures.others;
     } in
-    narrow' p c.args.self.now.numbers.items old mid c.deref_mut-3.result.now lead c.deref.result.now c.args.r c.args.c c.requires.row c.requires.column c.requires.table c.requires.primitive c.requires.nonzero u
+    narrow' p c.args.self.now.numbers.items old mid c.deref_mut-3.result.now lead c.deref.result.now c.args.r c.args.c c.requires.row c.requires.column c.requires.table (primitive_of p c.args.basis.now c.args.self.now.numbers.items c.requires.rows) c.requires.nonzero u
     c.deref_mut.ensures.value
     (c.deref_mut-3.ensures.value ∙ taken c.args.self.now.numbers.len mid (drop (length mid) c.args.self.now.numbers.items) (omega (arith, c.take_lead.auto.numbers, c.deref_mut.ensures.len)))
     (c.deref.ensures.value ∙ taken c.args.self.now.lead.len lead (drop (length lead) c.args.self.now.lead.items) (omega (arith, c.take_lead.auto.lead, c.deref_mut-2.ensures.len)))
@@ -135,7 +171,7 @@ clear_column-requires-clause-primitive c =
       turned = c.take_lead.ensures.turned;
       others = c.take_lead.ensures.others;
     } in
-    primitive' p c.args.self.now.numbers.items old mid c.deref_mut-3.result.now lead c.deref.result.now c.args.r c.args.c c.requires.row c.requires.column c.requires.table c.requires.primitive c.requires.nonzero u
+    primitive' p c.args.self.now.numbers.items old mid c.deref_mut-3.result.now lead c.deref.result.now c.args.r c.args.c c.requires.row c.requires.column c.requires.table (primitive_of p c.args.basis.now c.args.self.now.numbers.items c.requires.rows) c.requires.nonzero u
     c.deref_mut.ensures.value
     (c.deref_mut-3.ensures.value ∙ taken c.args.self.now.numbers.len mid (drop (length mid) c.args.self.now.numbers.items) (omega (arith, c.take_lead.auto.numbers, c.deref_mut.ensures.len)))
     (c.deref.ensures.value ∙ taken c.args.self.now.lead.len lead (drop (length lead) c.args.self.now.lead.items) (omega (arith, c.take_lead.auto.lead, c.deref_mut-2.ensures.len)))
@@ -152,7 +188,7 @@ returns-clause-listed c =
       others = c.take_lead.ensures.others;
     } in
     let em : c.deref_mut-3.result.now ≡ mid = c.deref_mut-3.ensures.value ∙ taken n mid (drop (length mid) c.args.self.now.numbers.items) (omega (arith, c.take_lead.auto.numbers, c.deref_mut.ensures.len)) in
-    answer' p c.args.self.now.numbers.items old mid c.deref_mut-3.result.now lead c.deref.result.now c.args.r c.args.c c.requires.row c.requires.column c.requires.table c.requires.primitive c.requires.nonzero u
+    answer' p c.args.self.now.numbers.items old mid c.deref_mut-3.result.now lead c.deref.result.now c.args.r c.args.c c.requires.row c.requires.column c.requires.table (primitive_of p c.args.basis.now c.args.self.now.numbers.items c.requires.rows) c.requires.nonzero u
     c.deref_mut.ensures.value em
     (c.deref.ensures.value ∙ taken c.args.self.now.lead.len lead (drop (length lead) c.args.self.now.lead.items) (omega (arith, c.take_lead.auto.lead, c.deref_mut-2.ensures.len)))
     new (take n (new ++ drop (length new) (take n (mid ++ drop (length mid) c.args.self.now.numbers.items)))) c.clear_column.result

@@ -33,4 +33,4 @@ returns c =
     let long : length new ≡ n = omega (arith, c.divide_rows.auto.numbers, c.deref_mut.ensures.len) in
     let f = from_lists p c.in_ok-numbers.numbers.items c.deref_mut.result.now new (take n (new ++ drop (length new) c.in_ok-numbers.numbers.items)) (p.cols + 2) c.requires.shaped c.in_ok-numbers.ensures c.deref_mut.ensures.value
     (taken n new (drop (length new) c.in_ok-numbers.numbers.items) long) refl c.divide_rows.auto.numbers c.divide_rows.ensures.divided c.divide_rows.ensures.last c.divide_rows.ensures.narrow in
-    record { room = record { lead = c.in_ok-lead.ensures.len; mixed = c.in_ok-mixed.ensures.len }; table = f.0; rows = f.1 }
+    record { room = record { lead = c.in_ok-lead.ensures.len; mixed = c.in_ok-mixed.ensures.len; live = c.in_ok-live.ensures }; table = f.0; rows = f.1 }

@@ -1,0 +1,73 @@
+-- The columns that a pivot looks at. Place 0 is for the own column of the row at hand, which changes from row to row.
+use Rattle.std.specs.Prelude.{◌≡◌, ◌≢◌, ℕ, ◌+◌, ◌<◌, ◌≤◌, ◌⊎◌, List, length, slice_index, slice_index_or, vec_len, ℤ, pos}
+use Rattle.gs_rows.specs.declared.Program.{Program}
+use Rattle.gs_rows.specs.Program.{Listing, IsListed, RowListed}
+use Rattle.gs_simplex.specs.declared.live.Live.{Live}
+
+pub record HasPlaces (p : Program) (v : Live) : Type 0 where
+  pub rows : vec_len v.rows ≡ p.cols
+  pub places : vec_len v.places ≡ p.cols + 2
+  pub owns : vec_len v.owns ≡ p.rows + 1
+
+-- a column is listed with no row, or with row r, from 0
+abbrev pub IsLiveRow : ℕ → ℕ → Type 0
+IsLiveRow r row = (row ≡ 0) ⊎ (row ≡ r + 1)
+
+-- no place from 1 to `found` has column j
+abbrev pub IsOutside : List ℕ → ℕ → ℕ → Type 0
+IsOutside places found j = (k : ℕ) → 0 < k → k < found → slice_index places k ≢ j
+
+-- the columns below `count` that are looked at, in order
+pub record ArePlacesBelow (rows : List ℕ) (r : ℕ) (places : List ℕ) (found count : ℕ) : Type 0 where
+  pub some : 0 < found
+  pub few : found ≤ count + 1
+  pub below : (k : ℕ) → 0 < k → k < found → slice_index places k < count
+  pub rises : (k h : ℕ) → 0 < k → k < h → h < found → slice_index places k < slice_index places h
+  pub live : (k : ℕ) → 0 < k → k < found → IsLiveRow r (slice_index rows (slice_index places k))
+  pub all : (j : ℕ) → j < count → IsOutside places found j → IsLiveRow r (slice_index rows j) → ⊥
+
+-- and then the right side
+pub record ArePlaces (cols : ℕ) (rows : List ℕ) (r : ℕ) (places : List ℕ) (found : ℕ) : Type 0 where
+  pub some : 1 < found
+  pub few : found ≤ cols + 2
+  pub below : (k : ℕ) → 0 < k → k < found → slice_index places k ≤ cols
+  pub rises : (k h : ℕ) → 0 < k → k < h → h < found → slice_index places k < slice_index places h
+  pub live : (k : ℕ) → 0 < k → k < found → slice_index places k < cols → IsLiveRow r (slice_index rows (slice_index places k))
+  pub all : (j : ℕ) → j < cols → IsOutside places found j → IsLiveRow r (slice_index rows j) → ⊥
+  pub side : IsOutside places found cols → ⊥
+
+-- the columns of the first `count` pairs' rows
+pub record AreOwns (l : Listing) (old owns : List ℕ) (count : ℕ) : Type 0 where
+  pub listed : (k i j : ℕ) → k < count → slice_index_or l k (0, 0) ≡ (i + 1, j + 1) → slice_index owns i ≡ j
+  pub unlisted : (i : ℕ) → ((k : ℕ) → k < count → (slice_index_or l k (0, 0)).0 ≡ i + 1 → ⊥) → slice_index owns i ≡ slice_index old i
+
+-- the columns to look at when row r is taken after the list l, and each row's own column, which is the further place where the row is not listed
+pub record IsFound (p : Program) (l : Listing) (r : ℕ) (places owns : List ℕ) (found : ℕ) : Type 0 where
+  pub some : 1 < found
+  pub few : found ≤ length places
+  pub below : (k : ℕ) → 0 < k → k < found → slice_index places k ≤ p.cols
+  pub rises : (k h : ℕ) → 0 < k → k < h → h < found → slice_index places k < slice_index places h
+  pub live : (i k : ℕ) → 0 < k → k < found → IsListed l i (slice_index places k) → i ≡ r
+  pub all : (j : ℕ) → j ≤ p.cols → IsOutside places found j → (i : ℕ) × (IsListed l i j) × (i ≢ r)
+  pub owns_long : length owns ≡ p.rows + 1
+  pub own : (i j : ℕ) → IsListed l i j → slice_index owns i ≡ j
+  pub spare : (i : ℕ) → i ≤ p.rows → ¬ RowListed l i → slice_index owns i ≡ p.cols + 1
+
+-- outside the first `found` places, which are different columns, the row and the lead are 0
+pub record IsSupport (places : List ℕ) (found width : ℕ) (row lead : ℕ → ℤ) : Type 0 where
+  pub few : found ≤ length places
+  pub inside : (k : ℕ) → k < found → slice_index places k < width
+  pub differ : (k h : ℕ) → k < found → h < found → slice_index places k ≡ slice_index places h → k ≡ h
+  pub outside : (j : ℕ) → j < width → ((k : ℕ) → k < found → slice_index places k ≢ j) → (row j ≡ pos 0) × (lead j ≡ pos 0)
+
+-- the same for each of `count` rows but r, once its own column stands at place 0
+pub record IsLive (places owns : List ℕ) (found count r width : ℕ) (rows : ℕ → ℕ → ℤ) (lead : ℕ → ℤ) : Type 0 where
+  pub some : 0 < found
+  pub few : found ≤ length places
+  pub owns_long : length owns ≡ count
+  pub inside : (k : ℕ) → 0 < k → k < found → slice_index places k < width
+  pub own_inside : (i : ℕ) → i < count → slice_index owns i < width
+  pub differ : (k h : ℕ) → 0 < k → k < found → 0 < h → h < found → slice_index places k ≡ slice_index places h → k ≡ h
+  pub apart : (i k : ℕ) → i < count → i ≢ r → 0 < k → k < found → slice_index places k ≢ slice_index owns i
+  pub outside : (i j : ℕ) → i < count → i ≢ r → j < width → slice_index owns i ≢ j → IsOutside places found j → rows i j ≡ pos 0
+  pub outside_lead : (j : ℕ) → j < width → IsOutside places found j → lead j ≡ pos 0

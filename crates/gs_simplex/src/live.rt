@@ -1,0 +1,124 @@
+// Which columns a pivot has to look at: those that are not listed, that of the row which is taken, the right side, and each row's own column.
+
+ghost use Rattle.std.specs.Prelude.{◌≡◌, ◌≢◌, ℕ, ◌+◌, ◌<◌, ◌≤◌, ◌^◌, ◌⊎◌, ◌↔◌, IsTrue, IfOk, length, slice_index, vec_len};
+ghost use Rattle.gs_rows.specs.Program.{IsPairList, IsListed, RowListed, ColListed};
+ghost use Rattle.gs_simplex.specs.Live.{HasPlaces, IsLiveRow, ArePlaces, IsFound};
+
+use crate::best::mark_rows;
+use crate::choice::pair_at;
+use gs_rows::Program;
+use std::alloc::{AllocError, Global};
+
+/// Room to find the columns of a pivot in.
+#[derive(Drop)]
+pub(crate) struct Live {
+    /// For each column the row that it is listed with, from 1, or 0.
+    pub(crate) rows: Vec<u32>,
+    /// A place for a row's own column, and then the other columns.
+    pub(crate) places: Vec<u32>,
+    /// For each row its own column.
+    pub(crate) owns: Vec<u32>,
+}
+
+// Sets each number to this one.
+fn set_all(numbers: &mut [u32], to: u32)
+    ensures { (k : ℕ) → k < length numbers.old → slice_index numbers.new k ≡ to }
+{
+    for k in 0..numbers.len() {
+        numbers[k] = to;
+    }
+}
+
+// Notes the column of each listed row.
+fn mark_owns(p: &Program, basis: &[(u32, u32)], owns: &mut [u32])
+    requires small_cols { p.now.cols < 2 ^ 31 }
+    requires pairs { IsPairList p.now basis.now }
+    requires long { length owns.old ≡ p.now.rows + 1 }
+    ensures listed { (i j : ℕ) → IsListed basis.now i j → slice_index owns.new i ≡ j }
+    ensures unlisted { (i : ℕ) → (RowListed basis.now i → ⊥) → slice_index owns.new i ≡ slice_index owns.old i }
+{
+    for place in 0..basis.len() {
+        let (row, column) = pair_at(p, basis, place);
+        owns[row] = column as u32;
+    }
+}
+
+// Notes for each column the row that it is listed with, from 1, or 0.
+fn note_rows(p: &Program, basis: &[(u32, u32)], rows: &mut [u32])
+    requires small_rows { p.now.rows < 2 ^ 31 }
+    requires pairs { IsPairList p.now basis.now }
+    requires long { length rows.old ≡ p.now.cols }
+    ensures listed { (i j : ℕ) → IsListed basis.now i j → slice_index rows.new j ≡ i + 1 }
+    ensures unlisted { (j : ℕ) → j < p.now.cols → (ColListed basis.now j → ⊥) → slice_index rows.new j ≡ 0 }
+{
+    set_all(rows, 0);
+    mark_rows(p, basis, rows);
+}
+
+// Notes for each row its own column, which is the further place where it is not listed.
+fn note_owns(p: &Program, basis: &[(u32, u32)], owns: &mut [u32])
+    requires small_cols { p.now.cols < 2 ^ 31 }
+    requires pairs { IsPairList p.now basis.now }
+    requires long { length owns.old ≡ p.now.rows + 1 }
+    ensures listed { (i j : ℕ) → IsListed basis.now i j → slice_index owns.new i ≡ j }
+    ensures unlisted { (i : ℕ) → i ≤ p.now.rows → (RowListed basis.now i → ⊥) → slice_index owns.new i ≡ p.now.cols + 1 }
+{
+    set_all(owns, p.cols + 1);
+    mark_owns(p, basis, owns);
+}
+
+// Whether a column that is listed with this row, from 1, or with none, is looked at when row `r` is taken.
+fn is_live(row: u32, r: usize) -> bool
+    requires { r < 2 ^ 31 }
+    ensures { IsTrue result ↔ IsLiveRow r row }
+{
+    row == 0 || row as usize == r + 1
+}
+
+// Lists the columns from place 1 on, the right side last, and answers the place behind them.
+fn find_places(cols: usize, rows: &[u32], r: usize, places: &mut [u32]) -> usize
+    requires small_row { r < 2 ^ 31 }
+    requires small_cols { cols < 2 ^ 31 }
+    requires long { length rows.now ≡ cols }
+    requires room { length places.old ≡ cols + 2 }
+    ensures { ArePlaces cols rows.now r places.new result }
+{
+    let mut found: usize = 1;
+    for j in 0..cols {
+        if is_live(rows[j], r) {
+            places[found] = j as u32;
+            found += 1;
+        }
+    }
+    places[found] = cols as u32;
+    found + 1
+}
+
+impl Live {
+    // Room for this program.
+    pub(crate) fn room(alloc: Global, p: &Program) -> Result<Live, AllocError>
+        requires small_rows { p.now.rows < 2 ^ 31 }
+        requires small_cols { p.now.cols < 2 ^ 31 }
+        ensures { IfOk result (HasPlaces p.now) }
+    {
+        let rows = vec![in alloc; 0u32; p.cols as usize]?;
+        let places = vec![in alloc; 0u32; p.cols as usize + 2]?;
+        let owns = vec![in alloc; 0u32; p.rows as usize + 1]?;
+        Ok(Live { rows, places, owns })
+    }
+
+    // Finds the columns for a pivot that takes row `r`, and answers the place behind the last.
+    pub(crate) fn find(&mut self, p: &Program, basis: &[(u32, u32)], r: usize) -> usize
+        requires small_rows { p.now.rows < 2 ^ 31 }
+        requires small_cols { p.now.cols < 2 ^ 31 }
+        requires room { HasPlaces p.now self.old }
+        requires pairs { IsPairList p.now basis.now }
+        requires row { r < p.now.rows }
+        ensures room { HasPlaces p.now self.new }
+        ensures found { IsFound p.now basis.now r self.new.places.items self.new.owns.items result }
+    {
+        note_rows(p, basis, &mut self.rows);
+        note_owns(p, basis, &mut self.owns);
+        find_places(p.cols as usize, &self.rows, r, &mut self.places)
+    }
+}
