@@ -76,7 +76,7 @@ completes words old new status.TooLong h task bytes asked r e few good =
 completes words old new s h task bytes asked r e few good = refused words task old new bytes s (λ reply. says_of task old new bytes reply r e) h asked
 
 -- what is said otherwise ends otherwise
-ends_so : (one two : Reply → Type 0) (s : Status) → ((reply : Reply) → one reply → two reply) → EndsSo one s → EndsSo two s
+pub ends_so : (one two : Reply → Type 0) (s : Status) → ((reply : Reply) → one reply → two reply) → EndsSo one s → EndsSo two s
 ends_so one two s f (inl h) = inl (h.0, (h.1.0, f (Prints h.1.0) h.1.1))
 ends_so one two s f (inr (inl e)) = inr (inl e)
 ends_so one two s f (inr (inr h)) = inr (inr (h.0, f (Refuses h.0) h.1, h.2))
@@ -135,22 +135,22 @@ paths_at_last words old new s runs grouping bytes g asked e few read good =
 -- ---- strategies
 
 -- what is said of a strategy's text is said of the strategy
-over_strategy : (says : Strategy → Reply → Type 0) (version : Version) (t : Strategy) (s : Status) → IsStrategy version t → EndsSo (OfStrategy (SaysConfirmed says) (strategy_text version t)) s → EndsSo (SaysConfirmed says t) s
+pub over_strategy : (says : Strategy → Reply → Type 0) (version : Version) (t : Strategy) (s : Status) → IsStrategy version t → EndsSo (OfStrategy says (strategy_text version t)) s → EndsSo (says t) s
 over_strategy says version t s is h =
-    ends_so (OfStrategy (SaysConfirmed says) (strategy_text version t)) (SaysConfirmed says t) s (λ reply o. subst (λ (x : ReadResult). OfRead (SaysConfirmed says) x reply) (only version t o.read is o.reads) o.said) h
+    ends_so (OfStrategy says (strategy_text version t)) (says t) s (λ reply o. subst (λ (x : ReadResult). OfRead says x reply) (only version t o.read is o.reads) o.said) h
 
-pub evaluates_at_last : (words : List (List ℕ)) (old new : Ends) (s : Status) → RunsTo words old new s → CompletesStrategy Evaluate SaysNumbers words old new s
+pub evaluates_at_last : (words : List (List ℕ)) (old new : Ends) (s : Status) → RunsTo words old new s → CompletesStrategy Evaluate (SaysConfirmed SaysNumbers) words old new s
 evaluates_at_last words old new s runs version t asked is e few good =
-    over_strategy SaysNumbers version t s is (completes words old new s runs Evaluate (strategy_text version t) asked refl e few good)
+    over_strategy (SaysConfirmed SaysNumbers) version t s is (completes words old new s runs Evaluate (strategy_text version t) asked refl e few good)
 
 pub queries_at_last : (words : List (List ℕ)) (old new : Ends) (s : Status) → RunsTo words old new s → (player : ℕ) (line signal : List ℕ)
-    → CompletesStrategy (Query player line signal) (SaysQueried player line signal) words old new s
+    → CompletesStrategy (Query player line signal) (SaysConfirmed (SaysQueried player line signal)) words old new s
 queries_at_last words old new s runs player line signal version t asked is e few good =
-    over_strategy (SaysQueried player line signal) version t s is (completes words old new s runs (Query player line signal) (strategy_text version t) asked refl e few good)
+    over_strategy (SaysConfirmed (SaysQueried player line signal)) version t s is (completes words old new s runs (Query player line signal) (strategy_text version t) asked refl e few good)
 
-pub upgrades_at_last : (words : List (List ℕ)) (old new : Ends) (s : Status) → RunsTo words old new s → CompletesStrategy Upgrade SaysUpgraded words old new s
+pub upgrades_at_last : (words : List (List ℕ)) (old new : Ends) (s : Status) → RunsTo words old new s → CompletesStrategy Upgrade (SaysConfirmed SaysUpgraded) words old new s
 upgrades_at_last words old new s runs version t asked is e few good =
-    over_strategy SaysUpgraded version t s is (completes words old new s runs Upgrade (strategy_text version t) asked refl e few good)
+    over_strategy (SaysConfirmed SaysUpgraded) version t s is (completes words old new s runs Upgrade (strategy_text version t) asked refl e few good)
 
 -- ---- tasks that read nothing
 

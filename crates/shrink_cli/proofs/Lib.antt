@@ -1,3 +1,5 @@
 mod Ends
 mod Promised
 mod Completed
+mod Judged
+mod Certified

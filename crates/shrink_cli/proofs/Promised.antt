@@ -122,7 +122,7 @@ confirmed says tells bytes text (Ok t) told reads (inr h) = let bad = h.2 in cc
 confirmed says tells bytes text (Err why) told reads h = cc
 
 -- what is printed of a strategy file is said of its strategy
-of_strategy : (task : Task) (says : Strategy → Reply → Type 0) (tells : Strategy → List ℕ → Type 0) (old new : Ends) → ((t : Strategy) (text : List ℕ) → says t (Prints text) → tells t text)
+pub of_strategy : (task : Task) (says : Strategy → Reply → Type 0) (tells : Strategy → List ℕ → Type 0) (old new : Ends) → ((t : Strategy) (text : List ℕ) → says t (Prints text) → tells t text)
     → ((text bytes : List ℕ) → Asks task bytes (Prints text) → OfStrategy (SaysConfirmed says) bytes (Prints text)) → reads task ≡ true → IsPrinted task old new → PrintsSo (OfConfirmed tells) old new
 of_strategy task says tells old new told asks r p =
     let said = asks p.0 p.1.bytes p.1.says in

@@ -1,7 +1,15 @@
 -- What a run promises of each command beyond what each status says: what is printed, and that it ends well.
-use Rattle.std.specs.Prelude.{◌≡◌, ◌⊎◌, ℕ, ◌≤◌, List, Bool, length, Some, Ok, true, false}
+use Rattle.std.specs.Prelude.{◌≡◌, ◌⊎◌, ℕ, ◌≤◌, ◌++◌, List, Bool, length, Some, Ok, true, false}
 use Rattle.std.specs.Io.KnownBytes.{Appends}
 use Rattle.gs_answer.specs.Asking.{Asks, reads}
+use Rattle.gs_certificate.specs.TextLaws.{IsStated}
+use Rattle.gs_certificate.specs.Texts.{Stated, certificate_text}
+use Rattle.gs_certificate.specs.Views.{certificate_view}
+use Rattle.gs_certificate.specs.declared.certificate.Certificate.{Certificate}
+use Rattle.gs_certify.specs.Certificates.{IsCertified, SaysCertified}
+use Rattle.gs_certify.specs.Verifying.{IsVerified, SaysChecked}
+use Rattle.gs_compare.specs.Commands.{SaysDuel, SaysJudged}
+use Rattle.gs_compare.specs.Judging.{AreHands, AreJudged, hands_text}
 use Rattle.gs_confirm.specs.Commands.{OfConfirmed as SaysConfirmed, SaysNumbers, SaysQueried, SaysUpgraded}
 use Rattle.gs_confirm.specs.Queries.{IsQueried}
 use Rattle.gs_file.specs.Reading.{FileGame, read_at, rules_of}
@@ -10,6 +18,7 @@ use Rattle.gs_file.specs.declared.version.Version.TheVariants.{Two}
 use Rattle.gs_group.specs.Checking.{IsChecked, IsGrouping}
 use Rattle.gs_group.specs.Shrinking.{IsShrunk}
 use Rattle.gs_io.specs.Causes.{Rose}
+use Rattle.gs_json.specs.FirstLine.{first_line}
 use Rattle.gs_made.specs.Made.{made_game}
 use Rattle.gs_made.specs.declared.kind.Kind.{Kind}
 use Rattle.gs_model.specs.Classes.{ClassLists}
@@ -17,6 +26,7 @@ use Rattle.gs_model.specs.Frame.{frame_of}
 use Rattle.gs_model.specs.Lossless.{IsLossless}
 use Rattle.gs_model.specs.SignalClasses.{IsSignalClasses}
 use Rattle.gs_model.specs.Verdict.{IsVerdict}
+use Rattle.gs_raw.specs.Cells.{raw_cell_count}
 use Rattle.gs_reply.specs.Refusals.{Refusal, cause_of}
 use Rattle.gs_reply.specs.Replies.{Reply, Prints, Refuses}
 use Rattle.gs_seq.specs.Stops.{IsSmall}
@@ -28,10 +38,10 @@ use Rattle.gs_strategy.specs.Checks.{Reads}
 use Rattle.gs_strategy.specs.Confirmed.{IsConfirmed, over, raw_plan}
 use Rattle.gs_strategy.specs.Laws.{IsStrategy, IsTextOf}
 use Rattle.gs_strategy.specs.Texts.{strategy_text}
-use Rattle.gs_strategy.specs.Values.{Strategy, frame_in}
+use Rattle.gs_strategy.specs.Values.{Numbers, Parts, Strategy, frame_in}
 use Rattle.gs_text.specs.VerdictText.{verdict_text}
 use Rattle.gs_words.specs.Requests.{request_of}
-use Rattle.gs_words.specs.Tasks.{Task, Shrink, Check, Make, Evaluate, Query, Upgrade, Solve, Play, Path}
+use Rattle.gs_words.specs.Tasks.{Task, Shrink, Check, Make, Evaluate, Query, Upgrade, Judge, Duel, Certify, Verify, Solve, Play, Path}
 use Rattle.gs_words.specs.declared.request.Grouping.{Grouping}
 use Rattle.gs_words.specs.declared.request.Grouping.TheVariants.{Isomorphism}
 use Rattle.shrink_cli.specs.Running.{Ends, ReadsWhole, RunsTo, Unread, most_bytes}
@@ -124,6 +134,70 @@ QueriesWell words old new s =
 abbrev pub UpgradesWell : List (List ℕ) → Ends → Ends → Status → Type 0
 UpgradesWell words old new s = request_of words ≡ Some Upgrade → s ≡ status.Ok → PrintsSo (OfConfirmed (λ t text. text ≡ strategy_text Two t)) old new
 
+-- The bytes are the text, in version 1 or 2, of a strategy that passes all checks of a strategy file; its classes may lose something, and its numbers
+-- are not looked at. Further this is said of the strategy and of the text.
+pub record OfAccepted (says : Strategy → List ℕ → Type 0) (bytes text : List ℕ) : Type 0 where
+  pub strategy : Strategy
+  pub accepted : Reads bytes (Ok strategy)
+  pub written : IsTextOf bytes strategy
+  pub said : says strategy text
+
+-- The value of player 1's plan of one strategy against player 2's of another, each over the classes of its own strategy, and their gaps, all on raw
+-- cards: no strategy of a player, using any raw cards, gains more than his gap, and some strategy gains it.
+pub record AreOnRawCards (one two : Strategy) (n : Numbers) : Type 0 where
+  pub few : raw_cell_count (frame_in one.game) ≤ 16777216
+  pub judged : AreJudged one two n
+  pub on_raw_cards : IsVerdict (frame_in one.game) (raw_plan one one.one) (raw_plan two two.two) (over n.value) (over n.gap1) (over n.gap2)
+
+-- the lines of these numbers of a strategy's own two plans
+abbrev pub IsJudged : Strategy → List ℕ → Type 0
+IsJudged t text = (n : Numbers) × AreOnRawCards t t n × (text ≡ verdict_text n)
+
+-- what `judge` prints
+abbrev pub JudgesWell : List (List ℕ) → Ends → Ends → Status → Type 0
+JudgesWell words old new s = request_of words ≡ Some Judge → s ≡ status.Ok → PrintsSo (OfAccepted IsJudged) old new
+
+-- The bytes are the texts of two strategies of one game, one behind the other, each in version 1 or 2, and each passes all checks of a strategy file.
+-- Further this is said of the two strategies and of the text.
+pub record OfTwo (says : Strategy → Strategy → List ℕ → Type 0) (bytes text : List ℕ) : Type 0 where
+  pub one : Strategy
+  pub two : Strategy
+  pub first : Reads (first_line bytes).0 (Ok one)
+  pub second : Reads (first_line bytes).1 (Ok two)
+  pub first_version : Version
+  pub second_version : Version
+  pub written : bytes ≡ strategy_text first_version one ++ strategy_text second_version two
+  pub one_game : one.game ≡ two.game
+  pub said : says one two text
+
+-- the lines of the numbers of player 1's plan of the first against player 2's of the second, and of what each raw signal of round 1 is worth to player 1
+abbrev pub IsDuelled : Strategy → Strategy → List ℕ → Type 0
+IsDuelled one two text = (n : Numbers) × AreOnRawCards one two n × ((hands : List Parts) × AreHands one two hands × (text ≡ verdict_text n ++ hands_text one.game.deck (rules_of one.game) hands))
+
+-- what `duel` prints
+abbrev pub DuelsWell : List (List ℕ) → Ends → Ends → Status → Type 0
+DuelsWell words old new s = request_of words ≡ Some Duel → s ≡ status.Ok → PrintsSo (OfTwo IsDuelled) old new
+
+-- what `certify` prints: the text in version 2, and behind it that of a certificate which holds: no raw plan of a player is paid more than his bound
+-- against the other's plan, and some raw plan is paid as much
+abbrev pub CertifiesWell : List (List ℕ) → Ends → Ends → Status → Type 0
+CertifiesWell words old new s = request_of words ≡ Some Certify → s ≡ status.Ok → PrintsSo (OfConfirmed IsCertified) old new
+
+-- The bytes are the text of a strategy, in version 1 or 2, that passes all checks of a strategy file, and behind it that of a certificate. The classes
+-- are lossless and the certificate holds: no raw plan of a player is paid more than his bound against the other's plan, whoever made it. The text is
+-- the value of the plans and both bounds.
+pub record OfCertificate (bytes text : List ℕ) : Type 0 where
+  pub strategy : Strategy
+  pub certificate : Certificate
+  pub accepted : Reads (first_line bytes).0 (Ok strategy)
+  pub version : Version
+  pub written : bytes ≡ strategy_text version strategy ++ certificate_text (certificate_view certificate)
+  pub verified : IsVerified strategy certificate text
+
+-- what `verify` prints
+abbrev pub VerifiesWell : List (List ℕ) → Ends → Ends → Status → Type 0
+VerifiesWell words old new s = request_of words ≡ Some Verify → s ≡ status.Ok → PrintsSo OfCertificate old new
+
 -- ---- how a run ends where nothing outside fails
 
 -- no read and no write to the output failed, and neither count stands at its last value
@@ -165,7 +239,25 @@ EndsChecked grouping g s = (s ≡ status.Ok) ⊎ ((s ≡ status.Memory) ⊎ ((s 
 abbrev pub CompletesStrategy : Task → (Strategy → Reply → Type 0) → List (List ℕ) → Ends → Ends → Status → Type 0
 CompletesStrategy task says words old new s =
     (version : Version) (t : Strategy) → request_of words ≡ Some task → IsStrategy version t → old.left ≡ Some (strategy_text version t)
-    → length (strategy_text version t) ≤ most_bytes → NothingFailed old new → EndsSo (SaysConfirmed says t) s
+    → length (strategy_text version t) ≤ most_bytes → NothingFailed old new → EndsSo (says t) s
+
+-- over the texts of two strategies, one behind the other and together not too long, `duel` ends so as it says of the two
+abbrev pub DuelsAtLast : List (List ℕ) → Ends → Ends → Status → Type 0
+DuelsAtLast words old new s =
+    (v w : Version) (one two : Strategy) → request_of words ≡ Some Duel → IsStrategy v one → IsStrategy w two → old.left ≡ Some (strategy_text v one ++ strategy_text w two)
+    → length (strategy_text v one ++ strategy_text w two) ≤ most_bytes → NothingFailed old new → EndsSo (SaysDuel one two) s
+
+-- over the text of a strategy and behind it that of a certificate, together not too long, `verify` ends so as it says of the two
+abbrev pub VerifiesAtLast : List (List ℕ) → Ends → Ends → Status → Type 0
+VerifiesAtLast words old new s =
+    (version : Version) (t : Strategy) (c : Stated) → request_of words ≡ Some Verify → IsStrategy version t → IsStated c → old.left ≡ Some (strategy_text version t ++ certificate_text c)
+    → length (strategy_text version t ++ certificate_text c) ≤ most_bytes → NothingFailed old new → EndsSo (λ reply. (d : Certificate) × (certificate_view d ≡ c) × SaysChecked t d reply) s
+
+-- over the two lines that `certify` prints of a strategy's text, which are not too long, `verify` ends well, or without memory
+abbrev pub CertifiedAtLast : List (List ℕ) → Ends → Ends → Status → Type 0
+CertifiedAtLast words old new s =
+    (version : Version) (t : Strategy) (lines : List ℕ) → request_of words ≡ Some Verify → IsStrategy version t → OfConfirmed IsCertified (strategy_text version t) lines
+    → old.left ≡ Some lines → length lines ≤ most_bytes → NothingFailed old new → EndsWell s
 
 -- a task that reads nothing ends so as it says, whatever the source is
 abbrev pub MakesAtLast : List (List ℕ) → Ends → Ends → Status → Type 0
@@ -195,6 +287,10 @@ pub record Keeps (words : List (List ℕ)) (old new : Ends) (s : Status) : Type 
   pub evaluates : EvaluatesWell words old new s
   pub queries : QueriesWell words old new s
   pub upgrades : UpgradesWell words old new s
+  pub judges : JudgesWell words old new s
+  pub duels : DuelsWell words old new s
+  pub certifies : CertifiesWell words old new s
+  pub verifies : VerifiesWell words old new s
   -- with no fault of the outside
   pub completes : Completes words old new s
   pub shrinks_at_last : (summary : Bool) → CompletesGame (Shrink summary) (λ _ t. EndsWell t) words old new s
@@ -202,8 +298,13 @@ pub record Keeps (words : List (List ℕ)) (old new : Ends) (s : Status) : Type 
   pub solves_at_last : (grouping : Grouping) → CompletesGame (Solve grouping) (λ g. EndsSo (OfGrouping grouping Solves g)) words old new s
   pub plays_at_last : (grouping : Grouping) (turns : ℕ) → CompletesGame (Play grouping turns) (λ g. EndsSo (OfGrouping grouping (Plays turns) g)) words old new s
   pub paths_at_last : (grouping : Grouping) → CompletesGame (Path grouping) (λ g. EndsSo (OfGrouping grouping ShowsPath g)) words old new s
-  pub evaluates_at_last : CompletesStrategy Evaluate SaysNumbers words old new s
-  pub queries_at_last : (player : ℕ) (line signal : List ℕ) → CompletesStrategy (Query player line signal) (SaysQueried player line signal) words old new s
-  pub upgrades_at_last : CompletesStrategy Upgrade SaysUpgraded words old new s
+  pub evaluates_at_last : CompletesStrategy Evaluate (SaysConfirmed SaysNumbers) words old new s
+  pub queries_at_last : (player : ℕ) (line signal : List ℕ) → CompletesStrategy (Query player line signal) (SaysConfirmed (SaysQueried player line signal)) words old new s
+  pub upgrades_at_last : CompletesStrategy Upgrade (SaysConfirmed SaysUpgraded) words old new s
+  pub judges_at_last : CompletesStrategy Judge SaysJudged words old new s
+  pub duels_at_last : DuelsAtLast words old new s
+  pub certifies_at_last : CompletesStrategy Certify (SaysConfirmed SaysCertified) words old new s
+  pub verifies_at_last : VerifiesAtLast words old new s
+  pub certified_at_last : CertifiedAtLast words old new s
   pub makes_at_last : MakesAtLast words old new s
   pub files_at_last : FilesAtLast words old new s

@@ -8,7 +8,13 @@ use std::alloc::{AllocError, Global};
 use std::test::Fail;
 use strategies::STRATEGY_RUNS;
 
+mod failing;
+mod judged;
+mod refused;
 mod strategies;
+
+/// Pieces of 7 bytes, for all three ends.
+const SEVENS: (u32, u32, u32) = (7, 7, 7);
 
 /// Kuhn's game: three ranks and one suit. A tilde stands for the end of a line, here and below.
 const KUHN: &str =
@@ -62,6 +68,11 @@ shrink|JQK|0123456789abcdefghijklmnopqrstuvwxyzABCDEFGHIJKLMNOPQ|0 9 0 0|7||bad 
 shrink|suits = \"s\"|suits = \"s\"~copies = \"11\"|0 9 0 0|7||bad game: deck: bad copies~
 shrink|bet = 1~cap = 1|tree = \"1[k:=,k:=]\"|0 9 0 0|7||bad game: tree of round 1: repeated letter at 6~
 shrink|bet = 1~cap = 1|tree = \"1[k:=,b0:=]\"|0 9 0 0|7||bad game: tree of round 1: syntax at 7~
+shrink|bet = 1~cap = 1|tree = \"1[k4097:!]\"|0 9 0 0|7||bad game: tree of round 1: syntax at 6~
+shrink|bet = 1~cap = 1|tree = \"1[k4096:!]\"|0 9 0 0|7||bad game: put too large: 4097~
+shrink|bet = 1~cap = 1|tree = \"1[k4095:!]\"|0 9 0 0|0|round 1 classes 3 signals 3~1: Js~2: Qs~3: Ks~|
+shrink|bet = 1~cap = 1|tree = \"1[k:1[k:1[k:1[k:1[k:1[k:1[k:1[k:1[k:1[k:1[k:1[k:1[k:1[k:1[k:1[k:=]]]]]]]]]]]]]]]]\"|0 9 0 0|0|round 1 classes 3 signals 3~1: Js~2: Qs~3: Ks~|
+shrink|bet = 1~cap = 1|tree = \"\"|0 9 0 0|7||bad game: tree of round 1: syntax at 0~
 shrink|bet = 1~cap = 1|tree = \"1[k:=\"|0 9 0 0|7||bad game: tree of round 1: syntax at 5~
 shrink|bet = 1~cap = 1|tree = \"1[k:1[k:1[k:1[k:1[k:1[k:1[k:1[k:1[k:1[k:1[k:1[k:1[k:1[k:1[k:1[k:1[k:\"|0 9 0 0|7||bad game: tree of round 1: too deep at 64~
 shrink|private = 1|private = 0|0 9 0 0|7||bad game: no private card in round 1~
@@ -71,7 +82,7 @@ shrink|bet = 1~cap = 1|tree = \"1[f:!]\"~~[[round]]~private = 0~public = 0~bet =
 shrink|bet = 1~cap = 1|tree = \"1[k:=,b1:=]\"|0 9 0 0|7||bad game: uneven: round 1 path b~
 shrink|ante = 1|ante = 4096|0 9 0 0|7||bad game: put too large: 4097~
 shrink --summary|bet = 1~cap = 1|tree = \"1[a:=,b:=,c:=,d:=,e:=,f:=,g:=,h:=]\"~~[[round]]~private = 0~public = 0~tree = \"1[a:=,b:=,c:=,d:=,e:=,f:=,g:=,h:=]\"~~[[round]]~private = 0~public = 0~tree = \"1[a:=,b:=,c:=,d:=,e:=,f:=,g:=,h:=]\"~~[[round]]~private = 0~public = 0~tree = \"1[a:=,b:=,c:=,d:=,e:=,f:=,g:=,h:=,i:=,j:=,k:=,l:=,m:=,n:=,o:=,p:=]\"|0 9 0 0|0|deals 6 weight 6~round 1 classes 3 signals 3~round 2 classes 3 signals 3~round 3 classes 3 signals 3~round 4 classes 3 signals 3~|
-shrink --summary|bet = 1~cap = 1|tree = \"1[a:=,b:=,c:=,d:=,e:=,f:=,g:=,h:=]\"~~[[round]]~private = 0~public = 0~tree = \"1[a:=,b:=,c:=,d:=,e:=,f:=,g:=,h:=]\"~~[[round]]~private = 0~public = 0~tree = \"1[a:=,b:=,c:=,d:=,e:=,f:=,g:=,h:=]\"~~[[round]]~private = 0~public = 0~tree = \"1[a:=,b:=,c:=,d:=,e:=,f:=,g:=,h:=,i:=,j:=,k:=,l:=,m:=,n:=,o:=,p:=,q:=]\"|0 9 0 0|7||bad game: too many lines: 8704~
+shrink --summary|bet = 1~cap = 1|tree = \"1[a:=,b:=,c:=,d:=,e:=,f:=,g:=,h:=,i:!]\"~~[[round]]~private = 0~public = 0~tree = \"1[a:=,b:=,c:=,d:=,e:=,f:=,g:=,h:=]\"~~[[round]]~private = 0~public = 0~tree = \"1[a:=,b:=,c:=,d:=,e:=,f:=,g:=,h:=]\"~~[[round]]~private = 0~public = 0~tree = \"1[a:=,b:=,c:=,d:=,e:=,f:=,g:=,h:=,i:=,j:=,k:=,l:=,m:=,n:=,o:=,p:=]\"|0 9 0 0|7||bad game: too many lines: 8193~
 shrink|-|version = 1~ranks = \"23456789TJQKA\"~suits = \"shdc\"~ranking = \"high\"~ante = 1~~[[round]]~private = 1~public = 0~bet = 1~cap = 1~~[[round]]~private = 0~public = 1~bet = 1~cap = 1~~[[round]]~private = 0~public = 2~bet = 1~cap = 1~|0 9 0 0|7||bad game: too heavy: 155937600~
 shrink|-|version = 1~ranks = \"23456789TJQKA\"~suits = \"shdc\"~ranking = \"high\"~ante = 1~~[[round]]~private = 1~public = 3~bet = 1~cap = 1~|0 9 0 0|7||bad game: too many signals: round 1~
 shrink|-|version = 1~ranks = \"23456789abcdefghi\"~suits = \"sh\"~ranking = \"three\"~ante = 1~~[[round]]~private = 2~public = 1~bet = 1~cap = 1~|0 9 0 0|7||bad game: too many deals~
@@ -112,20 +123,20 @@ struct Outcome {
 }
 
 /// A run over memory: the calls of the source, of the output and of the errors' end that fail, 0
-/// for none.
+/// for none, and the most bytes that a call of each gives or takes.
 fn run_over(
     alloc: Global,
     words: &[String],
     input: &[u8],
     fails: (u32, u32, u32),
-    piece: u32,
+    pieces: (u32, u32, u32),
 ) -> Result<Outcome, AllocError>
-    requires { 1 ≤ piece }
+    requires { (1 ≤ pieces.0) × (1 ≤ pieces.1) × (1 ≤ pieces.2) }
 {
     let bytes = Vec::from_slice(alloc, input)?;
-    let mut source = MemSource::new(bytes, 16, Vec::from_slice(alloc, &[fails.0])?);
-    let mut out = MemSink::new(alloc, 10_000, piece, Vec::from_slice(alloc, &[fails.1])?)?;
-    let mut err = MemSink::new(alloc, 1000, 9, Vec::from_slice(alloc, &[fails.2])?)?;
+    let mut source = MemSource::new(bytes, pieces.0, Vec::from_slice(alloc, &[fails.0])?);
+    let mut out = MemSink::new(alloc, 10_000, pieces.1, Vec::from_slice(alloc, &[fails.1])?)?;
+    let mut err = MemSink::new(alloc, 1000, pieces.2, Vec::from_slice(alloc, &[fails.2])?)?;
     let status = run(alloc, words, &mut source, &mut out, &mut err);
     Ok(Outcome { status, out, err })
 }
@@ -182,7 +193,7 @@ fn each_status_with_its_texts(rt: HostRuntime) -> Result<(), Fail> {
         assert_eq!(rt; numbers.len(), 4, "{row}");
         assert!(rt; 1 <= numbers[1], "{row}");
         let fails = (numbers[0], numbers[2], numbers[3]);
-        let end = run_over(alloc, &words, input.as_bytes(), fails, numbers[1])?;
+        let end = run_over(alloc, &words, input.as_bytes(), fails, (16, numbers[1], 9))?;
         let code = parts.next().ok_or("code")?.parse::<u8>()?;
         let out = text_of(alloc, parts.next().ok_or("out")?)?;
         let err = text_of(alloc, parts.next().ok_or("err")?)?;
@@ -205,7 +216,7 @@ fn each_command_over_strategies(rt: HostRuntime) -> Result<(), Fail> {
         assert_eq!(rt; numbers.len(), 4, "{row}");
         assert!(rt; 1 <= numbers[1], "{row}");
         let fails = (numbers[0], numbers[2], numbers[3]);
-        let end = run_over(alloc, &words, input.as_bytes(), fails, numbers[1])?;
+        let end = run_over(alloc, &words, input.as_bytes(), fails, (16, numbers[1], 9))?;
         let code = parts.next().ok_or("code")?.parse::<u8>()?;
         let out = text_of(alloc, parts.next().ok_or("out")?)?;
         let err = text_of(alloc, parts.next().ok_or("err")?)?;
@@ -223,7 +234,13 @@ fn a_file_that_is_cut_is_no_game(rt: HostRuntime) -> Result<(), Fail> {
     let file = text_of(alloc, KUHN)?;
     // the last byte ends the last line, which means the same without it
     for length in 0..file.len().saturating_sub(1) {
-        let end = run_over(alloc, &words, &file.as_bytes()[..length], (0, 0, 0), 9)?;
+        let end = run_over(
+            alloc,
+            &words,
+            &file.as_bytes()[..length],
+            (0, 0, 0),
+            (16, 9, 9),
+        )?;
         assert_eq!(rt; end.status, Status::BadGame, "{length}");
         assert!(rt; end.out.given().is_empty(), "{length}");
     }

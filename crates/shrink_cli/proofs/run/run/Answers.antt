@@ -1,5 +1,7 @@
 use Rattle.std.proofs.Common.{ℕ, List, map, string_bytes}
+use Rattle.shrink_cli.proofs.Certified.{certified_at_last, certifies, certifies_at_last, verifies, verifies_at_last}
 use Rattle.shrink_cli.proofs.Completed.{checks_at_last, completes, evaluates_at_last, files_at_last, makes_at_last, paths_at_last, plays_at_last, queries_at_last, shrinks_at_last, solves_at_last, upgrades_at_last}
+use Rattle.shrink_cli.proofs.Judged.{duels, duels_at_last, judges, judges_at_last}
 use Rattle.shrink_cli.proofs.Promised.{checks, evaluates, makes, paths, plays, prints, queries, shrinks, solves, upgrades}
 use Rattle.shrink_cli.specs.Promises.{Keeps}
 use Rattle.shrink_cli.specs.Running.{Ends, RunsTo}
@@ -20,6 +22,10 @@ kept words old new s h = record {
   evaluates = evaluates words old new s h;
   queries = queries words old new s h;
   upgrades = upgrades words old new s h;
+  judges = judges words old new s h;
+  duels = duels words old new s h;
+  certifies = certifies words old new s h;
+  verifies = verifies words old new s h;
   completes = completes words old new s h;
   shrinks_at_last = shrinks_at_last words old new s h;
   checks_at_last = checks_at_last words old new s h;
@@ -29,6 +35,11 @@ kept words old new s h = record {
   evaluates_at_last = evaluates_at_last words old new s h;
   queries_at_last = queries_at_last words old new s h;
   upgrades_at_last = upgrades_at_last words old new s h;
+  judges_at_last = judges_at_last words old new s h;
+  duels_at_last = duels_at_last words old new s h;
+  certifies_at_last = certifies_at_last words old new s h;
+  verifies_at_last = verifies_at_last words old new s h;
+  certified_at_last = certified_at_last words old new s h;
   makes_at_last = makes_at_last words old new s h;
   files_at_last = files_at_last words old new s h;
 }
