@@ -1,4 +1,4 @@
--- Weights of the plan that puts all on given moves, as far as they stand. Of private functions.
+-- Weights of the plan that puts all on given moves, as far as they stand.
 use Rattle.std.specs.Prelude.{ℕ, ◌≡◌, ◌<◌, ◌==◌, List, slice_index, if◌then◌else◌}
 use Rattle.gs_model.specs.Classes.{ClassLists, IsClass, first_member}
 use Rattle.gs_model.specs.Frame.{Frame, last_step, move_count, player_at, round_of}

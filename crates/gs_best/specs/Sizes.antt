@@ -44,6 +44,7 @@ pub record IsLaidOut (f : Frame) (lists : ClassLists) (t : Table) : Type 0 where
 abbrev pub point_room : List (ℕ × ℕ) → ℕ
 point_room sizes = sum_by (λ (n : ℕ × ℕ). n.0) sizes
 
+-- for how many values there is room in rounds of these sizes
 abbrev pub value_room : List (ℕ × ℕ) → ℕ
 value_room sizes = sum_by (λ (n : ℕ × ℕ). n.0 * n.1) sizes
 

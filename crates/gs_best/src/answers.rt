@@ -17,7 +17,7 @@ use gs_seq::{Abstract, Plan};
 use std::alloc::{AllocError, Global};
 
 /// The first best answer of a player to the other's plan: total 1, and at each point and class all that comes there on the first move of greatest
-/// worth.
+/// worth. In the literature: a best response.
 pub fn best(alloc: Global, form: &Abstract, player: u8, other: &Plan) -> Result<Plan, AllocError>
     requires some { 0 < player }
     requires two { player ≤ 2 }

@@ -79,7 +79,7 @@ fn best_total(side: &Deviator<'_>, table: &mut Table, scratch: &mut Scratch) -> 
 }
 
 /// The verdict on a plan of player 1 and one of player 2: what they pay player 1, and what each player could still gain by any raw plan, over the
-/// weight of all deals and both totals. It takes no memory.
+/// weight of all deals and both totals. It takes no memory. A gap is one side of exploitability; both together are called NashConv.
 pub fn verdict(form: &Abstract, one: &Plan, two: &Plan, work: &mut Work) -> Verdict
     requires one { IsPlanOf (frame_of form.now) (lists_of form.now) 1 one.now }
     requires two { IsPlanOf (frame_of form.now) (lists_of form.now) 2 two.now }

@@ -35,10 +35,12 @@ mark before (move letter chips next ms) = 44
 abbrev pub act_front : ℕ → Moves → List ℕ
 act_front p ms = (48 + p) ∷ (moves_text 91 ms ++ mark 91 ms ∷ [])
 
+-- the text of the acts that are still open, from the outermost
 abbrev pub open_text : List Open → List ℕ
 open_text [] = []
 open_text (o ∷ outer) = open_text outer ++ (act_front o.player o.moves ++ (o.letter ∷ (chips_text o.chips ++ 58 ∷ [])))
 
+-- what has been read at a cut
 abbrev pub cut_text : Cut → List ℕ
 cut_text (at_tree outer) = open_text outer
 cut_text (at_bracket p outer) = open_text outer ++ (48 + p) ∷ []
@@ -53,12 +55,14 @@ pub record IsAct (p : ℕ) (ms : Moves) (outer : List Open) : Type 0 where
   pub depth : length outer < 16
   pub moves : are_sound (15 - length outer) ms ≡ true
 
+-- what holds of an open act: its letter is one that its moves do not have, its chips are at most 4096
 pub record IsOpen (o : Open) (outer : List Open) : Type 0 where
   pub act : IsAct o.player o.moves outer
   pub letter : is_letter o.letter ≡ true
   pub fresh : has_letter o.moves o.letter ≡ false
   pub chips : o.chips ≤ 4096
 
+-- the same of all open acts
 abbrev pub AreOpen : List Open → Type 0
 AreOpen [] = Unit {0}
 AreOpen (o ∷ outer) = IsOpen o outer × AreOpen outer

@@ -25,12 +25,14 @@ pub record IsMistake (text : List ℕ) (at : ℕ) (m : Mistake) : Type 0 where
   pub reached : cut_text place ≡ take at text
   pub mistake : m ≡ mistake_at place (slice_get text at)
 
+-- a fault names the place and the mistake there, unless memory ran out
 abbrev pub IsFaultOf : List ℕ → TreeFault → Type 0
 IsFaultOf text (faults.RepeatedLetter at) = IsMistake text at RepeatedLetter
 IsFaultOf text (faults.TooDeep at) = IsMistake text at TooDeep
 IsFaultOf text (faults.Syntax at) = IsMistake text at Syntax
 IsFaultOf text faults.Memory = Unit {0}
 
+-- the fault for a mistake and its place
 abbrev pub fault_of : Mistake → ℕ → TreeFault
 fault_of RepeatedLetter at = faults.RepeatedLetter at
 fault_of TooDeep at = faults.TooDeep at

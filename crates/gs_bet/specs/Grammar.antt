@@ -21,9 +21,11 @@ abbrev mutual
   moves_text before none = []
   moves_text before (move letter chips next moves) = before ∷ letter ∷ (chips_text chips ++ (58 ∷ (tree_text next ++ moves_text 44 moves)))
 
+-- a small letter
 abbrev pub is_letter : ℕ → Bool
 is_letter b = nat_le 97 b && nat_le b 122
 
+-- player 1 or player 2
 abbrev pub is_player : ℕ → Bool
 is_player p = p == 1 || p == 2
 
@@ -41,6 +43,7 @@ abbrev mutual
   are_sound left (move letter chips next moves) =
       (is_letter letter && not (has_letter moves letter)) && (nat_le chips 4096 && (is_sound left next && are_sound left moves))
 
+-- whether a tree is a fold
 abbrev pub is_fold : Bet → Bool
 is_fold (act player moves) = false
 is_fold fold = true

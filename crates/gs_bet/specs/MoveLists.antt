@@ -7,6 +7,7 @@ abbrev pub count : Moves → ℕ
 count none = 0
 count (move letter chips next moves) = suc (count moves)
 
+-- whether there is a move
 abbrev pub has_move : Moves → Bool
 has_move none = false
 has_move (move letter chips next moves) = true

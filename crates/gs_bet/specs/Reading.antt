@@ -9,6 +9,7 @@ use Rattle.gs_model.specs.Betting.{Bet, Moves, act, fold, even, none}
 use Rattle.gs_bet.specs.MoveLists.{count, has_letter, push_move}
 use Rattle.gs_bet.specs.Grammar.{is_letter}
 
+-- what reading gives: a value and the bytes after it, or a mistake and the bytes from it on
 abbrev pub Read : Type 0 → Type 0
 Read A = Result (A × List ℕ) (Mistake × List ℕ)
 
@@ -22,6 +23,7 @@ abbrev pub Fails : {Y : Type 0} → Stop → Read Y → Type 0
 Fails stops.Memory read = Unit {0}
 Fails (stops.At m left) read = (rest : List ℕ) × (read ≡ Err (m, rest)) × (length rest ≡ left)
 
+-- what a function returned is what reading gives, unless memory ran out
 abbrev pub Gives : {X Y : Type 0} → (X → Y × List ℕ) → Result X Stop → Read Y → Type 0
 Gives view (Ok x) read = read ≡ Ok (view x)
 Gives view (Err e) read = Fails e read
@@ -90,14 +92,17 @@ act_with left deeper bytes = do
   moves ← moves_at (inner_at deeper) 26 none bracket.1
   Ok (act player.0 moves.0, moves.1)
 
+-- an act, where so many are left
 unfoldable pub act_at : ℕ → List ℕ → Read Bet
 act_at zero bytes = act_with 0 (λ rest. Err (Syntax, rest)) bytes
 act_at (suc left) bytes = act_with (suc left) (act_at left) bytes
 
+-- the whole tree: an even end, or an act
 unfoldable pub outer_at : List ℕ → Read Bet
 outer_at [] = act_at 16 []
 outer_at (b ∷ bytes) = if b == 61 then Ok (even, bytes) else act_at 16 (b ∷ bytes)
 
+-- nothing is left behind the tree
 abbrev pub at_end : Bet × List ℕ → Read Bet
 at_end (t, []) = Ok (t, [])
 at_end (t, b ∷ bytes) = Err (Syntax, b ∷ bytes)

@@ -5,23 +5,28 @@ use Rattle.gs_bet.specs.declared.shape.Act.{Act as Choice, Act-F, fold-Act}
 use Rattle.gs_bet.specs.declared.shape.Move.{Move, Move-F}
 use Rattle.gs_model.specs.Betting.{Bet, Moves, act, fold, even, none, move}
 
+-- a move as the definitions see it: letter, chips and the tree that follows
 pub record PlainMove : Type 0 where
   pub letter : ℕ
   pub chips : ℕ
   pub next : Bet
 
+-- moves from a list of them
 abbrev pub moves_of : List PlainMove → Moves
 moves_of [] = none
 moves_of (m ∷ ms) = move m.letter m.chips m.next (moves_of ms)
 
+-- one layer of a tree of the program, as the definitions see it
 abbrev pub tree_step : Tree-F Bet Bet PlainMove → Bet
 tree_step (Act a) = a
 tree_step Fold = fold
 tree_step Even = even
 
+-- the same of an act
 abbrev pub act_step : Act-F Bet Bet PlainMove → Bet
 act_step a = act a.player (moves_of a.moves.items)
 
+-- the same of a move
 abbrev pub move_step : Move-F Bet Bet PlainMove → PlainMove
 move_step m = record { letter = m.letter; chips = m.chips; next = m.next }
 
@@ -29,6 +34,7 @@ move_step m = record { letter = m.letter; chips = m.chips; next = m.next }
 abbrev pub plain : Tree → Bet
 plain = fold-Tree Bet Bet PlainMove tree_step act_step move_step
 
+-- an act of the program, as the definitions see it
 abbrev pub plain_act : Choice → Bet
 plain_act = fold-Act Bet Bet PlainMove tree_step act_step move_step
 

@@ -14,6 +14,3 @@ pub use limit::limit_tree;
 pub use reading::parse_tree;
 pub use shape::{Act, BetTree, Move, Tree};
 pub use writing::tree_text;
-
-#[cfg(test)]
-mod tests;

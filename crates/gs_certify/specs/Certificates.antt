@@ -29,6 +29,7 @@ pub record IsCertified (s : Strategy) (text : List ℕ) : Type 0 where
   pub reached : AreReached (frame_of s) (raw_plan s s.one) (raw_plan s s.two) certificate
   pub printed : text ≡ strategy_text Two s ++ certificate_text (certificate_view certificate)
 
+-- such a text is printed
 abbrev pub SaysCertified : Strategy → Reply → Type 0
 SaysCertified s reply = (text : List ℕ) × IsCertified s text × (reply ≡ Prints text)
 

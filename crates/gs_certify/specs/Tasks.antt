@@ -8,6 +8,7 @@ use Rattle.gs_certify.specs.Verifying.{SaysChecked}
 use Rattle.gs_certify.specs.declared.task.Task.{Task}
 use Rattle.gs_certify.specs.declared.task.Task.TheVariants.{Certify, Verify}
 
+-- what each command says of a strategy that was read
 abbrev pub says_of : Task → Strategy → Reply → Type 0
 says_of Certify s reply = OfConfirmed SaysCertified s reply
 says_of (Verify c) s reply = SaysChecked s c.now reply

@@ -18,6 +18,7 @@ abbrev pub OfRead : Which → (Strategy → Reply → Type 0) → ReadResult →
 OfRead which says (Ok s) reply = says s reply
 OfRead which says (Err why) reply = reply ≡ Refuses (Bad_strategy which why)
 
+-- what is said of the strategy that a file holds; a file that holds none is refused for its first fault, by which file it is
 pub record OfFile (which : Which) (says : Strategy → Reply → Type 0) (bytes : List ℕ) (reply : Reply) : Type 0 where
   pub read : ReadResult
   pub reads : Reads bytes read
@@ -43,6 +44,7 @@ SaysDuel one two reply = ((one.game ≢ two.game) × (reply ≡ Refuses Other_ga
 
 -- ---- the two commands
 
+-- what `judge` says of bytes
 abbrev pub Judges : List ℕ → Reply → Type 0
 Judges = OfFile Only SaysJudged
 

@@ -5,6 +5,7 @@ use Rattle.gs_confirm.specs.declared.asking.Ask.TheVariants.{Evaluate, Query, Up
 use Rattle.gs_reply.specs.Replies.{Reply}
 use Rattle.gs_strategy.specs.Values.{Strategy}
 
+-- what each command says of a strategy that is confirmed
 abbrev pub says_of : Ask → Strategy → Reply → Type 0
 says_of Evaluate = SaysNumbers
 says_of (Query q) = SaysQueried q.player q.line.now q.signal.now

@@ -13,11 +13,12 @@ use Rattle.gs_text.specs.VerdictText.{verdict_text}
 use Rattle.gs_confirm.specs.Queries.{IsBadQuery, IsQueried}
 use Rattle.gs_confirm.specs.Troubles.{IsTrouble}
 
--- what is said of the strategy that bytes hold; bytes that hold none are refused for their first fault
+-- what is said of a strategy that was read; bytes that hold none are refused for their first fault
 abbrev pub OfRead : (Strategy → Reply → Type 0) → ReadResult → Reply → Type 0
 OfRead says (Ok s) reply = says s reply
 OfRead says (Err why) reply = reply ≡ Refuses (Bad_strategy Only why)
 
+-- what is said of the bytes of a strategy file: of the strategy that they hold, or of the first fault that they have
 pub record OfStrategy (says : Strategy → Reply → Type 0) (bytes : List ℕ) (reply : Reply) : Type 0 where
   pub read : ReadResult
   pub reads : Reads bytes read
@@ -43,11 +44,14 @@ SaysQueried player line signal s reply =
 
 -- ---- the three commands
 
+-- what `evaluate` says of the bytes of a strategy file
 abbrev pub Evaluates : List ℕ → Reply → Type 0
 Evaluates = OfStrategy (OfConfirmed SaysNumbers)
 
+-- what `upgrade` says of them
 abbrev pub Upgrades : List ℕ → Reply → Type 0
 Upgrades = OfStrategy (OfConfirmed SaysUpgraded)
 
+-- what `query` says of them, by its words
 abbrev pub Queries : ℕ → List ℕ → List ℕ → List ℕ → Reply → Type 0
 Queries player line signal = OfStrategy (OfConfirmed (SaysQueried player line signal))

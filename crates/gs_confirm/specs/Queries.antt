@@ -41,10 +41,11 @@ IsBadQuery g player line text Signal = (q : ℕ) × NamesOwnPoint g player line 
 IsBadQuery g player line text Round =
     (q : ℕ) × NamesOwnPoint g player line q × NamesSomeSignal g text × ((i : ℕ) → NamesSignal g (round_of (frame_in g) (at_point q)) text i → ⊥)
 
--- a player's plan, and his gap
+-- a player's plan in a strategy
 abbrev pub weights_of_player : Strategy → ℕ → Weights
 weights_of_player s player = if player == 1 then s.one else s.two
 
+-- his gap in it
 abbrev pub gap_of_player : Strategy → ℕ → Parts
 gap_of_player s player = if player == 1 then s.numbers.gap1 else s.numbers.gap2
 

@@ -50,10 +50,12 @@ abbrev pub of_deck : DeckFault → FileFault
 of_deck cards.Memory = fault.Memory
 of_deck why = fault.Deck why
 
+-- the fault of the file that a fault of its game's rules is
 abbrev pub of_rules : GameFault → FileFault
 of_rules rules.Memory = fault.Memory
 of_rules why = fault.Game why
 
+-- the fault of the file that a fault of a round's tree is
 abbrev pub of_tree : ℕ → TreeFault → FileFault
 of_tree round tree.Memory = fault.Memory
 of_tree round why = fault.TreeText round why

@@ -5,6 +5,8 @@ use Rattle.gs_card.specs.declared.faults.DeckFault.{DeckFault}
 use Rattle.gs_game.specs.Refusals.{Refusal}
 use Rattle.gs_file.specs.declared.fault.Place.{Place}
 
+-- what a game file may have wrong first: no UTF-8, no TOML, a missing or an unknown key, a value of a wrong type, another version, a value out of its
+-- range, no deck, no betting tree, or a rule of games
 pub data Fault : Type 0 where
   not_text : Fault
   not_toml : Fault

@@ -34,6 +34,7 @@ top_keys Two = key.Version ∷ key.Ranks ∷ key.Suits ∷ key.Copies ∷ key.Ra
 abbrev pub tree_keys : List Key
 tree_keys = key.Private ∷ key.Public ∷ key.Tree ∷ []
 
+-- the keys that may stand in a round with limit betting
 abbrev pub limit_keys : List Key
 limit_keys = key.Private ∷ key.Public ∷ key.Bet ∷ key.Cap ∷ []
 
@@ -50,5 +51,6 @@ has_only keys (member name d rest) = is_among keys name && has_only keys rest
 abbrev pub top : Key → Place
 top k = record { key = k; round = 0 }
 
+-- the place of a key in a round
 abbrev pub within_round : ℕ → Key → Place
 within_round n k = record { key = k; round = n }

@@ -23,19 +23,23 @@ use Rattle.gs_file.specs.declared.version.Version.TheVariants.{One, Two}
 
 -- ---- the text
 
+-- the bytes as a text, where they are UTF-8
 abbrev pub text_at : List ℕ → Result (List ℕ) Fault
 text_at bytes = if is_utf8 bytes then Ok bytes else Err not_text
 
+-- the table of a text, where it is TOML
 abbrev pub parsed_at : List ℕ → Result Members Fault
 parsed_at text = ok_or (parse_document text) not_toml
 
 -- ---- the top of the file
 
+-- version 1 or 2; another number is refused
 abbrev pub version_of : ℤ → Result Version Fault
 version_of (pos (suc zero)) = Ok One
 version_of (pos (suc (suc zero))) = Ok Two
 version_of z = Err (bad_version z)
 
+-- the version that a table states
 unfoldable pub version_at : Members → Result Version Fault
 version_at table = do
   value ← required table (top key.Version)
@@ -47,7 +51,7 @@ abbrev pub bonus_value : Version → Members → Result (Option Data) Fault
 bonus_value One table = Ok None
 bonus_value Two table = required table (top key.Bonus) >>= λ d. Ok (Some d)
 
--- the values at the top, each there
+-- the values at the top, as TOML values; `copies` may be left out, and `bonus` stands in version 2 alone
 pub record TopValues : Type 0 where
   pub ranks : Data
   pub suits : Data
@@ -57,6 +61,7 @@ pub record TopValues : Type 0 where
   pub ante : Data
   pub rounds : Data
 
+-- the values at the top: the version, then no key that may not stand there, then each key that has to be there
 unfoldable pub values_at : Members → Result TopValues Fault
 values_at table = do
   version ← version_at table
@@ -69,6 +74,7 @@ values_at table = do
   rounds ← required table (top key.Round)
   Ok (record { ranks = ranks; suits = suits; copies = get_member (key_text key.Copies) table; ranking = ranking; bonus = bonus; ante = ante; rounds = rounds })
 
+-- the integers of `bonus`, where there is one
 abbrev pub bonus_numbers : Option Data → Result (Option (List ℤ)) Fault
 bonus_numbers None = Ok None
 bonus_numbers (Some d) = whole_numbers_in (top key.Bonus) d >>= λ numbers. Ok (Some numbers)
@@ -83,6 +89,7 @@ pub record Top : Type 0 where
   pub ante : ℤ
   pub rounds : List Members
 
+-- the values at the top, each as what its type gives
 unfoldable pub typed_at : TopValues → Result Top Fault
 typed_at values = do
   ranks ← text (top key.Ranks) values.ranks
@@ -105,11 +112,13 @@ pub data Play (N : Type 0) : Type 0 where
   Tree_text : List ℕ → Play N
   Limit_of : (bet cap : N) → Play N
 
+-- a round: how many private and public cards it gives, and how it is bet
 pub record Round (N : Type 0) : Type 0 where
   pub private : N
   pub public : N
   pub play : Play N
 
+-- a round with a tree: exactly the keys `private`, `public` and `tree`, two integers and a string
 unfoldable pub tree_round_at : ℕ → Members → Result (Round ℤ) Fault
 tree_round_at n table = do
   _ ← only tree_keys n table
@@ -121,6 +130,7 @@ tree_round_at n table = do
   tree ← text (within_round n key.Tree) tree
   Ok (record { private = private; public = public; play = Tree_text tree })
 
+-- a round with limit betting: exactly the keys `private`, `public`, `bet` and `cap`, all integers
 unfoldable pub limit_round_at : ℕ → Members → Result (Round ℤ) Fault
 limit_round_at n table = do
   _ ← only limit_keys n table
@@ -134,11 +144,13 @@ limit_round_at n table = do
   cap ← whole_number (within_round n key.Cap) cap
   Ok (record { private = private; public = public; play = Limit_of bet cap })
 
+-- a round: with a tree where the key `tree` is there, else with limit betting
 unfoldable pub round_at : ℕ → Members → Result (Round ℤ) Fault
 round_at n table = if is_some (get_member (key_text key.Tree) table) then tree_round_at n table else limit_round_at n table
 
 -- ---- the ranges
 
+-- the ranking that the word `high`, `pair` or `three` names
 abbrev pub ranking_at : List ℕ → Result Ranking Fault
 ranking_at word =
     if bytes_eq word (codes "high") then Ok High
@@ -152,6 +164,7 @@ bonus_at r None = Ok (replicate (categories r) 1)
 bonus_at r (Some numbers) =
     if length numbers == categories r then each (λ n. within (top key.Bonus) 1 9) 1 numbers else Err (range (top key.Bonus))
 
+-- a bet is from 1 to 2,048 chips, and a cap from 0 to 8; a tree's text has no range
 abbrev pub play_within : ℕ → Play ℤ → Result (Play ℕ) Fault
 play_within n (Tree_text text) = Ok (Tree_text text)
 play_within n (Limit_of bet cap) = do
@@ -159,6 +172,7 @@ play_within n (Limit_of bet cap) = do
   cap ← within (within_round n key.Cap) 0 8 cap
   Ok (Limit_of bet cap)
 
+-- a round gives 0 to 2 private and 0 to 3 public cards, and its betting is in its ranges
 unfoldable pub round_within : ℕ → Round ℤ → Result (Round ℕ) Fault
 round_within n round = do
   private ← within (within_round n key.Private) 0 2 round.private
@@ -176,13 +190,16 @@ pub record FileGame : Type 0 where
   pub ante : ℕ
   pub rounds : List RoundRules
 
+-- the game of the definitions
 abbrev pub rules_of : FileGame → Game
 rules_of g = record { suits = length g.deck.suits; copies = g.deck.counts; ranking = g.ranking; bonus = g.bonus; ante = g.ante; rounds = g.rounds }
 
+-- a deck, unless its texts have a fault
 abbrev pub deck_made : DeckValue → Option DeckFault → Result DeckValue Fault
 deck_made d None = Ok d
 deck_made d (Some why) = Err (deck why)
 
+-- the deck that the texts of ranks, suits and copies make, or the first fault that they have
 abbrev pub deck_at : List ℕ → List ℕ → List ℕ → Result DeckValue Fault
 deck_at ranks suits copies = deck_made (deck_of ranks suits copies) (deck_fault_of ranks suits copies)
 
@@ -191,18 +208,22 @@ abbrev pub tree_read : ℕ → List ℕ → Read Bet → Result Bet Fault
 tree_read n text (Ok (t, rest)) = Ok t
 tree_read n text (Err (mistake, rest)) = Err (tree_text n (tree_fault_of mistake (length text - length rest)))
 
+-- what is read of the text of a round's tree. It is read by `all_of` of `gs_bet`; the law `trees_are_read` says by the grammar alone what comes of that
 abbrev pub tree_at : ℕ → List ℕ → Result Bet Fault
 tree_at n text = tree_read n text (all_of text)
 
+-- the tree of a round: that of its text, or that of limit betting with its bet and cap
 abbrev pub play_tree : ℕ → Play ℕ → Result Bet Fault
 play_tree n (Tree_text text) = tree_at n text
 play_tree n (Limit_of bet cap) = Ok (limit_bet bet cap)
 
+-- a round with its betting tree
 unfoldable pub round_built : ℕ → Round ℕ → Result RoundRules Fault
 round_built n round = do
   tree ← play_tree n round.play
   Ok (record { private = round.private; public = round.public; tree = tree })
 
+-- a game, unless it meets a refusal
 abbrev pub unless_refused : FileGame → Option Refusal → Result FileGame Fault
 unless_refused g None = Ok g
 unless_refused g (Some why) = Err (game why)
@@ -218,6 +239,8 @@ pub record Stated : Type 0 where
   pub ante : ℕ
   pub rounds : List (Round ℕ)
 
+-- what a file states: first the number of rounds, then the keys and types of each round, the ranking, the bonus, the ante from 1 to 4,096 chips, and the
+-- ranges of each round
 unfoldable pub stated_at : Top → Result Stated Fault
 stated_at fields = do
   _ ← counted fields.rounds
@@ -228,6 +251,7 @@ stated_at fields = do
   rounds ← each round_within 1 rounds
   Ok (record { ranking = ranking; bonus = bonus; ante = ante; rounds = rounds })
 
+-- the game that a table states, or the first check that fails: values, types, ranges, the deck, the trees, the rules of games
 unfoldable pub game_at : Members → Result FileGame Fault
 game_at table = do
   values ← values_at table

@@ -19,12 +19,15 @@ only keys round table = if has_only keys table then Ok tt else Err (unknown_key 
 abbrev pub whole_number : Place → Data → Result ℤ Fault
 whole_number place d = ok_or (as_integer d) (wrong_type place)
 
+-- the string that a value is, where it has this type
 abbrev pub text : Place → Data → Result (List ℕ) Fault
 text place d = ok_or (as_str d) (wrong_type place)
 
+-- the table that a value is, where it has this type
 abbrev pub table_in : Place → Data → Result Members Fault
 table_in place d = ok_or (as_table d) (wrong_type place)
 
+-- the array that a value is, where it has this type
 abbrev pub array_in : Place → Data → Result Items Fault
 array_in place d = ok_or (as_array d) (wrong_type place)
 
@@ -52,6 +55,7 @@ tables_in place d = do
   items ← array_in place d
   each (λ n. table_in place) 1 (list_of items)
 
+-- the integers of an array that holds nothing else
 unfoldable pub whole_numbers_in : Place → Data → Result (List ℤ) Fault
 whole_numbers_in place d = do
   items ← array_in place d

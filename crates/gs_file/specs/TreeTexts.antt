@@ -18,6 +18,7 @@ pub record IsMistaken (n : ℕ) (text : List ℕ) (f : Fault) : Type 0 where
   pub is : IsMistake text at mistake
   pub told : f ≡ tree_fault n (fault_of mistake at)
 
+-- what is read of a text is the tree whose one text it is, or the mistake behind the longest prefix that begins some tree's text
 abbrev pub IsTreeRead : ℕ → List ℕ → Result Bet Fault → Type 0
 IsTreeRead n text (Ok t) = IsTextOf text t
 IsTreeRead n text (Err f) = IsMistaken n text f

@@ -16,6 +16,7 @@ use Rattle.gs_file.specs.declared.parts.Sizes.{Sizes}
 use Rattle.gs_file.specs.declared.parts.StatedGame.{StatedGame}
 use Rattle.gs_file.specs.declared.parts.Sizes.TheVariants as sizes
 
+-- the values at the top of a file, as the definitions see them
 abbrev pub values_view : TopValues → TopData
 values_view v = record {
   ranks = view v.ranks.now;
@@ -27,6 +28,7 @@ values_view v = record {
   rounds = view v.rounds.now;
 }
 
+-- what stands at the top, each of its type, as the definitions see it
 abbrev pub top_view : TopFields → Top
 top_view t = record {
   ranks = t.ranks.now;
@@ -38,17 +40,21 @@ top_view t = record {
   rounds = map (λ d. table_view d.now) t.rounds.items;
 }
 
+-- how a round is bet, as the definitions see it
 abbrev pub play_view : Betting → Play ℤ
 play_view (betting.Tree text) = Tree_text text.now
 play_view (betting.Limit bet cap) = Limit_of bet cap
 
+-- a round, as the definitions see it
 abbrev pub round_view : RoundFields → Round ℤ
 round_view r = record { private = r.private; public = r.public; play = play_view r.betting }
 
+-- how a round is bet, with its numbers in their ranges, as the definitions see it
 abbrev pub sizes_view : Sizes → Play ℕ
 sizes_view (sizes.Tree text) = Tree_text text.now
 sizes_view (sizes.Limit limits) = Limit_of limits.bet limits.cap
 
+-- a round with its numbers in their ranges, as the definitions see it
 abbrev pub ranged_view : RoundSizes → Round ℕ
 ranged_view r = record { private = r.private; public = r.public; play = sizes_view r.betting }
 
@@ -60,5 +66,6 @@ stated_view s = record { ranking = ranking_of s.ranking; bonus = s.bonus.items; 
 abbrev pub game_view : Game → FileGame
 game_view g = record { deck = g.deck; ranking = ranking_of g.ranking; bonus = g.bonus.items; ante = g.ante; rounds = map round_of g.rounds.items }
 
+-- a valid game of the program, as the definitions see it
 abbrev pub valid_view : ValidGame → FileGame
 valid_view v = game_view v.game

@@ -24,6 +24,7 @@ pub record IsFirstUnseenIn (list : List ℕ) (at : ℕ) : Type 0 where
   pub before : (k : ℕ) → k < at → IsNextNumber list k
   pub here : ¬ IsNextNumber list at
 
+-- the first place whose number is not in order, unless memory ran out
 abbrev pub IsStopOf : List ℕ → Stop → Type 0
 IsStopOf list (Unseen at) = IsFirstUnseenIn list at
 IsStopOf list Memory = Unit {0}

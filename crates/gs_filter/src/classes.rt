@@ -13,6 +13,7 @@ use std::alloc::{AllocError, Global};
 use std::marker::Model;
 
 /// An information filter: for each round the class of each signal, numbered from 1 by first member, where members of one class have parents of one class.
+/// At a betting point a class is what the literature calls an information set after abstraction, or a bucket.
 ///
 /// It keeps a copy of the parents that it was made with. Rounds and classes count from 1, signals from 0.
 #[derive(Debug, Drop)]

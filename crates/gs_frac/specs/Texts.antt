@@ -26,9 +26,11 @@ abbrev pub signed : List ℕ → Bool × List ℕ
 signed [] = (false, [])
 signed (b ∷ bytes) = if b == 45 then (true, bytes) else (false, b ∷ bytes)
 
+-- a number from its sign and size
 abbrev pub number_of : Bool → ℕ → ℤ
 number_of negative n = if negative then neg_ℤ (pos n) else pos n
 
+-- 2 to the 127th
 unfoldable pub limit : ℕ
 limit = 2 ^ 127
 
@@ -51,6 +53,7 @@ fraction_between s right =
     then (if s.0 && digits_value 10 s.1 == 0 then Err NotFraction else reduced_fraction s.0 (digits_value 10 s.1) (digits_value 10 right))
     else Err NotFraction
 
+-- the fraction of two sides, or that there is no bar
 abbrev pub fraction_from : Option (List ℕ × List ℕ) → Result (ℤ × ℤ) FracFault
 fraction_from None = Err NotFraction
 fraction_from (Some p) = fraction_between (signed p.0) p.1

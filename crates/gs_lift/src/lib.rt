@@ -1,4 +1,4 @@
-//! Raw hands: the spot that a line and a raw signal name, and what a plan over classes does there.
+//! Raw hands: the spot that a line and a raw signal name, and what a plan over classes, a realization plan in whole numbers, does there.
 #![tactic(auto)]
 
 mod fault;
@@ -12,6 +12,3 @@ pub use mixture::{Mixture, mix};
 pub use query::locate;
 pub use shares::weight;
 pub use spot::Spot;
-
-#[cfg(test)]
-mod tests;

@@ -17,7 +17,7 @@ use std::marker::Model;
 /// The most moves that a point has: one for each letter.
 const MOST_MOVES: usize = 26;
 
-/// Moves by their letters, each with its share. It has room for as many moves as a point may have.
+/// Moves by their letters, each with its share: a behaviour strategy at one information set. It has room for as many moves as a point may have.
 #[derive(Debug, Drop)]
 pub struct Mixture {
     pairs: Vec<(u8, Fraction)>,

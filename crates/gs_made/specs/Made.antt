@@ -9,11 +9,13 @@ use Rattle.gs_made.specs.declared.kind.Round.{Round}
 abbrev pub last : ℕ → List ℕ → List ℕ
 last n text = drop (length text - n) text
 
+-- the word for the ranking of a kind of game: `high` for `Kuhn`, `pair` for `Leduc`, `three` for `Rhode`
 abbrev pub ranking_of : Kind → List ℕ
 ranking_of Kuhn = codes "high"
 ranking_of Leduc = codes "pair"
 ranking_of Rhode = codes "three"
 
+-- the ante of a kind of game: 1 chip for `Kuhn` and `Leduc`, 5 for `Rhode`
 abbrev pub ante_of : Kind → ℕ
 ante_of Kuhn = 1
 ante_of Leduc = 1
@@ -25,6 +27,7 @@ rounds_of Kuhn = (1, 0, 1) ∷ []
 rounds_of Leduc = (1, 0, 2) ∷ (0, 1, 4) ∷ []
 rounds_of Rhode = (1, 0, 10) ∷ (0, 1, 20) ∷ (0, 1, 20) ∷ []
 
+-- a round of the program, as these three numbers
 abbrev pub round_view : Round → ℕ × ℕ × ℕ
 round_view r = (r.private, r.public, r.bet)
 

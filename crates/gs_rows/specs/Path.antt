@@ -12,6 +12,7 @@ pub record Enters (p : Program) (l : Listing) (aim : ℕ → ℤ) (e : ℕ) : Ty
   pub rises : pos 0 <ℤ aim e
   pub least : (j : ℕ) → j < e → ¬ ColListed l j → aim j ≤ℤ pos 0
 
+-- no unlisted column has a number above 0 in the row of the aim
 abbrev pub NoneEnters : Program → Listing → (ℕ → ℤ) → Type 0
 NoneEnters p l aim = (j : ℕ) → j < p.cols → ¬ ColListed l j → aim j ≤ℤ pos 0
 
@@ -24,6 +25,7 @@ pub record Leaves (p : Program) (l : Listing) (rows : ℕ → ℕ → ℤ) (e r 
   pub ratio : (i j : ℕ) → IsListed l i j → ¬ IsFree p j → pos 0 <ℤ rows i e → (rows r p.cols *ℤ rows i e) ≤ℤ (rows i p.cols *ℤ rows r e)
   pub tie : (i j : ℕ) → IsListed l i j → ¬ IsFree p j → pos 0 <ℤ rows i e → rows r p.cols *ℤ rows i e ≡ rows i p.cols *ℤ rows r e → c ≤ j
 
+-- no row bounds the entering column
 abbrev pub NoneLeaves : Program → Listing → (ℕ → ℕ → ℤ) → ℕ → Type 0
 NoneLeaves p l rows e = (i j : ℕ) → IsListed l i j → ¬ IsFree p j → rows i e ≤ℤ pos 0
 

@@ -38,9 +38,11 @@ Listing = List (ℕ × ℕ)
 abbrev pub IsListed : Listing → ℕ → ℕ → Type 0
 IsListed l i j = Contains l (i + 1, j + 1)
 
+-- row i stands in some pair
 abbrev pub RowListed : Listing → ℕ → Type 0
 RowListed l i = (j : ℕ) × IsListed l i j
 
+-- column j stands in some pair
 abbrev pub ColListed : Listing → ℕ → Type 0
 ColListed l j = (i : ℕ) × IsListed l i j
 

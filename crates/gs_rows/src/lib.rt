@@ -7,7 +7,7 @@
 
 ghost use Rattle.gs_rows.specs.Laws.{RowsAreDetermined, TakenInTurnIsRegular, TakenInTurnHasRows, PivotKeepsRegular, LastNumberIsValue, StopsAreOne, BasesDiffer};
 
-/// A linear program in whole numbers: the aim is maximised, the rows hold as equations, and a column that is not free is at least 0.
+/// A linear program in whole numbers: the aim, or objective, is maximised, the rows hold as equations, and a column that is not free is at least 0.
 #[derive(Debug, Drop)]
 pub struct Program {
     /// How many rows.

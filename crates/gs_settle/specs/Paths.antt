@@ -41,6 +41,7 @@ pub record IsPathShown (g : FileGame) (lists : ClassLists) (text : List ℕ) : T
   pub shown : IsTrace program opening most_pivots trace
   pub printed : text ≡ path_text trace
 
+-- what `path` says of a game over classes
 abbrev pub ShowsPath : FileGame → ClassLists → Reply → Type 0
 ShowsPath g lists (Prints text) = IsPathShown g lists text
 ShowsPath g lists (Refuses why) = SaysStopped g lists why

@@ -31,6 +31,7 @@ abbrev pub SaysUnsolved : FileGame → ClassLists → Refusal → Type 0
 SaysUnsolved g lists (Overflows (At_total player multiple)) = IsSolveStop (frame_in g) lists (Total player multiple)
 SaysUnsolved g lists why = SaysStopped g lists why
 
+-- what `solve` says of a game over classes
 abbrev pub Solves : FileGame → ClassLists → Reply → Type 0
 Solves g lists (Prints text) = IsSolved g lists text
 Solves g lists (Refuses why) = SaysUnsolved g lists why

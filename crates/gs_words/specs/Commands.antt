@@ -51,6 +51,7 @@ required name obeys = record { name = name; is_required = true; rule = Some obey
 abbrev pub numbered : List ℕ → ℕ → ℕ → OptionOf
 numbered name least most = required name (λ word. is_some (number_in least most word))
 
+-- the table of the options of each command
 abbrev pub options_of : CommandName → List OptionOf
 options_of Shrink = summary ∷ []
 options_of Check = classes ∷ summary ∷ []

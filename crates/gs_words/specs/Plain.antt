@@ -10,6 +10,7 @@ pub data Given : Type 0 where
   valued : (name value : List ℕ) → Given
   flagged : List ℕ → Given
 
+-- the name of an option that is given
 abbrev pub name_of : Given → List ℕ
 name_of (valued name value) = name
 name_of (flagged name) = name
@@ -29,6 +30,7 @@ abbrev pub is_plain_value : List ℕ → Bool
 is_plain_value [] = false
 is_plain_value (b ∷ bytes) = not (b == 45)
 
+-- a value obeys the rule of an option; a flag has no value
 abbrev pub obeys : Option (List ℕ → Bool) → List ℕ → Bool
 obeys None value = false
 obeys (Some rule) value = rule value

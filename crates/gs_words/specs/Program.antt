@@ -38,5 +38,6 @@ bare = on_top (λ s. record s { no_binary_name = true; subcommand_required = tru
 abbrev pub with_commands : List CommandName → App
 with_commands names = fold (λ (app : App) c. with_subcommand app (app_for c).top) bare names
 
+-- the program with its commands
 abbrev pub program : App
 program = with_commands commands

@@ -29,19 +29,22 @@ abbrev pub grouping_in : Option Text → Option Grouping
 grouping_in None = Some Coarsest
 grouping_in (Some word) = grouping_of word
 
+-- `play` with a grouping and a number of turns, where both are there
 abbrev pub play_with : Option Grouping → Option ℕ → Option Task
 play_with (Some grouping) (Some turns) = Some (Play grouping turns)
 play_with _ _ = None
 
+-- `query` with a player, a line and a signal, where all are there
 abbrev pub query_with : Option ℕ → Option Text → Option Text → Option Task
 query_with (Some player) (Some line) (Some signal) = Some (Query player line signal)
 query_with _ _ _ = None
 
+-- `make` with a kind, ranks, suits and a cap, where all are there
 abbrev pub make_with : Option Kind → Option ℕ → Option ℕ → Option ℕ → Bool → Option Task
 make_with (Some kind) (Some ranks) (Some suits) (Some cap) summary = Some (Make kind ranks suits cap summary)
 make_with _ _ _ _ summary = None
 
--- `make` with a kind, ranks, suits and a cap
+-- the same from the texts of these options, each by its rule
 abbrev pub make_of : (kind ranks suits cap summary : Option Text) → Option Task
 make_of kind ranks suits cap summary =
     make_with (option_and_then kind_of kind) (option_and_then (number_in 1 13) ranks) (option_and_then (number_in 1 4) suits) (option_and_then (number_in 0 8) cap) (is_set summary)

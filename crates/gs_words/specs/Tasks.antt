@@ -5,6 +5,7 @@ use Rattle.gs_words.specs.declared.request.Grouping.{Grouping}
 use Rattle.gs_words.specs.declared.request.Request.{Request}
 use Rattle.gs_words.specs.declared.request.Request.TheVariants as request
 
+-- what the program is asked to do: a request with its texts
 pub data Task : Type 0 where
   Shrink : (summary : Bool) → Task
   Check : (grouping : Grouping) (summary : Bool) → Task
@@ -20,6 +21,7 @@ pub data Task : Type 0 where
   Verify : Task
   Path : (grouping : Grouping) → Task
 
+-- the task of a request
 abbrev pub task_of : Request → Task
 task_of (request.Shrink summary) = Shrink summary
 task_of (request.Check grouping summary) = Check grouping summary

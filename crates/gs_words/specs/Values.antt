@@ -7,10 +7,12 @@ use Rattle.gs_made.specs.declared.kind.Kind.TheVariants.{Kuhn, Leduc, Rhode}
 use Rattle.gs_words.specs.declared.request.Grouping.{Grouping}
 use Rattle.gs_words.specs.declared.request.Grouping.TheVariants.{Isomorphism, Coarsest, Single}
 
+-- the classes that a word names: `ogi` for those of ordered game isomorphism, `split` for the coarsest lossless ones, `raw` for each signal by itself
 abbrev pub grouping_of : List ℕ → Option Grouping
 grouping_of word = if bytes_eq word (codes "ogi") then Some Isomorphism
     else (if bytes_eq word (codes "split") then Some Coarsest else (if bytes_eq word (codes "raw") then Some Single else None))
 
+-- the kind of game that a word names: `kuhn`, `leduc` or `rhode`
 abbrev pub kind_of : List ℕ → Option Kind
 kind_of word = if bytes_eq word (codes "kuhn") then Some Kuhn
     else (if bytes_eq word (codes "leduc") then Some Leduc else (if bytes_eq word (codes "rhode") then Some Rhode else None))

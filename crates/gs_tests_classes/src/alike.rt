@@ -1,0 +1,132 @@
+//! Stand-ins of whole games, against their deals one by one. A separate program counted the boards' hands.
+
+ghost use Rattle.std.specs.Prelude.{◌≡◌, IfOk, length};
+ghost use Rattle.gs_tree.specs.Trees.{rules_of};
+ghost use Rattle.gs_tree.specs.Walk.{last_count};
+
+use crate::decks::{KUHN, LEDUC, LEDUC_OF_COPIES, RHODE_TJQK, TWO_OWN_CARDS};
+use gs_alike::stand_ins;
+use gs_game::ValidGame;
+use gs_samples::{Sample, game_of};
+use gs_tree::Signals;
+use std::alloc::{AllocError, Global};
+use std::test::Fail;
+
+/// The same key for each signal of the last round.
+fn one_key(alloc: Global, signals: &Signals) -> Result<Vec<u32>, AllocError>
+    ensures { IfOk result (λ v. length v.items ≡ last_count (rules_of signals.now)) }
+{
+    let count = signals.count(signals.rounds());
+    let keys = vec![in alloc; 1u32; count as usize]?;
+    Ok(keys)
+}
+
+/// Two keys by turns.
+fn two_keys(alloc: Global, signals: &Signals) -> Result<Vec<u32>, AllocError>
+    ensures { IfOk result (λ v. length v.items ≡ last_count (rules_of signals.now)) }
+{
+    let mut keys = one_key(alloc, signals)?;
+    for (place, key) in keys.iter_mut().enumerate() {
+        *key = (place % 2) as u32;
+    }
+    Ok(keys)
+}
+
+/// The deals of a signal as its player sees them, in ascending order.
+fn sights(
+    alloc: Global,
+    signals: &Signals,
+    keys: &[u32],
+    signal: u32,
+) -> Result<Vec<(u32, i8, u64)>, Fail> {
+    let mut all = Vec::new(alloc);
+    if signal < signals.count(signals.rounds()) {
+        for deal in signals.deals_of(signal) {
+            let key = keys.get(deal.two as usize).copied().unwrap_or(0);
+            all.push((key, deal.outcome, deal.weight))?;
+        }
+    }
+    all.sort_unstable();
+    Ok(all)
+}
+
+/// How many signals stand for themselves, or none where a signal sees other deals than the one that stands for it.
+fn own_stand_ins(alloc: Global, signals: &Signals, keys: &[u32]) -> Result<Option<u32>, Fail>
+    requires { length keys.now ≡ last_count (rules_of signals.now) }
+{
+    let firsts = stand_ins(alloc, signals, keys)?;
+    let mut own = 0u32;
+    for signal in 0..signals.count(signals.rounds()) {
+        let first = firsts.get(signal as usize).copied().unwrap_or(0);
+        let mine = sights(alloc, signals, keys, signal)?;
+        let his = sights(alloc, signals, keys, first)?;
+        if first > signal || mine.as_slice() != his.as_slice() {
+            return Ok(None);
+        }
+        if first == signal {
+            own = own.wrapping_add(1);
+        }
+    }
+    Ok(Some(own))
+}
+
+/// How many signals of a game stand for themselves: with one key for all, and with two keys by turns.
+fn counts(alloc: Global, game: &ValidGame) -> Result<(Option<u32>, Option<u32>), Fail> {
+    let signals = Signals::of(alloc, game)?;
+    let keys = one_key(alloc, &signals)?;
+    let one = own_stand_ins(alloc, &signals, &keys)?;
+    let keys = two_keys(alloc, &signals)?;
+    let two = own_stand_ins(alloc, &signals, &keys)?;
+    Ok((one, two))
+}
+
+/// A game, and how many of its signals stand for themselves: with one key for all, and with two keys by turns.
+struct Case {
+    sample: Sample<'static>,
+    one_key: u32,
+    two_keys: u32,
+}
+
+const CASES: [Case; 5] = [
+    Case {
+        sample: TWO_OWN_CARDS,
+        one_key: 12,
+        two_keys: 12,
+    },
+    Case {
+        sample: LEDUC_OF_COPIES,
+        one_key: 9,
+        two_keys: 9,
+    },
+    Case {
+        sample: LEDUC,
+        one_key: 9,
+        two_keys: 30,
+    },
+    Case {
+        sample: KUHN,
+        one_key: 3,
+        two_keys: 3,
+    },
+    Case {
+        sample: RHODE_TJQK,
+        one_key: 76,
+        two_keys: 386,
+    },
+];
+
+#[test]
+fn stand_ins_see_the_same(rt: HostRuntime) -> Result<(), Fail> {
+    let alloc = rt.alloc();
+    for case in &CASES {
+        let game = game_of(alloc, &case.sample)?;
+        assert_eq!(rt;
+            counts(alloc, &game)?,
+            (Some(case.one_key), Some(case.two_keys)),
+            "{} {}",
+            case.sample.ranks,
+            case.sample.suits
+        );
+    }
+    Ok(())
+}

@@ -1,0 +1,197 @@
+//! Verdicts on small games, against the gaps that a separate program found by trying every pure raw plan of each player, and best answers. The
+//! last two games have too many pure plans to try: their gaps are those that the separate program found by its own best answers.
+
+ghost use Rattle.std.specs.Prelude.{◌≡◌, ◌≤◌, ◌<◌, length};
+ghost use Rattle.gs_model.specs.Frame.{other_player};
+ghost use Rattle.gs_seq.specs.Abstracts.{frame_of, lists_of};
+ghost use Rattle.gs_seq.specs.Plans.{IsPlanOf};
+
+use crate::rows::{game_in, plan_in, row_classes};
+use gs_best::{Work, best, choices, verdict};
+use gs_frac::Verdict;
+use gs_game::ValidGame;
+use gs_lossless::check;
+use gs_samples::{moves_in, weights_in};
+use gs_seq::{Abstract, Plan};
+use gs_tree::Signals;
+use std::alloc::{AllocError, Global};
+use std::test::Fail;
+
+// A game a line: ranks, suits, ranking, the trees of one or two rounds; the classes of both rounds; total and weights of player 1 and of
+// player 2, or `first` for the first moves everywhere; value and gaps; then the weights and the choices of player 1's best answer to player 2's plan,
+// and those of player 2's to player 1's, as the separate program has them: only the last line leaves these out.
+const GAMES: &str = "\
+JQK|s|h|1[k:2[k:=,b1:1[f:!,c1:=]],b1:2[f:!,c1:=]]||1 2 3||1|first|1|first|0 1 1 1 1 1|0 1 0 1 1 0 0 0 0 0 1 0|1 1 0 0 0 0|0 1 0 1 1 0 1 0 1 0 1 0|1 1 0 0 0 0
+JQK|s|h|1[k:2[k:=,b1:1[f:!,c1:=]],b1:2[f:!,c1:=]]||1 2 3||2|1 1 1 1 2 0 1 0 1 0 2 0|2|1 1 1 1 2 0 2 0 2 0 2 0|1 12 13 12 7 6|0 1 0 1 1 0 0 0 0 0 0 1|1 1 0 0 \
+    1 1|0 1 0 1 1 0 1 0 0 1 0 1|1 1 0 0 1 1
+JQK|s|h|1[k:2[k:=,b1:1[f:!,c1:=]],b1:2[f:!,c1:=]]||1 2 3||1|0 1 0 1 0 1 0 0 0 0 0 0|1|first|1 1 0 1 4 3|0 1 0 1 1 0 0 0 0 0 1 0|1 1 0 0 0 0|1 0 1 0 1 0 1 0 \
+    0 1 0 1|0 0 0 0 1 1
+JK|sh|h|1[k:2[k:=,b1:1[f:!,c1:=]],b3:2[f:!,c3:=]]||1 1 2 2||2|2 0 2 0 0 2 0 2|3|3 0 3 0 2 1 3 0|0 1 23 18 1 3|0 1 0 1 0 0 0 0|1 1 0 0|1 0 0 1 1 0 1 0|0 1 0 0
+QK|sh|h|1[k:2[k:=,b2:1[f:!,c2:=]]]||1 1 2 2||3|3 3 3 0 2 1|3|1 2 1 2|-1 3 2 3 1 6|1 1 1 0 0 1|0 0 0 1|0 1 0 1|1 1
+QKA|sh|h|1[k:2[k:=,b2:1[f:!,c2:=]]]||1 1 2 2 3 3||12|12 12 12 12 0 0 12 0 12|7|7 0 0 7 6 1|8 35 0 1 52 105|1 1 1 1 0 0 1 0 1|0 0 0 0 1 1|1 0 1 0 0 1|0 0 1
+QK|shd|h|2[k:=,b1:1[f:!,c1:=]]||1 1 1 2 2 2||1|1 0 1 0|1|1 0 1 0|0 1 0 1 1 1|1 0 1 0|0 0|0 1 0 1|1 1
+JA|sh|h|1[k:=,b1:2[f:!,c1:=]]|=|1 1 2 2|1 2 2 1 2 2 3 3 4 3 3 4|3|0 3 3 0|3|0 3 3 0|2 3 1 2 1 1|0 1 0 1|1 1|0 1 0 1|1 1
+JQ|shd|h|1[k:2[k:=,b1:1[f:!,c1:=]],b1:2[f:!,c1:=]]||1 1 1 2 2 2||6|1 5 4 2 1 0 1 3|6|1 5 1 5 5 1 2 4|59 360 91 360 25 72|0 1 1 0 0 0 0 1|1 0 0 1|1 0 0 1 0 1 \
+    0 1|0 1 1 1
+QA|sh|h|=|2[k:=,b2:1[f:!,c2:=]]|1 1 2 2|1 2 2 1 2 2 3 3 4 3 3 4|1|1 0 1 0 0 1 0 1|3|3 0 0 3 0 3 3 0|1 6 1 6 1 6|1 0 0 1 0 1 0 1|0 1 1 1|1 0 1 0 1 0 1 0|0 0 \
+    0 0
+JKA|sh|h|1[k:=,b1:2[f:!,c1:=]]||1 1 2 2 3 3||1|1 0 1 0 0 1|12|2 10 0 12 12 0|14 45 47 90 14 45|0 1 0 1 0 1|1 1 1|1 0 1 0 0 1|0 0 1
+JQ|sh|h|1[k:=,f:!]|2[k:=,f:!]|1 1 2 2|1 2 2 1 2 2 3 3 4 3 3 4|12|12 0 0 12|7|3 4 7 0 0 7 6 1|-19 42 1 1 8 21|1 0 1 0|0 0|1 0 1 0 1 0 1 0|0 0 0 0
+KA|sh|p|2[k:=,b1:1[f:!,c1:=]]|=|1 1 1 1|1 2 2 1 2 2 2 2 1 2 2 1|3|1 2|2|1 1|-1 6 1 6 1 6|0 1|1|0 1|1
+JKA|sh|h|1[k:2[k:=,b1:1[f:!,c1:=]],b3:2[f:!,c3:=]]||1 1 2 2 3 3||1|1 0 1 0 1 0 1 0 1 0 1 0|1|1 0 1 0 1 0 1 0 1 0 1 0|0 1 1 1 1 1|0 1 0 1 0 1 0 0 0 0 0 0|1 1 \
+    1 0 0 0|0 1 0 1 0 1 1 0 1 0 1 0|1 1 1 0 0 0
+QK|sh|h|1[k:=,b1:2[f:!,c1:=]]||1 1 2 2||3|3 0 0 3|3|0 3 3 0|1 2 2 3 1 2|0 1 0 1|1 1|1 0 0 1|0 1
+JA|sh|h|2[k:=,b1:1[f:!,c1:=]]||1 1 2 2||7|0 7 7 0|1|0 1 0 1|-7 6 4 3 0 1|1 0 0 1|0 1|0 1 0 1|1 1
+JQ|sh|p|2[k:=,b1:1[f:!,c1:=]]|=|1 1 1 1|1 2 2 1 2 2 2 2 1 2 2 1|2|2 0|2|1 1|-1 2 1 2 1 2|0 1|1|0 1|1
+JK|sh|h|1[k:=,f:!]|2[k:=,f:!]|1 1 2 2|1 2 2 1 2 2 3 3 4 3 3 4|1|1 0 1 0|1|1 0 1 0 1 0 1 0|0 1 0 1 0 1|1 0 1 0|0 0|1 0 1 0 1 0 1 0|0 0 0 0
+QK|sh|h|1[k:2[k:=,b1:1[f:!,c1:=]],b3:2[f:!,c3:=]]||1 1 2 2||1|1 0 1 0 1 0 1 0|1|1 0 1 0 1 0 1 0|0 1 1 1 1 1|0 1 0 1 0 0 0 0|1 1 0 0|0 1 0 1 1 0 1 0|1 1 0 0
+JKA|sh|h|2[k:=,b1:1[f:!,c1:=]]||1 1 2 2 3 3||2|2 0 2 0 2 0|2|1 1 1 1 1 1|-1 2 3 5 1 2|1 0 0 1 0 1|0 1 1|0 1 0 1 0 1|1 1 1
+KA|sh|h|2[k:1[k:=,b1:2[f:!,c1:=]],b1:1[f:!,c1:=]]||1 1 2 2||1|0 1 1 0 0 1 1 0|1|0 1 1 0 0 0 0 1|-1 1 4 3 1 6|1 0 1 0 0 1 0 1|0 0 1 1|0 1 0 1 0 0 0 0|1 1 1 1
+JA|sh|h|1[k:2[k:=,b2:1[f:!,c2:=]]]||1 1 2 2||6|6 6 6 0 2 4|6|1 5 1 5|0 1 5 12 1 18|1 1 1 0 0 1|0 0 0 1|1 0 0 1|0 1
+QK|sh|h|2[k:1[k:=,b1:2[f:!,c1:=]],b1:1[f:!,c1:=]]||1 1 2 2||2|2 0 1 1 2 0 2 0|12|0 12 12 0 0 0 12 0|-3 4 23 12 1 4|0 1 0 1 0 1 0 1|1 1 1 1|0 1 0 1 0 0 0 0|1 \
+    1 0 1
+QA|sh|h|1[k:2[k:=,b2:1[f:!,c2:=]]]||1 1 2 2||2|2 2 2 0 2 0|2|1 1 1 1|-1 2 3 4 1 2|1 1 1 0 0 1|0 0 0 1|0 1 0 1|1 1
+JQA|shd|p|1[k:=,b1:2[f:!,c1:=]]|=|1 1 1 2 2 2 3 3 3|1 1 2 2 2 3 3 3 1 1 2 2 2 3 3 3 1 1 2 2 2 3 3 3 4 4 4 5 5 6 6 6 4 4 4 5 5 6 6 6 4 4 4 5 5 6 6 6 7 7 7 8 \
+    8 8 9 9 7 7 7 8 8 8 9 9 7 7 7 8 8 8 9 9|6|1 5 1 5 1 5|6|2 4 2 4 2 4|5 18 1 18 5 18|0 1 0 1 0 1|1 1 1|0 1 0 1 0 1|1 1 1
+JK|sh|h|2[k:=,b1:1[f:!,c1:=]]||1 1 2 2||6|6 0 2 4|6|1 5 1 5|-5 27 35 108 1 27|1 0 0 1|0 1|0 1 0 1|1 1
+JK|shd|h|1[k:=,b1:2[f:!,c1:=]]|=|1 1 1 2 2 2|1 1 2 2 2 1 1 2 2 2 1 1 2 2 2 3 3 3 4 4 3 3 3 4 4 3 3 3 4 4|2|2 0 2 0|3|0 3 3 0|0 1 11 10 0 1|0 1 0 1|1 1|1 0 1 \
+    0|0 0
+QA|sh|h|2[k:=,b1:1[f:!,c1:=]]|=|1 1 2 2|1 2 2 1 2 2 3 3 4 3 3 4|12|0 12 12 0|12|0 12 8 4|-5 6 19 18 1 3|0 1 0 1|1 1|0 1 0 1|1 1
+JA|shd|h|1[k:=,b1:2[f:!,c1:=]]||1 1 1 2 2 2||7|7 0 7 0|2|0 2 2 0|0 1 11 10 0 1|0 1 0 1|1 1|1 0 1 0|0 0
+QKA|sh|h|1[k:=,b1:2[f:!,c1:=]]||1 1 2 2 3 3||3|0 3 2 1 3 0|2|0 2 0 2 2 0|4 15 3 5 8 15|0 1 0 1 0 1|1 1 1|0 1 0 1 0 1|1 1 1
+QK|sh|p|2[k:=,b1:1[f:!,c1:=]]|=|1 1 1 1|1 2 2 1 2 2 2 2 1 2 2 1|1|1 0|1|1 0|0 1 0 1 1 1|1 0|0|0 1|1
+JQ|sh|p|=|1[k:=,b1:2[f:!,c1:=]]|1 1 1 1|1 2 2 1 2 2 2 2 1 2 2 1|2|2 0 2 0|3|1 2 0 3|0 1 1 3 0 1|0 1 1 0|1 0|1 0 1 0|0 0
+JQK|sh|h|1[k:=,b1:2[f:!,c1:=]]|=|1 1 2 2 3 3|1 2 2 3 3 1 2 2 3 3 4 4 5 6 6 4 4 5 6 6 7 7 8 8 9 7 7 8 8 9|3|3 0 3 0 3 0|12|0 12 0 12 4 8|0 1 19 45 0 1|1 0 0 \
+    1 0 1|0 1 1|1 0 1 0 1 0|0 0 0
+JQ|sh|h|=|1[k:=,b1:2[f:!,c1:=]]|1 1 2 2|1 2 2 1 2 2 3 3 4 3 3 4|3|1 2 1 2 1 2 3 0|3|3 0 2 1 2 1 2 1|10 27 13 54 16 27|0 1 0 1 0 1 0 1|1 1 1 1|1 0 0 1 0 1 0 \
+    1|0 1 1 1
+JQ|sh|h|1[k:2[k:=,b1:1[f:!,c1:=]],b1:2[f:!,c1:=]]||1 1 2 2||2|0 2 2 0 0 0 0 2|12|12 0 12 0 9 3 12 0|19 24 1 4 9 8|0 1 0 1 0 0 0 0|1 1 0 0|1 0 1 0 0 1 0 1|0 \
+    0 1 1
+JK|sh|p|=|1[k:=,b1:2[f:!,c1:=]]|1 1 1 1|1 2 2 1 2 2 2 2 1 2 2 1|2|2 0 2 0|7|0 7 4 3|0 1 1 7 0 1|0 1 1 0|1 0|1 0 1 0|0 0
+JK|sh|h|1[k:2[k:=,b1:1[f:!,c1:=]],b1:2[f:!,c1:=]]||1 1 2 2||3|1 2 2 1 1 0 1 1|3|1 2 1 2 3 0 2 1|2 9 1 2 5 9|0 1 1 0 0 0 0 1|1 0 0 1|0 1 0 1 1 0 0 1|1 1 0 1
+JA|shd|h|1[f:!,k:2[k:=,b1:1[f:!,c1:=]]]||1 1 1 2 2 2||1|1 0 0 1 0 0 1 0|2|2 0 2 0|-1 5 1 5 4 5|0 1 0 1 1 0 1 0|1 1 0 0|0 1 0 1|1 1
+JQK|sh|h|1[k:2[k:=,b1:1[f:!,c1:=]],b3:2[f:!,c3:=]]||1 1 2 2 3 3||12|11 1 12 0 0 12 0 11 0 12 0 0|2|0 2 1 1 2 0 0 2 2 0 2 0|7 12 23 20 29 30|0 1 0 1 0 1 0 0 \
+    0 0 0 0|1 1 1 0 1 1|1 0 0 1 0 1 1 0 1 0 0 1|0 1 1 0 0 1
+JA|sh|h|=|2[k:=,b2:1[f:!,c2:=]]|1 1 2 2|1 2 2 1 2 2 3 3 4 3 3 4|2|2 0 2 0 2 0 2 0|2|1 1 1 1 1 1 2 0|-1 2 5 6 1 2|1 0 0 1 0 1 0 1|0 1 1 1|0 1 0 1 0 1 1 0|1 1 \
+    1 0
+JA|shd|h|2[k:=,b1:1[f:!,c1:=]]||1 1 1 2 2 2||6|6 0 2 4|6|1 5 1 5|-2 9 11 36 2 45|1 0 0 1|0 1|0 1 0 1|1 1
+JQ|sh|h|2[k:=,b1:1[f:!,c1:=]]||1 1 2 2||12|12 0 12 0|1|1 0 0 1|-1 6 1 6 5 6|1 0 0 1|0 1|0 1 0 1|1 1
+QK|sh|h|1[k:2[k:=,b1:1[f:!,c1:=]],b1:2[f:!,c1:=]]||1 1 2 2||3|1 2 3 0 0 1 1 2|1|1 0 1 0 0 1 0 1|-2 9 5 9 1 6|1 0 0 1 1 0 0 0|0 1 0 0|1 0 0 1 0 1 0 1|0 1 1 1
+QK|shd|h|1[k:2[k:=,b1:1[f:!,c1:=]],b1:2[f:!,c1:=]]||1 1 1 2 2 2||1|1 0 1 0 1 0 1 0|1|1 0 1 0 1 0 1 0|0 1 1 1 1 1|0 1 0 1 0 0 0 0|1 1 0 0|0 1 0 1 1 0 1 0|1 1 \
+    0 0
+QK|sh|p|1[k:=,b1:2[f:!,c1:=]]|=|1 1 1 1|1 2 2 1 2 2 2 2 1 2 2 1|3|1 2|3|2 1|4 9 2 9 4 9|0 1|1|0 1|1
+JA|sh|h|2[k:=,b1:1[f:!,c1:=]]|=|1 1 2 2|1 2 2 1 2 2 3 3 4 3 3 4|3|3 0 1 2|1|1 0 1 0|0 1 0 1 2 9|1 0 1 0|0 0|0 1 0 1|1 1
+JK|sh|h|1[k:2[k:=,b2:1[f:!,c2:=]]]||1 1 2 2||2|2 2 2 0 2 0|2|1 1 1 1|-1 2 3 4 1 2|1 1 1 0 0 1|0 0 0 1|0 1 0 1|1 1
+JA|shd|h|2[k:=,b1:1[f:!,c1:=]]|=|1 1 1 2 2 2|1 1 2 2 2 1 1 2 2 2 1 1 2 2 2 3 3 3 4 4 3 3 3 4 4 3 3 3 4 4|6|6 0 2 4|6|1 5 1 5|-2 9 11 36 2 45|1 0 0 1|0 1|0 1 \
+    0 1|1 1
+JK|sh|p|=|2[k:=,b2:1[f:!,c2:=]]|1 1 1 1|1 2 2 1 2 2 2 2 1 2 2 1|1|0 1 1 0|2|2 0 0 2|1 3 1 3 1 3|0 1 0 1|1 1|1 0 1 0|0 0
+JA|sh|h|1[k:2[k:=,b1:1[f:!,c1:=]],b1:2[f:!,c1:=]]||1 1 2 2||6|1 5 5 1 1 0 1 4|6|2 4 1 5 4 2 2 4|11 72 13 72 29 72|0 1 1 0 0 0 0 1|1 0 0 1|1 0 0 1 0 1 0 1|0 \
+    1 1 1
+QA|sh|h|1[f:!,k:2[k:=,b1:1[f:!,c1:=]]]||1 1 2 2||2|2 0 0 2 0 0 2 0|3|0 3 1 2|-17 18 10 9 1 18|1 0 0 1 0 0 0 1|0 1 0 1|0 1 0 1|1 1
+KA|sh|h|1[k:2[k:=,b2:1[f:!,c2:=]]]||1 1 2 2||2|2 2 2 0 2 0|2|1 1 1 1|-1 2 3 4 1 2|1 1 1 0 0 1|0 0 0 1|0 1 0 1|1 1
+JA|shd|h|1[k:2[k:=,b1:1[f:!,c1:=]],b3:2[f:!,c3:=]]||1 1 1 2 2 2||1|1 0 1 0 1 0 1 0|1|1 0 1 0 1 0 1 0|0 1 1 1 1 1|0 1 0 1 0 0 0 0|1 1 0 0|0 1 0 1 1 0 1 0|1 1 \
+    0 0
+QKA|sh|h|1[k:2[k:=,b1:1[f:!,c1:=]],b3:2[f:!,c3:=]]||1 1 2 2 3 3||3|1 2 1 2 2 1 1 0 1 0 1 1|3|1 2 1 2 1 2 3 0 2 1 2 1|8 135 49 135 25 27|0 1 0 1 1 0 0 0 0 0 \
+    0 1|1 1 0 0 1 1|0 1 0 1 0 1 1 0 0 1 0 1|1 1 1 0 1 1
+JA|sh|h|1[k:2[k:=,b1:1[f:!,c1:=]],b3:2[f:!,c3:=]]||1 1 2 2||7|3 4 7 0 2 1 5 2|12|3 9 0 12 0 12 12 0|-3 28 163 84 89 84|0 1 0 1 0 0 0 0|1 1 0 1|0 1 0 1 0 1 0 \
+    1|1 1 1 1
+QK|sh|h|=|1[k:=,b1:2[f:!,c1:=]]|1 1 2 2|1 2 2 1 2 2 3 3 4 3 3 4|2|2 0 2 0 0 2 2 0|12|0 12 7 5 12 0 12 0|1 3 5 6 1 3|0 1 0 1 0 1 0 1|1 1 1 1|1 0 1 0 0 1 1 0|\
+    0 0 1 0
+QA|sh|h|1[k:2[k:=,b1:1[f:!,c1:=]],b3:2[f:!,c3:=]]||1 1 2 2||7|3 4 5 2 0 3 5 0|7|0 7 7 0 7 0 0 7|-20 21 9 7 11 42|1 0 1 0 0 1 0 1|0 0 1 1|0 1 0 1 1 0 0 1|1 1 \
+    0 1
+JK|shd|h|2[k:1[k:=,b1:2[f:!,c1:=]],b1:1[f:!,c1:=]]||1 1 1 2 2 2||2|1 1 1 1 2 0 2 0|2|1 1 1 1 1 0 1 0|-1 4 4 5 3 4|0 1 0 1 1 0 0 1|1 1 0 1|0 1 0 1 0 0 0 0|1 \
+    1 0 1
+JQA|sh|h|1[k:=,b1:2[f:!,c1:=]]|=|1 1 2 2 3 3|1 2 2 3 3 1 2 2 3 3 4 4 5 6 6 4 4 5 6 6 7 7 8 8 9 7 7 8 8 9|7|7 0 7 0 6 1|12|11 1 12 0 0 12|1 630 257 1260 1 \
+    630|0 1 1 0 0 1|1 0 1|1 0 1 0 0 1|0 0 1
+JKA|sh|h|1[f:!,k:2[k:=,b1:1[f:!,c1:=]]]||1 1 2 2 3 3||6|1 5 1 5 1 5 5 0 2 3 2 3|6|2 4 2 4 2 4|-29 90 41 90 7 90|0 1 0 1 0 1 1 0 0 1 0 1|1 1 1 0 1 1|0 1 0 1 \
+    0 1|1 1 1
+QA|sh|h|1[k:=,b1:2[f:!,c1:=]]||1 1 2 2||3|3 0 3 0|2|2 0 2 0|0 1 1 1 0 1|0 1 0 1|1 1|1 0 1 0|0 0
+KA|sh|h|1[k:2[k:=,b1:1[f:!,c1:=]],b3:2[f:!,c3:=]]||1 1 2 2||7|0 7 3 4 0 0 3 0|3|1 2 3 0 0 3 0 3|-13 21 34 21 4 7|1 0 0 1 0 1 0 0|0 1 1 1|0 1 0 1 1 0 0 1|1 1 \
+    0 1
+QKA|sh|h|2[k:=,b1:1[f:!,c1:=]]|=|1 1 2 2 3 3|1 2 2 3 3 1 2 2 3 3 4 4 5 6 6 4 4 5 6 6 7 7 8 8 9 7 7 8 8 9|6|6 0 2 4 2 4|6|1 5 1 5 1 5|-1 6 1 3 1 30|1 0 0 1 0 \
+    1|0 1 1|0 1 0 1 0 1|1 1 1
+JK|sh|h|1[k:2[k:=,b1:1[f:!,c1:=]]]|1[k:=,b1:2[f:!,c1:=]]|1 1 2 2|1 2 2 1 2 2 3 3 4 3 3 4|1|first|1|first|0 1 1 1 1 1|1 1 0 1 0 1 0 1 1 0 1 0 1 0 0 0 0 0 0 0 \
+    0 0|0 0 1 1 1 0 0 0 0 0 0 0|0 1 0 1 0 0 0 0 0 0 0 0 1 0 1 0 1 0 1 0|1 1 0 0 0 0 0 0 0 0
+JQK|sh|p|1[k:2[k:=,b2:1[f:!,c2:=,r4:2[f:!,c2:=]]],b2:2[f:!,c2:=,r4:1[f:!,c2:=]]]|1[k:2[k:=,b4:1[f:!,c4:=,r8:2[f:!,c4:=]]],b4:2[f:!,c4:=,r8:1[f:!,c4:=]]]|1 1 \
+    2 2 3 3|1 2 2 3 3 1 2 2 3 3 4 4 5 6 6 4 4 5 6 6 7 7 8 8 9 7 7 8 8 9|1|first|1|first|0 1 1 1 1 1
+";
+
+/// A verdict as a text.
+fn text_of(alloc: Global, verdict: &Verdict) -> Result<String, AllocError> {
+    let Verdict { value, gap1, gap2 } = *verdict;
+    format!(in alloc;
+        "{} {} {} {} {} {}",
+        value.num, value.den, gap1.num, gap1.den, gap2.num, gap2.den
+    )
+}
+
+/// Whether a player's best answer to a plan has these weights, and these are his choices.
+fn is_answer(
+    alloc: Global,
+    form: &Abstract<'_>,
+    player: u8,
+    other: &Plan,
+    weights: &str,
+    moves: &str,
+) -> Result<bool, AllocError>
+    requires some { 0 < player }
+    requires two { player ≤ 2 }
+    requires other { IsPlanOf (frame_of form.now) (lists_of form.now) (other_player player) other.now }
+{
+    let answer = best(alloc, form, player, other)?;
+    let listed = choices(alloc, form, player, other)?;
+    let first = answer.player == player && answer.total == 1;
+    Ok(
+        first
+            && *answer.weights == *weights_in(alloc, weights)?
+            && *listed == *moves_in(alloc, moves)?,
+    )
+}
+
+/// The verdict on the plans of a row as a text, and whether the best answers are as the row has them.
+fn judged(alloc: Global, form: &Abstract<'_>, row: &[&str]) -> Result<(String, bool), Fail>
+    requires { 12 ≤ length row.now }
+{
+    let one = plan_in(alloc, form, 1, row[7], row[8])?;
+    let two = plan_in(alloc, form, 2, row[9], row[10])?;
+    match (one, two) {
+        (Some(one), Some(two)) => {
+            let mut work = Work::new(alloc, form)?;
+            let found = text_of(alloc, &verdict(form, &one, &two, &mut work))?;
+            let same = row.len() < 16
+                || is_answer(alloc, form, 1, &two, row[12], row[13])?
+                    && is_answer(alloc, form, 2, &one, row[14], row[15])?;
+            Ok((found, same))
+        }
+        _ => Ok((String::new(alloc), false)),
+    }
+}
+
+/// What the verdict of a row says, and whether the best answers are as the row has them.
+fn answer(alloc: Global, game: &ValidGame, row: &[&str]) -> Result<(String, bool), Fail>
+    requires { 12 ≤ length row.now }
+{
+    let signals = Signals::of(alloc, game)?;
+    let classes = row_classes(alloc, &signals, row)?;
+    match check(alloc, &signals, &classes) {
+        Ok(lossless) => match Abstract::of(alloc, &lossless) {
+            Ok(form) => judged(alloc, &form, row),
+            Err(_) => Ok((String::new(alloc), false)),
+        },
+        Err(_) => Ok((String::new(alloc), false)),
+    }
+}
+
+#[test]
+fn verdicts_and_answers_of_small_games(rt: HostRuntime) -> Result<(), Fail> {
+    let alloc = rt.alloc();
+    for line in GAMES.lines() {
+        let row: Vec<&str> = line.split('|').collect(alloc)?;
+        assert!(rt; row.len() == 12 || row.len() == 16);
+        let game = game_in(alloc, &row)?;
+        let (found, same) = answer(alloc, &game, &row)?;
+        assert_eq!(rt; found.as_str(), row[11], "{line}");
+        assert!(rt; same, "{line}");
+    }
+    Ok(())
+}
