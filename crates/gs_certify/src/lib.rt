@@ -7,8 +7,6 @@ mod commands;
 mod laws;
 mod saying;
 mod task;
-#[cfg(test)]
-mod tests;
 mod value;
 mod verifying;
 

@@ -5,7 +5,5 @@ mod commands;
 mod games;
 mod hands;
 mod judging;
-#[cfg(test)]
-mod tests;
 
 pub use commands::{duel_answer, judge_answer};

@@ -9,6 +9,3 @@ mod saying;
 
 pub use commands::{evaluate_answer, query_answer, upgrade_answer};
 pub use numbers::{Wrong, first_wrong};
-
-#[cfg(test)]
-mod tests;

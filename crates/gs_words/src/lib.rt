@@ -12,6 +12,3 @@ pub use laws::plain_words_are_read;
 pub use names::CommandName;
 pub use reading::read_words;
 pub use request::{Grouping, Request, WordsStop};
-
-#[cfg(test)]
-mod tests;

@@ -1,12 +1,10 @@
 //! The certificate of a worked strategy, and certificates and files that break one rule each.
 
-use crate::{certify_answer, verify_answer};
+use gs_certify::{certify_answer, verify_answer};
 use gs_reply::{Answer, Cause};
+use gs_samples::{KUHN_FILE, replaced};
 use std::alloc::{AllocError, Global};
 use std::test::Fail;
-
-const KUHN: &str =
-    "{\"classes\":[[1,2,3]],\"game\":{\"ante\":1,\"copies\":\"111\",\"ranking\":\"high\",\"ranks\":\"JQK\",\"rounds\":[{\"private\":1,\"public\":0,\"tree\":\"1[k:2[k:=,b1:1[f:!,c1:=]],b1:2[f:!,c1:=]]\"}],\"suits\":\"s\",\"version\":1},\"gap1\":\"13/12\",\"gap2\":\"7/6\",\"player1\":{\"total\":2,\"weights\":[1,1,1,1,2,0,1,0,1,0,2,0]},\"player2\":{\"total\":2,\"weights\":[1,1,1,1,2,0,2,0,2,0,2,0]},\"value\":\"1/12\",\"version\":1}\n";
 
 const CERTIFIED: &str =
     "{\"classes\":[[1,2,3]],\"game\":{\"ante\":1,\"bonus\":[1],\"copies\":\"111\",\"ranking\":\"high\",\"ranks\":\"JQK\",\"rounds\":[{\"private\":1,\"public\":0,\"tree\":\"1[k:2[k:=,b1:1[f:!,c1:=]],b1:2[f:!,c1:=]]\"}],\"suits\":\"s\",\"version\":2},\"gap1\":\"13/12\",\"gap2\":\"7/6\",\"player1\":{\"total\":2,\"weights\":[1,1,1,1,2,0,1,0,1,0,2,0]},\"player2\":{\"total\":2,\"weights\":[1,1,1,1,2,0,2,0,2,0,2,0]},\"value\":\"1/12\",\"version\":2}\n{\"player1\":{\"bound\":\"7/6\",\"values\":[\"4\",\"4\",\"6\",\"-4\",\"1\",\"6\",\"-1\",\"2\",\"4\",\"4\",\"4\",\"4\"]},\"player2\":{\"bound\":\"13/12\",\"values\":[\"2\",\"5\",\"6\",\"3\",\"3\",\"2\",\"3\",\"3\",\"2\",\"-1\",\"2\",\"4\"]},\"version\":1}\n";
@@ -85,15 +83,6 @@ const CHANGES: [(&str, &str, &str); 14] = [
     ),
 ];
 
-// The text with one part of it replaced by another, where it stands first.
-fn replaced(alloc: Global, text: &str, old: &str, new: &str) -> Result<String, Fail> {
-    let at = text.find(old).ok_or("no such part")?;
-    let mut out = String::from_str(alloc, &text[..at])?;
-    out.push_str(new)?;
-    out.push_str(&text[at + old.len()..])?;
-    Ok(out)
-}
-
 // Whether an answer prints this text, or refuses with this line.
 fn says(answer: &Answer, text: &str) -> bool {
     match answer {
@@ -113,9 +102,11 @@ fn refuses_numbers(alloc: Global, bytes: &[u8]) -> Result<bool, AllocError> {
 #[test]
 fn a_strategy_is_certified(rt: HostRuntime) -> Result<(), Fail> {
     let alloc = rt.alloc();
-    let answer = certify_answer(alloc, KUHN.as_bytes())?;
+    let answer = certify_answer(alloc, KUHN_FILE.as_bytes())?;
     assert!(rt; says(&answer, CERTIFIED));
-    let wrong = replaced(alloc, KUHN, "\"gap1\":\"13/12\"", "\"gap1\":\"0/1\"")?;
+    let wrong = replaced(alloc, KUHN_FILE, "\"gap1\":\"13/12\"", "\"gap1\":\"0/1\"")?.ok_or(
+        "no such part",
+    )?;
     assert!(rt; refuses_numbers(alloc, wrong.as_bytes())?);
     Ok(())
 }
@@ -124,7 +115,7 @@ fn a_strategy_is_certified(rt: HostRuntime) -> Result<(), Fail> {
 fn certificates_are_verified(rt: HostRuntime) -> Result<(), Fail> {
     let alloc = rt.alloc();
     for (old, new, text) in CHANGES {
-        let lines = replaced(alloc, CERTIFIED, old, new)?;
+        let lines = replaced(alloc, CERTIFIED, old, new)?.ok_or("no such part")?;
         let answer = verify_answer(alloc, lines.as_bytes())?;
         assert!(rt; says(&answer, text));
     }
