@@ -1,8 +1,9 @@
 -- How many ways there are to go on after some rounds.
-use Rattle.std.specs.Prelude.{ℕ, ◌+◌, ◌-◌, ◌*◌, ◌<◌, ◌≤◌, ◌≡◌, List, [], ◌∷◌, ◌++◌, None, take, drop, sum}
+use Rattle.std.specs.Prelude.{ℕ, ◌+◌, ◌-◌, ◌*◌, ◌<◌, ◌≤◌, ◌≡◌, List, [], ◌∷◌, ◌++◌, None, map, take, drop, sum}
+use Rattle.gs_bet.specs.Limit.{limit_bet}
 use Rattle.gs_model.specs.Classes.{ClassLists, list_of}
 use Rattle.gs_model.specs.Frame.{frame_of}
-use Rattle.gs_model.specs.Game.{Game, Round, round_count}
+use Rattle.gs_model.specs.Game.{Game, Round, High, round_count}
 use Rattle.gs_model.specs.Lossless.{weight_against}
 use Rattle.gs_game.specs.Refusals.{first_refusal}
 use Rattle.gs_game.specs.Sequences.{deal_sizes, draws, seen_sizes}
@@ -25,6 +26,21 @@ ways_on g round = draws (sum g.copies - cards_shown (take round g.rounds) - own_
 pub record StopsAfter (g : Game) (round : ℕ) (h : Game) : Type 0 where
   pub copies : h.copies ≡ g.copies
   pub sizes : seen_sizes h.rounds ≡ seen_sizes (take round g.rounds) ++ 0 ∷ 0 ∷ []
+
+-- a round that deals so many cards, and in which nobody bets
+abbrev pub unbet : ℕ → ℕ → Round
+unbet private public = record { private = private; public = public; tree = limit_bet 1 0 }
+
+-- the game of one chip that deals the first rounds of another and then a round of no cards: nobody bets, and the higher own card wins
+abbrev pub stopped_game : Game → ℕ → Game
+stopped_game g round = record {
+  suits = g.suits;
+  copies = g.copies;
+  ranking = High;
+  bonus = 1 ∷ [];
+  ante = 1;
+  rounds = map (λ (r : Round). unbet r.private r.public) (take round g.rounds) ++ unbet 0 0 ∷ [];
+}
 
 -- after each round of a valid game there is a way to go on
 abbrev pub SomeGoOn : Type 0

@@ -2,6 +2,8 @@
 
 ghost use Rattle.std.specs.Prelude.{◌≡◌, ◌≤◌, ◌++◌, ◌∷◌, [], All, IfOk, OnOk, map};
 ghost use Rattle.gs_game.specs.Games.{HasFewCards, round_of};
+ghost use Rattle.gs_game.specs.GoingOn.{unbet};
+ghost use Rattle.gs_model.specs.Game.{Round as RoundRules};
 ghost use Rattle.gs_game.specs.Sequences.{seen_sizes};
 
 use crate::faults::GameFault;
@@ -21,6 +23,7 @@ fn push_round(
     requires private { private ≤ 2 }
     requires public { public ≤ 3 }
     requires few { All HasFewCards rounds.old.items }
+    ensures rounds { OnOk result (map round_of rounds.new.items ≡ map round_of rounds.old.items ++ unbet private public ∷ []) }
     ensures sizes { OnOk result (seen_sizes (map round_of rounds.new.items) ≡ seen_sizes (map round_of rounds.old.items) ++ private ∷ public ∷ []) }
     ensures few { OnOk result (All HasFewCards rounds.new.items) }
 {
@@ -36,6 +39,7 @@ fn push_round(
 /// Rounds that deal as these do, and then one that deals no cards.
 fn stopped_rounds(alloc: Global, rounds: &[Round]) -> Result<Vec<Round>, AllocError>
     requires { All HasFewCards rounds.now }
+    ensures rounds { IfOk result (λ v. map round_of v.items ≡ map (λ (r : RoundRules). unbet r.private r.public) (map round_of rounds.now) ++ unbet 0 0 ∷ []) }
     ensures sizes { IfOk result (λ v. seen_sizes (map round_of v.items) ≡ seen_sizes (map round_of rounds.now) ++ 0 ∷ 0 ∷ []) }
     ensures few { IfOk result (λ v. All HasFewCards v.items) }
 {
@@ -48,16 +52,19 @@ fn stopped_rounds(alloc: Global, rounds: &[Round]) -> Result<Vec<Round>, AllocEr
 }
 
 impl ValidGame {
-    ghost use Rattle.std.specs.Prelude.{◌≤◌, IfOk, IfSome};
+    ghost use Rattle.std.specs.Prelude.{◌≡◌, ◌≢◌, ◌≤◌, IfOk, IfSome, MatchOption, None};
     ghost use Rattle.gs_game.specs.Games.{game_of};
-    ghost use Rattle.gs_game.specs.GoingOn.{StopsAfter};
+    ghost use Rattle.gs_game.specs.GoingOn.{StopsAfter, stopped_game};
+    ghost use Rattle.gs_game.specs.Refusals.{first_refusal};
     ghost use Rattle.gs_model.specs.Game.{round_count};
 
-    /// The game that stops after a round: its deals are the pairs of signals of that round. Hands are ranked by the own card there; none where the
-    /// rounds up to it deal more than one.
+    /// The game that stops after a round: its deals are the pairs of signals of that round. Hands are ranked by the own card there. None where
+    /// a rule refuses that game: where the rounds up to it deal more than one own card, or none, and where a round more is one too many.
     pub fn stopped(&self, alloc: Global, round: u8) -> Result<Option<ValidGame>, AllocError>
         requires { round ≤ round_count (game_of self.now.game) }
-        ensures { IfOk result (λ o. IfSome o (λ v. StopsAfter (game_of self.now.game) round (game_of v.game))) }
+        ensures stops { IfOk result (λ o. IfSome o (λ v. StopsAfter (game_of self.now.game) round (game_of v.game))) }
+        // It is given exactly where no rule refuses it.
+        ensures whenever { IfOk result (λ o. MatchOption o (first_refusal (stopped_game (game_of self.now.game) round) ≢ None) (λ v. game_of v.game ≡ stopped_game (game_of self.now.game) round)) }
     {
         let game = self.game();
         let rounds = stopped_rounds(alloc, &game.rounds[..usize::from(round)])?;
@@ -71,8 +78,10 @@ impl ValidGame {
         };
         match stopped.check(alloc) {
             Ok(valid) => Ok(Some(valid)),
-            Err(GameFault::Memory) => Err(AllocError),
-            Err(_) => Ok(None),
+            Err(fault) => match fault {
+                GameFault::Memory => Err(AllocError),
+                _ => Ok(None),
+            },
         }
     }
 }

@@ -36,7 +36,7 @@ pub first_apart-requires-clause-side : goal.first_apart-requires-clause-side
 first_apart-requires-clause-side c =
     let g = rules_of c.args.signals.now in
     let h = rules_of c.in_ok-stopped.stopped in
-    let stops = stops_from c.args.signals.now.game.now c.game.result.now c.in_ok-game.field-0 c.in-Some.game c.in_ok-stopped.stopped.game.now c.args.round c.game.ensures c.in-Some.is c.in_ok-stopped.ensures c.in_ok-game.ensures in
+    let stops = stops_from c.args.signals.now.game.now c.game.result.now c.in_ok-game.field-0 c.in-Some.game c.in_ok-stopped.stopped.game.now c.args.round c.game.ensures c.in-Some.is c.in_ok-stopped.ensures c.in_ok-game.ensures.stops in
     let l = later g h c.args.round c.rounds.result c.if-round-rounds.true c.rounds.ensures.value stops in
     (c.requires.side.0, omega (arith, l, last_is h))
 
@@ -44,7 +44,7 @@ pub first_apart-requires-clause-within : goal.first_apart-requires-clause-within
 first_apart-requires-clause-within c =
     let g = rules_of c.args.signals.now in
     let h = rules_of c.in_ok-stopped.stopped in
-    let stops = stops_from c.args.signals.now.game.now c.game.result.now c.in_ok-game.field-0 c.in-Some.game c.in_ok-stopped.stopped.game.now c.args.round c.game.ensures c.in-Some.is c.in_ok-stopped.ensures c.in_ok-game.ensures in
+    let stops = stops_from c.args.signals.now.game.now c.game.result.now c.in_ok-game.field-0 c.in-Some.game c.in_ok-stopped.stopped.game.now c.args.round c.game.ensures c.in-Some.is c.in_ok-stopped.ensures c.in_ok-game.ensures.stops in
     within g h c.args.round c.rounds.result c.args.end c.if-round-rounds.true c.rounds.ensures.value stops c.requires.within
 
 pub returns-in-Some-2 : goal.returns-in-Some-2
@@ -54,7 +54,7 @@ returns-in-Some-2 c =
     let lists = c.args.classes.now.lists in
     let others = c.in-Some-2.seen.lists in
     let round = c.args.round in
-    let stops = stops_from c.args.signals.now.game.now c.game.result.now c.in_ok-game.field-0 c.in-Some.game c.in_ok-stopped.stopped.game.now round c.game.ensures c.in-Some.is c.in_ok-stopped.ensures c.in_ok-game.ensures in
+    let stops = stops_from c.args.signals.now.game.now c.game.result.now c.in_ok-game.field-0 c.in-Some.game c.in_ok-stopped.stopped.game.now round c.game.ensures c.in-Some.is c.in_ok-stopped.ensures c.in_ok-game.ensures.stops in
     let same = subst (λ (o : Option Filter). IfSome o (λ (f : Filter). list_of f.lists round ≡ list_of lists round)) c.in-Some-2.is c.in_ok-seen.ensures.same in
     if_ok c.first_apart.result (IsFirstApart (frame_of h) others Deals round c.args.end) (IsFirstApart (frame_of g) lists Deals round c.args.end)
     (apart_from g h round lists others c.requires.side.0 (omega (arith, c.if-round-rounds.true, c.rounds.ensures.value)) c.args.signals.now.game.now.accepted stops same c.args.end)

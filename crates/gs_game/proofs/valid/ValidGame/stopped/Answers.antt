@@ -1,14 +1,23 @@
-use Rattle.std.proofs.Common.{◌≡◌, ◌≤◌, ◌++◌, ◌∷◌, ℕ, [], List, length-take, map, take, ap, sym, ◌∙◌, subst, arith}
-use Rattle.std.specs.Prelude.{All}
+use Rattle.std.proofs.Common.{length, refl, ◌≡◌, ◌≤◌, ◌++◌, ◌∷◌, ℕ, [], List, length-take, map, take, ap, sym, ◌∙◌, subst, arith, rules}
+use Rattle.std.specs.Prelude.{All, IfOk, MatchOption, Option, Result, None, ◌≢◌}
+use Rattle.std.specs.declared.alloc.AllocError.{AllocError}
 use Rattle.std.specs.List.{AllByRecursion}
 use Rattle.std.proofs.lemmas.List.{get_or-take, take-map}
 use Rattle.std.proofs.lemmas.List.Elements.{All-from_recursion, recursion_from_All}
-use Rattle.gs_model.specs.Game.{Round as RoundRules}
-use Rattle.gs_game.specs.Games.{HasFewCards, round_of}
+use Rattle.gs_card.specs.Decks.{DeckValue}
+use Rattle.gs_model.specs.Game.{Game as Rules, Round as RoundRules, High}
+use Rattle.gs_game.specs.Answers.{Answers}
+use Rattle.gs_game.specs.Games.{HasFewCards, game_of, round_of}
+use Rattle.gs_game.specs.GoingOn.{stopped_game, unbet}
+use Rattle.gs_game.specs.Refusals.{Refusal, first_refusal}
 use Rattle.gs_game.specs.Sequences.{seen_sizes}
+use Rattle.gs_game.specs.declared.faults.GameFault.{GameFault}
+use Rattle.gs_game.specs.declared.faults.GameFault.TheVariants as faults
 use Rattle.gs_game.specs.declared.game.Game.{Game}
 use Rattle.gs_game.specs.declared.game.Round.{Round}
+use Rattle.gs_game.specs.declared.valid.ValidGame.{ValidGame}
 use Rattle.gs_game.proofs.valid.ValidGame.stopped.Goals as goal
+use Rattle.gs_game.proofs.valid.ValidGame.stopped.Goals.{in-Memory, in_default}
 
 few_each : (rs : List Round) → AllByRecursion (λ (r : RoundRules). (r.private ≤ 2) × (r.public ≤ 3)) (map round_of rs) → AllByRecursion HasFewCards rs
 few_each [] h = tt
@@ -18,6 +27,44 @@ few_first : (rs : List Round) (n : ℕ) → All (λ (r : RoundRules). (r.private
 few_first rs n h =
     let each = All-from_recursion HasFewCards rs (few_each rs (recursion_from_All (λ (r : RoundRules). (r.private ≤ 2) × (r.public ≤ 3)) (map round_of rs) h)) in
     λ k d l. let m = length-take n rs in subst HasFewCards (sym (get_or-take n rs k d (omega (arith, l, m)))) (each k d (omega (arith, l, m)))
+
+-- a fault that is not want of memory is a refusal
+refused : (r : Option Refusal) (fault : GameFault) → fault ≢ faults.Memory → Answers r fault → r ≢ None
+refused r (faults.Rounds count) apart answers none = cc
+refused r faults.NoPrivate apart answers none = cc
+refused r (faults.RankingCards own all) apart answers none = cc
+refused r (faults.NotEnoughCards need have) apart answers none = cc
+refused r (faults.NoEven round) apart answers none = cc
+refused r (faults.Uneven round path) apart answers none = cc
+refused r (faults.PutTooLarge chips) apart answers none = cc
+refused r (faults.TooManyLines count) apart answers none = cc
+refused r (faults.TooHeavy weight) apart answers none = cc
+refused r (faults.TooManySignals round) apart answers none = cc
+refused r faults.TooManyDeals apart answers none = cc
+refused r faults.Memory apart answers none = apart refl
+
+-- the game of a copied deck and of such rounds is the stopped game
+made_so : (g : Rules) (round : ℕ) (d e : DeckValue) (bonus : List ℕ) (rs : List RoundRules) → e ≡ d → bonus ≡ 1 ∷ [] → g.suits ≡ length d.suits → g.copies ≡ d.counts
+    → rs ≡ map (λ (r : RoundRules). unbet r.private r.public) (take round g.rounds) ++ unbet 0 0 ∷ []
+    → (let made : Rules = record { suits = length e.suits; copies = e.counts; ranking = High; bonus = bonus; ante = 1; rounds = rs } in made) ≡ stopped_game g round
+made_so g round d e bonus rs same one suits copies rounds =
+    let of = λ (s : ℕ) (cs bonus : List ℕ) (rs : List RoundRules). let made : Rules = record { suits = s; copies = cs; ranking = High; bonus = bonus; ante = 1; rounds = rs } in made in
+    ap (λ (x : DeckValue). of (length x.suits) x.counts bonus rs) same
+    ∙ ap (λ (b : List ℕ). of (length d.suits) d.counts b rs) one
+    ∙ ap (λ (s : ℕ). of s d.counts (1 ∷ []) rs) (sym suits)
+    ∙ ap (λ (cs : List ℕ). of g.suits cs (1 ∷ []) rs) (sym copies)
+    ∙ ap (λ (rs : List RoundRules). of g.suits g.copies (1 ∷ []) rs) rounds
+
+-- what a game's first rounds are turned into, from what was read of the game
+stopped_so : (game read : Game) (round n : ℕ) (now stopped : List Round) (deck : DeckValue) (bonus : List ℕ) → read ≡ game → now ≡ read.rounds.items → n ≡ round
+    → map round_of stopped ≡ map (λ (r : RoundRules). unbet r.private r.public) (map round_of (take n now)) ++ unbet 0 0 ∷ [] → deck ≡ read.deck → bonus ≡ 1 ∷ []
+    → (let made : Rules = record { suits = length deck.suits; copies = deck.counts; ranking = High; bonus = bonus; ante = 1; rounds = map round_of stopped } in made) ≡ stopped_game (game_of game) round
+stopped_so game read round n now stopped deck bonus same rounds count made copied one =
+    let unbets = λ (rs : List RoundRules). map (λ (r : RoundRules). unbet r.private r.public) rs ++ unbet 0 0 ∷ [] in
+    let first : take n now ≡ take round game.rounds.items =
+    ap (λ (k : ℕ). take k now) count ∙ ap (λ (rs : List Round). take round rs) (rounds ∙ ap (λ (g : Game). g.rounds.items) same) in
+    made_so (game_of game) round game.deck deck bonus (map round_of stopped) (copied ∙ ap (λ (g : Game). g.deck) same) one refl refl
+    (made ∙ ap (λ (rs : List Round). unbets (map round_of rs)) first ∙ ap unbets (sym (take-map round_of round game.rounds.items)))
 
 pub stopped_rounds-requires : goal.stopped_rounds-requires
 stopped_rounds-requires c =
@@ -32,8 +79,27 @@ returns-in-Ok c =
     let read : take c.from.result c.deref.result.now ≡ take c.args.round rounds =
     ap (λ (n : ℕ). take n c.deref.result.now) c.from.ensures ∙ ap (λ (rs : List Round). take c.args.round rs) (c.deref.ensures.value ∙ ap (λ (g : Game). g.rounds.items) c.game-game.ensures) in
     record {
-      copies = ap (λ (g : Game). g.deck.counts) same ∙ ap (λ d. d.counts) c.in_ok-copy.ensures ∙ ap (λ (g : Game). g.deck.counts) c.game-game.ensures;
-      sizes = ap (λ (g : Game). seen_sizes (map round_of g.rounds.items)) same ∙ c.in_ok-rounds.ensures.sizes
-          ∙ ap (λ (rs : List Round). seen_sizes (map round_of rs) ++ 0 ∷ 0 ∷ []) read
-          ∙ ap (λ (rs : List RoundRules). seen_sizes rs ++ 0 ∷ 0 ∷ []) (sym (take-map round_of c.args.round rounds));
+      stops = record {
+        copies = ap (λ (g : Game). g.deck.counts) same ∙ ap (λ d. d.counts) c.in_ok-copy.ensures ∙ ap (λ (g : Game). g.deck.counts) c.game-game.ensures;
+        sizes = ap (λ (g : Game). seen_sizes (map round_of g.rounds.items)) same ∙ c.in_ok-rounds.ensures.sizes
+            ∙ ap (λ (rs : List Round). seen_sizes (map round_of rs) ++ 0 ∷ 0 ∷ []) read
+            ∙ ap (λ (rs : List RoundRules). seen_sizes rs ++ 0 ∷ 0 ∷ []) (sym (take-map round_of c.args.round rounds));
+      };
+      whenever = ap game_of same
+          ∙ stopped_so c.args.self.now.game c.game-game.result.now c.args.round c.from.result c.deref.result.now c.in_ok-rounds.rounds.items c.in_ok-copy.field-0 c.in_ok-vec.field-0.items
+          c.game-game.ensures c.deref.ensures.value c.from.ensures c.in_ok-rounds.ensures.rounds c.in_ok-copy.ensures (c.in_ok-vec.ensures.items_if_clones_equal (λ y k. search rules));
     }
+
+pub returns-after-fault-clause-whenever : goal.returns-after-fault-clause-whenever
+returns-after-fault-clause-whenever c =
+    let game = c.args.self.now.game in
+    let P : Result (Option ValidGame) AllocError → Type 0 = λ r. IfOk r (λ o. MatchOption o (first_refusal (stopped_game (game_of game) c.args.round) ≢ None) (λ v. game_of v.game ≡ stopped_game (game_of game) c.args.round)) in
+    let made =
+    stopped_so game c.game-game.result.now c.args.round c.from.result c.deref.result.now c.in_ok-rounds.rounds.items c.in_ok-copy.field-0 c.in_ok-vec.field-0.items
+    c.game-game.ensures c.deref.ensures.value c.from.ensures c.in_ok-rounds.ensures.rounds c.in_ok-copy.ensures (c.in_ok-vec.ensures.items_if_clones_equal (λ y k. search rules)) in
+    elim c.match-fault.branch [
+      | in-Memory w ↦ subst P (sym w.result-is) tt
+      | in_default w ↦
+          subst P (sym w.result-is)
+          (refused (first_refusal (stopped_game (game_of game) c.args.round)) c.in-Err.fault w.in_default.not-Memory (subst (λ (g : Rules). Answers (first_refusal g) c.in-Err.fault) made c.in-Err.ensures.refused))
+    ]
