@@ -4,11 +4,13 @@
 ghost use Rattle.gs_rank.specs.ThreeCards.{CategoriesAreGreatest};
 
 mod outcomes;
+mod ranker;
 mod strengths;
 #[cfg(test)]
 mod tests;
 
 pub use outcomes::{category, outcome};
+pub use ranker::Ranker;
 pub use strengths::strength;
 
 /// The category of three cards is the greatest that applies to them.

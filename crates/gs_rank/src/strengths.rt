@@ -6,7 +6,8 @@ ghost use Rattle.gs_card.specs.Decks.{kinds};
 ghost use Rattle.gs_card.specs.Rankings.{ranking_of};
 ghost use Rattle.gs_rank.specs.Hands.{IsHand, IsStrength};
 
-use gs_card::{Card, Deck, Ranking};
+use crate::ranker::Ranker;
+use gs_card::{Card, Ranking};
 
 /// The place of the category in a strength; the three places after it hold ranks, each below 64.
 const CATEGORY: u32 = 262144;
@@ -38,35 +39,33 @@ fn three_ranks(high: u32, middle: u32, low: u32, flush: bool) -> u32
 }
 
 /// The strength of three cards, in any order.
-fn three_strength(deck: &Deck, a: Card, b: Card, c: Card) -> u32
-    requires a_of_deck { a < kinds deck.now }
-    requires b_of_deck { b < kinds deck.now }
-    requires c_of_deck { c < kinds deck.now }
-    ensures value { result ≡ three_strength (length deck.now.suits) a b c }
+fn three_strength(ranker: &Ranker, a: Card, b: Card, c: Card) -> u32
+    requires a_of_deck { a < kinds ranker.now.deck.now }
+    requires b_of_deck { b < kinds ranker.now.deck.now }
+    requires c_of_deck { c < kinds ranker.now.deck.now }
+    ensures value { result ≡ three_strength (length ranker.now.deck.now.suits) a b c }
     ensures within { IsStrength Three result }
 {
-    let _kinds = deck.kinds();
-    let x = u32::from(deck.rank(a));
-    let y = u32::from(deck.rank(b));
-    let z = u32::from(deck.rank(c));
+    let x = u32::from(ranker.rank(a));
+    let y = u32::from(ranker.rank(b));
+    let z = u32::from(ranker.rank(c));
     let high = x.max(y.max(z));
     let low = x.min(y.min(z));
-    let flush = deck.suit(a) == deck.suit(b) && deck.suit(b) == deck.suit(c);
+    let flush = ranker.suit(a) == ranker.suit(b) && ranker.suit(b) == ranker.suit(c);
     three_ranks(high, x + y + z - high - low, low, flush)
 }
 
 /// The strength of an own card with public cards: its rank, and 64 more where some public card has the same rank.
-fn pair_strength(deck: &Deck, own: Card, public: &[Card]) -> u32
-    requires own_of_deck { own < kinds deck.now }
-    requires public_of_deck { All (λ card. card < kinds deck.now) public.now }
-    ensures value { result ≡ strength (length deck.now.suits) Pair (own ∷ []) public.now }
+fn pair_strength(ranker: &Ranker, own: Card, public: &[Card]) -> u32
+    requires own_of_deck { own < kinds ranker.now.deck.now }
+    requires public_of_deck { All (λ card. card < kinds ranker.now.deck.now) public.now }
+    ensures value { result ≡ strength (length ranker.now.deck.now.suits) Pair (own ∷ []) public.now }
     ensures within { IsStrength Pair result }
 {
-    let _kinds = deck.kinds();
-    let rank = deck.rank(own);
+    let rank = ranker.rank(own);
     let strength = u32::from(rank);
     for card in public {
-        if deck.rank(*card) == rank {
+        if ranker.rank(*card) == rank {
             return strength + 64;
         }
     }
@@ -87,16 +86,16 @@ fn card_at(own: &[Card], public: &[Card], place: usize) -> Card
 
 /// The strength of a hand of own and public cards: more wins. By the own card it is the card's rank; by a pair 64 more where some public card has
 /// that rank; by three cards it is `category * 262144` and then the ranks that decide, the first times 4096 and the second times 64.
-pub fn strength(deck: &Deck, ranking: Ranking, own: &[Card], public: &[Card]) -> u32
-    requires { IsHand deck.now (ranking_of ranking) own.now public.now }
-    ensures value { result ≡ strength (length deck.now.suits) (ranking_of ranking) own.now public.now }
+pub fn strength(ranker: &Ranker, ranking: Ranking, own: &[Card], public: &[Card]) -> u32
+    requires { IsHand ranker.now.deck.now (ranking_of ranking) own.now public.now }
+    ensures value { result ≡ strength (length ranker.now.deck.now.suits) (ranking_of ranking) own.now public.now }
     ensures within { IsStrength (ranking_of ranking) result }
 {
     match ranking {
-        Ranking::High => u32::from(deck.rank(own[0])),
-        Ranking::Pair => pair_strength(deck, own[0], public),
+        Ranking::High => u32::from(ranker.rank(own[0])),
+        Ranking::Pair => pair_strength(ranker, own[0], public),
         Ranking::Three => three_strength(
-            deck,
+            ranker,
             card_at(own, public, 0),
             card_at(own, public, 1),
             card_at(own, public, 2),

@@ -1,4 +1,4 @@
-use crate::{category, outcome, strength};
+use crate::{Ranker, category, outcome, strength};
 use gs_card::{Deck, Ranking};
 use std::process::Abort;
 use std::test::Fail;
@@ -6,26 +6,27 @@ use std::test::Fail;
 /// The strengths of an own card with two public ones, by three cards, by a pair and by the own card.
 fn strengths(
     rt: &impl Abort,
-    deck: &Deck,
+    ranker: &Ranker<'_>,
     own: &str,
     first: &str,
     second: &str,
 ) -> (u32, u32, u32) {
-    let own = [deck.card_of(own).expect(rt, "an own card")];
+    let own = [ranker.deck.card_of(own).expect(rt, "an own card")];
     let public = [
-        deck.card_of(first).expect(rt, "a public card"),
-        deck.card_of(second).expect(rt, "a public card"),
+        ranker.deck.card_of(first).expect(rt, "a public card"),
+        ranker.deck.card_of(second).expect(rt, "a public card"),
     ];
     (
-        strength(deck, Ranking::Three, &own, &public),
-        strength(deck, Ranking::Pair, &own, &public),
-        strength(deck, Ranking::High, &own, &public),
+        strength(ranker, Ranking::Three, &own, &public),
+        strength(ranker, Ranking::Pair, &own, &public),
+        strength(ranker, Ranking::High, &own, &public),
     )
 }
 
 #[test]
 fn hands_have_strengths(rt: HostRuntime) -> Result<(), Fail> {
     let deck = Deck::new(rt.alloc(), "23456789TJQKA", "shdc", "")?;
+    let ranker = Ranker::of(rt.alloc(), &deck)?;
     for (own, first, second, want) in [
         ("Qs", "Ks", "As", (1359872, 10, 10)),
         ("As", "3h", "2s", (49216, 12, 12)),
@@ -36,7 +37,11 @@ fn hands_have_strengths(rt: HostRuntime) -> Result<(), Fail> {
         ("Kc", "Ah", "Kd", (307968, 75, 11)),
         ("5c", "9s", "Jd", (37315, 3, 3)),
     ] {
-        assert_eq!(rt; strengths(&rt, &deck, own, first, second), want, "at {own}");
+        assert_eq!(rt;
+            strengths(&rt, &ranker, own, first, second),
+            want,
+            "at {own}"
+        );
     }
     Ok(())
 }

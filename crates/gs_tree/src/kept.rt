@@ -17,7 +17,7 @@ ghost use Rattle.gs_tree.specs.Walk.{last_count};
 use crate::tables::Tables;
 use gs_card::Card;
 use gs_game::{Game, are_single};
-use gs_rank::strength;
+use gs_rank::{Ranker, strength};
 use std::alloc::{AllocError, Global};
 
 /// The cards of a round's signals, and the ways to take all that each shows. The cards of each stand behind those of the one before:
@@ -78,13 +78,27 @@ pub(crate) fn part(cards: &[Card], each: usize, place: u32) -> &[Card]
 }
 
 /// Adds cards behind others, one by one: they are few.
-fn push_all(cards: &mut Vec<Card>, more: &[Card]) -> Result<(), AllocError>
+fn push_each(cards: &mut Vec<Card>, more: &[Card]) -> Result<(), AllocError>
     ensures { OnOk result (cards.new.items ≡ cards.old.items ++ more.now) }
 {
     for card in more {
         cards.push(*card)?;
     }
     Ok(())
+}
+
+/// Adds cards behind others: mostly one or none.
+fn push_all(cards: &mut Vec<Card>, more: &[Card]) -> Result<(), AllocError>
+    ensures { OnOk result (cards.new.items ≡ cards.old.items ++ more.now) }
+{
+    match more {
+        [] => Ok(()),
+        [card] => {
+            cards.push(*card)?;
+            Ok(())
+        }
+        _ => push_each(cards, more),
+    }
 }
 
 /// Adds the cards of a signal: those of its parent, and those that its last round shows.
@@ -113,8 +127,9 @@ fn next_hands(
 {
     let paths = next_paths(alloc, game, tables, round, &before.paths)?;
     let parents = &tables.parents[round];
-    let mut owns = Vec::new(alloc);
-    let mut publics = Vec::new(alloc);
+    let count = paths.len();
+    let mut owns = Vec::with_capacity(alloc, count)?;
+    let mut publics = Vec::with_capacity(alloc, count)?;
     for (signal, shown) in tables.layers[round].shown.iter().enumerate() {
         let parent = parents[signal];
         let own = part(&before.owns, before.own, parent);
@@ -122,7 +137,7 @@ fn next_hands(
         let public = part(&before.publics, before.public, parent);
         push_hand(&mut publics, public, shown.public.cards())?;
     }
-    let each = paths.len().max(1);
+    let each = count.max(1);
     let own = owns.len() / each;
     let public = publics.len() / each;
     Ok(Hands {
@@ -168,7 +183,8 @@ pub(crate) fn is_plain(game: &Game, hands: &Hands) -> bool
 }
 
 /// The strength of the hand that a last-round signal holds.
-fn strength_of(game: &Game, hands: &Hands, signal: u32) -> u32
+fn strength_of(ranker: &Ranker, game: &Game, hands: &Hands, signal: u32) -> u32
+    requires deck { ranker.now.deck.now ≡ game.now.deck }
     requires hands { AreHands (game_of game.now) (round_count (game_of game.now)) hands.now.paths.items hands.now.owns.items hands.now.publics.items hands.now.own hands.now.public }
     requires dealable { IsDealable (game_of game.now) }
     requires signal_in { signal < last_count (game_of game.now) }
@@ -178,7 +194,7 @@ fn strength_of(game: &Game, hands: &Hands, signal: u32) -> u32
     let _kinds = game.deck.kinds();
     let own = part(&hands.owns, hands.own, signal);
     let public = part(&hands.publics, hands.public, signal);
-    strength(&game.deck, game.ranking, own, public)
+    strength(ranker, game.ranking, own, public)
 }
 
 /// The strengths of the hands of all last-round signals.
@@ -190,9 +206,10 @@ pub(crate) fn strengths(alloc: Global, game: &Game, hands: &Hands) -> Result<Vec
     ensures within { IfOk result (λ v. All (IsStrength (ranking_of game.now.ranking)) v.items) }
 {
     let count = hands.paths.len() as u32;
+    let ranker = Ranker::of(alloc, &game.deck)?;
     let mut found = Vec::with_capacity(alloc, hands.paths.len())?;
     for signal in 0..count {
-        found.push(strength_of(game, hands, signal))?;
+        found.push(strength_of(&ranker, game, hands, signal))?;
     }
     Ok(found)
 }

@@ -1,6 +1,6 @@
 //! The tables of all signals of a game.
 
-ghost use Rattle.std.specs.Prelude.{◌≡◌, ◌≤◌, ◌<◌, ◌+◌, ℕ, suc, ◌++◌, ◌^◌, ◌*◌, ◌/◌, ◌==◌, count_by, All, IfOk, OnOk, length, map, string_bytes};
+ghost use Rattle.std.specs.Prelude.{◌≡◌, ◌≤◌, ◌<◌, ◌+◌, ℕ, suc, [], ◌++◌, ◌^◌, ◌*◌, ◌/◌, ◌==◌, count_by, All, IfOk, OnOk, length, map, string_bytes};
 ghost use Rattle.gs_game.specs.Games.{game_of, round_of};
 ghost use Rattle.gs_model.specs.Game.{round_at, round_count};
 ghost use Rattle.gs_model.specs.Signals.{signals, signal_at, left_by};
@@ -51,6 +51,29 @@ pub(crate) struct Grown {
     pub(crate) layer: Layer,
 }
 
+/// No signals yet, with room for those of a round.
+fn none_grown(alloc: Global, room: usize, parents: usize) -> Result<Grown, AllocError>
+    ensures parents { IfOk result (λ grown. grown.parents.items ≡ []) }
+    ensures shown { IfOk result (λ grown. grown.layer.shown.items ≡ []) }
+    ensures edges { IfOk result (λ grown. grown.layer.edges.items ≡ []) }
+    ensures firsts { IfOk result (λ grown. grown.layer.firsts.items ≡ []) }
+{
+    Ok(Grown {
+        parents: Vec::with_capacity(alloc, room)?,
+        layer: Layer {
+            shown: Vec::with_capacity(alloc, room)?,
+            edges: Vec::with_capacity(alloc, room)?,
+            firsts: Vec::with_capacity(alloc, parents)?,
+        },
+    })
+}
+
+/// How many signals a round may have that shows one card after so many signals, and 200,000 at the most.
+fn room_for(count: u32, kinds: u8) -> usize {
+    let all = u64::from(count) * u64::from(kinds);
+    all.min(200_000) as usize
+}
+
 /// The signals of the round after the first `round` rounds, from their tables.
 fn grow(
     alloc: Global,
@@ -69,15 +92,8 @@ fn grow(
     ensures parents { IfOk result (λ grown. grown.parents.items ≡ parents_in (game_of game.now) (suc (length layers.now))) }
     ensures layer { IfOk result (λ grown. IsLayer (game_of game.now) (length layers.now) grown.layer) }
 {
-    let _kinds = game.deck.kinds();
-    let mut grown = Grown {
-        parents: Vec::new(alloc),
-        layer: Layer {
-            shown: Vec::new(alloc),
-            edges: Vec::new(alloc),
-            firsts: Vec::new(alloc),
-        },
-    };
+    let room = room_for(count, game.deck.kinds());
+    let mut grown = none_grown(alloc, room, count as usize + 1)?;
     for parent in 0..count {
         let left = copies_left(alloc, game, parents, layers, layers.len(), parent)?;
         grown.layer.firsts.push(grown.layer.shown.len() as u32)?;

@@ -106,13 +106,13 @@ returns c =
     let count : length c.in_ok-paths.paths.items ≡ length ss = ap (λ (x : List ℕ). length x) c.in_ok-paths.ensures ∙ length-map ss (path_weight g.copies) in
     let owned : c.loop-signal.owns.items ≡ flat_map own_cards ss = c.loop-signal.invariant.owned ∙ ap (flat_map own_cards) (take_all c.loop-signal.signal ss over) in
     let shown : c.loop-signal.publics.items ≡ flat_map public_cards ss = c.loop-signal.invariant.shown ∙ ap (flat_map public_cards) (take_all c.loop-signal.signal ss over) in
-    let many : c.len.result ≡ length ss = omega (arith, c.len.ensures, c.in_ok-paths.paths.ok.0, count) in
+    let many : c.len-count.result ≡ length ss = omega (arith, c.len-count.ensures, c.in_ok-paths.paths.ok.0, count) in
     let each : c.max-each.result ≡ max (length ss) 1 = c.max-each.ensures ∙ ap (λ k. max k 1) many in
     let within : n ≤ length g.rounds = omega (arith, c.requires.round_in, c.requires.all) in
     record {
       weighed = c.in_ok-paths.ensures;
       owned = owned;
       shown = shown;
-      own_each = part_long own_cards (own_count (take n g.rounds)) ss [] c.len-2.result c.max-each.result (λ i l. (dealt g n i within l).own_n) (omega (arith, c.len-2.ensures, c.loop-signal.owns.ok.0, ap (λ (x : List ℕ). length x) owned)) each;
-      public_each = part_long public_cards (public_count (take n g.rounds)) ss [] c.len-3.result c.max-each.result (λ i l. (dealt g n i within l).public_n) (omega (arith, c.len-3.ensures, c.loop-signal.publics.ok.0, ap (λ (x : List ℕ). length x) shown)) each;
+      own_each = part_long own_cards (own_count (take n g.rounds)) ss [] c.len.result c.max-each.result (λ i l. (dealt g n i within l).own_n) (omega (arith, c.len.ensures, c.loop-signal.owns.ok.0, ap (λ (x : List ℕ). length x) owned)) each;
+      public_each = part_long public_cards (public_count (take n g.rounds)) ss [] c.len-2.result c.max-each.result (λ i l. (dealt g n i within l).public_n) (omega (arith, c.len-2.ensures, c.loop-signal.publics.ok.0, ap (λ (x : List ℕ). length x) shown)) each;
     }

@@ -36,7 +36,8 @@ strength-requires c =
     ∙ public_part g (round_count g) k.paths.items k.owns.items k.publics.items k.own k.public c.requires.hands c.args.signal c.requires.signal_in in
     let P : List ℕ → Type 0 = λ x. IsHand d (ranking_of c.args.game.now.ranking) x (public_cards (signal_at g (round_count g) c.args.signal)) in
     let Q : List ℕ → Type 0 = λ x. IsHand d (ranking_of c.args.game.now.ranking) c.part-own.result.now x in
-    subst Q (sym public) (subst P (sym own) h)
+    let R : DeckValue → Type 0 = λ e. IsHand e (ranking_of c.args.game.now.ranking) c.part-own.result.now c.part-public.result.now in
+    subst R (sym c.requires.deck) (subst Q (sym public) (subst P (sym own) h))
 
 pub returns-clause-value : goal.returns-clause-value
 returns-clause-value c =
@@ -49,5 +50,6 @@ returns-clause-value c =
     c.part-public.ensures ∙ ap (λ (x : List ℕ). take k.public (drop (c.args.signal * k.public) x)) c.deref-2.ensures.value
     ∙ public_part g (round_count g) k.paths.items k.owns.items k.publics.items k.own k.public c.requires.hands c.args.signal c.requires.signal_in in
     c.strength.ensures.value
+    ∙ ap (λ (e : DeckValue). strength (length e.suits) g.ranking c.part-own.result.now c.part-public.result.now) c.requires.deck
     ∙ ap (λ x. strength g.suits g.ranking x c.part-public.result.now) own
     ∙ ap (strength g.suits g.ranking (own_cards (signal_at g (round_count g) c.args.signal))) public

@@ -20,7 +20,7 @@ overflow_cast-len c =
     omega (arith, few, c.requires.few, ap (λ (x : List Seen). length x) c.loop-parent.invariant.shown, length-map c.loop-parent.grown.layer.shown.items seen_of, c.len.ensures, c.loop-parent.grown.layer.shown.ok.0)
 
 pub push_showings-requires-clause-counted : goal.push_showings-requires-clause-counted
-push_showings-requires-clause-counted c = ap (λ (x : List ℕ). length x) c.deref.ensures.value ∙ c.in_ok-left.ensures.len ∙ c.kinds-kinds.ensures.deck.counted
+push_showings-requires-clause-counted c = ap (λ (x : List ℕ). length x) c.deref.ensures.value ∙ c.in_ok-left.ensures.len ∙ c.kinds.ensures.deck.counted
 
 pub loop-parent-preserved : goal.loop-parent-preserved
 loop-parent-preserved c =
