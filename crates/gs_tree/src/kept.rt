@@ -78,6 +78,7 @@ pub(crate) fn part(cards: &[Card], each: usize, place: u32) -> &[Card]
 }
 
 /// Adds cards behind others, one by one: they are few.
+#[inline(never)]
 fn push_each(cards: &mut Vec<Card>, more: &[Card]) -> Result<(), AllocError>
     ensures { OnOk result (cards.new.items ≡ cards.old.items ++ more.now) }
 {
@@ -88,6 +89,7 @@ fn push_each(cards: &mut Vec<Card>, more: &[Card]) -> Result<(), AllocError>
 }
 
 /// Adds cards behind others: mostly one or none.
+#[inline(always)]
 fn push_all(cards: &mut Vec<Card>, more: &[Card]) -> Result<(), AllocError>
     ensures { OnOk result (cards.new.items ≡ cards.old.items ++ more.now) }
 {
@@ -102,6 +104,7 @@ fn push_all(cards: &mut Vec<Card>, more: &[Card]) -> Result<(), AllocError>
 }
 
 /// Adds the cards of a signal: those of its parent, and those that its last round shows.
+#[inline(always)]
 fn push_hand(cards: &mut Vec<Card>, parent: &[Card], last: &[Card]) -> Result<(), AllocError>
     ensures { OnOk result (cards.new.items ≡ cards.old.items ++ (parent.now ++ last.now)) }
 {
