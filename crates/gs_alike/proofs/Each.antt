@@ -27,6 +27,10 @@ each_more R xs n x so here =
           (subst (R n) (sym (at_end xs x n so.long)) here);
     }
 
+-- a fact that follows for each
+pub each_map : (R S : ℕ → ℕ → Type 0) (xs : List ℕ) (n : ℕ) → ((i x : ℕ) → R i x → S i x) → HasEach R xs n → HasEach S xs n
+each_map R S xs n f h = record { long = h.long; each = λ i l. f i (get_or xs i 0) (h.each i l) }
+
 -- what stands at a place, whatever stands past the end
 pub get_or-in : (xs : List ℕ) (i x : ℕ) → x ≡ get_or xs i x → i < length xs → get_or xs i 0 ≡ x
 get_or-in [] i x e l = absurd (omega arith)

@@ -3,5 +3,7 @@ pub mod Each
 pub mod FirstSeen
 pub mod PairsSeen
 pub mod Chain
+pub mod Taken
 pub mod Places
 pub mod Rows
+pub mod Ranks

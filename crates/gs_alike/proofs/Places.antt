@@ -1,4 +1,4 @@
--- Signals of one strength and key, on boards with the same hands, are alike.
+-- Signals of one level and key, on boards with the same hands, are alike.
 use Rattle.std.proofs.Common.{◌≡◌, ◌+◌, ◌<◌, ◌≤◌, ◌∙◌, ℕ, ℤ, zero, suc, Bool, true, false, cond, eqb, nat_lt, List, [], ◌∷◌, get_or, map, refl, sym, ap, subst, arith, ⊎_elim}
 use Rattle.std.specs.Prelude.{◌&&◌, filter, slice_index, length}
 use Rattle.std.specs.List.{range_with_len}
@@ -18,6 +18,8 @@ use Rattle.gs_tree.proofs.Same.{public_self}
 use Rattle.gs_alike.specs.Alike.{AreAlike, AreStandIns, seen, seen_by}
 use Rattle.gs_alike.specs.FirstPairs.{AreFirstPairs}
 use Rattle.gs_alike.specs.Kinds.{AreKinds, hands_on}
+use Rattle.gs_alike.specs.Levels.{TellOutcomes}
+use Rattle.gs_alike.proofs.Taken.{but, taken_out}
 use Rattle.gs_tree.specs.Plain.{IsPlain}
 use Rattle.gs_tree.proofs.Weighed.{path_is, weight_is}
 
@@ -28,84 +30,24 @@ cancelled x xs ys h = permuted_from_times xs ys (λ v.
     let e : times v (x ∷ ys) ≡ times v (x ∷ xs) = sum_by-IsPermutation f (x ∷ xs) (x ∷ ys) h in
     omega (arith, e, times-cons v x xs, times-cons v x ys))
 
--- a test but for one place
-abbrev but : (ℕ → Bool) → ℕ → ℕ → Bool
-but p i k = p k && cond (eqb k i) false true
+-- what a deal is to the player of a level against a hand
+abbrev sight : (ℕ → ℕ → ℤ) → List ℕ → List ℕ → ℕ → ℕ → ℕ × ℤ × ℕ
+sight pays keys levels mine hand = (get_or keys hand 0, pays mine (get_or levels hand 0), 1)
 
-not_before : (p : ℕ → Bool) (i a n : ℕ) → i < a → filter (but p i) (range_with_len a n) ≡ filter p (range_with_len a n)
-not_before p i a zero l = refl
-not_before p i a (suc n) l =
-    let ne : a ≡ i → ⊥ = λ e. absurd (omega (arith, e)) in
-    let t : eqb a i ≡ false = grind (arith, ne) in
-    let rest : List ℕ = filter (but p i) (range_with_len (a + 1) n) in
-    ap (λ c. cond (p a && cond c false true) (a ∷ rest) rest) t ∙ go (p a) ∙ ap (λ xs. cond (p a) (a ∷ xs) xs) (not_before p i (a + 1) n (omega arith))
-  where
-    go : (b : Bool) → cond (b && true) (a ∷ filter (but p i) (range_with_len (a + 1) n)) (filter (but p i) (range_with_len (a + 1) n)) ≡ cond b (a ∷ filter (but p i) (range_with_len (a + 1) n)) (filter (but p i) (range_with_len (a + 1) n))
-    go true = refl
-    go false = refl
-
--- a place that a test takes, and the others that it takes
-taken_out : (p : ℕ → Bool) (h : ℕ → ℕ) (i a n : ℕ) → p i ≡ true → a ≤ i → i < a + n → IsPermutation (map h (filter p (range_with_len a n))) (h i ∷ map h (filter (but p i) (range_with_len a n)))
-taken_out p h i a zero e lo hi = absurd (omega arith)
-taken_out p h i a (suc n) e lo hi = ⊎_elim
-    (λ (same : a ≡ i).
-    let at : p a ≡ true = ap p same ∙ e in
-    let t : eqb a i ≡ true = grind (arith, same) in
-    let xs : List ℕ = filter p (range_with_len (a + 1) n) in
-    let ys : List ℕ = filter (but p i) (range_with_len (a + 1) n) in
-    let rest : ys ≡ xs = not_before p i (a + 1) n (omega arith) in
-    let all : cond (p a) (a ∷ xs) xs ≡ a ∷ xs = ap (λ b. cond b (a ∷ xs) xs) at in
-    let others : cond (but p i a) (a ∷ ys) ys ≡ xs = ap (λ c. cond (p a && cond c false true) (a ∷ ys) ys) t ∙ none (p a) ys ∙ rest in
-    let whole : h i ∷ map h xs ≡ map h (cond (p a) (a ∷ xs) xs) = ap (λ k. h k ∷ map h xs) (sym same) ∙ ap (map h) (sym all) in
-    let P : List ℕ → Type 0 = λ l. IsPermutation l (h i ∷ map h (cond (but p i a) (a ∷ ys) ys)) in
-    let Q : List ℕ → Type 0 = λ l. IsPermutation (h i ∷ map h xs) (h i ∷ map h l) in
-    subst P whole (subst Q (sym others) (IsPermutation-refl (h i ∷ map h xs))))
-    (λ (ne : a ≡ i → ⊥).
-    let t : eqb a i ≡ false = grind (arith, ne) in
-    let xs : List ℕ = filter p (range_with_len (a + 1) n) in
-    let ys : List ℕ = filter (but p i) (range_with_len (a + 1) n) in
-    let rest = taken_out p h i (a + 1) n e (omega (arith, ne)) (omega arith) in
-    let P : Bool → Type 0 = λ c. IsPermutation (map h (cond (p a) (a ∷ xs) xs)) (h i ∷ map h (cond (p a && cond c false true) (a ∷ ys) ys)) in
-    subst P (sym t) (more (p a) xs ys rest))
-    (cases_eq a i)
-  where
-    none : (b : Bool) (ys : List ℕ) → cond (b && false) (a ∷ ys) ys ≡ ys
-    none true ys = refl
-    none false ys = refl
-
-    more : (b : Bool) (xs ys : List ℕ) → IsPermutation (map h xs) (h i ∷ map h ys) → IsPermutation (map h (cond b (a ∷ xs) xs)) (h i ∷ map h (cond (b && true) (a ∷ ys) ys))
-    more true xs ys r =
-        IsPermutation-trans (h a ∷ map h xs) (h a ∷ h i ∷ map h ys) (h i ∷ h a ∷ map h ys) (IsPermutation-cons (h a) (map h xs) (h i ∷ map h ys) r)
-        (IsPermutation-middle (h a ∷ []) (h i) (map h ys))
-    more false xs ys r = r
-
--- what a deal is to the player of a strength against a hand
-abbrev sight : Game → List ℕ → List ℕ → ℕ → ℕ → ℕ × ℤ × ℕ
-sight g keys strengths mine hand = (get_or keys hand 0, outcome g.bonus g.ranking mine (get_or strengths hand 0), 1)
-
-module _ (g : Game) (keys strengths hands : List ℕ) (plain : IsPlain g) (ranked : strengths ≡ map (signal_strength g) (signals g (round_count g)))
-    (numbered : AreFirstPairs strengths keys hands) where
-  count_is : length strengths ≡ last_count g
-  count_is = ap (λ (l : List ℕ). length l) ranked ∙ length-map (signals g (round_count g)) (signal_strength g)
-
-  strength_at : (i : ℕ) → i < last_count g → get_or strengths i 0 ≡ signal_strength g (signal_at g (round_count g) i)
-  strength_at i l = ap (λ (s : List ℕ). get_or s i 0) ranked ∙ get_or-map (signal_strength g) (signals g (round_count g)) i [] 0 l
-
-  strength_of_hand : (i : ℕ) → i < last_count g → get_or strengths (get_or hands i 0) 0 ≡ get_or strengths i 0
-  strength_of_hand i l = numbered.one i (omega (arith, l, count_is))
+module _ (g : Game) (keys levels hands : List ℕ) (plain : IsPlain g) (tell : TellOutcomes g levels) (numbered : AreFirstPairs levels keys hands) where
+  level_of_hand : (i : ℕ) → i < last_count g → get_or levels (get_or hands i 0) 0 ≡ get_or levels i 0
+  level_of_hand i l = numbered.one i (omega (arith, l, tell.long))
 
   key_of_hand : (i : ℕ) → i < last_count g → get_or keys (get_or hands i 0) 0 ≡ get_or keys i 0
-  key_of_hand i l = numbered.other i (omega (arith, l, count_is))
+  key_of_hand i l = numbered.other i (omega (arith, l, tell.long))
 
   -- a deal, as the hand of its second signal tells it
-  deal_seen : (i k : ℕ) → i < last_count g → k < last_count g → (deal_at g i k).weight ≡ 1 → seen_by keys (deal_at g i k) ≡ sight g keys strengths (get_or strengths i 0) (get_or hands k 0)
-  deal_seen i k l m w =
-      let a : get_or keys k 0 ≡ get_or keys (get_or hands k 0) 0 = sym (key_of_hand k m) in
-      let b : signal_strength g (signal_at g (round_count g) i) ≡ get_or strengths i 0 = sym (strength_at i l) in
-      let c : signal_strength g (signal_at g (round_count g) k) ≡ get_or strengths (get_or hands k 0) 0 = sym (strength_at k m) ∙ sym (strength_of_hand k m) in
+  deal_seen : (i k : ℕ) → i < last_count g → k < last_count g → shows_same g i k ≡ true → (deal_at g i k).weight ≡ 1
+      → seen_by keys (deal_at g i k) ≡ sight tell.pays keys levels (get_or levels i 0) (get_or hands k 0)
+  deal_seen i k l m same w =
       triple (get_or keys k 0) (get_or keys (get_or hands k 0) 0) (outcome g.bonus g.ranking (signal_strength g (signal_at g (round_count g) i)) (signal_strength g (signal_at g (round_count g) k)))
-      (outcome g.bonus g.ranking (get_or strengths i 0) (get_or strengths (get_or hands k 0) 0)) (deal_at g i k).weight 1 a
-      (ap (λ x. outcome g.bonus g.ranking x (signal_strength g (signal_at g (round_count g) k))) b ∙ ap (outcome g.bonus g.ranking (get_or strengths i 0)) c) w
+      (tell.pays (get_or levels i 0) (get_or levels (get_or hands k 0) 0)) (deal_at g i k).weight 1 (sym (key_of_hand k m))
+      (tell.paid i k l m same ∙ ap (tell.pays (get_or levels i 0)) (sym (level_of_hand k m))) w
     where
       triple : (a b : ℕ) (x y : ℤ) (v w : ℕ) → a ≡ b → x ≡ y → v ≡ w → (let t : ℕ × ℤ × ℕ = (a, x, v) in t) ≡ (let t : ℕ × ℤ × ℕ = (b, y, w) in t)
       triple a b x y v w p q r = cc
@@ -113,10 +55,10 @@ module _ (g : Game) (keys strengths hands : List ℕ) (plain : IsPlain g) (ranke
   -- the deals of a run of pairs
   run_seen : (i : ℕ) → i < last_count g → (a n : ℕ) → a + n ≤ last_count g →
       map (seen_by keys) (filter (λ (d : Deal). nat_lt 0 d.weight) (map (deal_at g i) (range_with_len a n)))
-      ≡ map (sight g keys strengths (get_or strengths i 0)) (map (slice_index hands) (filter (but (shows_same g i) i) (range_with_len a n)))
+      ≡ map (sight tell.pays keys levels (get_or levels i 0)) (map (slice_index hands) (filter (but (shows_same g i) i) (range_with_len a n)))
   run_seen i l a zero h = refl
   run_seen i l a (suc n) h =
-      go (but (shows_same g i) i a) (weight_is g plain i a l (omega arith)) (run_seen i l (a + 1) n (omega arith))
+      go (but (shows_same g i) i a) (λ e. (both (shows_same g i a) (cond (eqb a i) false true) e)) (weight_is g plain i a l (omega arith)) (run_seen i l (a + 1) n (omega arith))
     where
       deals' : List Deal
       deals' = filter (λ (d : Deal). nat_lt 0 d.weight) (map (deal_at g i) (range_with_len (a + 1) n))
@@ -124,20 +66,24 @@ module _ (g : Game) (keys strengths hands : List ℕ) (plain : IsPlain g) (ranke
       places : List ℕ
       places = filter (but (shows_same g i) i) (range_with_len (a + 1) n)
 
-      go : (b : Bool) → (deal_at g i a).weight ≡ cond b 1 0 → map (seen_by keys) deals' ≡ map (sight g keys strengths (get_or strengths i 0)) (map (slice_index hands) places)
+      both : (p q : Bool) → (p && q) ≡ true → p ≡ true
+      both true q e = refl
+      both false q e = absurd (cc)
+
+      go : (b : Bool) → (b ≡ true → shows_same g i a ≡ true) → (deal_at g i a).weight ≡ cond b 1 0 → map (seen_by keys) deals' ≡ map (sight tell.pays keys levels (get_or levels i 0)) (map (slice_index hands) places)
           → map (seen_by keys) (cond (nat_lt 0 (deal_at g i a).weight) (deal_at g i a ∷ deals') deals')
-          ≡ map (sight g keys strengths (get_or strengths i 0)) (map (slice_index hands) (cond b (a ∷ places) places))
-      go true w r =
+          ≡ map (sight tell.pays keys levels (get_or levels i 0)) (map (slice_index hands) (cond b (a ∷ places) places))
+      go true same w r =
           ap (λ (x : ℕ). map (seen_by keys) (cond (nat_lt 0 x) (deal_at g i a ∷ deals') deals')) w
-          ∙ ap (λ x. x ∷ map (seen_by keys) deals') (deal_seen i a l (omega arith) w)
-          ∙ ap (λ xs. sight g keys strengths (get_or strengths i 0) (get_or hands a 0) ∷ xs) r
-      go false w r = ap (λ (x : ℕ). map (seen_by keys) (cond (nat_lt 0 x) (deal_at g i a ∷ deals') deals')) w ∙ r
+          ∙ ap (λ x. x ∷ map (seen_by keys) deals') (deal_seen i a l (omega arith) (same refl) w)
+          ∙ ap (λ xs. sight tell.pays keys levels (get_or levels i 0) (get_or hands a 0) ∷ xs) r
+      go false same w r = ap (λ (x : ℕ). map (seen_by keys) (cond (nat_lt 0 x) (deal_at g i a ∷ deals') deals')) w ∙ r
 
   -- the hands beside a signal
   others : ℕ → List ℕ
   others i = map (slice_index hands) (filter (but (shows_same g i) i) (range_with_len 0 (last_count g)))
 
-  seen_is : (i : ℕ) → i < last_count g → seen g keys i ≡ map (sight g keys strengths (get_or strengths i 0)) (others i)
+  seen_is : (i : ℕ) → i < last_count g → seen g keys i ≡ map (sight tell.pays keys levels (get_or levels i 0)) (others i)
   unfolding others
   seen_is i l = ap (map (seen_by keys)) (row_deals g i l) ∙ run_seen i l 0 (last_count g) (omega arith)
 
@@ -148,7 +94,7 @@ module _ (g : Game) (keys strengths hands : List ℕ) (plain : IsPlain g) (ranke
   -- a signal of the same hand, on a board of the same hands, is alike
   pub place_is : (i r : ℕ) → i < last_count g → r < last_count g → IsPermutation (hands_on g hands r) (hands_on g hands i) → get_or hands r 0 ≡ get_or hands i 0 → AreAlike g keys i r
   place_is i r l m board hand =
-      let strong : get_or strengths i 0 ≡ get_or strengths r 0 = sym (strength_of_hand i l) ∙ ap (λ h. get_or strengths h 0) (sym hand) ∙ strength_of_hand r m in
+      let strong : get_or levels i 0 ≡ get_or levels r 0 = sym (level_of_hand i l) ∙ ap (λ h. get_or levels h 0) (sym hand) ∙ level_of_hand r m in
       let mine = others_are i l in
       let his = others_are r m in
       let both : IsPermutation (get_or hands i 0 ∷ others i) (get_or hands r 0 ∷ others r) =
@@ -156,11 +102,11 @@ module _ (g : Game) (keys strengths hands : List ℕ) (plain : IsPlain g) (ranke
       (IsPermutation-trans (hands_on g hands i) (hands_on g hands r) (get_or hands r 0 ∷ others r) (IsPermutation-sym (hands_on g hands r) (hands_on g hands i) board) his) in
       let Q : ℕ → Type 0 = λ h. IsPermutation (get_or hands i 0 ∷ others i) (h ∷ others r) in
       let left : IsPermutation (others i) (others r) = cancelled (get_or hands i 0) (others i) (others r) (subst Q hand both) in
-      let mapped = IsPermutation-map (sight g keys strengths (get_or strengths i 0)) (others i) (others r) left in
+      let mapped = IsPermutation-map (sight tell.pays keys levels (get_or levels i 0)) (others i) (others r) left in
       let R : List (ℕ × ℤ × ℕ) → Type 0 = λ x. IsPermutation x (seen g keys r) in
-      let S : List (ℕ × ℤ × ℕ) → Type 0 = λ x. IsPermutation (map (sight g keys strengths (get_or strengths i 0)) (others i)) x in
-      let there : map (sight g keys strengths (get_or strengths i 0)) (others r) ≡ seen g keys r =
-      ap (λ s. map (sight g keys strengths s) (others r)) strong ∙ sym (seen_is r m) in
+      let S : List (ℕ × ℤ × ℕ) → Type 0 = λ x. IsPermutation (map (sight tell.pays keys levels (get_or levels i 0)) (others i)) x in
+      let there : map (sight tell.pays keys levels (get_or levels i 0)) (others r) ≡ seen g keys r =
+      ap (λ s. map (sight tell.pays keys levels s) (others r)) strong ∙ sym (seen_is r m) in
       record {
         key = sym (key_of_hand i l) ∙ ap (λ h. get_or keys h 0) (sym hand) ∙ key_of_hand r m;
         path = path_is g plain i l ∙ sym (path_is g plain r m);
@@ -168,9 +114,9 @@ module _ (g : Game) (keys strengths hands : List ℕ) (plain : IsPlain g) (ranke
       }
 
 -- the first signals of their places stand for all
-pub stand_ins_are : (g : Game) (keys strengths hands kinds firsts : List ℕ) → IsPlain g → strengths ≡ map (signal_strength g) (signals g (round_count g)) → AreFirstPairs strengths keys hands
+pub stand_ins_are : (g : Game) (keys levels hands kinds firsts : List ℕ) → IsPlain g → TellOutcomes g levels → AreFirstPairs levels keys hands
     → AreKinds g hands kinds → AreFirstPairs kinds hands firsts → AreStandIns g keys firsts
-stand_ins_are g keys strengths hands kinds firsts plain ranked numbered boards places =
+stand_ins_are g keys levels hands kinds firsts plain tell numbered boards places =
     let n : ℕ = last_count g in
     let in' = λ (i : ℕ) (l : i < n). (let e : i < length kinds = omega (arith, l, boards.long) in e) in
     record {
@@ -183,5 +129,5 @@ stand_ins_are g keys strengths hands kinds firsts plain ranked numbered boards p
           let mine : IsPermutation (hands_on g hands (get_or kinds i 0)) (hands_on g hands r) = subst P (places.one i (in' i l)) (boards.alike r m) in
           let board : IsPermutation (hands_on g hands r) (hands_on g hands i) =
           IsPermutation-trans (hands_on g hands r) (hands_on g hands (get_or kinds i 0)) (hands_on g hands i) (IsPermutation-sym (hands_on g hands (get_or kinds i 0)) (hands_on g hands r) mine) (boards.alike i l) in
-          place_is g keys strengths hands plain ranked numbered i r l m board (places.other i (in' i l));
+          place_is g keys levels hands plain tell numbered i r l m board (places.other i (in' i l));
     }

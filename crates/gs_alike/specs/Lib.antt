@@ -1,3 +1,4 @@
 pub mod Alike
 pub mod FirstPairs
 pub mod Kinds
+pub mod Levels

@@ -11,7 +11,7 @@ use std::alloc::{AllocError, Global};
 use std::collections::HashMap;
 
 /// The hands of all signals of a board, by its first signal.
-fn hands_beside(
+pub(crate) fn hands_beside(
     alloc: Global,
     signals: &Signals,
     hands: &[u32],

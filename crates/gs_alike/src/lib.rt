@@ -3,6 +3,7 @@
 
 mod boards;
 mod first;
+mod levels;
 mod pairs;
 mod standing;
 

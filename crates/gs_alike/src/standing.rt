@@ -7,6 +7,7 @@ ghost use Rattle.gs_alike.specs.Alike.{AreStandIns};
 ghost use Rattle.gs_tree.specs.Plain.{IsPlain};
 
 use crate::boards::board_kinds;
+use crate::levels::levels;
 use crate::pairs::first_pairs;
 use gs_game::are_single;
 use gs_tree::Signals;
@@ -33,13 +34,14 @@ fn each_itself(alloc: Global, signals: &Signals, keys: &[u32]) -> Result<Vec<u32
     Ok(firsts)
 }
 
-/// For each signal of the last round the first one of the same strength and key whose board has as many signals of each strength and key.
+/// For each signal of the last round the first one of the same level and key whose board has as many signals of each level and key.
 fn firsts_of_places(alloc: Global, signals: &Signals, keys: &[u32]) -> Result<Vec<u32>, AllocError>
     requires long { length keys.now ≡ last_count (rules_of signals.now) }
     requires plain { IsPlain (rules_of signals.now) }
     ensures { IfOk result (λ v. AreStandIns (rules_of signals.now) keys.now v.items) }
 {
-    let hands = first_pairs(alloc, signals.strengths(), keys)?;
+    let levels = levels(alloc, signals)?;
+    let hands = first_pairs(alloc, &levels, keys)?;
     let kinds = board_kinds(alloc, signals, &hands)?;
     let firsts = first_pairs(alloc, &kinds, &hands)?;
     Ok(firsts)
