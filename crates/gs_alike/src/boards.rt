@@ -22,7 +22,8 @@ pub(crate) fn hands_beside(
     ensures { IfOk result (λ v. v.items ≡ hands_on (rules_of signals.now) hands.now first) }
 {
     let (firsts, nexts) = signals.boards();
-    let mut row = Vec::new(alloc);
+    let kinds = signals.game().game().deck.counts().len();
+    let mut row = Vec::with_capacity(alloc, kinds)?;
     let mut signal = firsts[first as usize];
     while (signal as usize) < hands.len() {
         row.push(hands[signal as usize])?;

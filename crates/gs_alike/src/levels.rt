@@ -60,7 +60,13 @@ fn weaker(row: &[u32], strength: u32) -> u32
     requires { length row.now < 2 ^ 32 }
     ensures { result ≡ count_by (λ other. nat_lt other strength) row.now }
 {
-    row.iter().filter(|other| **other < strength).count() as u32
+    let mut weaker = 0;
+    for other in row {
+        if *other < strength {
+            weaker += 1;
+        }
+    }
+    weaker
 }
 
 /// For each signal of the last round how many on its board are weaker.

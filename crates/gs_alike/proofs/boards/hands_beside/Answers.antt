@@ -9,7 +9,7 @@ pub loop-signal-init : goal.loop-signal-init
 loop-signal-init c =
     let g : Game = rules_of c.args.signals.now in
     let P : List ℕ → Type 0 = IsOnChain g c.args.hands.now c.args.first (get_or c.boards.result.0.now c.args.first 0) in
-    subst P (sym c.new-row.ensures.items) (chain_start g c.args.hands.now c.boards.result.0.now c.boards.result.1.now c.boards.ensures c.args.first c.requires.first_in)
+    subst P (sym c.in_ok-row.ensures.items) (chain_start g c.args.hands.now c.boards.result.0.now c.boards.result.1.now c.boards.ensures c.args.first c.requires.first_in)
 
 pub loop-signal-preserved : goal.loop-signal-preserved
 loop-signal-preserved c =
