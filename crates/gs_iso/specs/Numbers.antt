@@ -26,6 +26,13 @@ LeadToKeys sign keys numbers = (i : ℕ) → i < length numbers → HasKey sign 
 abbrev pub class_key : List ℕ → List ℕ → List ℕ → ℕ → ℕ × ℕ
 class_key above parents numbers i = (get_or above (get_or parents i 0) 0, get_or numbers i 0)
 
+-- some item has a key and a class
+pub record HasClassOf (above parents numbers classes : List ℕ) (key : ℕ × ℕ) (class : ℕ) : Type 0 where
+  pub item : ℕ
+  pub within : item < length classes
+  pub is : get_or classes item 0 ≡ class
+  pub alike : class_key above parents numbers item ≡ key
+
 -- the classes of equal keys, numbered by first member
 abbrev pub IsKeyClasses : List ℕ → List ℕ → List ℕ → List ℕ → Type 0
 IsKeyClasses above parents numbers classes = IsClassesOf (λ i j. class_key above parents numbers i ≡ class_key above parents numbers j) classes

@@ -46,6 +46,32 @@ module _ {K : Type 0} (eq : K → K → Bool) (exact : (x y : K) → Decides (eq
   flips : (x y : K) → eq x y ≡ true → eq y x ≡ true
   flips x y e = (exact y x).1 (sym ((exact x y).0 e))
 
+  -- one more item, with the class of an earlier one that has the same key
+  pub first_again : (keys : List K) (classes : List ℕ) (j n : ℕ) → AreFirstSeen keys classes → j < length classes → get_or classes j 0 ≡ n → key j ≡ key (length classes) → AreFirstSeen keys (classes ++ n ∷ [])
+  first_again keys classes j n old lj is like =
+      let stands : slice_get keys (n - 1) ≡ Some (key j) = ap (λ m. slice_get keys (m - 1)) (sym is) ∙ old.leads j lj in
+      let w = slice_get_within keys (n - 1) (key j) stands in
+      let some : 0 < n = omega (arith, old.some j lj, is) in
+      let t = old.top in
+      let span = length-append classes (n ∷ []) in
+      record {
+        distinct = old.distinct;
+        top = (let g = greatest-push classes n in omega (arith, g, w, t, some));
+        some = λ i l. ⊎_elim
+            (λ e. let a = ap (λ j. get_or (classes ++ n ∷ []) j 0) e ∙ at_new classes n in omega (arith, a, some))
+            (λ ne. let lt : i < length classes = omega (arith, l, span, ne) in let a = at_old classes n i lt in let o = old.some i lt in omega (arith, a, o))
+            (cases_eq i (length classes));
+        leads = λ i l. ⊎_elim
+            (λ e. let a = ap (λ j. get_or (classes ++ n ∷ []) j 0) e ∙ at_new classes n in ap (λ v. slice_get keys (v - 1)) a ∙ stands ∙ ap Some (like ∙ ap key (sym e)))
+            (λ ne. let lt : i < length classes = omega (arith, l, span, ne) in let a = at_old classes n i lt in ap (λ v. slice_get keys (v - 1)) a ∙ old.leads i lt)
+            (cases_eq i (length classes));
+        grouped = classes_push (λ i j. key i ≡ key j) classes n (λ i. refl) (λ i j e. sym e) old.grouped some (omega (arith, t, w)) (λ i l.
+            let both = old.grouped.same i j l lj in (
+              (λ e. both.0 (e ∙ sym is) ∙ like),
+              (λ e. both.1 (e ∙ sym like) ∙ is),
+            ));
+      }
+
   module _ (keys more : List K) (classes : List ℕ) (n : ℕ) (k : K) (old : AreFirstSeen keys classes) (distinct : IsDistinct eq more)
       (grown : more ≡ insert_key eq keys (key (length classes))) (some : 0 < n) (stands : slice_get more (n - 1) ≡ Some k) (same : eq (key (length classes)) k ≡ true) where
     here : slice_get more (n - 1) ≡ Some (key (length classes))

@@ -74,6 +74,13 @@ LeadToKeys sign keys numbers = (i : ℕ) → i < length numbers → HasKey sign 
 abbrev pub turn_key : List ℕ → List ℕ → List ℕ → List ℕ → ℕ → ℕ × ℕ × ℕ
 turn_key before above parents numbers i = (get_or before i 0, get_or above (get_or parents i 0) 0, get_or numbers i 0)
 
+-- some item has a key and a class
+pub record HasClassOf (before above parents numbers classes : List ℕ) (key : ℕ × ℕ × ℕ) (class : ℕ) : Type 0 where
+  pub item : ℕ
+  pub within : item < length classes
+  pub is : get_or classes item 0 ≡ class
+  pub alike : turn_key before above parents numbers item ≡ key
+
 -- whether two such keys are the same
 abbrev pub key_eq : ℕ × ℕ × ℕ → ℕ × ℕ × ℕ → Bool
 key_eq x y = (x.0 == y.0) && ((x.1 == y.1) && (x.2 == y.2))

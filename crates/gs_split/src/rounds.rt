@@ -1,12 +1,16 @@
 //! The new classes of one round.
 
-ghost use Rattle.std.specs.Prelude.{◌≡◌, ◌+◌, ◌<◌, ◌^◌, All, IfOk, length};
-ghost use Rattle.gs_split.specs.Turns.{AreKeyClasses};
+ghost use Rattle.std.specs.Prelude.{◌≡◌, ◌+◌, ◌≤◌, ◌<◌, ◌^◌, All, IfOk, IfSome, length};
+ghost use Rattle.gs_split.specs.Turns.{AreKeyClasses, HasClassOf};
 
 use crate::numbers::number_of;
 use indexmap::IndexSet;
 use std::alloc::{AllocError, Global};
 use std::marker::Model;
+use std::mem;
+
+/// How many places of items are kept to look at before a key is looked up.
+const KEPT: usize = 4096;
 
 /// What a turn tells the signals of a round apart by: the old class, the new class of the parent, and the number of the sums.
 #[derive(Clone, Copy, Debug, PartialEq, Eq, Hash)]
@@ -26,6 +30,41 @@ impl Model for TurnKey {
     ghost inverse = { λ p. record { before = p.0; above = p.1; number = p.2 } };
 }
 
+/// Notes an item at a place that its key chooses, and gives the item that was there.
+fn noted(last: &mut [u32], key: TurnKey, item: u32) -> u32 {
+    let mixed = key.before.wrapping_mul(31) ^ key.above.wrapping_mul(1021) ^ key.number;
+    match last.get_mut(mixed as usize % KEPT) {
+        Some(place) => mem::replace(place, item),
+        None => item,
+    }
+}
+
+/// The class of an item, where it has one and has this key.
+fn class_again(
+    before: &[u32],
+    above: &[u32],
+    parents: &[u32],
+    numbers: &[u32],
+    classes: &[u32],
+    item: u32,
+    key: TurnKey,
+) -> Option<u32>
+    requires old { length before.now ≡ length numbers.now }
+    requires all { length parents.now ≡ length numbers.now }
+    requires within { length classes.now ≤ length numbers.now }
+    requires in_range { All (λ p. p < length above.now) parents.now }
+    ensures { IfSome result (HasClassOf before.now above.now parents.now numbers.now classes.now key) }
+{
+    let place = item as usize;
+    if classes.len() <= place || before[place] != key.before || numbers[place] != key.number {
+        return None;
+    }
+    if above[parents[place] as usize] != key.above {
+        return None;
+    }
+    Some(classes[place])
+}
+
 /// The new classes of a round, numbered from 1 by first member. `before` has its old classes, `above` the new classes of the round before, and
 /// `parents` and `numbers` the parent of each signal and the number of its sums.
 pub(crate) fn round_classes(
@@ -42,6 +81,7 @@ pub(crate) fn round_classes(
     ensures long { IfOk result (λ v. length v.items ≡ length numbers.now) }
     ensures classes { IfOk result (λ v. AreKeyClasses before.now above.now parents.now numbers.now v.items) }
 {
+    let mut last = vec![in alloc; 0; KEPT]?;
     let mut seen = IndexSet::new(alloc);
     let mut classes = Vec::with_capacity(alloc, numbers.len())?;
     for (at, number) in numbers.iter().enumerate() {
@@ -50,6 +90,11 @@ pub(crate) fn round_classes(
             above: above[parents[at] as usize],
             number: *number,
         };
+        let item = noted(&mut last, key, at as u32);
+        if let Some(class) = class_again(before, above, parents, numbers, &classes, item, key) {
+            classes.push(class)?;
+            continue;
+        }
         let class = number_of(&mut seen, key)?;
         classes.push(class)?;
     }
