@@ -1,6 +1,6 @@
 //! What is compared of a signal: the sums of its deals, or of its children.
 
-ghost use Rattle.std.specs.Prelude.{◌≡◌, ◌+◌, ◌<◌, ◌≤◌, All, IfOk, length, map, reverse};
+ghost use Rattle.std.specs.Prelude.{◌≡◌, ◌+◌, ◌++◌, ◌<◌, ◌≤◌, All, IfOk, OnOk, length, map, reverse};
 ghost use Rattle.std.specs.List.{range_with_len};
 ghost use Rattle.gs_model.specs.Classes.{ClassLists};
 ghost use Rattle.gs_model.specs.Deals.{Deal as Dealt, deals as all_deals};
@@ -15,6 +15,9 @@ use crate::parts::{Part, sums_of};
 use crate::runs::{Run, descendants};
 use gs_tree::{Deal, Deals, Signals};
 use std::alloc::{AllocError, Global};
+
+/// How many parts there is room for at first: most last-round signals have no more deals.
+const FEW: usize = 64;
 
 /// One of the two things that members of a class agree in.
 #[derive(Clone, Copy, Debug, PartialEq, Eq)]
@@ -37,21 +40,20 @@ fn part_of(keys: &[u32], by_outcome: bool, deal: Deal) -> Part
     }
 }
 
-/// The parts of some deals.
-fn parts_of(
-    alloc: Global,
+/// Adds the parts of some deals.
+fn push_parts(
+    parts: &mut Vec<Part>,
     deals: Deals<'_>,
     keys: &[u32],
     by_outcome: bool,
-) -> Result<Vec<Part>, AllocError>
+) -> Result<(), AllocError>
     requires { All (λ (d : Dealt). d.two < length keys.now) deals }
-    ensures { IfOk result (λ v. v.items ≡ map (deal_part keys.now by_outcome) deals.entry) }
+    ensures { OnOk result (parts.new.items ≡ parts.old.items ++ map (deal_part keys.now by_outcome) deals.entry) }
 {
-    let mut parts = Vec::new(alloc);
     for deal in deals {
         parts.push(part_of(keys, by_outcome, deal))?;
     }
-    Ok(parts)
+    Ok(())
 }
 
 /// The parts of the deals of a run of last-round signals.
@@ -67,10 +69,9 @@ fn run_parts(
     requires within { run.end ≤ last_count (rules_of signals.now) }
     ensures { IfOk result (λ v. v.items ≡ parts_between (all_deals (rules_of signals.now)) keys.now by_outcome run.first run.end) }
 {
-    let mut parts = Vec::new(alloc);
+    let mut parts = Vec::with_capacity(alloc, FEW)?;
     for place in run.first..run.end {
-        let more = parts_of(alloc, signals.deals_of(place), keys, by_outcome)?;
-        parts.extend_from_slice(&more)?;
+        push_parts(&mut parts, signals.deals_of(place), keys, by_outcome)?;
     }
     Ok(parts)
 }

@@ -10,8 +10,8 @@ use Rattle.gs_lossless.specs.declared.parts.Part.{Part}
 use Rattle.gs_lossless.proofs.Descent.{playable, twos_in}
 use Rattle.gs_lossless.proofs.sides.run_parts.Goals as goal
 
-pub parts_of-requires : goal.parts_of-requires
-parts_of-requires c =
+pub push_parts-requires : goal.push_parts-requires
+push_parts-requires c =
     let g = rules_of c.args.signals.now in
     let p : Deal → Type 0 = λ d. d.two < length c.args.keys.now in
     subst (λ (l : List Deal). All p l) (sym c.deals_of.ensures)
@@ -26,8 +26,8 @@ loop-place-preserved c =
     let x = c.loop-place.place in
     let here : first + (x - first) ≡ x = omega arith in
     let more : x - first + 1 ≡ x + 1 - first = omega arith in
-    c.in_ok-extend_from_slice.ensures.items
-    ∙ ap (λ (ys : List Part). c.loop-place.parts.items ++ ys) (c.deref.ensures.value ∙ c.in_ok-more.ensures ∙ ap (λ (l : List Deal). map part l) c.deals_of.ensures)
+    c.in_ok-push_parts.ensures
+    ∙ ap (λ (l : List Deal). c.loop-place.parts.items ++ map part l) c.deals_of.ensures
     ∙ ap (λ (xs : List Part). xs ++ at x) c.loop-place.invariant
     ∙ sym (flat_map_range_more at first (x - first) x here)
     ∙ ap (λ (n : ℕ). flat_map at (range_with_len first n)) more

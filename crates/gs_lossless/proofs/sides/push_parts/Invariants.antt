@@ -2,10 +2,10 @@ use Rattle.std.proofs.Common.{◌≡◌, ◌++◌, ◌<◌, length, map}
 use Rattle.std.specs.Prelude.{All}
 use Rattle.gs_model.specs.Deals.{Deal}
 use Rattle.gs_lossless.specs.Amounts.{deal_part}
-use Rattle.gs_lossless.proofs.sides.parts_of.Given as goal
+use Rattle.gs_lossless.proofs.sides.push_parts.Given as goal
 
 abbrev pub invariant-loop-deal : goal.invariant-loop-deal
 invariant-loop-deal l = record {
-  done : l.parts.items ++ map (deal_part l.keys l.by_outcome) l.deal-iterator ≡ map (deal_part l.keys l.by_outcome) l.fn.deals;
+  done : l.parts.items ++ map (deal_part l.keys l.by_outcome) l.deal-iterator ≡ l.initial.parts.items ++ map (deal_part l.keys l.by_outcome) l.fn.deals;
   inside : All (λ (d : Deal). d.two < length l.keys) l.deal-iterator;
 }

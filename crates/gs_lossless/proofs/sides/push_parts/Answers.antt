@@ -4,7 +4,7 @@ use Rattle.std.proofs.lemmas.List.Elements.{All-tail}
 use Rattle.gs_model.specs.Deals.{Deal}
 use Rattle.gs_lossless.specs.Amounts.{deal_part}
 use Rattle.gs_lossless.specs.declared.parts.Part.{Part}
-use Rattle.gs_lossless.proofs.sides.parts_of.Goals as goal
+use Rattle.gs_lossless.proofs.sides.push_parts.Goals as goal
 
 pub loop-deal-preserved : goal.loop-deal-preserved
 loop-deal-preserved c =
