@@ -7,3 +7,11 @@ pub record AreFirstPairs (ones others firsts : List ℕ) : Type 0 where
   pub before : (i : ℕ) → i < length ones → slice_index firsts i ≤ i
   pub one : (i : ℕ) → i < length ones → slice_index ones (slice_index firsts i) ≡ slice_index ones i
   pub other : (i : ℕ) → i < length ones → slice_index others (slice_index firsts i) ≡ slice_index others i
+
+-- some item with two numbers has a first one
+pub record HasFirst (ones others firsts : List ℕ) (one other first : ℕ) : Type 0 where
+  pub item : ℕ
+  pub within : item < length firsts
+  pub is : slice_index firsts item ≡ first
+  pub one_is : slice_index ones item ≡ one
+  pub other_is : slice_index others item ≡ other
