@@ -1,4 +1,4 @@
-//! Stand-ins of whole games, against their deals one by one. A separate program counted the boards' hands.
+//! Stand-ins of whole games, against their deals one by one. A separate program counted the boards' hands by rank and key.
 
 ghost use Rattle.std.specs.Prelude.{◌≡◌, IfOk, length};
 ghost use Rattle.gs_tree.specs.Trees.{rules_of};
@@ -100,8 +100,8 @@ const CASES: [Case; 5] = [
     },
     Case {
         sample: LEDUC,
-        one_key: 9,
-        two_keys: 30,
+        one_key: 3,
+        two_keys: 10,
     },
     Case {
         sample: KUHN,
@@ -110,8 +110,8 @@ const CASES: [Case; 5] = [
     },
     Case {
         sample: RHODE_TJQK,
-        one_key: 76,
-        two_keys: 386,
+        one_key: 28,
+        two_keys: 322,
     },
 ];
 
