@@ -1,6 +1,6 @@
 -- The rounds of a game file, as facts on their tables: what stands there, its ranges, and the betting.
 use Rattle.std.proofs.Common.{◌≡◌, ℕ, ◌≤◌, Bool, true, false, List, Some, None, Ok, ℤ, pos, refl, sym, ap, ap₂, ◌∙◌, subst, Ordering, Less, Equal, Greater}
-use Rattle.std.specs.Prelude.{if◌then◌else◌, is_some}
+use Rattle.std.specs.Prelude.{if◌then◌else◌}
 use Rattle.std.specs.Ordering.{is_eq, match_ordering, nat_cmp}
 use Rattle.std.specs.Cmp.Lexicographic.{slice_cmp}
 use Rattle.std.specs.Str.{bytes_eq}
@@ -12,13 +12,14 @@ use Rattle.gs_bet.specs.Limit.{limit_bet}
 use Rattle.gs_model.specs.Betting.{Bet}
 use Rattle.gs_model.specs.Game.{Round as Rules}
 use Rattle.gs_file.specs.Faults.{wrong_type, missing_key}
-use Rattle.gs_file.specs.Keys.{has_only, is_among, key_text, limit_keys, tree_keys, within_round}
-use Rattle.gs_file.specs.Reading.{Play, Tree_text, Limit_of, Round, limit_round_at, play_tree, play_within, round_at, round_built, round_within, tree_round_at}
+use Rattle.gs_file.specs.Keys.{has_only, is_among, key_in, limit_keys, tree_keys, within_round}
+use Rattle.gs_file.specs.Reading.{Play, Tree_text, Limit_of, Round, has_tree, limit_round_at, play_tree, play_within, round_at, round_built, round_within, tree_round_at}
 use Rattle.gs_file.specs.States.{Has, HasOnly, IsText}
 use Rattle.gs_file.specs.Tables.{only, required, text, whole_number, within}
 use Rattle.gs_file.specs.TreeTexts.{IsTextOf, IsTreeRead}
 use Rattle.gs_file.specs.declared.fault.Key.{Key}
 use Rattle.gs_file.specs.declared.fault.Key.TheVariants as key
+use Rattle.gs_file.specs.declared.form.Form.TheVariants.{File}
 use Rattle.gs_file.proofs.Stating.{IsWhole, after, found_ok, only_ok, same_ok, within_is, within_ok}
 use Rattle.gs_file.proofs.Trees.{is_read, reads_tree}
 
@@ -28,18 +29,18 @@ pub same_bytes : (xs ys : List ℕ) → bytes_eq xs ys ≡ true → xs ≡ ys
 same_bytes xs ys e = (bytes_eq-Decides xs ys).0 e
 
 -- a key that is none of those that may stand in a table does not stand there
-pub absent : (keys : List Key) (k : Key) (table : Members) → HasOnly table keys → is_among keys (key_text k) ≡ false → get_member (key_text k) table ≡ None
+pub absent : (keys : List Key) (k : Key) (table : Members) → HasOnly table keys → is_among File keys (key_in File k) ≡ false → get_member (key_in File k) table ≡ None
 absent keys k no_members o n = refl
 absent keys k (member name d rest) o n =
-    let (here, more) = and_parts (is_among keys name) (has_only keys rest) o in
-    by (slice_cmp nat_cmp (key_text k) name) refl here (absent keys k rest more n)
+    let (here, more) = and_parts (is_among File keys name) (has_only File keys rest) o in
+    by (slice_cmp nat_cmp (key_in File k) name) refl here (absent keys k rest more n)
   where
-    by : (c : Ordering) → slice_cmp nat_cmp (key_text k) name ≡ c → is_among keys name ≡ true → get_member (key_text k) rest ≡ None → match_ordering c (get_member (key_text k) rest) (Some d) (get_member (key_text k) rest) ≡ None
+    by : (c : Ordering) → slice_cmp nat_cmp (key_in File k) name ≡ c → is_among File keys name ≡ true → get_member (key_in File k) rest ≡ None → match_ordering c (get_member (key_in File k) rest) (Some d) (get_member (key_in File k) rest) ≡ None
     by Less e here none = none
     by Greater e here none = none
     by Equal e here none =
-        let eq = sym (is_eq-slice_cmp (key_text k) name) ∙ ap is_eq e in
-        absurd (false≢true (sym n ∙ ap (is_among keys) (same_bytes (key_text k) name eq) ∙ here))
+        let eq = sym (is_eq-slice_cmp (key_in File k) name) ∙ ap is_eq e in
+        absurd (false≢true (sym n ∙ ap (is_among File keys) (same_bytes (key_in File k) name eq) ∙ here))
 
 -- ---- rounds
 
@@ -53,57 +54,57 @@ pub record RoundHas (r : Round ℤ) (table : Members) : Type 0 where
   pub public : Has table key.Public (IsWhole r.public)
   pub play : PlayHas r.play table
 
-pub tree_round_ok : (n : ℕ) (table : Members) (r : Round ℤ) → tree_round_at n table ≡ Ok r → RoundHas r table
+pub tree_round_ok : (n : ℕ) (table : Members) (r : Round ℤ) → tree_round_at File n table ≡ Ok r → RoundHas r table
 unfolding tree_round_at
 tree_round_ok n table r e =
-    let (u, eo, e1) = after (only tree_keys n table) _ r e in
-    let (p, ep, e2) = after (required table (within_round n key.Private)) _ r e1 in
-    let (q, eq, e3) = after (required table (within_round n key.Public)) _ r e2 in
-    let (t, et, e4) = after (required table (within_round n key.Tree)) _ r e3 in
+    let (u, eo, e1) = after (only File tree_keys n table) _ r e in
+    let (p, ep, e2) = after (required File table (within_round n key.Private)) _ r e1 in
+    let (q, eq, e3) = after (required File table (within_round n key.Public)) _ r e2 in
+    let (t, et, e4) = after (required File table (within_round n key.Tree)) _ r e3 in
     let (private, ei, e5) = after (whole_number (within_round n key.Private) p) _ r e4 in
     let (public, ej, e6) = after (whole_number (within_round n key.Public) q) _ r e5 in
     let (tree, ek, e7) = after (text (within_round n key.Tree) t) _ r e6 in
     subst (λ w. RoundHas w table) (same_ok _ r e7) (record {
-      private = (p, found_ok (get_member (key_text key.Private) table) (missing_key (within_round n key.Private)) p ep, found_ok (as_integer p) (wrong_type (within_round n key.Private)) private ei);
-      public = (q, found_ok (get_member (key_text key.Public) table) (missing_key (within_round n key.Public)) q eq, found_ok (as_integer q) (wrong_type (within_round n key.Public)) public ej);
-      play = (only_ok tree_keys n table u eo, (t, found_ok (get_member (key_text key.Tree) table) (missing_key (within_round n key.Tree)) t et, found_ok (as_str t) (wrong_type (within_round n key.Tree)) tree ek));
+      private = (p, found_ok (get_member (key_in File key.Private) table) (missing_key (within_round n key.Private)) p ep, found_ok (as_integer p) (wrong_type (within_round n key.Private)) private ei);
+      public = (q, found_ok (get_member (key_in File key.Public) table) (missing_key (within_round n key.Public)) q eq, found_ok (as_integer q) (wrong_type (within_round n key.Public)) public ej);
+      play = (only_ok tree_keys n table u eo, (t, found_ok (get_member (key_in File key.Tree) table) (missing_key (within_round n key.Tree)) t et, found_ok (as_str t) (wrong_type (within_round n key.Tree)) tree ek));
     })
 
-pub limit_round_ok : (n : ℕ) (table : Members) (r : Round ℤ) → limit_round_at n table ≡ Ok r → RoundHas r table
+pub limit_round_ok : (n : ℕ) (table : Members) (r : Round ℤ) → limit_round_at File n table ≡ Ok r → RoundHas r table
 unfolding limit_round_at
 limit_round_ok n table r e =
-    let (u, eo, e1) = after (only limit_keys n table) _ r e in
-    let (p, ep, e2) = after (required table (within_round n key.Private)) _ r e1 in
-    let (q, eq, e3) = after (required table (within_round n key.Public)) _ r e2 in
-    let (b, eb, e4) = after (required table (within_round n key.Bet)) _ r e3 in
-    let (c, ec, e5) = after (required table (within_round n key.Cap)) _ r e4 in
+    let (u, eo, e1) = after (only File limit_keys n table) _ r e in
+    let (p, ep, e2) = after (required File table (within_round n key.Private)) _ r e1 in
+    let (q, eq, e3) = after (required File table (within_round n key.Public)) _ r e2 in
+    let (b, eb, e4) = after (required File table (within_round n key.Bet)) _ r e3 in
+    let (c, ec, e5) = after (required File table (within_round n key.Cap)) _ r e4 in
     let (private, ei, e6) = after (whole_number (within_round n key.Private) p) _ r e5 in
     let (public, ej, e7) = after (whole_number (within_round n key.Public) q) _ r e6 in
     let (bet, ek, e8) = after (whole_number (within_round n key.Bet) b) _ r e7 in
     let (cap, el, e9) = after (whole_number (within_round n key.Cap) c) _ r e8 in
     subst (λ w. RoundHas w table) (same_ok _ r e9) (record {
-      private = (p, found_ok (get_member (key_text key.Private) table) (missing_key (within_round n key.Private)) p ep, found_ok (as_integer p) (wrong_type (within_round n key.Private)) private ei);
-      public = (q, found_ok (get_member (key_text key.Public) table) (missing_key (within_round n key.Public)) q eq, found_ok (as_integer q) (wrong_type (within_round n key.Public)) public ej);
+      private = (p, found_ok (get_member (key_in File key.Private) table) (missing_key (within_round n key.Private)) p ep, found_ok (as_integer p) (wrong_type (within_round n key.Private)) private ei);
+      public = (q, found_ok (get_member (key_in File key.Public) table) (missing_key (within_round n key.Public)) q eq, found_ok (as_integer q) (wrong_type (within_round n key.Public)) public ej);
       play = (
         only_ok limit_keys n table u eo,
-        (b, found_ok (get_member (key_text key.Bet) table) (missing_key (within_round n key.Bet)) b eb, found_ok (as_integer b) (wrong_type (within_round n key.Bet)) bet ek),
-        (c, found_ok (get_member (key_text key.Cap) table) (missing_key (within_round n key.Cap)) c ec, found_ok (as_integer c) (wrong_type (within_round n key.Cap)) cap el),
+        (b, found_ok (get_member (key_in File key.Bet) table) (missing_key (within_round n key.Bet)) b eb, found_ok (as_integer b) (wrong_type (within_round n key.Bet)) bet ek),
+        (c, found_ok (get_member (key_in File key.Cap) table) (missing_key (within_round n key.Cap)) c ec, found_ok (as_integer c) (wrong_type (within_round n key.Cap)) cap el),
       );
     })
 
-pub round_ok : (n : ℕ) (table : Members) (r : Round ℤ) → round_at n table ≡ Ok r → RoundHas r table
+pub round_ok : (n : ℕ) (table : Members) (r : Round ℤ) → round_at File n table ≡ Ok r → RoundHas r table
 unfolding round_at
-round_ok n table r e = by (is_some (get_member (key_text key.Tree) table)) e
+round_ok n table r e = by (has_tree File table) e
   where
-    by : (b : Bool) → (if b then tree_round_at n table else limit_round_at n table) ≡ Ok r → RoundHas r table
+    by : (b : Bool) → (if b then tree_round_at File n table else limit_round_at File n table) ≡ Ok r → RoundHas r table
     by true e = tree_round_ok n table r e
     by false e = limit_round_ok n table r e
 
-pub round_is : (n : ℕ) (table : Members) (r : Round ℤ) → RoundHas r table → round_at n table ≡ Ok r
+pub round_is : (n : ℕ) (table : Members) (r : Round ℤ) → RoundHas r table → round_at File n table ≡ Ok r
 unfolding round_at tree_round_at limit_round_at
 round_is n table r h = by r.play h.play refl
   where
-    by : (play : Play ℤ) → PlayHas play table → r.play ≡ play → round_at n table ≡ Ok r
+    by : (play : Play ℤ) → PlayHas play table → r.play ≡ play → round_at File n table ≡ Ok r
     by (Tree_text words) (none_else, (t, found, is)) same =
         let (p, fp, ip) = h.private in
         let (q, fq, iq) = h.public in

@@ -3,11 +3,12 @@ use Rattle.std.proofs.Common.{◌≡◌, ℕ, zero, suc, List, [], Option, Some,
 use Rattle.toml.specs.Data.{Data, Members, as_integer, as_str, get_member}
 use Rattle.gs_file.specs.Faults.{bad_version, wrong_type, missing_key, ◌>>=◌}
 use Rattle.gs_file.specs.JsonForm.{version_number}
-use Rattle.gs_file.specs.Keys.{key_text, top, top_keys}
+use Rattle.gs_file.specs.Keys.{key_in, top, top_keys}
 use Rattle.gs_file.specs.Reading.{Top, TopValues, bonus_numbers, bonus_value, typed_at, values_at, version_at, version_of}
 use Rattle.gs_file.specs.States.{Has, HasOnly, IsList, IsNumber, IsText}
 use Rattle.gs_file.specs.Tables.{only, required, tables_in, text, text_or_empty, whole_number, whole_numbers_in}
 use Rattle.gs_file.specs.declared.fault.Key.TheVariants as key
+use Rattle.gs_file.specs.declared.form.Form.TheVariants.{File}
 use Rattle.gs_file.specs.declared.version.Version.{Version}
 use Rattle.gs_file.specs.declared.version.Version.TheVariants.{One, Two}
 use Rattle.gs_file.proofs.Stating.{IsTable, IsWhole, after, found_ok, never, numbers_is, numbers_ok, only_ok, same_ok, tables_is, tables_ok}
@@ -20,65 +21,65 @@ IsVersion v d = IsNumber (version_number v) (version_number v) (version_number v
 abbrev pub VersionHas : Option Data → Members → Type 0
 VersionHas bonus table =
     (HasOnly table (top_keys One) × Has table key.Version (IsVersion One) × (bonus ≡ None))
-    ⊎ ((d : Data) × HasOnly table (top_keys Two) × Has table key.Version (IsVersion Two) × (get_member (key_text key.Bonus) table ≡ Some d) × (bonus ≡ Some d))
+    ⊎ ((d : Data) × HasOnly table (top_keys Two) × Has table key.Version (IsVersion Two) × (get_member (key_in File key.Bonus) table ≡ Some d) × (bonus ≡ Some d))
 
 pub record TopHas (v : TopValues) (table : Members) : Type 0 where
   pub version : VersionHas v.bonus table
-  pub ranks : get_member (key_text key.Ranks) table ≡ Some v.ranks
-  pub suits : get_member (key_text key.Suits) table ≡ Some v.suits
-  pub copies : get_member (key_text key.Copies) table ≡ v.copies
-  pub ranking : get_member (key_text key.Ranking) table ≡ Some v.ranking
-  pub ante : get_member (key_text key.Ante) table ≡ Some v.ante
-  pub rounds : get_member (key_text key.Round) table ≡ Some v.rounds
+  pub ranks : get_member (key_in File key.Ranks) table ≡ Some v.ranks
+  pub suits : get_member (key_in File key.Suits) table ≡ Some v.suits
+  pub copies : get_member (key_in File key.Copies) table ≡ v.copies
+  pub ranking : get_member (key_in File key.Ranking) table ≡ Some v.ranking
+  pub ante : get_member (key_in File key.Ante) table ≡ Some v.ante
+  pub rounds : get_member (key_in File key.Round) table ≡ Some v.rounds
 
-pub which_version : (z : ℤ) (v : Version) → version_of z ≡ Ok v → z ≡ pos (version_number v)
+pub which_version : (z : ℤ) (v : Version) → version_of File z ≡ Ok v → z ≡ pos (version_number v)
 which_version (pos zero) v e = absurd (never (bad_version (pos zero)) v e)
 which_version (pos (suc zero)) v e = ap (λ w. pos (version_number w)) (same_ok One v e)
 which_version (pos (suc (suc zero))) v e = ap (λ w. pos (version_number w)) (same_ok Two v e)
 which_version (pos (suc (suc (suc n)))) v e = absurd (never (bad_version (pos (suc (suc (suc n))))) v e)
 which_version (negsuc n) v e = absurd (never (bad_version (negsuc n)) v e)
 
-pub version_ok : (table : Members) (v : Version) → version_at table ≡ Ok v → Has table key.Version (IsVersion v)
+pub version_ok : (table : Members) (v : Version) → version_at File table ≡ Ok v → Has table key.Version (IsVersion v)
 unfolding version_at
 version_ok table v e =
-    let (d, ed, e1) = after (required table (top key.Version)) (λ value. whole_number (top key.Version) value >>= version_of) v e in
-    let (z, ez, e2) = after (whole_number (top key.Version) d) version_of v e1 in
-    let found = found_ok (get_member (key_text key.Version) table) (missing_key (top key.Version)) d ed in
+    let (d, ed, e1) = after (required File table (top key.Version)) (λ value. whole_number (top key.Version) value >>= version_of File) v e in
+    let (z, ez, e2) = after (whole_number (top key.Version) d) (version_of File) v e1 in
+    let found = found_ok (get_member (key_in File key.Version) table) (missing_key (top key.Version)) d ed in
     let whole = found_ok (as_integer d) (wrong_type (top key.Version)) z ez in
     (d, found, (whole ∙ ap Some (which_version z v e2), omega arith, omega arith))
 
-pub bonus_ok : (v : Version) (table : Members) (bonus : Option Data) → bonus_value v table ≡ Ok bonus → HasOnly table (top_keys v) → Has table key.Version (IsVersion v) → VersionHas bonus table
+pub bonus_ok : (v : Version) (table : Members) (bonus : Option Data) → bonus_value File v table ≡ Ok bonus → HasOnly table (top_keys v) → Has table key.Version (IsVersion v) → VersionHas bonus table
 bonus_ok One table bonus e o h = inl (o, h, sym (same_ok None bonus e))
 bonus_ok Two table bonus e o h =
-    let (d, ed, e1) = after (required table (top key.Bonus)) (λ d. Ok (Some d)) bonus e in
-    inr (d, o, h, found_ok (get_member (key_text key.Bonus) table) (missing_key (top key.Bonus)) d ed, sym (same_ok (Some d) bonus e1))
+    let (d, ed, e1) = after (required File table (top key.Bonus)) (λ d. Ok (Some d)) bonus e in
+    inr (d, o, h, found_ok (get_member (key_in File key.Bonus) table) (missing_key (top key.Bonus)) d ed, sym (same_ok (Some d) bonus e1))
 
-pub top_ok : (table : Members) (v : TopValues) → values_at table ≡ Ok v → TopHas v table
+pub top_ok : (table : Members) (v : TopValues) → values_at File table ≡ Ok v → TopHas v table
 unfolding values_at
 top_ok table v e =
-    let (version, ev, e1) = after (version_at table) _ v e in
-    let (u, eo, e2) = after (only (top_keys version) 0 table) _ v e1 in
-    let (ranks, er, e3) = after (required table (top key.Ranks)) _ v e2 in
-    let (suits, es, e4) = after (required table (top key.Suits)) _ v e3 in
-    let (ranking, ek, e5) = after (required table (top key.Ranking)) _ v e4 in
-    let (bonus, eb, e6) = after (bonus_value version table) _ v e5 in
-    let (ante, ea, e7) = after (required table (top key.Ante)) _ v e6 in
-    let (rounds, en, e8) = after (required table (top key.Round)) _ v e7 in
+    let (version, ev, e1) = after (version_at File table) _ v e in
+    let (u, eo, e2) = after (only File (top_keys version) 0 table) _ v e1 in
+    let (ranks, er, e3) = after (required File table (top key.Ranks)) _ v e2 in
+    let (suits, es, e4) = after (required File table (top key.Suits)) _ v e3 in
+    let (ranking, ek, e5) = after (required File table (top key.Ranking)) _ v e4 in
+    let (bonus, eb, e6) = after (bonus_value File version table) _ v e5 in
+    let (ante, ea, e7) = after (required File table (top key.Ante)) _ v e6 in
+    let (rounds, en, e8) = after (required File table (top key.Round)) _ v e7 in
     subst (λ w. TopHas w table) (same_ok _ v e8) (record {
       version = bonus_ok version table bonus eb (only_ok (top_keys version) 0 table u eo) (version_ok table version ev);
-      ranks = found_ok (get_member (key_text key.Ranks) table) (missing_key (top key.Ranks)) ranks er;
-      suits = found_ok (get_member (key_text key.Suits) table) (missing_key (top key.Suits)) suits es;
+      ranks = found_ok (get_member (key_in File key.Ranks) table) (missing_key (top key.Ranks)) ranks er;
+      suits = found_ok (get_member (key_in File key.Suits) table) (missing_key (top key.Suits)) suits es;
       copies = refl;
-      ranking = found_ok (get_member (key_text key.Ranking) table) (missing_key (top key.Ranking)) ranking ek;
-      ante = found_ok (get_member (key_text key.Ante) table) (missing_key (top key.Ante)) ante ea;
-      rounds = found_ok (get_member (key_text key.Round) table) (missing_key (top key.Round)) rounds en;
+      ranking = found_ok (get_member (key_in File key.Ranking) table) (missing_key (top key.Ranking)) ranking ek;
+      ante = found_ok (get_member (key_in File key.Ante) table) (missing_key (top key.Ante)) ante ea;
+      rounds = found_ok (get_member (key_in File key.Round) table) (missing_key (top key.Round)) rounds en;
     })
 
-pub top_is : (table : Members) (v : TopValues) → TopHas v table → values_at table ≡ Ok v
+pub top_is : (table : Members) (v : TopValues) → TopHas v table → values_at File table ≡ Ok v
 unfolding values_at version_at
 top_is table v h = by h.version
   where
-    by : VersionHas v.bonus table → values_at table ≡ Ok v
+    by : VersionHas v.bonus table → values_at File table ≡ Ok v
     by (inl (o, (d, m, i), none)) = rw (m, i.0, o, h.ranks, h.suits, h.ranking, h.ante, h.rounds, h.copies, sym none) refl
     by (inr (b, o, (d, m, i), n, some)) = rw (m, i.0, o, h.ranks, h.suits, h.ranking, n, h.ante, h.rounds, h.copies, sym some) refl
 

@@ -14,12 +14,13 @@ use Rattle.gs_model.specs.Game.{Round as Rules, Ranking, High, Pair, Three}
 use Rattle.gs_model.specs.Outcome.{categories}
 use Rattle.gs_file.specs.Faults.{range, deck, not_text, not_toml, game}
 use Rattle.gs_file.specs.JsonForm.{ranking_text}
-use Rattle.gs_file.specs.Keys.{key_text, top}
+use Rattle.gs_file.specs.Keys.{key_in, top}
 use Rattle.gs_file.specs.Reading.{FileGame, Play, Tree_text, Limit_of, Round, Stated, Top, TopValues, bonus_at, counted, deck_at, deck_made, game_at, parsed_at, ranking_at, read_at, round_at, round_built, round_within, stated_at, text_at, typed_at, unless_refused, values_at}
 use Rattle.gs_file.specs.States.{FileStates, Has, IsNumber, IsRound, OneByOne, StatesBetting, StatesBonus, StatesCopies, StatesDeck, StatesGame, StatesRound}
 use Rattle.gs_file.specs.Tables.{each, list_of, text, within}
 use Rattle.gs_file.specs.declared.fault.Key.{Key}
 use Rattle.gs_file.specs.declared.fault.Key.TheVariants as key
+use Rattle.gs_file.specs.declared.form.Form.TheVariants.{File}
 use Rattle.gs_file.proofs.RoundCounts.{counted_is}
 use Rattle.gs_file.proofs.Stating.{IsTable, IsWhole, after, between, each_is, each_ok, found_ok, never, same_ok, through, within_is, within_ok}
 use Rattle.gs_file.proofs.StatedRounds.{PlayHas, PlayIn, PlayMade, RoundHas, RoundIn, RoundMade, round_in_is, round_in_ok, round_is, round_made_is, round_made_ok, round_ok, same_bytes}
@@ -98,16 +99,16 @@ bonus_in_is r (Some zs) bonus (long, all) =
     in_is : (n : ℕ) (z : ℤ) (m : ℕ) → IsIn 1 9 m z → within (top key.Bonus) 1 9 z ≡ Ok m
     in_is n z m (same, low, high) = rw same (within_is (top key.Bonus) 1 9 m low high)
 
-stated_ok : (t : Top) (s : Stated) → stated_at t ≡ Ok s → StatedHas s t
+stated_ok : (t : Top) (s : Stated) → stated_at File t ≡ Ok s → StatedHas s t
 unfolding stated_at
 stated_ok t s e =
     let (u, eu, e1) = after (counted t.rounds) _ s e in
-    let (rs, er, e2) = after (each round_at 1 t.rounds) _ s e1 in
+    let (rs, er, e2) = after (each (round_at File) 1 t.rounds) _ s e1 in
     let (ranking, ek, e3) = after (ranking_at t.ranking) _ s e2 in
     let (bonus, eb, e4) = after (bonus_at ranking t.bonus) _ s e3 in
     let (ante, ea, e5) = after (within (top key.Ante) 1 4096 t.ante) _ s e4 in
     let (ws, ew, e6) = after (each round_within 1 rs) _ s e5 in
-    let had = each_ok round_at RoundHas (λ n x y. round_ok n x y) 1 t.rounds rs er in
+    let had = each_ok (round_at File) RoundHas (λ n x y. round_ok n x y) 1 t.rounds rs er in
     let ranged = each_ok round_within RoundIn (λ n x y. round_in_ok n x y) 1 rs ws ew in
     subst (λ w. StatedHas w t) (same_ok _ s e6) (record {
       ranking = ranking_ok t.ranking ranking ek;
@@ -116,14 +117,14 @@ stated_ok t s e =
       rounds = through RoundIn RoundHas RoundRead (λ w r table i h. (r, i, h)) ws rs t.rounds ranged had;
     })
 
-stated_is : (t : Top) (s : Stated) → counted t.rounds ≡ Ok tt → StatedHas s t → stated_at t ≡ Ok s
+stated_is : (t : Top) (s : Stated) → counted t.rounds ≡ Ok tt → StatedHas s t → stated_at File t ≡ Ok s
 unfolding stated_at
 stated_is t s few h =
     let (rs, ranged, had) = between RoundIn RoundHas RoundRead (λ w table g. g) s.rounds t.rounds h.rounds in
     let (is, low, high) = h.ante in
     rw (
       few,
-      each_is round_at RoundHas (λ n x y g. round_is n x y g) 1 t.rounds rs had,
+      each_is (round_at File) RoundHas (λ n x y g. round_is n x y g) 1 t.rounds rs had,
       h.ranking,
       ranking_is s.ranking,
       bonus_in_is s.ranking t.bonus s.bonus h.bonus,
@@ -157,11 +158,11 @@ bonus_stages r bonus table (inr (o, h, (d, m, (items, found, all)), long)) =
     let (zs, i, w) = between (IsIn 1 9) IsWhole (IsNumber 1 9) (λ n x g. (pos n, (refl, g.1, g.2), g.0)) bonus (list_of items) all in
     (Some d, Some zs, inr (d, o, h, m, refl), (zs, refl, (items, found, w)), (long, i))
 
-copies_states : (copies : List ℕ) (d : Option Data) (table : Members) → get_member (key_text key.Copies) table ≡ d → CopiesTyped copies d → StatesCopies copies table
+copies_states : (copies : List ℕ) (d : Option Data) (table : Members) → get_member (key_in File key.Copies) table ≡ d → CopiesTyped copies d → StatesCopies copies table
 copies_states copies None table m t = inl (m, t)
 copies_states copies (Some d) table m t = inr (d, m, t)
 
-copies_stages : (copies : List ℕ) (table : Members) → StatesCopies copies table → CopiesTyped copies (get_member (key_text key.Copies) table)
+copies_stages : (copies : List ℕ) (table : Members) → StatesCopies copies table → CopiesTyped copies (get_member (key_in File key.Copies) table)
 copies_stages copies table (inl (m, none)) = rw m none
 copies_stages copies table (inr (d, m, t)) = rw m t
 
@@ -198,12 +199,12 @@ round_stages b table h =
     )
 
 -- what is accepted is stated
-table_ok : (table : Members) (g : FileGame) → game_at table ≡ Ok g → StatesGame g table
+table_ok : (table : Members) (g : FileGame) → game_at File table ≡ Ok g → StatesGame g table
 unfolding game_at
 table_ok table g e =
-    let (v, ev, e1) = after (values_at table) _ g e in
+    let (v, ev, e1) = after (values_at File table) _ g e in
     let (t, et, e2) = after (typed_at v) _ g e1 in
-    let (s, es, e3) = after (stated_at t) _ g e2 in
+    let (s, es, e3) = after (stated_at File t) _ g e2 in
     let (cards, ec, e4) = after (deck_at t.ranks t.suits t.copies) _ g e3 in
     let (bs, eb, e5) = after (each round_built 1 s.rounds) _ g e4 in
     let (no_rule, same) = lawful_ok (record { deck = cards; ranking = s.ranking; bonus = s.bonus; ante = s.ante; rounds = bs }) _ g e5 in
@@ -232,7 +233,7 @@ table_ok table g e =
     })
 
 -- what is stated is accepted
-table_is : (table : Members) (g : FileGame) → StatesGame g table → game_at table ≡ Ok g
+table_is : (table : Members) (g : FileGame) → StatesGame g table → game_at File table ≡ Ok g
 unfolding game_at
 table_is table g h =
     let (ranks, mr, ir) = h.deck.ranks in
@@ -243,7 +244,7 @@ table_is table g h =
     let (bonus, numbers, version, typed, ranged) = bonus_stages g.ranking g.bonus table h.bonus in
     let (ts, states, tables) = between StatesRound IsTable IsRound (λ b d i. (i.0, i.2, i.1)) g.rounds (list_of items) all in
     let (ws, made, reads) = between RoundMade RoundRead StatesRound (λ b x i. round_stages b x i) g.rounds ts states in
-    let v : TopValues = record { ranks = ranks; suits = suits; copies = get_member (key_text key.Copies) table; ranking = ranking; bonus = bonus; ante = ante; rounds = rounds } in
+    let v : TopValues = record { ranks = ranks; suits = suits; copies = get_member (key_in File key.Copies) table; ranking = ranking; bonus = bonus; ante = ante; rounds = rounds } in
     let t : Top = record { ranks = g.deck.ranks; suits = g.deck.suits; copies = h.deck.copies; ranking = ranking_text g.ranking; bonus = numbers; ante = pos g.ante; rounds = ts } in
     let s : Stated = record { ranking = g.ranking; bonus = g.bonus; ante = g.ante; rounds = ws } in
     let long : length ts ≡ length g.rounds = sym (one_length StatesRound g.rounds ts states) in

@@ -10,6 +10,7 @@ use Rattle.gs_file.specs.States.{HasOnly, IsList, OneByOne}
 use Rattle.gs_file.specs.Tables.{each, list_of, only, table_in, array_in, tables_in, whole_number, whole_numbers_in, within}
 use Rattle.gs_file.specs.declared.fault.Key.{Key}
 use Rattle.gs_file.specs.declared.fault.Place.{Place}
+use Rattle.gs_file.specs.declared.form.Form.TheVariants.{File}
 
 -- ---- one step after another
 
@@ -31,8 +32,8 @@ pub found_ok : {A : Type 0} (o : Option A) (f : Fault) (a : A) → ok_or o f ≡
 found_ok None f a e = absurd (never f a e)
 found_ok (Some x) f a e = ap Some (same_ok x a e)
 
-pub only_ok : (keys : List Key) (round : ℕ) (table : Members) (u : Unit {0}) → only keys round table ≡ Ok u → HasOnly table keys
-only_ok keys round table u e = by (has_only keys table) e
+pub only_ok : (keys : List Key) (round : ℕ) (table : Members) (u : Unit {0}) → only File keys round table ≡ Ok u → HasOnly table keys
+only_ok keys round table u e = by (has_only File keys table) e
   where
     by : (b : Bool) → (if b then Ok tt else Err (unknown_key round)) ≡ Ok u → b ≡ true
     by true e = refl

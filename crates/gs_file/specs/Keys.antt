@@ -1,4 +1,4 @@
--- The keys of a game file, as it writes them, and where each may stand. Source: this project's game files.
+-- The keys of a game's description, as each form writes them, and where each may stand. Source: this project's game files and strategy files.
 use Rattle.std.specs.Prelude.{ℕ, Bool, ◌&&◌, true, List, [], ◌∷◌, codes}
 use Rattle.std.specs.List.{list_any}
 use Rattle.std.specs.Str.{bytes_eq}
@@ -6,10 +6,12 @@ use Rattle.toml.specs.Data.{Members, no_members, member}
 use Rattle.gs_file.specs.declared.fault.Key.{Key}
 use Rattle.gs_file.specs.declared.fault.Key.TheVariants as key
 use Rattle.gs_file.specs.declared.fault.Place.{Place}
+use Rattle.gs_file.specs.declared.form.Form.{Form}
+use Rattle.gs_file.specs.declared.form.Form.TheVariants.{File, Json}
 use Rattle.gs_file.specs.declared.version.Version.{Version}
 use Rattle.gs_file.specs.declared.version.Version.TheVariants.{One, Two}
 
--- a key as the file writes it
+-- a key as a game file writes it
 abbrev pub key_text : Key → List ℕ
 key_text key.Version = codes "version"
 key_text key.Ranks = codes "ranks"
@@ -25,12 +27,22 @@ key_text key.Tree = codes "tree"
 key_text key.Bet = codes "bet"
 key_text key.Cap = codes "cap"
 
--- the keys that may stand at the top of a file
+-- the key of the rounds
+abbrev pub rounds_key : Form → List ℕ
+rounds_key File = codes "round"
+rounds_key (Json version) = codes "rounds"
+
+-- a key as a form writes it: the two differ in the key of the rounds
+abbrev pub key_in : Form → Key → List ℕ
+key_in form key.Round = rounds_key form
+key_in form k = key_text k
+
+-- the keys that may stand at the top, by version
 abbrev pub top_keys : Version → List Key
 top_keys One = key.Version ∷ key.Ranks ∷ key.Suits ∷ key.Copies ∷ key.Ranking ∷ key.Ante ∷ key.Round ∷ []
 top_keys Two = key.Version ∷ key.Ranks ∷ key.Suits ∷ key.Copies ∷ key.Ranking ∷ key.Bonus ∷ key.Ante ∷ key.Round ∷ []
 
--- the keys that may stand in a round with a tree, and in one with limit betting
+-- the keys that may stand in a round with a tree
 abbrev pub tree_keys : List Key
 tree_keys = key.Private ∷ key.Public ∷ key.Tree ∷ []
 
@@ -39,15 +51,15 @@ abbrev pub limit_keys : List Key
 limit_keys = key.Private ∷ key.Public ∷ key.Bet ∷ key.Cap ∷ []
 
 -- the text is one of these keys
-abbrev pub is_among : List Key → List ℕ → Bool
-is_among keys name = list_any (λ key. bytes_eq (key_text key) name) keys
+abbrev pub is_among : Form → List Key → List ℕ → Bool
+is_among form keys name = list_any (λ key. bytes_eq (key_in form key) name) keys
 
 -- each key of the table is one of these
-abbrev pub has_only : List Key → Members → Bool
-has_only keys no_members = true
-has_only keys (member name d rest) = is_among keys name && has_only keys rest
+abbrev pub has_only : Form → List Key → Members → Bool
+has_only form keys no_members = true
+has_only form keys (member name d rest) = is_among form keys name && has_only form keys rest
 
--- a key at the top of a file, and in a round
+-- the place of a key at the top
 abbrev pub top : Key → Place
 top k = record { key = k; round = 0 }
 

@@ -1,5 +1,6 @@
--- What a game file states, or the first check that fails: the checks stand in their order. Source: this project's game files.
-use Rattle.std.specs.Prelude.{ℕ, zero, suc, ℤ, pos, ◌-◌, ◌==◌, ◌||◌, List, Option, Some, None, is_some, Result, Ok, Err, codes, length, replicate, nat_lt, if◌then◌else◌}
+-- What a game file or a value of JSON states, or the first check that fails: the checks stand in their order. Source: this project's game files and
+-- strategy files.
+use Rattle.std.specs.Prelude.{ℕ, zero, suc, ℤ, pos, ◌-◌, ◌==◌, ◌||◌, Bool, true, List, Option, Some, None, is_some, Result, Ok, Err, codes, length, replicate, nat_lt, if◌then◌else◌}
 use Rattle.std.specs.Option.{ok_or}
 use Rattle.std.specs.Str.{bytes_eq, is_utf8}
 use Rattle.toml.specs.Parse.{parse_document}
@@ -18,6 +19,8 @@ use Rattle.gs_file.specs.Faults.{Fault, not_text, not_toml, bad_version, range, 
 use Rattle.gs_file.specs.Keys.{top, within_round, top_keys, tree_keys, limit_keys, key_text}
 use Rattle.gs_file.specs.Tables.{required, only, whole_number, text, text_or_empty, tables_in, whole_numbers_in, each, within}
 use Rattle.gs_file.specs.declared.fault.Key.TheVariants as key
+use Rattle.gs_file.specs.declared.form.Form.{Form}
+use Rattle.gs_file.specs.declared.form.Form.TheVariants.{File, Json}
 use Rattle.gs_file.specs.declared.version.Version.{Version}
 use Rattle.gs_file.specs.declared.version.Version.TheVariants.{One, Two}
 
@@ -31,27 +34,34 @@ text_at bytes = if is_utf8 bytes then Ok bytes else Err not_text
 abbrev pub parsed_at : List ℕ → Result Members Fault
 parsed_at text = ok_or (parse_document text) not_toml
 
--- ---- the top of the file
+-- ---- the top
 
--- version 1 or 2; another number is refused
-abbrev pub version_of : ℤ → Result Version Fault
-version_of (pos (suc zero)) = Ok One
-version_of (pos (suc (suc zero))) = Ok Two
-version_of z = Err (bad_version z)
+-- a game file states version 1 or 2, a value of JSON the version that is wanted; another number is refused
+abbrev pub version_of : Form → ℤ → Result Version Fault
+version_of File (pos (suc zero)) = Ok One
+version_of File (pos (suc (suc zero))) = Ok Two
+version_of (Json One) (pos (suc zero)) = Ok One
+version_of (Json Two) (pos (suc (suc zero))) = Ok Two
+version_of form z = Err (bad_version z)
 
 -- the version that a table states
-unfoldable pub version_at : Members → Result Version Fault
-version_at table = do
-  value ← required table (top key.Version)
+unfoldable pub version_at : Form → Members → Result Version Fault
+version_at form table = do
+  value ← required form table (top key.Version)
   number ← whole_number (top key.Version) value
-  version_of number
+  version_of form number
+
+-- the value of `copies`, which a game file may leave out
+abbrev pub copies_value : Form → Members → Result (Option Data) Fault
+copies_value File table = Ok (get_member (key_text key.Copies) table)
+copies_value (Json version) table = required (Json version) table (top key.Copies) >>= λ d. Ok (Some d)
 
 -- the value of `bonus`, which version 2 has and version 1 has not
-abbrev pub bonus_value : Version → Members → Result (Option Data) Fault
-bonus_value One table = Ok None
-bonus_value Two table = required table (top key.Bonus) >>= λ d. Ok (Some d)
+abbrev pub bonus_value : Form → Version → Members → Result (Option Data) Fault
+bonus_value form One table = Ok None
+bonus_value form Two table = required form table (top key.Bonus) >>= λ d. Ok (Some d)
 
--- the values at the top, as TOML values; `copies` may be left out, and `bonus` stands in version 2 alone
+-- the values at the top, as TOML values; a game file may leave out `copies`, and `bonus` stands in version 2 alone
 pub record TopValues : Type 0 where
   pub ranks : Data
   pub suits : Data
@@ -62,17 +72,18 @@ pub record TopValues : Type 0 where
   pub rounds : Data
 
 -- the values at the top: the version, then no key that may not stand there, then each key that has to be there
-unfoldable pub values_at : Members → Result TopValues Fault
-values_at table = do
-  version ← version_at table
-  _ ← only (top_keys version) 0 table
-  ranks ← required table (top key.Ranks)
-  suits ← required table (top key.Suits)
-  ranking ← required table (top key.Ranking)
-  bonus ← bonus_value version table
-  ante ← required table (top key.Ante)
-  rounds ← required table (top key.Round)
-  Ok (record { ranks = ranks; suits = suits; copies = get_member (key_text key.Copies) table; ranking = ranking; bonus = bonus; ante = ante; rounds = rounds })
+unfoldable pub values_at : Form → Members → Result TopValues Fault
+values_at form table = do
+  version ← version_at form table
+  _ ← only form (top_keys version) 0 table
+  ranks ← required form table (top key.Ranks)
+  suits ← required form table (top key.Suits)
+  copies ← copies_value form table
+  ranking ← required form table (top key.Ranking)
+  bonus ← bonus_value form version table
+  ante ← required form table (top key.Ante)
+  rounds ← required form table (top key.Round)
+  Ok (record { ranks = ranks; suits = suits; copies = copies; ranking = ranking; bonus = bonus; ante = ante; rounds = rounds })
 
 -- the integers of `bonus`, where there is one
 abbrev pub bonus_numbers : Option Data → Result (Option (List ℤ)) Fault
@@ -119,34 +130,39 @@ pub record Round (N : Type 0) : Type 0 where
   pub play : Play N
 
 -- a round with a tree: exactly the keys `private`, `public` and `tree`, two integers and a string
-unfoldable pub tree_round_at : ℕ → Members → Result (Round ℤ) Fault
-tree_round_at n table = do
-  _ ← only tree_keys n table
-  private ← required table (within_round n key.Private)
-  public ← required table (within_round n key.Public)
-  tree ← required table (within_round n key.Tree)
+unfoldable pub tree_round_at : Form → ℕ → Members → Result (Round ℤ) Fault
+tree_round_at form n table = do
+  _ ← only form tree_keys n table
+  private ← required form table (within_round n key.Private)
+  public ← required form table (within_round n key.Public)
+  tree ← required form table (within_round n key.Tree)
   private ← whole_number (within_round n key.Private) private
   public ← whole_number (within_round n key.Public) public
   tree ← text (within_round n key.Tree) tree
   Ok (record { private = private; public = public; play = Tree_text tree })
 
 -- a round with limit betting: exactly the keys `private`, `public`, `bet` and `cap`, all integers
-unfoldable pub limit_round_at : ℕ → Members → Result (Round ℤ) Fault
-limit_round_at n table = do
-  _ ← only limit_keys n table
-  private ← required table (within_round n key.Private)
-  public ← required table (within_round n key.Public)
-  bet ← required table (within_round n key.Bet)
-  cap ← required table (within_round n key.Cap)
+unfoldable pub limit_round_at : Form → ℕ → Members → Result (Round ℤ) Fault
+limit_round_at form n table = do
+  _ ← only form limit_keys n table
+  private ← required form table (within_round n key.Private)
+  public ← required form table (within_round n key.Public)
+  bet ← required form table (within_round n key.Bet)
+  cap ← required form table (within_round n key.Cap)
   private ← whole_number (within_round n key.Private) private
   public ← whole_number (within_round n key.Public) public
   bet ← whole_number (within_round n key.Bet) bet
   cap ← whole_number (within_round n key.Cap) cap
   Ok (record { private = private; public = public; play = Limit_of bet cap })
 
--- a round: with a tree where the key `tree` is there, else with limit betting
-unfoldable pub round_at : ℕ → Members → Result (Round ℤ) Fault
-round_at n table = if is_some (get_member (key_text key.Tree) table) then tree_round_at n table else limit_round_at n table
+-- whether a round is told by its tree: in a game file where the key `tree` is there, in JSON always
+abbrev pub has_tree : Form → Members → Bool
+has_tree File table = is_some (get_member (key_text key.Tree) table)
+has_tree (Json version) table = true
+
+-- a round: with a tree where it is told by it, else with limit betting
+unfoldable pub round_at : Form → ℕ → Members → Result (Round ℤ) Fault
+round_at form n table = if has_tree form table then tree_round_at form n table else limit_round_at form n table
 
 -- ---- the ranges
 
@@ -241,10 +257,10 @@ pub record Stated : Type 0 where
 
 -- what a file states: first the number of rounds, then the keys and types of each round, the ranking, the bonus, the ante from 1 to 4,096 chips, and the
 -- ranges of each round
-unfoldable pub stated_at : Top → Result Stated Fault
-stated_at fields = do
+unfoldable pub stated_at : Form → Top → Result Stated Fault
+stated_at form fields = do
   _ ← counted fields.rounds
-  rounds ← each round_at 1 fields.rounds
+  rounds ← each (round_at form) 1 fields.rounds
   ranking ← ranking_at fields.ranking
   bonus ← bonus_at ranking fields.bonus
   ante ← within (top key.Ante) 1 4096 fields.ante
@@ -252,11 +268,11 @@ stated_at fields = do
   Ok (record { ranking = ranking; bonus = bonus; ante = ante; rounds = rounds })
 
 -- the game that a table states, or the first check that fails: values, types, ranges, the deck, the trees, the rules of games
-unfoldable pub game_at : Members → Result FileGame Fault
-game_at table = do
-  values ← values_at table
+unfoldable pub game_at : Form → Members → Result FileGame Fault
+game_at form table = do
+  values ← values_at form table
   fields ← typed_at values
-  stated ← stated_at fields
+  stated ← stated_at form fields
   cards ← deck_at fields.ranks fields.suits fields.copies
   rounds ← each round_built 1 stated.rounds
   lawful (record { deck = cards; ranking = stated.ranking; bonus = stated.bonus; ante = stated.ante; rounds = rounds })
@@ -266,4 +282,4 @@ unfoldable pub read_at : List ℕ → Result FileGame Fault
 read_at bytes = do
   text ← text_at bytes
   table ← parsed_at text
-  game_at table
+  game_at File table

@@ -12,25 +12,26 @@ use Rattle.gs_model.specs.Betting.{Bet}
 use Rattle.gs_model.specs.Game.{Round, Ranking}
 use Rattle.gs_model.specs.Outcome.{categories}
 use Rattle.gs_file.specs.JsonForm.{ranking_text}
-use Rattle.gs_file.specs.Keys.{key_text, has_only, top_keys, tree_keys, limit_keys}
+use Rattle.gs_file.specs.Keys.{key_in, has_only, top_keys, tree_keys, limit_keys}
 use Rattle.gs_file.specs.Reading.{FileGame, rules_of}
 use Rattle.gs_file.specs.Tables.{list_of}
 use Rattle.gs_file.specs.TreeTexts.{IsTextOf}
 use Rattle.gs_file.specs.declared.fault.Key.{Key}
 use Rattle.gs_file.specs.declared.fault.Key.TheVariants as key
+use Rattle.gs_file.specs.declared.form.Form.TheVariants.{File}
 use Rattle.gs_file.specs.declared.version.Version.TheVariants.{One, Two}
 
 -- the key stands in the table, with a value of which this is true
 abbrev pub Has : Members → Key → (Data → Type 0) → Type 0
-Has table k P = (d : Data) × (get_member (key_text k) table ≡ Some d) × P d
+Has table k P = (d : Data) × (get_member (key_in File k) table ≡ Some d) × P d
 
 -- the key does not stand there
 abbrev pub HasNo : Members → Key → Type 0
-HasNo table k = get_member (key_text k) table ≡ None
+HasNo table k = get_member (key_in File k) table ≡ None
 
 -- no key stands there but these
 abbrev pub HasOnly : Members → List Key → Type 0
-HasOnly table keys = has_only keys table ≡ true
+HasOnly table keys = has_only File keys table ≡ true
 
 -- ---- values
 

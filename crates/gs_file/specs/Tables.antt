@@ -3,17 +3,18 @@ use Rattle.std.specs.Prelude.{ℕ, ℤ, pos, ◌+◌, ◌&&◌, List, [], ◌∷
 use Rattle.std.specs.Option.{ok_or}
 use Rattle.toml.specs.Data.{Data, Items, no_items, item, Members, get_member, as_str, as_integer, as_array, as_table}
 use Rattle.gs_file.specs.Faults.{Fault, missing_key, unknown_key, wrong_type, range, ◌>>=◌}
-use Rattle.gs_file.specs.Keys.{key_text, has_only}
+use Rattle.gs_file.specs.Keys.{key_in, has_only}
 use Rattle.gs_file.specs.declared.fault.Key.{Key}
 use Rattle.gs_file.specs.declared.fault.Place.{Place}
+use Rattle.gs_file.specs.declared.form.Form.{Form}
 
 -- the value of a key that has to be there
-abbrev pub required : Members → Place → Result Data Fault
-required table place = ok_or (get_member (key_text place.key) table) (missing_key place)
+abbrev pub required : Form → Members → Place → Result Data Fault
+required form table place = ok_or (get_member (key_in form place.key) table) (missing_key place)
 
 -- no key but these stands in the table
-abbrev pub only : List Key → ℕ → Members → Result (Unit {0}) Fault
-only keys round table = if has_only keys table then Ok tt else Err (unknown_key round)
+abbrev pub only : Form → List Key → ℕ → Members → Result (Unit {0}) Fault
+only form keys round table = if has_only form keys table then Ok tt else Err (unknown_key round)
 
 -- the value, where it has the type that is wanted
 abbrev pub whole_number : Place → Data → Result ℤ Fault

@@ -6,10 +6,11 @@ ghost use Rattle.std.specs.BTreeMap.{keys};
 ghost use Rattle.toml.specs.Data.{get_member};
 ghost use Rattle.toml.specs.View.{view, table_view, array_view};
 ghost use Rattle.gs_file.specs.Answers.{Gives};
-ghost use Rattle.gs_file.specs.Keys.{key_text, is_among, has_only, top as top_place};
+ghost use Rattle.gs_file.specs.Keys.{key_in, is_among, has_only, top as top_place};
 ghost use Rattle.gs_file.specs.Tables.{required, only, whole_number, text, text_or_empty, table_in, array_in};
 
 use crate::fault::{FileFault, Key, Place};
+use crate::form::Form;
 use toml::value::Array;
 use toml::{Table, Value};
 
@@ -20,46 +21,56 @@ pub const fn top(key: Key) -> Place
     Place { key, round: 0 }
 }
 
-/// The value of a key, where it is there.
-pub fn value_at(table: &Table, key: Key) -> Option<&Value>
-    ensures { option_map (λ v. view v.now) result ≡ get_member (key_text key) (table_view table.now) }
+/// A key as a form writes it.
+fn name(form: Form, key: Key) -> &'static str
+    ensures { result.now ≡ key_in form key }
 {
-    table.get(key.text())
+    match key {
+        Key::Round => form.rounds_key(),
+        key => key.text(),
+    }
+}
+
+/// The value of a key, where it is there.
+pub fn value_at(form: Form, table: &Table, key: Key) -> Option<&Value>
+    ensures { option_map (λ v. view v.now) result ≡ get_member (key_in form key) (table_view table.now) }
+{
+    table.get(name(form, key))
 }
 
 /// The value of a key that has to be there.
-pub fn required_at(table: &Table, place: Place) -> Result<&Value, FileFault>
-    ensures { Gives (λ v. view v.now) result (required (table_view table.now) place) }
+pub fn required_at(form: Form, table: &Table, place: Place) -> Result<&Value, FileFault>
+    ensures { Gives (λ v. view v.now) result (required form (table_view table.now) place) }
 {
-    match value_at(table, place.key) {
+    match value_at(form, table, place.key) {
         Some(value) => Ok(value),
         None => Err(FileFault::MissingKey(place)),
     }
 }
 
-fn is_known(keys: &[Key], name: &str) -> bool
-    ensures { result ≡ is_among keys.now name.now }
+fn is_known(form: Form, keys: &[Key], text: &str) -> bool
+    ensures { result ≡ is_among form keys.now text.now }
 {
-    keys.iter().any(|key| key.text() == name)
+    keys.iter().any(|key| name(form, *key) == text)
 }
 
-fn all_known(table: &Table, known: &[Key]) -> bool
-    ensures { result ≡ list_all (λ k. is_among known.now (string_bytes k)) (keys table.now) }
+fn all_known(form: Form, table: &Table, known: &[Key]) -> bool
+    ensures { result ≡ list_all (λ k. is_among form known.now (string_bytes k)) (keys table.now) }
 {
-    table.keys().all(|key| is_known(known, key.as_str()))
+    table.keys().all(|key| is_known(form, known, key.as_str()))
 }
 
-fn has_only_keys(table: &Table, known: &[Key]) -> bool
-    ensures { result ≡ has_only known.now (table_view table.now) }
+fn has_only_keys(form: Form, table: &Table, known: &[Key]) -> bool
+    ensures { result ≡ has_only form known.now (table_view table.now) }
 {
-    all_known(table, known)
+    all_known(form, table, known)
 }
 
 /// Each key of the table is one of these.
-pub fn check_only(table: &Table, known: &[Key], round: u8) -> Result<(), FileFault>
-    ensures { Gives (λ v. v) result (only known.now round (table_view table.now)) }
+pub fn check_only(form: Form, table: &Table, known: &[Key], round: u8) -> Result<(), FileFault>
+    ensures { Gives (λ v. v) result (only form known.now round (table_view table.now)) }
 {
-    if has_only_keys(table, known) {
+    if has_only_keys(form, table, known) {
         Ok(())
     } else {
         Err(FileFault::UnknownKey { round })

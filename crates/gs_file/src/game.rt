@@ -8,6 +8,7 @@ ghost use Rattle.gs_file.specs.Views.{valid_view};
 
 use crate::build::{checked, deck_of, rounds_built};
 use crate::fault::FileFault;
+use crate::form::Form;
 use crate::ranges::stated_of;
 use crate::top::{typed_of, values_of};
 use gs_game::{Game, ValidGame};
@@ -33,13 +34,14 @@ fn document_of(alloc: Global, text: &str) -> Result<Table, FileFault>
     }
 }
 
+/// The game that a table states.
 #[tactic(auto, unfolding(crate::specs::Reading::game_at))]
-fn game_of(alloc: Global, table: &Table) -> Result<ValidGame, FileFault>
-    ensures { Gives valid_view result (game_at (table_view table.now)) }
+pub fn game_of(alloc: Global, form: Form, table: &Table) -> Result<ValidGame, FileFault>
+    ensures { Gives valid_view result (game_at form (table_view table.now)) }
 {
-    let values = values_of(table)?;
+    let values = values_of(form, table)?;
     let fields = typed_of(alloc, &values)?;
-    let stated = stated_of(alloc, &fields)?;
+    let stated = stated_of(alloc, form, &fields)?;
     let deck = deck_of(alloc, fields.ranks, fields.suits, fields.copies)?;
     let rounds = rounds_built(alloc, &stated.rounds)?;
     checked(
@@ -61,5 +63,5 @@ pub fn read_game(alloc: Global, bytes: &[u8]) -> Result<ValidGame, FileFault>
 {
     let text = text_of_bytes(bytes)?;
     let table = document_of(alloc, text)?;
-    game_of(alloc, &table)
+    game_of(alloc, Form::File, &table)
 }

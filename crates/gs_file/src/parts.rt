@@ -7,7 +7,7 @@ ghost use Rattle.gs_model.specs.Outcome.{IsBonus};
 use gs_card::Ranking;
 use toml::{Table, Value};
 
-/// The values at the top of a file, each there.
+/// The values at the top.
 #[derive(Clone, Copy)]
 pub struct TopValues<'t> {
     pub ranks: &'t Value,
@@ -19,7 +19,7 @@ pub struct TopValues<'t> {
     pub rounds: &'t Value,
 }
 
-/// What stands at the top of a file, each of its type.
+/// What stands at the top, each of its type.
 #[derive(Drop)]
 pub struct TopFields<'t> {
     pub ranks: &'t str,

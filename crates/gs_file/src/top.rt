@@ -1,47 +1,49 @@
-//! The top of a game file.
+//! The top of a game's description.
 
 ghost use Rattle.std.specs.Prelude.{◌≡◌, option_map};
 ghost use Rattle.toml.specs.View.{view, table_view};
 ghost use Rattle.gs_file.specs.Answers.{Gives};
 ghost use Rattle.gs_file.specs.Keys.{top_keys};
 ghost use Rattle.gs_file.specs.Tables.{only};
-ghost use Rattle.gs_file.specs.Reading.{version_of, version_at, bonus_value, values_at, bonus_numbers, typed_at};
+ghost use Rattle.gs_file.specs.Reading.{version_of, version_at, copies_value, bonus_value, values_at, bonus_numbers, typed_at};
 ghost use Rattle.gs_file.specs.Views.{values_view, top_view};
 
 use crate::fault::{FileFault, Key};
 use crate::fields::{
     check_only, required_at, text_of, text_or_none, top, value_at, whole_number_of,
 };
+use crate::form::Form;
 use crate::lists::{tables_of, whole_numbers_of};
 use crate::parts::{TopFields, TopValues};
 use crate::version::Version;
 use std::alloc::Global;
 use toml::{Table, Value};
 
-fn version_by_number(number: i64) -> Result<Version, FileFault>
-    ensures { Gives (λ v. v) result (version_of number) }
+fn version_by_number(form: Form, number: i64) -> Result<Version, FileFault>
+    ensures { Gives (λ v. v) result (version_of form number) }
 {
-    match number {
-        1 => Ok(Version::One),
-        2 => Ok(Version::Two),
+    match (form, number) {
+        (Form::File | Form::Json(Version::One), 1) => Ok(Version::One),
+        (Form::File | Form::Json(Version::Two), 2) => Ok(Version::Two),
         _ => Err(FileFault::BadVersion(number)),
     }
 }
 
 #[tactic(auto, unfolding(crate::specs::Reading::version_at))]
-fn version(table: &Table) -> Result<Version, FileFault>
-    ensures { Gives (λ v. v) result (version_at (table_view table.now)) }
+fn version(form: Form, table: &Table) -> Result<Version, FileFault>
+    ensures { Gives (λ v. v) result (version_at form (table_view table.now)) }
 {
-    let value = required_at(table, top(Key::Version))?;
+    let value = required_at(form, table, top(Key::Version))?;
     let number = whole_number_of(value, top(Key::Version))?;
-    version_by_number(number)
+    version_by_number(form, number)
 }
 
-fn check_top_keys(table: &Table, version: Version) -> Result<(), FileFault>
-    ensures { Gives (λ v. v) result (only (top_keys version) 0 (table_view table.now)) }
+fn check_top_keys(form: Form, table: &Table, version: Version) -> Result<(), FileFault>
+    ensures { Gives (λ v. v) result (only form (top_keys version) 0 (table_view table.now)) }
 {
     match version {
         Version::One => check_only(
+            form,
             table,
             &[
                 Key::Version,
@@ -55,6 +57,7 @@ fn check_top_keys(table: &Table, version: Version) -> Result<(), FileFault>
             0,
         ),
         Version::Two => check_only(
+            form,
             table,
             &[
                 Key::Version,
@@ -71,36 +74,50 @@ fn check_top_keys(table: &Table, version: Version) -> Result<(), FileFault>
     }
 }
 
-/// The value of `bonus`, which version 2 has and version 1 has not.
-fn bonus_of(table: &Table, version: Version) -> Result<Option<&Value>, FileFault>
-    ensures { Gives (option_map (λ v. view v.now)) result (bonus_value version (table_view table.now)) }
+/// The value of `copies`, which a game file may leave out.
+fn copies_of(form: Form, table: &Table) -> Result<Option<&Value>, FileFault>
+    ensures { Gives (option_map (λ v. view v.now)) result (copies_value form (table_view table.now)) }
 {
-    match version {
-        Version::One => Ok(None),
-        Version::Two => {
-            let value = required_at(table, top(Key::Bonus))?;
+    match form {
+        Form::File => Ok(value_at(form, table, Key::Copies)),
+        Form::Json(_) => {
+            let value = required_at(form, table, top(Key::Copies))?;
             Ok(Some(value))
         }
     }
 }
 
-/// The values at the top, each there.
-#[tactic(auto, unfolding(crate::specs::Reading::values_at))]
-pub fn values_of(table: &Table) -> Result<TopValues<'_>, FileFault>
-    ensures { Gives values_view result (values_at (table_view table.now)) }
+/// The value of `bonus`, which version 2 has and version 1 has not.
+fn bonus_of(form: Form, table: &Table, version: Version) -> Result<Option<&Value>, FileFault>
+    ensures { Gives (option_map (λ v. view v.now)) result (bonus_value form version (table_view table.now)) }
 {
-    let version = version(table)?;
-    check_top_keys(table, version)?;
-    let ranks = required_at(table, top(Key::Ranks))?;
-    let suits = required_at(table, top(Key::Suits))?;
-    let ranking = required_at(table, top(Key::Ranking))?;
-    let bonus = bonus_of(table, version)?;
-    let ante = required_at(table, top(Key::Ante))?;
-    let rounds = required_at(table, top(Key::Round))?;
+    match version {
+        Version::One => Ok(None),
+        Version::Two => {
+            let value = required_at(form, table, top(Key::Bonus))?;
+            Ok(Some(value))
+        }
+    }
+}
+
+/// The values at the top.
+#[tactic(auto, unfolding(crate::specs::Reading::values_at))]
+pub fn values_of(form: Form, table: &Table) -> Result<TopValues<'_>, FileFault>
+    ensures { Gives values_view result (values_at form (table_view table.now)) }
+{
+    let version = version(form, table)?;
+    check_top_keys(form, table, version)?;
+    let ranks = required_at(form, table, top(Key::Ranks))?;
+    let suits = required_at(form, table, top(Key::Suits))?;
+    let copies = copies_of(form, table)?;
+    let ranking = required_at(form, table, top(Key::Ranking))?;
+    let bonus = bonus_of(form, table, version)?;
+    let ante = required_at(form, table, top(Key::Ante))?;
+    let rounds = required_at(form, table, top(Key::Round))?;
     Ok(TopValues {
         ranks,
         suits,
-        copies: value_at(table, Key::Copies),
+        copies,
         ranking,
         bonus,
         ante,
