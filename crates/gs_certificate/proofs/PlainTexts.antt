@@ -1,0 +1,204 @@
+-- The text of a certificate, part by part: plain texts stand as they are between their quotes.
+use Rattle.std.proofs.Common.{◌≡◌, ℕ, zero, suc, ◌<◌, ◌≤◌, ◌^◌, ◌&&◌, ◌==◌, Bool, true, false, List, [], ◌∷◌, ◌++◌, map, length, get_or, All, IsTrue, ℤ, pos, negsuc, decimal, Some, inl, inr, refl, sym, ap, ap₂, ◌∙◌, subst, append_assoc, arith}
+use Rattle.std.specs.Prelude.{codes, nat_lt, unsigned_abs}
+use Rattle.std.specs.Fmt.{signed_decimal}
+use Rattle.std.specs.Str.Parse.{digits_value}
+use Rattle.std.proofs.lemmas.Bool.{and_parts, cases_Bool, eqb-true, ltb-true, false≢true}
+use Rattle.std.proofs.lemmas.Int.{fits_signed_from_abs, to_z-of_z}
+use mir.Syntax.{w128}
+use mir.Val.{of_z, to_z}
+use Rattle.json.specs.Print.{escape, escape_byte, quoted}
+use Rattle.json.proofs.Printed.Strings.{escape_byte_plain}
+use Rattle.std.proofs.lemmas.Fmt.{decimal_digit}
+use Rattle.std.proofs.lemmas.List.Elements.{All-head, All-tail}
+use Rattle.serde_json.specs.Written.{comma_if, compact_text, items_text}
+use Rattle.serde_json.specs.View.{items_of}
+use Rattle.gs_frac.specs.Gcd.{gcd_of}
+use Rattle.gs_frac.specs.Texts.{fraction_text, is_fraction, limit, number_of, signed}
+use Rattle.gs_frac.proofs.Numerals.{decimal_of_value, digit_in, digits_of_decimal}
+use Rattle.gs_certificate.specs.Reading.{number_at}
+use Rattle.gs_certificate.specs.Straight.{StandsFor, opened}
+use Rattle.gs_certificate.specs.Texts.{Side, Stated, certificate_data, certificate_text, number_data, side_data}
+use Rattle.gs_certificate.proofs.Small.{by_parts}
+
+-- ---- plain bytes: digits, the minus sign, the bar
+
+abbrev Plain : List ℕ → Type 0
+Plain [] = Unit {0}
+Plain (x ∷ xs) = (45 ≤ x) × (x ≤ 57) × Plain xs
+
+escaped : (xs : List ℕ) → Plain xs → escape xs ≡ xs
+escaped [] h = refl
+escaped (x ∷ xs) h =
+    let one : escape_byte x ≡ x ∷ [] = escape_byte_plain x (λ e. omega (arith, h.0, h.1, e)) (λ e. omega (arith, h.0, h.1, e)) (omega (arith, h.0)) in
+    let rest : escape xs ≡ xs = escaped xs h.2 in
+    rw (one, rest) refl
+
+joined : (xs ys : List ℕ) → Plain xs → Plain ys → Plain (xs ++ ys)
+joined [] ys h k = k
+joined (x ∷ xs) ys h k = (h.0, h.1, joined xs ys h.2 k)
+
+from_digits : (xs : List ℕ) → ((i : ℕ) → i < length xs → (48 ≤ get_or xs i 0) × (get_or xs i 0 ≤ 57)) → Plain xs
+from_digits [] h = tt
+from_digits (x ∷ xs) h =
+    let first = h 0 (omega arith) in
+    (omega (arith, first.0), first.1, from_digits xs (λ i l. h (suc i) (omega arith)))
+
+decimal_plain : (n : ℕ) → n < 2 ^ 128 → Plain (decimal n)
+decimal_plain n few = from_digits (decimal n) (λ i l. digit_in (decimal n) i (digits_of_decimal n (omega arith)) l)
+
+signed_plain : (z : ℤ) → unsigned_abs z < 2 ^ 127 → Plain (signed_decimal z)
+signed_plain (pos n) h = decimal_plain n (omega arith)
+signed_plain (negsuc n) h = (omega arith, omega arith, decimal_plain (suc n) (omega arith))
+
+fraction_plain : (num den : ℤ) → IsTrue (is_fraction num den) → Plain (fraction_text num den)
+unfolding limit
+fraction_plain num (pos d) h =
+    let a = and_parts (nat_lt 0 d && nat_lt d limit) (nat_lt (unsigned_abs num) limit && gcd_of (unsigned_abs num) d == 1) h in
+    let b = and_parts (nat_lt 0 d) (nat_lt d limit) a.0 in
+    let c = and_parts (nat_lt (unsigned_abs num) limit) (gcd_of (unsigned_abs num) d == 1) a.1 in
+    let low = ltb-true d limit b.1 in
+    joined (signed_decimal num) (47 ∷ decimal d) (signed_plain num (ltb-true (unsigned_abs num) limit c.0)) (omega arith, omega arith, decimal_plain d (omega arith))
+fraction_plain num (negsuc d) h = absurd (false≢true h)
+
+-- ---- one number
+
+abbrev with_sign : Bool → List ℕ → List ℕ
+with_sign true ds = 45 ∷ ds
+with_sign false ds = ds
+
+signed_text : (negative : Bool) (n : ℕ) → (negative && n == 0) ≡ false → signed_decimal (number_of negative n) ≡ with_sign negative (decimal n)
+signed_text false n h = refl
+signed_text true zero h = absurd (false≢true (sym h))
+signed_text true (suc n) h = refl
+
+signed_is : (bytes : List ℕ) → bytes ≡ with_sign (signed bytes).0 (signed bytes).1
+signed_is [] = refl
+signed_is (b ∷ bytes) = elim (cases_Bool (b == 45)) [ inl e ↦ rw (e, eqb-true b 45 e) refl | inr e ↦ rw e refl ]
+
+-- what is read as a number is the number's text, and the number is small
+pub number_is : (text : List ℕ) (z : ℤ) → number_at text ≡ Some z → (text ≡ signed_decimal z) × (unsigned_abs z < 2 ^ 90)
+number_is text z h =
+    let s = signed text in
+    let n = digits_value 10 s.1 in
+    let p = by_parts s z h in
+    let digits : decimal n ≡ s.1 = decimal_of_value s.1 p.numeral (omega (arith, p.few)) in
+    let same : signed_decimal z ≡ with_sign s.0 s.1 = ap signed_decimal p.is ∙ signed_text s.0 n p.no_minus_zero ∙ ap (with_sign s.0) digits in
+    (signed_is text ∙ sym same, p.small)
+
+-- the number that is handed on is the number that was read
+pub kept : (z : ℤ) → unsigned_abs z < 2 ^ 90 → z ≡ to_z w128 (of_z w128 z)
+kept z h = sym (to_z-of_z w128 z (fits_signed_from_abs w128 z (omega (arith, h))))
+
+-- ---- the numbers of an array
+
+abbrev Small : ℤ → Type 0
+Small z = unsigned_abs z < 2 ^ 90
+
+quoted_number : (z : ℤ) → Small z → quoted (signed_decimal z) ≡ 34 ∷ (signed_decimal z ++ 34 ∷ [])
+quoted_number z h = ap (λ (xs : List ℕ). 34 ∷ (xs ++ 34 ∷ [])) (escaped (signed_decimal z) (signed_plain z (omega (arith, h))))
+
+array_text : (later : Bool) (front : List ℤ) (last : ℤ) → All Small (front ++ last ∷ [])
+    → items_text later (items_of (map number_data (front ++ last ∷ []))) ≡ comma_if later ++ (34 ∷ (opened front ++ (signed_decimal last ++ (34 ∷ 93 ∷ []))))
+array_text later [] last h =
+    let d = signed_decimal last in
+    let one : quoted d ≡ 34 ∷ (d ++ 34 ∷ []) = quoted_number last (All-head Small last [] h) in
+    ap (λ (q : List ℕ). comma_if later ++ (q ++ 93 ∷ [])) one ∙ ap (λ (q : List ℕ). comma_if later ++ (34 ∷ q)) (append_assoc d (34 ∷ []) (93 ∷ []))
+array_text later (z ∷ zs) last h =
+    let d = signed_decimal z in
+    let tail : List ℕ = signed_decimal last ++ (34 ∷ 93 ∷ []) in
+    let one : quoted d ≡ 34 ∷ (d ++ 34 ∷ []) = quoted_number z (All-head Small z (zs ++ last ∷ []) h) in
+    let rest = array_text true zs last (All-tail Small z (zs ++ last ∷ []) h) in
+    ap (λ (q : List ℕ). comma_if later ++ (q ++ items_text true (items_of (map number_data (zs ++ last ∷ []))))) one
+    ∙ ap (λ (q : List ℕ). comma_if later ++ ((34 ∷ (d ++ 34 ∷ [])) ++ q)) rest
+    ∙ ap (λ (q : List ℕ). comma_if later ++ (34 ∷ q)) (append_assoc d (34 ∷ []) (44 ∷ 34 ∷ (opened zs ++ tail)) ∙ sym (append_assoc d (34 ∷ 44 ∷ 34 ∷ opened zs) tail))
+
+opened_more : (zs : List ℤ) (z : ℤ) → opened (zs ++ z ∷ []) ≡ opened zs ++ (signed_decimal z ++ (34 ∷ 44 ∷ 34 ∷ []))
+opened_more [] z = refl
+opened_more (x ∷ zs) z =
+    let d = signed_decimal x in
+    ap (λ (q : List ℕ). d ++ (34 ∷ 44 ∷ 34 ∷ q)) (opened_more zs z) ∙ sym (append_assoc d (34 ∷ 44 ∷ 34 ∷ opened zs) (signed_decimal z ++ (34 ∷ 44 ∷ 34 ∷ [])))
+
+-- one number more, behind which another stands
+pub goes_on : (bytes left rest next : List ℕ) (zs : List ℤ) (z : ℤ) → bytes ≡ opened zs ++ left → left ≡ signed_decimal z ++ rest → rest ≡ 34 ∷ 44 ∷ 34 ∷ next → bytes ≡ opened (zs ++ z ∷ []) ++ next
+goes_on bytes left rest next zs z e f g =
+    let d = signed_decimal z in
+    e
+    ∙ ap (λ (q : List ℕ). opened zs ++ q) (f ∙ ap (λ (q : List ℕ). d ++ q) g ∙ sym (append_assoc d (34 ∷ 44 ∷ 34 ∷ []) next))
+    ∙ sym (append_assoc (opened zs) (d ++ (34 ∷ 44 ∷ 34 ∷ [])) next)
+    ∙ ap (λ (q : List ℕ). q ++ next) (sym (opened_more zs z))
+
+-- the last number
+pub ends : (bytes left rest next : List ℕ) (zs all : List ℤ) (z : ℤ) → bytes ≡ opened zs ++ left → left ≡ signed_decimal z ++ rest → rest ≡ 34 ∷ 93 ∷ next → all ≡ zs ++ z ∷ [] → StandsFor bytes all next
+ends bytes left rest next zs all z e f g are = record {
+  front = zs;
+  last = z;
+  numbers = are;
+  text = e ∙ ap (λ (q : List ℕ). opened zs ++ q) (f ∙ ap (λ (q : List ℕ). signed_decimal z ++ q) g);
+}
+
+-- ---- a player's part
+
+abbrev from_bound : List ℕ → List ℕ
+from_bound rest = codes "{\"bound\":\"" ++ rest
+
+abbrev from_values : List ℕ → List ℕ
+from_values rest = codes "\",\"values\":[\"" ++ rest
+
+regrouped : (f n rest : List ℕ) → from_bound (f ++ from_values (n ++ (125 ∷ rest))) ≡ from_bound ((f ++ 34 ∷ []) ++ (codes ",\"values\":[\"" ++ (n ++ 125 ∷ []))) ++ rest
+regrouped f n rest = simp append_assoc
+
+regrouped_array : (a b rest : List ℕ) → a ++ (b ++ (34 ∷ 93 ∷ rest)) ≡ (a ++ (b ++ (34 ∷ 93 ∷ []))) ++ rest
+regrouped_array a b rest = simp append_assoc
+
+side_is : (s : Side) (front : List ℤ) (last : ℤ) → IsTrue (is_fraction s.bound.0 s.bound.1) → s.values ≡ front ++ last ∷ [] → All Small s.values
+    → compact_text (side_data s) ≡ from_bound ((fraction_text s.bound.0 s.bound.1 ++ 34 ∷ []) ++ (codes ",\"values\":[\"" ++ ((opened front ++ (signed_decimal last ++ (34 ∷ 93 ∷ []))) ++ 125 ∷ [])))
+unfolding escape_byte
+side_is s front last reduced are small =
+    let text : List ℕ = fraction_text s.bound.0 s.bound.1 in
+    let plain : escape text ≡ text = escaped text (fraction_plain s.bound.0 s.bound.1 reduced) in
+    let items : items_text false (items_of (map number_data s.values)) ≡ 34 ∷ (opened front ++ (signed_decimal last ++ (34 ∷ 93 ∷ []))) =
+    ap (λ (zs : List ℤ). items_text false (items_of (map number_data zs))) are ∙ array_text false front last (subst (All Small) are small) in
+    ap₂ (λ (t i : List ℕ). from_bound ((t ++ 34 ∷ []) ++ (codes ",\"values\":[" ++ (i ++ 125 ∷ [])))) plain items
+
+-- the bytes are a player's part and what stands behind it
+pub side_stands : (s : Side) (bytes r1 r2 r3 r4 rest : List ℕ) → IsTrue (is_fraction s.bound.0 s.bound.1) → All Small s.values → bytes ≡ from_bound r1 → r1 ≡ fraction_text s.bound.0 s.bound.1 ++ r2 → r2 ≡ from_values r3
+    → StandsFor r3 s.values r4 → r4 ≡ 125 ∷ rest → bytes ≡ compact_text (side_data s) ++ rest
+side_stands s bytes r1 r2 r3 r4 rest reduced small e1 e2 e3 h e4 =
+    let f : List ℕ = fraction_text s.bound.0 s.bound.1 in
+    let a : List ℕ = opened h.front in
+    let b : List ℕ = signed_decimal h.last in
+    let n : List ℕ = a ++ (b ++ (34 ∷ 93 ∷ [])) in
+    let numbers : r3 ≡ n ++ (125 ∷ rest) = h.text ∙ regrouped_array a b r4 ∙ ap (λ (q : List ℕ). n ++ q) e4 in
+    e1
+    ∙ ap from_bound (e2 ∙ ap (λ (q : List ℕ). f ++ q) (e3 ∙ ap from_values numbers))
+    ∙ regrouped f n rest
+    ∙ ap (λ (q : List ℕ). q ++ rest) (sym (side_is s h.front h.last reduced h.numbers small))
+
+-- ---- the whole
+
+abbrev from_first : List ℕ → List ℕ
+from_first rest = codes "{\"player1\":" ++ rest
+
+abbrev from_second : List ℕ → List ℕ
+from_second rest = codes ",\"player2\":" ++ rest
+
+regrouped_whole : (c d : List ℕ) → from_first (c ++ from_second (d ++ codes ",\"version\":1}\n")) ≡ from_first (c ++ from_second (d ++ codes ",\"version\":1}")) ++ 10 ∷ []
+regrouped_whole c d = simp append_assoc
+
+whole_is : (s : Stated) → compact_text (certificate_data s) ≡ from_first (compact_text (side_data s.one) ++ from_second (compact_text (side_data s.two) ++ codes ",\"version\":1}"))
+unfolding escape_byte
+whole_is s =
+    let one : decimal 1 ≡ 49 ∷ [] = decimal_digit 1 (omega arith) in
+    ap (λ (n : List ℕ). from_first (compact_text (side_data s.one) ++ from_second (compact_text (side_data s.two) ++ (codes ",\"version\":" ++ (n ++ 125 ∷ []))))) one
+
+-- the bytes are a certificate's text
+pub stands : (s : Stated) (bytes r1 r2 r3 r4 r5 : List ℕ) → bytes ≡ from_first r1 → r1 ≡ compact_text (side_data s.one) ++ r2 → r2 ≡ from_second r3 → r3 ≡ compact_text (side_data s.two) ++ r4
+    → r4 ≡ codes ",\"version\":1}\n" ++ r5 → r5 ≡ [] → bytes ≡ certificate_text s
+stands s bytes r1 r2 r3 r4 r5 e1 e2 e3 e4 e5 e6 =
+    let c : List ℕ = compact_text (side_data s.one) in
+    let d : List ℕ = compact_text (side_data s.two) in
+    e1
+    ∙ ap from_first (e2 ∙ ap (λ (q : List ℕ). c ++ q) (e3 ∙ ap from_second (e4 ∙ ap (λ (q : List ℕ). d ++ q) (e5 ∙ ap (λ (q : List ℕ). codes ",\"version\":1}\n" ++ q) e6))))
+    ∙ regrouped_whole c d
+    ∙ ap (λ (q : List ℕ). q ++ 10 ∷ []) (sym (whole_is s))

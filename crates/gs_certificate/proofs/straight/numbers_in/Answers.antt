@@ -1,0 +1,18 @@
+use Rattle.std.proofs.Common.{◌≡◌, ◌∷◌, [], ◌++◌, ◌<◌, ◌^◌, All, List, ℕ, sym, ap, subst, ◌∙◌}
+use Rattle.std.specs.Prelude.{ℤ, unsigned_abs}
+use Rattle.std.proofs.lemmas.List.Elements.{All-push}
+use Rattle.gs_certificate.specs.Straight.{opened}
+use Rattle.gs_certificate.proofs.PlainTexts.{goes_on, kept}
+use Rattle.gs_certificate.proofs.straight.numbers_in.Goals as goal
+
+pub loop-preserved : goal.loop-preserved
+loop-preserved c =
+    let zs : List ℤ = c.loop.numbers.items in
+    let z : ℤ = c.in_ok-number.number in
+    let next : List ℕ = c.in-Ok.next.now in
+    let small : unsigned_abs z < 2 ^ 90 = c.in_ok-number.ensures.small in
+    let one_more : zs ++ z ∷ [] ≡ c.push.new.self.items = ap (λ (x : ℤ). zs ++ x ∷ []) (kept z small) ∙ sym c.in_ok-push.ensures.items in
+    record {
+      text = subst (λ (all : List ℤ). c.args.bytes.now ≡ opened all ++ next) one_more (goes_on c.args.bytes.now c.loop.left.now c.in_ok-number.rest.now next zs z c.loop.invariant.text c.in_ok-number.ensures.text c.in-Ok.ensures);
+      small = subst (All (λ (x : ℤ). unsigned_abs x < 2 ^ 90)) one_more (All-push (λ (x : ℤ). unsigned_abs x < 2 ^ 90) zs z c.loop.invariant.small small);
+    }

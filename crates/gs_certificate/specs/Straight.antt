@@ -1,0 +1,15 @@
+-- The parts of a certificate's text, as they are read straight. Of private functions.
+use Rattle.std.specs.Prelude.{ℤ, ◌≡◌, List, [], ◌∷◌, ◌++◌, codes, ℕ}
+use Rattle.std.specs.Fmt.{signed_decimal}
+
+-- numbers, each with what stands between it and the next
+abbrev pub opened : List ℤ → List ℕ
+opened [] = []
+opened (z ∷ zs) = signed_decimal z ++ (codes "\",\"" ++ opened zs)
+
+-- the text of numbers behind the first quote of their array, with the array's end, and what stands behind
+pub record StandsFor (bytes : List ℕ) (zs : List ℤ) (rest : List ℕ) : Type 0 where
+  pub front : List ℤ
+  pub last : ℤ
+  pub numbers : zs ≡ front ++ last ∷ []
+  pub text : bytes ≡ opened front ++ (signed_decimal last ++ (codes "\"]" ++ rest))

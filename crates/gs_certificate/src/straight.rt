@@ -1,0 +1,150 @@
+//! The one text of a certificate, read straight: no tree of values is made of it, and no second text to compare it with.
+//!
+//! What is found is right. Bytes that are no certificate's text are left to the checks in their order, and so is the text of no numbers.
+
+ghost use Rattle.std.specs.Prelude.{◌≡◌, ◌++◌, ◌<◌, ◌^◌, All, IfOk, IfSome, unsigned_abs};
+ghost use Rattle.std.specs.Fmt.{signed_decimal};
+ghost use Rattle.gs_frac.specs.Texts.{fraction_text};
+ghost use Rattle.serde_json.specs.Written.{compact_text};
+ghost use Rattle.gs_certificate.specs.Checks.{AreSmall};
+ghost use Rattle.gs_certificate.specs.Straight.{StandsFor};
+ghost use Rattle.gs_certificate.specs.Texts.{certificate_text as text_of, side_data};
+ghost use Rattle.gs_certificate.specs.Views.{certificate_view, fraction_parts};
+
+use crate::certificate::Certificate;
+use crate::numerals::number_of;
+use gs_frac::Fraction;
+use std::alloc::{AllocError, AllocFailed, Global};
+
+/// Why a certificate was not read straight.
+#[derive(Clone, Copy)]
+pub(crate) enum Stop {
+    /// The bytes are not the text of bounds and numbers.
+    Other,
+    /// Want of memory.
+    Memory,
+}
+
+impl From<AllocError> for Stop {
+    fn from(_: AllocError) -> Stop {
+        Stop::Memory
+    }
+}
+
+impl<T: Drop> From<AllocFailed<T>> for Stop {
+    fn from(_: AllocFailed<T>) -> Stop {
+        Stop::Memory
+    }
+}
+
+/// A player's part, and what stands behind it.
+#[derive(Drop)]
+struct Side<'b> {
+    bound: Fraction,
+    values: Vec<i128>,
+    rest: &'b [u8],
+}
+
+/// What stands behind a front that the bytes begin with.
+fn behind<'b>(bytes: &'b [u8], front: &[u8]) -> Result<&'b [u8], Stop>
+    ensures { IfOk result (λ rest. bytes.now ≡ front.now ++ rest.now) }
+{
+    match bytes.strip_prefix(front) {
+        Some(rest) => Ok(rest),
+        None => Err(Stop::Other),
+    }
+}
+
+/// The bytes before the first quote, and those from it on.
+fn to_quote(bytes: &[u8]) -> Result<(&[u8], &[u8]), Stop>
+    ensures { IfOk result (λ p. bytes.now ≡ p.0.now ++ p.1.now) }
+{
+    for (i, b) in bytes.iter().enumerate() {
+        if *b == b'"' {
+            return Ok((&bytes[..i], &bytes[i..]));
+        }
+    }
+    Err(Stop::Other)
+}
+
+/// The number before the first quote, and what stands from the quote on.
+fn number_in(bytes: &[u8]) -> Result<(i128, &[u8]), Stop>
+    ensures text { IfOk result (λ p. bytes.now ≡ signed_decimal p.0 ++ p.1.now) }
+    ensures small { IfOk result (λ p. unsigned_abs p.0 < 2 ^ 90) }
+{
+    let (text, rest) = to_quote(bytes)?;
+    match number_of(text) {
+        Some(number) => Ok((number, rest)),
+        None => Err(Stop::Other),
+    }
+}
+
+/// The numbers of an array behind its first quote, and what stands behind the array.
+fn numbers_in<'b>(alloc: Global, bytes: &'b [u8]) -> Result<(Vec<i128>, &'b [u8]), Stop>
+    ensures text { IfOk result (λ p. StandsFor bytes.now p.0.items p.1.now) }
+    ensures small { IfOk result (λ p. All (λ z. unsigned_abs z < 2 ^ 90) p.0.items) }
+{
+    let mut numbers = Vec::new(alloc);
+    let mut left = bytes;
+    for _ in 0..bytes.len() {
+        let (number, rest) = number_in(left)?;
+        numbers.push(number)?;
+        match behind(rest, b"\",\"") {
+            Ok(next) => left = next,
+            Err(_) => return Ok((numbers, behind(rest, b"\"]")?)),
+        }
+    }
+    Err(Stop::Other)
+}
+
+/// The bound before the first quote, and what stands from the quote on.
+fn bound_in(bytes: &[u8]) -> Result<(Fraction, &[u8]), Stop>
+    ensures { IfOk result (λ p. bytes.now ≡ fraction_text p.0.num p.0.den ++ p.1.now) }
+{
+    let (text, rest) = to_quote(bytes)?;
+    match std::str::from_utf8(text) {
+        Ok(text) => match Fraction::parse(text) {
+            Ok(bound) => Ok((bound, rest)),
+            Err(_) => Err(Stop::Other),
+        },
+        Err(_) => Err(Stop::Other),
+    }
+}
+
+/// A player's part.
+fn side_in<'b>(alloc: Global, bytes: &'b [u8]) -> Result<Side<'b>, Stop>
+    ensures text { IfOk result (λ s. bytes.now ≡ compact_text (side_data (record { bound = fraction_parts s.bound; values = s.values.items })) ++ s.rest.now) }
+    ensures small { IfOk result (λ s. All (λ z. unsigned_abs z < 2 ^ 90) s.values.items) }
+{
+    let rest = behind(bytes, b"{\"bound\":\"")?;
+    let (bound, rest) = bound_in(rest)?;
+    let rest = behind(rest, b"\",\"values\":[\"")?;
+    let (values, rest) = numbers_in(alloc, rest)?;
+    let rest = behind(rest, b"}")?;
+    Ok(Side {
+        bound,
+        values,
+        rest,
+    })
+}
+
+/// The certificate whose text the bytes are.
+pub(crate) fn straight(alloc: Global, bytes: &[u8]) -> Result<Certificate, Stop>
+    ensures text { IfOk result (λ c. bytes.now ≡ text_of (certificate_view c)) }
+    ensures small { IfOk result AreSmall }
+{
+    let rest = behind(bytes, b"{\"player1\":")?;
+    let one = side_in(alloc, rest)?;
+    let rest = behind(one.rest, b",\"player2\":")?;
+    let two = side_in(alloc, rest)?;
+    let rest = behind(two.rest, b",\"version\":1}\n")?;
+    if !rest.is_empty() {
+        return Err(Stop::Other);
+    }
+    Ok(Certificate {
+        bound1: one.bound,
+        values1: one.values,
+        bound2: two.bound,
+        values2: two.values,
+    })
+}
