@@ -1,23 +1,27 @@
 -- The text of a certificate, part by part: plain texts stand as they are between their quotes.
-use Rattle.std.proofs.Common.{◌≡◌, ℕ, zero, suc, ◌<◌, ◌≤◌, ◌^◌, ◌&&◌, ◌==◌, Bool, true, false, List, [], ◌∷◌, ◌++◌, map, length, get_or, All, IsTrue, ℤ, pos, negsuc, decimal, Some, inl, inr, refl, sym, ap, ap₂, ◌∙◌, subst, append_assoc, arith}
+use Rattle.std.proofs.Common.{◌≡◌, ◌≢◌, ℕ, zero, suc, ◌+◌, ◌-◌, ◌*◌, ◌<◌, ◌≤◌, ◌^◌, ◌&&◌, ◌==◌, Bool, true, false, List, [], ◌∷◌, ◌++◌, map, length, get_or, take, drop, All, IsTrue, ℤ, pos, negsuc, decimal, Some, inl, inr, refl, sym, ap, ap₂, ◌∙◌, subst, append_assoc, arith}
 use Rattle.std.specs.Prelude.{codes, nat_lt, unsigned_abs}
 use Rattle.std.specs.Fmt.{signed_decimal}
+use Rattle.std.specs.Char.{digit_value, is_ascii_digit}
+use Rattle.std.specs.Str.{all_ascii_digits}
 use Rattle.std.specs.Str.Parse.{digits_value}
-use Rattle.std.proofs.lemmas.Bool.{and_parts, cases_Bool, eqb-true, ltb-true, false≢true}
+use Rattle.std.proofs.lemmas.Bool.{and_parts, cases_Bool, le-leb, ne_eqb, le-ltb, lt-ltb, eqb-true, ltb-true, false≢true}
 use Rattle.std.proofs.lemmas.Int.{fits_signed_from_abs, to_z-of_z}
 use mir.Syntax.{w128}
 use mir.Val.{of_z, to_z}
 use Rattle.json.specs.Print.{escape, escape_byte, quoted}
 use Rattle.json.proofs.Printed.Strings.{escape_byte_plain}
 use Rattle.std.proofs.lemmas.Fmt.{decimal_digit}
+use Rattle.std.proofs.lemmas.Int.Digits.{digits_value_more}
+use Rattle.std.proofs.lemmas.List.{get_or-take, length-take-le, take-append-drop, take_more}
 use Rattle.std.proofs.lemmas.List.Elements.{All-head, All-tail}
 use Rattle.serde_json.specs.Written.{comma_if, compact_text, items_text}
 use Rattle.serde_json.specs.View.{items_of}
 use Rattle.gs_frac.specs.Gcd.{gcd_of}
-use Rattle.gs_frac.specs.Texts.{fraction_text, is_fraction, limit, number_of, signed}
+use Rattle.gs_frac.specs.Texts.{fraction_text, is_fraction, is_numeral, limit, number_of, signed}
 use Rattle.gs_frac.proofs.Numerals.{decimal_of_value, digit_in, digits_of_decimal}
 use Rattle.gs_certificate.specs.Reading.{number_at}
-use Rattle.gs_certificate.specs.Straight.{StandsFor, opened}
+use Rattle.gs_certificate.specs.Straight.{AreDigits, StandsFor, opened}
 use Rattle.gs_certificate.specs.Texts.{Side, Stated, certificate_data, certificate_text, number_data, side_data}
 use Rattle.gs_certificate.proofs.Small.{by_parts}
 
@@ -85,6 +89,45 @@ number_is text z h =
     let digits : decimal n ≡ s.1 = decimal_of_value s.1 p.numeral (omega (arith, p.few)) in
     let same : signed_decimal z ≡ with_sign s.0 s.1 = ap signed_decimal p.is ∙ signed_text s.0 n p.no_minus_zero ∙ ap (with_sign s.0) digits in
     (signed_is text ∙ sym same, p.small)
+
+-- digits without leading zeros
+numeral_is : (ds : List ℕ) → all_ascii_digits ds ≡ true → 0 < length ds → (1 < length ds → get_or ds 0 0 ≢ 48) → is_numeral ds ≡ true
+numeral_is [] all some first = absurd (omega arith)
+numeral_is (d ∷ []) all some first = elim (cases_Bool (d == 48)) [ inl e ↦ rw e refl | inr e ↦ rw e all ]
+numeral_is (d ∷ e ∷ ds) all some first = rw (ne_eqb d 48 (first (omega arith))) all
+
+-- one digit more
+digit_is : (c : ℕ) → 48 ≤ c → c ≤ 57 → digit_value c ≡ c - 48
+digit_is c low high = rw (le-ltb c 48 low, lt-ltb c 58 (omega arith)) refl
+
+all_pushed : (ds : List ℕ) (c : ℕ) → all_ascii_digits ds ≡ true → is_ascii_digit c ≡ true → all_ascii_digits (ds ++ c ∷ []) ≡ true
+all_pushed [] c h k = rw k refl
+all_pushed (d ∷ ds) c h k = let p = and_parts (is_ascii_digit d) (all_ascii_digits ds) h in rw p.0 (all_pushed ds c p.1 k)
+
+pub all_more : (bs : List ℕ) (i : ℕ) → i < length bs → all_ascii_digits (take i bs) ≡ true → 48 ≤ get_or bs i 0 → get_or bs i 0 ≤ 57 → all_ascii_digits (take (i + 1) bs) ≡ true
+all_more bs i lt all low high =
+    let digit : is_ascii_digit (get_or bs i 0) ≡ true = rw (le-leb 48 (get_or bs i 0) low, le-leb (get_or bs i 0) 57 high) refl in
+    ap all_ascii_digits (take_more bs i 0 lt) ∙ all_pushed (take i bs) (get_or bs i 0) all digit
+
+pub value_more : (bs : List ℕ) (i size : ℕ) → i < length bs → size ≡ digits_value 10 (take i bs) → 48 ≤ get_or bs i 0 → get_or bs i 0 ≤ 57 → size * 10 + (get_or bs i 0 - 48) ≡ digits_value 10 (take (i + 1) bs)
+value_more bs i size lt is low high = let d = digit_is (get_or bs i 0) low high in let m = digits_value_more 10 bs i lt in omega (arith, d, m, is)
+
+-- a sign and few digits are the text of their number
+pub narrow_is : (bytes digits : List ℕ) (negative : Bool) (size count : ℕ) → (negative, digits) ≡ signed bytes → AreDigits digits size count → 0 < count → (1 < count → get_or digits 0 0 ≢ 48)
+    → (negative && size == 0) ≡ false → bytes ≡ signed_decimal (number_of negative size) ++ drop count digits
+narrow_is bytes digits negative size count parts h some first no_minus_zero =
+    let ds : List ℕ = take count digits in
+    let long : length ds ≡ count = length-take-le count digits h.within in
+    let front : get_or ds 0 0 ≡ get_or digits 0 0 = get_or-take count digits 0 0 some in
+    let numeral : is_numeral ds ≡ true = numeral_is ds h.digits (omega (arith, long, some)) (λ more. subst (λ (x : ℕ). x ≢ 48) (sym front) (first (omega (arith, long, more)))) in
+    let text : decimal size ≡ ds = ap decimal h.value ∙ decimal_of_value ds numeral (omega (arith, h.value, h.few)) in
+    let shown : signed_decimal (number_of negative size) ≡ with_sign negative ds = signed_text negative size no_minus_zero ∙ ap (with_sign negative) text in
+    let split : with_sign negative digits ≡ with_sign negative ds ++ drop count digits = ap (with_sign negative) (sym (take-append-drop count digits)) ∙ before negative ds (drop count digits) in
+    signed_is bytes ∙ ap (λ (p : Bool × List ℕ). with_sign p.0 p.1) (sym parts) ∙ split ∙ ap (λ (q : List ℕ). q ++ drop count digits) (sym shown)
+  where
+    before : (negative : Bool) (xs ys : List ℕ) → with_sign negative (xs ++ ys) ≡ with_sign negative xs ++ ys
+    before true xs ys = refl
+    before false xs ys = refl
 
 -- the number that is handed on is the number that was read
 pub kept : (z : ℤ) → unsigned_abs z < 2 ^ 90 → z ≡ to_z w128 (of_z w128 z)

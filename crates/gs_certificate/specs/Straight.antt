@@ -1,6 +1,8 @@
 -- The parts of a certificate's text, as they are read straight. Of private functions.
-use Rattle.std.specs.Prelude.{ℤ, ◌≡◌, List, [], ◌∷◌, ◌++◌, codes, ℕ}
+use Rattle.std.specs.Prelude.{ℕ, ℤ, ◌≡◌, ◌<◌, ◌≤◌, ◌^◌, true, List, [], ◌∷◌, ◌++◌, codes, length, take}
 use Rattle.std.specs.Fmt.{signed_decimal}
+use Rattle.std.specs.Str.{all_ascii_digits}
+use Rattle.std.specs.Str.Parse.{digits_value}
 
 -- numbers, each with what stands between it and the next
 abbrev pub opened : List ℤ → List ℕ
@@ -13,3 +15,10 @@ pub record StandsFor (bytes : List ℕ) (zs : List ℤ) (rest : List ℕ) : Type
   pub last : ℤ
   pub numbers : zs ≡ front ++ last ∷ []
   pub text : bytes ≡ opened front ++ (signed_decimal last ++ (codes "\"]" ++ rest))
+
+-- the bytes begin with so many digits, which represent this size
+pub record AreDigits (bytes : List ℕ) (size count : ℕ) : Type 0 where
+  pub within : count ≤ length bytes
+  pub digits : all_ascii_digits (take count bytes) ≡ true
+  pub value : size ≡ digits_value 10 (take count bytes)
+  pub few : size < 10 ^ 18

@@ -2,18 +2,18 @@
 //!
 //! What is found is right. Bytes that are no certificate's text are left to the checks in their order, and so is the text of no numbers.
 
-ghost use Rattle.std.specs.Prelude.{◌≡◌, ◌++◌, ◌<◌, ◌^◌, All, IfOk, IfSome, unsigned_abs};
+ghost use Rattle.std.specs.Prelude.{◌≡◌, ◌≢◌, ◌++◌, ◌<◌, ◌≤◌, ◌^◌, All, IfOk, IfSome, get_or, length, true, unsigned_abs};
 ghost use Rattle.std.specs.Fmt.{signed_decimal};
 ghost use Rattle.gs_frac.specs.Texts.{fraction_text};
 ghost use Rattle.serde_json.specs.Written.{compact_text};
 ghost use Rattle.gs_certificate.specs.Checks.{AreSmall};
-ghost use Rattle.gs_certificate.specs.Straight.{StandsFor};
+ghost use Rattle.gs_certificate.specs.Straight.{AreDigits, StandsFor};
 ghost use Rattle.gs_certificate.specs.Texts.{certificate_text as text_of, side_data};
 ghost use Rattle.gs_certificate.specs.Views.{certificate_view, fraction_parts};
 
 use crate::certificate::Certificate;
 use crate::numerals::number_of;
-use gs_frac::Fraction;
+use gs_frac::{Fraction, is_minus_zero, sign, with_sign};
 use std::alloc::{AllocError, AllocFailed, Global};
 
 /// Why a certificate was not read straight.
@@ -67,8 +67,54 @@ fn to_quote(bytes: &[u8]) -> Result<(&[u8], &[u8]), Stop>
     Err(Stop::Other)
 }
 
-/// The number before the first quote, and what stands from the quote on.
-fn number_in(bytes: &[u8]) -> Result<(i128, &[u8]), Stop>
+/// What the digits before a quote represent and how many they are, where it is below 10^18 and nothing else stands before the quote.
+fn digits_in(bytes: &[u8]) -> Option<(u64, usize)>
+    ensures { IfSome result (λ p. AreDigits bytes.now p.0 p.1) }
+{
+    let mut size: u64 = 0;
+    for (i, b) in bytes.iter().enumerate() {
+        if *b == b'"' {
+            return Some((size, i));
+        }
+        if *b < b'0' || *b > b'9' || size >= 100_000_000_000_000_000 {
+            return None;
+        }
+        size = size * 10 + u64::from(*b - b'0');
+    }
+    None
+}
+
+/// Whether so many digits are the text of a number: at least one, without leading zeros.
+fn is_plain(digits: &[u8], count: usize) -> bool
+    requires { count ≤ length digits.now }
+    ensures { result ≡ true → (0 < count) × (1 < count → get_or digits.now 0 0 ≢ 48) }
+{
+    match count {
+        0 => false,
+        1 => true,
+        _ => digits[0] != b'0',
+    }
+}
+
+/// A number of few digits before the first quote, and what stands from the quote on.
+fn narrow_in(bytes: &[u8]) -> Option<(i128, &[u8])>
+    ensures text { IfSome result (λ p. bytes.now ≡ signed_decimal p.0 ++ p.1.now) }
+    ensures small { IfSome result (λ p. unsigned_abs p.0 < 2 ^ 90) }
+{
+    let (negative, digits) = sign(bytes);
+    let (size, count) = digits_in(digits)?;
+    let size = u128::from(size);
+    if is_minus_zero(negative, size) {
+        return None;
+    }
+    if !is_plain(digits, count) {
+        return None;
+    }
+    Some((with_sign(negative, size), &digits[count..]))
+}
+
+/// A number of any width before the first quote, and what stands from the quote on.
+fn wide_in(bytes: &[u8]) -> Result<(i128, &[u8]), Stop>
     ensures text { IfOk result (λ p. bytes.now ≡ signed_decimal p.0 ++ p.1.now) }
     ensures small { IfOk result (λ p. unsigned_abs p.0 < 2 ^ 90) }
 {
@@ -76,6 +122,17 @@ fn number_in(bytes: &[u8]) -> Result<(i128, &[u8]), Stop>
     match number_of(text) {
         Some(number) => Ok((number, rest)),
         None => Err(Stop::Other),
+    }
+}
+
+/// The number before the first quote, and what stands from the quote on.
+fn number_in(bytes: &[u8]) -> Result<(i128, &[u8]), Stop>
+    ensures text { IfOk result (λ p. bytes.now ≡ signed_decimal p.0 ++ p.1.now) }
+    ensures small { IfOk result (λ p. unsigned_abs p.0 < 2 ^ 90) }
+{
+    match narrow_in(bytes) {
+        Some(found) => Ok(found),
+        None => wide_in(bytes),
     }
 }
 

@@ -10,7 +10,7 @@ use Rattle.gs_certificate.specs.Views.{certificate_view}
 use Rattle.gs_certificate.specs.declared.certificate.Certificate.{Certificate}
 use Rattle.gs_certificate.specs.declared.text_fault.CertTextFault.{CertTextFault}
 use Rattle.gs_certificate.proofs.Holding.{faults_exclude}
-use Rattle.gs_certificate.proofs.Only.{only as certificate_only}
+use Rattle.gs_certificate.proofs.Only.{only as certificate_only, stated}
 use Rattle.gs_certificate.proofs.OneText.{one_certificate}
 use Rattle.gs_confirm.specs.Commands.{OfRead, OfStrategy}
 use Rattle.gs_confirm.specs.Troubles.{IsTooLarge, Passes}
@@ -35,9 +35,6 @@ use Rattle.gs_certify.specs.Certificates.{IsCertified}
 use Rattle.gs_certify.specs.Verifying.{IsNoText, IsTextOf, SaysChecked, SaysVerified, Verifies}
 
 -- ---- certificates that state the same
-
-stated : (c : Certificate) → AreSmall c → IsStated (certificate_view c)
-stated c small = record { one = record { bound = c.bound1.reduced; values = small.one }; two = record { bound = c.bound2.reduced; values = small.two } }
 
 module _ (f : Frame) (lists : ClassLists) (x y : Plan) where
   -- a player's part holds, by what is stated

@@ -2,7 +2,7 @@ use Rattle.std.proofs.Common.{◌<◌, ◌^◌, List, ℕ, ◌++◌, sym, ap, su
 use Rattle.std.specs.Prelude.{ℤ, unsigned_abs}
 use Rattle.std.specs.Fmt.{signed_decimal}
 use Rattle.gs_certificate.proofs.PlainTexts.{kept, number_is}
-use Rattle.gs_certificate.proofs.straight.number_in.Goals as goal
+use Rattle.gs_certificate.proofs.straight.wide_in.Goals as goal
 
 pub returns-in-Some-clause-text : goal.returns-in-Some-clause-text
 returns-in-Some-clause-text c =

@@ -1,0 +1,40 @@
+use Rattle.std.proofs.Common.{◌≡◌, ◌==◌, ◌&&◌, ◌<◌, ◌-◌, ◌^◌, ◌++◌, ◌∙◌, ℕ, Bool, List, length, take, drop, ap, sym, subst, arith}
+use Rattle.std.specs.Prelude.{ℤ, unsigned_abs}
+use Rattle.std.specs.Fmt.{signed_decimal}
+use Rattle.std.proofs.lemmas.List.{length-drop, take_all}
+use mir.Syntax.{w128}
+use mir.Val.{of_z, to_z}
+use Rattle.gs_frac.specs.Texts.{number_of}
+use Rattle.gs_frac.proofs.Made.{size_of}
+use Rattle.gs_certificate.proofs.PlainTexts.{kept, narrow_is}
+use Rattle.gs_certificate.proofs.straight.narrow_in.Goals as goal
+
+-- the number, as it is handed on, is small
+narrow : (negative : Bool) (size wide : ℕ) (z : ℤ) → wide ≡ size → size < 10 ^ 18 → z ≡ number_of negative wide → (z ≡ number_of negative size) × (unsigned_abs z < 2 ^ 90)
+narrow negative size wide z same few is =
+    let so : z ≡ number_of negative size = is ∙ ap (number_of negative) same in
+    let long : unsigned_abs z ≡ size = ap unsigned_abs so ∙ size_of negative size in
+    (so, omega (arith, long, few))
+
+-- the end of the bytes
+rest_is : (xs : List ℕ) (count : ℕ) → take (length xs - count) (drop count xs) ≡ drop count xs
+rest_is xs count = take_all (length xs - count) (drop count xs) (omega (arith, length-drop count xs))
+
+pub returns-clause-text : goal.returns-clause-text
+returns-clause-text c =
+    let negative = c.sign-negative.result.0 in
+    let digits : List ℕ = c.sign-negative.result.1.now in
+    let size = c.in_ok-size.size in
+    let count = c.in_ok-size.count in
+    let z = c.with_sign.result in
+    let n = narrow negative size c.from-size.result z c.from-size.ensures c.in_ok-size.ensures.few c.with_sign.ensures in
+    let plain = c.is_plain.ensures c.if-not-is_plain.false in
+    let no_minus_zero = ap (λ (k : ℕ). negative && (k == 0)) (sym c.from-size.ensures) ∙ sym c.if-is_minus_zero.ensures in
+    let text = narrow_is c.args.bytes.now digits negative size count c.sign-negative.ensures c.in_ok-size.ensures plain.0 plain.1 no_minus_zero in
+    text ∙ ap (λ (x : ℤ). signed_decimal x ++ drop count digits) (sym n.0 ∙ kept z n.1) ∙ ap (λ (q : List ℕ). signed_decimal (to_z w128 (of_z w128 z)) ++ q) (sym (rest_is digits count))
+
+pub returns-clause-small : goal.returns-clause-small
+returns-clause-small c =
+    let z = c.with_sign.result in
+    let n = narrow c.sign-negative.result.0 c.in_ok-size.size c.from-size.result z c.from-size.ensures c.in_ok-size.ensures.few c.with_sign.ensures in
+    subst (λ (x : ℤ). unsigned_abs x < 2 ^ 90) (kept z n.1) n.1
