@@ -1,11 +1,10 @@
 -- The two lines that `certify` prints are verified.
-use Rattle.std.proofs.Common.{◌≡◌, ◌⊎◌, ℕ, ◌<◌, ◌≤◌, ◌++◌, List, length, Result, Ok, Err, inl, inr, refl, sym, ap, subst, ◌∙◌, arith}
+use Rattle.std.proofs.Common.{◌≡◌, ℕ, List, length, Result, Ok, Err, inl, inr, refl, ap, subst, ◌∙◌, arith}
 use Rattle.std.specs.Prelude.{unsigned_abs}
 use Rattle.gs_best.specs.Tables.{table_of}
-use Rattle.gs_certificate.specs.Checks.{AreSmall, IsSound, IsSoundFor}
+use Rattle.gs_certificate.specs.Checks.{AreSmall, IsSound}
 use Rattle.gs_certificate.specs.Numbers.{number_count}
 use Rattle.gs_certificate.specs.Texts.{Side, Stated, certificate_text}
-use Rattle.gs_certificate.specs.TextLaws.{IsStated}
 use Rattle.gs_certificate.specs.Views.{certificate_view}
 use Rattle.gs_certificate.specs.declared.certificate.Certificate.{Certificate}
 use Rattle.gs_certificate.specs.declared.text_fault.CertTextFault.{CertTextFault}
@@ -13,7 +12,7 @@ use Rattle.gs_certificate.proofs.Holding.{faults_exclude}
 use Rattle.gs_certificate.proofs.Only.{only as certificate_only, stated}
 use Rattle.gs_certificate.proofs.OneText.{one_certificate}
 use Rattle.gs_confirm.specs.Commands.{OfRead, OfStrategy}
-use Rattle.gs_confirm.specs.Troubles.{IsTooLarge, Passes}
+use Rattle.gs_confirm.specs.Troubles.{Passes}
 use Rattle.gs_file.specs.declared.version.Version.TheVariants.{Two}
 use Rattle.gs_json.specs.FirstLine.{first_line}
 use Rattle.gs_json.proofs.Feeds.{line_parted}
@@ -21,7 +20,7 @@ use Rattle.gs_model.specs.Certificate.{IsCertificate}
 use Rattle.gs_model.specs.Classes.{ClassLists}
 use Rattle.gs_model.specs.Frame.{Frame}
 use Rattle.gs_model.specs.Plans.{Plan}
-use Rattle.gs_reply.specs.Refusals.{Limit, Sequences, Cells, Table_numbers, Raw_cells, Refusal, Bad_game, Unlike_pair, Overflows, Many_pivots, Too_large, Bad_strategy, Wrong_number, Bad_query, Other_game, Bad_certificate}
+use Rattle.gs_reply.specs.Refusals.{Limit, Sequences, Cells, Table_numbers, Raw_cells, Bad_game, Unlike_pair, Overflows, Many_pivots, Too_large, Bad_strategy, Wrong_number, Bad_query, Other_game, Bad_certificate}
 use Rattle.gs_reply.specs.Replies.{Reply, Prints, Refuses}
 use Rattle.gs_seq.specs.Stops.{IsSmall}
 use Rattle.gs_strategy.specs.Checks.{ReadResult}
@@ -32,7 +31,7 @@ use Rattle.gs_strategy.specs.Values.{Strategy}
 use Rattle.gs_strategy.proofs.Only.{only}
 use Rattle.gs_strategy.proofs.Shape.{has_line}
 use Rattle.gs_certify.specs.Certificates.{IsCertified}
-use Rattle.gs_certify.specs.Verifying.{IsNoText, IsTextOf, SaysChecked, SaysVerified, Verifies}
+use Rattle.gs_certify.specs.Verifying.{SaysChecked, SaysVerified, Verifies}
 
 -- ---- certificates that state the same
 

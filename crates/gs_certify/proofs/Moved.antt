@@ -1,5 +1,5 @@
 -- What holds of a game in sequence form holds of the strategy that it was made of; and what is told is an answer.
-use Rattle.std.proofs.Common.{◌≡◌, ◌≢◌, ℕ, List, Result, Ok, Err, inl, inr, refl, sym, ap, subst, ◌∙◌}
+use Rattle.std.proofs.Common.{◌≡◌, ◌≢◌, ℕ, List, Err, inr, refl, sym, subst, ◌∙◌}
 use Rattle.gs_certificate.specs.Faults.{FailsSo}
 use Rattle.gs_certificate.specs.Reading.{ReadResult}
 use Rattle.gs_certificate.specs.declared.text_fault.CertTextFault.{CertTextFault}
