@@ -4,12 +4,12 @@ use Rattle.std.proofs.lemmas.Bool.{cases_eq, cases_lt, cases_order}
 use Rattle.std.proofs.lemmas.List.{length-set}
 use Rattle.gs_rows.specs.declared.Program.{Program}
 use Rattle.gs_rows.specs.Program.{Listing, IsListed, IsPairList, IsRowsOf}
-use Rattle.gs_rows.proofs.Ring.{linear, times_zero}
+use Rattle.gs_rows.proofs.Ring.{linear, one_times, times_zero}
 use Rattle.gs_rows.proofs.Solutions.{find_col}
 use Rattle.gs_rows.proofs.PairLists.{pair_list_is_list, row_decided, column_decided}
 use Rattle.gs_simplex.specs.Numbers.{at, cell, IsTurned}
 use Rattle.gs_simplex.specs.Table.{table_rows, table_aim, IsTable}
-use Rattle.gs_simplex.specs.Live.{IsOutside, ArePlaces, IsFound, IsSupport, IsLive}
+use Rattle.gs_simplex.specs.Live.{IsOutside, ArePlaces, IsFound, IsSupport, IsChange, IsTouched, IsLive}
 use Rattle.gs_simplex.proofs.Tables.{flipped_other}
 
 -- a column at one of the places, or at none
@@ -48,8 +48,49 @@ support_mixed places found width row lead mid own far u is = record {
   outside = λ j h none. (let z : mid j ≡ pos 0 = is j h ∙ both_zero own far (row j) (lead j) (u.outside j h none).0 (u.outside j h none).1 in (z, z));
 }
 
+-- own times a row less far times a lead changes nothing where both are 0, and where own is 1 and the lead is 0
+pub change_of_row : (places : List ℕ) (found width : ℕ) (row lead : ℕ → ℤ) (own far : ℤ) → IsSupport places found width row lead → IsChange places found width row lead own far
+change_of_row places found width row lead own far u = record {
+  few = u.few;
+  inside = u.inside;
+  differ = u.differ;
+  outside = λ j h none. both_zero own far (row j) (lead j) (u.outside j h none).0 (u.outside j h none).1 ∙ sym (u.outside j h none).0;
+}
+
+one_less_none : (own far x y : ℤ) → own ≡ pos 1 → y ≡ pos 0 → own *ℤ x -ℤ far *ℤ y ≡ x
+one_less_none own far x y e f =
+    let a : own *ℤ x ≡ x = ap (λ t. t *ℤ x) e ∙ one_times x in let b : far *ℤ y ≡ pos 0 = ap (λ t. far *ℤ t) f ∙ times_zero far in omega (arith, linear)
+
+pub change_of_lead : (places : List ℕ) (found width : ℕ) (row lead : ℕ → ℤ) (own far : ℤ) → own ≡ pos 1 → IsSupport places found width lead lead → IsChange places found width row lead own far
+change_of_lead places found width row lead own far e u = record {
+  few = u.few;
+  inside = u.inside;
+  differ = u.differ;
+  outside = λ j h none. one_less_none own far (row j) (lead j) e (u.outside j h none).1;
+}
+
+pub change_touched : (places filled touched : List ℕ) (found count n width : ℕ) (row lead : ℕ → ℤ) (own far : ℤ) → IsTouched own places found filled count touched n → IsSupport places found width row lead → IsSupport filled count width lead lead
+    → IsChange touched n width row lead own far
+change_touched places filled touched found count n width row lead own far t u v =
+    let P : List ℕ → Type 0 = λ x. IsChange x n width row lead own far in
+    elim t [
+      | inl w ↦ (let Q : ℕ → Type 0 = λ x. IsChange filled x width row lead own far in subst P (sym w.1) (subst Q (sym w.2) (change_of_lead filled count width row lead own far w.0 v)))
+      | inr w ↦ (let Q : ℕ → Type 0 = λ x. IsChange places x width row lead own far in subst P (sym w.0) (subst Q (sym w.1) (change_of_row places found width row lead own far u)))
+    ]
+
+-- the first `found` places are different columns
+pub record AreColumns (places : List ℕ) (found width : ℕ) : Type 0 where
+  pub inside : (k : ℕ) → k < found → slice_index places k < width
+  pub differ : (k h : ℕ) → k < found → h < found → slice_index places k ≡ slice_index places h → k ≡ h
+
+pub columns_of : (places : List ℕ) (found width : ℕ) (row lead : ℕ → ℤ) → IsSupport places found width row lead → AreColumns places found width
+columns_of places found width row lead u = record { inside = u.inside; differ = u.differ }
+
+pub columns_changed : (places : List ℕ) (found width : ℕ) (row lead : ℕ → ℤ) (own far : ℤ) → IsChange places found width row lead own far → AreColumns places found width
+columns_changed places found width row lead own far u = record { inside = u.inside; differ = u.differ }
+
 -- ---- one place after the other is written
-module _ (places : List ℕ) (found k width : ℕ) (row lead : ℕ → ℤ) (old now : List ℤ) (z : ℤ) (u : IsSupport places found width row lead) (kf : k < found) (long : length now ≡ width)
+module _ (places : List ℕ) (found k width : ℕ) (old now : List ℤ) (z : ℤ) (u : AreColumns places found width) (kf : k < found) (long : length now ≡ width)
     (left : (j : ℕ) → ((h : ℕ) → h < k → slice_index places h ≢ j) → at now j ≡ at old j) where
   pub inside_now : slice_index places k < length now
   inside_now = omega (arith, u.inside k kf, long)
@@ -77,9 +118,9 @@ module _ (places : List ℕ) (found k width : ℕ) (row lead : ℕ → ℤ) (old
   ]
 
 -- all places written
-pub all_written : (Q : ℕ → ℤ → Type 0) (places : List ℕ) (found width : ℕ) (row lead : ℕ → ℤ) (now : List ℤ) → IsSupport places found width row lead → ((k : ℕ) → k < found → Q (slice_index places k) (at now (slice_index places k)))
+pub all_written : (Q : ℕ → ℤ → Type 0) (places : List ℕ) (found width : ℕ) (now : List ℤ) → ((k : ℕ) → k < found → Q (slice_index places k) (at now (slice_index places k)))
     → ((j : ℕ) → j < width → ((h : ℕ) → h < found → slice_index places h ≢ j) → Q j (at now j)) → (j : ℕ) → j < width → Q j (at now j)
-all_written Q places found width row lead now u here none j h = elim (place_or_none places found j) [
+all_written Q places found width now here none j h = elim (place_or_none places found j) [
   | inl f ↦ (let P : ℕ → Type 0 = λ t. Q t (at now t) in subst P f.2 (here f.0 f.1))
   | inr out ↦ none j h out
 ]

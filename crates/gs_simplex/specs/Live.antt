@@ -1,5 +1,5 @@
 -- The columns that a pivot looks at. Place 0 is for the own column of the row at hand, which changes from row to row.
-use Rattle.std.specs.Prelude.{◌≡◌, ◌≢◌, ℕ, ◌+◌, ◌<◌, ◌≤◌, ◌⊎◌, List, length, slice_index, slice_index_or, vec_len, ℤ, pos}
+use Rattle.std.specs.Prelude.{◌≡◌, ◌≢◌, ℕ, ◌+◌, ◌<◌, ◌≤◌, ◌⊎◌, List, length, slice_index, slice_index_or, vec_len, ℤ, pos, ◌-ℤ◌, ◌*ℤ◌}
 use Rattle.gs_rows.specs.declared.Program.{Program}
 use Rattle.gs_rows.specs.Program.{Listing, IsListed, RowListed}
 use Rattle.gs_simplex.specs.declared.live.Live.{Live}
@@ -8,6 +8,7 @@ pub record HasPlaces (p : Program) (v : Live) : Type 0 where
   pub rows : vec_len v.rows ≡ p.cols
   pub places : vec_len v.places ≡ p.cols + 2
   pub owns : vec_len v.owns ≡ p.rows + 1
+  pub filled : vec_len v.filled ≡ p.cols + 2
 
 -- a column is listed with no row, or with row r, from 0
 abbrev pub IsLiveRow : ℕ → ℕ → Type 0
@@ -71,3 +72,21 @@ pub record IsLive (places owns : List ℕ) (found count r width : ℕ) (rows : �
   pub apart : (i k : ℕ) → i < count → i ≢ r → 0 < k → k < found → slice_index places k ≢ slice_index owns i
   pub outside : (i j : ℕ) → i < count → i ≢ r → j < width → slice_index owns i ≢ j → IsOutside places found j → rows i j ≡ pos 0
   pub outside_lead : (j : ℕ) → j < width → IsOutside places found j → lead j ≡ pos 0
+
+-- outside the first `found` places, which are different columns, own times the row less far times the lead is the row itself
+pub record IsChange (places : List ℕ) (found width : ℕ) (row lead : ℕ → ℤ) (own far : ℤ) : Type 0 where
+  pub few : found ≤ length places
+  pub inside : (k : ℕ) → k < found → slice_index places k < width
+  pub differ : (k h : ℕ) → k < found → h < found → slice_index places k ≡ slice_index places h → k ≡ h
+  pub outside : (j : ℕ) → j < width → ((k : ℕ) → k < found → slice_index places k ≢ j) → own *ℤ row j -ℤ far *ℤ lead j ≡ row j
+
+-- the first n numbers of `at` are the lead's places where own is 1, and otherwise all places
+abbrev pub IsTouched : ℤ → List ℕ → ℕ → List ℕ → ℕ → List ℕ → ℕ → Type 0
+IsTouched own places found filled count at n = ((own ≡ pos 1) × (at ≡ filled) × (n ≡ count)) ⊎ ((at ≡ places) × (n ≡ found))
+
+-- the columns below `below` in which the row is not 0, in order
+pub record AreFilled (row : ℕ → ℤ) (filled : List ℕ) (count below : ℕ) : Type 0 where
+  pub few : count ≤ below
+  pub under : (k : ℕ) → k < count → slice_index filled k < below
+  pub rises : (k h : ℕ) → k < h → h < count → slice_index filled k < slice_index filled h
+  pub all : (j : ℕ) → j < below → ((k : ℕ) → k < count → slice_index filled k ≢ j) → row j ≡ pos 0

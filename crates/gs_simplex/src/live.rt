@@ -2,7 +2,8 @@
 
 ghost use Rattle.std.specs.Prelude.{◌≡◌, ◌≢◌, ℕ, ◌+◌, ◌<◌, ◌≤◌, ◌^◌, ◌⊎◌, ◌↔◌, IsTrue, IfOk, length, slice_index, vec_len};
 ghost use Rattle.gs_rows.specs.Program.{IsPairList, IsListed, RowListed, ColListed};
-ghost use Rattle.gs_simplex.specs.Live.{HasPlaces, IsLiveRow, ArePlaces, IsFound};
+ghost use Rattle.gs_simplex.specs.Live.{HasPlaces, IsLiveRow, ArePlaces, IsFound, IsSupport, AreFilled};
+ghost use Rattle.gs_simplex.specs.Numbers.{at, AllNarrow};
 
 use crate::best::mark_rows;
 use crate::choice::pair_at;
@@ -18,6 +19,8 @@ pub(crate) struct Live {
     pub(crate) places: Vec<u32>,
     /// For each row its own column.
     pub(crate) owns: Vec<u32>,
+    /// The columns in which the row that is taken is not 0.
+    pub(crate) filled: Vec<u32>,
 }
 
 // Sets each number to this one.
@@ -94,6 +97,24 @@ fn find_places(cols: usize, rows: &[u32], r: usize, places: &mut [u32]) -> usize
     found + 1
 }
 
+// Lists the columns in which a row is not 0, and answers how many.
+pub(crate) fn fill(row: &[i64], filled: &mut [u32]) -> usize
+    requires small { length row.now < 2 ^ 32 }
+    requires narrow { AllNarrow row.now }
+    requires room { length filled.old ≡ length row.now }
+    ensures { IsSupport filled.new result (length row.now) (at row.now) (at row.now) }
+{
+    let mut count: usize = 0;
+    for j in 0..row.len() {
+        if row[j] == 0 {
+            continue;
+        }
+        filled[count] = j as u32;
+        count += 1;
+    }
+    count
+}
+
 impl Live {
     // Room for this program.
     pub(crate) fn room(alloc: Global, p: &Program) -> Result<Live, AllocError>
@@ -104,7 +125,13 @@ impl Live {
         let rows = vec![in alloc; 0u32; p.cols as usize]?;
         let places = vec![in alloc; 0u32; p.cols as usize + 2]?;
         let owns = vec![in alloc; 0u32; p.rows as usize + 1]?;
-        Ok(Live { rows, places, owns })
+        let filled = vec![in alloc; 0u32; p.cols as usize + 2]?;
+        Ok(Live {
+            rows,
+            places,
+            owns,
+            filled,
+        })
     }
 
     // Finds the columns for a pivot that takes row `r`, and answers the place behind the last.

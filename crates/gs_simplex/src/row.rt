@@ -1,11 +1,11 @@
 // The arithmetic of one row: its products stay in place where they are narrow, and take 128 bits otherwise; a row is divided by its greatest common divisor.
 
-ghost use Rattle.std.specs.Prelude.{◌≡◌, ◌≢◌, MatchOption, ℕ, ◌+◌, ◌-◌, ◌*◌, ◌<◌, ◌≤◌, ◌^◌, IsTrue, ℤ, pos, ◌+ℤ◌, ◌-ℤ◌, ◌*ℤ◌, ◌<ℤ◌, unsigned_abs, length};
+ghost use Rattle.std.specs.Prelude.{◌≡◌, ◌≢◌, MatchOption, ℕ, ◌+◌, ◌-◌, ◌*◌, ◌<◌, ◌≤◌, ◌^◌, IsTrue, ℤ, pos, ◌+ℤ◌, ◌-ℤ◌, ◌*ℤ◌, ◌<ℤ◌, unsigned_abs, length, slice_index};
 ghost use Prim.Native.Nat.{◌∣◌};
 ghost use Rattle.std.specs.Int.{IsGcd};
 ghost use Rattle.gs_rows.specs.Rows.{IsNarrow, IsPrimitive};
 ghost use Rattle.gs_simplex.specs.Numbers.{at, AllNarrow, AllWithin, AllAtMost, IsShared, IsQuotient, IsWideQuotient, IsReduced, IsReducedTo, IsDivided};
-ghost use Rattle.gs_simplex.specs.Live.{IsSupport};
+ghost use Rattle.gs_simplex.specs.Live.{IsSupport, IsChange, IsTouched};
 
 use crate::exact::{Divisor, short_gcd};
 use gs_frac::gcd;
@@ -15,6 +15,19 @@ use gs_frac::gcd;
 pub(crate) struct WideNumber {
     pub(crate) column: usize,
     pub(crate) number: i128,
+}
+
+/// The row of a pivot, as the other rows meet it.
+#[derive(Clone, Copy)]
+pub(crate) struct Lead<'a> {
+    pub(crate) numbers: &'a [i64],
+    /// No number is greater in size.
+    pub(crate) most: u64,
+    /// The column that the pivot clears, where the number is above 0.
+    pub(crate) column: usize,
+    /// The columns in which the row is not 0 stand at the first `count` places.
+    pub(crate) filled: &'a [u32],
+    pub(crate) count: usize,
 }
 
 // The greatest size of a number.
@@ -28,10 +41,11 @@ pub(crate) fn greatest(numbers: &[i64]) -> u64
     most
 }
 
-// The same of a row that is 0 outside the first `found` places.
+// The same at the first `found` places.
 fn greatest_at(row: &[i64], places: &[u32], found: usize) -> u64
-    requires support { IsSupport places.now found (length row.now) (at row.now) (at row.now) }
-    ensures { AllAtMost row.now result }
+    requires few { found ≤ length places.now }
+    requires inside { (k : ℕ) → k < found → slice_index places.now k < length row.now }
+    ensures { (k : ℕ) → k < found → unsigned_abs (at row.now (slice_index places.now k)) ≤ result }
 {
     let mut most: u64 = 0;
     for k in 0..found {
@@ -106,14 +120,24 @@ fn narrow_mixed_number(own: i64, x: i64, far: i64, y: i64) -> i64
     own * x - far * y
 }
 
-// Sets `row` to `own` times itself less `far` times `lead`, number by number, where that stays narrow.
+// Which places change when a row becomes `own` times itself less `far` times the lead: those of the lead where `own` is 1, and otherwise all that the row has.
+fn touched<'a>(lead: &Lead<'a>, own: i64, places: &'a [u32], found: usize) -> (&'a [u32], usize)
+    ensures { IsTouched own places.now found lead.now.filled.now lead.now.count result.0.now result.1 }
+{
+    if own == 1 {
+        return (lead.filled, lead.count);
+    }
+    (places, found)
+}
+
+// Sets `row` to `own` times itself less `far` times `lead`, where that stays narrow. Outside the first `found` places that changes nothing.
 fn mix_narrow(lead: &[i64], row: &mut [i64], places: &[u32], found: usize, own: i64, far: i64)
     requires same_length { length lead.now ≡ length row.old }
-    requires support { IsSupport places.now found (length row.old) (at row.old) (at lead.now) }
+    requires change { IsChange places.now found (length row.old) (at row.old) (at lead.now) own far }
     requires narrow_lead { AllNarrow lead.now }
     requires narrow_row { AllNarrow row.old }
-    requires narrow { (j : ℕ) → j < length row.old →
-        unsigned_abs own * unsigned_abs (at row.old j) + unsigned_abs far * unsigned_abs (at lead.now j) < 2 ^ 62 }
+    requires narrow { (k : ℕ) → k < found →
+        unsigned_abs own * unsigned_abs (at row.old (slice_index places.now k)) + unsigned_abs far * unsigned_abs (at lead.now (slice_index places.now k)) < 2 ^ 62 }
     ensures mixed { (j : ℕ) → j < length row.old → at row.new j ≡ own *ℤ at row.old j -ℤ far *ℤ at lead.now j }
     ensures narrow { AllNarrow row.new }
 {
@@ -350,40 +374,39 @@ fn multipliers(own: i64, far: i64) -> (i64, i64)
     (narrow_quotient(own, by), narrow_quotient(far, by))
 }
 
-// Clears column `c` of `row` by the lead, whose number there is above 0 and whose numbers are at most `most` in size: `row` becomes the lead's number in
-// `c` times itself less its own number in `c` times the lead, divided by all common divisors. Outside the first `found` places both are 0. It answers the
-// first number that is then not narrow; the row is left half done.
+// Clears the lead's column of `row`: `row` becomes the lead's number there times itself less its own number there times the lead, divided by all common
+// divisors. Outside the first `found` places both are 0. It answers the first number that is then not narrow; the row is left half done.
 pub(crate) fn reduce_row(
-    lead: &[i64],
-    most: u64,
-    c: usize,
+    lead: &Lead<'_>,
     row: &mut [i64],
     mixed: &mut [i128],
     places: &[u32],
     found: usize,
 ) -> Option<WideNumber>
-    requires support { IsSupport places.now found (length row.old) (at row.old) (at lead.now) }
-    requires long { length row.old ≡ length lead.now }
+    requires support { IsSupport places.now found (length row.old) (at row.old) (at lead.now.numbers.now) }
+    requires filled { IsSupport lead.now.filled.now lead.now.count (length row.old) (at lead.now.numbers.now) (at lead.now.numbers.now) }
+    requires long { length row.old ≡ length lead.now.numbers.now }
     requires room { length mixed.old ≡ length row.old }
-    requires most { AllAtMost lead.now most }
-    requires inside { c < length lead.now }
-    requires own { pos 0 <ℤ at lead.now c }
-    requires narrow_lead { AllNarrow lead.now }
+    requires most { AllAtMost lead.now.numbers.now lead.now.most }
+    requires inside { lead.now.column < length lead.now.numbers.now }
+    requires own { pos 0 <ℤ at lead.now.numbers.now lead.now.column }
+    requires narrow_lead { AllNarrow lead.now.numbers.now }
     requires narrow_row { AllNarrow row.old }
     requires primitive { IsPrimitive (length row.old - 1) (at row.old) }
-    ensures { MatchOption result (IsReduced (at lead.now) c (length lead.now) (at row.old) (at row.new) × AllNarrow row.new)
-        (λ w. IsReducedTo (at lead.now) c (length lead.now) (at row.old) w.column w.number) }
+    ensures { MatchOption result (IsReduced (at lead.now.numbers.now) lead.now.column (length lead.now.numbers.now) (at row.old) (at row.new) × AllNarrow row.new)
+        (λ w. IsReducedTo (at lead.now.numbers.now) lead.now.column (length lead.now.numbers.now) (at row.old) w.column w.number) }
 {
-    if row[c] == 0 {
+    if row[lead.column] == 0 {
         return None;
     }
-    let (own, far) = multipliers(lead[c], row[c]);
-    if stays_narrow(own, far, greatest_at(row, places, found), most) {
-        mix_narrow(lead, row, places, found, own, far);
+    let (own, far) = multipliers(lead.numbers[lead.column], row[lead.column]);
+    let (changing, count) = touched(lead, own, places, found);
+    if stays_narrow(own, far, greatest_at(row, changing, count), lead.most) {
+        mix_narrow(lead.numbers, row, changing, count, own, far);
         divide_row_at(row, places, found);
         return None;
     }
-    mix(lead, row, own, far, mixed);
+    mix(lead.numbers, row, own, far, mixed);
     let by = divisor(mixed).max(1);
     narrow_into(mixed, by, row)
 }

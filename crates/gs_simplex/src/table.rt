@@ -7,8 +7,8 @@ ghost use Rattle.gs_simplex.specs.Live.{IsSupport, IsLive};
 ghost use Rattle.gs_simplex.specs.Table.{table_rows, table_aim, IsTable, IsPrimitiveTable, IsTableAfter, IsWideAfter};
 ghost use Rattle.gs_simplex.specs.Numbers.{at, cell, AllNarrow, AllAtMost, IsReduced, IsReducedTo, IsTurned, IsCleared, IsClearedTo, IsRowPrimitive};
 
-use crate::live::Live;
-use crate::row::{WideNumber, greatest, reduce_row};
+use crate::live::{Live, fill};
+use crate::row::{Lead, WideNumber, greatest, reduce_row};
 use gs_rows::Program;
 
 /// A number of 63 bits or more, and the row and column where it stands, from 0.
@@ -57,34 +57,33 @@ fn take_lead(numbers: &mut [i64], start: usize, c: usize, lead: &mut [i64])
     take_row(row, c, lead);
 }
 
-// Clears column `c` of the row that begins at `start`; the lead's numbers are at most `most` in size.
+// Clears the lead's column of the row that begins at `start`.
 fn reduce_at(
     numbers: &mut [i64],
     start: usize,
-    lead: &[i64],
-    most: u64,
-    c: usize,
+    lead: &Lead<'_>,
     mixed: &mut [i128],
     places: &[u32],
     found: usize,
 ) -> Option<WideNumber>
-    requires support { IsSupport places.now found (length lead.now) (λ j. at numbers.old (start + j)) (at lead.now) }
-    requires inside { start + length lead.now ≤ length numbers.old }
-    requires most { AllAtMost lead.now most }
-    requires column { c < length lead.now }
-    requires room { length mixed.old ≡ length lead.now }
-    requires own { pos 0 <ℤ at lead.now c }
-    requires narrow_lead { AllNarrow lead.now }
+    requires support { IsSupport places.now found (length lead.now.numbers.now) (λ j. at numbers.old (start + j)) (at lead.now.numbers.now) }
+    requires filled { IsSupport lead.now.filled.now lead.now.count (length lead.now.numbers.now) (at lead.now.numbers.now) (at lead.now.numbers.now) }
+    requires inside { start + length lead.now.numbers.now ≤ length numbers.old }
+    requires most { AllAtMost lead.now.numbers.now lead.now.most }
+    requires column { lead.now.column < length lead.now.numbers.now }
+    requires room { length mixed.old ≡ length lead.now.numbers.now }
+    requires own { pos 0 <ℤ at lead.now.numbers.now lead.now.column }
+    requires narrow_lead { AllNarrow lead.now.numbers.now }
     requires narrow { AllNarrow numbers.old }
-    requires primitive { IsPrimitive (length lead.now - 1) (λ j. at numbers.old (start + j)) }
-    ensures others { (k : ℕ) → (k < start) ⊎ (start + length lead.now ≤ k) → at numbers.new k ≡ at numbers.old k }
+    requires primitive { IsPrimitive (length lead.now.numbers.now - 1) (λ j. at numbers.old (start + j)) }
+    ensures others { (k : ℕ) → (k < start) ⊎ (start + length lead.now.numbers.now ≤ k) → at numbers.new k ≡ at numbers.old k }
     ensures answer { MatchOption result
-        (IsReduced (at lead.now) c (length lead.now) (λ j. at numbers.old (start + j)) (λ j. at numbers.new (start + j)) × AllNarrow numbers.new)
-        (λ w. IsReducedTo (at lead.now) c (length lead.now) (λ j. at numbers.old (start + j)) w.column w.number) }
+        (IsReduced (at lead.now.numbers.now) lead.now.column (length lead.now.numbers.now) (λ j. at numbers.old (start + j)) (λ j. at numbers.new (start + j)) × AllNarrow numbers.new)
+        (λ w. IsReducedTo (at lead.now.numbers.now) lead.now.column (length lead.now.numbers.now) (λ j. at numbers.old (start + j)) w.column w.number) }
 {
-    let end = start + lead.len();
+    let end = start + lead.numbers.len();
     let row = &mut numbers[start..end];
-    reduce_row(lead, most, c, row, mixed, places, found)
+    reduce_row(lead, row, mixed, places, found)
 }
 
 // Clears column `c` of all `count` rows but `r`, looking at the first `found` places, of which the first is the row's own. It answers the first number, by row and column, that is not narrow.
@@ -98,7 +97,10 @@ fn clear_column(
     places: &mut [u32],
     found: usize,
     owns: &[u32],
+    filled: &mut [u32],
 ) -> Option<WideCell>
+    requires small { length lead.now < 2 ^ 32 }
+    requires room_filled { length filled.old ≡ length lead.now }
     requires live { IsLive places.old owns.now found count r (length lead.now) (cell numbers.old (length lead.now)) (at lead.now) }
     requires long { length numbers.old ≡ count * length lead.now }
     requires column { c < length lead.now }
@@ -112,13 +114,19 @@ fn clear_column(
         (λ w. IsClearedTo numbers.old count (length lead.now) r c (at lead.now) w.row w.column w.number) }
 {
     let width = lead.len();
-    let most = greatest(lead);
+    let taken = Lead {
+        numbers: lead,
+        most: greatest(lead),
+        column: c,
+        count: fill(lead, filled),
+        filled,
+    };
     for i in 0..count {
         if i == r {
             continue;
         }
         places[0] = owns[i];
-        if let Some(wide) = reduce_at(numbers, i * width, lead, most, c, mixed, places, found) {
+        if let Some(wide) = reduce_at(numbers, i * width, &taken, mixed, places, found) {
             return Some(WideCell {
                 row: i,
                 column: wide.column,
@@ -176,6 +184,7 @@ impl Table {
             &mut self.live.places,
             found,
             &self.live.owns,
+            &mut self.live.filled,
         )
     }
 }

@@ -2,7 +2,7 @@ use Rattle.std.proofs.Common.{◌≡◌, ◌<◌, ◌^◌, length, slice_index, 
 use Rattle.std.proofs.lemmas.Int.{to_z-of_z}
 use Rattle.gs_simplex.specs.Numbers.{at}
 use Rattle.gs_simplex.proofs.Fits.{kept_64}
-use Rattle.gs_simplex.proofs.Lives.{still_old, left_more, done_more, all_written, mixed_zero}
+use Rattle.gs_simplex.proofs.Lives.{columns_changed, still_old, left_more, done_more, all_written}
 use Rattle.gs_simplex.proofs.row.mix_narrow.Goals as goal
 
 -- the product as it is stored
@@ -22,41 +22,41 @@ stored_bound own own' far far' x x' y y' e f g h b =
 pub narrow_mixed_number-requires : goal.narrow_mixed_number-requires
 narrow_mixed_number-requires c =
     let v = c.loop-k.invariant in let k = c.loop-k.k in let old = c.args.row.now in let lead = c.args.lead.now in let row = c.loop-k.row in let places = c.args.places.now in let j = slice_index places k in
-    let u = c.requires.support in let kf = c.loop-k-test.true in
+    let u = c.requires.change in let w = columns_changed places c.args.found (length old) (at old) (at lead) c.args.own c.args.far u in let kf = c.loop-k-test.true in
     let inside : j < length old = u.inside k kf in
-    let here : at row j ≡ at old j = still_old places c.args.found k (length old) (at old) (at lead) old row (at old j) u kf c.loop-k.auto.row v.left in
+    let here : at row j ≡ at old j = still_old places c.args.found k (length old) old row (at old j) w kf c.loop-k.auto.row v.left in
     stored_bound c.args.own (to_z w64 (of_z w64 c.args.own)) c.args.far (to_z w64 (of_z w64 c.args.far)) (at old j) (to_z w64 (of_z w64 (at row j))) (at lead j) (to_z w64 (of_z w64 (at lead j)))
     (to_z-of_z w64 c.args.own c.ranges.own) (to_z-of_z w64 c.args.far c.ranges.far) (ap (λ t. to_z w64 (of_z w64 t)) here ∙ kept_64 (at old j) (c.requires.narrow_row j inside)) (kept_64 (at lead j) (c.requires.narrow_lead j (omega (arith, c.requires.same_length))))
-    (c.requires.narrow j inside)
+    (c.requires.narrow k kf)
 
 pub loop-k-preserved : goal.loop-k-preserved
 loop-k-preserved c =
     let v = c.loop-k.invariant in let k = c.loop-k.k in let old = c.args.row.now in let lead = c.args.lead.now in let row = c.loop-k.row in let places = c.args.places.now in
     let r = c.narrow_mixed_number.result in let n = c.narrow_mixed_number.ensures in let z = to_z w64 (of_z w64 r) in let j = slice_index places k in
     let own = to_z w64 (of_z w64 c.args.own) in let far = to_z w64 (of_z w64 c.args.far) in
-    let u = c.requires.support in let kf = c.loop-k-test.true in let long : length row ≡ length old = c.loop-k.auto.row in
+    let u = c.requires.change in let w = columns_changed places c.args.found (length old) (at old) (at lead) c.args.own c.args.far u in let kf = c.loop-k-test.true in let long : length row ≡ length old = c.loop-k.auto.row in
     let inside : j < length old = u.inside k kf in
-    let here : at row j ≡ at old j = still_old places c.args.found k (length old) (at old) (at lead) old row z u kf long v.left in
+    let here : at row j ≡ at old j = still_old places c.args.found k (length old) old row z w kf long v.left in
     let no = c.requires.narrow_row j inside in let nl = c.requires.narrow_lead j (omega (arith, c.requires.same_length)) in
     let is : z ≡ own *ℤ at old j -ℤ far *ℤ at lead j = stored_is own far (at row j) (at lead j) r (at old j) n.narrow no nl here n.value in
     let small : unsigned_abs z < 2 ^ 62 = (let P : ℤ → Type 0 = λ t. unsigned_abs t < 2 ^ 62 in subst P (sym (kept_64 r n.narrow)) n.narrow) in
     record {
-      mixed = done_more places c.args.found k (length old) (at old) (at lead) old row z u kf long v.left (λ i (t : ℤ). t ≡ own *ℤ at old i -ℤ far *ℤ at lead i) v.mixed is;
-      narrow = done_more places c.args.found k (length old) (at old) (at lead) old row z u kf long v.left (λ i (t : ℤ). unsigned_abs t < 2 ^ 62) v.narrow small;
-      left = left_more places c.args.found k (length old) (at old) (at lead) old row z u kf long v.left;
+      mixed = done_more places c.args.found k (length old) old row z w kf long v.left (λ i (t : ℤ). t ≡ own *ℤ at old i -ℤ far *ℤ at lead i) v.mixed is;
+      narrow = done_more places c.args.found k (length old) old row z w kf long v.left (λ i (t : ℤ). unsigned_abs t < 2 ^ 62) v.narrow small;
+      left = left_more places c.args.found k (length old) old row z w kf long v.left;
     }
 
 pub returns-clause-mixed : goal.returns-clause-mixed
 returns-clause-mixed c =
     let v = c.loop-k.invariant in let old = c.args.row.now in let lead = c.args.lead.now in let row = c.loop-k.row in let places = c.args.places.now in
-    let own = to_z w64 (of_z w64 c.args.own) in let far = to_z w64 (of_z w64 c.args.far) in let u = c.requires.support in
-    λ j h. (all_written (λ j (t : ℤ). t ≡ own *ℤ at old j -ℤ far *ℤ at lead j) places c.args.found (length old) (at old) (at lead) row u (λ k h. v.mixed k (omega arith))
-    (λ j h none. mixed_zero own far (at old j) (at lead j) (at row j) (v.left j (λ i il. none i (omega arith))) (u.outside j h none).0 (u.outside j h none).1) j h)
-    ∙ ap (λ t. t *ℤ at old j -ℤ far *ℤ at lead j) (to_z-of_z w64 c.args.own c.ranges.own) ∙ ap (λ t. c.args.own *ℤ at old j -ℤ t *ℤ at lead j) (to_z-of_z w64 c.args.far c.ranges.far)
+    let own = to_z w64 (of_z w64 c.args.own) in let far = to_z w64 (of_z w64 c.args.far) in let u = c.requires.change in
+    all_written (λ j (t : ℤ). t ≡ c.args.own *ℤ at old j -ℤ c.args.far *ℤ at lead j) places c.args.found (length old) row
+    (λ k h. let j = slice_index places k in v.mixed k (omega arith) ∙ ap (λ t. t *ℤ at old j -ℤ far *ℤ at lead j) (to_z-of_z w64 c.args.own c.ranges.own) ∙ ap (λ t. c.args.own *ℤ at old j -ℤ t *ℤ at lead j) (to_z-of_z w64 c.args.far c.ranges.far))
+    (λ j h none. v.left j (λ i il. none i (omega arith)) ∙ sym (u.outside j h none))
 
 pub returns-clause-narrow : goal.returns-clause-narrow
 returns-clause-narrow c =
-    let v = c.loop-k.invariant in let old = c.args.row.now in let row = c.loop-k.row in let places = c.args.places.now in let u = c.requires.support in
+    let v = c.loop-k.invariant in let old = c.args.row.now in let row = c.loop-k.row in let places = c.args.places.now in
     let P : ℤ → Type 0 = λ t. unsigned_abs t < 2 ^ 62 in
-    λ j h. all_written (λ i (t : ℤ). unsigned_abs t < 2 ^ 62) places c.args.found (length old) (at old) (at c.args.lead.now) row u (λ k l. v.narrow k (omega arith))
+    λ j h. all_written (λ i (t : ℤ). unsigned_abs t < 2 ^ 62) places c.args.found (length old) row (λ k l. v.narrow k (omega arith))
     (λ i l none. subst P (sym (v.left i (λ k m. none k (omega arith)))) (c.requires.narrow_row i l)) j (omega (arith, c.loop-k.auto.row))

@@ -1,28 +1,47 @@
-use Rattle.std.proofs.Common.{◌≡◌, MatchOption, Some, None, ℕ, ◌+◌, ◌*◌, ◌<◌, ◌≤◌, ◌^◌, ℤ, ◌-ℤ◌, ◌*ℤ◌, unsigned_abs, length, to_z, of_z, w64, sym, ap, subst, ◌∙◌, arith}
+use Rattle.std.proofs.Common.{◌≡◌, MatchOption, Some, None, ℕ, ◌+◌, ◌*◌, ◌<◌, ◌≤◌, ◌^◌, ℤ, ◌-ℤ◌, ◌*ℤ◌, unsigned_abs, length, slice_index, to_z, of_z, w64, sym, ap, subst, ◌∙◌, arith}
 use Rattle.gs_rows.specs.Rows.{IsNarrow}
 use Rattle.gs_simplex.specs.Numbers.{at, AllNarrow, IsShared, IsQuotient, IsWideQuotient, IsReduced, IsReducedTo, IsDivided}
 use Rattle.std.proofs.lemmas.Nat.{mul-le}
 use Rattle.gs_simplex.specs.Live.{IsSupport}
 use Rattle.gs_simplex.proofs.Fits.{kept_64}
-use Rattle.gs_simplex.proofs.Lives.{support_alone, support_mixed}
+use Rattle.gs_simplex.proofs.Lives.{change_touched, support_mixed}
 use Rattle.gs_simplex.proofs.Reduce.{IsDivisor, divisor_small, by_divides, reduced_divided, reduced_from, reduced_wide}
 use Rattle.gs_simplex.proofs.row.reduce_row.Goals as goal
 
-pub greatest_at-requires : goal.greatest_at-requires
-greatest_at-requires c =
-    record { support = support_alone c.args.places.now c.args.found (length c.args.row.now) (at c.args.row.now) (at c.args.lead.now) c.requires.support }
+-- the places at which the row changes
+pub mix_narrow-requires-clause-change : goal.mix_narrow-requires-clause-change
+mix_narrow-requires-clause-change c =
+    let m = c.multipliers-own in let t = c.touched-count in
+    change_touched c.args.places.now c.args.lead.now.filled.now t.result.0.now c.args.found c.args.lead.now.count t.result.1 (length c.args.row.now) (at c.args.row.now) (at c.args.lead.now.numbers.now) (to_z w64 (of_z w64 m.result.0)) (to_z w64 (of_z w64 m.result.1))
+    t.ensures c.requires.support c.requires.filled
+
+pub greatest_at-requires-clause-few : goal.greatest_at-requires-clause-few
+greatest_at-requires-clause-few c =
+    let m = c.multipliers-own in let t = c.touched-count in
+    (change_touched c.args.places.now c.args.lead.now.filled.now t.result.0.now c.args.found c.args.lead.now.count t.result.1 (length c.args.row.now) (at c.args.row.now) (at c.args.lead.now.numbers.now) (to_z w64 (of_z w64 m.result.0)) (to_z w64 (of_z w64 m.result.1))
+    t.ensures c.requires.support c.requires.filled).few
+
+pub greatest_at-requires-clause-inside : goal.greatest_at-requires-clause-inside
+greatest_at-requires-clause-inside c =
+    let m = c.multipliers-own in let t = c.touched-count in
+    (change_touched c.args.places.now c.args.lead.now.filled.now t.result.0.now c.args.found c.args.lead.now.count t.result.1 (length c.args.row.now) (at c.args.row.now) (at c.args.lead.now.numbers.now) (to_z w64 (of_z w64 m.result.0)) (to_z w64 (of_z w64 m.result.1))
+    t.ensures c.requires.support c.requires.filled).inside
 
 -- a bound on the numbers bounds their products
 products_below : (a b x y most top : ℕ) → x ≤ most → y ≤ top → a * most + b * top < 2 ^ 62 → a * x + b * y < 2 ^ 62
 products_below a b x y most top h k l = omega (arith, l, mul-le a x a most (omega arith) (omega (arith, h)), mul-le b y b top (omega arith) (omega (arith, k)))
 
 pub mix_narrow-requires-clause-narrow : goal.mix_narrow-requires-clause-narrow
-mix_narrow-requires-clause-narrow c = λ j h.
-    products_below _ _ (unsigned_abs (at c.args.row.now j)) (unsigned_abs (at c.args.lead.now j)) c.greatest_at.result c.args.most (c.greatest_at.ensures j h) (c.requires.most j (omega (arith, c.requires.long))) (c.stays_narrow.ensures c.if-stays_narrow.true)
+mix_narrow-requires-clause-narrow c = λ k h.
+    let m = c.multipliers-own in let t = c.touched-count in let j = slice_index t.result.0.now k in
+    let u = change_touched c.args.places.now c.args.lead.now.filled.now t.result.0.now c.args.found c.args.lead.now.count t.result.1 (length c.args.row.now) (at c.args.row.now) (at c.args.lead.now.numbers.now) (to_z w64 (of_z w64 m.result.0)) (to_z w64 (of_z w64 m.result.1))
+    t.ensures c.requires.support c.requires.filled in
+    let inside : j < length c.args.row.now = u.inside k h in
+    products_below _ _ (unsigned_abs (at c.args.row.now j)) (unsigned_abs (at c.args.lead.now.numbers.now j)) c.greatest_at.result c.args.lead.now.most (c.greatest_at.ensures k h) (c.requires.most j (omega (arith, c.requires.long))) (c.stays_narrow.ensures c.if-stays_narrow.true)
 
 pub divide_row_at-requires-clause-support : goal.divide_row_at-requires-clause-support
 divide_row_at-requires-clause-support c =
-    let lead = c.args.lead.now in let row = c.args.row.now in let mid = c.mix_narrow.new.row in let m = c.multipliers-own in
+    let lead = c.args.lead.now.numbers.now in let row = c.args.row.now in let mid = c.mix_narrow.new.row in let m = c.multipliers-own in
     let P : ℕ → Type 0 = λ w. IsSupport c.args.places.now c.args.found w (at mid) (at mid) in
     subst P (sym c.mix_narrow.auto.row) (support_mixed c.args.places.now c.args.found (length row) (at row) (at lead) (at mid) (to_z w64 (of_z w64 m.result.0)) (to_z w64 (of_z w64 m.result.1)) c.requires.support c.mix_narrow.ensures.mixed)
 
@@ -51,7 +70,7 @@ stored_shared lc rc own far nl nr na nb sh = record {
 
 pub returns-then-stays_narrow : goal.returns-then-stays_narrow
 returns-then-stays_narrow c =
-    let lead = c.args.lead.now in let row = c.args.row.now in let mid = c.mix_narrow.new.row in let k = c.args.c in let m = c.multipliers-own in
+    let lead = c.args.lead.now.numbers.now in let row = c.args.row.now in let mid = c.mix_narrow.new.row in let k = c.args.lead.now.column in let m = c.multipliers-own in
     let inside : k < length lead = c.requires.inside in
     let long : length mid ≡ length lead = omega (arith, c.mix_narrow.auto.row, c.requires.long) in
     let sh = stored_shared (at lead k) (at row k) m.result.0 m.result.1 (c.requires.narrow_lead k inside) (c.requires.narrow_row k (omega (arith, c.requires.long))) m.ensures.narrow_own m.ensures.narrow_far m.ensures.shared in (
@@ -62,7 +81,7 @@ returns-then-stays_narrow c =
 
 pub returns : goal.returns
 returns c =
-    let lead = c.args.lead.now in let row = c.args.row.now in let mixed = c.mix.new.mixed in let new = c.narrow_into.new.row in let k = c.args.c in let m = c.multipliers-own in
+    let lead = c.args.lead.now.numbers.now in let row = c.args.row.now in let mixed = c.mix.new.mixed in let new = c.narrow_into.new.row in let k = c.args.lead.now.column in let m = c.multipliers-own in
     let inside : k < length lead = c.requires.inside in
     let long : length mixed ≡ length lead = omega (arith, c.mix.auto.mixed, c.requires.long, c.requires.room) in
     let some : 0 < length lead = omega arith in

@@ -19,16 +19,22 @@ part_primitive xs start width n e h some u =
 
 pub reduce_row-requires-clause-primitive : goal.reduce_row-requires-clause-primitive
 reduce_row-requires-clause-primitive c =
-    let some : 0 < length c.args.lead.now = omega (arith, c.requires.column) in
-    part_primitive c.args.numbers.now c.args.start (length c.args.lead.now) (c.args.start + length c.args.lead.now - c.args.start) refl c.requires.inside some c.requires.primitive
+    let some : 0 < length c.args.lead.now.numbers.now = omega (arith, c.requires.column) in
+    part_primitive c.args.numbers.now c.args.start (length c.args.lead.now.numbers.now) (c.args.start + length c.args.lead.now.numbers.now - c.args.start) refl c.requires.inside some c.requires.primitive
 
 pub reduce_row-requires-clause-support : goal.reduce_row-requires-clause-support
 reduce_row-requires-clause-support c =
-    let xs = c.args.numbers.now in let w = length c.args.lead.now in let s = c.args.start in let n = s + w - s in
+    let xs = c.args.numbers.now in let w = length c.args.lead.now.numbers.now in let s = c.args.start in let n = s + w - s in
     let row = take n (drop s xs) in
-    let P : ℕ → Type 0 = λ k. IsSupport c.args.places.now c.args.found k (at row) (at c.args.lead.now) in
+    let P : ℕ → Type 0 = λ k. IsSupport c.args.places.now c.args.found k (at row) (at c.args.lead.now.numbers.now) in
     subst P (sym (part_long xs s w n refl c.requires.inside))
-    (support_same c.args.places.now c.args.found w (λ j. at xs (s + j)) (at row) (at c.args.lead.now) (at c.args.lead.now) (λ j h. sym (at_part xs s n j (omega arith))) (λ j h. refl) c.requires.support)
+    (support_same c.args.places.now c.args.found w (λ j. at xs (s + j)) (at row) (at c.args.lead.now.numbers.now) (at c.args.lead.now.numbers.now) (λ j h. sym (at_part xs s n j (omega arith))) (λ j h. refl) c.requires.support)
+
+pub reduce_row-requires-clause-filled : goal.reduce_row-requires-clause-filled
+reduce_row-requires-clause-filled c =
+    let xs = c.args.numbers.now in let w = length c.args.lead.now.numbers.now in let s = c.args.start in
+    let P : ℕ → Type 0 = λ k. IsSupport c.args.lead.now.filled.now c.args.lead.now.count k (at c.args.lead.now.numbers.now) (at c.args.lead.now.numbers.now) in
+    subst P (sym (part_long xs s w (s + w - s) refl c.requires.inside)) c.requires.filled
 
 others : (xs ys : List ℤ) (start width n : ℕ) → n ≡ start + width - start → start + width ≤ length xs → length ys ≡ n → (k : ℕ) → (k < start) ⊎ (start + width ≤ k) → at (put_mid start n xs ys) k ≡ at xs k
 others xs ys start width n e h long k w = elim w [ inl l ↦ at_put_below xs ys start n k l (omega arith) | inr l ↦ at_put_above xs ys start n k (omega arith) long (omega arith) ]
@@ -46,11 +52,11 @@ answer lead xs ys start c n (Some w) e h long cw nx u same = reduced_to_same (at
 
 pub returns-clause-others : goal.returns-clause-others
 returns-clause-others c =
-    let w = length c.args.lead.now in let s = c.args.start in let n = s + w - s in
+    let w = length c.args.lead.now.numbers.now in let s = c.args.start in let n = s + w - s in
     others c.args.numbers.now c.reduce_row.new.row s w n refl c.requires.inside (omega (arith, c.reduce_row.auto.row, part_long c.args.numbers.now s w n refl c.requires.inside))
 
 pub returns-clause-answer : goal.returns-clause-answer
 returns-clause-answer c =
-    let w = length c.args.lead.now in let s = c.args.start in let n = s + w - s in
+    let w = length c.args.lead.now.numbers.now in let s = c.args.start in let n = s + w - s in
     let long : length c.reduce_row.new.row ≡ n = omega (arith, c.reduce_row.auto.row, part_long c.args.numbers.now s w n refl c.requires.inside) in
-    answer c.args.lead.now c.args.numbers.now c.reduce_row.new.row s c.args.c n c.reduce_row.result refl c.requires.inside long c.requires.column c.requires.narrow c.reduce_row.ensures (length_put c.args.numbers.now c.reduce_row.new.row s n long (omega (arith, c.requires.inside)))
+    answer c.args.lead.now.numbers.now c.args.numbers.now c.reduce_row.new.row s c.args.lead.now.column n c.reduce_row.result refl c.requires.inside long c.requires.column c.requires.narrow c.reduce_row.ensures (length_put c.args.numbers.now c.reduce_row.new.row s n long (omega (arith, c.requires.inside)))
