@@ -310,7 +310,8 @@ pub(crate) fn divide_row(row: &mut [i64])
     }
 }
 
-// The greatest number that divides all of a row of narrow numbers that is 0 outside the first `found` places; 0 where all are 0.
+// The greatest number that divides all of a row of narrow numbers that is 0 outside the first `found` places; 0 where all are 0. It begins with the last
+// place: in the programs of games the last columns are the slacks, whose numbers are small, so that 1 is found soon.
 fn divisor_at(row: &[i64], places: &[u32], found: usize) -> u64
     requires narrow { AllNarrow row.now }
     requires support { IsSupport places.now found (length row.now) (at row.now) (at row.now) }
@@ -319,7 +320,7 @@ fn divisor_at(row: &[i64], places: &[u32], found: usize) -> u64
 {
     let mut common = Divisor::of(0);
     for k in 0..found {
-        let number = row[places[k] as usize];
+        let number = row[places[found - 1 - k] as usize];
         if number == 0 {
             continue;
         }
