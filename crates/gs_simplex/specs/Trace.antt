@@ -1,9 +1,9 @@
 -- How a path was reached: its pivots, its bases, and the aim's value at both ends.
-use Rattle.std.specs.Prelude.{◌≡◌, ℕ, ◌+◌, ◌<◌, ◌≤◌, Result, Ok, Err, List, length, slice_index, ℤ, ◌*ℤ◌, Contains, Vec}
+use Rattle.std.specs.Prelude.{◌≡◌, ℕ, ◌+◌, ◌<◌, ◌≤◌, ◌^◌, Result, Ok, Err, List, length, slice_index, ℤ, ◌*ℤ◌, Contains, Vec}
 use Rattle.std.specs.List.{HoldsAt}
 use Rattle.std.specs.declared.alloc.Global.{Global}
 use Rattle.gs_rows.specs.declared.Program.{Program}
-use Rattle.gs_rows.specs.Program.{Listing, ColListed}
+use Rattle.gs_rows.specs.Program.{Listing, ColListed, IsShaped, IsOpening}
 use Rattle.gs_rows.specs.Path.{States, IsPath, ends, Stops}
 use Rattle.gs_frac.specs.declared.value.Fraction.{Fraction}
 use Rattle.gs_simplex.specs.declared.answer.Turn.{Turn}
@@ -11,6 +11,7 @@ use Rattle.gs_simplex.specs.declared.answer.PathTrace.{PathTrace}
 use Rattle.gs_simplex.specs.declared.answer.Stop.{Stop}
 use Rattle.gs_simplex.specs.declared.tracing.Log.{Log}
 use Rattle.gs_simplex.specs.declared.path.Position.{Position}
+use Rattle.gs_simplex.specs.declared.table.Table.{Table}
 use Rattle.gs_simplex.specs.State.{IsState, IsTurnAt}
 use Rattle.gs_simplex.specs.Answer.{IsSmall, IsStop}
 
@@ -75,3 +76,14 @@ pub record IsBegun (p : Program) (o : Listing) (at : Position) : Type 0 where
   pub small : IsSmall p
   pub same : at.basis.items ≡ o
   pub state : IsState p o (length o) o at.table
+
+-- a path can be followed from the end of the opening, which this list and these rows are at
+pub record CanFollow (p : Program) (o : Listing) (limit : ℕ) (basis : Listing) (held : Table) : Type 0 where
+  pub few_rows : p.rows < 2 ^ 31
+  pub few_cols : p.cols < 2 ^ 31
+  pub few_pivots : limit < 2 ^ 31
+  pub small : IsSmall p
+  pub shaped : IsShaped p
+  pub opens : IsOpening p o
+  pub same : basis ≡ o
+  pub state : IsState p o (length o) o held

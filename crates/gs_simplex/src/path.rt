@@ -6,7 +6,7 @@ ghost use Rattle.gs_rows.specs.Path.{NoneEnters};
 ghost use Rattle.gs_simplex.specs.Table.{table_rows, table_aim, stated, IsTable, IsTableAfter, IsWideAfter};
 ghost use Rattle.gs_simplex.specs.State.{HasRoom, IsStart, IsState, IsChoice, IsPivoted, IsWidePivot, IsEnd, IsTurned};
 ghost use Rattle.gs_simplex.specs.Answer.{IsSmall, IsStop};
-ghost use Rattle.gs_simplex.specs.Trace.{IsBegun};
+ghost use Rattle.gs_simplex.specs.Trace.{IsBegun, CanFollow};
 
 use crate::MOST_NUMBERS;
 use crate::answer::{Stop, Turn};
@@ -188,14 +188,7 @@ pub(crate) fn follow(
     basis: &mut [(u32, u32)],
     table: &mut Table,
 ) -> Result<u32, Stop>
-    requires small_rows { p.now.rows < 2 ^ 31 }
-    requires small_cols { p.now.cols < 2 ^ 31 }
-    requires small_limit { limit < 2 ^ 31 }
-    requires small { IsSmall p.now }
-    requires shaped { IsShaped p.now }
-    requires opens { IsOpening p.now opening.now }
-    requires same { basis.old ≡ opening.now }
-    requires state { IsState p.now opening.now (length opening.now) opening.now table.old }
+    requires ready { CanFollow p.now opening.now limit basis.old table.old }
     ensures { MatchResult result (λ n. IsEnd p.now opening.now limit n basis.new table.new) (IsStop p.now opening.now limit) }
 {
     for made in 0..limit + 1 {

@@ -1,12 +1,12 @@
 // What is noted of a path: its pivots, its bases, and the aim's value.
 
-ghost use Rattle.std.specs.Prelude.{◌≡◌, MatchResult, IfOk, OnOk, ℕ, ◌+◌, ◌<◌, ◌≤◌, ◌^◌, ℤ, pos, ◌*ℤ◌, ◌<ℤ◌, List, length};
-ghost use Rattle.gs_rows.specs.Program.{IsShaped, IsOpening, IsPairList};
+ghost use Rattle.std.specs.Prelude.{MatchResult, IfOk, OnOk, ℕ, ◌+◌, ◌<◌, ◌^◌, ℤ, pos, ◌<ℤ◌, List, length};
+ghost use Rattle.gs_rows.specs.Program.{IsPairList};
 ghost use Rattle.gs_simplex.specs.Table.{table_aim, IsTable};
-ghost use Rattle.gs_simplex.specs.State.{IsState, IsEnd, IsTurnAt};
-ghost use Rattle.gs_simplex.specs.Answer.{IsSmall, IsStop};
+ghost use Rattle.gs_simplex.specs.State.{IsEnd, IsTurnAt};
+ghost use Rattle.gs_simplex.specs.Answer.{IsStop};
 ghost use Rattle.gs_simplex.specs.Values.{IsRowIndex};
-ghost use Rattle.gs_simplex.specs.Trace.{IsAimValue, IsBasis, IsBasisAt, IsLog};
+ghost use Rattle.gs_simplex.specs.Trace.{IsAimValue, IsBasis, IsBasisAt, IsLog, CanFollow};
 
 use crate::answer::{Stop, Turn};
 use crate::best::listed_rows;
@@ -125,14 +125,7 @@ impl Log {
         basis: &mut [(u32, u32)],
         table: &mut Table,
     ) -> Result<u32, Stop>
-        requires small_rows { p.now.rows < 2 ^ 31 }
-        requires small_cols { p.now.cols < 2 ^ 31 }
-        requires small_limit { limit < 2 ^ 31 }
-        requires small { IsSmall p.now }
-        requires shaped { IsShaped p.now }
-        requires opens { IsOpening p.now opening.now }
-        requires same { basis.old ≡ opening.now }
-        requires state { IsState p.now opening.now (length opening.now) opening.now table.old }
+        requires ready { CanFollow p.now opening.now limit basis.old table.old }
         requires log { IsLog p.now opening.now 0 self.old }
         ensures { MatchResult result (λ n. IsEnd p.now opening.now limit n basis.new table.new × IsLog p.now opening.now n self.new) (IsStop p.now opening.now limit) }
     {
