@@ -16,3 +16,4 @@ pub use parts::Part;
 pub use runs::{Run, ancestor, descendants};
 pub use sides::{Side, side_sums};
 pub use stop::CheckStop;
+pub use stopped::stopped_classes;

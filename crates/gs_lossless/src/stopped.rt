@@ -33,8 +33,8 @@ fn stopped_lists(alloc: Global, classes: &Classes, round: u8) -> Result<Vec<Vec<
     Ok(stopped)
 }
 
-/// The same classes where the game stops after a round; none where they are none there.
-fn stopped_classes(
+/// The same classes where the game stops after a round, whose signals are given; none where they are none there.
+pub fn stopped_classes(
     alloc: Global,
     stopped: &Signals,
     classes: &Classes,

@@ -4,7 +4,7 @@ use Rattle.std.specs.Prelude.{All}
 use Rattle.std.specs.declared.alloc.Global.{Global}
 use Rattle.std.proofs.Math.Nat.{mul-le-mul_right}
 use Rattle.std.proofs.lemmas.Bool.{cases_lt}
-use Rattle.std.proofs.lemmas.List.{get_or_append_left, get_or_push, get_or_read, length-map}
+use Rattle.std.proofs.lemmas.List.{get_or_append_left, get_or_push, get_or_read, length-map, length_push}
 use Rattle.std.proofs.lemmas.List.FromFn.{length-range_with_len}
 use Rattle.std.proofs.lemmas.List.Sums.{count_by-le-length, sum_by-le, sum_by_more}
 use Rattle.gs_filter.specs.Filter.{Filter, IsSound}
@@ -13,10 +13,11 @@ use Rattle.gs_game.specs.Seen.{end_of}
 use Rattle.gs_game.specs.declared.positions.End.{End as StoredEnd}
 use Rattle.gs_game.specs.declared.valid.ValidGame.{ValidGame}
 use Rattle.gs_model.specs.Classes.{class_count, classes_in}
+use Rattle.gs_model.specs.Deals.{deals}
 use Rattle.gs_model.specs.Frame.{end_count, last_round, round_of}
 use Rattle.gs_model.specs.Positions.{End, at_end}
 use Rattle.gs_model.proofs.Ranges.{deals_weigh}
-use Rattle.gs_seq.specs.Cells.{cell_count, meets, pair_count}
+use Rattle.gs_seq.specs.Cells.{AreCounts, cell_count, meets, pair_count}
 use Rattle.gs_seq.specs.Games.{frame_in}
 use Rattle.gs_seq.specs.Rows.{AreRows, pairs_of}
 use Rattle.gs_seq.specs.declared.pair.Pair.{Pair}
@@ -25,6 +26,7 @@ use Rattle.gs_seq.proofs.Ends.{end_reads, end_round, length-ends}
 use Rattle.gs_seq.proofs.Meeting.{rows_long}
 use Rattle.gs_seq.proofs.Points.{walked}
 use Rattle.gs_seq.proofs.RowRoom.{table}
+use Rattle.gs_seq.proofs.Singles.{made_count}
 use Rattle.gs_seq.proofs.SlotLaws.{class_few, over}
 
 -- what holds of each item, by place, holds with one more
@@ -68,53 +70,67 @@ module _ (g : ValidGame) (c : Filter) (e : c.parents ≡ (frame_in g).parents) (
       omega (arith, most, ap (λ k. k * n) long, square, few)
 
   module _ (rows : List (Vec (Vec Pair Global) Global)) (r : AreRows (frame_in g) c.lists rows) where
-    round_pairs : (round : ℕ) (d : Vec (Vec Pair Global) Global) → 0 < round → round ≤ last_round (frame_in g) → pairs_of (get_or rows (round - 1) d).items ≡ pair_count (frame_in g) c.lists round
+    round_pairs : (round : ℕ) (d : Vec (Vec Pair Global) Global) → 0 < round → round ≤ length rows → pairs_of (get_or rows (round - 1) d).items ≡ pair_count (frame_in g) c.lists round
     round_pairs round d some top =
-        rows_long (frame_in g) (table g) c.lists (over (frame_in g) c e s) (deals_weigh (game_of g.game)) round some top (get_or rows (round - 1) d).items (r.in_round round d some top)
+        rows_long (frame_in g) (table g) c.lists (over (frame_in g) c e s) (deals_weigh (game_of g.game)) round some (omega (arith, top, r.most)) (get_or rows (round - 1) d).items (r.in_round round d some top)
 
     -- so they can be counted
     pub rows_fit : All (λ (v : Vec (Vec Pair Global) Global). pairs_of v.items < 2 ^ 64) rows
     rows_fit = λ k d l. (
-        let top : k + 1 ≤ last_round (frame_in g) = omega (arith, l, r.long) in
+        let top : k + 1 ≤ length rows = omega (arith, l) in
         let here : k + 1 - 1 ≡ k = omega arith in
         let same = subst (λ j. pairs_of (get_or rows j d).items ≡ pair_count (frame_in g) c.lists (k + 1)) here (round_pairs (k + 1) d (omega arith) top) in
-        omega (arith, same, few_pairs (k + 1) (omega arith) top))
+        omega (arith, same, few_pairs (k + 1) (omega arith) (omega (arith, top, r.most))))
 
-    -- and the counts are those of the rounds
-    pub count_at : (counts : List ℕ) → counts ≡ map (λ (v : Vec (Vec Pair Global) Global). pairs_of v.items) rows → (round : ℕ) → 0 < round → round ≤ last_round (frame_in g)
-        → (round - 1 < length counts) × (get_or counts (round - 1) 0 ≡ pair_count (frame_in g) c.lists round)
-    count_at counts is round some top =
-        let inside : round - 1 < length rows = omega (arith, some, top, r.long) in (
-          omega (arith, inside, ap (λ (ns : List ℕ). length ns) is, length-map rows (λ (v : Vec (Vec Pair Global) Global). pairs_of v.items)),
-          ap (λ (ns : List ℕ). get_or ns (round - 1) 0) is ∙ at_map (λ (v : Vec (Vec Pair Global) Global). pairs_of v.items) rows (round - 1) (pair_count (frame_in g) c.lists round) inside (λ d. round_pairs round d some top),
-        )
+    module _ (counts : List ℕ) (is : counts ≡ map (λ (v : Vec (Vec Pair Global) Global). pairs_of v.items) rows) where
+      pub counts_long : length counts ≡ length rows
+      counts_long = ap (λ (ns : List ℕ). length ns) is ∙ length-map rows (λ (v : Vec (Vec Pair Global) Global). pairs_of v.items)
 
-    -- ---- a loop over the ends
+      listed : (round : ℕ) → 0 < round → round ≤ length rows → get_or counts (round - 1) 0 ≡ pair_count (frame_in g) c.lists round
+      listed round some top =
+          ap (λ (ns : List ℕ). get_or ns (round - 1) 0) is ∙ at_map (λ (v : Vec (Vec Pair Global) Global). pairs_of v.items) rows (round - 1) (pair_count (frame_in g) c.lists round) (omega (arith, some, top)) (λ d. round_pairs round d some top)
 
-    abbrev pub cells_of : List StoredEnd → ℕ
-    cells_of es = sum_by (λ (z : StoredEnd). pair_count (frame_in g) c.lists z.round) es
+      -- the counts are those of the rounds where all are listed
+      pub all_listed : last_round (frame_in g) ≤ length counts → AreCounts (frame_in g) c.lists counts
+      all_listed l = record { long = omega (arith, l, counts_long, r.most); count = λ round some top. listed round some (omega (arith, top, l, counts_long)) }
 
-    module _ (counts : List ℕ) (is : counts ≡ map (λ (v : Vec (Vec Pair Global) Global). pairs_of v.items) rows) (es : List StoredEnd) (ends : map end_of es ≡ (frame_in g).ends) where
-      pub end_inside : (i : ℕ) (d : StoredEnd) (round : ℕ) → i < length es → round ≡ (get_or es i d).round → round - 1 < length counts
-      end_inside i d round l at = let r = end_round_in g es i d round ends l at in (count_at counts is round r.0 r.1).0
+      -- and with the deals of the last one where that is not listed
+      pub one_more : length counts < last_round (frame_in g) → (n : ℕ) → n ≡ length (deals (game_of g.game)) → AreCounts (frame_in g) c.lists (counts ++ n ∷ [])
+      one_more l n are = record {
+        long = omega (arith, l, counts_long, r.fewest, length_push counts n);
+        count = λ round some top. ⊎_elim
+            (λ (under : round - 1 < length counts). get_or_append_left counts (n ∷ []) 0 (round - 1) under ∙ listed round some (omega (arith, under, counts_long)))
+            (λ (past : length counts ≤ round - 1). (let at : round ≡ last_round (frame_in g) = omega (arith, past, top, some, l, counts_long, r.fewest) in
+            let place : length counts ≡ round - 1 = omega (arith, past, top, some, l, counts_long, r.fewest) in
+            get_or_push counts n 0 (round - 1) place ∙ are ∙ sym (made_count g c e s (r.single (omega (arith, l, counts_long)))) ∙ ap (pair_count (frame_in g) c.lists) (sym at)))
+            (cases_lt (round - 1) (length counts));
+      }
 
-      pub end_pairs : (i : ℕ) (d : StoredEnd) (round n : ℕ) → i < length es → round ≡ (get_or es i d).round → n ≡ get_or counts (round - 1) n → n ≡ pair_count (frame_in g) c.lists round
-      end_pairs i d round n l at read =
-          let r = end_round_in g es i d round ends l at in
-          let k = count_at counts is round r.0 r.1 in
-          get_or_read counts (round - 1) n k.0 read 0 ∙ k.1
+  -- ---- a loop over the ends
 
-      pub end_few : (i : ℕ) (d : StoredEnd) (round n : ℕ) → i < length es → round ≡ (get_or es i d).round → n ≡ get_or counts (round - 1) n → n ≤ 40000000000
-      end_few i d round n l at read =
-          let r = end_round_in g es i d round ends l at in
-          omega (arith, end_pairs i d round n l at read, few_pairs round r.0 r.1)
+  abbrev pub cells_of : List StoredEnd → ℕ
+  cells_of es = sum_by (λ (z : StoredEnd). pair_count (frame_in g) c.lists z.round) es
 
-      pub end_more : (i : ℕ) (d : StoredEnd) (round n count : ℕ) → i < length es → round ≡ (get_or es i d).round → n ≡ get_or counts (round - 1) n → count ≡ cells_of (take i es) → count + n ≡ cells_of (take (i + 1) es)
-      end_more i d round n count l at read so_far =
-          let own : StoredEnd → ℕ = λ z. pair_count (frame_in g) c.lists z.round in
-          let more : cells_of (take (i + 1) es) ≡ cells_of (take i es) + own (get_or es i d) = sum_by_more own es i d l in
-          let here : n ≡ own (get_or es i d) = end_pairs i d round n l at read ∙ ap (pair_count (frame_in g) c.lists) at in
-          omega (arith, more, here, so_far)
+  module _ (counts : List ℕ) (are : AreCounts (frame_in g) c.lists counts) (es : List StoredEnd) (ends : map end_of es ≡ (frame_in g).ends) where
+    pub end_inside : (i : ℕ) (d : StoredEnd) (round : ℕ) → i < length es → round ≡ (get_or es i d).round → round - 1 < length counts
+    end_inside i d round l at = let r = end_round_in g es i d round ends l at in omega (arith, r.0, r.1, are.long)
 
-      pub all_ends : cells_of es ≡ cell_count (frame_in g) c.lists
-      all_ends = sym (sum_by-map (λ (z : End). pair_count (frame_in g) c.lists z.round) end_of es) ∙ ap (sum_by (λ (z : End). pair_count (frame_in g) c.lists z.round)) ends
+    pub end_pairs : (i : ℕ) (d : StoredEnd) (round n : ℕ) → i < length es → round ≡ (get_or es i d).round → n ≡ get_or counts (round - 1) n → n ≡ pair_count (frame_in g) c.lists round
+    end_pairs i d round n l at read =
+        let r = end_round_in g es i d round ends l at in
+        get_or_read counts (round - 1) n (omega (arith, r.0, r.1, are.long)) read 0 ∙ are.count round r.0 r.1
+
+    pub end_few : (i : ℕ) (d : StoredEnd) (round n : ℕ) → i < length es → round ≡ (get_or es i d).round → n ≡ get_or counts (round - 1) n → n ≤ 40000000000
+    end_few i d round n l at read =
+        let r = end_round_in g es i d round ends l at in
+        omega (arith, end_pairs i d round n l at read, few_pairs round r.0 r.1)
+
+    pub end_more : (i : ℕ) (d : StoredEnd) (round n count : ℕ) → i < length es → round ≡ (get_or es i d).round → n ≡ get_or counts (round - 1) n → count ≡ cells_of (take i es) → count + n ≡ cells_of (take (i + 1) es)
+    end_more i d round n count l at read so_far =
+        let own : StoredEnd → ℕ = λ z. pair_count (frame_in g) c.lists z.round in
+        let more : cells_of (take (i + 1) es) ≡ cells_of (take i es) + own (get_or es i d) = sum_by_more own es i d l in
+        let here : n ≡ own (get_or es i d) = end_pairs i d round n l at read ∙ ap (pair_count (frame_in g) c.lists) at in
+        omega (arith, more, here, so_far)
+
+    pub all_ends : cells_of es ≡ cell_count (frame_in g) c.lists
+    all_ends = sym (sum_by-map (λ (z : End). pair_count (frame_in g) c.lists z.round) end_of es) ∙ ap (sum_by (λ (z : End). pair_count (frame_in g) c.lists z.round)) ends

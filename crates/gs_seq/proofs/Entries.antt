@@ -1,16 +1,14 @@
 -- The pairs of a row one by one, and the first one behind a class.
-use Rattle.std.proofs.Common.{◌≡◌, ℕ, pos, suc, ◌<◌, ◌≤◌, cond, List, [], ◌∷◌, length, get_or, refl, sym, ap, ◌∙◌, arith, sum_by, ⊎_elim, subst, Bor, nat_lt}
+use Rattle.std.proofs.Common.{◌≡◌, ℕ, pos, suc, ◌<◌, ◌≤◌, cond, List, [], ◌∷◌, length, get_or, refl, sym, ap, ◌∙◌, arith, sum_by, ⊎_elim, subst, nat_lt}
 use Rattle.std.specs.Prelude.{◌==◌, All, MatchOption, Option, Some, None}
-use Rattle.std.specs.Option.{option_copied}
-use Rattle.std.specs.List.Sorted.{IsNonDecreasingBy}
-use Rattle.std.specs.List.{HoldsAt}
 use Rattle.std.proofs.lemmas.Bool.{cases_lt, lt-ltb}
 use Rattle.std.proofs.lemmas.List.Sums.{sum_by-cons}
 use Rattle.gs_model.specs.Classes.{ClassLists}
 use Rattle.gs_model.specs.Deals.{Deal}
 use Rattle.gs_model.specs.Frame.{Frame}
 use Rattle.gs_seq.specs.Cells.{IsPairAfter, MeetsNoneAfter}
-use Rattle.gs_seq.specs.Rows.{IsRow, Rises, signed_in, weight_in}
+use Rattle.gs_seq.specs.Rows.{IsRow, signed_in, weight_in}
+use Rattle.gs_seq.specs.Singles.{IsFirstAfter}
 use Rattle.gs_seq.proofs.Meeting.{meets_at}
 use Rattle.gs_seq.proofs.RowFacts.{signed_at_pair, weight_at_pair}
 use Rattle.gs_seq.proofs.SlotLaws.{not_eq}
@@ -27,43 +25,34 @@ pub weight_of_none : (row : List Pair) (d : Pair) (e : ℕ) → ((j : ℕ) → j
 weight_of_none row d e h = none_at (λ (p : Pair). cond (p.two == e) p.weight 0) row d (λ j l. ap (λ b. cond b (get_or row j d).weight 0) (not_eq ((get_or row j d).two) e (h j l)))
 
 -- the pair that stands first behind a class in a row
-pub after_in_row : (f : Frame) (lists : ClassLists) (round c after place : ℕ) (row : List Pair) (o : Option (Bor Pair)) → All (λ (d : Deal). 0 < d.weight) f.deals → IsRow f lists round c row
-    → ((k : ℕ) (d : Pair) → k < place → (get_or row k d).two ≤ after) → ((k : ℕ) (d : Pair) → place ≤ k → k < length row → after < (get_or row k d).two)
-    → MatchOption o (length row ≤ place) (λ x. (place < length row) × HoldsAt (λ y. x.now ≡ y) row place)
-    → MatchOption (option_copied o) (MeetsNoneAfter f lists round c after) (IsPairAfter f lists round c after)
-after_in_row f lists round c after place row None weigh r below above h =
+pub after_in_row : (f : Frame) (lists : ClassLists) (round c after : ℕ) (row : List Pair) (o : Option Pair) → All (λ (d : Deal). 0 < d.weight) f.deals → IsRow f lists round c row
+    → MatchOption o (All (λ (p : Pair). p.two ≤ after) row) (IsFirstAfter row after)
+    → MatchOption o (MeetsNoneAfter f lists round c after) (IsPairAfter f lists round c after)
+after_in_row f lists round c after row None weigh r h =
     λ e l. meets_at f lists weigh round c e row r ∙ ap (nat_lt 0) (none e l)
   where
     none : (e : ℕ) → after < e → weight_in row e ≡ 0
     none e l = elim row as (λ (row : List Pair). ((k : ℕ) (d : Pair) → k < length row → (get_or row k d).two ≡ e → ⊥) → weight_in row e ≡ 0) [
       | [] ↦ λ g. refl
       | (p ∷ ps) ↦ λ g. weight_of_none (p ∷ ps) p e (λ j lj. g j p lj)
-    ] (λ k d lk is. (let b = below k d (omega arith) in omega arith))
-after_in_row f lists round c after place row (Some x) weigh r below above h =
-    let p = x.now in
-    let is : p ≡ get_or row place p = h.1 p in
-    let here : weight_in row p.two ≡ p.weight = subst (λ (q : Pair). weight_in row q.two ≡ q.weight) (sym is) (weight_at_pair row p r.rises place h.0) in
-    let sign : signed_in row p.two ≡ p.signed = subst (λ (q : Pair). signed_in row q.two ≡ q.signed) (sym is) (signed_at_pair row p r.rises place h.0) in
-    let some : 0 < p.weight = subst (λ (q : Pair). 0 < q.weight) (sym is) (r.rises.some place p h.0) in
-    let far : after < p.two = subst (λ (q : Pair). after < q.two) (sym is) (above place p (omega arith) h.0) in
+    ] (λ k d lk is. (let b = h k d lk in omega arith))
+after_in_row f lists round c after row (Some p) weigh r h =
+    let place = h.place in
+    let is : p ≡ get_or row place p = sym (h.read p) in
+    let here : weight_in row p.two ≡ p.weight = subst (λ (q : Pair). weight_in row q.two ≡ q.weight) (sym is) (weight_at_pair row p r.rises place h.inside) in
+    let sign : signed_in row p.two ≡ p.signed = subst (λ (q : Pair). signed_in row q.two ≡ q.signed) (sym is) (signed_at_pair row p r.rises place h.inside) in
+    let some : 0 < p.weight = subst (λ (q : Pair). 0 < q.weight) (sym is) (r.rises.some place p h.inside) in
     let other : (e : ℕ) → after < e → e < p.two → weight_in row e ≡ 0 = λ e le lt. weight_of_none row p e (λ j lj k. ⊎_elim
-    (λ (l : j < place). (let b = below j p l in omega arith))
+    (λ (l : j < place). (let b = h.before j p l in omega arith))
     (λ (l : place ≤ j). ⊎_elim
     (λ (m : place < j). (let b = r.rises.ascends place j p m lj in let i = ap (λ (q : Pair). q.two) is in omega arith))
     (λ (m : j ≤ place). (let n : j ≡ place = omega arith in let i = ap (λ (q : Pair). q.two) is ∙ ap (λ v. (get_or row v p).two) (sym n) in omega arith))
     (cases_lt place j))
     (cases_lt j place)) in
     record {
-      later = far;
+      later = h.above;
       met = meets_at f lists weigh round c p.two row r ∙ lt-ltb 0 (weight_in row p.two) (omega (arith, here, some));
       between = λ e le lt. meets_at f lists weigh round c e row r ∙ ap (nat_lt 0) (other e le lt);
       weight = ap pos (sym here) ∙ r.weights p.two;
       signed = sym sign ∙ r.signed p.two;
     }
-
--- classes do not fall along a row
-pub climbs : (row : List Pair) → Rises row → IsNonDecreasingBy (λ (p : Pair). p.two) row
-climbs row r i j d l m = ⊎_elim
-    (λ (k : i < j). (let a = r.ascends i j d k m in omega arith))
-    (λ (k : j ≤ i). (let e : i ≡ j = omega arith in omega (arith, ap (λ n. (get_or row n d).two) e)))
-    (cases_lt i j)

@@ -24,3 +24,7 @@ pub mod Forms
 pub mod Choices
 pub mod Firsts
 pub mod Kept
+pub mod SomeDeal
+pub mod Singles
+pub mod Stopped
+pub mod Turns

@@ -38,7 +38,7 @@ abbrev pub RisesBy : List Pair → Type 0
 RisesBy [] = Unit {0}
 RisesBy (p ∷ ps) = (0 < p.weight) × AllByRecursion (λ q. p.two < q.two) ps × RisesBy ps
 
-further : (c d : ℕ) (row : List Pair) → c < d → AllByRecursion (λ q. d < q.two) row → AllByRecursion (λ q. c < q.two) row
+pub further : (c d : ℕ) (row : List Pair) → c < d → AllByRecursion (λ q. d < q.two) row → AllByRecursion (λ q. c < q.two) row
 further c d [] l h = tt
 further c d (q ∷ qs) l h = (let k = h.0 in omega arith, further c d qs l h.1)
 

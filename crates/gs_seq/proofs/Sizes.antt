@@ -49,7 +49,7 @@ kept : {X : Type 0} (P : X → Type 0) (x : X) (xs : List X) (b : Bool) → P x 
 kept P x xs true h t = (h, t)
 kept P x xs false h t = t
 
-every-filter : {X : Type 0} (P : X → Type 0) (p : X → Bool) (xs : List X) → AllByRecursion P xs → AllByRecursion P (filter p xs)
+pub every-filter : {X : Type 0} (P : X → Type 0) (p : X → Bool) (xs : List X) → AllByRecursion P xs → AllByRecursion P (filter p xs)
 every-filter P p [] h = tt
 every-filter P p (x ∷ xs) h = kept P x (filter p xs) (p x) h.0 (every-filter P p xs h.1)
 

@@ -51,7 +51,7 @@ take_few xs n (suc k) l =
     ap (λ m. greatest (take m xs)) e ∙ ap greatest (take_more xs k 0 (omega arith)) ∙ greatest_push (take k xs) (get_or xs k 0) in
     omega (arith, here, take_few xs n k (omega arith), (n k (omega arith)).1)
 
-greatest_few : (xs : List ℕ) → IsNumbered xs → greatest xs ≤ length xs
+pub greatest_few : (xs : List ℕ) → IsNumbered xs → greatest xs ≤ length xs
 greatest_few xs n = omega (arith, take_few xs n (length xs) (omega arith), ap greatest (take_all (length xs) xs (omega arith)))
 
 -- class lists over the parents of a frame are classes of the frame

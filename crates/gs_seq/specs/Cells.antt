@@ -1,5 +1,5 @@
 -- Pairs of classes that some deal has, and how many of them stand at the ends.
-use Rattle.std.specs.Prelude.{ℕ, ◌<◌, ◌≡◌, ◌==◌, ◌&&◌, Bool, true, false, ℤ, pos, if◌then◌else◌, sum_by, count_by}
+use Rattle.std.specs.Prelude.{ℕ, ◌-◌, ◌<◌, ◌≤◌, ◌≡◌, ◌==◌, ◌&&◌, Bool, true, false, List, length, get_or, ℤ, pos, if◌then◌else◌, sum_by, count_by}
 use Rattle.std.specs.List.{list_any}
 use Rattle.gs_model.specs.Classes.{ClassLists, class_of, classes_in}
 use Rattle.gs_model.specs.Deals.{Deal}
@@ -19,6 +19,11 @@ pair_count f lists round = sum_by (λ c. count_by (λ e. meets f lists round c e
 -- these of each end's round, added up over all ends
 abbrev pub cell_count : Frame → ClassLists → ℕ
 cell_count f lists = sum_by (λ (z : End). pair_count f lists z.round) f.ends
+
+-- for each round how many pairs of its classes some deal has
+pub record AreCounts (f : Frame) (lists : ClassLists) (counts : List ℕ) : Type 0 where
+  pub long : length counts ≡ last_round f
+  pub count : (round : ℕ) → 0 < round → round ≤ last_round f → get_or counts (round - 1) 0 ≡ pair_count f lists round
 
 -- the weight of the deals of a pair of classes
 abbrev pub pair_weight : Frame → ClassLists → ℕ → ℕ → ℕ → ℤ

@@ -4,6 +4,7 @@ pub mod Faults
 pub mod Sources
 pub mod Cells
 pub mod Rows
+pub mod Singles
 pub mod Stops
 pub mod Plans
 pub mod Abstracts

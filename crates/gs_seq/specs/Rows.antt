@@ -34,10 +34,16 @@ pub record AreRowsIn (f : Frame) (lists : ClassLists) (round : ℕ) (rows : List
   pub long : length rows ≡ class_count lists round
   pub row : (c : ℕ) (d : Vec Pair Global) → IsClass lists round c → IsRow f lists round c (get_or rows (c - 1) d).items
 
--- the rows of all rounds
+-- each signal of a round is a class of its own, numbered in order
+abbrev pub IsSingleIn : ClassLists → ℕ → Type 0
+IsSingleIn lists round = (s : ℕ) → s < length (list_of lists round) → class_of lists round s ≡ s + 1
+
+-- the rows of all rounds, or of all but the last one where each of its signals is a class of its own
 pub record AreRows (f : Frame) (lists : ClassLists) (rows : List (Vec (Vec Pair Global) Global)) : Type 0 where
-  pub long : length rows ≡ last_round f
-  pub in_round : (round : ℕ) (d : Vec (Vec Pair Global) Global) → 0 < round → round ≤ last_round f → AreRowsIn f lists round (get_or rows (round - 1) d).items
+  pub most : length rows ≤ last_round f
+  pub fewest : last_round f ≤ length rows + 1
+  pub single : length rows < last_round f → IsSingleIn lists (last_round f)
+  pub in_round : (round : ℕ) (d : Vec (Vec Pair Global) Global) → 0 < round → round ≤ length rows → AreRowsIn f lists round (get_or rows (round - 1) d).items
 
 -- how many pairs some rows have
 abbrev pub pairs_of : List (Vec Pair Global) → ℕ

@@ -11,6 +11,7 @@ use crate::flows::plan_fault;
 use crate::limits::Limits;
 use crate::numbers::{end_source, number_by};
 use crate::pair::Pair;
+use crate::pairs::{Pairs, first_after};
 use crate::plan::Plan;
 use crate::rows::{cells, rows_of};
 use crate::slots::{few_slots, offsets_of};
@@ -36,7 +37,7 @@ pub struct Abstract<'a> {
     // how many slots players 1 and 2 have
     one: u32,
     two: u32,
-    // for each round and class of player 1 its pairs
+    // for each round and class of player 1 its pairs; none of the last round where they are made of deals
     rows: Vec<Vec<Vec<Pair>>>,
     ghost few: { HasSequencesWithin (2 ^ 30) (frame_in lossless.now.signals.now.game.now) lossless.now.classes.now.lists },
     ghost placed: { AreOffsets (frame_in lossless.now.signals.now.game.now) lossless.now.classes.now.lists offsets.items },
@@ -150,13 +151,18 @@ impl<'a> Abstract<'a> {
     }
 
     /// The pairs of a class of player 1 in a round, one for each class of player 2 that some deal has beside it, in ascending order.
-    pub fn pairs(&self, round: u8, one: u32) -> &[Pair]
+    pub fn pairs(&self, round: u8, one: u32) -> Pairs<'_>
         requires some { 0 < round }
         requires top { round ≤ last_round (frame_of self.now) }
         requires class { IsClass (lists_of self.now) round one }
-        ensures { IsRow (frame_of self.now) (lists_of self.now) round one result.now }
+        ensures { IsRow (frame_of self.now) (lists_of self.now) round one result }
     {
-        &self.rows[usize::from(round) - 1][one as usize - 1]
+        let _rounds = self.lossless.classes().rounds();
+        if usize::from(round) <= self.rows.len() {
+            let row = &self.rows[usize::from(round) - 1][one as usize - 1];
+            return Pairs::listed(row);
+        }
+        Pairs::made(self.lossless.signals().deals_of(one - 1))
     }
 
     /// The pair of a class of player 1 with the least class of player 2 above `after` that some deal has beside it: none where there is no such
@@ -168,9 +174,7 @@ impl<'a> Abstract<'a> {
         ensures { MatchOption result (MeetsNoneAfter (frame_of self.now) (lists_of self.now) round one after)
             (IsPairAfter (frame_of self.now) (lists_of self.now) round one after) }
     {
-        let row = self.pairs(round, one);
-        let place = row.partition_point(|pair| pair.two <= after);
-        row.get(place).copied()
+        first_after(self.pairs(round, one), after)
     }
 
     /// For each point the slot of its first class and first move.

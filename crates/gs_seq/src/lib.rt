@@ -1,6 +1,7 @@
 //! Games in sequence form over lossless classes: plans and their slots, sums over deals by pairs of classes, and what two plans pay.
 #![tactic(auto)]
 
+mod before;
 mod earlier;
 mod fault;
 mod first;
@@ -10,9 +11,11 @@ mod laws;
 mod limits;
 mod numbers;
 mod pair;
+mod pairs;
 mod payoff;
 mod plan;
 mod rows;
+mod single;
 mod slots;
 mod stop;
 
@@ -23,6 +26,7 @@ pub use laws::{pairs_are_exchanged, plans_have_no_fault};
 pub use limits::Limits;
 pub use numbers::{number_by, plus, scaled, source_at_end};
 pub use pair::Pair;
+pub use pairs::Pairs;
 pub use plan::Plan;
 pub use rows::cell_total;
 pub use stop::SeqStop;

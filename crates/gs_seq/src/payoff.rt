@@ -8,6 +8,7 @@ use crate::flows::Source;
 use crate::form::Abstract;
 use crate::numbers::{end_source, number_by, plus, scaled};
 use crate::pair::Pair;
+use crate::pairs::Pairs;
 use crate::plan::Plan;
 use gs_game::{End, EndKind};
 
@@ -35,6 +36,7 @@ impl<'a> Abstract<'a> {
     ghost use Rattle.gs_seq.specs.Abstracts.{frame_of, lists_of};
     ghost use Rattle.gs_seq.specs.Payoffs.{end_sum, payoff_at};
     ghost use Rattle.gs_seq.specs.Plans.{IsPlanOf, class_plan, lifted};
+    ghost use Rattle.gs_seq.specs.Rows.{IsRow};
     ghost use Rattle.gs_seq.specs.Sources.{MatchSource};
 
     /// What a plan of player 1 and a plan of player 2 pay player 1, in chips times the weight of all deals and both totals.
@@ -107,14 +109,36 @@ impl<'a> Abstract<'a> {
         requires class { IsClass (lists_of self.now) (round_of (frame_of self.now) (at_end end)) class }
         ensures { result ≡ end_sum (frame_of self.now) (lists_of self.now) player (class_plan (frame_of self.now) (lists_of self.now) other.now) end class }
     {
+        let game = self.game();
+        let row = self.pairs(game.ends()[end as usize].round, class);
+        self.row_worth(player, other, source, end, class, row)
+    }
+
+    /// The same over the pairs of the class.
+    fn row_worth(
+        &self,
+        player: u8,
+        other: &Plan,
+        source: Option<Source>,
+        end: u32,
+        class: u32,
+        row: Pairs<'_>,
+    ) -> i128
+        requires some { 0 < player }
+        requires two { player ≤ 2 }
+        requires other { IsPlanOf (frame_of self.now) (lists_of self.now) (other_player player) other.now }
+        requires end { end < end_count (frame_of self.now) }
+        requires source { MatchSource (frame_of self.now) (lists_of self.now) (other_player player) (at_end end) source }
+        requires row { IsRow (frame_of self.now) (lists_of self.now) (round_of (frame_of self.now) (at_end end)) class row }
+        ensures { result ≡ end_sum (frame_of self.now) (lists_of self.now) player (class_plan (frame_of self.now) (lists_of self.now) other.now) end class }
+    {
         let classes = self.classes();
         let game = self.game();
         let at = game.ends()[end as usize];
         let mut sum = 0i128;
-        let row = self.pairs(at.round, class);
         for pair in row {
             let number = number_by(game, classes, other, source, end, pair.two);
-            sum = plus(sum, scaled(number, pays(player, at, *pair)));
+            sum = plus(sum, scaled(number, pays(player, at, pair)));
         }
         sum
     }

@@ -6,12 +6,14 @@ ghost use Rattle.gs_model.specs.Frame.{last_round};
 ghost use Rattle.gs_model.specs.Lossless.{IsLossless};
 ghost use Rattle.gs_lossless.specs.Amounts.{keys_of};
 ghost use Rattle.gs_lossless.specs.declared.sides.Side.TheVariants as sides;
-ghost use Rattle.gs_seq.specs.Cells.{cell_count};
+ghost use Rattle.gs_seq.specs.Cells.{AreCounts, cell_count};
 ghost use Rattle.gs_seq.specs.Games.{frame_in};
 ghost use Rattle.gs_seq.specs.Rows.{AreRows, AreRowsIn, IsModerate, IsRow, gathered, join, pair_of, pairs_of, together};
 
+use crate::before::rows_before;
 use crate::earlier::rows_above;
 use crate::pair::Pair;
+use crate::single::are_made;
 use gs_filter::Classes;
 use gs_game::ValidGame;
 use gs_lossless::{Lossless, Part, Side, side_keys, side_sums};
@@ -26,7 +28,7 @@ fn product(weight: u32, outcome: i8) -> i64
 }
 
 /// A weight times an outcome, with how large that can be.
-fn scaled(weight: u32, outcome: i8) -> i64
+pub(crate) fn scaled(weight: u32, outcome: i8) -> i64
     ensures value { result ≡ pos weight *ℤ outcome }
     ensures size { unsigned_abs result ≤ 128 * weight }
 {
@@ -43,12 +45,12 @@ fn plus(first: i64, second: i64) -> i64
 }
 
 /// What a part of one member of a class is for all members.
-fn pair_from(part: Part, members: u32) -> Pair
+fn pair_from(part: Part, members: u64) -> Pair
     requires { members * part.weight < 2 ^ 32 }
     ensures value { result ≡ pair_of members part }
     ensures moderate { IsModerate result }
 {
-    let weight = (u64::from(members) * part.weight) as u32;
+    let weight = (members * part.weight) as u32;
     Pair {
         two: part.class,
         weight,
@@ -92,7 +94,7 @@ fn add(row: &mut Vec<Pair>, pair: Pair) -> Result<(), AllocError>
 }
 
 /// The row of a class with so many members, by the parts of one of them in descending order.
-pub(crate) fn row_of(alloc: Global, sums: &[Part], members: u32) -> Result<Vec<Pair>, AllocError>
+pub(crate) fn row_of(alloc: Global, sums: &[Part], members: u64) -> Result<Vec<Pair>, AllocError>
     requires { members * sum_by (λ p. p.weight) sums.now < 2 ^ 32 }
     ensures { IfOk result (λ v. v.items ≡ gathered members (reverse sums.now)) }
 {
@@ -124,11 +126,11 @@ fn class_row(
     let _rounds = classes.rounds();
     let first = classes.first(round, class);
     let sums = side_sums(alloc, signals, Side::Deals, round, keys, first)?;
-    row_of(alloc, &sums, classes.size(round, class))
+    row_of(alloc, &sums, u64::from(classes.size(round, class)))
 }
 
 /// The rows of all classes of a round.
-fn rows_in(
+pub(crate) fn rows_in(
     alloc: Global,
     signals: &Signals,
     classes: &Classes,
@@ -150,8 +152,8 @@ fn rows_in(
     Ok(rows)
 }
 
-/// The rows of all rounds: those of the last one by its deals, the others by those of the round behind each.
-pub(crate) fn rows_of(alloc: Global, lossless: &Lossless) -> Result<Vec<Vec<Vec<Pair>>>, AllocError>
+/// The rows of all rounds, listed: those of the last one by its deals, the others by those of the round behind each.
+fn rows_listed(alloc: Global, lossless: &Lossless) -> Result<Vec<Vec<Vec<Pair>>>, AllocError>
     ensures { IfOk result (λ v. AreRows (frame_in lossless.now.signals.now.game.now) lossless.now.classes.now.lists v.items) }
 {
     let signals = lossless.signals();
@@ -167,6 +169,17 @@ pub(crate) fn rows_of(alloc: Global, lossless: &Lossless) -> Result<Vec<Vec<Vec<
     Ok(rows)
 }
 
+/// The rows of all rounds, but for the last one where its pairs are made of deals.
+pub(crate) fn rows_of(alloc: Global, lossless: &Lossless) -> Result<Vec<Vec<Vec<Pair>>>, AllocError>
+    ensures { IfOk result (λ v. AreRows (frame_in lossless.now.signals.now.game.now) lossless.now.classes.now.lists v.items) }
+{
+    if are_made(lossless.signals(), lossless.classes()) {
+        let rows = rows_before(alloc, lossless)?;
+        return Ok(rows);
+    }
+    rows_listed(alloc, lossless)
+}
+
 /// How many pairs some rows have.
 fn pairs_in(rows: &[Vec<Pair>]) -> u64
     requires { pairs_of rows.now < 2 ^ 64 }
@@ -179,14 +192,33 @@ fn pairs_in(rows: &[Vec<Pair>]) -> u64
     count
 }
 
-/// How many pairs the rows of each round have.
-fn pair_counts(alloc: Global, rows: &[Vec<Vec<Pair>>]) -> Result<Vec<u64>, AllocError>
+/// How many pairs the listed rows of each round have.
+fn listed_counts(alloc: Global, rows: &[Vec<Vec<Pair>>]) -> Result<Vec<u64>, AllocError>
     requires { All (λ v. pairs_of v.items < 2 ^ 64) rows.now }
     ensures { IfOk result (λ n. n.items ≡ map (λ v. pairs_of v.items) rows.now) }
 {
     let mut counts = Vec::with_capacity(alloc, rows.len())?;
     for in_round in rows {
         counts.push(pairs_in(in_round))?;
+    }
+    Ok(counts)
+}
+
+/// How many pairs each round has. Those that are made are as many as deals.
+fn pair_counts(
+    alloc: Global,
+    game: &ValidGame,
+    classes: &Classes,
+    rows: &[Vec<Vec<Pair>>],
+) -> Result<Vec<u64>, AllocError>
+    requires parents { classes.now.parents ≡ (frame_in game.now).parents }
+    requires rows { AreRows (frame_in game.now) classes.now.lists rows.now }
+    ensures { IfOk result (λ n. AreCounts (frame_in game.now) classes.now.lists n.items) }
+{
+    let rounds = classes.rounds();
+    let mut counts = listed_counts(alloc, rows)?;
+    if counts.len() < usize::from(rounds) {
+        counts.push(u64::from(game.deal_count()))?;
     }
     Ok(counts)
 }
@@ -203,7 +235,7 @@ pub(crate) fn cells(
     ensures { IfOk result (λ n. n ≡ cell_count (frame_in game.now) classes.now.lists) }
 {
     let _rounds = classes.rounds();
-    let counts = pair_counts(alloc, rows)?;
+    let counts = pair_counts(alloc, game, classes, rows)?;
     let mut count = 0u64;
     for end in game.ends() {
         count += counts[usize::from(end.round) - 1];

@@ -3,7 +3,7 @@ use Rattle.gs_game.specs.declared.valid.ValidGame.{ValidGame}
 use Rattle.gs_model.specs.Frame.{total_weight}
 use Rattle.gs_seq.specs.Games.{frame_in}
 use Rattle.gs_best.specs.Forms.{game_in}
-use Rattle.gs_best.proofs.SomeDeal.{some_deal}
+use Rattle.gs_seq.proofs.SomeDeal.{some_deal}
 use Rattle.gs_best.proofs.reading.deal_weight.Goals as goal
 
 pub returns-clause-some : goal.returns-clause-some

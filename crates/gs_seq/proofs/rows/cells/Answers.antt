@@ -3,13 +3,10 @@ use Rattle.gs_game.specs.declared.positions.End.{End}
 use Rattle.gs_seq.specs.Cells.{pair_count}
 use Rattle.gs_seq.specs.Games.{frame_in}
 use Rattle.std.proofs.lemmas.List.{take_all}
-use Rattle.gs_seq.proofs.CellLaws.{all_ends, end_few, end_inside, end_more, end_round_in, rows_fit}
+use Rattle.gs_seq.proofs.CellLaws.{all_ends, end_few, end_inside, end_more, end_round_in}
 use Rattle.gs_seq.proofs.Ends.{length-ends}
 use Rattle.gs_seq.proofs.Sizes.{modest}
 use Rattle.gs_seq.proofs.rows.cells.Goals as goal
-
-pub pair_counts-requires : goal.pair_counts-requires
-pair_counts-requires c = rows_fit c.args.game.now c.args.classes.now c.requires.parents c.rounds-rounds.ensures.sound c.args.rows.now c.requires.rows
 
 pub overflow_sub-from : goal.overflow_sub-from
 overflow_sub-from c =
@@ -19,22 +16,22 @@ overflow_sub-from c =
 pub index-requires : goal.index-requires
 index-requires c =
     let counts = c.in_ok-counts.counts in
-    let inside = end_inside c.args.game.now c.args.classes.now c.requires.parents c.rounds-rounds.ensures.sound c.args.rows.now c.requires.rows counts.items c.in_ok-counts.ensures
+    let inside = end_inside c.args.game.now c.args.classes.now c.requires.parents c.rounds-rounds.ensures.sound counts.items c.in_ok-counts.ensures
     c.ends-end-items.result.now c.ends-end-items.ensures c.loop-end.end-index _ c.from.result c.loop-end-test.true c.from.ensures in
     omega (arith, inside, counts.ok.0)
 
 pub overflow_add-count : goal.overflow_add-count
 overflow_add-count c =
-    let few = end_few c.args.game.now c.args.classes.now c.requires.parents c.rounds-rounds.ensures.sound c.args.rows.now c.requires.rows c.in_ok-counts.counts.items c.in_ok-counts.ensures
+    let few = end_few c.args.game.now c.args.classes.now c.requires.parents c.rounds-rounds.ensures.sound c.in_ok-counts.counts.items c.in_ok-counts.ensures
     c.ends-end-items.result.now c.ends-end-items.ensures c.loop-end.end-index _ c.from.result c.index.result.now c.loop-end-test.true c.from.ensures c.index.ensures in
     omega (arith, few, c.loop-end.invariant.few, c.loop-end-test.true, length-ends c.args.game.now c.ends-end-items.result.now c.ends-end-items.ensures, (modest c.args.game.now).ends)
 
 pub loop-end-preserved : goal.loop-end-preserved
 loop-end-preserved c =
-    let few = end_few c.args.game.now c.args.classes.now c.requires.parents c.rounds-rounds.ensures.sound c.args.rows.now c.requires.rows c.in_ok-counts.counts.items c.in_ok-counts.ensures
+    let few = end_few c.args.game.now c.args.classes.now c.requires.parents c.rounds-rounds.ensures.sound c.in_ok-counts.counts.items c.in_ok-counts.ensures
     c.ends-end-items.result.now c.ends-end-items.ensures c.loop-end.end-index _ c.from.result c.index.result.now c.loop-end-test.true c.from.ensures c.index.ensures in
     record {
-      count_is = end_more c.args.game.now c.args.classes.now c.requires.parents c.rounds-rounds.ensures.sound c.args.rows.now c.requires.rows c.in_ok-counts.counts.items c.in_ok-counts.ensures
+      count_is = end_more c.args.game.now c.args.classes.now c.requires.parents c.rounds-rounds.ensures.sound c.in_ok-counts.counts.items c.in_ok-counts.ensures
           c.ends-end-items.result.now c.ends-end-items.ensures c.loop-end.end-index _ c.from.result c.index.result.now c.loop-end.count c.loop-end-test.true c.from.ensures c.index.ensures c.loop-end.invariant.count_is;
       few = omega (arith, few, c.loop-end.invariant.few);
     }
@@ -46,4 +43,4 @@ returns c =
     let es = c.ends-end-items.result.now in
     let whole = take_all c.loop-end.end-index es (omega arith) in
     c.loop-end.invariant.count_is ∙ ap (sum_by (λ (z : End). pair_count f lists z.round)) whole
-    ∙ all_ends c.args.game.now c.args.classes.now c.requires.parents c.rounds-rounds.ensures.sound c.args.rows.now c.requires.rows c.in_ok-counts.counts.items c.in_ok-counts.ensures es c.ends-end-items.ensures
+    ∙ all_ends c.args.game.now c.args.classes.now c.requires.parents c.rounds-rounds.ensures.sound c.in_ok-counts.counts.items c.in_ok-counts.ensures es c.ends-end-items.ensures

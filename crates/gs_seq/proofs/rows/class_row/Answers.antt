@@ -26,7 +26,7 @@ row_of-requires c =
     let sums = c.deref.result.now in
     let amounts = subst (λ xs. AreAmounts (frame_in c.args.signals.now.game.now) lists Deals c.args.round first (reverse xs)) (sym c.deref.ensures.value) (c.in_ok-sums.ensures lists c.requires.keys) in
     row_fits c.args.signals.now.game.now c.args.classes.now c.requires.parents c.rounds-rounds.ensures.sound c.requires.lossless c.args.round c.requires.some c.requires.top
-    c.args.class first c.size.result c.size.ensures sums amounts c.first-first.ensures.within c.first-first.ensures.member
+    c.args.class first c.from.result (c.from.ensures ∙ c.size.ensures) sums amounts c.first-first.ensures.within c.first-first.ensures.member
 
 pub returns : goal.returns
 returns c =
@@ -36,6 +36,6 @@ returns c =
     let sums = c.deref.result.now in
     let amounts = subst (λ xs. AreAmounts f lists Deals c.args.round first (reverse xs)) (sym c.deref.ensures.value) (c.in_ok-sums.ensures lists c.requires.keys) in
     let row = row_is c.args.signals.now.game.now c.args.classes.now c.requires.parents c.rounds-rounds.ensures.sound c.requires.lossless c.args.round c.requires.some c.requires.top
-    c.args.class first c.size.result c.size.ensures sums amounts c.first-first.ensures.within c.first-first.ensures.member in
-    if_ok c.row_of.result (λ v. v.items ≡ gathered c.size.result (reverse sums)) (λ v. IsRow f lists c.args.round c.args.class v.items)
+    c.args.class first c.from.result (c.from.ensures ∙ c.size.ensures) sums amounts c.first-first.ensures.within c.first-first.ensures.member in
+    if_ok c.row_of.result (λ v. v.items ≡ gathered c.from.result (reverse sums)) (λ v. IsRow f lists c.args.round c.args.class v.items)
     (λ v e. subst (IsRow f lists c.args.round c.args.class) (sym e) row) c.row_of.ensures

@@ -1,4 +1,4 @@
-use Rattle.gs_best.proofs.SomeDeal.{some_deal}
+use Rattle.gs_seq.proofs.SomeDeal.{some_deal}
 use Rattle.gs_seq.specs.Abstracts.{lists_of}
 use Rattle.gs_settle.specs.Settling.{game_in}
 use Rattle.gs_settle.proofs.SolvedGaps.{is_solved}

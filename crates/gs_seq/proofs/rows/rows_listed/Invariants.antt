@@ -4,7 +4,7 @@ use Rattle.gs_model.specs.Frame.{last_round}
 use Rattle.gs_seq.specs.Games.{frame_in}
 use Rattle.gs_seq.specs.Rows.{AreRowsIn}
 use Rattle.gs_seq.specs.declared.pair.Pair.{Pair}
-use Rattle.gs_seq.proofs.rows.rows_of.Given as goal
+use Rattle.gs_seq.proofs.rows.rows_listed.Given as goal
 
 abbrev pub decreases-loop-round : goal.decreases-loop-round
 decreases-loop-round l = l.round

@@ -1,0 +1,12 @@
+use Rattle.std.proofs.Common.{◌≡◌, ◌+◌, ◌<◌, ℕ, get_or, Vec, vec_len}
+use Rattle.std.specs.declared.alloc.Global.{Global}
+use Rattle.gs_seq.specs.Games.{frame_in}
+use Rattle.gs_seq.specs.Rows.{IsRow}
+use Rattle.gs_seq.specs.declared.pair.Pair.{Pair}
+use Rattle.gs_seq.proofs.before.rows_by.Given as goal
+
+abbrev pub invariant-loop-before : goal.invariant-loop-before
+invariant-loop-before l = record {
+  long : vec_len l.rows ≡ l.before;
+  row : (k : ℕ) (d : Vec Pair Global) → k < l.before → IsRow (frame_in l.signals.game.now) l.classes.lists l.round (k + 1) (get_or l.rows.items k d).items;
+}

@@ -1,0 +1,28 @@
+-- The pairs of a class of one signal, by its deals.
+use Rattle.std.specs.Prelude.{ℕ, ◌+◌, ◌<◌, ◌≤◌, ◌≡◌, List, [], length, get_or, Option, None, Some, pos, ◌*ℤ◌}
+use Rattle.gs_model.specs.Deals.{Deal}
+use Rattle.gs_seq.specs.declared.pair.Pair.{Pair}
+
+-- a deal as the pair that it is where each signal is a class of its own
+abbrev pub deal_pair : Deal → Pair
+deal_pair d = record { two = d.two + 1; weight = d.weight; signed = pos d.weight *ℤ d.outcome }
+
+-- the deals that are left, where there are any
+abbrev pub deals_left : Option (List Deal) → List Deal
+deals_left None = []
+deals_left (Some deals) = deals
+
+-- a deal as a game has it: of at most 200,000 signals, and of no more weight than all deals
+pub record IsSlight (d : Deal) : Type 0 where
+  pub two : d.two < 200000
+  pub weight : d.weight ≤ 67108864
+
+-- ---- a search along a row
+
+-- the first pair of a row whose class is above another
+pub record IsFirstAfter (row : List Pair) (after : ℕ) (p : Pair) : Type 0 where
+  pub place : ℕ
+  pub inside : place < length row
+  pub read : (d : Pair) → get_or row place d ≡ p
+  pub before : (k : ℕ) (d : Pair) → k < place → (get_or row k d).two ≤ after
+  pub above : after < p.two

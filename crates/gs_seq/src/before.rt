@@ -1,0 +1,143 @@
+//! The rows of rounds before the last, by the games that stop after them: after a round all pairs of signals go on in as many ways.
+
+ghost use Rattle.std.specs.Prelude.{◌≡◌, ◌+◌, ◌-◌, ◌<◌, ◌≤◌, ℕ, IfOk, get_or, length, Vec};
+ghost use Rattle.std.specs.declared.alloc.Global.{Global};
+ghost use Rattle.gs_game.specs.GoingOn.{StopsAfter, ways_on as ways_after};
+ghost use Rattle.gs_model.specs.Classes.{IsClass, list_of};
+ghost use Rattle.gs_model.specs.Frame.{last_round};
+ghost use Rattle.gs_model.specs.Game.{round_count};
+ghost use Rattle.gs_model.specs.Lossless.{IsLossless};
+ghost use Rattle.gs_tree.specs.Trees.{rules_of};
+ghost use Rattle.gs_lossless.specs.Amounts.{keys_of};
+ghost use Rattle.gs_lossless.specs.declared.sides.Side.TheVariants as sides;
+ghost use Rattle.gs_seq.specs.Games.{frame_in};
+ghost use Rattle.gs_seq.specs.Rows.{AreRowsIn, IsRow};
+ghost use Rattle.gs_seq.specs.declared.pair.Pair.{Pair as Paired};
+
+use crate::pair::Pair;
+use crate::rows::{row_of, rows_in};
+use gs_filter::Classes;
+use gs_lossless::{Lossless, Side, side_keys, side_sums, stopped_classes};
+use gs_tree::Signals;
+use std::alloc::{AllocError, Global};
+
+/// The ways to go on after a round: what all deals weigh, over what those of the game that stops there weigh.
+fn ways_on(signals: &Signals, round: u8, stopped: &Signals) -> u64
+    requires some { 0 < round }
+    requires top { round ≤ round_count (rules_of signals.now) }
+    requires stops { StopsAfter (rules_of signals.now) round (rules_of stopped.now) }
+    ensures { result ≡ ways_after (rules_of signals.now) round }
+{
+    signals.game().weight() / stopped.game().weight()
+}
+
+/// The row of a class of a round before the last, by the deals of its first member where the game stops after the round.
+fn row_by(
+    alloc: Global,
+    signals: &Signals,
+    classes: &Classes,
+    round: u8,
+    stopped: &Signals,
+    seen: &Classes,
+    keys: &[u32],
+    ways: u64,
+    class: u32,
+) -> Result<Vec<Pair>, AllocError>
+    requires parents { classes.now.parents ≡ (frame_in signals.now.game.now).parents }
+    requires lossless { IsLossless (frame_in signals.now.game.now) classes.now.lists }
+    requires some { 0 < round }
+    requires before_last { round < round_count (rules_of signals.now) }
+    requires stops { StopsAfter (rules_of signals.now) round (rules_of stopped.now) }
+    requires same { list_of seen.now.lists round ≡ list_of classes.now.lists round }
+    requires keys { keys.now ≡ keys_of (frame_in stopped.now.game.now) seen.now.lists sides.Deals round }
+    requires ways { ways ≡ ways_after (rules_of signals.now) round }
+    requires class { IsClass classes.now.lists round class }
+    ensures { IfOk result (λ v. IsRow (frame_in signals.now.game.now) classes.now.lists round class v.items) }
+{
+    let _rounds = classes.rounds();
+    let first = classes.first(round, class);
+    let sums = side_sums(alloc, stopped, Side::Deals, round, keys, first)?;
+    row_of(alloc, &sums, u64::from(classes.size(round, class)) * ways)
+}
+
+/// The rows of a round before the last, by the game that stops after it.
+fn rows_by(
+    alloc: Global,
+    signals: &Signals,
+    classes: &Classes,
+    round: u8,
+    stopped: &Signals,
+    seen: &Classes,
+) -> Result<Vec<Vec<Pair>>, AllocError>
+    requires parents { classes.now.parents ≡ (frame_in signals.now.game.now).parents }
+    requires lossless { IsLossless (frame_in signals.now.game.now) classes.now.lists }
+    requires some { 0 < round }
+    requires before_last { round < round_count (rules_of signals.now) }
+    requires stops { StopsAfter (rules_of signals.now) round (rules_of stopped.now) }
+    requires over { seen.now.parents ≡ (frame_in stopped.now.game.now).parents }
+    requires same { list_of seen.now.lists round ≡ list_of classes.now.lists round }
+    ensures { IfOk result (λ v. AreRowsIn (frame_in signals.now.game.now) classes.now.lists round v.items) }
+{
+    let _rounds = classes.rounds();
+    let keys = side_keys(alloc, stopped, seen, Side::Deals, round)?;
+    let ways = ways_on(signals, round, stopped);
+    let count = classes.classes(round);
+    let mut rows = Vec::with_capacity(alloc, count as usize)?;
+    for before in 0..count {
+        let row = row_by(
+            alloc,
+            signals,
+            classes,
+            round,
+            stopped,
+            seen,
+            &keys,
+            ways,
+            before + 1,
+        )?;
+        rows.push(row)?;
+    }
+    Ok(rows)
+}
+
+/// The rows of a round before the last. Where the rounds up to it deal a player more than one own card, all deals are walked.
+fn rows_at(
+    alloc: Global,
+    signals: &Signals,
+    classes: &Classes,
+    round: u8,
+) -> Result<Vec<Vec<Pair>>, AllocError>
+    requires parents { classes.now.parents ≡ (frame_in signals.now.game.now).parents }
+    requires lossless { IsLossless (frame_in signals.now.game.now) classes.now.lists }
+    requires some { 0 < round }
+    requires before_last { round < round_count (rules_of signals.now) }
+    ensures { IfOk result (λ v. AreRowsIn (frame_in signals.now.game.now) classes.now.lists round v.items) }
+{
+    let _rounds = classes.rounds();
+    if let Some(game) = signals.game().stopped(alloc, round)? {
+        let stopped = Signals::of(alloc, &game)?;
+        if let Some(seen) = stopped_classes(alloc, &stopped, classes, round)? {
+            return rows_by(alloc, signals, classes, round, &stopped, &seen);
+        }
+    }
+    rows_in(alloc, signals, classes, round)
+}
+
+/// The rows of all rounds before the last.
+pub(crate) fn rows_before(
+    alloc: Global,
+    lossless: &Lossless,
+) -> Result<Vec<Vec<Vec<Pair>>>, AllocError>
+    ensures long { IfOk result (λ v. length v.items + 1 ≡ last_round (frame_in lossless.now.signals.now.game.now)) }
+    ensures rows { IfOk result (λ v. (k : ℕ) (d : Vec (Vec Paired Global) Global) → k < length v.items
+        → AreRowsIn (frame_in lossless.now.signals.now.game.now) lossless.now.classes.now.lists (k + 1) (get_or v.items k d).items) }
+{
+    let signals = lossless.signals();
+    let count = signals.rounds() - 1;
+    let mut rows = Vec::with_capacity(alloc, usize::from(count))?;
+    for before in 0..count {
+        let at = rows_at(alloc, signals, lossless.classes(), before + 1)?;
+        rows.push(at)?;
+    }
+    Ok(rows)
+}
