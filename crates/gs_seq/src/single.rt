@@ -9,10 +9,15 @@ use gs_filter::Classes;
 use gs_game::are_single;
 use gs_tree::Signals;
 
-/// Whether no kind of cards has more than one copy, and each player is dealt one private card: then a deal is made at once.
-fn is_plain(signals: &Signals) -> bool {
-    let copies = signals.game().game().deck.counts();
-    signals.own_count() == 1 && are_single(copies)
+/// The most pairs of last-round signals that are listed where they could be made: a list is read faster, and takes 16 bytes a pair.
+const MOST_LISTED: u32 = 1_000_000;
+
+/// Whether there are many deals, and each is made at once: no kind of cards has more than one copy, and each player is dealt one private card.
+fn is_large(signals: &Signals) -> bool {
+    let game = signals.game();
+    game.deal_count() > MOST_LISTED
+        && signals.own_count() == 1
+        && are_single(game.game().deck.counts())
 }
 
 /// Whether each signal of a round is a class of its own, numbered in order.
@@ -29,11 +34,11 @@ fn is_single(classes: &Classes, round: u8) -> bool
     true
 }
 
-/// Whether the pairs of last-round classes are made one by one of the deals of their signals, and not listed.
+/// Whether the pairs of last-round classes are many, and are made one by one of the deals of their signals and not listed.
 pub(crate) fn are_made(signals: &Signals, classes: &Classes) -> bool
     requires { classes.now.parents ≡ (frame_in signals.now.game.now).parents }
     ensures { IsTrue result → IsSingleIn classes.now.lists (last_round (frame_in signals.now.game.now)) }
 {
     let _rounds = classes.rounds();
-    is_plain(signals) && is_single(classes, signals.rounds())
+    is_large(signals) && is_single(classes, signals.rounds())
 }

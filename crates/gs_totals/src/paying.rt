@@ -9,13 +9,14 @@ ghost use Rattle.gs_model.specs.Positions.{at_end};
 ghost use Rattle.gs_seq.specs.Abstracts.{frame_of, lists_of};
 ghost use Rattle.gs_seq.specs.Payoffs.{end_sum, pair_pays};
 ghost use Rattle.gs_seq.specs.Plans.{class_plan};
+ghost use Rattle.gs_seq.specs.Rows.{IsRow};
 ghost use Rattle.gs_best.specs.Sizes.{IsWide};
 ghost use Rattle.gs_totals.specs.Places.{AreNumbersAt, end_classes};
 
 use crate::places::game;
 use gs_best::{Deviator, class_total, end_round, round_total};
 use gs_game::{End, EndKind};
-use gs_seq::{Abstract, Pair, plus, scaled};
+use gs_seq::{Abstract, Pair, Pairs, plus, scaled};
 
 /// An end of the game.
 pub(crate) fn end_in(form: &Abstract, end: u32) -> End
@@ -84,12 +85,32 @@ fn paid(side: &Deviator<'_>, end: u32, class: u32, numbers: &[u64]) -> i128
         result ≡ end_sum f lists side.now.player (class_plan f lists side.now.other.now) end class }
 {
     let _rounds = round_total(side.form);
-    let at = end_in(side.form, end);
     let row = side.form.pairs(end_round(side.form, end), class);
+    row_paid(side, end, class, numbers, row)
+}
+
+/// The same over the pairs of the class.
+fn row_paid(
+    side: &Deviator<'_>,
+    end: u32,
+    class: u32,
+    numbers: &[u64],
+    row: Pairs<'_>,
+) -> i128
+    requires end { end < end_count (frame_of side.now.form.now) }
+    requires room { class_count (lists_of side.now.form.now) (round_of (frame_of side.now.form.now) (at_end end)) ≤ length numbers.now }
+    requires numbers { let f = frame_of side.now.form.now in let lists = lists_of side.now.form.now in
+        AreNumbersAt f lists (other_player side.now.player) (class_plan f lists side.now.other.now) end numbers.now }
+    requires row { IsRow (frame_of side.now.form.now) (lists_of side.now.form.now) (round_of (frame_of side.now.form.now) (at_end end)) class row }
+    ensures { let f = frame_of side.now.form.now in let lists = lists_of side.now.form.now in
+        result ≡ end_sum f lists side.now.player (class_plan f lists side.now.other.now) end class }
+{
+    let _rounds = round_total(side.form);
+    let at = end_in(side.form, end);
     let mut sum = 0i128;
     for pair in row {
         let number = number_of(numbers, pair.two);
-        sum = plus(sum, scaled(number, pays(side.player, at, *pair)));
+        sum = plus(sum, scaled(number, pays(side.player, at, pair)));
     }
     sum
 }

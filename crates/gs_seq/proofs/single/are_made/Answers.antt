@@ -12,7 +12,7 @@ is_single-requires-clause-top c =
     let f = frame_in c.args.signals.now.game.now in
     omega (arith, c.rounds.ensures.value, last_is (rules_of c.args.signals.now), (over f c.args.classes.now c.requires c.rounds-rounds.ensures.sound).rounds)
 
-pub returns-then-is_plain : goal.returns-then-is_plain
-returns-then-is_plain c =
+pub returns-then-is_large : goal.returns-then-is_large
+returns-then-is_large c =
     let last : c.rounds.result ≡ last_round (frame_in c.args.signals.now.game.now) = c.rounds.ensures.value ∙ sym (last_is (rules_of c.args.signals.now)) in
     λ t. subst (IsSingleIn c.args.classes.now.lists) last (c.is_single.ensures t)
