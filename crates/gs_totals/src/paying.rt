@@ -90,13 +90,7 @@ fn paid(side: &Deviator<'_>, end: u32, class: u32, numbers: &[u64]) -> i128
 }
 
 /// The same over the pairs of the class.
-fn row_paid(
-    side: &Deviator<'_>,
-    end: u32,
-    class: u32,
-    numbers: &[u64],
-    row: Pairs<'_>,
-) -> i128
+fn row_paid(side: &Deviator<'_>, end: u32, class: u32, numbers: &[u64], row: Pairs<'_>) -> i128
     requires end { end < end_count (frame_of side.now.form.now) }
     requires room { class_count (lists_of side.now.form.now) (round_of (frame_of side.now.form.now) (at_end end)) ≤ length numbers.now }
     requires numbers { let f = frame_of side.now.form.now in let lists = lists_of side.now.form.now in
