@@ -1,6 +1,7 @@
 -- What a course holds: its totals and steps are small, and no move is ahead of the chosen one.
-use Rattle.std.proofs.Common.{◌≡◌, ◌≢◌, ℕ, ◌+◌, ◌-◌, ◌^◌, ◌<◌, ◌≤◌, List, get_or, sym, ap, ◌∙◌, subst, arith}
+use Rattle.std.proofs.Common.{◌≡◌, ◌≢◌, ℕ, ◌+◌, ◌-◌, ◌*◌, ◌/◌, ◌^◌, ◌<◌, ◌≤◌, Bool, true, false, refl, List, get_or, sym, ap, ◌∙◌, subst, arith}
 use Rattle.std.specs.Prelude.{IsTrue, ℤ, pos, ◌-ℤ◌, nat_lt, slice_index, unsigned_abs}
+use Rattle.std.proofs.Math.Nat.{le-div_iff_mul-le}
 use Rattle.std.proofs.lemmas.Int.{ints}
 use borrow.Author.Differences.{abs_is}
 use Rattle.gs_filter.specs.Filter.{IsSound}
@@ -13,7 +14,7 @@ use Rattle.gs_best.specs.Tables.{start_of}
 use Rattle.gs_best.specs.declared.deviator.Deviator.{Deviator}
 use Rattle.gs_totals.specs.ClassTotals.{IsFollowed, total_worth}
 use Rattle.gs_totals.specs.Courses.{StaysBehind, frame_in, lists_in, moves_chosen, totals_added, totals_now}
-use Rattle.gs_totals.specs.Lasting.{AreBehind, IsBehind, IsNotAhead}
+use Rattle.gs_totals.specs.Lasting.{AreBehind, IsBehind, IsNotAhead, IsWithinGap}
 use Rattle.gs_totals.specs.Merged.{AreModestFrom, AreWorths}
 use Rattle.gs_totals.specs.Places.{IsFollowedFrom}
 use Rattle.gs_totals.specs.declared.course.Course.{Course}
@@ -66,6 +67,20 @@ module _ (k : Course) (s : IsSound k.form.now.lossless.now.classes.now) where
       where
         before_from : (m n : ℕ) → IsTrue (nat_lt m n) → m < n
         before_from m n t = grind (arith, t)
+
+-- in one turn nothing is overtaken, since the choices are those of now
+within_once : (before : Bool) (gap gain times : ℕ) → times ≤ 1 → 0 < gain → (IsTrue before → 0 < gap) → IsWithinGap before gap gain times
+within_once true gap gain times l some more =
+    let up : 1 * gain ≤ gap + gain - 1 = (let m = more refl in omega (arith, m, some)) in
+    let one : 1 ≤ (gap + gain - 1) / gain = (le-div_iff_mul-le {k = gain} {x = 1} {y = gap + gain - 1} some).1 up in
+    omega (arith, l, one)
+within_once false gap gain times l some more = omega (arith, l)
+
+pub once_behind : (k : Course) → IsSound k.form.now.lossless.now.classes.now → (q m times : ℕ) → q < point_count (frame_in k) → m < move_count (frame_in k) q → player_at (frame_in k) q ≡ k.player → times ≤ 1 → StaysBehind k q m times
+once_behind k s q m times lq lm own l c lc ne =
+    let here = not_ahead k s q m c lq lm lc own in
+    λ gap gain e g some.
+    within_once (nat_lt m (moves_chosen k q c)) gap gain times l some (λ t. let less = here.less t in omega (arith, ints, less, e))
 
 -- a move's rows, class by class
 module _ (k : Course) (q m start count : ℕ) (at : start ≡ start_of (frame_in k) (lists_in k) q) (all : count ≡ class_count (lists_in k) (round_of (frame_in k) (at_point q))) (values worths slopes rises : List ℤ) (values_are : values ≡ k.totals.now.points.items)

@@ -102,7 +102,8 @@ fn behind_all(
     left
 }
 
-/// A number of turns, at most so many, in which no class of an own point turns to a move; both rows are written anew.
+/// A number of turns, at most so many, in which no class of an own point turns to a move: at once where one turn is asked for, since its choices are
+/// known. Both rows may be written anew.
 fn lasting_move(
     course: &Course<'_>,
     point: u32,
@@ -121,6 +122,9 @@ fn lasting_move(
     ensures some { 0 < times → 0 < result }
 {
     let _rounds = round_total(course.form);
+    if times <= 1 {
+        return times;
+    }
     let now = Deviator {
         form: course.form,
         player: course.player,

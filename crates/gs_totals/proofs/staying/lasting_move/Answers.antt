@@ -6,7 +6,7 @@ use Rattle.gs_model.specs.Frame.{point_count}
 use Rattle.gs_best.specs.Tables.{start_of}
 use Rattle.gs_best.proofs.Starts.{starts_le, starts_more}
 use Rattle.gs_totals.specs.Courses.{frame_in, lists_in}
-use Rattle.gs_totals.proofs.CourseLaws.{added_modest, all_ahead, all_behind, all_gains, all_gaps, now_modest}
+use Rattle.gs_totals.proofs.CourseLaws.{added_modest, all_ahead, all_behind, all_gains, all_gaps, now_modest, once_behind}
 use Rattle.gs_totals.proofs.staying.lasting_move.Goals as goal
 
 pub read_worths-requires-clause-modest : goal.read_worths-requires-clause-modest
@@ -98,3 +98,6 @@ returns-clause-behind c =
     let start : c.index.result.now ≡ start_of f lists q = get_or_read k.places.now.points.items q _ (omega (arith, c.requires.point, placed.many_points)) c.index.ensures 0 ∙ placed.points q c.requires.point in
     let all = c.class_total-count.ensures.value ∙ ap (class_count lists) c.round_at.ensures.value in
     all_behind k q m c.index.result.now c.class_total-count.result start all c.deref.result.now c.read_worths.new.worths c.deref-2.result.now c.read_worths-2.new.worths c.deref.ensures.value c.deref-2.ensures.value c.read_worths.ensures c.read_worths-2.ensures c.behind_all.result c.behind_all.ensures.behind
+
+pub returns-then-times-le1-clause-behind : goal.returns-then-times-le1-clause-behind
+returns-then-times-le1-clause-behind c = once_behind c.args.course.now c.round_total-rounds.ensures.sound c.args.point c.args.choice c.args.times c.requires.point c.requires.choice c.requires.own (omega arith)
