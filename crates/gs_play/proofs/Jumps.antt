@@ -14,14 +14,10 @@ use Rattle.gs_totals.specs.Jumps.{AreBeforeChange, tables_after}
 use Rattle.gs_totals.specs.KeptSums.{AreAlike, plus_times}
 use Rattle.gs_totals.proofs.JumpLaws.{best_alike, choices_stay}
 use Rattle.gs_totals.proofs.TotalAnswers.{chosen_is_best}
+use Rattle.gs_play.specs.Staying.{AnswerStays}
 
 alike_itself : (f : Frame) (lists : ClassLists) (player : ℕ) (x : Plan) → AreAlike f lists player x x
 alike_itself f lists player x = record { total = refl; numbers = λ q c m l own h lm. refl }
-
--- an answer stays the first best one for so many turns, in each of which `more` is added to the other's plan y
-abbrev pub AnswerStays : Frame → ClassLists → ℕ → Plan → Plan → Plan → ℕ → Type 0
-AnswerStays f lists player y more answer times =
-    (k : ℕ) (z : Plan) → k < times → AreAlike f lists (other_player player) z (plus_times y k more) → IsFirstBestPlan f lists player (lift f lists z) answer
 
 one_more : (f : Frame) (lists : ClassLists) (player : ℕ) (x b z : Plan) (j : ℕ) → AreAlike f lists player z (plus_times x (suc j) b) → IsPlanSum f lists player (plus_times x j b) b z
 one_more f lists player x b z j a = record {
@@ -72,3 +68,16 @@ answer_stays f r lists k lossless player w other y more answer v d move times be
     λ t z soon alike.
     let now = choices_stay f lists player y more v d move times t best rise within soon in
     chosen_is_best f r lists k lossless player w z (tables_after v d t) move (best_alike f r lists k player other z (plus_times y t more) alike (tables_after v d t) move now) answer one puts
+
+-- and for one turn as it is
+pub answer_stays_once : (f : Frame) → InRange f → (lists : ClassLists) → IsClasses f.parents lists → IsLossless f lists → (player : ℕ) → IsWalked f player → IsWalked f (other_player player) → (y more answer : Plan) (v : Values) (move : ℕ → ℕ → ℕ)
+    → AreBestTotals f lists player y v move → answer.total ≡ 1
+    → ((q c m : ℕ) → q < point_count f → player_at f q ≡ player → IsClass lists (round_of f (at_point q)) c → m < move_count f q → let round = round_of f (at_point q) in
+    answer.number q c m ≡ (if m == move q c then number_before f (lift f lists answer) (last_step f player (at_point q)) round (first_member lists round c) else 0))
+    → AnswerStays f lists player y more answer 1
+answer_stays_once f r lists k lossless player w other y more answer v move best one puts =
+    λ t z soon alike.
+    let none : t ≡ 0 = omega arith in
+    let now = subst (λ n. AreAlike f lists (other_player player) z (plus_times y n more)) none alike in
+    let same : AreAlike f lists (other_player player) z y = record { total = omega (arith, now.total); numbers = λ q c m l own h lm. omega (arith, now.numbers q c m l own h lm) } in
+    chosen_is_best f r lists k lossless player w z v move (best_alike f r lists k player other z y same v move best) answer one puts

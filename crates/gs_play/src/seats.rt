@@ -17,6 +17,7 @@ ghost use Rattle.gs_totals.specs.KeptSums.{AreAlike, plus_times};
 ghost use Rattle.gs_totals.specs.Places.{AreEndSums, AreInMoves, AreSmallRows, end_start, totals_of};
 ghost use Rattle.gs_totals.specs.Room.{HasRows, HasScratch, IsPlaced};
 ghost use Rattle.gs_play.specs.Seats.{HasAnswered, HasRises, HasRoom, IsSeat};
+ghost use Rattle.gs_play.specs.Staying.{AnswerStays};
 
 use crate::adding::add_times;
 use gs_best::{Deviator, round_total};
@@ -231,7 +232,7 @@ pub(crate) fn renew(
 }
 
 /// Finds what the other's answer adds to a player's totals each turn, as long as his choices stay.
-pub(crate) fn rise(
+fn rise(
     form: &Abstract,
     player: u8,
     places: &Places,
@@ -262,7 +263,7 @@ pub(crate) fn rise(
 }
 
 /// A number of turns, at most so many, in which no choice of a player changes.
-pub(crate) fn lasts(
+fn lasts(
     form: &Abstract,
     player: u8,
     places: &Places,
@@ -301,6 +302,47 @@ pub(crate) fn lasts(
         picks: &seat.picks,
     };
     lasting(&course, scratch, times)
+}
+
+/// A number of turns, at most so many, in which a player's answer stays the first best one; of one turn alone it is known.
+pub(crate) fn stays(
+    form: &Abstract,
+    player: u8,
+    places: &Places,
+    seat: &Seat,
+    other: &Plan,
+    more: &Plan,
+    steps: &mut Totals,
+    scratch: &mut Scratch,
+    times: u32,
+) -> u32
+    requires some { 0 < player }
+    requires two { player ≤ 2 }
+    requires placed { IsPlaced (frame_of form.now) (lists_of form.now) places.now }
+    requires seat { IsSeat (frame_of form.now) (lists_of form.now) player (class_plan (frame_of form.now) (lists_of form.now) other.now) seat.now }
+    requires answered { HasAnswered (frame_of form.now) (lists_of form.now) player (class_plan (frame_of form.now) (lists_of form.now) other.now) seat.now }
+    requires other { IsPlanOf (frame_of form.now) (lists_of form.now) (other_player player) other.now }
+    requires more { IsPlanOf (frame_of form.now) (lists_of form.now) (other_player player) more.now }
+    requires rows { HasRows (frame_of form.now) (lists_of form.now) steps.old }
+    requires paid { AreEndSums (frame_of form.now) (lists_of form.now) player (class_plan (frame_of form.now) (lists_of form.now) more.now) steps.old.ends.items }
+    requires scratch { HasScratch (frame_of form.now) (lists_of form.now) scratch.old }
+    requires left { 0 < times }
+    ensures scratch { HasScratch (frame_of form.now) (lists_of form.now) scratch.new }
+    ensures rows { HasRows (frame_of form.now) (lists_of form.now) steps.new }
+    ensures paid { AreEndSums (frame_of form.now) (lists_of form.now) player (class_plan (frame_of form.now) (lists_of form.now) more.now) steps.new.ends.items }
+    ensures stays { let f = frame_of form.now in let lists = lists_of form.now in
+        AnswerStays f lists player (class_plan f lists other.now) (class_plan f lists more.now) (class_plan f lists seat.now.answer) result }
+    ensures most { result ≤ times }
+    ensures some { 0 < result }
+{
+    let _rounds = round_total(form);
+    if times == 1 {
+        return 1;
+    }
+    rise(form, player, places, seat, more, steps, scratch);
+    lasts(
+        form, player, places, seat, other, more, steps, scratch, times,
+    )
 }
 
 /// Adds a player's answer to his plan so many times, and to his totals what the other's answer adds each time.

@@ -4,19 +4,19 @@ use Rattle.gs_model.proofs.PlanLaws.{played_are_plans}
 use Rattle.gs_seq.specs.Abstracts.{frame_of, lists_of}
 use Rattle.gs_seq.specs.Plans.{IsPlanOf, class_plan}
 use Rattle.gs_seq.specs.declared.plan.Plan.{Plan}
-use Rattle.gs_best.specs.Tables.{moves_of}
-use Rattle.gs_best.proofs.Forms.{form_classes, form_in_range, form_lossless, form_walked}
-use Rattle.gs_totals.specs.Jumps.{AreBeforeChange}
+use Rattle.gs_best.proofs.Forms.{form_classes, form_in_range, form_walked}
 use Rattle.gs_totals.specs.KeptSums.{AreAlike, plus_times}
-use Rattle.gs_totals.specs.Places.{AreEndSums, totals_of}
+use Rattle.gs_totals.specs.Places.{AreEndSums}
 use Rattle.gs_totals.proofs.SmallEnds.{small_ends}
 use Rattle.gs_play.specs.Seats.{HasAnswered}
 use Rattle.gs_play.proofs.Answering.{same_plan}
-use Rattle.gs_play.proofs.Turned.{fewer, paid_on, turned}
+use Rattle.gs_play.specs.Staying.{AnswerStays}
+use Rattle.gs_play.proofs.Jumps.{jump}
+use Rattle.gs_play.proofs.Turned.{paid_on, stays_less}
 use Rattle.gs_play.proofs.turns.turn.Goals as goal
 
-pub lasts-first-requires-clause-answered : goal.lasts-first-requires-clause-answered
-lasts-first-requires-clause-answered c =
+pub stays-first-requires-clause-answered : goal.stays-first-requires-clause-answered
+stays-first-requires-clause-answered c =
     let f = frame_of c.args.form.now in
     let lists = lists_of c.args.form.now in
     subst (λ (p : Plan). HasAnswered f lists 1 (class_plan f lists p) c.answer-same_one.new.seat) (sym c.answer-same_two.ensures.plan) c.answer-same_one.ensures.answered
@@ -26,7 +26,7 @@ move_on-requires-clause-small c = small_ends c.args.form.now c.round_total-round
 
 pub move_on-requires-clause-small_steps : goal.move_on-requires-clause-small_steps
 move_on-requires-clause-small_steps c =
-    small_ends c.args.form.now c.round_total-rounds.ensures.sound 1 (omega arith) (omega arith) c.answer-same_two.new.seat.answer c.answer-same_two.ensures.seat.room.answer c.rise.new.steps.ends.items c.rise.ensures.rises.paid
+    small_ends c.args.form.now c.round_total-rounds.ensures.sound 1 (omega arith) (omega arith) c.answer-same_two.new.seat.answer c.answer-same_two.ensures.seat.room.answer c.stays-first.new.steps.ends.items c.stays-first.ensures.paid
 
 pub move_on-requires-2-clause-small : goal.move_on-requires-2-clause-small
 move_on-requires-2-clause-small c =
@@ -37,7 +37,7 @@ move_on-requires-2-clause-small c =
 
 pub move_on-requires-2-clause-small_steps : goal.move_on-requires-2-clause-small_steps
 move_on-requires-2-clause-small_steps c =
-    small_ends c.args.form.now c.round_total-rounds.ensures.sound 2 (omega arith) (omega arith) c.answer-same_one.new.seat.answer c.answer-same_one.ensures.seat.room.answer c.rise-2.new.steps.ends.items c.rise-2.ensures.rises.paid
+    small_ends c.args.form.now c.round_total-rounds.ensures.sound 2 (omega arith) (omega arith) c.answer-same_one.new.seat.answer c.answer-same_one.ensures.seat.room.answer c.stays-times.new.steps.ends.items c.stays-times.ensures.paid
 
 pub renew-requires-clause-paid : goal.renew-requires-clause-paid
 renew-requires-clause-paid c =
@@ -68,8 +68,8 @@ returns-clause-steps c =
     let f = frame_of c.args.form.now in
     let lists = lists_of c.args.form.now in
     record {
-      to_one = subst (λ (p : Plan). AreEndSums f lists 1 (class_plan f lists p) c.rise.new.steps.ends.items) (sym c.move_on-2.ensures.answer) c.rise.ensures.rises.paid;
-      to_two = subst (λ (p : Plan). AreEndSums f lists 2 (class_plan f lists p) c.rise-2.new.steps.ends.items) (sym c.move_on.ensures.answer) c.rise-2.ensures.rises.paid;
+      to_one = subst (λ (p : Plan). AreEndSums f lists 1 (class_plan f lists p) c.stays-first.new.steps.ends.items) (sym c.move_on-2.ensures.answer) c.stays-first.ensures.paid;
+      to_two = subst (λ (p : Plan). AreEndSums f lists 2 (class_plan f lists p) c.stays-times.new.steps.ends.items) (sym c.move_on.ensures.answer) c.stays-times.ensures.paid;
     }
 
 pub returns-clause-playing : goal.returns-clause-playing
@@ -85,33 +85,26 @@ returns-clause-playing c =
     let one = c.answer-same_one.new.seat in
     let two = c.answer-same_two.new.seat in
     let n = c.args.one.now.plan.total - 1 in
-    let times = c.lasts-times.result in
-    let some : 0 < times = c.lasts-times.ensures.some (c.lasts-first.ensures.some c.requires.some) in
+    let times = c.stays-times.result in
+    let some : 0 < times = c.stays-times.ensures.some in
     let x = class_plan f lists one.plan in
     let y = class_plan f lists c.args.two.now.plan in
     let bx = class_plan f lists one.answer in
     let by = class_plan f lists two.answer in
     let x' = class_plan f lists c.move_on.new.seat.plan in
     let y' = class_plan f lists c.move_on-2.new.seat.plan in
-    let m1 = moves_of f lists one.picks.items in
-    let m2 = moves_of f lists two.picks.items in
-    let v1 = totals_of f lists 1 y one.totals.points.items in
-    let v2 = totals_of f lists 2 x two.totals.points.items in
-    let d1 = totals_of f lists 1 by c.rise.new.steps.points.items in
-    let d2 = totals_of f lists 2 bx c.rise-2.new.steps.points.items in
     let played : IsFictitiousPlay f lists n x y = subst (λ (p : Plan). IsFictitiousPlay f lists n (class_plan f lists p) y) (sym c.answer-same_one.ensures.plan) before.played in
-    let within1 : AreBeforeChange f lists 1 v1 d1 m1 times =
-    fewer f lists 1 v1 d1 m1 c.lasts-first.result times c.lasts-times.ensures.most
-    (subst (λ (p : Plan). AreBeforeChange f lists 1 (totals_of f lists 1 (class_plan f lists p) one.totals.points.items) d1 m1 c.lasts-first.result) c.answer-same_two.ensures.plan c.lasts-first.ensures.lasts) in
+    let stays1 : AnswerStays f lists 1 y by bx times =
+    stays_less f lists 1 y by bx c.stays-first.result times c.stays-times.ensures.most
+    (subst (λ (p : Plan). AnswerStays f lists 1 (class_plan f lists p) by bx c.stays-first.result) c.answer-same_two.ensures.plan c.stays-first.ensures.stays) in
     let alike1 : AreAlike f lists 1 x' (plus_times x times bx) = c.move_on.ensures.sum in
     let alike2 : AreAlike f lists 2 y' (plus_times y times by) = subst (λ (p : Plan). AreAlike f lists 2 y' (plus_times (class_plan f lists p) times by)) c.answer-same_two.ensures.plan c.move_on-2.ensures.sum in
     let after : IsFictitiousPlay f lists (n + times) x' y' =
-    turned f r lists k (form_lossless a) w1 w2 n times some x y one.answer.total two.answer.total one.answer.weights.items two.answer.weights.items v1 d1 v2 d2 m1 m2 played c.answer-same_one.ensures.answered.best c.rise.ensures.rises.followed within1
-    c.answer-same_one.ensures.seat.room.one c.answer-same_one.ensures.answered.puts c.answer-same_two.ensures.answered.best c.rise-2.ensures.rises.followed c.lasts-times.ensures.lasts c.answer-same_two.ensures.seat.room.one c.answer-same_two.ensures.answered.puts x' y' alike1 alike2 in
+    jump f lists n times x y bx by played stays1 c.stays-times.ensures.stays x' y' some alike1 alike2 in
     let positive = before.plan_one.plan.plan.total_in.0 in
     let same_one = ap (λ (p : Plan). p.total) c.answer-same_one.ensures.plan in
     let same_two = ap (λ (p : Plan). p.total) c.answer-same_two.ensures.plan in
-    let plans = played_are_plans f lists r w1 w2 k (n + times) x' y' (omega (arith, c.requires.few, c.lasts-times.ensures.most, c.lasts-first.ensures.most)) after in
+    let plans = played_are_plans f lists r w1 w2 k (n + times) x' y' (omega (arith, c.requires.few, c.stays-times.ensures.most, c.stays-first.ensures.most)) after in
     let turns : n + times ≡ c.move_on.new.seat.plan.total - 1 = omega (arith, c.move_on.ensures.total, same_one, positive) in
     record {
       plan_one = record {
@@ -124,11 +117,11 @@ returns-clause-playing c =
       };
       seat_one = record {
         room = c.move_on.ensures.room;
-        paid = paid_on f r lists k 1 w2 y by y' times one.totals.ends.items c.rise.new.steps.ends.items c.move_on.new.seat.totals.ends.items c.answer-same_one.ensures.seat.paid c.rise.ensures.rises.paid alike2 c.move_on.ensures.lines;
+        paid = paid_on f r lists k 1 w2 y by y' times one.totals.ends.items c.stays-first.new.steps.ends.items c.move_on.new.seat.totals.ends.items c.answer-same_one.ensures.seat.paid c.stays-first.ensures.paid alike2 c.move_on.ensures.lines;
       };
       seat_two = record {
         room = c.move_on-2.ensures.room;
-        paid = paid_on f r lists k 2 w1 x bx x' times two.totals.ends.items c.rise-2.new.steps.ends.items c.move_on-2.new.seat.totals.ends.items c.answer-same_two.ensures.seat.paid c.rise-2.ensures.rises.paid alike1 c.move_on-2.ensures.lines;
+        paid = paid_on f r lists k 2 w1 x bx x' times two.totals.ends.items c.stays-times.new.steps.ends.items c.move_on-2.new.seat.totals.ends.items c.answer-same_two.ensures.seat.paid c.stays-times.ensures.paid alike1 c.move_on-2.ensures.lines;
       };
       total = omega (arith, c.move_on.ensures.total, c.move_on-2.ensures.total, same_one, same_two, before.total);
       played = subst (λ m. IsFictitiousPlay f lists m x' y') turns after;
