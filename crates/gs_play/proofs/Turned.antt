@@ -1,4 +1,4 @@
--- Turns taken at once keep what both players hold: their plans are those after so many turns more, and ends pay what they pay against the other's new plan.
+-- For how many turns an answer stays, as long as the best totals choose it; and what ends pay after so many turns.
 use Rattle.std.proofs.Common.{◌≡◌, ℕ, ◌+◌, ◌-◌, ◌<◌, ◌≤◌, List, get_or, sym, ap, ◌∙◌, subst, arith}
 use Rattle.std.specs.Prelude.{◌==◌, ℤ, pos, ◌+ℤ◌, ◌*ℤ◌, if◌then◌else◌}
 use Rattle.gs_model.specs.BestAnswers.{Values}
