@@ -1,17 +1,18 @@
 -- What the raw verdict and the hand values say of two strategies.
-use Rattle.std.proofs.Common.{◌≡◌, ℕ, subst}
+use Rattle.std.proofs.Common.{◌≡◌, ℕ, ◌<◌, [], ◌∷◌, List, map, length, get_or, sym, ap, ◌∙◌, subst, arith}
+use Rattle.std.proofs.lemmas.List.{get_or-map, length-map}
 use Rattle.gs_best.specs.Judged.{parts}
 use Rattle.gs_frac.specs.declared.value.Fraction.{Fraction}
 use Rattle.gs_frac.specs.declared.value.Verdict.{Verdict}
-use Rattle.gs_model.specs.Frame.{Frame}
+use Rattle.gs_model.specs.Frame.{Frame, signal_count}
 use Rattle.gs_model.specs.Payoff.{IsHandValue}
 use Rattle.gs_model.specs.Verdict.{IsJudgedVerdict}
-use Rattle.gs_raw.specs.Answers.{IsHandValueOf, IsJudgedOf}
+use Rattle.gs_raw.specs.Answers.{AreHandValuesOf, IsHandValueOf, IsJudgedOf}
 use Rattle.gs_seq.specs.Plans.{class_plan, lifted}
 use Rattle.gs_strategy.specs.Confirmed.{frame_of}
 use Rattle.gs_strategy.specs.Views.{numbers_of, parts_of, stored_view}
 use Rattle.gs_strategy.specs.declared.stored.Stored.{Stored}
-use Rattle.gs_compare.specs.Judging.{AreJudged, IsHand}
+use Rattle.gs_compare.specs.Judging.{AreHands, AreJudged, IsHand}
 
 pub are_judged : (f : Frame) (one two : Stored) (v : Verdict) → f ≡ frame_of (stored_view one) → f ≡ frame_of (stored_view two) → IsJudgedOf f one.classes.lists one.one two.classes.lists two.two v
     → AreJudged (stored_view one) (stored_view two) (numbers_of v)
@@ -30,3 +31,22 @@ is_hand f one two signal v first second h = record {
   value = subst (λ (h : Frame). IsHandValue (frame_of (stored_view one)) (lifted (frame_of (stored_view one)) one.classes.lists one.one) (lifted h two.classes.lists two.two) signal (parts v).0 (parts v).1)
       second (subst (λ (h : Frame). IsHandValue h (lifted h one.classes.lists one.one) (lifted f two.classes.lists two.two) signal (parts v).0 (parts v).1) first h);
 }
+
+-- one of some
+some_of : {X : Type 0} (xs : List X) → 0 < length xs → X
+some_of [] l = absurd (omega arith)
+some_of (x ∷ xs) l = x
+
+pub are_hands : (f : Frame) (one two : Stored) (hands : List Fraction) → f ≡ frame_of (stored_view one) → f ≡ frame_of (stored_view two) → AreHandValuesOf f one.classes.lists one.one two.classes.lists two.two hands
+    → AreHands (stored_view one) (stored_view two) (map parts_of hands)
+are_hands f one two hands first second h =
+    let count = ap (λ (g : Frame). signal_count g 1) first in
+    record {
+      long = length-map hands parts_of ∙ h.long ∙ count;
+      each = λ s d l.
+          (let some : 0 < length hands = omega (arith, l, count, h.long) in
+          let none = some_of hands some in
+          let here : s < signal_count f 1 = omega (arith, l, count) in
+          let v = get_or hands s none in
+          subst (IsHand (stored_view one) (stored_view two) s) (sym (get_or-map parts_of hands s none d (omega (arith, here, h.long)))) (is_hand f one two s v first second (h.each s none here)));
+    }

@@ -1,45 +1,14 @@
 //! What the raw signals of round 1 are worth, as lines.
 
-ghost use Rattle.std.specs.Prelude.{◌≡◌, ◌++◌, ◌<◌, IfOk, List, OnOk, length, map, string_bytes};
-ghost use Rattle.gs_compare.specs.Judging.{AreHands, hand_line, hands_text as text_of_hands};
-ghost use Rattle.gs_file.specs.Views.{valid_view};
+ghost use Rattle.std.specs.Prelude.{◌≡◌, ◌++◌, ◌<◌, IfOk, OnOk, length, map, string_bytes};
+ghost use Rattle.gs_compare.specs.Judging.{hand_line, hands_text as text_of_hands};
 ghost use Rattle.gs_model.specs.Signals.{signals as signals_in};
-ghost use Rattle.gs_strategy.specs.Values.{Parts};
-ghost use Rattle.gs_strategy.specs.Views.{parts_of, stored_view};
+ghost use Rattle.gs_strategy.specs.Views.{parts_of};
 ghost use Rattle.gs_tree.specs.Trees.{deck_of, rules_of};
 
 use gs_frac::Fraction;
-use gs_raw::hand_value;
-use gs_strategy::Stored;
 use gs_tree::Signals;
 use std::alloc::{AllocError, Global};
-
-// What each raw signal of round 1 is worth where player 1 plays by the first strategy and player 2 by the second.
-fn hand_values(
-    alloc: Global,
-    signals: &Signals,
-    one: &Stored,
-    two: &Stored,
-) -> Result<Vec<Fraction>, AllocError>
-    requires first { signals.now.game.now ≡ one.now.game }
-    requires one_game { valid_view one.now.game ≡ valid_view two.now.game }
-    ensures { IfOk result (λ v. AreHands (stored_view one.now) (stored_view two.now) (map parts_of v.items)) }
-{
-    let _rounds = signals.rounds();
-    let count = signals.count(1);
-    let mut values = Vec::with_capacity(alloc, count as usize)?;
-    for signal in 0..count {
-        values.push(hand_value(
-            signals,
-            &one.classes,
-            &one.one,
-            &two.classes,
-            &two.two,
-            signal,
-        ))?;
-    }
-    Ok(values)
-}
 
 // Adds the line of a raw signal of round 1.
 fn push_hand(
@@ -74,20 +43,17 @@ fn hands_text(alloc: Global, signals: &Signals, values: &[Fraction]) -> Result<S
     Ok(text)
 }
 
-/// Adds the lines of all raw signals of round 1, where player 1 plays by the first strategy and player 2 by the second.
+/// Adds the lines of all raw signals of round 1, with what each is worth.
 pub(crate) fn push_hands(
     text: &mut Vec<u8>,
     alloc: Global,
     signals: &Signals,
-    one: &Stored,
-    two: &Stored,
+    values: &[Fraction],
 ) -> Result<(), AllocError>
-    requires first { signals.now.game.now ≡ one.now.game }
-    requires one_game { valid_view one.now.game ≡ valid_view two.now.game }
-    ensures { OnOk result ((hands : List Parts) × AreHands (stored_view one.now) (stored_view two.now) hands × (text.new.items ≡ text.old.items ++ text_of_hands (deck_of signals.now) (rules_of signals.now) hands)) }
+    requires { length values.now ≡ length (signals_in (rules_of signals.now) 1) }
+    ensures { OnOk result (text.new.items ≡ text.old.items ++ text_of_hands (deck_of signals.now) (rules_of signals.now) (map parts_of values.now)) }
 {
-    let values = hand_values(alloc, signals, one, two)?;
-    let lines = hands_text(alloc, signals, &values)?;
+    let lines = hands_text(alloc, signals, values)?;
     text.extend_from_slice(lines.as_str().as_bytes())?;
     Ok(())
 }

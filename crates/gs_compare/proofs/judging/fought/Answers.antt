@@ -1,4 +1,4 @@
-use Rattle.std.proofs.Common.{◌≡◌, ◌≤◌, ◌++◌, List, inl, sym, ap, ◌∙◌, subst}
+use Rattle.std.proofs.Common.{◌≡◌, ◌≤◌, ◌++◌, List, map, inl, sym, ap, ◌∙◌, subst}
 use Rattle.std.proofs.lemmas.Result.{IfOk-weaker}
 use Rattle.gs_card.specs.Decks.{DeckValue}
 use Rattle.gs_file.specs.Reading.{FileGame, rules_of as rules_in}
@@ -11,29 +11,35 @@ use Rattle.gs_reply.specs.Replies.{Prints}
 use Rattle.gs_seq.specs.Games.{frame_in}
 use Rattle.gs_seq.specs.Plans.{IsPlanOf}
 use Rattle.gs_strategy.specs.Values.{Parts}
-use Rattle.gs_strategy.specs.Views.{numbers_of, stored_view}
+use Rattle.gs_strategy.specs.Views.{numbers_of, parts_of, stored_view}
 use Rattle.gs_text.specs.VerdictText.{verdict_text}
 use Rattle.gs_tree.specs.Trees.{deck_of, rules_of}
 use Rattle.gs_compare.specs.Judging.{AreHands, hands_text}
-use Rattle.gs_compare.proofs.Judged.{are_judged}
+use Rattle.gs_compare.proofs.Judged.{are_hands, are_judged}
 use Rattle.gs_compare.proofs.Replies.{too_many}
 use Rattle.gs_compare.proofs.judging.fought.Goals as goal
 
-pub raw_verdict-requires-clause-first : goal.raw_verdict-requires-clause-first
-raw_verdict-requires-clause-first c = subst (λ (g : ValidGame). c.args.one.now.classes.parents ≡ (frame_in g).parents) (sym c.in_ok-signals.ensures) c.args.one.now.parents
+pub raw_duel-requires-clause-first : goal.raw_duel-requires-clause-first
+raw_duel-requires-clause-first c = subst (λ (g : ValidGame). c.args.one.now.classes.parents ≡ (frame_in g).parents) (sym c.in_ok-signals.ensures) c.args.one.now.parents
 
-pub raw_verdict-requires-clause-second : goal.raw_verdict-requires-clause-second
-raw_verdict-requires-clause-second c =
+pub raw_duel-requires-clause-second : goal.raw_duel-requires-clause-second
+raw_duel-requires-clause-second c =
     let frames : frame_in c.in_ok-signals.signals.game.now ≡ frame_in c.args.two.now.game = ap frame_in c.in_ok-signals.ensures ∙ ap (λ (v : FileGame). frame (rules_in v)) c.requires in
     c.args.two.now.parents ∙ ap (λ (h : Frame). h.parents) (sym frames)
 
-pub raw_verdict-requires-clause-one : goal.raw_verdict-requires-clause-one
-raw_verdict-requires-clause-one c = subst (λ (g : ValidGame). IsPlanOf (frame_in g) c.args.one.now.classes.lists 1 c.args.one.now.one) (sym c.in_ok-signals.ensures) c.args.one.now.first
+pub raw_duel-requires-clause-one : goal.raw_duel-requires-clause-one
+raw_duel-requires-clause-one c = subst (λ (g : ValidGame). IsPlanOf (frame_in g) c.args.one.now.classes.lists 1 c.args.one.now.one) (sym c.in_ok-signals.ensures) c.args.one.now.first
 
-pub raw_verdict-requires-clause-two : goal.raw_verdict-requires-clause-two
-raw_verdict-requires-clause-two c =
+pub raw_duel-requires-clause-two : goal.raw_duel-requires-clause-two
+raw_duel-requires-clause-two c =
     let frames : frame_in c.in_ok-signals.signals.game.now ≡ frame_in c.args.two.now.game = ap frame_in c.in_ok-signals.ensures ∙ ap (λ (v : FileGame). frame (rules_in v)) c.requires in
     subst (λ (h : Frame). IsPlanOf h c.args.two.now.classes.lists 2 c.args.two.now.two) (sym frames) c.args.two.now.second
+
+pub push_hands-requires : goal.push_hands-requires
+push_hands-requires c =
+    let s = c.in_ok-signals.signals in
+    let n = signal_count_is (rules_of s) 1 (omega arith) s.game.now.limits.some_round in
+    omega (arith, n, c.in-Ok.ensures.hands.long, ap (λ (l : List Fraction). length l) c.deref.ensures.value)
 
 pub returns-in-Ok : goal.returns-in-Ok
 returns-in-Ok c =
@@ -41,18 +47,21 @@ returns-in-Ok c =
     let y = c.args.two.now in
     let s = c.in_ok-signals.signals in
     let f = frame_in s.game.now in
-    let second : f ≡ frame_in y.game = ap frame_in c.in_ok-signals.ensures ∙ ap (λ (v : FileGame). frame (rules_in v)) c.requires in
-    let put = c.in_ok-push_hands-in-Ok.ensures in
+    let v = c.in-Ok.duel.verdict in
+    let hands : List Parts = map parts_of c.in-Ok.duel.hands.items in
+    let first : f ≡ frame_in x.game = ap frame_in c.in_ok-signals.ensures in
+    let second : f ≡ frame_in y.game = first ∙ ap (λ (v : FileGame). frame (rules_in v)) c.requires in
     let deck : deck_of s ≡ x.game.game.deck = ap (λ (v : ValidGame). v.game.deck) c.in_ok-signals.ensures in
     let rules : rules_of s ≡ game_of x.game.game = ap (λ (v : ValidGame). game_of v.game) c.in_ok-signals.ensures in
-    let lines : hands_text (deck_of s) (rules_of s) put.0 ≡ hands_text x.game.game.deck (game_of x.game.game) put.0 =
-    ap (λ (d : DeckValue). hands_text d (rules_of s) put.0) deck ∙ ap (λ (g : Game). hands_text x.game.game.deck g put.0) rules in
+    let lines : hands_text (deck_of s) (rules_of s) hands ≡ hands_text x.game.game.deck (game_of x.game.game) hands =
+    ap (λ (d : DeckValue). hands_text d (rules_of s) hands) deck ∙ ap (λ (g : Game). hands_text x.game.game.deck g hands) rules in
     inl (
       subst (λ (g : ValidGame). raw_cell_count (frame_in g) ≤ 16777216) c.in_ok-signals.ensures c.in-Ok.ensures.small,
       (
-        numbers_of c.in-Ok.verdict,
-        are_judged f x y c.in-Ok.verdict (ap frame_in c.in_ok-signals.ensures) second c.in-Ok.ensures.verdict,
-        (put.0, put.1, ap Prints (put.2 ∙ ap (λ t. t ++ hands_text (deck_of s) (rules_of s) put.0) c.in_ok-text-in-Ok.ensures ∙ ap (λ t. verdict_text (numbers_of c.in-Ok.verdict) ++ t) lines)),
+        numbers_of v,
+        are_judged f x y v first second c.in-Ok.ensures.verdict,
+        (hands, are_hands f x y c.in-Ok.duel.hands.items first second c.in-Ok.ensures.hands,
+          ap Prints (c.in_ok-push_hands.ensures ∙ ap (λ t. t ++ hands_text (deck_of s) (rules_of s) hands) c.in_ok-text.ensures ∙ ap (λ t. verdict_text (numbers_of v) ++ t) lines)),
       ),
     )
 
