@@ -18,7 +18,7 @@ stops_from all read made game seen round e f k h =
 
 pub rows_by-requires-clause-stops : goal.rows_by-requires-clause-stops
 rows_by-requires-clause-stops c =
-    stops_from c.args.signals.now.game.now c.game.result.now c.in_ok-game.field-0 c.in-Some.game c.in_ok-stopped.stopped.game.now c.args.round c.game.ensures c.in-Some.is c.in_ok-stopped.ensures c.in_ok-game.ensures
+    stops_from c.args.signals.now.game.now c.game.result.now c.in_ok-game.field-0 c.in-Some.game c.in_ok-stopped.stopped.game.now c.args.round c.game.ensures c.in-Some.is c.in_ok-stopped.ensures c.in_ok-game.ensures.stops
 
 pub stopped_classes-requires-clause-top : goal.stopped_classes-requires-clause-top
 stopped_classes-requires-clause-top c =
