@@ -1,11 +1,13 @@
-use Rattle.std.proofs.Common.{◌≡◌, ◌≤◌, ◌++◌, List, map, inl, sym, ap, ◌∙◌, subst}
+use Rattle.std.proofs.Common.{◌≡◌, ◌≤◌, ◌++◌, List, map, length, inl, sym, ap, ◌∙◌, subst, arith}
 use Rattle.std.proofs.lemmas.Result.{IfOk-weaker}
 use Rattle.gs_card.specs.Decks.{DeckValue}
 use Rattle.gs_file.specs.Reading.{FileGame, rules_of as rules_in}
+use Rattle.gs_frac.specs.declared.value.Fraction.{Fraction}
 use Rattle.gs_game.specs.Games.{game_of}
 use Rattle.gs_game.specs.declared.valid.ValidGame.{ValidGame}
 use Rattle.gs_model.specs.Frame.{Frame, frame_of as frame}
 use Rattle.gs_model.specs.Game.{Game}
+use Rattle.gs_model.proofs.Ranges.{signal_count_is}
 use Rattle.gs_raw.specs.Cells.{raw_cell_count}
 use Rattle.gs_reply.specs.Replies.{Prints}
 use Rattle.gs_seq.specs.Games.{frame_in}
@@ -60,8 +62,11 @@ returns-in-Ok c =
       (
         numbers_of v,
         are_judged f x y v first second c.in-Ok.ensures.verdict,
-        (hands, are_hands f x y c.in-Ok.duel.hands.items first second c.in-Ok.ensures.hands,
-          ap Prints (c.in_ok-push_hands.ensures ∙ ap (λ t. t ++ hands_text (deck_of s) (rules_of s) hands) c.in_ok-text.ensures ∙ ap (λ t. verdict_text (numbers_of v) ++ t) lines)),
+        (
+          hands,
+          are_hands f x y c.in-Ok.duel.hands.items first second c.in-Ok.ensures.hands,
+          ap Prints (c.in_ok-push_hands-in-Ok.ensures ∙ ap (λ (l : List Fraction). c.in_ok-text-in-Ok.text.items ++ hands_text (deck_of s) (rules_of s) (map parts_of l)) c.deref.ensures.value ∙ ap (λ t. t ++ hands_text (deck_of s) (rules_of s) hands) c.in_ok-text-in-Ok.ensures ∙ ap (λ t. verdict_text (numbers_of v) ++ t) lines),
+        ),
       ),
     )
 
