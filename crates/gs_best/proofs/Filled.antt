@@ -1,5 +1,6 @@
 -- Rows written one number after another.
 use Rattle.std.proofs.Common.{◌≡◌, ℕ, ◌+◌, ◌-◌, ◌<◌, ◌≤◌, List, [], ◌∷◌, ◌++◌, length, get_or, take, zero, suc, refl, sym, ap, ◌∙◌, arith, ⊎_elim}
+use Rattle.std.specs.Prelude.{ℤ, pos, ◌*ℤ◌}
 use Rattle.std.proofs.Math.ListN.{set}
 use Rattle.std.proofs.lemmas.Bool.{cases_eq}
 use Rattle.std.proofs.lemmas.Grind.{get_or-set_at}
@@ -48,3 +49,16 @@ written zero [] ys e = refl
 written zero (x ∷ xs) ys e = absurd (omega arith)
 written (suc n) [] ys e = absurd (omega arith)
 written (suc n) (x ∷ xs) ys e = ap (λ l. x ∷ l) (written n xs ys (omega arith))
+
+-- sums become shares, one after another
+pub shares_more : (size : ℕ → ℕ) (xs first : List ℤ) (i : ℕ) (v : ℤ) → i < length xs
+    → ((k : ℕ) (share : ℤ) → k < i → get_or first k (pos 0) ≡ share *ℤ pos (size (k + 1)) → get_or xs k (pos 0) ≡ share)
+    → get_or xs i (pos 0) ≡ get_or first i (pos 0) → ((share : ℤ) → get_or xs i (pos 0) ≡ share *ℤ pos (size (i + 1)) → v ≡ share)
+    → (k : ℕ) (share : ℤ) → k < i + 1 → get_or first k (pos 0) ≡ share *ℤ pos (size (k + 1)) → get_or (set xs i v) k (pos 0) ≡ share
+shares_more size xs first i v l before same here k share lk e = ⊎_elim
+    (λ (is : k ≡ i).
+    let at : get_or (set xs i v) k (pos 0) ≡ v = ap (λ n. get_or (set xs i v) n (pos 0)) is ∙ get_or-set_at xs i i v (pos 0) refl l in
+    let sum : get_or xs i (pos 0) ≡ share *ℤ pos (size (i + 1)) = same ∙ ap (λ n. get_or first n (pos 0)) (sym is) ∙ e ∙ ap (λ n. share *ℤ pos (size (n + 1))) is in
+    at ∙ here share sum)
+    (λ other. get_or-set_other xs i k v (pos 0) other ∙ before k share (omega arith) e)
+    (cases_eq k i)

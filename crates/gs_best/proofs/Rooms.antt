@@ -1,5 +1,5 @@
 -- Room by the sizes of rounds.
-use Rattle.std.proofs.Common.{◌≡◌, ℕ, ◌+◌, ◌-◌, ◌*◌, ◌<◌, ◌≤◌, List, [], ◌∷◌, length, get_or, refl, sym, ap, ◌∙◌, arith, sum_by, count_by, eqb}
+use Rattle.std.proofs.Common.{◌≡◌, ℕ, ◌+◌, ◌-◌, ◌*◌, ◌<◌, ◌≤◌, List, [], ◌∷◌, ◌++◌, drop, length, get_or, refl, sym, take, ap, ◌∙◌, arith, sum_by, count_by, eqb}
 use Rattle.std.specs.Prelude.{pos, ◌*ℤ◌}
 use Rattle.std.specs.List.{range_with_len}
 use Rattle.std.proofs.Math.Nat.{mul-one, mul_comm}
@@ -23,6 +23,7 @@ use Rattle.gs_best.specs.Tables.{start_of}
 use Rattle.gs_best.specs.declared.room.Scratch.{Scratch}
 use Rattle.gs_best.specs.declared.room.Table.{Table}
 use Rattle.gs_best.proofs.Below.{ones_are}
+use Rattle.gs_best.proofs.Filled.{written}
 
 plain_product : (a b : ℕ) → pos a *ℤ pos b ≡ pos (a * b)
 plain_product a b = omega (arith, ints, product_is (pos a) (pos b))
@@ -90,6 +91,7 @@ roomy f lists w t s h r =
       starts = (let a = h.starts in omega arith);
       values = (let a = h.values in omega arith);
       picks = (let a = h.picks in omega arith);
+      numbers = by_wide f lists (length s.numbers.items) r.numbers;
       ends = by_wide f lists (length s.ends.items) r.ends;
       worths = by_wide f lists (length s.worths.items) r.worths;
       best = by_wide f lists (length s.best.items) r.best;
@@ -108,8 +110,14 @@ holds_all f lists w t s r =
 
 pub has_room : (f : Frame) (lists : ClassLists) (t : Table) (s : Scratch) → IsRoomy (sizes_of f lists) t s → HasRoom f lists s
 has_room f lists t s r = record {
+  numbers = wide_by f lists (length s.numbers.items) r.numbers;
   ends = wide_by f lists (length s.ends.items) r.ends;
   worths = wide_by f lists (length s.worths.items) r.worths;
   best = wide_by f lists (length s.best.items) r.best;
   moves = wide_by f lists (length s.moves.items) r.moves;
 }
+
+-- a row as it stands after it was written through a slice
+pub written_wide : {A : Type 0} (f : Frame) (lists : ClassLists) (n : ℕ) (old row : List A) → length old ≡ n → length row ≡ length old → IsWide f lists (length old) → IsWide f lists (length (take n (row ++ drop (length row) old)))
+written_wide f lists n old row full same wide j some top =
+    omega (arith, wide j some top, same, ap length (written n row (drop (length row) old) (same ∙ full)))

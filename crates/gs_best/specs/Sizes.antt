@@ -22,6 +22,7 @@ IsWide f lists wide = (round : ℕ) → 0 < round → round ≤ last_round f →
 
 -- the rows to work on are long enough
 pub record HasRoom (f : Frame) (lists : ClassLists) (s : Scratch) : Type 0 where
+  pub numbers : IsWide f lists (length s.numbers.items)
   pub ends : IsWide f lists (length s.ends.items)
   pub worths : IsWide f lists (length s.worths.items)
   pub best : IsWide f lists (length s.best.items)
@@ -53,6 +54,7 @@ pub record IsRoomy (sizes : List (ℕ × ℕ)) (t : Table) (s : Scratch) : Type 
   pub starts : point_room sizes ≤ length t.starts.items
   pub values : value_room sizes ≤ length t.values.items
   pub picks : value_room sizes ≤ length t.picks.items
+  pub numbers : (i : ℕ) (d : ℕ × ℕ) → i < length sizes → (get_or sizes i d).1 ≤ length s.numbers.items
   pub ends : (i : ℕ) (d : ℕ × ℕ) → i < length sizes → (get_or sizes i d).1 ≤ length s.ends.items
   pub worths : (i : ℕ) (d : ℕ × ℕ) → i < length sizes → (get_or sizes i d).1 ≤ length s.worths.items
   pub best : (i : ℕ) (d : ℕ × ℕ) → i < length sizes → (get_or sizes i d).1 ≤ length s.best.items

@@ -4,6 +4,7 @@ ghost use Rattle.std.specs.Prelude.{◌≡◌, ◌+◌, ◌<◌, ◌≤◌, ◌^
 ghost use Rattle.std.specs.List.{range_with_len};
 ghost use Rattle.gs_model.specs.Classes.{class_count};
 ghost use Rattle.gs_model.specs.Frame.{last_round, signals_in};
+ghost use Rattle.gs_model.specs.Payoff.{raw_payoff};
 ghost use Rattle.gs_model.specs.Sums.{sum_z};
 ghost use Rattle.gs_model.specs.Verdict.{IsVerdict};
 ghost use Rattle.gs_seq.specs.Abstracts.{frame_of, lists_of};
@@ -58,7 +59,7 @@ fn start_total(side: &Deviator<'_>, table: &Table, scratch: &mut Scratch) -> i12
             round_sum(side.form, round_at(side.form, point), &table.values, start)
         }
         Target::End(end) => {
-            read_end(side, end, &mut scratch.ends);
+            read_end(side, end, &mut scratch.ends, &mut scratch.numbers);
             round_sum(side.form, end_round(side.form, end), &scratch.ends, 0)
         }
     }
@@ -76,6 +77,18 @@ fn best_total(side: &Deviator<'_>, table: &mut Table, scratch: &mut Scratch) -> 
 {
     fill(side, table, scratch);
     start_total(side, table, scratch)
+}
+
+/// What two plans pay player 1, in chips times the weight of all deals and both totals.
+fn plans_pay(form: &Abstract, one: &Plan, two: &Plan, scratch: &mut Scratch) -> i128
+    requires one { IsPlanOf (frame_of form.now) (lists_of form.now) 1 one.now }
+    requires two { IsPlanOf (frame_of form.now) (lists_of form.now) 2 two.now }
+    requires room { HasRoom (frame_of form.now) (lists_of form.now) scratch.old }
+    ensures paid { let f = frame_of form.now in let lists = lists_of form.now in
+        result ≡ raw_payoff f (lifted f lists one.now) (lifted f lists two.now) }
+    ensures room { HasRoom (frame_of form.now) (lists_of form.now) scratch.new }
+{
+    form.payoff_in(one, two, &mut scratch.ends, &mut scratch.numbers)
 }
 
 /// The verdict on a plan of player 1 and one of player 2: what they pay player 1, and what each player could still gain by any raw plan, over the
@@ -103,6 +116,6 @@ pub fn verdict(form: &Abstract, one: &Plan, two: &Plan, work: &mut Work) -> Verd
         best_total(&first, &mut work.table, &mut work.scratch),
         best_total(&second, &mut work.table, &mut work.scratch),
     );
-    let paid = form.payoff(one, two);
+    let paid = plans_pay(form, one, two, &mut work.scratch);
     judged(deal_weight(form), (one.total, two.total), best, paid)
 }

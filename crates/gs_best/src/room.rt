@@ -21,6 +21,8 @@ pub(crate) struct Table {
 /// Rows of a number for each class, to work on.
 #[derive(Drop)]
 pub(crate) struct Scratch {
+    // the other player's numbers at an end
+    pub(crate) numbers: Vec<u64>,
     // what an end is worth
     pub(crate) ends: Vec<i128>,
     // what a move is worth

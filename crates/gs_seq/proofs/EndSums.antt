@@ -1,11 +1,13 @@
 -- What an end pays at a class, over the pairs of its row.
-use Rattle.std.proofs.Common.{◌≡◌, ◌≢◌, ℕ, ℤ, pos, neg_ℤ, ◌*◌, ◌<◌, ◌≤◌, ◌^◌, Bool, true, false, cond, List, [], length, get_or, refl, sym, ap, ◌∙◌, arith, eqb, take, ⊎_elim}
+use Rattle.std.proofs.Common.{◌≡◌, ◌≢◌, ℕ, ℤ, pos, neg_ℤ, ◌+◌, ◌-◌, ◌*◌, ◌<◌, ◌≤◌, ◌^◌, Bool, true, false, cond, List, [], length, get_or, refl, sym, ap, ◌∙◌, arith, eqb, take, ⊎_elim}
 use Rattle.std.specs.Prelude.{◌==◌, ◌*ℤ◌, ◌⊎◌, All, unsigned_abs}
 use Rattle.std.proofs.Math.Nat.{mul-le-mul_left, mul-le-mul_right}
 use Rattle.std.proofs.Math.IntN.{*ℤ_comm, *ℤ-zero}
 use Rattle.std.proofs.lemmas.Bool.Decides.{Decides-eqb}
 use Rattle.std.proofs.lemmas.Int.{ints, unsigned_abs-mul}
 use Rattle.std.proofs.lemmas.List.Elements.{All-take}
+use Rattle.std.specs.List.{range_with_len}
+use Rattle.std.proofs.lemmas.List.FromFn.{get_or-range_with_len, length-range_with_len}
 use Rattle.std.proofs.lemmas.List.Sums.{get_or-le-sum_by, sum_by-cons, sum_by-take-le}
 use borrow.Author.Differences.{abs_is, neg_is, product_is}
 use Rattle.gs_model.specs.Classes.{ClassLists, IsClass, IsClasses, class_count, classes_in}
@@ -20,8 +22,8 @@ use Rattle.gs_model.proofs.Payoff.{pair_constant, pair_signed as pair_times}
 use Rattle.gs_model.proofs.RawBound.{range_once}
 use Rattle.gs_model.proofs.Regroup.{sum_z-pos}
 use Rattle.gs_model.proofs.Tables.{is_table}
-use Rattle.gs_model.proofs.Total.{sum_z-mul, sum_z-same}
-use Rattle.gs_seq.specs.Payoffs.{pair_pays, stake}
+use Rattle.gs_model.proofs.Total.{sum_z-mul, sum_z-same, sum_z-same_all}
+use Rattle.gs_seq.specs.Payoffs.{AreNumbersAt, end_sum, number_sum, pair_pays, stake}
 use Rattle.gs_seq.specs.Rows.{IsRow, signed_in, weight_in}
 use Rattle.gs_seq.specs.declared.pair.Pair.{Pair}
 use Rattle.gs_seq.proofs.RowFacts.{abs_all, class_weight, classes_weigh, row_class, row_signed, row_weighs, times_sum}
@@ -145,6 +147,10 @@ pays_size player z p few moderate = by z.kind refl
 abbrev pub pair_term : Frame → ClassLists → ℕ → Plan → ℕ → Pair → ℤ
 pair_term f lists player y z p = pos (class_number f lists (other_player player) y z p.two) *ℤ pair_pays player (end_at f z) p
 
+-- the same with the numbers in a list
+abbrev pub number_term : Frame → ℕ → List ℕ → ℕ → Pair → ℤ
+number_term f player numbers z p = pos (get_or numbers (p.two - 1) 0) *ℤ pair_pays player (end_at f z) p
+
 -- ---- partial sums are small
 
 pub scaled_few : (n t p w : ℕ) → n ≤ t → p ≤ 36864 * w → n * p ≤ (36864 * t) * w
@@ -189,22 +195,22 @@ module _ (f : Frame) (r : InRange f) (lists : ClassLists) (k : IsClasses f.paren
   pub pays_few : (i : ℕ) (d : Pair) → i < length row → unsigned_abs (pair_pays player (end_at f z) (get_or row i d)) ≤ 36864 * (get_or row i d).weight
   pays_few i d m = pays_size player (end_at f z) (get_or row i d) (few.puts z l) (signed_few i d m)
 
-  -- the sum over some first pairs of a row
-  pub prefix_few : (y : Plan) → ((e : ℕ) → IsClass lists (round_of f (at_end z)) e → class_number f lists (other_player player) y z e ≤ y.total) → (i : ℕ)
-      → unsigned_abs (sum_z (pair_term f lists player y z) (take i row)) ≤ (36864 * y.total) * weight_here
-  prefix_few y n i =
-      let m = 36864 * y.total in
+  -- the sum over some first pairs of a row, with numbers that are not over a bound
+  pub prefix_small : (n : ℕ → ℕ) (t : ℕ) → ((e : ℕ) → IsClass lists (round_of f (at_end z)) e → n e ≤ t) → (i : ℕ)
+      → unsigned_abs (sum_z (λ (p : Pair). pos (n p.two) *ℤ pair_pays player (end_at f z) p) (take i row)) ≤ (36864 * t) * weight_here
+  prefix_small n t within i =
+      let m = 36864 * t in
       let bound : Pair → ℕ = λ p. m * p.weight in
-      let each : All (λ p. unsigned_abs (pair_term f lists player y z p) ≤ bound p) row = λ j d lj.
+      let term : Pair → ℤ = λ p. pos (n p.two) *ℤ pair_pays player (end_at f z) p in
+      let each : All (λ p. unsigned_abs (term p) ≤ bound p) row = λ j d lj.
       (let p = get_or row j d in
-      let number = class_number f lists (other_player player) y z p.two in
       omega (
         arith,
-        unsigned_abs-mul (pos number) (pair_pays player (end_at f z) p),
-        abs_is (pos number),
-        scaled_few number y.total (unsigned_abs (pair_pays player (end_at f z) p)) p.weight (n p.two (row_class f (is_table f r) lists k (round_of f (at_end z)) (w.end_round z l) (w.end_in z l) c row h j d lj)) (pays_few j d lj),
+        unsigned_abs-mul (pos (n p.two)) (pair_pays player (end_at f z) p),
+        abs_is (pos (n p.two)),
+        scaled_few (n p.two) t (unsigned_abs (pair_pays player (end_at f z) p)) p.weight (within p.two (row_class f (is_table f r) lists k (round_of f (at_end z)) (w.end_round z l) (w.end_in z l) c row h j d lj)) (pays_few j d lj),
       )) in
-      let a = abs_all (pair_term f lists player y z) bound (take i row) (All-take (λ p. unsigned_abs (pair_term f lists player y z p) ≤ bound p) i row each) in
+      let a = abs_all term bound (take i row) (All-take (λ p. unsigned_abs (term p) ≤ bound p) i row each) in
       omega (
         arith,
         a,
@@ -212,3 +218,22 @@ module _ (f : Frame) (r : InRange f) (lists : ClassLists) (k : IsClasses f.paren
         mul-le-mul_left m (sum_by-take-le (λ (p : Pair). p.weight) row i),
         ap (λ n. m * n) (row_weighs f (is_table f r) lists k (round_of f (at_end z)) (w.end_round z l) (w.end_in z l) c row h),
       )
+
+  -- so with the numbers of a plan
+  pub prefix_few : (y : Plan) → ((e : ℕ) → IsClass lists (round_of f (at_end z)) e → class_number f lists (other_player player) y z e ≤ y.total) → (i : ℕ)
+      → unsigned_abs (sum_z (pair_term f lists player y z) (take i row)) ≤ (36864 * y.total) * weight_here
+  prefix_few y within i = prefix_small (λ e. class_number f lists (other_player player) y z e) y.total within i
+
+-- ---- sums by numbers in a list
+
+-- where the numbers are a plan's, the sum is that of the plan
+pub by_numbers : (f : Frame) (lists : ClassLists) (player : ℕ) (y : Plan) (z : ℕ) (numbers : List ℕ) → AreNumbersAt f lists (other_player player) y z numbers
+    → (c : ℕ) → number_sum f lists player numbers z c ≡ end_sum f lists player y z c
+by_numbers f lists player y z numbers h c =
+    let round = round_of f (at_end z) in
+    let n = class_count lists round in
+    let pays : ℕ → ℤ = λ e. pair_sum f lists lists round (payoff_to f player z) c e in
+    sum_z-same_all (λ e. pos (get_or numbers (e - 1) 0) *ℤ pays e) (λ e. pos (class_number f lists (other_player player) y z e) *ℤ pays e) (classes_in lists round) (λ i d l.
+    (let at : get_or (range_with_len 1 n) i d ≡ 1 + i = get_or-range_with_len 1 n i d (omega (arith, l, length-range_with_len 1 n)) in
+    let class : IsClass lists round (get_or (range_with_len 1 n) i d) = (omega (arith, at), omega (arith, at, l, length-range_with_len 1 n)) in
+    ap (λ v. pos v *ℤ pays (get_or (range_with_len 1 n) i d)) (h (get_or (range_with_len 1 n) i d) class)))

@@ -1,6 +1,6 @@
 -- What an end pays in the deals of pairs of classes.
-use Rattle.std.specs.Prelude.{ℕ, ◌==◌, ℤ, pos, neg_ℤ, ◌*ℤ◌, if◌then◌else◌}
-use Rattle.gs_model.specs.Classes.{ClassLists, classes_in}
+use Rattle.std.specs.Prelude.{ℕ, ◌-◌, ◌<◌, ◌≤◌, ◌≡◌, ◌==◌, ◌^◌, List, ℤ, pos, neg_ℤ, ◌*ℤ◌, if◌then◌else◌, slice_index}
+use Rattle.gs_model.specs.Classes.{ClassLists, IsClass, class_count, classes_in}
 use Rattle.gs_model.specs.Frame.{Frame, other_player, payoff_to, round_of}
 use Rattle.gs_model.specs.Pairs.{class_number, pair_sum}
 use Rattle.gs_model.specs.Plans.{Plan}
@@ -14,6 +14,14 @@ abbrev pub end_sum : Frame → ClassLists → ℕ → Plan → ℕ → ℕ → �
 end_sum f lists player y z c =
     let round = round_of f (at_end z) in
     sum_z (λ e. pos (class_number f lists (other_player player) y z e) *ℤ pair_sum f lists lists round (payoff_to f player z) c e) (classes_in lists round)
+
+-- how many classes the round of an end has
+abbrev pub end_classes : Frame → ClassLists → ℕ → ℕ
+end_classes f lists z = class_count lists (round_of f (at_end z))
+
+-- a list has a player's number at an end for each class of its round
+abbrev pub AreNumbersAt : Frame → ClassLists → ℕ → Plan → ℕ → List ℕ → Type 0
+AreNumbersAt f lists player y z numbers = (e : ℕ) → IsClass lists (round_of f (at_end z)) e → slice_index numbers (e - 1) ≡ class_number f lists player y z e
 
 -- ---- of private functions
 
@@ -33,3 +41,13 @@ pair_pays player z p = pays z.kind
     pays Folded1 = stake player 1 z.put *ℤ pos p.weight
     pays Folded2 = stake player 2 z.put *ℤ pos p.weight
     pays Show = pos z.put *ℤ p.signed
+
+-- none of the first n numbers of a list is over the greatest total of a plan
+abbrev pub AreFew : ℕ → List ℕ → Type 0
+AreFew n numbers = (k : ℕ) → k < n → slice_index numbers k ≤ 2 ^ 36
+
+-- what an end pays a player at a class of his by the other's numbers there, one for each class
+abbrev pub number_sum : Frame → ClassLists → ℕ → List ℕ → ℕ → ℕ → ℤ
+number_sum f lists player numbers z c =
+    let round = round_of f (at_end z) in
+    sum_z (λ e. pos (slice_index numbers (e - 1)) *ℤ pair_sum f lists lists round (payoff_to f player z) c e) (classes_in lists round)

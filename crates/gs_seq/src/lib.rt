@@ -12,6 +12,7 @@ mod limits;
 mod numbers;
 mod pair;
 mod pairs;
+mod paying;
 mod payoff;
 mod plan;
 mod rows;

@@ -13,7 +13,7 @@ use crate::plan::Plan;
 use gs_game::{End, EndKind};
 
 /// What an end pays a player in the deals of a pair.
-fn pays(player: u8, end: End, pair: Pair) -> i128
+pub(crate) fn pays(player: u8, end: End, pair: Pair) -> i128
     requires few { pair.weight ≤ 67108864 }
     requires moderate { unsigned_abs pair.signed ≤ 9 * pair.weight }
     ensures { result ≡ pair_pays player (end_of end) pair }

@@ -9,7 +9,8 @@ use Rattle.gs_seq.specs.declared.form.Abstract.{Abstract}
 use Rattle.gs_seq.proofs.SlotLaws.{sum_range_more}
 use Rattle.gs_best.proofs.Below.{prefix_le}
 use Rattle.gs_best.proofs.Forms.{form_class_few, form_modest, form_walked}
-use Rattle.gs_totals.specs.Places.{end_classes, end_start}
+use Rattle.gs_seq.specs.Payoffs.{end_classes}
+use Rattle.gs_totals.specs.Places.{end_start}
 
 pub end_starts_more : (f : Frame) (lists : ClassLists) (z : ℕ) → end_start f lists (z + 1) ≡ end_start f lists z + end_classes f lists z
 end_starts_more f lists z = sum_range_more (end_classes f lists) z

@@ -4,17 +4,12 @@ use Rattle.std.specs.List.{range_with_len}
 use Rattle.gs_model.specs.BestAnswers.{Values}
 use Rattle.gs_model.specs.Classes.{ClassLists, IsClass, class_count}
 use Rattle.gs_model.specs.Frame.{Frame, choices_at, end_count, move_count, player_at, point_count, round_of}
-use Rattle.gs_model.specs.Pairs.{class_number}
 use Rattle.gs_model.specs.Plans.{Plan}
 use Rattle.gs_model.specs.Positions.{at_end, at_point}
 use Rattle.gs_model.specs.Sums.{sum_z}
-use Rattle.gs_seq.specs.Payoffs.{end_sum}
+use Rattle.gs_seq.specs.Payoffs.{end_classes, end_sum}
 use Rattle.gs_best.specs.Tables.{start_of}
 use Rattle.gs_totals.specs.ClassTotals.{total_worth}
-
--- how many classes the round of an end has
-abbrev pub end_classes : Frame → ClassLists → ℕ → ℕ
-end_classes f lists z = class_count lists (round_of f (at_end z))
 
 -- the place of an end's first class
 abbrev pub end_start : Frame → ClassLists → ℕ → ℕ
@@ -23,10 +18,6 @@ end_start f lists z = sum_by (end_classes f lists) (range_with_len 0 z)
 -- for each end the place of its first class
 abbrev pub AreEndStarts : Frame → ClassLists → List ℕ → Type 0
 AreEndStarts f lists starts = (z : ℕ) → z < end_count f → slice_index starts z ≡ end_start f lists z
-
--- a list has a player's number at an end for each class of its round
-abbrev pub AreNumbersAt : Frame → ClassLists → ℕ → Plan → ℕ → List ℕ → Type 0
-AreNumbersAt f lists player y z numbers = (e : ℕ) → IsClass lists (round_of f (at_end z)) e → slice_index numbers (e - 1) ≡ class_number f lists player y z e
 
 -- a list has what each end pays the members of each class against the other's plan y
 abbrev pub AreEndSums : Frame → ClassLists → ℕ → Plan → List ℤ → Type 0

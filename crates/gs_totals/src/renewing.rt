@@ -6,11 +6,11 @@ ghost use Rattle.gs_model.specs.Classes.{IsClass};
 ghost use Rattle.gs_model.specs.Frame.{end_count, last_step, move_count, other_player, player_at, point_count, round_of};
 ghost use Rattle.gs_model.specs.Positions.{at_end};
 ghost use Rattle.gs_seq.specs.Abstracts.{frame_of, lists_of};
-ghost use Rattle.gs_seq.specs.Payoffs.{end_sum};
+ghost use Rattle.gs_seq.specs.Payoffs.{end_classes, end_sum};
 ghost use Rattle.gs_seq.specs.Plans.{class_plan};
 ghost use Rattle.gs_seq.specs.Slots.{plan_of, slot_count};
 ghost use Rattle.gs_best.specs.Sizes.{IsWide};
-ghost use Rattle.gs_totals.specs.Places.{AreEndSums, end_classes, end_start};
+ghost use Rattle.gs_totals.specs.Places.{AreEndSums, end_start};
 ghost use Rattle.gs_totals.specs.Renewed.{AgreeAt, AreSameAt};
 ghost use Rattle.gs_totals.specs.Room.{HasRows, HasScratch, IsPlaced};
 

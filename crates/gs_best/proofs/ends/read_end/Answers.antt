@@ -1,33 +1,27 @@
-use Rattle.std.proofs.Common.{◌+◌, ap, ◌∙◌, arith}
-use Rattle.std.specs.Prelude.{ℕ, ℤ, pos}
-use Rattle.std.proofs.lemmas.Int.{to_z-of_z}
-use mir.Syntax.{w128}
+use Rattle.std.proofs.Common.{◌≡◌, ◌+◌, ◌-◌, ◌∙◌, ap, sym, subst, arith, get_or, length}
+use Rattle.std.specs.Prelude.{pos, ◌*ℤ◌}
 use Rattle.gs_model.specs.BestAnswers.{end_worth}
-use Rattle.gs_model.specs.Classes.{class_count, first_member}
+use Rattle.gs_model.specs.Classes.{class_count, class_size, first_member}
 use Rattle.gs_model.specs.Frame.{round_of}
 use Rattle.gs_model.specs.Positions.{at_end}
-use Rattle.gs_seq.specs.Abstracts.{frame_of, lists_of}
-use Rattle.gs_seq.specs.Plans.{lifted}
-use Rattle.gs_best.proofs.Filled.{by_class, row_more}
+use Rattle.gs_seq.specs.Plans.{class_plan}
+use Rattle.gs_best.proofs.Forms.{form_in_range, form_lossless}
+use Rattle.gs_best.proofs.Shares.{end_share}
+use Rattle.gs_best.proofs.Sides.{against, classes, frame, lists, side_walked}
 use Rattle.gs_best.proofs.ends.read_end.Goals as goal
-
-pub loop-class-preserved : goal.loop-class-preserved
-loop-class-preserved c =
-    let d = c.args.side.now in
-    let f = frame_of d.form.now in
-    let lists = lists_of d.form.now in
-    let z = c.args.end in
-    let F : ℕ → ℤ = λ k. end_worth f d.player (lifted f lists d.other.now) z (first_member lists (round_of f (at_end z)) (k + 1)) in
-    row_more F c.loop-class.row c.loop-class.class _ (pos 0)
-    (omega (arith, c.loop-class-test.true, c.class_total-classes.ensures.value, ap (class_count lists) c.end_round.ensures.value, c.loop-class.auto.row, c.requires.room))
-    (to_z-of_z w128 c.end_value.result (record { sfits = c.end_value.type_inv }) ∙ c.end_value.ensures) c.loop-class.invariant
 
 pub returns : goal.returns
 returns c =
     let d = c.args.side.now in
-    let f = frame_of d.form.now in
-    let lists = lists_of d.form.now in
+    let f = frame d in
     let z = c.args.end in
-    let F : ℕ → ℤ = λ e. end_worth f d.player (lifted f lists d.other.now) z (first_member lists (round_of f (at_end z)) e) in
-    let all = c.class_total-classes.ensures.value ∙ ap (class_count lists) c.end_round.ensures.value in
-    λ e le. by_class F c.loop-class.row c.loop-class.class (pos 0) c.loop-class.invariant e le.0 (omega (arith, le.1, all, c.loop-class-test.false))
+    let round = round_of f (at_end z) in
+    let row = c.end_sums.new.sums in
+    λ k h.
+    (let worth = end_worth f d.player (against d) z (first_member (lists d) round k) in
+    let share = end_share f (form_in_range d.form.now) (lists d) (classes d c.round_total-rounds.ensures.sound) (form_lossless d.form.now) d.player (side_walked d) (class_plan f (lists d) d.other.now) z k c.requires.end h in
+    let at : k - 1 ≡ 0 + (k - 1) = omega arith in
+    let one : k ≡ k - 1 + 1 = omega (arith, h.0) in
+    let sum : get_or row (k - 1) (pos 0) ≡ worth *ℤ pos (class_size (lists d) c.end_round.result (k - 1 + 1)) =
+    ap (λ i. get_or row i (pos 0)) at ∙ c.end_sums.ensures.here k h ∙ share ∙ ap (λ i. worth *ℤ pos (class_size (lists d) i k)) (sym c.end_round.ensures.value) ∙ ap (λ i. worth *ℤ pos (class_size (lists d) c.end_round.result i)) one in
+    c.share_all.ensures (k - 1) worth (omega (arith, h.0, h.1, ap (class_count (lists d)) c.end_round.ensures.value)) sum)

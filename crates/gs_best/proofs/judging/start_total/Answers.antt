@@ -1,4 +1,4 @@
-use Rattle.std.proofs.Common.{◌≡◌, ◌+◌, ◌-◌, List, length, drop, get_or, refl, sym, ap, ◌∙◌, subst, arith}
+use Rattle.std.proofs.Common.{◌≡◌, ℕ, ◌+◌, ◌-◌, List, length, drop, get_or, refl, sym, ap, ◌∙◌, subst, arith}
 use Rattle.std.specs.Prelude.{ℤ, pos, unsigned_abs}
 use Rattle.std.proofs.lemmas.Int.{to_z-of_z}
 use Rattle.std.proofs.lemmas.List.{get_or_read}
@@ -13,6 +13,7 @@ use Rattle.gs_best.specs.Rows.{value_at}
 use Rattle.gs_best.specs.Tables.{moves_of, start_of}
 use Rattle.gs_best.proofs.Backwards.{from_best}
 use Rattle.gs_best.proofs.Filled.{written}
+use Rattle.gs_best.proofs.Rooms.{written_wide}
 use Rattle.gs_best.proofs.Sides.{against, classes, frame, known_start, known_value, lists, side_walked, values_in}
 use Rattle.gs_best.proofs.Starts.{starts_le, starts_more}
 use Rattle.gs_best.proofs.Totals.{starts_at_end, starts_at_point}
@@ -191,3 +192,26 @@ returns-in-End-clause-small c =
     to_z-of_z w128 c.round_sum-in-End.result (record { sfits = c.round_sum-in-End.type_inv }) ∙ c.round_sum-in-End.ensures ∙ sum
     ∙ starts_at_end f (lists d) d.player (against d) values (classes d sound) z c.end_round.result row is c.end_round.ensures.value c.end_round.ensures.some c.end_round.ensures.top c.read_end.ensures in
     omega (arith, ap unsigned_abs total, known_start d sound values picks 0 known refl)
+
+pub read_end-requires-clause-numbers : goal.read_end-requires-clause-numbers
+read_end-requires-clause-numbers c =
+    let d = c.args.side.now in
+    let f = frame d in
+    let z = c.in-End.end in
+    let is = sym c.start_at.ensures ∙ ap target_of c.in-End.is in
+    let lz = subst (IsInside f) is (side_walked d).start_in in
+    omega (arith, c.requires.room.numbers (round_of f (at_end z)) ((side_walked d).end_round z lz) ((side_walked d).end_in z lz), ap (λ (l : List ℕ). length l) c.deref_mut-in-End.ensures.value)
+
+pub returns-in-End-clause-room : goal.returns-in-End-clause-room
+returns-in-End-clause-room c =
+    let d = c.args.side.now in
+    let f = frame d in
+    let s = c.args.scratch.now in
+    let room = c.requires.room in
+    record {
+      numbers = written_wide f (lists d) s.numbers.len s.numbers.items c.read_end.new.numbers (omega (arith, s.numbers.ok.0)) (omega (arith, c.read_end.auto.numbers, ap (λ (l : List ℕ). length l) c.deref_mut-in-End.ensures.value)) room.numbers;
+      ends = written_wide f (lists d) s.ends.len s.ends.items c.read_end.new.row (omega (arith, s.ends.ok.0)) (omega (arith, c.read_end.auto.row, ap (λ (l : List ℤ). length l) c.deref_mut.ensures.value)) room.ends;
+      worths = room.worths;
+      best = room.best;
+      moves = room.moves;
+    }

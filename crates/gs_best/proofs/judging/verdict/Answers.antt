@@ -53,7 +53,7 @@ judged-requires-clause-paid c =
     let b2 = c.best_total-2.result in
     let h1 = c.best_total.ensures.total in
     let h2 = c.best_total-2.ensures.total in
-    let paid = to_z-of_z w128 c.payoff-paid.result (record { sfits = c.payoff-paid.type_inv }) ∙ c.payoff-paid.ensures in
+    let paid = to_z-of_z w128 c.plans_pay-paid.result (record { sfits = c.plans_pay-paid.type_inv }) ∙ c.plans_pay-paid.ensures.paid in
     let small = paid_small f ranged lists classes lossless w1 w2 ex x y c.requires.one.plan.plan c.requires.two.plan.plan b1 b2 h1 h2 c.best_total.ensures.small c.best_total-2.ensures.small in
     omega (arith, ap unsigned_abs paid, small)
 
@@ -64,8 +64,8 @@ invariant_of-work c =
     let lists = lists_of a in
     let w1 = form_walked a 1 (omega arith) (omega arith) in
     let t = c.best_total-2.new.table in
-    let s = c.best_total-2.new.scratch in
-    subst (λ l. IsRoomy l t s) (sym (c.work.view_is ∙ c.requires.room)) (roomy f lists w1 t s c.best_total-2.ensures.holds c.best_total-2.ensures.room)
+    let s = c.plans_pay-paid.new.scratch in
+    subst (λ l. IsRoomy l t s) (sym (c.work.view_is ∙ c.requires.room)) (roomy f lists w1 t s c.best_total-2.ensures.holds c.plans_pay-paid.ensures.room)
 
 pub returns-clause-verdict : goal.returns-clause-verdict
 returns-clause-verdict c =
@@ -84,7 +84,7 @@ returns-clause-verdict c =
     let b2 = c.best_total-2.result in
     let h1 = c.best_total.ensures.total in
     let h2 = c.best_total-2.ensures.total in
-    let paid = to_z-of_z w128 c.payoff-paid.result (record { sfits = c.payoff-paid.type_inv }) ∙ c.payoff-paid.ensures in
+    let paid = to_z-of_z w128 c.plans_pay-paid.result (record { sfits = c.plans_pay-paid.type_inv }) ∙ c.plans_pay-paid.ensures.paid in
     let value = parts c.judged.result.value in
     let gap1 = parts c.judged.result.gap1 in
     let gap2 = parts c.judged.result.gap2 in
@@ -98,5 +98,5 @@ returns-clause-verdict c =
     let scale : (n : ℤ) → n *ℤ pos (total_weight f * x.total * y.total) ≡ n *ℤ pos (c.deal_weight.result * x.total * y.total) = λ n. ap (λ w. n *ℤ pos (w * x.total * y.total)) (sym weight) in
     verdict_from f lists x y h1.values h2.values h1.move h2.move value gap1 gap2 ranged w1 w2 ex classes lossless h1.best h2.best (j.value.positive, j.first.positive, j.second.positive)
     (scale value.0 ∙ j.value.value ∙ ap (λ z. pos value.1 *ℤ z) paid)
-    (scale gap1.0 ∙ j.first.value ∙ ap (λ z. pos gap1.1 *ℤ (pos x.total *ℤ z -ℤ to_z w128 (of_z w128 c.payoff-paid.result))) one ∙ ap (λ z. pos gap1.1 *ℤ (pos x.total *ℤ s1 -ℤ z)) paid)
-    (scale gap2.0 ∙ j.second.value ∙ ap (λ z. pos gap2.1 *ℤ (pos y.total *ℤ z +ℤ to_z w128 (of_z w128 c.payoff-paid.result))) two ∙ ap (λ z. pos gap2.1 *ℤ (pos y.total *ℤ s2 +ℤ z)) paid)
+    (scale gap1.0 ∙ j.first.value ∙ ap (λ z. pos gap1.1 *ℤ (pos x.total *ℤ z -ℤ to_z w128 (of_z w128 c.plans_pay-paid.result))) one ∙ ap (λ z. pos gap1.1 *ℤ (pos x.total *ℤ s1 -ℤ z)) paid)
+    (scale gap2.0 ∙ j.second.value ∙ ap (λ z. pos gap2.1 *ℤ (pos y.total *ℤ z +ℤ to_z w128 (of_z w128 c.plans_pay-paid.result))) two ∙ ap (λ z. pos gap2.1 *ℤ (pos y.total *ℤ s2 +ℤ z)) paid)

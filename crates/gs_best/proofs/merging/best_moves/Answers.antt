@@ -2,6 +2,7 @@ use Rattle.std.proofs.Common.{◌≡◌, ℕ, ◌+◌, List, ◌++◌, length, t
 use Rattle.std.specs.Prelude.{ℤ}
 use Rattle.std.specs.declared.alloc.Global.{Global}
 use Rattle.gs_model.specs.Classes.{class_count}
+use Rattle.gs_model.specs.Frame.{move_count}
 use Rattle.gs_best.specs.Rows.{AreGreatest, AreWorths}
 use Rattle.gs_best.specs.Sizes.{IsWide}
 use Rattle.gs_best.proofs.Filled.{written}
@@ -28,6 +29,7 @@ loop-choice-preserved c =
     let moves_were : c.loop-choice.scratch.moves.items ≡ c.deref_mut-in-loop-choice.result.now = ap (λ (l : Vec ℕ Global). l.items) (sym c.read_worths.ensures.moves) ∙ sym c.deref_mut-in-loop-choice.ensures.value in
     record {
       room = record {
+        numbers = room.numbers;
         ends = room.ends;
         worths = room.worths;
         best = subst (λ l. IsWide f (lists d) (length l)) (sym best_is) (λ j some top. omega (arith, room.best j some top, c.raise.auto.best, ap (λ (l : List ℤ). length l) c.deref_mut.ensures.value));
@@ -39,3 +41,13 @@ loop-choice-preserved c =
           (greatest_step f (lists d) v q n c.class_total-count.result all c.deref.result.now worths c.deref_mut.result.now best c.deref_mut-in-loop-choice.result.now moves c.raise.ensures
           (λ before. subst (λ l. AreGreatest f (lists d) v q n l c.deref_mut-in-loop-choice.result.now) best_was (subst (λ l. AreGreatest f (lists d) v q n c.loop-choice.scratch.best.items l) moves_were (c.loop-choice.invariant.so_far before)))));
     }
+
+pub returns-clause-best : goal.returns-clause-best
+returns-clause-best c =
+    let d = c.args.side.now in
+    let f = frame d in
+    let q = c.args.point in
+    let v = values_in d c.args.table.now.values.items in
+    let all : c.loop-choice.choice ≡ move_count f q = omega (arith, c.loop-choice-test.false, c.loop-choice.auto.choice-end, c.move_total-choice-end.ensures.value) in
+    subst (λ n. AreGreatest f (lists d) v q n c.loop-choice.scratch.best.items c.loop-choice.scratch.moves.items) all
+    (c.loop-choice.invariant.so_far (omega (arith, all, c.move_total-choice-end.ensures.some, c.move_total-choice-end.ensures.value)))

@@ -54,6 +54,7 @@ loop-choice-preserved c =
     let sums_were : c.loop-choice.scratch.best.items ≡ c.deref_mut.result.now = ap (λ (l : Vec ℤ Global). l.items) (sym c.read_worths.ensures.best) ∙ sym c.deref_mut.ensures.value in
     record {
       room = record {
+        numbers = room.numbers;
         ends = room.ends;
         worths = room.worths;
         best = subst (λ l. IsWide f (lists d) (length l)) (sym sums_are) (λ j some top. omega (arith, room.best j some top, c.add.auto.sums, ap (λ (l : List ℤ). length l) c.deref_mut.ensures.value));

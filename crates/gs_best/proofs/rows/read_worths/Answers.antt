@@ -1,4 +1,4 @@
-use Rattle.std.proofs.Common.{◌≡◌, ◌+◌, ◌-◌, List, length, drop, get_or, sym, ap, ◌∙◌, subst, arith}
+use Rattle.std.proofs.Common.{◌≡◌, ℕ, ◌+◌, ◌-◌, List, length, drop, get_or, sym, ap, ◌∙◌, subst, arith}
 use Rattle.std.specs.Prelude.{ℤ, pos, unsigned_abs}
 use Rattle.std.proofs.lemmas.List.{get_or_read}
 use Rattle.gs_game.specs.Seen.{target_of}
@@ -96,6 +96,15 @@ read_end-requires-clause-room c =
     let n = next_end d q c.args.choice c.in-End.end c.requires.point c.requires.choice leads in
     omega (arith, c.requires.room.ends (round_of f (at_end c.in-End.end)) n.some n.top, ap (λ (l : List ℤ). length l) c.deref_mut-in-End.ensures.value)
 
+pub read_end-requires-clause-numbers : goal.read_end-requires-clause-numbers
+read_end-requires-clause-numbers c =
+    let d = c.args.side.now in
+    let f = frame d in
+    let q = c.args.point in
+    let leads = sym c.target_at.ensures ∙ ap target_of c.in-End.is in
+    let n = next_end d q c.args.choice c.in-End.end c.requires.point c.requires.choice leads in
+    omega (arith, c.requires.room.numbers (round_of f (at_end c.in-End.end)) n.some n.top, ap (λ (l : List ℕ). length l) c.deref_mut-in-End-2.ensures.value)
+
 pub end_round-to-requires : goal.end_round-to-requires
 end_round-to-requires c =
     let d = c.args.side.now in
@@ -170,4 +179,4 @@ returns-in-End-clause-worths c =
     c.end_round-to.ensures.some c.end_round-to.ensures.top c.read_end.ensures below in
     let old = c.args.scratch.now.worths in
     subst (AreWorths f (lists d) (table_of f (lists d) d.player (against d) values) q c.args.choice)
-    (sym (written old.len sums (drop (length sums) old.items) (omega (arith, c.sum_below-in-End.auto.sums, ap (λ (l : List ℤ). length l) c.deref_mut-in-End-2.ensures.value, old.ok.0)))) worths
+    (sym (written old.len sums (drop (length sums) old.items) (omega (arith, c.sum_below-in-End.auto.sums, ap (λ (l : List ℤ). length l) c.deref_mut-in-End-3.ensures.value, old.ok.0)))) worths

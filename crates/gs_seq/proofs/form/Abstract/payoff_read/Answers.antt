@@ -1,0 +1,99 @@
+use Rattle.std.proofs.Common.{rules, ◌≡◌, ◌+◌, ◌-◌, ◌*◌, ◌≤◌, ℕ, List, ap, sym, ◌∙◌, arith, subst, get_or, length, pos, FitsSigned, of_z, to_z, to_z-of_z}
+use Rattle.std.specs.Int.{w128}
+use Rattle.std.specs.List.{range_with_len}
+use Rattle.std.specs.Prelude.{ℤ, unsigned_abs, ◌+ℤ◌, ◌*ℤ◌}
+use Rattle.std.proofs.lemmas.Int.{unsigned_abs-mul}
+use Rattle.std.proofs.lemmas.List.{get_or_read}
+use borrow.Author.Differences.{abs_is}
+use Rattle.gs_model.specs.Classes.{IsClass, class_count}
+use Rattle.gs_model.specs.Frame.{round_of}
+use Rattle.gs_model.specs.Pairs.{class_number}
+use Rattle.gs_model.specs.Positions.{at_end}
+use Rattle.gs_model.specs.Sums.{sum_z}
+use Rattle.gs_seq.specs.Abstracts.{frame_of, lists_of}
+use Rattle.gs_seq.specs.Payoffs.{end_sum}
+use Rattle.gs_seq.specs.Plans.{class_plan}
+use Rattle.gs_seq.proofs.EndTotals.{class_term, classes_few, range_more, term_few}
+use Rattle.gs_seq.proofs.Forms.{given}
+use Rattle.gs_seq.proofs.form.Abstract.payoff_read.Goals as goal
+
+more : (n : ℕ) → n + 1 ≡ 1 + n
+more n = omega arith
+
+-- what the list has of a class
+read_at : (sums : List ℤ) (n : ℕ) (w : ℤ) → get_or sums (0 + (n + 1 - 1)) (pos 0) ≡ w → get_or sums n (pos 0) ≡ w
+read_at sums n w h = let at : n ≡ 0 + (n + 1 - 1) = omega arith in ap (λ i. get_or sums i (pos 0)) at ∙ h
+
+pub scaled-requires : goal.scaled-requires
+scaled-requires c =
+    let f = frame_of c.args.self.now in
+    let ls = lists_of c.args.self.now in
+    let z = c.args.end in
+    let g = given c.game-game.result.now f ls c.game-game.ensures.held c.game-game.ensures.classes in
+    let w = g.walked 1 (omega arith) (omega arith) in
+    let x = class_plan f ls c.args.x.now in
+    let y = class_plan f ls c.args.y.now in
+    let n = c.loop-before.before in
+    let here : IsClass ls (round_of f (at_end z)) (n + 1) = (omega arith, omega (arith, c.class_total-before-end.ensures, c.loop-before-test.true)) in
+    let number : c.number_at_end-number.result ≡ class_number f ls 1 x z (n + 1) = c.number_at_end-number.ensures.value ∙ ap (λ p. class_number f ls p x z (n + 1)) c.requires.x.player_is in
+    let sum = get_or c.end_sums.new.sums n (pos 0) in
+    let read : sum ≡ end_sum f ls 1 y z (n + 1) = read_at c.end_sums.new.sums n (end_sum f ls 1 y z (n + 1)) (c.end_sums.ensures.here (n + 1) here) in
+    let fits : FitsSigned w128 sum = search rules in
+    let worth : to_z w128 (of_z w128 sum) ≡ end_sum f ls 1 y z (n + 1) = to_z-of_z {w = w128} {z = sum} fits ∙ read in
+    let size = term_few f g.in_range ls g.classes g.modest w (g.walked 2 (omega arith) (omega arith)) x y c.requires.x.plan.plan c.requires.y.plan.plan z (n + 1) c.requires.end here in
+    omega (
+      arith,
+      size,
+      unsigned_abs-mul (pos (class_number f ls 1 x z (n + 1))) (end_sum f ls 1 y z (n + 1)),
+      abs_is (pos (class_number f ls 1 x z (n + 1))),
+      ap (λ v. c.number_at_end-number.result * unsigned_abs v) worth,
+      ap (λ k. k * unsigned_abs (end_sum f ls 1 y z (n + 1))) number,
+    )
+
+pub plus-sum-requires : goal.plus-sum-requires
+plus-sum-requires c =
+    let f = frame_of c.args.self.now in
+    let ls = lists_of c.args.self.now in
+    let z = c.args.end in
+    let g = given c.game-game.result.now f ls c.game-game.ensures.held c.game-game.ensures.classes in
+    let w = g.walked 1 (omega arith) (omega arith) in
+    let x = class_plan f ls c.args.x.now in
+    let y = class_plan f ls c.args.y.now in
+    let n = c.loop-before.before in
+    let here : IsClass ls (round_of f (at_end z)) (n + 1) = (omega arith, omega (arith, c.class_total-before-end.ensures, c.loop-before-test.true)) in
+    let number : c.number_at_end-number.result ≡ class_number f ls 1 x z (n + 1) = c.number_at_end-number.ensures.value ∙ ap (λ p. class_number f ls p x z (n + 1)) c.requires.x.player_is in
+    let sum = get_or c.end_sums.new.sums n (pos 0) in
+    let read : sum ≡ end_sum f ls 1 y z (n + 1) = read_at c.end_sums.new.sums n (end_sum f ls 1 y z (n + 1)) (c.end_sums.ensures.here (n + 1) here) in
+    let fits_sum : FitsSigned w128 sum = search rules in
+    let worth : to_z w128 (of_z w128 sum) ≡ end_sum f ls 1 y z (n + 1) = to_z-of_z {w = w128} {z = sum} fits_sum ∙ read in
+    let fits : FitsSigned w128 c.scaled.result = search rules in
+    let term : to_z w128 (of_z w128 c.scaled.result) ≡ class_term f ls x y z (n + 1) =
+    to_z-of_z {w = w128} {z = c.scaled.result} fits ∙ c.scaled.ensures ∙ ap (λ v. pos c.number_at_end-number.result *ℤ v) worth ∙ ap (λ k. pos k *ℤ end_sum f ls 1 y z (n + 1)) number in
+    let turn : to_z w128 c.loop-before.sum-bits +ℤ to_z w128 (of_z w128 c.scaled.result) ≡ sum_z (class_term f ls x y z) (range_with_len 1 (n + 1)) =
+    ap (λ v. v +ℤ to_z w128 (of_z w128 c.scaled.result)) c.loop-before.invariant ∙ ap (λ v. sum_z (class_term f ls x y z) (range_with_len 1 n) +ℤ v) (term ∙ ap (class_term f ls x y z) (more n))
+    ∙ sym (range_more (class_term f ls x y z) 1 n) in
+    let size = classes_few f g.in_range ls g.classes g.modest w (g.walked 2 (omega arith) (omega arith)) x y c.requires.x.plan.plan c.requires.y.plan.plan z (n + 1) c.requires.end here.1 in
+    omega (arith, size, ap unsigned_abs turn)
+
+pub loop-before-preserved : goal.loop-before-preserved
+loop-before-preserved c =
+    let f = frame_of c.args.self.now in
+    let ls = lists_of c.args.self.now in
+    let z = c.args.end in
+    let x = class_plan f ls c.args.x.now in
+    let y = class_plan f ls c.args.y.now in
+    let n = c.loop-before.before in
+    let here : IsClass ls (round_of f (at_end z)) (n + 1) = (omega arith, omega (arith, c.class_total-before-end.ensures, c.loop-before-test.true)) in
+    let number : c.number_at_end-number.result ≡ class_number f ls 1 x z (n + 1) = c.number_at_end-number.ensures.value ∙ ap (λ p. class_number f ls p x z (n + 1)) c.requires.x.player_is in
+    let sum = get_or c.end_sums.new.sums n (pos 0) in
+    let read : sum ≡ end_sum f ls 1 y z (n + 1) = read_at c.end_sums.new.sums n (end_sum f ls 1 y z (n + 1)) (c.end_sums.ensures.here (n + 1) here) in
+    let fits_sum : FitsSigned w128 sum = search rules in
+    let worth : to_z w128 (of_z w128 sum) ≡ end_sum f ls 1 y z (n + 1) = to_z-of_z {w = w128} {z = sum} fits_sum ∙ read in
+    let fits : FitsSigned w128 c.scaled.result = search rules in
+    let term : to_z w128 (of_z w128 c.scaled.result) ≡ class_term f ls x y z (n + 1) =
+    to_z-of_z {w = w128} {z = c.scaled.result} fits ∙ c.scaled.ensures ∙ ap (λ v. pos c.number_at_end-number.result *ℤ v) worth ∙ ap (λ k. pos k *ℤ end_sum f ls 1 y z (n + 1)) number in
+    let turn : to_z w128 c.loop-before.sum-bits +ℤ to_z w128 (of_z w128 c.scaled.result) ≡ sum_z (class_term f ls x y z) (range_with_len 1 (n + 1)) =
+    ap (λ v. v +ℤ to_z w128 (of_z w128 c.scaled.result)) c.loop-before.invariant ∙ ap (λ v. sum_z (class_term f ls x y z) (range_with_len 1 n) +ℤ v) (term ∙ ap (class_term f ls x y z) (more n))
+    ∙ sym (range_more (class_term f ls x y z) 1 n) in
+    let fits_plus : FitsSigned w128 c.plus-sum.result = search rules in
+    to_z-of_z {w = w128} {z = c.plus-sum.result} fits_plus ∙ c.plus-sum.ensures ∙ turn

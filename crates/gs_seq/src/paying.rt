@@ -1,0 +1,190 @@
+//! What an end pays all classes of its round, by the other player's numbers there.
+
+ghost use Rattle.std.specs.Prelude.{◌≡◌, ◌-◌, ◌<◌, ◌≤◌, length, slice_index};
+
+use crate::form::Abstract;
+use crate::numbers::{plus, scaled};
+use crate::pairs::Pairs;
+use crate::payoff::pays;
+use crate::plan::Plan;
+use gs_game::End;
+
+/// The number of a class in a list by classes.
+fn number_of(numbers: &[u64], class: u32) -> u64
+    requires some { 0 < class }
+    requires within { class ≤ length numbers.now }
+    ensures { result ≡ slice_index numbers.now (class - 1) }
+{
+    numbers[class as usize - 1]
+}
+
+impl<'a> Abstract<'a> {
+    ghost use Rattle.std.specs.Prelude.{◌+◌, ℕ, get_or, pos};
+    ghost use Rattle.gs_game.specs.Seen.{end_of};
+    ghost use Rattle.gs_model.specs.Classes.{IsClass};
+    ghost use Rattle.gs_model.specs.Frame.{end_at, end_count, last_round, other_player, round_of};
+    ghost use Rattle.gs_model.specs.Payoff.{raw_payoff};
+    ghost use Rattle.gs_model.specs.Positions.{at_end};
+    ghost use Rattle.gs_seq.specs.Abstracts.{frame_of, lists_of};
+    ghost use Rattle.gs_seq.specs.Payoffs.{AreFew, AreNumbersAt, end_classes, end_sum, number_sum, payoff_at};
+    ghost use Rattle.gs_seq.specs.Plans.{IsPlanOf, class_plan, lifted};
+    ghost use Rattle.gs_seq.specs.Rows.{IsRow};
+
+    /// An end of the game.
+    fn end_in(&self, end: u32) -> End
+        requires { end < end_count (frame_of self.now) }
+        ensures value { end_of result ≡ end_at (frame_of self.now) end }
+        ensures round { result.round ≡ round_of (frame_of self.now) (at_end end) }
+        ensures some { 0 < result.round }
+        ensures top { result.round ≤ last_round (frame_of self.now) }
+    {
+        self.game().ends()[end as usize]
+    }
+
+    /// How many classes the round of an end has.
+    fn class_total(&self, end: u32) -> u32
+        requires { end < end_count (frame_of self.now) }
+        ensures { result ≡ end_classes (frame_of self.now) (lists_of self.now) end }
+    {
+        let _rounds = self.lossless().classes().rounds();
+        self.classes().classes(self.end_in(end).round)
+    }
+
+    /// What an end pays a player at each class of his against a plan of the other player, class by class from a place of a list on, as `end_sum`; the
+    /// rest of the list is as it was. The other's numbers there are written anew.
+    pub fn end_sums(
+        &self,
+        player: u8,
+        other: &Plan,
+        end: u32,
+        start: usize,
+        sums: &mut [i128],
+        numbers: &mut [u64],
+    )
+        requires some { 0 < player }
+        requires two { player ≤ 2 }
+        requires other { IsPlanOf (frame_of self.now) (lists_of self.now) (other_player player) other.now }
+        requires end { end < end_count (frame_of self.now) }
+        requires wide { end_classes (frame_of self.now) (lists_of self.now) end ≤ length numbers.old }
+        requires room { start + end_classes (frame_of self.now) (lists_of self.now) end ≤ length sums.old }
+        ensures here { let f = frame_of self.now in let lists = lists_of self.now in
+            (c : ℕ) → IsClass lists (round_of f (at_end end)) c → get_or sums.new (start + (c - 1)) (pos 0) ≡ end_sum f lists player (class_plan f lists other.now) end c }
+        ensures before { (i : ℕ) → i < start → get_or sums.new i (pos 0) ≡ get_or sums.old i (pos 0) }
+        ensures behind { (i : ℕ) → start + end_classes (frame_of self.now) (lists_of self.now) end ≤ i → get_or sums.new i (pos 0) ≡ get_or sums.old i (pos 0) }
+        ensures numbers { let f = frame_of self.now in let lists = lists_of self.now in
+            AreNumbersAt f lists (other_player player) (class_plan f lists other.now) end numbers.new }
+    {
+        self.read_numbers(other, end, numbers);
+        self.pay_all(player, end, numbers, start, sums);
+    }
+
+    /// A plan's numbers at an end, class by class.
+    fn read_numbers(&self, plan: &Plan, end: u32, numbers: &mut [u64])
+        requires some { 0 < plan.now.player }
+        requires two { plan.now.player ≤ 2 }
+        requires plan { IsPlanOf (frame_of self.now) (lists_of self.now) plan.now.player plan.now }
+        requires end { end < end_count (frame_of self.now) }
+        requires wide { end_classes (frame_of self.now) (lists_of self.now) end ≤ length numbers.old }
+        ensures numbers { let f = frame_of self.now in let lists = lists_of self.now in
+            AreNumbersAt f lists plan.now.player (class_plan f lists plan.now) end numbers.new }
+        ensures few { AreFew (end_classes (frame_of self.now) (lists_of self.now) end) numbers.new }
+    {
+        for before in 0..self.class_total(end) {
+            numbers[before as usize] = self.number_at_end(plan, end, before + 1);
+        }
+    }
+
+    /// What an end pays a player at each class of his, from a place of a list on, by the other's numbers there; the rest of the list is as it was.
+    fn pay_all(&self, player: u8, end: u32, numbers: &[u64], start: usize, sums: &mut [i128])
+        requires some { 0 < player }
+        requires two { player ≤ 2 }
+        requires end { end < end_count (frame_of self.now) }
+        requires wide { end_classes (frame_of self.now) (lists_of self.now) end ≤ length numbers.now }
+        requires few { AreFew (end_classes (frame_of self.now) (lists_of self.now) end) numbers.now }
+        requires room { start + end_classes (frame_of self.now) (lists_of self.now) end ≤ length sums.old }
+        ensures here { let f = frame_of self.now in let lists = lists_of self.now in
+            (c : ℕ) → IsClass lists (round_of f (at_end end)) c → get_or sums.new (start + (c - 1)) (pos 0) ≡ number_sum f lists player numbers.now end c }
+        ensures before { (i : ℕ) → i < start → get_or sums.new i (pos 0) ≡ get_or sums.old i (pos 0) }
+        ensures behind { (i : ℕ) → start + end_classes (frame_of self.now) (lists_of self.now) end ≤ i → get_or sums.new i (pos 0) ≡ get_or sums.old i (pos 0) }
+    {
+        for before in 0..self.class_total(end) {
+            sums[start + before as usize] = self.paid(player, end, before + 1, numbers);
+        }
+    }
+
+    /// What an end pays a player at a class of his by the other's numbers there.
+    fn paid(&self, player: u8, end: u32, class: u32, numbers: &[u64]) -> i128
+        requires some { 0 < player }
+        requires two { player ≤ 2 }
+        requires end { end < end_count (frame_of self.now) }
+        requires class { IsClass (lists_of self.now) (round_of (frame_of self.now) (at_end end)) class }
+        requires wide { end_classes (frame_of self.now) (lists_of self.now) end ≤ length numbers.now }
+        requires few { AreFew (end_classes (frame_of self.now) (lists_of self.now) end) numbers.now }
+        ensures { result ≡ number_sum (frame_of self.now) (lists_of self.now) player numbers.now end class }
+    {
+        let row = self.pairs(self.end_in(end).round, class);
+        self.row_paid(player, end, class, numbers, row)
+    }
+
+    /// The same over the pairs of the class.
+    fn row_paid(&self, player: u8, end: u32, class: u32, numbers: &[u64], row: Pairs<'_>) -> i128
+        requires some { 0 < player }
+        requires two { player ≤ 2 }
+        requires end { end < end_count (frame_of self.now) }
+        requires wide { end_classes (frame_of self.now) (lists_of self.now) end ≤ length numbers.now }
+        requires few { AreFew (end_classes (frame_of self.now) (lists_of self.now) end) numbers.now }
+        requires row { IsRow (frame_of self.now) (lists_of self.now) (round_of (frame_of self.now) (at_end end)) class row }
+        ensures { result ≡ number_sum (frame_of self.now) (lists_of self.now) player numbers.now end class }
+    {
+        let _game = self.game();
+        let at = self.end_in(end);
+        let mut sum = 0i128;
+        for pair in row {
+            let number = number_of(numbers, pair.two);
+            sum = plus(sum, scaled(number, pays(player, at, pair)));
+        }
+        sum
+    }
+
+    /// What a plan of player 1 and a plan of player 2 pay player 1, as `payoff`, with room to read what ends pay: a number for each class of any end.
+    pub fn payoff_in(&self, x: &Plan, y: &Plan, sums: &mut [i128], numbers: &mut [u64]) -> i128
+        requires x { IsPlanOf (frame_of self.now) (lists_of self.now) 1 x.now }
+        requires y { IsPlanOf (frame_of self.now) (lists_of self.now) 2 y.now }
+        requires sums { (z : ℕ) → z < end_count (frame_of self.now) → end_classes (frame_of self.now) (lists_of self.now) z ≤ length sums.old }
+        requires numbers { (z : ℕ) → z < end_count (frame_of self.now) → end_classes (frame_of self.now) (lists_of self.now) z ≤ length numbers.old }
+        ensures { result ≡ raw_payoff (frame_of self.now) (lifted (frame_of self.now) (lists_of self.now) x.now) (lifted (frame_of self.now) (lists_of self.now) y.now) }
+    {
+        let ends = self.game().ends().len() as u32;
+        let mut sum = 0i128;
+        for end in 0..ends {
+            sum = plus(sum, self.payoff_read(x, y, end, sums, numbers));
+        }
+        sum
+    }
+
+    /// What two plans pay at an end, over the classes of player 1.
+    fn payoff_read(
+        &self,
+        x: &Plan,
+        y: &Plan,
+        end: u32,
+        sums: &mut [i128],
+        numbers: &mut [u64],
+    ) -> i128
+        requires x { IsPlanOf (frame_of self.now) (lists_of self.now) 1 x.now }
+        requires y { IsPlanOf (frame_of self.now) (lists_of self.now) 2 y.now }
+        requires end { end < end_count (frame_of self.now) }
+        requires sums { end_classes (frame_of self.now) (lists_of self.now) end ≤ length sums.old }
+        requires numbers { end_classes (frame_of self.now) (lists_of self.now) end ≤ length numbers.old }
+        ensures { result ≡ payoff_at (frame_of self.now) (lists_of self.now) (class_plan (frame_of self.now) (lists_of self.now) x.now) (class_plan (frame_of self.now) (lists_of self.now) y.now) end }
+    {
+        let _game = self.game();
+        self.end_sums(1, y, end, 0, sums, numbers);
+        let mut sum = 0i128;
+        for before in 0..self.class_total(end) {
+            let number = self.number_at_end(x, end, before + 1);
+            sum = plus(sum, scaled(number, sums[before as usize]));
+        }
+        sum
+    }
+}
