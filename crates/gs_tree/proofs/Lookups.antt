@@ -98,9 +98,9 @@ is_child g (suc r) i some l =
 
 pub record IsLayerOf (g : Game) (round : ℕ) (l : Layer) : Type 0 where
   pub long : length l.shown.items ≡ length (signals g round)
-  pub edges_long : length l.edges.items ≡ length (signals g round)
+  pub edges_long : length l.edges ≡ length (signals g round)
   pub shows : (i : ℕ) (d : Shown) → i < length (signals g round) → seen_of (get_or l.shown.items i d) ≡ last_seen (signal_at g round i)
-  pub weighs : (i : ℕ) → i < length (signals g round) → get_or l.edges.items i 0 ≡ last_edge g.copies (signal_at g round i)
+  pub weighs : (i : ℕ) → i < length (signals g round) → get_or l.edges i 0 ≡ last_edge g.copies (signal_at g round i)
 
 from_layer : (g : Game) (r : ℕ) (l : Layer) → IsLayer g r l → IsLayerOf g (suc r) l
 from_layer g r l h =

@@ -20,7 +20,7 @@ use Rattle.gs_tree.proofs.Paths.{last_edge_small, path_small, path_step, power_f
 pub record IsTold (g : Game) (n i : ℕ) (row : List ℕ) (l : Layer) : Type 0 where
   pub row_long : i < length row
   pub parent_in : get_or row i 0 < length (signals g n)
-  pub edge_is : get_or l.edges.items i 0 ≡ last_edge g.copies (signal_at g (suc n) i)
+  pub edge_is : get_or l.edges i 0 ≡ last_edge g.copies (signal_at g (suc n) i)
   pub shows : (d : Shown) → seen_of (get_or l.shown.items i d) ≡ last_seen (signal_at g (suc n) i)
   pub signal_is : signal_at g (suc n) i ≡ signal_at g n (get_or row i 0) ++ last_seen (signal_at g (suc n) i) ∷ []
   pub path_is : path_weight g.copies (signal_at g (suc n) i) ≡ path_weight g.copies (signal_at g n (get_or row i 0)) * last_edge g.copies (signal_at g (suc n) i)
@@ -30,7 +30,7 @@ module _ (g : Game) (ps : List (Vec ℕ)) (ls : List Layer) (n : ℕ) (t : AreTa
   before = omega arith
 
   -- as many as there are signals
-  pub layer_long : (l : Layer) → l ≡ get_or ls n l → (length l.shown.items ≡ length (signals g (suc n))) × (length l.edges.items ≡ length (signals g (suc n)))
+  pub layer_long : (l : Layer) → l ≡ get_or ls n l → (length l.shown.items ≡ length (signals g (suc n))) × (length l.edges ≡ length (signals g (suc n)))
   layer_long l e =
       let h = layer_of g ps ls (suc n) l t (omega arith) (omega (arith, in')) (e ∙ ap (λ k. get_or ls k l) (sym before)) in
       (h.long, h.edges_long)

@@ -15,7 +15,7 @@ shown_in l = map seen_of l.shown.items
 -- the tables of a layer are those of the signals of the round after `round`
 pub record IsLayer (g : Game) (round : ℕ) (l : Layer) : Type 0 where
   pub shown : shown_in l ≡ map last_seen (signals g (suc round))
-  pub edges : l.edges.items ≡ map (last_edge g.copies) (signals g (suc round))
+  pub edges : l.edges ≡ map (last_edge g.copies) (signals g (suc round))
   pub firsts : l.firsts.items ≡ map (first_child g round) (range_with_len 0 (length (signals g round) + 1))
 
 -- tables of all signals of the first rounds, with the parents of each

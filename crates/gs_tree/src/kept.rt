@@ -15,6 +15,7 @@ ghost use Rattle.gs_tree.specs.Tables.{AreTables};
 ghost use Rattle.gs_tree.specs.Walk.{last_count};
 
 use crate::tables::Tables;
+use crate::ways::Ways;
 use gs_card::Card;
 use gs_game::{Game, are_single};
 use gs_rank::{Ranker, strength};
@@ -24,7 +25,7 @@ use std::alloc::{AllocError, Global};
 /// all signals have as many.
 #[derive(Drop)]
 pub(crate) struct Hands {
-    pub(crate) paths: Vec<u64>,
+    pub(crate) paths: Ways,
     pub(crate) owns: Vec<Card>,
     pub(crate) publics: Vec<Card>,
     // how many own cards each has, and how many public ones
@@ -33,10 +34,10 @@ pub(crate) struct Hands {
 }
 
 /// The one way to take nothing, for the empty signal before round 1.
-fn first_path(alloc: Global) -> Result<Vec<u64>, AllocError>
-    ensures { IfOk result (λ v. v.items ≡ 1 ∷ []) }
+fn first_path(alloc: Global) -> Result<Ways, AllocError>
+    ensures { IfOk result (λ w. w ≡ 1 ∷ []) }
 {
-    let mut paths = Vec::with_capacity(alloc, 1)?;
+    let mut paths = Ways::new(alloc);
     paths.push(1)?;
     Ok(paths)
 }
@@ -47,23 +48,23 @@ fn next_paths(
     game: &Game,
     tables: &Tables,
     round: usize,
-    before: &[u64],
-) -> Result<Vec<u64>, AllocError>
+    before: &Ways,
+) -> Result<Ways, AllocError>
     requires tables { AreTables (game_of game.now) tables.now.parents.items tables.now.layers.items }
     requires all { length tables.now.layers.items ≡ round_count (game_of game.now) }
     requires limits { IsWithinLimits (game_of game.now) }
     requires dealable { IsDealable (game_of game.now) }
     requires round_in { round < length tables.now.layers.items }
     requires before { before.now ≡ map (path_weight (game_of game.now).copies) (signals (game_of game.now) round) }
-    ensures { IfOk result (λ v. v.items ≡ map (path_weight (game_of game.now).copies) (signals (game_of game.now) (suc round))) }
+    ensures { IfOk result (λ w. w ≡ map (path_weight (game_of game.now).copies) (signals (game_of game.now) (suc round))) }
 {
     let _kinds = game.deck.kinds();
     let parents = &tables.parents[round];
     let edges = &tables.layers[round].edges;
-    let mut paths = Vec::with_capacity(alloc, edges.len())?;
-    for (signal, edge) in edges.iter().enumerate() {
-        let path = before[parents[signal] as usize];
-        paths.push(path * *edge)?;
+    let mut paths = Ways::new(alloc);
+    for signal in 0..edges.len() {
+        let path = before.of(parents[signal] as usize);
+        paths.push(path * edges.of(signal))?;
     }
     Ok(paths)
 }
@@ -125,8 +126,8 @@ fn next_hands(
     requires limits { IsWithinLimits (game_of game.now) }
     requires dealable { IsDealable (game_of game.now) }
     requires round_in { round < length tables.now.layers.items }
-    requires before { AreHands (game_of game.now) round before.now.paths.items before.now.owns.items before.now.publics.items before.now.own before.now.public }
-    ensures { IfOk result (λ h. AreHands (game_of game.now) (suc round) h.paths.items h.owns.items h.publics.items h.own h.public) }
+    requires before { AreHands (game_of game.now) round before.now.paths before.now.owns.items before.now.publics.items before.now.own before.now.public }
+    ensures { IfOk result (λ h. AreHands (game_of game.now) (suc round) h.paths h.owns.items h.publics.items h.own h.public) }
 {
     let paths = next_paths(alloc, game, tables, round, &before.paths)?;
     let parents = &tables.parents[round];
@@ -158,7 +159,7 @@ pub(crate) fn gather(alloc: Global, game: &Game, tables: &Tables) -> Result<Hand
     requires all { length tables.now.layers.items ≡ round_count (game_of game.now) }
     requires limits { IsWithinLimits (game_of game.now) }
     requires dealable { IsDealable (game_of game.now) }
-    ensures { IfOk result (λ h. AreHands (game_of game.now) (round_count (game_of game.now)) h.paths.items h.owns.items h.publics.items h.own h.public) }
+    ensures { IfOk result (λ h. AreHands (game_of game.now) (round_count (game_of game.now)) h.paths h.owns.items h.publics.items h.own h.public) }
 {
     let paths = first_path(alloc)?;
     let owns = Vec::new(alloc);
@@ -178,7 +179,7 @@ pub(crate) fn gather(alloc: Global, game: &Game, tables: &Tables) -> Result<Hand
 
 /// Whether no kind of cards has more than one copy, and each player is dealt one private card.
 pub(crate) fn is_plain(game: &Game, hands: &Hands) -> bool
-    requires { AreHands (game_of game.now) (round_count (game_of game.now)) hands.now.paths.items hands.now.owns.items hands.now.publics.items hands.now.own hands.now.public }
+    requires { AreHands (game_of game.now) (round_count (game_of game.now)) hands.now.paths hands.now.owns.items hands.now.publics.items hands.now.own hands.now.public }
     ensures { IsTrue result → IsPlain (game_of game.now) }
 {
     let copies = game.deck.counts();
@@ -188,7 +189,7 @@ pub(crate) fn is_plain(game: &Game, hands: &Hands) -> bool
 /// The strength of the hand that a last-round signal holds.
 fn strength_of(ranker: &Ranker, game: &Game, hands: &Hands, signal: u32) -> u32
     requires deck { ranker.now.deck.now ≡ game.now.deck }
-    requires hands { AreHands (game_of game.now) (round_count (game_of game.now)) hands.now.paths.items hands.now.owns.items hands.now.publics.items hands.now.own hands.now.public }
+    requires hands { AreHands (game_of game.now) (round_count (game_of game.now)) hands.now.paths hands.now.owns.items hands.now.publics.items hands.now.own hands.now.public }
     requires dealable { IsDealable (game_of game.now) }
     requires signal_in { signal < last_count (game_of game.now) }
     ensures value { result ≡ signal_strength (game_of game.now) (signal_at (game_of game.now) (round_count (game_of game.now)) signal) }
@@ -202,7 +203,7 @@ fn strength_of(ranker: &Ranker, game: &Game, hands: &Hands, signal: u32) -> u32
 
 /// The strengths of the hands of all last-round signals.
 pub(crate) fn strengths(alloc: Global, game: &Game, hands: &Hands) -> Result<Vec<u32>, AllocError>
-    requires hands { AreHands (game_of game.now) (round_count (game_of game.now)) hands.now.paths.items hands.now.owns.items hands.now.publics.items hands.now.own hands.now.public }
+    requires hands { AreHands (game_of game.now) (round_count (game_of game.now)) hands.now.paths hands.now.owns.items hands.now.publics.items hands.now.own hands.now.public }
     requires limits { IsWithinLimits (game_of game.now) }
     requires dealable { IsDealable (game_of game.now) }
     ensures value { IfOk result (λ v. v.items ≡ map (signal_strength (game_of game.now)) (signals (game_of game.now) (round_count (game_of game.now)))) }

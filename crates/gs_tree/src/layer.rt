@@ -10,6 +10,7 @@ ghost use Rattle.gs_model.specs.Signals.{showings, edge};
 ghost use Rattle.gs_tree.specs.Layers.{showing};
 
 use crate::few::FewCards;
+use crate::ways::Ways;
 use gs_card::{Card, Deck, Group, ways};
 use gs_game::Round;
 use std::alloc::{AllocError, Global};
@@ -63,7 +64,7 @@ pub(crate) fn left_without(
 #[derive(Drop, Debug)]
 pub(crate) struct Layer {
     pub(crate) shown: Vec<Shown>,
-    pub(crate) edges: Vec<u64>,
+    pub(crate) edges: Ways,
     // for each signal of the round before the place of its first child, and at the end the number of all
     pub(crate) firsts: Vec<u32>,
 }
@@ -82,7 +83,7 @@ fn push_card(
     requires few_ways { own_ways ≤ 729 }
     ensures shown { OnOk result (map seen_of layer.new.shown.items ≡ map seen_of layer.old.shown.items ++ map (showing (cards_of own.now)) (groups_with (groups_above 0) rest.now kind)) }
     ensures firsts { layer.new.firsts.items ≡ layer.old.firsts.items }
-    ensures edges { OnOk result (layer.new.edges.items ≡ layer.old.edges.items ++ map (λ g. own_ways * ways rest.now g) (groups_with (groups_above 0) rest.now kind)) }
+    ensures edges { OnOk result (layer.new.edges ≡ layer.old.edges ++ map (λ g. own_ways * ways rest.now g) (groups_with (groups_above 0) rest.now kind)) }
 {
     let copies = rest[kind];
     if copies == 0 {
@@ -108,7 +109,7 @@ fn push_cards(
     requires few_ways { own_ways ≤ 729 }
     ensures shown { OnOk result (map seen_of layer.new.shown.items ≡ map seen_of layer.old.shown.items ++ map (showing (cards_of own.now)) (groups rest.now 1)) }
     ensures firsts { layer.new.firsts.items ≡ layer.old.firsts.items }
-    ensures edges { OnOk result (layer.new.edges.items ≡ layer.old.edges.items ++ map (λ g. own_ways * ways rest.now g) (groups rest.now 1)) }
+    ensures edges { OnOk result (layer.new.edges ≡ layer.old.edges ++ map (λ g. own_ways * ways rest.now g) (groups rest.now 1)) }
 {
     for kind in 0..rest.len() {
         push_card(rest, kind, own, own_ways, layer)?;
@@ -132,7 +133,7 @@ fn push_publics(
     requires few_ways { own_ways ≤ 729 }
     ensures shown { OnOk result (map seen_of layer.new.shown.items ≡ map seen_of layer.old.shown.items ++ map (showing (cards_of own)) (groups rest.now size)) }
     ensures firsts { layer.new.firsts.items ≡ layer.old.firsts.items }
-    ensures edges { OnOk result (layer.new.edges.items ≡ layer.old.edges.items ++ map (λ g. own_ways * ways rest.now g) (groups rest.now size)) }
+    ensures edges { OnOk result (layer.new.edges ≡ layer.old.edges ++ map (λ g. own_ways * ways rest.now g) (groups rest.now size)) }
 {
     let _kinds = deck.kinds();
     if size == 1 {
@@ -162,7 +163,7 @@ pub(crate) fn push_showings(
     requires small_public { round.now.public ≤ 3 }
     ensures shown { OnOk result (map seen_of layer.new.shown.items ≡ map seen_of layer.old.shown.items ++ showings left.now (round_of round.now)) }
     ensures firsts { layer.new.firsts.items ≡ layer.old.firsts.items }
-    ensures edges { OnOk result (layer.new.edges.items ≡ layer.old.edges.items ++ map (edge left.now) (showings left.now (round_of round.now))) }
+    ensures edges { OnOk result (layer.new.edges ≡ layer.old.edges ++ map (edge left.now) (showings left.now (round_of round.now))) }
 {
     for own in &deck.groups(alloc, left, round.private)? {
         let rest = left_without(alloc, left, own.cards())?;

@@ -11,6 +11,7 @@ mod reading;
 mod signals;
 mod tables;
 mod texts;
+mod ways;
 
 pub use deal::Deal;
 pub use deals::Deals;

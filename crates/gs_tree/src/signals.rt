@@ -51,7 +51,7 @@ pub struct Signals<'g> {
     ghost tables: { AreTables (game_of game.now.game) parents.items layers.items },
     ghost ranked: { strengths.items ≡ map (signal_strength (game_of game.now.game)) (signals (game_of game.now.game) (round_count (game_of game.now.game))) },
     ghost beside: { AreBoards (game_of game.now.game) boards.firsts.items boards.nexts.items },
-    ghost dealt: { AreHands (game_of game.now.game) (round_count (game_of game.now.game)) hands.paths.items hands.owns.items hands.publics.items hands.own hands.public },
+    ghost dealt: { AreHands (game_of game.now.game) (round_count (game_of game.now.game)) hands.paths hands.owns.items hands.publics.items hands.own hands.public },
     ghost strong: { All (IsStrength (ranking_of game.now.game.ranking)) strengths.items },
     ghost even: { IsTrue plain → IsPlain (game_of game.now.game) },
     ghost counted: { length layers.items ≡ round_count (game_of game.now.game) },
@@ -153,7 +153,9 @@ impl<'g> Signals<'g> {
         requires in_range { signal < length (signals (rules_of self.now) round) }
         ensures { result ≡ last_edge (rules_of self.now).copies (signal_at (rules_of self.now) round signal) }
     {
-        self.layers[usize::from(round) - 1].edges[signal as usize]
+        self.layers[usize::from(round) - 1]
+            .edges
+            .of(signal as usize)
     }
 
     /// The ways to take all that a last-round signal shows: the product of the edge weights on the way to it.
@@ -162,7 +164,7 @@ impl<'g> Signals<'g> {
         ensures value { result ≡ path_weight (rules_of self.now).copies (signal_at (rules_of self.now) (round_count (rules_of self.now)) signal) }
         ensures some { 0 < result }
     {
-        self.hands.paths[signal as usize]
+        self.hands.paths.of(signal as usize)
     }
 
     /// The strength of the hand that a last-round signal holds: more wins.

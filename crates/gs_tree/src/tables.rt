@@ -14,6 +14,7 @@ ghost use Rattle.gs_tree.specs.Tables.{AreTables, IsLayer};
 
 use crate::layer::{Layer, left_without, push_showings};
 use crate::texts::push_seen;
+use crate::ways::Ways;
 use gs_card::{Card, Deck};
 use gs_game::{Game, Round};
 use std::alloc::{AllocError, Global};
@@ -55,14 +56,14 @@ pub(crate) struct Grown {
 fn none_grown(alloc: Global, room: usize, parents: usize) -> Result<Grown, AllocError>
     ensures parents { IfOk result (λ grown. grown.parents.items ≡ []) }
     ensures shown { IfOk result (λ grown. grown.layer.shown.items ≡ []) }
-    ensures edges { IfOk result (λ grown. grown.layer.edges.items ≡ []) }
+    ensures edges { IfOk result (λ grown. grown.layer.edges ≡ []) }
     ensures firsts { IfOk result (λ grown. grown.layer.firsts.items ≡ []) }
 {
     Ok(Grown {
         parents: Vec::with_capacity(alloc, room)?,
         layer: Layer {
             shown: Vec::with_capacity(alloc, room)?,
-            edges: Vec::with_capacity(alloc, room)?,
+            edges: Ways::new(alloc),
             firsts: Vec::with_capacity(alloc, parents)?,
         },
     })

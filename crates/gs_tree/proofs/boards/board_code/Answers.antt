@@ -12,7 +12,7 @@ pub part-requires : goal.part-requires
 part-requires c =
     let h = c.args.hands.now in
     let P : List ℕ → Type 0 = λ x. c.args.signal * h.public + h.public ≤ length x in
-    subst P (sym c.deref.ensures.value) (public_room (game_of c.args.game.now) (round_count (game_of c.args.game.now)) h.paths.items h.owns.items h.publics.items h.own h.public c.requires.hands c.args.signal c.requires.signal_in)
+    subst P (sym c.deref.ensures.value) (public_room (game_of c.args.game.now) (round_count (game_of c.args.game.now)) h.paths h.owns.items h.publics.items h.own h.public c.requires.hands c.args.signal c.requires.signal_in)
 
 pub code-requires-clause-few_cards : goal.code-requires-clause-few_cards
 code-requires-clause-few_cards c =
@@ -20,7 +20,7 @@ code-requires-clause-few_cards c =
     let h = c.args.hands.now in
     let shown : c.part.result.now ≡ public_cards (signal_at g (round_count g) c.args.signal) =
     c.part.ensures ∙ ap (λ (x : List ℕ). take h.public (drop (c.args.signal * h.public) x)) c.deref.ensures.value
-    ∙ public_part g (round_count g) h.paths.items h.owns.items h.publics.items h.own h.public c.requires.hands c.args.signal c.requires.signal_in in
+    ∙ public_part g (round_count g) h.paths h.owns.items h.publics.items h.own h.public c.requires.hands c.args.signal c.requires.signal_in in
     omega (arith, ap (λ (x : List ℕ). length x) shown, c.requires.hands.public_each c.args.signal c.requires.signal_in, c.requires.few)
 
 pub code-requires-clause-of_deck : goal.code-requires-clause-of_deck
@@ -30,8 +30,8 @@ code-requires-clause-of_deck c =
     let h = c.args.hands.now in
     let shown : c.part.result.now ≡ public_cards (signal_at g (round_count g) c.args.signal) =
     c.part.ensures ∙ ap (λ (x : List ℕ). take h.public (drop (c.args.signal * h.public) x)) c.deref.ensures.value
-    ∙ public_part g (round_count g) h.paths.items h.owns.items h.publics.items h.own h.public c.requires.hands c.args.signal c.requires.signal_in in
-    let board = shown_board g d h.paths.items h.owns.items h.publics.items h.own h.public c.args.signal c.kinds.ensures.deck refl c.requires.hands c.requires.signal_in in
+    ∙ public_part g (round_count g) h.paths h.owns.items h.publics.items h.own h.public c.requires.hands c.args.signal c.requires.signal_in in
+    let board = shown_board g d h.paths h.owns.items h.publics.items h.own h.public c.args.signal c.kinds.ensures.deck refl c.requires.hands c.requires.signal_in in
     let P : ℕ → Type 0 = λ n. All (λ card. card < n) (public_cards (signal_at g (round_count g) c.args.signal)) in
     let Q : List ℕ → Type 0 = λ x. All (λ card. card < c.from-kinds.result) x in
     subst Q (sym shown) (subst P (sym (c.from-kinds.ensures ∙ c.kinds.ensures.number)) board.of_deck)
@@ -42,7 +42,7 @@ returns c =
     let h = c.args.hands.now in
     let shown : c.part.result.now ≡ public_cards (signal_at g (round_count g) c.args.signal) =
     c.part.ensures ∙ ap (λ (x : List ℕ). take h.public (drop (c.args.signal * h.public) x)) c.deref.ensures.value
-    ∙ public_part g (round_count g) h.paths.items h.owns.items h.publics.items h.own h.public c.requires.hands c.args.signal c.requires.signal_in in
+    ∙ public_part g (round_count g) h.paths h.owns.items h.publics.items h.own h.public c.requires.hands c.args.signal c.requires.signal_in in
     c.code.ensures
     ∙ ap (λ k. code_behind k 0 c.part.result.now) (c.from-kinds.ensures ∙ c.kinds.ensures.number)
     ∙ ap (code_behind (kinds c.args.game.now.deck) 0) shown

@@ -39,14 +39,14 @@ loop-signal-preserved c =
 pub board_of-requires-clause-signal_in : goal.board_of-requires-clause-signal_in
 board_of-requires-clause-signal_in c =
     let k = c.args.hands.now in
-    let long : length k.paths.items ≡ last_count (game_of c.args.game.now) = paths_long (game_of c.args.game.now) (round_count (game_of c.args.game.now)) k.paths.items k.owns.items k.publics.items k.own k.public c.requires.hands in
-    omega (arith, long, k.paths.ok.0, c.len-count.ensures, c.loop-signal-test.true)
+    let long : length k.paths ≡ last_count (game_of c.args.game.now) = paths_long (game_of c.args.game.now) (round_count (game_of c.args.game.now)) k.paths k.owns.items k.publics.items k.own k.public c.requires.hands in
+    omega (arith, long, c.len-count.ensures, c.loop-signal-test.true)
 
 pub returns : goal.returns
 returns c =
     let g : Game = game_of c.args.game.now in
     let k = c.args.hands.now in
-    let long : length k.paths.items ≡ last_count g = paths_long g (round_count g) k.paths.items k.owns.items k.publics.items k.own k.public c.requires.hands in
-    let count : c.len-count.result ≡ last_count g = omega (arith, long, k.paths.ok.0, c.len-count.ensures) in
+    let long : length k.paths ≡ last_count g = paths_long g (round_count g) k.paths k.owns.items k.publics.items k.own k.public c.requires.hands in
+    let count : c.len-count.result ≡ last_count g = omega (arith, long, c.len-count.ensures) in
     let done : c.loop-signal.signal ≡ last_count g = omega (arith, count, c.loop-signal.auto.signal-end, c.loop-signal-test.false) in
     are_boards g c.loop-signal.signal c.len-count.result c.loop-signal.boards.firsts.items c.loop-signal.boards.nexts.items c.loop-signal.invariant.linked done count

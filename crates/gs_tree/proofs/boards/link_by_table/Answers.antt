@@ -24,8 +24,8 @@ loop-signal-init c =
 pub board_code-code-requires-clause-signal_in : goal.board_code-code-requires-clause-signal_in
 board_code-code-requires-clause-signal_in c =
     let h = c.args.hands.now in
-    let long : length h.paths.items ≡ last_count (game_of c.args.game.now) = paths_long (game_of c.args.game.now) (round_count (game_of c.args.game.now)) h.paths.items h.owns.items h.publics.items h.own h.public c.requires.hands in
-    omega (arith, long, h.paths.ok.0, c.len-count.ensures, c.loop-signal-test.true)
+    let long : length h.paths ≡ last_count (game_of c.args.game.now) = paths_long (game_of c.args.game.now) (round_count (game_of c.args.game.now)) h.paths h.owns.items h.publics.items h.own h.public c.requires.hands in
+    omega (arith, long, c.len-count.ensures, c.loop-signal-test.true)
 
 pub index-requires : goal.index-requires
 index-requires c =
@@ -34,9 +34,9 @@ index-requires c =
     let n : ℕ = c.loop-signal.signal in
     let k : ℕ = kinds c.args.game.now.deck in
     let h = c.args.hands.now in
-    let long : length h.paths.items ≡ last_count g = paths_long g (round_count g) h.paths.items h.owns.items h.publics.items h.own h.public c.requires.hands in
-    let here : n < last_count g = omega (arith, long, h.paths.ok.0, c.len-count.ensures, c.loop-signal-test.true) in
-    let board = shown_board g c.args.game.now.deck h.paths.items h.owns.items h.publics.items h.own h.public n c.kinds.ensures.deck refl c.requires.hands here in
+    let long : length h.paths ≡ last_count g = paths_long g (round_count g) h.paths h.owns.items h.publics.items h.own h.public c.requires.hands in
+    let here : n < last_count g = omega (arith, long, c.len-count.ensures, c.loop-signal-test.true) in
+    let board = shown_board g c.args.game.now.deck h.paths h.owns.items h.publics.items h.own h.public n c.kinds.ensures.deck refl c.requires.hands here in
     let within : code_behind k 0 (key n) < length c.loop-signal.last.items = board_in k h.public (length c.loop-signal.last.items) (key n) board c.loop-signal.invariant.kept.wide in
     omega (arith, within, c.board_code-code.ensures, c.loop-signal.last.ok.0)
 
@@ -47,9 +47,9 @@ index_mut-requires c =
     let n : ℕ = c.loop-signal.signal in
     let k : ℕ = kinds c.args.game.now.deck in
     let h = c.args.hands.now in
-    let long : length h.paths.items ≡ last_count g = paths_long g (round_count g) h.paths.items h.owns.items h.publics.items h.own h.public c.requires.hands in
-    let here : n < last_count g = omega (arith, long, h.paths.ok.0, c.len-count.ensures, c.loop-signal-test.true) in
-    let board = shown_board g c.args.game.now.deck h.paths.items h.owns.items h.publics.items h.own h.public n c.kinds.ensures.deck refl c.requires.hands here in
+    let long : length h.paths ≡ last_count g = paths_long g (round_count g) h.paths h.owns.items h.publics.items h.own h.public c.requires.hands in
+    let here : n < last_count g = omega (arith, long, c.len-count.ensures, c.loop-signal-test.true) in
+    let board = shown_board g c.args.game.now.deck h.paths h.owns.items h.publics.items h.own h.public n c.kinds.ensures.deck refl c.requires.hands here in
     let within : code_behind k 0 (key n) < length c.loop-signal.last.items = board_in k h.public (length c.loop-signal.last.items) (key n) board c.loop-signal.invariant.kept.wide in
     omega (arith, within, c.board_code-code.ensures, c.loop-signal.last.ok.0)
 
@@ -60,9 +60,9 @@ push_linked-requires-clause-before_in c =
     let n : ℕ = c.loop-signal.signal in
     let k : ℕ = kinds c.args.game.now.deck in
     let h = c.args.hands.now in
-    let long : length h.paths.items ≡ last_count g = paths_long g (round_count g) h.paths.items h.owns.items h.publics.items h.own h.public c.requires.hands in
-    let here : n < last_count g = omega (arith, long, h.paths.ok.0, c.len-count.ensures, c.loop-signal-test.true) in
-    let board = shown_board g c.args.game.now.deck h.paths.items h.owns.items h.publics.items h.own h.public n c.kinds.ensures.deck refl c.requires.hands here in
+    let long : length h.paths ≡ last_count g = paths_long g (round_count g) h.paths h.owns.items h.publics.items h.own h.public c.requires.hands in
+    let here : n < last_count g = omega (arith, long, c.len-count.ensures, c.loop-signal-test.true) in
+    let board = shown_board g c.args.game.now.deck h.paths h.owns.items h.publics.items h.own h.public n c.kinds.ensures.deck refl c.requires.hands here in
     let before : c.seen_last-before.result ≡ last_place key n (key n) = c.seen_last-before.ensures ∙ table_read key n c.len-count.result k h.public c.board_code-code.result c.index.result.now c.loop-signal.last.items c.loop-signal.invariant.kept board c.board_code-code.ensures c.index.ensures in
     last_in key n (key n) c.loop-signal.boards.firsts.items c.seen_last-before.result c.loop-signal.invariant.linked.firsts_long before
 
@@ -75,9 +75,9 @@ loop-signal-preserved c =
     let h = c.args.hands.now in
     let old = c.loop-signal.boards in
     let last : List ℕ = c.loop-signal.last.items in
-    let long : length h.paths.items ≡ last_count g = paths_long g (round_count g) h.paths.items h.owns.items h.publics.items h.own h.public c.requires.hands in
-    let here : n < last_count g = omega (arith, long, h.paths.ok.0, c.len-count.ensures, c.loop-signal-test.true) in
-    let board = shown_board g c.args.game.now.deck h.paths.items h.owns.items h.publics.items h.own h.public n c.kinds.ensures.deck refl c.requires.hands here in
+    let long : length h.paths ≡ last_count g = paths_long g (round_count g) h.paths h.owns.items h.publics.items h.own h.public c.requires.hands in
+    let here : n < last_count g = omega (arith, long, c.len-count.ensures, c.loop-signal-test.true) in
+    let board = shown_board g c.args.game.now.deck h.paths h.owns.items h.publics.items h.own h.public n c.kinds.ensures.deck refl c.requires.hands here in
     let before : c.seen_last-before.result ≡ last_place key n (key n) = c.seen_last-before.ensures ∙ table_read key n c.len-count.result k h.public c.board_code-code.result c.index.result.now last c.loop-signal.invariant.kept board c.board_code-code.ensures c.index.ensures in
     let P : ℕ → Type 0 = λ code. IsTableOf key (n + 1) c.len-count.result k h.public (set last code n) in
     record {
@@ -89,7 +89,7 @@ pub returns : goal.returns
 returns c =
     let g : Game = game_of c.args.game.now in
     let h = c.args.hands.now in
-    let long : length h.paths.items ≡ last_count g = paths_long g (round_count g) h.paths.items h.owns.items h.publics.items h.own h.public c.requires.hands in
-    let count : c.len-count.result ≡ last_count g = omega (arith, long, h.paths.ok.0, c.len-count.ensures) in
+    let long : length h.paths ≡ last_count g = paths_long g (round_count g) h.paths h.owns.items h.publics.items h.own h.public c.requires.hands in
+    let count : c.len-count.result ≡ last_count g = omega (arith, long, c.len-count.ensures) in
     let done : c.loop-signal.signal ≡ last_count g = omega (arith, count, c.loop-signal.auto.signal-end, c.loop-signal-test.false) in
     are_boards g c.loop-signal.signal c.len-count.result c.loop-signal.boards.firsts.items c.loop-signal.boards.nexts.items c.loop-signal.invariant.linked done count

@@ -3,4 +3,4 @@ use Rattle.gs_tree.specs.Kept.{AreHands}
 use Rattle.gs_tree.proofs.kept.gather.Given as goal
 
 abbrev pub invariant-loop-round : goal.invariant-loop-round
-invariant-loop-round l = AreHands (game_of l.game) l.round l.hands.paths.items l.hands.owns.items l.hands.publics.items l.hands.own l.hands.public
+invariant-loop-round l = AreHands (game_of l.game) l.round l.hands.paths l.hands.owns.items l.hands.publics.items l.hands.own l.hands.public

@@ -42,7 +42,7 @@ part-own-requires c =
     let h = told g t.parents.items t.layers.items c.args.round c.requires.tables c.requires.round_in row l i c.index-parents.ensures c.index.ensures here in
     let parent : p ≡ get_or row.items i 0 = c.index-parent.ensures ∙ get_or_default_zero row.items i p h.row_long in
     let P : List ℕ → Type 0 = λ x. p * b.own + b.own ≤ length x in
-    subst P (sym c.deref-in-loop-signal.ensures.value) (own_room g c.args.round b.paths.items b.owns.items b.publics.items b.own b.public c.requires.before p (omega (arith, parent, h.parent_in)))
+    subst P (sym c.deref.ensures.value) (own_room g c.args.round b.paths b.owns.items b.publics.items b.own b.public c.requires.before p (omega (arith, parent, h.parent_in)))
 
 pub part-public-requires : goal.part-public-requires
 part-public-requires c =
@@ -58,7 +58,7 @@ part-public-requires c =
     let h = told g t.parents.items t.layers.items c.args.round c.requires.tables c.requires.round_in row l i c.index-parents.ensures c.index.ensures here in
     let parent : p ≡ get_or row.items i 0 = c.index-parent.ensures ∙ get_or_default_zero row.items i p h.row_long in
     let P : List ℕ → Type 0 = λ x. p * b.public + b.public ≤ length x in
-    subst P (sym c.deref-in-loop-signal-2.ensures.value) (public_room g c.args.round b.paths.items b.owns.items b.publics.items b.own b.public c.requires.before p (omega (arith, parent, h.parent_in)))
+    subst P (sym c.deref-in-loop-signal.ensures.value) (public_room g c.args.round b.paths b.owns.items b.publics.items b.own b.public c.requires.before p (omega (arith, parent, h.parent_in)))
 
 pub loop-signal-preserved : goal.loop-signal-preserved
 loop-signal-preserved c =
@@ -81,11 +81,11 @@ loop-signal-preserved c =
     let shown : Shown = c.shown-item.result in
     let shows : seen_of shown ≡ last = ap seen_of (c.shown-item.is ∙ ap (λ (x : List Shown). get_or x i shown) c.deref-shown-items.ensures.value) ∙ h.shows shown in
     let own : c.part-own.result.now ≡ own_cards (signal_at g n p) =
-    c.part-own.ensures ∙ ap (λ (x : List ℕ). take b.own (drop (p * b.own) x)) c.deref-in-loop-signal.ensures.value
-    ∙ own_part g n b.paths.items b.owns.items b.publics.items b.own b.public c.requires.before p within in
+    c.part-own.ensures ∙ ap (λ (x : List ℕ). take b.own (drop (p * b.own) x)) c.deref.ensures.value
+    ∙ own_part g n b.paths b.owns.items b.publics.items b.own b.public c.requires.before p within in
     let public : c.part-public.result.now ≡ public_cards (signal_at g n p) =
-    c.part-public.ensures ∙ ap (λ (x : List ℕ). take b.public (drop (p * b.public) x)) c.deref-in-loop-signal-2.ensures.value
-    ∙ public_part g n b.paths.items b.owns.items b.publics.items b.own b.public c.requires.before p within in
+    c.part-public.ensures ∙ ap (λ (x : List ℕ). take b.public (drop (p * b.public) x)) c.deref-in-loop-signal.ensures.value
+    ∙ public_part g n b.paths b.owns.items b.publics.items b.own b.public c.requires.before p within in
     record {
       owned = c.in_ok-push_hand.ensures
           ∙ joined_more own_cards [] c.loop-signal.owns.items (c.part-own.result.now ++ c.cards.result.now) ss i [] here c.loop-signal.invariant.owned
@@ -103,10 +103,10 @@ returns c =
     let ss : List Signal = signals g n in
     let long = layer_long g t.parents.items t.layers.items c.args.round c.requires.tables c.requires.round_in c.index.result.now c.index.ensures in
     let over : length ss ≤ c.loop-signal.signal = omega (arith, long.0, ap (λ (x : List Shown). length x) c.deref-shown-items.ensures.value, c.loop-signal-test.false) in
-    let count : length c.in_ok-paths.paths.items ≡ length ss = ap (λ (x : List ℕ). length x) c.in_ok-paths.ensures ∙ length-map ss (path_weight g.copies) in
+    let count : length c.in_ok-paths.paths ≡ length ss = ap (λ (x : List ℕ). length x) c.in_ok-paths.ensures ∙ length-map ss (path_weight g.copies) in
     let owned : c.loop-signal.owns.items ≡ flat_map own_cards ss = c.loop-signal.invariant.owned ∙ ap (flat_map own_cards) (take_all c.loop-signal.signal ss over) in
     let shown : c.loop-signal.publics.items ≡ flat_map public_cards ss = c.loop-signal.invariant.shown ∙ ap (flat_map public_cards) (take_all c.loop-signal.signal ss over) in
-    let many : c.len-count.result ≡ length ss = omega (arith, c.len-count.ensures, c.in_ok-paths.paths.ok.0, count) in
+    let many : c.len-count.result ≡ length ss = omega (arith, c.len-count.ensures, count) in
     let each : c.max-each.result ≡ max (length ss) 1 = c.max-each.ensures ∙ ap (λ k. max k 1) many in
     let within : n ≤ length g.rounds = omega (arith, c.requires.round_in, c.requires.all) in
     record {

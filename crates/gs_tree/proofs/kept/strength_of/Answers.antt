@@ -14,13 +14,13 @@ pub part-own-requires : goal.part-own-requires
 part-own-requires c =
     let h = c.args.hands.now in
     let P : List ℕ → Type 0 = λ x. c.args.signal * h.own + h.own ≤ length x in
-    subst P (sym c.deref.ensures.value) (own_room (game_of c.args.game.now) (round_count (game_of c.args.game.now)) h.paths.items h.owns.items h.publics.items h.own h.public c.requires.hands c.args.signal c.requires.signal_in)
+    subst P (sym c.deref.ensures.value) (own_room (game_of c.args.game.now) (round_count (game_of c.args.game.now)) h.paths h.owns.items h.publics.items h.own h.public c.requires.hands c.args.signal c.requires.signal_in)
 
 pub part-public-requires : goal.part-public-requires
 part-public-requires c =
     let h = c.args.hands.now in
     let P : List ℕ → Type 0 = λ x. c.args.signal * h.public + h.public ≤ length x in
-    subst P (sym c.deref-2.ensures.value) (public_room (game_of c.args.game.now) (round_count (game_of c.args.game.now)) h.paths.items h.owns.items h.publics.items h.own h.public c.requires.hands c.args.signal c.requires.signal_in)
+    subst P (sym c.deref-2.ensures.value) (public_room (game_of c.args.game.now) (round_count (game_of c.args.game.now)) h.paths h.owns.items h.publics.items h.own h.public c.requires.hands c.args.signal c.requires.signal_in)
 
 pub strength-requires : goal.strength-requires
 strength-requires c =
@@ -30,10 +30,10 @@ strength-requires c =
     let h = is_hand g d c.args.signal c.requires.dealable c.kinds-kinds.ensures.deck.counted c.requires.signal_in in
     let own : c.part-own.result.now ≡ own_cards (signal_at g (round_count g) c.args.signal) =
     c.part-own.ensures ∙ ap (λ (x : List ℕ). take k.own (drop (c.args.signal * k.own) x)) c.deref.ensures.value
-    ∙ own_part g (round_count g) k.paths.items k.owns.items k.publics.items k.own k.public c.requires.hands c.args.signal c.requires.signal_in in
+    ∙ own_part g (round_count g) k.paths k.owns.items k.publics.items k.own k.public c.requires.hands c.args.signal c.requires.signal_in in
     let public : c.part-public.result.now ≡ public_cards (signal_at g (round_count g) c.args.signal) =
     c.part-public.ensures ∙ ap (λ (x : List ℕ). take k.public (drop (c.args.signal * k.public) x)) c.deref-2.ensures.value
-    ∙ public_part g (round_count g) k.paths.items k.owns.items k.publics.items k.own k.public c.requires.hands c.args.signal c.requires.signal_in in
+    ∙ public_part g (round_count g) k.paths k.owns.items k.publics.items k.own k.public c.requires.hands c.args.signal c.requires.signal_in in
     let P : List ℕ → Type 0 = λ x. IsHand d (ranking_of c.args.game.now.ranking) x (public_cards (signal_at g (round_count g) c.args.signal)) in
     let Q : List ℕ → Type 0 = λ x. IsHand d (ranking_of c.args.game.now.ranking) c.part-own.result.now x in
     let R : DeckValue → Type 0 = λ e. IsHand e (ranking_of c.args.game.now.ranking) c.part-own.result.now c.part-public.result.now in
@@ -45,10 +45,10 @@ returns-clause-value c =
     let k = c.args.hands.now in
     let own : c.part-own.result.now ≡ own_cards (signal_at g (round_count g) c.args.signal) =
     c.part-own.ensures ∙ ap (λ (x : List ℕ). take k.own (drop (c.args.signal * k.own) x)) c.deref.ensures.value
-    ∙ own_part g (round_count g) k.paths.items k.owns.items k.publics.items k.own k.public c.requires.hands c.args.signal c.requires.signal_in in
+    ∙ own_part g (round_count g) k.paths k.owns.items k.publics.items k.own k.public c.requires.hands c.args.signal c.requires.signal_in in
     let public : c.part-public.result.now ≡ public_cards (signal_at g (round_count g) c.args.signal) =
     c.part-public.ensures ∙ ap (λ (x : List ℕ). take k.public (drop (c.args.signal * k.public) x)) c.deref-2.ensures.value
-    ∙ public_part g (round_count g) k.paths.items k.owns.items k.publics.items k.own k.public c.requires.hands c.args.signal c.requires.signal_in in
+    ∙ public_part g (round_count g) k.paths k.owns.items k.publics.items k.own k.public c.requires.hands c.args.signal c.requires.signal_in in
     c.strength.ensures.value
     ∙ ap (λ (e : DeckValue). strength (length e.suits) g.ranking c.part-own.result.now c.part-public.result.now) c.requires.deck
     ∙ ap (λ x. strength g.suits g.ranking x c.part-public.result.now) own

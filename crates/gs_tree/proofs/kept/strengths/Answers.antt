@@ -15,16 +15,16 @@ use Rattle.gs_tree.proofs.kept.strengths.Goals as goal
 pub strength_of-requires-clause-signal_in : goal.strength_of-requires-clause-signal_in
 strength_of-requires-clause-signal_in c =
     let k = c.args.hands.now in
-    let long : length k.paths.items ≡ last_count (game_of c.args.game.now) = paths_long (game_of c.args.game.now) (round_count (game_of c.args.game.now)) k.paths.items k.owns.items k.publics.items k.own k.public c.requires.hands in
-    omega (arith, long, k.paths.ok.0, c.len-count.ensures, c.loop-signal-test.true)
+    let long : length k.paths ≡ last_count (game_of c.args.game.now) = paths_long (game_of c.args.game.now) (round_count (game_of c.args.game.now)) k.paths k.owns.items k.publics.items k.own k.public c.requires.hands in
+    omega (arith, long, c.len-count.ensures, c.loop-signal-test.true)
 
 pub loop-signal-preserved : goal.loop-signal-preserved
 loop-signal-preserved c =
     let g : Game = game_of c.args.game.now in
     let k = c.args.hands.now in
     let ss : List Signal = signals g (round_count g) in
-    let long : length k.paths.items ≡ length ss = paths_long g (round_count g) k.paths.items k.owns.items k.publics.items k.own k.public c.requires.hands in
-    let here : c.loop-signal.signal < length ss = omega (arith, long, k.paths.ok.0, c.len-count.ensures, c.loop-signal-test.true) in
+    let long : length k.paths ≡ length ss = paths_long g (round_count g) k.paths k.owns.items k.publics.items k.own k.public c.requires.hands in
+    let here : c.loop-signal.signal < length ss = omega (arith, long, c.len-count.ensures, c.loop-signal-test.true) in
     let P : List ℕ → Type 0 = λ x. All (IsStrength (ranking_of c.args.game.now.ranking)) x in
     record {
       value = c.in_ok-push.ensures.items ∙ mapped_more (signal_strength g) [] c.loop-signal.found.items ss c.loop-signal.signal [] c.strength_of.result here c.loop-signal.invariant.value c.strength_of.ensures.value;

@@ -23,7 +23,7 @@ returns c =
           ∙ ap (λ p. map seen_of old ++ showing own p ∷ []) public
           ∙ ap (λ l. map seen_of old ++ map (showing own) l) (sym groups);
       firsts = refl;
-      edges = c.in_ok-push-2.ensures.items
-          ∙ ap (λ n. c.args.layer.now.edges.items ++ (c.args.own_ways * n) ∷ []) copies
-          ∙ ap (λ l. c.args.layer.now.edges.items ++ map (λ g. c.args.own_ways * ways rest g) l) (sym groups);
+      edges = c.in_ok-push-2.ensures
+          ∙ ap (λ n. c.args.layer.now.edges ++ (c.args.own_ways * n) ∷ []) copies
+          ∙ ap (λ l. c.args.layer.now.edges ++ map (λ g. c.args.own_ways * ways rest g) l) (sym groups);
     }

@@ -8,7 +8,7 @@ use Rattle.gs_tree.proofs.layer.push_cards.Goals as goal
 pub loop-kind-init : goal.loop-kind-init
 loop-kind-init c = record {
   shown = sym (append-nil (map seen_of c.args.layer.now.shown.items));
-  edges = sym (append-nil c.args.layer.now.edges.items);
+  edges = sym (append-nil c.args.layer.now.edges);
   firsts = refl;
 }
 
@@ -19,7 +19,7 @@ loop-kind-preserved c =
     record {
       shown = added_more (showing (cards_of c.args.own.now)) rest n (map seen_of c.args.layer.now.shown.items) (map seen_of c.loop-kind.layer.shown.items) (map seen_of c.push_card.new.layer.shown.items)
           c.loop-kind.invariant.shown c.in_ok-push_card.ensures.shown;
-      edges = added_more (λ g. c.args.own_ways * ways rest g) rest n c.args.layer.now.edges.items c.loop-kind.layer.edges.items c.push_card.new.layer.edges.items c.loop-kind.invariant.edges c.in_ok-push_card.ensures.edges;
+      edges = added_more (λ g. c.args.own_ways * ways rest g) rest n c.args.layer.now.edges c.loop-kind.layer.edges c.push_card.new.layer.edges c.loop-kind.invariant.edges c.in_ok-push_card.ensures.edges;
       firsts = c.in_ok-push_card.ensures.firsts ∙ c.loop-kind.invariant.firsts;
     }
 
@@ -31,5 +31,5 @@ returns c =
     record {
       shown = c.loop-kind.invariant.shown ∙ ap (λ l. map seen_of c.args.layer.now.shown.items ++ map (showing (cards_of c.args.own.now)) l) all;
       firsts = c.loop-kind.invariant.firsts;
-      edges = c.loop-kind.invariant.edges ∙ ap (λ l. c.args.layer.now.edges.items ++ map (λ g. c.args.own_ways * ways rest g) l) all;
+      edges = c.loop-kind.invariant.edges ∙ ap (λ l. c.args.layer.now.edges ++ map (λ g. c.args.own_ways * ways rest g) l) all;
     }

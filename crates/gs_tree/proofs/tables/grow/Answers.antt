@@ -46,7 +46,7 @@ loop-parent-preserved c =
     let zero : i ≡ 0 + i = omega arith in
     record {
       shown = c.in_ok-push_showings.ensures.shown ∙ joined_more shows [] (shown_in c.loop-parent.grown.layer) (showings c.deref.result.now (round_of c.args.next.now)) ss i [] here c.loop-parent.invariant.shown more;
-      edges = c.in_ok-push_showings.ensures.edges ∙ joined_more edges [] c.loop-parent.grown.layer.edges.items (map (edge c.deref.result.now) (showings c.deref.result.now (round_of c.args.next.now))) ss i [] here c.loop-parent.invariant.edges (ap (λ x. map (edge x) (showings c.deref.result.now (round_of c.args.next.now))) left ∙ ap (map (edge (left_by g.copies (get_or ss i [])))) more);
+      edges = c.in_ok-push_showings.ensures.edges ∙ joined_more edges [] c.loop-parent.grown.layer.edges (map (edge c.deref.result.now) (showings c.deref.result.now (round_of c.args.next.now))) ss i [] here c.loop-parent.invariant.edges (ap (λ x. map (edge x) (showings c.deref.result.now (round_of c.args.next.now))) left ∙ ap (map (edge (left_by g.copies (get_or ss i [])))) more);
       firsts = c.in_ok-push_showings.ensures.firsts ∙ c.in_ok-push.ensures.items ∙ ap (λ x. x ++ c.len.result ∷ []) c.loop-parent.invariant.firsts ∙ ap (λ v. map (first_child g n) (range_with_len 0 i) ++ v ∷ []) before ∙ sym (map-range_with_len_more (first_child g n) 0 i i (omega arith));
       parents = c.in_ok-resize.ensures.items ∙ ap (λ k. take c.len-in-loop-parent.result old ++ replicate (c.len-in-loop-parent.result - k) i) old_long
           ∙ filled old c.len-in-loop-parent.result i kids (omega (arith, all, grew, c.loop-parent.invariant.long)) (omega (arith, all, grew, few, c.loop-parent.invariant.long))

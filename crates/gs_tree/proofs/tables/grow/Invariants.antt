@@ -14,7 +14,7 @@ invariant-loop-parent l =
     let r = round_at g (suc n) in
     record {
       shown : shown_in l.grown.layer ≡ flat_map (λ s. showings (left_by g.copies s) r) (take l.parent (signals g n));
-      edges : l.grown.layer.edges.items ≡ flat_map (λ s. map (edge (left_by g.copies s)) (showings (left_by g.copies s) r)) (take l.parent (signals g n));
+      edges : l.grown.layer.edges ≡ flat_map (λ s. map (edge (left_by g.copies s)) (showings (left_by g.copies s) r)) (take l.parent (signals g n));
       firsts : l.grown.layer.firsts.items ≡ map (first_child g n) (range_with_len 0 l.parent);
       parents : l.grown.parents.items ≡ owners (λ s. children g r s) 0 (take l.parent (signals g n));
       long : length l.grown.parents.items ≡ length l.grown.layer.shown.items;

@@ -2,7 +2,7 @@ use Rattle.std.proofs.Common.{◌≡◌, ◌-◌, List, get_or, ap, ◌∙◌, a
 use Rattle.gs_model.specs.Game.{Game}
 use Rattle.gs_tree.specs.Trees.{rules_of}
 use Rattle.gs_tree.specs.declared.layer.Layer.{Layer}
-use Rattle.gs_tree.proofs.Lookups.{layer_of, same_read}
+use Rattle.gs_tree.proofs.Lookups.{layer_of}
 use Rattle.gs_tree.proofs.signals.Signals.edge.Goals as goal
 
 pub returns : goal.returns
@@ -12,4 +12,4 @@ returns c =
     let ls : List Layer = c.args.self.now.layers.items in
     let at : l ≡ get_or ls (c.args.round - 1) l = c.index.ensures ∙ ap (λ k. get_or ls (k - 1) l) c.from.ensures in
     let h = layer_of g c.args.self.now.parents.items ls c.args.round l c.args.self.now.tables c.requires.some (omega (arith, c.args.self.now.counted, c.requires.last)) at in
-    c.index-2.ensures ∙ same_read l.edges.items c.args.signal c.index-2.result.now 0 (omega (arith, h.edges_long, c.requires.in_range)) ∙ h.weighs c.args.signal c.requires.in_range
+    c.of.ensures ∙ h.weighs c.args.signal c.requires.in_range

@@ -11,6 +11,6 @@ pub returns-clause-some : goal.returns-clause-some
 returns-clause-some c =
     let s = c.args.self.now in
     let g : Game = rules_of s in
-    let value : c.index.result.now ≡ path_weight g.copies (signal_at g (round_count g) c.args.signal) =
-    c.index.ensures ∙ ap (λ (x : List ℕ). get_or x c.args.signal c.index.result.now) s.dealt.weighed ∙ get_or-map (path_weight g.copies) (signals g (round_count g)) c.args.signal [] c.index.result.now c.requires in
+    let value : c.of.result ≡ path_weight g.copies (signal_at g (round_count g) c.args.signal) =
+    c.of.ensures ∙ ap (λ (x : List ℕ). get_or x c.args.signal 0) s.dealt.weighed ∙ get_or-map (path_weight g.copies) (signals g (round_count g)) c.args.signal [] 0 c.requires in
     omega (arith, value, (leaves_are_deals g c.args.signal c.requires).0)

@@ -7,7 +7,7 @@ use Rattle.gs_tree.proofs.signals.Signals.public.Goals as goal
 pub part-requires : goal.part-requires
 part-requires c =
     let s = c.args.self.now in
-    let room = public_room (rules_of s) (round_count (rules_of s)) s.hands.paths.items s.hands.owns.items s.hands.publics.items s.hands.own s.hands.public s.dealt c.args.signal c.requires in
+    let room = public_room (rules_of s) (round_count (rules_of s)) s.hands.paths s.hands.owns.items s.hands.publics.items s.hands.own s.hands.public s.dealt c.args.signal c.requires in
     let P : List ℕ → Type 0 = λ x. c.args.signal * s.hands.public + s.hands.public ≤ length x in
     subst P (sym c.deref.ensures.value) room
 
@@ -15,4 +15,4 @@ pub returns : goal.returns
 returns c =
     let s = c.args.self.now in
     c.part.ensures ∙ ap (λ (x : List ℕ). take s.hands.public (drop (c.args.signal * s.hands.public) x)) c.deref.ensures.value
-    ∙ public_part (rules_of s) (round_count (rules_of s)) s.hands.paths.items s.hands.owns.items s.hands.publics.items s.hands.own s.hands.public s.dealt c.args.signal c.requires
+    ∙ public_part (rules_of s) (round_count (rules_of s)) s.hands.paths s.hands.owns.items s.hands.publics.items s.hands.own s.hands.public s.dealt c.args.signal c.requires

@@ -1,0 +1,67 @@
+//! Numbers of ways, one for each signal of a round.
+
+use std::alloc::{AllocError, Global};
+use std::marker::Model;
+
+/// Numbers, one behind another. As long as each is 1 they are counted and not kept, so that a deck of single cards keeps none.
+#[derive(Drop, Debug)]
+pub(crate) struct Ways {
+    // how many come first that are 1
+    ones: u32,
+    // those behind them
+    rest: Vec<u64>,
+}
+
+impl Model for Ways {
+    ghost use Rattle.std.specs.Prelude.{List, ℕ, ◌++◌, replicate};
+
+    ghost Value = { List ℕ };
+
+    ghost view = { λ w. replicate w.ones 1 ++ w.rest.items };
+}
+
+impl Ways {
+    ghost use Rattle.std.specs.Prelude.{◌≡◌, ◌<◌, ◌++◌, ◌∷◌, [], OnOk, length, slice_index};
+
+    /// No numbers yet.
+    pub(crate) fn new(alloc: Global) -> Ways
+        ensures { result ≡ [] }
+    {
+        Ways {
+            ones: 0,
+            rest: Vec::new(alloc),
+        }
+    }
+
+    /// How many numbers there are.
+    pub(crate) fn len(&self) -> usize
+        ensures { result ≡ length self.now }
+    {
+        self.ones as usize + self.rest.len()
+    }
+
+    /// The number of a signal.
+    pub(crate) fn of(&self, signal: usize) -> u64
+        requires { signal < length self.now }
+        ensures { result ≡ slice_index self.now signal }
+    {
+        let ones = self.ones as usize;
+        if signal < ones {
+            1
+        } else {
+            self.rest[signal - ones]
+        }
+    }
+
+    /// Adds the number of the next signal.
+    pub(crate) fn push(&mut self, ways: u64) -> Result<(), AllocError>
+        ensures { OnOk result (self.new ≡ self.old ++ ways ∷ []) }
+    {
+        if ways == 1 && self.rest.is_empty() && self.ones < u32::MAX {
+            self.ones += 1;
+            return Ok(());
+        }
+        self.rest.push(ways)?;
+        Ok(())
+    }
+}
