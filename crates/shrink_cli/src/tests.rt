@@ -228,7 +228,7 @@ fn each_command_over_strategies(rt: HostRuntime) -> Result<(), Fail> {
 }
 
 #[test]
-fn a_file_that_is_cut_is_no_game(rt: HostRuntime) -> Result<(), Fail> {
+fn a_file_that_is_cut_or_marked_is_no_game(rt: HostRuntime) -> Result<(), Fail> {
     let alloc = rt.alloc();
     let words = words_in(alloc, "shrink")?;
     let file = text_of(alloc, KUHN)?;
@@ -244,6 +244,13 @@ fn a_file_that_is_cut_is_no_game(rt: HostRuntime) -> Result<(), Fail> {
         assert_eq!(rt; end.status, Status::BadGame, "{length}");
         assert!(rt; end.out.given().is_empty(), "{length}");
     }
+    // a byte that begins no letter behind the file
+    let mut marked = Vec::from_slice(alloc, file.as_bytes())?;
+    marked.push(0xff)?;
+    let end = run_over(alloc, &words, &marked, (0, 0, 0), (16, 9, 9))?;
+    assert_eq!(rt; end.status, Status::BadGame);
+    assert!(rt; end.out.given().is_empty());
+    assert_eq!(rt; end.err.given(), b"bad game: not UTF-8\n".as_slice());
     Ok(())
 }
 
