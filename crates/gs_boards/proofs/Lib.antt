@@ -1,0 +1,9 @@
+pub mod Runs
+pub mod Payments
+pub mod Steps
+pub mod Added
+pub mod Once
+pub mod Sorted
+pub mod Telling
+pub mod Deals
+pub mod Placed

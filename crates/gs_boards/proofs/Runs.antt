@@ -1,0 +1,113 @@
+-- Sums that run along the places of the boards, and what a place is paid by what a walk has passed.
+use Rattle.std.proofs.Common.{◌≡◌, ◌+◌, ◌*◌, ◌≤◌, ◌∙◌, ℕ, Bool, true, false, cond, List, [], ◌∷◌, length, get_or, refl, sym, ap, arith, ⊎_elim, sum_by}
+use Rattle.std.specs.Prelude.{◌==◌, ◌&&◌, All}
+use Rattle.std.proofs.lemmas.Bool.{cases_eq}
+use Rattle.std.proofs.lemmas.Bool.Decides.{Decides-eqb, nat_tests}
+use Rattle.std.proofs.lemmas.List.Elements.{All-head, All-tail}
+use Rattle.std.proofs.lemmas.List.Sums.{sum_by-cons, sum_by-le}
+use Rattle.gs_boards.specs.Runs.{HasPassed, arrived, board_sum, level_sum, passed_by}
+use Rattle.gs_boards.specs.declared.place.Place.{Place}
+use Rattle.gs_boards.specs.declared.running.Running.{Running}
+
+pub not_eq : (a b : ℕ) → (a ≡ b → ⊥) → (a == b) ≡ false
+not_eq a b ne = grind (arith, nat_tests, ne)
+
+-- ---- sums over lists
+
+none_add : {X : Type 0} (f : X → ℕ) (xs : List X) → All (λ x. f x ≡ 0) xs → sum_by f xs ≡ 0
+none_add f [] h = refl
+none_add f (x ∷ xs) h = omega (arith, sum_by-cons f x xs, All-head (λ x. f x ≡ 0) x xs h, none_add f xs (All-tail (λ x. f x ≡ 0) x xs h))
+
+less_add : {X : Type 0} (f g : X → ℕ) → ((x : X) → f x ≤ g x) → (xs : List X) → sum_by f xs ≤ sum_by g xs
+less_add f g h [] = omega arith
+less_add f g h (x ∷ xs) = omega (arith, sum_by-cons f x xs, sum_by-cons g x xs, h x, less_add f g h xs)
+
+pub both_add : {X : Type 0} (f g h : X → ℕ) → ((x : X) → f x + g x ≡ h x) → (xs : List X) → sum_by f xs + sum_by g xs ≡ sum_by h xs
+both_add f g h e [] = refl
+both_add f g h e (x ∷ xs) = omega (arith, sum_by-cons f x xs, sum_by-cons g x xs, sum_by-cons h x xs, e x, both_add f g h e xs)
+
+-- ---- a walk comes to a place, and passes it
+
+-- what a walk has passed stands before a place: where the place is on another board or level than the walk, none of it is there
+pub record IsBefore (qs : List Place) (r : Running) (p : Place) : Type 0 where
+  pub boards : (p.board ≡ r.board → ⊥) → All (λ q. q.board ≡ p.board → ⊥) qs
+  pub levels : p.board ≡ r.board → (p.strength ≡ r.strength → ⊥) → All (λ q. q.board ≡ p.board → q.strength ≡ p.strength → ⊥) qs
+
+off_board : (worth : Place → ℕ) (qs : List Place) (board : ℕ) → All (λ q. q.board ≡ board → ⊥) qs → board_sum worth board qs ≡ 0
+off_board worth qs board h = none_add (λ q. cond (q.board == board) (worth q) 0) qs (λ i d l. off (get_or qs i d) (h i d l))
+  where
+    off : (q : Place) → (q.board ≡ board → ⊥) → cond (q.board == board) (worth q) 0 ≡ 0
+    off q ne = grind (arith, nat_tests, ne)
+
+off_level : (worth : Place → ℕ) (qs : List Place) (board strength : ℕ) → All (λ q. q.board ≡ board → q.strength ≡ strength → ⊥) qs → level_sum worth board strength qs ≡ 0
+off_level worth qs board strength h = none_add (λ q. cond ((q.board == board) && (q.strength == strength)) (worth q) 0) qs (λ i d l. off (get_or qs i d) (h i d l))
+  where
+    off : (q : Place) → (q.board ≡ board → q.strength ≡ strength → ⊥) → cond ((q.board == board) && (q.strength == strength)) (worth q) 0 ≡ 0
+    off q ne = ⊎_elim
+        (λ (b : q.board ≡ board). ⊎_elim
+        (λ (s : q.strength ≡ strength). absurd (ne b s))
+        (λ (s : q.strength ≡ strength → ⊥). by (q.board == board) (q.strength == strength) (not_eq q.strength strength s))
+        (cases_eq q.strength strength))
+        (λ (b : q.board ≡ board → ⊥). ap (λ t. cond {A = ℕ} (t && (q.strength == strength)) (worth q) 0) (not_eq q.board board b))
+        (cases_eq q.board board)
+      where
+        by : (a b : Bool) → b ≡ false → cond (a && b) (worth q) 0 ≡ 0
+        by true b e = ap (λ t. cond {A = ℕ} t (worth q) 0) e
+        by false b e = refl
+
+pub arrives : (worth : Place → ℕ) (qs : List Place) (r : Running) (p : Place) → HasPassed worth qs r → IsBefore qs r p → HasPassed worth qs (arrived r p)
+arrives worth qs r p h before = record {
+  on_board = ⊎_elim
+      (λ (b : p.board ≡ r.board).
+      ap (λ t. cond {A = ℕ} t r.on_board 0) ((Decides-eqb p.board r.board).1 b) ∙ h.on_board ∙ ap (λ n. board_sum worth n qs) (sym b))
+      (λ (b : p.board ≡ r.board → ⊥).
+      ap (λ t. cond {A = ℕ} t r.on_board 0) (not_eq p.board r.board b) ∙ sym (off_board worth qs p.board (before.boards b)))
+      (cases_eq p.board r.board);
+  on_level = ⊎_elim
+      (λ (b : p.board ≡ r.board). ap (λ t. cond {A = ℕ} (t && (p.strength == r.strength)) r.on_level 0) ((Decides-eqb p.board r.board).1 b) ∙ ⊎_elim
+      (λ (s : p.strength ≡ r.strength).
+      ap (λ t. cond {A = ℕ} t r.on_level 0) ((Decides-eqb p.strength r.strength).1 s) ∙ h.on_level
+      ∙ ap (λ n. level_sum worth n r.strength qs) (sym b) ∙ ap (λ n. level_sum worth p.board n qs) (sym s))
+      (λ (s : p.strength ≡ r.strength → ⊥).
+      ap (λ t. cond {A = ℕ} t r.on_level 0) (not_eq p.strength r.strength s) ∙ sym (off_level worth qs p.board p.strength (before.levels b s)))
+      (cases_eq p.strength r.strength))
+      (λ (b : p.board ≡ r.board → ⊥).
+      ap (λ t. cond {A = ℕ} (t && (p.strength == r.strength)) r.on_level 0) (not_eq p.board r.board b)
+      ∙ sym (off_level worth qs p.board p.strength (λ i d l e s. before.boards b i d l e)))
+      (cases_eq p.board r.board);
+}
+
+-- a place that is passed is added to what the walk has passed, at either end
+pub passes : (worth : Place → ℕ) (qs more : List Place) (r : Running) (p : Place) → r.board ≡ p.board → r.strength ≡ p.strength
+    → ((f : Place → ℕ) → sum_by f more ≡ sum_by f qs + f p) → HasPassed worth qs r → HasPassed worth more (passed_by r (worth p))
+passes worth qs more r p b s one h =
+    let board : (p.board == r.board) ≡ true = (Decides-eqb p.board r.board).1 (sym b) in
+    let strength : (p.strength == r.strength) ≡ true = (Decides-eqb p.strength r.strength).1 (sym s) in
+    let here : cond {A = ℕ} (p.board == r.board) (worth p) 0 ≡ worth p = ap (λ t. cond {A = ℕ} t (worth p) 0) board in
+    let there : cond {A = ℕ} ((p.board == r.board) && (p.strength == r.strength)) (worth p) 0 ≡ worth p =
+    ap (λ t. cond {A = ℕ} (t && (p.strength == r.strength)) (worth p) 0) board ∙ ap (λ t. cond {A = ℕ} t (worth p) 0) strength in
+    record {
+      on_board = omega (arith, h.on_board, here, one (λ q. cond (q.board == r.board) (worth q) 0));
+      on_level = omega (arith, h.on_level, there, one (λ q. cond ((q.board == r.board) && (q.strength == r.strength)) (worth q) 0));
+    }
+
+-- what a walk has passed on its level is part of what it has passed on its board, and that is no more than so many worths
+pub level_within : (worth : Place → ℕ) (qs : List Place) (r : Running) → HasPassed worth qs r → r.on_level ≤ r.on_board
+level_within worth qs r h =
+    omega (arith, h.on_board, h.on_level, less_add (λ q. cond ((q.board == r.board) && (q.strength == r.strength)) (worth q) 0) (λ q. cond (q.board == r.board) (worth q) 0) (λ q. by (q.board == r.board) (q.strength == r.strength) (worth q)) qs)
+  where
+    by : (a b : Bool) (n : ℕ) → cond {A = ℕ} (a && b) n 0 ≤ cond {A = ℕ} a n 0
+    by true true n = omega arith
+    by true false n = omega arith
+    by false b n = omega arith
+
+pub board_within : (worth : Place → ℕ) (qs : List Place) (r : Running) (m : ℕ) → ((q : Place) → worth q ≤ m) → HasPassed worth qs r → r.on_board ≤ length qs * m
+board_within worth qs r m few h =
+    omega (arith, h.on_board, sum_by-le (λ q. cond (q.board == r.board) (worth q) 0) m qs (λ i d l. by (get_or qs i d)))
+  where
+    by : (q : Place) → cond {A = ℕ} (q.board == r.board) (worth q) 0 ≤ m
+    by q = go (q.board == r.board)
+      where
+        go : (b : Bool) → cond {A = ℕ} b (worth q) 0 ≤ m
+        go true = few q
+        go false = omega arith

@@ -1,0 +1,54 @@
+-- What the places of two signals tell: whether they show the same public cards, and the outcome of their deal.
+use Rattle.std.proofs.Common.{◌≡◌, ◌<◌, ◌≤◌, ◌∙◌, ℕ, ℤ, pos, neg_ℤ, Bool, true, false, cond, nat_lt, refl, sym, ap, arith, true≢false, ⊎_elim}
+use Rattle.std.specs.Prelude.{◌==◌, slice_index}
+use Rattle.std.proofs.lemmas.Bool.{cases_lt}
+use Rattle.std.proofs.lemmas.Bool.Decides.{Decides-eqb}
+use Rattle.gs_model.specs.Game.{Game, round_count}
+use Rattle.gs_model.specs.Outcome.{category}
+use Rattle.gs_model.specs.Signals.{Signal, signal_at}
+use Rattle.gs_model.specs.ViewTree.{signal_outcome, signal_strength}
+use Rattle.gs_tree.specs.Walk.{shows_same}
+use Rattle.gs_tree.proofs.Same.{public_alike, public_self}
+use Rattle.gs_boards.specs.Boards.{IsFirstOn, IsPlace}
+use Rattle.gs_boards.specs.Runs.{outcome_at}
+use Rattle.gs_boards.specs.declared.place.Place.{Place}
+use Rattle.gs_boards.proofs.Runs.{not_eq}
+
+module _ (g : Game) where
+  at : ℕ → Signal
+  at i = signal_at g (round_count g) i
+
+  -- who shows the same as one shows the same as all that do
+  alike : (i j k : ℕ) → shows_same g i j ≡ true → shows_same g i k ≡ shows_same g j k
+  alike i j k = public_alike (signal_at g (round_count g) i) (signal_at g (round_count g) j) (signal_at g (round_count g) k)
+
+  turned : (i j : ℕ) → shows_same g i j ≡ true → shows_same g j i ≡ true
+  turned i j h = sym (alike i j i h) ∙ public_self (signal_at g (round_count g) i)
+
+  -- two signals on a board have one first signal
+  one_first : (i j a b : ℕ) → IsFirstOn g i a → IsFirstOn g j b → shows_same g i j ≡ true → b ≤ a
+  one_first i j a b f h same = ⊎_elim
+      (λ (lt : a < b). absurd (true≢false (sym (sym (alike i j a same) ∙ f.same) ∙ h.none_before a lt)))
+      (λ (le : b ≤ a). le)
+      (cases_lt a b)
+
+  pub board_tells : (p q : Place) → IsPlace g p → IsPlace g q → shows_same g p.signal q.signal ≡ (q.board == p.board)
+  board_tells p q ip iq = by (shows_same g p.signal q.signal) refl
+    where
+      by : (b : Bool) → shows_same g p.signal q.signal ≡ b → b ≡ (q.board == p.board)
+      by true e =
+          let low = one_first p.signal q.signal p.board q.board ip.board iq.board e in
+          let high = one_first q.signal p.signal q.board p.board iq.board ip.board (turned p.signal q.signal e) in
+          sym ((Decides-eqb q.board p.board).1 (omega (arith, low, high)))
+      by false e = sym (not_eq q.board p.board (λ is.
+          let there : shows_same g q.signal p.board ≡ true = ap (λ (k : ℕ). shows_same g q.signal k) (sym is) ∙ iq.board.same in
+          let back : shows_same g p.board q.signal ≡ true = turned q.signal p.board there in
+          true≢false (sym (alike p.signal p.board q.signal ip.board.same ∙ back) ∙ e)))
+
+  pub outcome_tells : (p q : Place) → IsPlace g p → IsPlace g q → signal_outcome g (signal_at g (round_count g) p.signal) (signal_at g (round_count g) q.signal) ≡ outcome_at p q
+  outcome_tells p q ip iq =
+      let bonus : ℕ → ℤ = λ s. pos (slice_index g.bonus (category g.ranking s)) in
+      let F : ℕ → ℕ → ℤ = λ a b. cond (nat_lt b a) (bonus a) (cond (nat_lt a b) (neg_ℤ (bonus b)) (pos 0)) in
+      ap (λ a. F a (signal_strength g (signal_at g (round_count g) q.signal))) (sym ip.strength) ∙ ap (F p.strength) (sym iq.strength)
+      ∙ ap (λ w. cond (nat_lt q.strength p.strength) (pos w) (cond (nat_lt p.strength q.strength) (neg_ℤ (bonus q.strength)) (pos 0))) (sym ip.win)
+      ∙ ap (λ w. cond (nat_lt q.strength p.strength) (pos p.win) (cond (nat_lt p.strength q.strength) (neg_ℤ (pos w)) (pos 0))) (sym iq.win)

@@ -1,0 +1,22 @@
+use Rattle.std.proofs.Common.{ℕ, List, subst, sym}
+use Rattle.gs_model.specs.Game.{Game}
+use Rattle.gs_tree.specs.Trees.{rules_of}
+use Rattle.gs_boards.specs.Places.{AreApart}
+use Rattle.gs_boards.specs.declared.place.Place.{Place}
+use Rattle.gs_boards.proofs.Deals.{ArePaidBefore, ArePaidBehind, are_apart, both_ways}
+use Rattle.gs_boards.proofs.board_order.BoardOrder.deal_sums.Goals as goal
+
+pub climb-requires-clause-apart : goal.climb-requires-clause-apart
+climb-requires-clause-apart c = subst AreApart (sym c.deref.ensures.value) (are_apart (rules_of c.args.self.now.signals.now) c.args.self.now.places.items c.args.self.now.placed)
+
+pub descend-requires-clause-apart : goal.descend-requires-clause-apart
+descend-requires-clause-apart c = subst AreApart (sym c.deref-2.ensures.value) (are_apart (rules_of c.args.self.now.signals.now) c.args.self.now.places.items c.args.self.now.placed)
+
+pub returns : goal.returns
+returns c =
+    let g : Game = rules_of c.args.self.now.signals.now in
+    let places : List Place = c.args.self.now.places.items in
+    let numbers : List ℕ = c.args.numbers.now in
+    both_ways g c.args.self.now.plain places c.args.self.now.placed c.args.pays numbers c.climb.new.sums c.descend.new.sums
+    (subst (λ (qs : List Place). ArePaidBefore qs c.args.pays numbers c.climb.new.sums) c.deref.ensures.value c.climb.ensures.paid)
+    (subst (λ (qs : List Place). ArePaidBehind qs c.args.pays numbers c.climb.new.sums c.descend.new.sums) c.deref-2.ensures.value c.descend.ensures)

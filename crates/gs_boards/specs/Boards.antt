@@ -1,0 +1,38 @@
+-- The last-round signals of a game in the order of boards and strengths.
+use Rattle.std.specs.Prelude.{ℕ, ◌≡◌, ◌==◌, ◌<◌, true, false, All, List, count_by, filter, length, ℤ, pos, ◌*ℤ◌, slice_index}
+use Rattle.gs_model.specs.Deals.{Deal, deals}
+use Rattle.gs_model.specs.Game.{Game, round_count}
+use Rattle.gs_model.specs.Outcome.{category}
+use Rattle.gs_model.specs.Signals.{signal_at}
+use Rattle.gs_model.specs.Sums.{sum_z}
+use Rattle.gs_model.specs.ViewTree.{signal_strength}
+use Rattle.gs_tree.specs.Walk.{last_count, shows_same}
+use Rattle.gs_boards.specs.Places.{AreInOrder}
+use Rattle.gs_boards.specs.declared.place.Place.{Place}
+
+-- what a last-round signal is paid in its deals: over them the number of the other's signal times the weight times what the deal pays by the outcome
+abbrev pub deal_sum : Game → List ℕ → (ℤ → ℤ) → ℕ → ℤ
+deal_sum g numbers pays signal =
+    sum_z (λ (d : Deal). pos (slice_index numbers d.two) *ℤ (pos d.weight *ℤ pays d.outcome)) (filter (λ (d : Deal). d.one == signal) (deals g))
+
+-- ---- of private functions
+
+-- the first last-round signal that shows the same public cards as another
+pub record IsFirstOn (g : Game) (signal first : ℕ) : Type 0 where
+  pub within : first < last_count g
+  pub same : shows_same g signal first ≡ true
+  pub none_before : (k : ℕ) → k < first → shows_same g signal k ≡ false
+
+-- the place of a last-round signal
+pub record IsPlace (g : Game) (p : Place) : Type 0 where
+  pub within : p.signal < last_count g
+  pub board : IsFirstOn g p.signal p.board
+  pub strength : p.strength ≡ signal_strength g (signal_at g (round_count g) p.signal)
+  pub win : p.win ≡ slice_index g.bonus (category g.ranking p.strength)
+
+-- each last-round signal has one place, and the places are in order
+pub record ArePlaces (g : Game) (places : List Place) : Type 0 where
+  pub long : length places ≡ last_count g
+  pub each : All (IsPlace g) places
+  pub once : (signal : ℕ) → signal < last_count g → count_by (λ (p : Place). p.signal == signal) places ≡ 1
+  pub order : AreInOrder places

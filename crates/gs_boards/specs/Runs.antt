@@ -1,0 +1,70 @@
+-- Sums along the places of the boards.
+use Rattle.std.specs.Prelude.{ℕ, ◌≡◌, ◌==◌, ◌&&◌, ◌+◌, ◌-◌, ◌*◌, List, ℤ, pos, neg_ℤ, ◌*ℤ◌, nat_lt, if◌then◌else◌, slice_index, sum_by}
+use Rattle.gs_model.specs.Sums.{sum_z}
+use Rattle.gs_boards.specs.declared.pays.Pays.{Pays}
+use Rattle.gs_boards.specs.declared.pays.Pays.TheVariants.{Fixed, Showdown}
+use Rattle.gs_boards.specs.declared.place.Place.{Place}
+use Rattle.gs_boards.specs.declared.running.Running.{Running}
+
+-- what a player wins in a deal, by his outcome
+abbrev pub paid : Pays → ℤ → ℤ
+paid (Fixed stake) outcome = stake
+paid (Showdown chips) outcome = pos chips *ℤ outcome
+
+-- ---- of private functions
+
+-- the outcome of the signal at a place against another on its board
+abbrev pub outcome_at : Place → Place → ℤ
+outcome_at p q = if nat_lt q.strength p.strength then pos p.win else if nat_lt p.strength q.strength then neg_ℤ (pos q.win) else pos 0
+
+-- what a place is paid in the deals with those of some places that are on its board: their numbers times what it wins there
+abbrev pub paid_by : Pays → List ℕ → Place → List Place → ℤ
+paid_by pays numbers p qs = sum_z (λ q. if q.board == p.board then pos (slice_index numbers q.signal) *ℤ paid pays (outcome_at p q) else pos 0) qs
+
+-- the worths of those of some places that are on a board
+abbrev pub board_sum : (Place → ℕ) → ℕ → List Place → ℕ
+board_sum worth board qs = sum_by (λ q. if q.board == board then worth q else 0) qs
+
+-- and of these of those at a strength
+abbrev pub level_sum : (Place → ℕ) → ℕ → ℕ → List Place → ℕ
+level_sum worth board strength qs = sum_by (λ q. if (q.board == board) && (q.strength == strength) then worth q else 0) qs
+
+-- a walk has passed some places
+pub record HasPassed (worth : Place → ℕ) (qs : List Place) (r : Running) : Type 0 where
+  pub on_board : r.on_board ≡ board_sum worth r.board qs
+  pub on_level : r.on_level ≡ level_sum worth r.board r.strength qs
+
+-- a walk comes to a place
+abbrev pub arrived : Running → Place → Running
+arrived r p = record {
+  board = p.board;
+  strength = p.strength;
+  on_board = if p.board == r.board then r.on_board else 0;
+  on_level = if (p.board == r.board) && (p.strength == r.strength) then r.on_level else 0;
+}
+
+-- a walk passes the place that it is at
+abbrev pub passed_by : Running → ℕ → Running
+passed_by r worth = record { board = r.board; strength = r.strength; on_board = r.on_board + worth; on_level = r.on_level + worth }
+
+-- what a place counts for the places before it: its number
+abbrev pub number_at : List ℕ → Place → ℕ
+number_at numbers q = slice_index numbers q.signal
+
+-- what a place counts for the places behind it, by its number: at a showdown times what it wins
+abbrev pub worth_of : Pays → Place → ℕ → ℕ
+worth_of (Fixed stake) q number = number
+worth_of (Showdown chips) q number = number * q.win
+
+abbrev pub worth_at : Pays → List ℕ → Place → ℕ
+worth_at pays numbers q = worth_of pays q (number_at numbers q)
+
+-- what a place is paid by the weaker places of its board, and at a fold by all places before it
+abbrev pub won_by : Pays → Place → Running → ℤ
+won_by (Fixed stake) p r = stake *ℤ pos r.on_board
+won_by (Showdown chips) p r = pos (chips * p.win * (r.on_board - r.on_level))
+
+-- what a place is paid by the stronger places of its board, and at a fold by all places behind it
+abbrev pub lost_by : Pays → Running → ℤ
+lost_by (Fixed stake) r = stake *ℤ pos r.on_board
+lost_by (Showdown chips) r = neg_ℤ (pos (chips * (r.on_board - r.on_level)))

@@ -1,0 +1,62 @@
+//! The last-round signals of a game in the order of boards and strengths.
+
+ghost use Rattle.std.specs.Prelude.{◌≡◌, ◌<◌, IfOk, MatchBool, length};
+ghost use Rattle.gs_tree.specs.Plain.{IsPlain};
+ghost use Rattle.gs_tree.specs.Trees.{rules_of};
+ghost use Rattle.gs_tree.specs.Walk.{last_count};
+ghost use Rattle.gs_boards.specs.Boards.{ArePlaces};
+
+use crate::pays::Pays;
+use crate::place::{Place, places_of};
+use crate::walks::{climb, descend};
+use gs_game::are_single;
+use gs_tree::Signals;
+use std::alloc::{AllocError, Global};
+
+/// Whether no kind of cards has more than one copy, and each player is dealt one private card.
+fn is_plain(signals: &Signals) -> bool
+    ensures { MatchBool result (IsPlain (rules_of signals.now)) (IsPlain (rules_of signals.now) → last_count (rules_of signals.now) ≡ 0) }
+{
+    let copies = signals.game().game().deck.counts();
+    signals.own_count() == 1 && are_single(copies)
+}
+
+/// The last-round signals of a game in which any two different signals that show the same public cards are as likely: board by board, and on each
+/// board by strength. What each of them is paid in its deals is then a sum that runs along its board, and no deal is looked at.
+#[derive(Drop)]
+pub struct BoardOrder<'s> {
+    signals: &'s Signals<'s>,
+    places: Vec<Place>,
+    ghost plain: { IsPlain (rules_of signals.now) },
+    ghost placed: { ArePlaces (rules_of signals.now) places.items },
+}
+
+impl<'s> BoardOrder<'s> {
+    ghost use Rattle.std.specs.Prelude.{◌≤◌, ℕ, MatchOption, get_or, pos};
+    ghost use Rattle.gs_boards.specs.Boards.{deal_sum};
+    ghost use Rattle.gs_boards.specs.Runs.{paid};
+
+    /// The order of the signals, if each kind of cards has one copy at most and each player is dealt one private card.
+    pub fn of(alloc: Global, signals: &'s Signals<'s>) -> Result<Option<BoardOrder<'s>>, AllocError>
+        ensures { IfOk result (λ o. MatchOption o (IsPlain (rules_of signals.entry.now) → last_count (rules_of signals.entry.now) ≡ 0) (λ b. b.signals.now ≡ signals.entry.now)) }
+    {
+        if !is_plain(signals) {
+            return Ok(None);
+        }
+        let mut places = places_of(alloc, signals)?;
+        places.sort_unstable();
+        Ok(Some(BoardOrder { signals, places }))
+    }
+
+    /// What each last-round signal is paid in its deals, by the other player's numbers at his signals: the number times the weight times what the deal
+    /// pays. It takes no memory, and looks twice at each signal.
+    pub fn deal_sums(&self, pays: Pays, numbers: &[u64], sums: &mut [i128])
+        requires numbers { last_count (rules_of self.now.signals.now) ≤ length numbers.now }
+        requires sums { length sums.old ≡ last_count (rules_of self.now.signals.now) }
+        ensures { (signal : ℕ) → signal < last_count (rules_of self.now.signals.now)
+            → get_or sums.new signal (pos 0) ≡ deal_sum (rules_of self.now.signals.now) numbers.now (paid pays) signal }
+    {
+        climb(&self.places, pays, numbers, sums);
+        descend(&self.places, pays, numbers, sums);
+    }
+}

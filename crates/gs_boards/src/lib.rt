@@ -1,0 +1,11 @@
+//! What each last-round signal is paid at an end, board by board in the order of strength.
+#![tactic(auto)]
+
+mod board_order;
+mod pays;
+mod place;
+mod running;
+mod walks;
+
+pub use board_order::BoardOrder;
+pub use pays::Pays;

@@ -1,0 +1,61 @@
+//! What the deals of an end pay.
+
+ghost use Rattle.std.specs.Prelude.{◌≡◌, ◌<◌, ◌≤◌, ◌^◌, unsigned_abs};
+ghost use Rattle.gs_boards.specs.Runs.{lost_by, won_by, worth_of};
+
+use crate::place::Place;
+use crate::running::Running;
+
+/// What a player wins in a deal of an end, in chips.
+#[derive(Clone, Copy, Debug, PartialEq, Eq)]
+pub enum Pays {
+    /// The same in each deal, as at a fold.
+    Fixed(i32),
+    /// These chips times his outcome, as at a showdown.
+    Showdown(u16),
+}
+
+impl Pays {
+    // What a place counts for the places behind it, by its number: at a showdown what it wins.
+    pub(crate) fn worth(self, place: Place, number: u64) -> u128
+        ensures value { result ≡ worth_of self place number }
+        ensures small { result < 2 ^ 72 }
+    {
+        match self {
+            Pays::Fixed(_) => u128::from(number),
+            Pays::Showdown(_) => u128::from(number) * u128::from(place.win),
+        }
+    }
+
+    // What a place is paid by what was passed before it: at a showdown it wins of the weaker places.
+    pub(crate) fn won(self, place: Place, before: Running) -> i128
+        requires few { before.on_board < 2 ^ 82 }
+        requires within { before.on_level ≤ before.on_board }
+        ensures value { result ≡ won_by self place before }
+        ensures small { unsigned_abs result < 2 ^ 120 }
+    {
+        match self {
+            Pays::Fixed(stake) => i128::from(stake) * before.on_board as i128,
+            Pays::Showdown(chips) => {
+                let weaker = before.on_board - before.on_level;
+                (u128::from(chips) * u128::from(place.win) * weaker) as i128
+            }
+        }
+    }
+
+    // What a place is paid by what was passed behind it: at a showdown it loses to the stronger places.
+    pub(crate) fn lost(self, behind: Running) -> i128
+        requires few { behind.on_board < 2 ^ 90 }
+        requires within { behind.on_level ≤ behind.on_board }
+        ensures value { result ≡ lost_by self behind }
+        ensures small { unsigned_abs result < 2 ^ 122 }
+    {
+        match self {
+            Pays::Fixed(stake) => i128::from(stake) * behind.on_board as i128,
+            Pays::Showdown(chips) => {
+                let stronger = behind.on_board - behind.on_level;
+                -((u128::from(chips) * stronger) as i128)
+            }
+        }
+    }
+}

@@ -1,0 +1,55 @@
+//! Last-round signals on their boards.
+
+ghost use Rattle.std.specs.Prelude.{◌≡◌, ◌<◌, All, IfOk, map};
+ghost use Rattle.std.specs.List.{range_with_len};
+ghost use Rattle.gs_tree.specs.Trees.{rules_of};
+ghost use Rattle.gs_tree.specs.Walk.{last_count};
+ghost use Rattle.gs_boards.specs.Boards.{IsPlace};
+ghost use Rattle.gs_boards.specs.declared.place.Place.{Place as Placed};
+
+use gs_rank::category;
+use gs_tree::Signals;
+use std::alloc::{AllocError, Global};
+
+/// A signal of the last round. Places are ordered by board, and on a board by strength.
+#[derive(Clone, Copy, Debug, PartialEq, Eq, PartialOrd, Ord)]
+pub(crate) struct Place {
+    // the first signal that shows the same public cards
+    pub(crate) board: u32,
+    // of the hand that the signal holds: more wins
+    pub(crate) strength: u32,
+    // the bonus of the hand's category
+    pub(crate) win: u8,
+    pub(crate) signal: u32,
+}
+
+/// The place of a signal of the last round.
+fn place_of(signals: &Signals, signal: u32) -> Place
+    requires { signal < last_count (rules_of signals.now) }
+    ensures place { IsPlace (rules_of signals.now) result }
+    ensures signal { result.signal ≡ signal }
+{
+    let (firsts, _) = signals.boards();
+    let strength = signals.strength(signal);
+    let game = signals.game().game();
+    let category = category(game.ranking, strength);
+    Place {
+        board: firsts[signal as usize],
+        strength,
+        win: game.bonus[usize::from(category)],
+        signal,
+    }
+}
+
+/// The places of all signals of the last round, signal by signal.
+pub(crate) fn places_of(alloc: Global, signals: &Signals) -> Result<Vec<Place>, AllocError>
+    ensures each { IfOk result (λ v. All (IsPlace (rules_of signals.now)) v.items) }
+    ensures all { IfOk result (λ v. map (λ (p : Placed). p.signal) v.items ≡ range_with_len 0 (last_count (rules_of signals.now))) }
+{
+    let count = signals.count(signals.rounds());
+    let mut places = Vec::with_capacity(alloc, count as usize)?;
+    for signal in 0..count {
+        places.push(place_of(signals, signal))?;
+    }
+    Ok(places)
+}

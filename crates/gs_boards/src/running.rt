@@ -1,0 +1,64 @@
+//! Sums that run along the places of the boards.
+
+ghost use Rattle.std.specs.Prelude.{◌≡◌, ◌==◌, ◌+◌, ◌-◌, ◌<◌, ◌≤◌, ◌^◌, if◌then◌else◌};
+ghost use Rattle.gs_boards.specs.Runs.{arrived, passed_by};
+
+use crate::place::Place;
+
+/// What a walk over the places has passed on the board that it is on, and of that what has the strength that it is at.
+#[derive(Clone, Copy, Debug)]
+pub(crate) struct Running {
+    pub(crate) board: u32,
+    pub(crate) strength: u32,
+    pub(crate) on_board: u128,
+    pub(crate) on_level: u128,
+}
+
+impl Running {
+    // The start of a walk: nothing is passed.
+    pub(crate) fn new() -> Running
+        ensures { result ≡ record { board = 0; strength = 0; on_board = 0; on_level = 0 } }
+    {
+        Running {
+            board: 0,
+            strength: 0,
+            on_board: 0,
+            on_level: 0,
+        }
+    }
+
+    // The walk comes to a place: a new board or a new strength begins with nothing.
+    pub(crate) fn at(self, place: Place) -> Running
+        ensures { result ≡ arrived self place }
+    {
+        if place.board != self.board {
+            return Running {
+                board: place.board,
+                strength: place.strength,
+                on_board: 0,
+                on_level: 0,
+            };
+        }
+        if place.strength != self.strength {
+            return Running {
+                strength: place.strength,
+                on_level: 0,
+                ..self
+            };
+        }
+        self
+    }
+
+    // The walk passes the place that it is at.
+    pub(crate) fn past(self, worth: u128) -> Running
+        requires fits { self.on_board + worth < 2 ^ 128 }
+        requires within { self.on_level ≤ self.on_board }
+        ensures { result ≡ passed_by self worth }
+    {
+        Running {
+            on_board: self.on_board + worth,
+            on_level: self.on_level + worth,
+            ..self
+        }
+    }
+}
