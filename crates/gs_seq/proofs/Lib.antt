@@ -1,6 +1,7 @@
 pub mod Points
 pub mod SlotLaws
 pub mod Above
+pub mod AlongBoards
 pub mod Coming
 pub mod Leaks
 pub mod Gathered

@@ -1,5 +1,5 @@
 -- The row of a class of one signal is made of the signal's deals, and as many pairs are made as there are deals.
-use Rattle.std.proofs.Common.{◌≡◌, ℕ, ℤ, pos, zero, suc, ◌+◌, ◌-◌, ◌*◌, ◌<◌, ◌≤◌, Bool, true, false, cond, List, [], ◌∷◌, length, get_or, map, refl, sym, ap, ◌∙◌, subst, arith, sum_by, count_by, eqb, nat_lt, ⊎_elim}
+use Rattle.std.proofs.Common.{◌≡◌, ℕ, ℤ, pos, zero, suc, ◌+◌, ◌*◌, ◌<◌, ◌≤◌, Bool, true, false, cond, List, [], ◌∷◌, length, get_or, map, refl, sym, ap, ◌∙◌, subst, arith, sum_by, count_by, eqb, nat_lt, ⊎_elim}
 use Rattle.std.specs.Prelude.{◌==◌, ◌+ℤ◌, ◌*ℤ◌, All, filter}
 use Rattle.std.specs.List.{AllByRecursion, range_with_len}
 use Rattle.std.proofs.Math.IntN.{+ℤ_idl}
@@ -14,14 +14,13 @@ use borrow.Author.Tests.{ltb-true}
 use Rattle.gs_filter.specs.Filter.{Filter, IsSound}
 use Rattle.gs_game.specs.Games.{game_of}
 use Rattle.gs_game.specs.declared.valid.ValidGame.{ValidGame}
-use Rattle.gs_model.specs.Classes.{class_count, class_of, classes_in, list_of}
+use Rattle.gs_model.specs.Classes.{class_count, class_of, classes_in}
 use Rattle.gs_model.specs.Deals.{Deal, deals}
-use Rattle.gs_model.specs.Frame.{Frame, at_round, last_round, signal_count}
+use Rattle.gs_model.specs.Frame.{at_round, last_round, signal_count}
 use Rattle.gs_model.specs.Game.{Game, round_count}
 use Rattle.gs_model.specs.Pairs.{pair_sum}
 use Rattle.gs_model.specs.Sums.{sum_z}
 use Rattle.gs_model.proofs.Gather.{class_in}
-use Rattle.gs_model.proofs.Known.{Tabled}
 use Rattle.gs_model.proofs.Ranges.{deals_weigh, signal_count_is}
 use Rattle.gs_model.proofs.RawBound.{range_once}
 use Rattle.gs_model.proofs.Regroup.{sum_z-pos}
@@ -29,9 +28,9 @@ use Rattle.gs_model.proofs.Total.{sum_z-same}
 use Rattle.gs_model.proofs.Walked.{last_round_of}
 use Rattle.gs_tree.specs.Walk.{deal_at, last_count}
 use Rattle.gs_tree.proofs.Pairs.{row_deals}
-use Rattle.gs_seq.specs.Cells.{meets, pair_count, pair_signed, pair_weight}
+use Rattle.gs_seq.specs.Cells.{meets, pair_count}
 use Rattle.gs_seq.specs.Games.{frame_in}
-use Rattle.gs_seq.specs.Rows.{IsRow, IsSingleIn, signed_in, weight_in}
+use Rattle.gs_seq.specs.Rows.{IsRow, IsSingleIn}
 use Rattle.gs_seq.specs.Singles.{IsSlight, deal_pair}
 use Rattle.gs_seq.specs.declared.pair.Pair.{Pair}
 use Rattle.gs_seq.proofs.ClassRows.{sum-same}

@@ -1,6 +1,6 @@
 -- The row of a class of a round before the last, from the deals of its first member where the game stops after the round.
 use Rattle.std.proofs.Common.{◌≡◌, ◌≢◌, ℕ, ℤ, pos, ◌+◌, ◌*◌, ◌<◌, ◌≤◌, ◌^◌, Bool, true, false, cond, List, [], ◌∷◌, length, get_or, map, reverse, refl, sym, ap, ◌∙◌, subst, arith, sum_by}
-use Rattle.std.specs.Prelude.{◌==◌, ◌/◌, ◌*ℤ◌, All}
+use Rattle.std.specs.Prelude.{◌==◌, ◌/◌, ◌*ℤ◌}
 use Rattle.std.specs.List.{AllByRecursion, range_with_len}
 use Rattle.std.specs.Ordering.{int_eq}
 use Rattle.std.specs.declared.cmp.Ordering.TheVariants.{Less}
@@ -20,8 +20,8 @@ use Rattle.gs_lossless.specs.declared.parts.Part.{Part}
 use Rattle.gs_lossless.specs.declared.sides.Side.TheVariants.{Deals}
 use Rattle.gs_model.specs.Classes.{ClassLists, class_of, class_size, list_of}
 use Rattle.gs_model.specs.Deals.{Deal}
-use Rattle.gs_model.specs.Frame.{Frame, at_round, frame_of, last_round, signal_count, total_weight}
-use Rattle.gs_model.specs.Game.{Game, round_count}
+use Rattle.gs_model.specs.Frame.{Frame, at_round, last_round, signal_count, total_weight}
+use Rattle.gs_model.specs.Game.{round_count}
 use Rattle.gs_model.specs.Lossless.{IsLossless, weight_against, weight_with}
 use Rattle.gs_model.specs.Signals.{Signal, signals}
 use Rattle.gs_model.proofs.Ranges.{signal_count_is}

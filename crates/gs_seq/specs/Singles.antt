@@ -1,6 +1,9 @@
 -- The pairs of a class of one signal, by its deals.
-use Rattle.std.specs.Prelude.{ℕ, ◌+◌, ◌<◌, ◌≤◌, ◌≡◌, List, [], length, get_or, Option, None, Some, pos, ◌*ℤ◌}
+use Rattle.std.specs.Prelude.{ℕ, ℤ, ◌+◌, ◌<◌, ◌≤◌, ◌≡◌, List, [], length, get_or, Option, None, Some, pos, ◌*ℤ◌}
+use Rattle.gs_boards.specs.Boards.{deal_sum}
 use Rattle.gs_model.specs.Deals.{Deal}
+use Rattle.gs_model.specs.Game.{Game}
+use Rattle.gs_tree.specs.Walk.{last_count}
 use Rattle.gs_seq.specs.declared.pair.Pair.{Pair}
 
 -- a deal as the pair that it is where each signal is a class of its own
@@ -16,6 +19,11 @@ deals_left (Some deals) = deals
 pub record IsSlight (d : Deal) : Type 0 where
   pub two : d.two < 200000
   pub weight : d.weight ≤ 67108864
+
+-- a game has as many last-round signals as another, and each of them the same sums over its deals
+pub record HasSumsOf (g h : Game) : Type 0 where
+  pub count : last_count g ≡ last_count h
+  pub sums : (numbers : List ℕ) (pays : ℤ → ℤ) (signal : ℕ) → deal_sum g numbers pays signal ≡ deal_sum h numbers pays signal
 
 -- ---- a search along a row
 

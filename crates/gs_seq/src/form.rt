@@ -1,10 +1,14 @@
 //! A game in sequence form over lossless classes.
 
-ghost use Rattle.std.specs.Prelude.{◌≡◌, ◌<◌, ◌≤◌, ◌^◌};
+ghost use Rattle.std.specs.Prelude.{◌≡◌, ◌<◌, ◌≤◌, ◌^◌, IfOk, Some};
+ghost use Rattle.gs_boards.specs.declared.board_order.BoardOrder.{BoardOrder as Along};
+ghost use Rattle.gs_model.specs.Frame.{last_round};
 ghost use Rattle.gs_seq.specs.Games.{frame_in};
-ghost use Rattle.gs_seq.specs.Rows.{AreRows};
+ghost use Rattle.gs_seq.specs.Rows.{AreRows, IsSingleIn};
+ghost use Rattle.gs_seq.specs.Singles.{HasSumsOf};
 ghost use Rattle.gs_seq.specs.Slots.{AreOffsets, slot_count as slots_in};
 ghost use Rattle.gs_seq.specs.Stops.{HasSequencesWithin};
+ghost use Rattle.gs_tree.specs.Trees.{rules_of};
 
 use crate::fault::PlanFault;
 use crate::flows::plan_fault;
@@ -16,10 +20,11 @@ use crate::plan::Plan;
 use crate::rows::{cells, rows_of};
 use crate::slots::{few_slots, offsets_of};
 use crate::stop::SeqStop;
+use gs_boards::BoardOrder;
 use gs_filter::Classes;
 use gs_game::ValidGame;
 use gs_lossless::Lossless;
-use std::alloc::Global;
+use std::alloc::{AllocError, Global};
 
 /// The most sequences of a player, and the most cells, of a game that is solved or played.
 const USUAL: Limits = Limits {
@@ -39,15 +44,36 @@ pub struct Abstract<'a> {
     two: u32,
     // for each round and class of player 1 its pairs; none of the last round where they are made of deals
     rows: Vec<Vec<Vec<Pair>>>,
+    // the signals of the last round along their boards, where the pairs of its classes are made of deals
+    order: Option<BoardOrder<'a>>,
     ghost few: { HasSequencesWithin (2 ^ 30) (frame_in lossless.now.signals.now.game.now) lossless.now.classes.now.lists },
     ghost placed: { AreOffsets (frame_in lossless.now.signals.now.game.now) lossless.now.classes.now.lists offsets.items },
     ghost ones: { one ≡ slots_in (frame_in lossless.now.signals.now.game.now) lossless.now.classes.now.lists 1 },
     ghost twos: { two ≡ slots_in (frame_in lossless.now.signals.now.game.now) lossless.now.classes.now.lists 2 },
     ghost paired: { AreRows (frame_in lossless.now.signals.now.game.now) lossless.now.classes.now.lists rows.items },
+    ghost ordered: { (b : Along) → order ≡ Some b → HasSumsOf (rules_of b.signals.now) (rules_of lossless.now.signals.now) },
+    ghost single: { (b : Along) → order ≡ Some b → IsSingleIn lossless.now.classes.now.lists (last_round (frame_in lossless.now.signals.now.game.now)) },
+}
+
+/// The signals of the last round along their boards, where only so many earlier rounds have rows.
+fn order_of<'a>(
+    alloc: Global,
+    lossless: &'a Lossless<'a>,
+    listed: usize,
+) -> Result<Option<BoardOrder<'a>>, AllocError>
+    ensures { IfOk result (λ o. (b : Along) → o ≡ Some b
+        → HasSumsOf (rules_of b.signals.now) (rules_of lossless.entry.now.signals.now) × (listed < last_round (frame_in lossless.entry.now.signals.now.game.now))) }
+{
+    let signals = lossless.signals();
+    if listed < usize::from(signals.rounds()) {
+        BoardOrder::of(alloc, signals)
+    } else {
+        Ok(None)
+    }
 }
 
 impl<'a> Abstract<'a> {
-    ghost use Rattle.std.specs.Prelude.{◌+◌, ℕ, IfOk, IfErr, MatchOption, length};
+    ghost use Rattle.std.specs.Prelude.{◌+◌, ℕ, IfOk, IfErr, IfSome, MatchOption, length};
     ghost use Rattle.gs_model.specs.Classes.{IsClass, IsClasses};
     ghost use Rattle.gs_model.specs.Frame.{end_count, last_round, move_count, player_at, point_count, round_of};
     ghost use Rattle.gs_model.specs.Pairs.{class_number};
@@ -56,7 +82,9 @@ impl<'a> Abstract<'a> {
     ghost use Rattle.gs_seq.specs.Cells.{IsPairAfter, MeetsNoneAfter};
     ghost use Rattle.gs_seq.specs.Faults.{IsFaultOf};
     ghost use Rattle.gs_seq.specs.Plans.{IsPlanOf, class_plan};
-    ghost use Rattle.gs_seq.specs.Rows.{IsRow};
+    ghost use Rattle.gs_seq.specs.Rows.{IsRow, IsSingleIn};
+    ghost use Rattle.gs_seq.specs.Singles.{HasSumsOf};
+    ghost use Rattle.gs_tree.specs.Trees.{rules_of};
     ghost use Rattle.gs_seq.specs.Slots.{IsPlan, sequence_count, slot_of};
     ghost use Rattle.gs_seq.specs.Stops.{IsSmall, IsStopAt, IsStopOf, IsWithin};
 
@@ -86,6 +114,7 @@ impl<'a> Abstract<'a> {
         let (one, two) = few_slots(game, classes, most.sequences)?;
         let offsets = offsets_of(alloc, game, classes)?;
         let rows = rows_of(alloc, lossless)?;
+        let order = order_of(alloc, lossless, rows.len())?;
         let count = cells(alloc, game, classes, &rows)?;
         if count > most.cells {
             return Err(SeqStop::TooManyCells { count });
@@ -96,6 +125,7 @@ impl<'a> Abstract<'a> {
             one,
             two,
             rows,
+            order,
         })
     }
 
@@ -175,6 +205,18 @@ impl<'a> Abstract<'a> {
             (IsPairAfter (frame_of self.now) (lists_of self.now) round one after) }
     {
         first_after(self.pairs(round, one), after)
+    }
+
+    /// The signals of a round along their boards, where each of them is a class of its own and the pairs of these are made of deals.
+    pub(crate) fn order_in(&self, round: u8) -> Option<&BoardOrder<'a>>
+        ensures signals { IfSome result (λ order. HasSumsOf (rules_of order.now.signals.now) (rules_of self.now.lossless.now.signals.now)) }
+        ensures last { IfSome result (λ order. round ≡ last_round (frame_of self.now)) }
+        ensures single { IfSome result (λ order. IsSingleIn (lists_of self.now) (last_round (frame_of self.now))) }
+    {
+        match &self.order {
+            Some(order) if round == self.lossless.signals().rounds() => Some(order),
+            _ => None,
+        }
     }
 
     /// For each point the slot of its first class and first move.

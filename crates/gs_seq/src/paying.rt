@@ -1,13 +1,19 @@
 //! What an end pays all classes of its round, by the other player's numbers there.
 
-ghost use Rattle.std.specs.Prelude.{◌≡◌, ◌-◌, ◌<◌, ◌≤◌, length, slice_index};
+ghost use Rattle.std.specs.Prelude.{◌≡◌, ◌-◌, ◌<◌, ◌≤◌, ◌*ℤ◌, length, pos, slice_index};
+ghost use Rattle.gs_boards.specs.Runs.{paid};
+ghost use Rattle.gs_game.specs.Seen.{end_of};
+ghost use Rattle.gs_model.specs.Deals.{Deal as Dealt};
+ghost use Rattle.gs_seq.specs.Payoffs.{pair_pays};
+ghost use Rattle.gs_seq.specs.Singles.{deal_pair};
 
 use crate::form::Abstract;
 use crate::numbers::{plus, scaled};
 use crate::pairs::Pairs;
 use crate::payoff::pays;
 use crate::plan::Plan;
-use gs_game::End;
+use gs_boards::{BoardOrder, Pays};
+use gs_game::{End, EndKind};
 
 /// The number of a class in a list by classes.
 fn number_of(numbers: &[u64], class: u32) -> u64
@@ -18,9 +24,21 @@ fn number_of(numbers: &[u64], class: u32) -> u64
     numbers[class as usize - 1]
 }
 
+/// What an end pays a player in a deal, by his outcome.
+fn pays_at(player: u8, end: End) -> Pays
+    ensures { (d : Dealt) → pos d.weight *ℤ paid result d.outcome ≡ pair_pays player (end_of end) (deal_pair d) }
+{
+    let put = i32::from(end.put);
+    let folder = match end.kind {
+        EndKind::Folded1 => 1,
+        EndKind::Folded2 => 2,
+        EndKind::Show => return Pays::Showdown(end.put),
+    };
+    Pays::Fixed(if player == folder { -put } else { put })
+}
+
 impl<'a> Abstract<'a> {
-    ghost use Rattle.std.specs.Prelude.{◌+◌, ℕ, get_or, pos};
-    ghost use Rattle.gs_game.specs.Seen.{end_of};
+    ghost use Rattle.std.specs.Prelude.{◌+◌, ℕ, get_or};
     ghost use Rattle.gs_model.specs.Classes.{IsClass};
     ghost use Rattle.gs_model.specs.Frame.{end_at, end_count, last_round, other_player, round_of};
     ghost use Rattle.gs_model.specs.Payoff.{raw_payoff};
@@ -28,7 +46,9 @@ impl<'a> Abstract<'a> {
     ghost use Rattle.gs_seq.specs.Abstracts.{frame_of, lists_of};
     ghost use Rattle.gs_seq.specs.Payoffs.{AreFew, AreNumbersAt, end_classes, end_sum, number_sum, payoff_at};
     ghost use Rattle.gs_seq.specs.Plans.{IsPlanOf, class_plan, lifted};
-    ghost use Rattle.gs_seq.specs.Rows.{IsRow};
+    ghost use Rattle.gs_seq.specs.Rows.{IsRow, IsSingleIn};
+    ghost use Rattle.gs_seq.specs.Singles.{HasSumsOf};
+    ghost use Rattle.gs_tree.specs.Trees.{rules_of};
 
     /// An end of the game.
     fn end_in(&self, end: u32) -> End
@@ -75,7 +95,40 @@ impl<'a> Abstract<'a> {
             AreNumbersAt f lists (other_player player) (class_plan f lists other.now) end numbers.new }
     {
         self.read_numbers(other, end, numbers);
-        self.pay_all(player, end, numbers, start, sums);
+        match self.order_in(self.end_in(end).round) {
+            Some(order) => self.pay_along(order, player, end, numbers, start, sums),
+            None => self.pay_all(player, end, numbers, start, sums),
+        }
+    }
+
+    /// What an end of the last round pays a player at each class of his, as `pay_all`, where each signal is a class of its own: by sums along the boards.
+    fn pay_along(
+        &self,
+        order: &BoardOrder<'_>,
+        player: u8,
+        end: u32,
+        numbers: &[u64],
+        start: usize,
+        sums: &mut [i128],
+    )
+        requires some { 0 < player }
+        requires two { player ≤ 2 }
+        requires end { end < end_count (frame_of self.now) }
+        requires last { round_of (frame_of self.now) (at_end end) ≡ last_round (frame_of self.now) }
+        requires single { IsSingleIn (lists_of self.now) (last_round (frame_of self.now)) }
+        requires order { HasSumsOf (rules_of order.now.signals.now) (rules_of self.now.lossless.now.signals.now) }
+        requires wide { end_classes (frame_of self.now) (lists_of self.now) end ≤ length numbers.now }
+        requires room { start + end_classes (frame_of self.now) (lists_of self.now) end ≤ length sums.old }
+        ensures here { let f = frame_of self.now in let lists = lists_of self.now in
+            (c : ℕ) → IsClass lists (round_of f (at_end end)) c → get_or sums.new (start + (c - 1)) (pos 0) ≡ number_sum f lists player numbers.now end c }
+        ensures before { (i : ℕ) → i < start → get_or sums.new i (pos 0) ≡ get_or sums.old i (pos 0) }
+        ensures behind { (i : ℕ) → start + end_classes (frame_of self.now) (lists_of self.now) end ≤ i → get_or sums.new i (pos 0) ≡ get_or sums.old i (pos 0) }
+    {
+        let _game = self.game();
+        let _rounds = self.lossless().classes().rounds();
+        let stop = start + self.class_total(end) as usize;
+        let pays = pays_at(player, self.end_in(end));
+        order.deal_sums(pays, numbers, &mut sums[start..stop]);
     }
 
     /// A plan's numbers at an end, class by class.

@@ -1,4 +1,4 @@
-use Rattle.std.proofs.Common.{◌≡◌, ◌+◌, ◌-◌, ◌∙◌, ap, Vec, Global, get_or, length, sym, subst, arith}
+use Rattle.std.proofs.Common.{◌≡◌, ◌+◌, ◌∙◌, ap, Vec, Global, get_or, length, sym, subst, arith}
 use Rattle.std.proofs.lemmas.List.{length_push}
 use Rattle.gs_game.specs.declared.valid.ValidGame.{ValidGame}
 use Rattle.gs_lossless.proofs.Descent.{last_is}

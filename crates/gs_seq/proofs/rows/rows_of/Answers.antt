@@ -1,5 +1,4 @@
-use Rattle.std.proofs.Common.{◌≡◌, ◌+◌, ◌-◌, ap, sym, get_or, subst, arith}
-use Rattle.gs_game.specs.declared.valid.ValidGame.{ValidGame}
+use Rattle.std.proofs.Common.{◌≡◌, ◌+◌, ◌-◌, ap, get_or, subst, arith}
 use Rattle.gs_model.specs.Frame.{last_round}
 use Rattle.gs_tree.specs.declared.signals.Signals.{Signals}
 use Rattle.gs_seq.specs.Games.{frame_in}

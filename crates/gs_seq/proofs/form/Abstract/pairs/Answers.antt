@@ -1,15 +1,14 @@
-use Rattle.std.proofs.Common.{◌≡◌, ◌+◌, ◌-◌, ◌<◌, ◌≤◌, List, length, map, ap, sym, ◌∙◌, subst, arith}
+use Rattle.std.proofs.Common.{◌≡◌, ◌-◌, ◌<◌, ◌≤◌, List, length, map, ap, sym, ◌∙◌, subst, arith}
 use Rattle.std.specs.Prelude.{◌==◌, All, filter}
 use Rattle.gs_filter.specs.Filter.{Filter, IsSound}
 use Rattle.gs_game.specs.Games.{game_of}
-use Rattle.gs_lossless.proofs.Descent.{last_is}
 use Rattle.gs_model.specs.Classes.{class_count, list_of}
 use Rattle.gs_model.specs.Deals.{Deal, deals}
 use Rattle.gs_model.specs.Frame.{last_round}
 use Rattle.gs_tree.specs.Trees.{rules_of}
 use Rattle.gs_tree.specs.Walk.{last_count}
 use Rattle.gs_tree.specs.declared.signals.Signals.{Signals}
-use Rattle.gs_seq.specs.Abstracts.{frame_of, lists_of}
+use Rattle.gs_seq.specs.Abstracts.{frame_of}
 use Rattle.gs_seq.specs.Rows.{IsRow}
 use Rattle.gs_seq.specs.Singles.{IsSlight, deal_pair}
 use Rattle.gs_seq.specs.declared.pair.Pair.{Pair}

@@ -1,11 +1,10 @@
-use Rattle.std.proofs.Common.{rules, ◌≡◌, ◌+◌, ◌-◌, ◌*◌, ◌≤◌, ℕ, List, ap, sym, ◌∙◌, arith, subst, get_or, length, pos, FitsSigned, of_z, to_z, to_z-of_z}
+use Rattle.std.proofs.Common.{rules, ◌≡◌, ◌+◌, ◌-◌, ◌*◌, ℕ, List, ap, sym, ◌∙◌, arith, get_or, pos, FitsSigned, of_z, to_z, to_z-of_z}
 use Rattle.std.specs.Int.{w128}
 use Rattle.std.specs.List.{range_with_len}
 use Rattle.std.specs.Prelude.{ℤ, unsigned_abs, ◌+ℤ◌, ◌*ℤ◌}
 use Rattle.std.proofs.lemmas.Int.{unsigned_abs-mul}
-use Rattle.std.proofs.lemmas.List.{get_or_read}
 use borrow.Author.Differences.{abs_is}
-use Rattle.gs_model.specs.Classes.{IsClass, class_count}
+use Rattle.gs_model.specs.Classes.{IsClass}
 use Rattle.gs_model.specs.Frame.{round_of}
 use Rattle.gs_model.specs.Pairs.{class_number}
 use Rattle.gs_model.specs.Positions.{at_end}

@@ -1,4 +1,4 @@
-use Rattle.std.proofs.Common.{rules, ◌≡◌, ◌≤◌, ◌+◌, ◌-◌, ◌*◌, ◌^◌, ℕ, refl, ap, sym, ◌∙◌, arith, subst, List, get_or, take, pos, FitsSigned, of_z, to_z, to_z-of_z}
+use Rattle.std.proofs.Common.{rules, ◌≡◌, ◌≤◌, ◌+◌, ◌-◌, ◌*◌, ◌^◌, ℕ, ap, sym, ◌∙◌, arith, List, get_or, take, pos, FitsSigned, of_z, to_z, to_z-of_z}
 use Rattle.std.specs.Int.{w128}
 use Rattle.std.specs.Prelude.{unsigned_abs, ◌+ℤ◌, ◌*ℤ◌}
 use Rattle.std.proofs.lemmas.List.{take_all}

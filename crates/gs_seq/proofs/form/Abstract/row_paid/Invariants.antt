@@ -1,6 +1,4 @@
-use Rattle.std.proofs.Common.{◌≡◌, ◌-◌, drop, get_or, pos, take}
-use Rattle.std.specs.Prelude.{◌*ℤ◌}
-use Rattle.gs_model.specs.Frame.{end_at}
+use Rattle.std.proofs.Common.{◌≡◌, drop, take}
 use Rattle.gs_model.specs.Sums.{sum_z}
 use Rattle.gs_seq.specs.Abstracts.{frame_of}
 use Rattle.gs_seq.proofs.EndSums.{number_term}

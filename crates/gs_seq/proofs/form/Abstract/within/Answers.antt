@@ -64,6 +64,8 @@ invariant_of-result c =
       ones = carried game s.signals.now.game.now classes s.classes.now (λ f lists. c.in_ok-one.one ≡ slot_count f lists 1) same c.classes-classes.ensures.held c.in_ok-one.ensures.one;
       twos = carried game s.signals.now.game.now classes s.classes.now (λ f lists. c.in_ok-one.two ≡ slot_count f lists 2) same c.classes-classes.ensures.held c.in_ok-one.ensures.two;
       paired = c.in_ok-rows.ensures;
+      ordered = λ b is. (c.in_ok-order.ensures b is).0;
+      single = λ b is. c.in_ok-rows.ensures.single (omega (arith, (c.in_ok-order.ensures b is).1, c.len.ensures, c.in_ok-rows.rows.ok.0));
     }
 
 pub returns-clause-small : goal.returns-clause-small

@@ -1,9 +1,7 @@
-use Rattle.std.proofs.Common.{◌≡◌, sym, subst, arith, None}
+use Rattle.std.proofs.Common.{sym, subst, arith, None}
 use Rattle.gs_game.specs.declared.positions.End.{End}
 use Rattle.gs_game.specs.declared.positions.EndKind.TheVariants as kinds
 use Rattle.gs_model.specs.Classes.{IsClass}
-use Rattle.gs_model.specs.Frame.{round_of}
-use Rattle.gs_model.specs.Positions.{at_end}
 use Rattle.gs_seq.specs.Abstracts.{frame_of, lists_of}
 use Rattle.gs_seq.specs.Rows.{IsRow}
 use Rattle.gs_seq.proofs.Forms.{given, round_in_frame}
