@@ -17,9 +17,9 @@ use Rattle.gs_tree.specs.Plain.{IsPlain}
 use Rattle.gs_tree.specs.Walk.{deal_at, last_count, shows_same}
 use Rattle.gs_tree.proofs.Pairs.{row_deals}
 use Rattle.gs_tree.proofs.Weighed.{weight_is}
-use Rattle.gs_boards.specs.Boards.{ArePlaces, IsPlace, deal_sum}
+use Rattle.gs_boards.specs.Boards.{ArePlaces, IsPlace, deal_sum, paid}
 use Rattle.gs_boards.specs.Places.{AreApart}
-use Rattle.gs_boards.specs.Runs.{number_at, outcome_at, paid, paid_by}
+use Rattle.gs_boards.specs.Runs.{number_at, outcome_at, paid_by}
 use Rattle.gs_boards.specs.declared.pays.Pays.{Pays}
 use Rattle.gs_boards.specs.declared.place.Place.{Place}
 use Rattle.gs_boards.proofs.Once.{apart_from, over_places, place_of}

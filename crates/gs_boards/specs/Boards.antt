@@ -1,4 +1,4 @@
--- The last-round signals of a game in the order of boards and strengths.
+-- What last-round signals are paid in their deals, and their order by boards and strengths.
 use Rattle.std.specs.Prelude.{ℕ, ◌≡◌, ◌==◌, ◌<◌, true, false, All, List, count_by, filter, length, ℤ, pos, ◌*ℤ◌, slice_index}
 use Rattle.gs_model.specs.Deals.{Deal, deals}
 use Rattle.gs_model.specs.Game.{Game, round_count}
@@ -8,7 +8,14 @@ use Rattle.gs_model.specs.Sums.{sum_z}
 use Rattle.gs_model.specs.ViewTree.{signal_strength}
 use Rattle.gs_tree.specs.Walk.{last_count, shows_same}
 use Rattle.gs_boards.specs.Places.{AreInOrder}
+use Rattle.gs_boards.specs.declared.pays.Pays.{Pays}
+use Rattle.gs_boards.specs.declared.pays.Pays.TheVariants.{Fixed, Showdown}
 use Rattle.gs_boards.specs.declared.place.Place.{Place}
+
+-- what a player wins in a deal, by his outcome
+abbrev pub paid : Pays → ℤ → ℤ
+paid (Fixed stake) outcome = stake
+paid (Showdown chips) outcome = pos chips *ℤ outcome
 
 -- what a last-round signal is paid in its deals: over them the number of the other's signal times the weight times what the deal pays by the outcome
 abbrev pub deal_sum : Game → List ℕ → (ℤ → ℤ) → ℕ → ℤ

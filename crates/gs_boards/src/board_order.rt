@@ -33,8 +33,7 @@ pub struct BoardOrder<'s> {
 
 impl<'s> BoardOrder<'s> {
     ghost use Rattle.std.specs.Prelude.{◌≤◌, ℕ, MatchOption, get_or, pos};
-    ghost use Rattle.gs_boards.specs.Boards.{deal_sum};
-    ghost use Rattle.gs_boards.specs.Runs.{paid};
+    ghost use Rattle.gs_boards.specs.Boards.{deal_sum, paid};
 
     /// The order of the signals, if each kind of cards has one copy at most and each player is dealt one private card.
     pub fn of(alloc: Global, signals: &'s Signals<'s>) -> Result<Option<BoardOrder<'s>>, AllocError>
