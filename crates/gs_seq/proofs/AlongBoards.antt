@@ -2,8 +2,7 @@
 use Rattle.std.proofs.Common.{◌≡◌, ℕ, ℤ, List, pos, ◌+◌, ◌-◌, ◌<◌, ◌≤◌, get_or, map, sym, ap, ◌∙◌, subst, arith, ⊎_elim}
 use Rattle.std.specs.Prelude.{◌*ℤ◌, ◌⊎◌, slice_index}
 use Rattle.std.proofs.lemmas.Bool.{cases_lt}
-use Rattle.gs_boards.specs.Boards.{deal_sum}
-use Rattle.gs_boards.specs.Runs.{paid}
+use Rattle.gs_boards.specs.Boards.{deal_sum, paid}
 use Rattle.gs_boards.specs.declared.pays.Pays.{Pays}
 use Rattle.gs_filter.specs.Filter.{Filter, IsSound}
 use Rattle.gs_game.specs.Games.{game_of}

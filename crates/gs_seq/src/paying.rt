@@ -1,7 +1,7 @@
 //! What an end pays all classes of its round, by the other player's numbers there.
 
 ghost use Rattle.std.specs.Prelude.{◌≡◌, ◌-◌, ◌<◌, ◌≤◌, ◌*ℤ◌, length, pos, slice_index};
-ghost use Rattle.gs_boards.specs.Runs.{paid};
+ghost use Rattle.gs_boards.specs.Boards.{paid};
 ghost use Rattle.gs_game.specs.Seen.{end_of};
 ghost use Rattle.gs_model.specs.Deals.{Deal as Dealt};
 ghost use Rattle.gs_seq.specs.Payoffs.{pair_pays};

@@ -2,7 +2,7 @@ use Rattle.std.proofs.Common.{◌≡◌, ◌+◌, ◌-◌, ◌<◌, ◌++◌, Li
 use Rattle.std.specs.Prelude.{◌*ℤ◌}
 use borrow.Rule.Slice.PartMut.{mid_len, post_of}
 use Rattle.std.proofs.lemmas.List.{get_or_append_left, get_or-append_right, length-take-le}
-use Rattle.gs_boards.specs.Runs.{paid}
+use Rattle.gs_boards.specs.Boards.{paid}
 use Rattle.gs_filter.specs.Filter.{Filter, IsSound}
 use Rattle.gs_game.specs.Games.{game_of}
 use Rattle.gs_lossless.specs.declared.checking.Lossless.{Lossless}
