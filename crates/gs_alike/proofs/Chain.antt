@@ -1,6 +1,6 @@
 -- The signals of a board, one after another.
 use Rattle.std.proofs.Common.{◌≡◌, ◌+◌, ◌-◌, ◌<◌, ◌≤◌, ◌∙◌, ℕ, zero, suc, Bool, true, false, cond, List, [], ◌∷◌, ◌++◌, append_assoc, append-nil, get_or, map, sym, ap, arith, ⊎_elim}
-use Rattle.std.specs.Prelude.{filter, slice_index}
+use Rattle.std.specs.Prelude.{filter}
 use Rattle.std.specs.List.{range_with_len}
 use Rattle.std.proofs.lemmas.Bool.{cases_lt}
 use Rattle.gs_model.specs.Game.{Game, round_count}
@@ -8,7 +8,7 @@ use Rattle.gs_model.specs.Signals.{signal_at}
 use Rattle.gs_tree.specs.Boards.{AreBoards}
 use Rattle.gs_tree.specs.Walk.{last_count, shows_same}
 use Rattle.gs_tree.proofs.Same.{public_alike}
-use Rattle.gs_alike.specs.Kinds.{hands_on}
+use Rattle.gs_alike.specs.Boards.{signals_on}
 
 range_on : (a n : ℕ) → a < n → range_with_len a (n - a) ≡ a ∷ range_with_len (a + 1) (n - (a + 1))
 range_on a n l = let e : n - a ≡ suc (n - (a + 1)) = omega arith in ap (range_with_len a) e
@@ -34,14 +34,14 @@ taken p n a l e =
     let rest : List ℕ = filter p (range_with_len (a + 1) (n - (a + 1))) in
     ap (filter p) (range_on a n l) ∙ ap (λ b. cond b (a ∷ rest) rest) e
 
--- the hands of a board up to a signal of it, and those that are left
-pub record IsOnChain (g : Game) (hands : List ℕ) (first signal : ℕ) (row : List ℕ) : Type 0 where
-  pub same : signal < last_count g → shows_same g first signal ≡ true
-  pub rest : row ++ map (slice_index hands) (filter (shows_same g first) (range_with_len signal (last_count g - signal))) ≡ hands_on g hands first
+-- what a board makes of its signals up to one of them, and what is left
+pub record IsOnChain {X : Type 0} (g : Game) (h : ℕ → X) (first signal : ℕ) (row : List X) : Type 0 where
+  same : signal < last_count g → shows_same g first signal ≡ true
+  rest : row ++ map h (filter (shows_same g first) (range_with_len signal (last_count g - signal))) ≡ map h (signals_on g first)
 
-module _ (g : Game) (hands firsts nexts : List ℕ) (boards : AreBoards g firsts nexts) where
+module _ {X : Type 0} (g : Game) (h : ℕ → X) (firsts nexts : List ℕ) (boards : AreBoards g firsts nexts) where
   -- the first signal of the board
-  pub chain_start : (first : ℕ) → first < last_count g → IsOnChain g hands first (get_or firsts first 0) []
+  pub chain_start : (first : ℕ) → first < last_count g → IsOnChain g h first (get_or firsts first 0) []
   chain_start first l =
       let n : ℕ = last_count g in
       let s : ℕ = get_or firsts first 0 in
@@ -50,18 +50,17 @@ module _ (g : Game) (hands firsts nexts : List ℕ) (boards : AreBoards g firsts
       let at : 0 + s ≡ s = omega arith in
       record {
         same = λ _. boards.first_same first l;
-        rest = ap (λ xs. map (slice_index hands) xs)
+        rest = ap (λ xs. map h xs)
             (ap (λ k. filter p (range_with_len k (n - k))) (sym at)
             ∙ sym (passed p n 0 s (λ k lo hi in'. boards.none_before first k l (omega arith)))
             ∙ ap (λ k. filter p (range_with_len 0 k)) whole);
       }
 
   -- the next one
-  pub chain_more : (first signal : ℕ) (row : List ℕ) → first < last_count g → signal < last_count g → IsOnChain g hands first signal row → IsOnChain g hands first (get_or nexts signal 0) (row ++ get_or hands signal 0 ∷ [])
-  chain_more first signal row l m on =
+  pub chain_more : (first signal : ℕ) (row : List X) → signal < last_count g → IsOnChain g h first signal row → IsOnChain g h first (get_or nexts signal 0) (row ++ h signal ∷ [])
+  chain_more first signal row m on =
       let n : ℕ = last_count g in
       let t : ℕ = get_or nexts signal 0 in
-      let h : ℕ → ℕ = slice_index hands in
       let p : ℕ → Bool = shows_same g first in
       let later : signal < t = boards.next_later signal m in
       let here : p signal ≡ true = on.same m in
@@ -77,6 +76,6 @@ module _ (g : Game) (hands firsts nexts : List ℕ) (boards : AreBoards g firsts
       }
 
 -- all
-pub chain_end : (g : Game) (hands : List ℕ) (first signal : ℕ) (row : List ℕ) → last_count g ≤ signal → IsOnChain g hands first signal row → row ≡ hands_on g hands first
-chain_end g hands first signal row l on =
-    sym (ap (λ xs. row ++ map (slice_index hands) (filter (shows_same g first) xs)) (range_over signal (last_count g) l) ∙ append-nil row) ∙ on.rest
+pub chain_end : {X : Type 0} (g : Game) (h : ℕ → X) (first signal : ℕ) (row : List X) → last_count g ≤ signal → IsOnChain g h first signal row → row ≡ map h (signals_on g first)
+chain_end g h first signal row l on =
+    sym (ap (λ xs. row ++ map h (filter (shows_same g first) xs)) (range_over signal (last_count g) l) ∙ append-nil row) ∙ on.rest

@@ -1,9 +1,9 @@
-pub mod Alike
 pub mod Each
-pub mod FirstSeen
-pub mod PairsSeen
-pub mod Chain
+pub mod Seats
 pub mod Taken
-pub mod Places
-pub mod Rows
+pub mod Chain
 pub mod Ranks
+pub mod Places
+pub mod Marked
+pub mod Items
+pub mod Kept

@@ -1,10 +1,11 @@
 -- Signals of one level and key, on boards with the same hands, are alike.
-use Rattle.std.proofs.Common.{◌≡◌, ◌+◌, ◌<◌, ◌≤◌, ◌∙◌, ℕ, ℤ, zero, suc, Bool, true, false, cond, eqb, nat_lt, List, [], ◌∷◌, get_or, map, refl, sym, ap, subst, arith, ⊎_elim}
+use Rattle.std.proofs.Common.{◌≡◌, ◌+◌, ◌*◌, ◌/◌, ◌%◌, ◌<◌, ◌≤◌, ◌∙◌, ℕ, ℤ, zero, suc, Bool, true, false, cond, eqb, nat_lt, List, [], ◌∷◌, get_or, map, refl, sym, ap, subst, arith, ⊎_elim}
 use Rattle.std.specs.Prelude.{◌&&◌, filter, slice_index, length}
 use Rattle.std.specs.List.{range_with_len}
 use Rattle.std.specs.List.Sorted.{IsPermutation}
 use Rattle.std.proofs.lemmas.Bool.{cases_eq}
-use Rattle.std.proofs.lemmas.List.{get_or-map, length-map}
+use Rattle.std.proofs.lemmas.List.{ext_get_or, get_or-map, length-map}
+use Rattle.std.proofs.lemmas.Nat.{div-mul-add, mod-mul-add}
 use Rattle.std.proofs.lemmas.List.Sorted.{IsPermutation-cons, IsPermutation-map, IsPermutation-middle, IsPermutation-refl, IsPermutation-sym, IsPermutation-trans, sum_by-IsPermutation}
 use Rattle.gs_model.specs.Deals.{Deal}
 use Rattle.gs_model.specs.Game.{Game, round_count}
@@ -15,10 +16,11 @@ use Rattle.gs_model.proofs.Multisets.{permuted_from_times, times, times-cons}
 use Rattle.gs_tree.specs.Walk.{deal_at, last_count, shows_same}
 use Rattle.gs_tree.proofs.Pairs.{row_deals}
 use Rattle.gs_tree.proofs.Same.{public_self}
-use Rattle.gs_alike.specs.Alike.{AreAlike, AreStandIns, seen, seen_by}
-use Rattle.gs_alike.specs.FirstPairs.{AreFirstPairs}
-use Rattle.gs_alike.specs.Kinds.{AreKinds, hands_on}
-use Rattle.gs_alike.specs.Levels.{TellOutcomes}
+use Rattle.gs_alike.specs.Alike.{AreAlike, seen, seen_by}
+use Rattle.gs_alike.specs.Boards.{IsBoard, level_of, signals_on}
+use Rattle.gs_alike.specs.Hands.{AreHands, IsMark}
+use Rattle.gs_alike.specs.declared.board.Board.{Board}
+use Rattle.gs_alike.proofs.Ranks.{TellOutcomes, tell}
 use Rattle.gs_alike.proofs.Taken.{but, taken_out}
 use Rattle.gs_tree.specs.Plain.{IsPlain}
 use Rattle.gs_tree.proofs.Weighed.{path_is, weight_is}
@@ -30,24 +32,30 @@ cancelled x xs ys h = permuted_from_times xs ys (λ v.
     let e : times v (x ∷ ys) ≡ times v (x ∷ xs) = sum_by-IsPermutation f (x ∷ xs) (x ∷ ys) h in
     omega (arith, e, times-cons v x xs, times-cons v x ys))
 
--- what a deal is to the player of a level against a hand
-abbrev sight : (ℕ → ℕ → ℤ) → List ℕ → List ℕ → ℕ → ℕ → ℕ × ℤ × ℕ
-sight pays keys levels mine hand = (get_or keys hand 0, pays mine (get_or levels hand 0), 1)
+-- the number of a hand
+abbrev hand_in : List ℕ → (ℕ → ℕ) → ℕ → ℕ
+hand_in keys level i = level i * 4294967296 + get_or keys i 0
 
-module _ (g : Game) (keys levels hands : List ℕ) (plain : IsPlain g) (tell : TellOutcomes g levels) (numbered : AreFirstPairs levels keys hands) where
-  level_of_hand : (i : ℕ) → i < last_count g → get_or levels (get_or hands i 0) 0 ≡ get_or levels i 0
-  level_of_hand i l = numbered.one i (omega (arith, l, tell.long))
+module _ (g : Game) (keys : List ℕ) (few : (i : ℕ) → i < last_count g → get_or keys i 0 < 4294967296) (level : ℕ → ℕ) (plain : IsPlain g) (told : TellOutcomes g level) where
+  abbrev hand : ℕ → ℕ
+  hand = hand_in keys level
 
-  key_of_hand : (i : ℕ) → i < last_count g → get_or keys (get_or hands i 0) 0 ≡ get_or keys i 0
-  key_of_hand i l = numbered.other i (omega (arith, l, tell.long))
+  -- what a deal is to the player of a level against a hand
+  abbrev sight : ℕ → ℕ → ℕ × ℤ × ℕ
+  sight mine other = (other % 4294967296, told.pays mine (other / 4294967296), 1)
 
-  -- a deal, as the hand of its second signal tells it
+  level_of_hand : (i : ℕ) → i < last_count g → hand i / 4294967296 ≡ level i
+  level_of_hand i l = div-mul-add (level i) 4294967296 (get_or keys i 0) (few i l)
+
+  key_of_hand : (i : ℕ) → i < last_count g → hand i % 4294967296 ≡ get_or keys i 0
+  key_of_hand i l = mod-mul-add (level i) 4294967296 (get_or keys i 0) (few i l)
+
   deal_seen : (i k : ℕ) → i < last_count g → k < last_count g → shows_same g i k ≡ true → (deal_at g i k).weight ≡ 1
-      → seen_by keys (deal_at g i k) ≡ sight tell.pays keys levels (get_or levels i 0) (get_or hands k 0)
+      → seen_by keys (deal_at g i k) ≡ sight (level i) (hand k)
   deal_seen i k l m same w =
-      triple (get_or keys k 0) (get_or keys (get_or hands k 0) 0) (outcome g.bonus g.ranking (signal_strength g (signal_at g (round_count g) i)) (signal_strength g (signal_at g (round_count g) k)))
-      (tell.pays (get_or levels i 0) (get_or levels (get_or hands k 0) 0)) (deal_at g i k).weight 1 (sym (key_of_hand k m))
-      (tell.paid i k l m same ∙ ap (tell.pays (get_or levels i 0)) (sym (level_of_hand k m))) w
+      triple (get_or keys k 0) (hand k % 4294967296) (outcome g.bonus g.ranking (signal_strength g (signal_at g (round_count g) i)) (signal_strength g (signal_at g (round_count g) k)))
+      (told.pays (level i) (hand k / 4294967296)) (deal_at g i k).weight 1 (sym (key_of_hand k m))
+      (told.paid i k l m same ∙ ap (told.pays (level i)) (sym (level_of_hand k m))) w
     where
       triple : (a b : ℕ) (x y : ℤ) (v w : ℕ) → a ≡ b → x ≡ y → v ≡ w → (let t : ℕ × ℤ × ℕ = (a, x, v) in t) ≡ (let t : ℕ × ℤ × ℕ = (b, y, w) in t)
       triple a b x y v w p q r = cc
@@ -55,7 +63,7 @@ module _ (g : Game) (keys levels hands : List ℕ) (plain : IsPlain g) (tell : T
   -- the deals of a run of pairs
   run_seen : (i : ℕ) → i < last_count g → (a n : ℕ) → a + n ≤ last_count g →
       map (seen_by keys) (filter (λ (d : Deal). nat_lt 0 d.weight) (map (deal_at g i) (range_with_len a n)))
-      ≡ map (sight tell.pays keys levels (get_or levels i 0)) (map (slice_index hands) (filter (but (shows_same g i) i) (range_with_len a n)))
+      ≡ map (sight (level i)) (map hand (filter (but (shows_same g i) i) (range_with_len a n)))
   run_seen i l a zero h = refl
   run_seen i l a (suc n) h =
       go (but (shows_same g i) i a) (λ e. (both (shows_same g i a) (cond (eqb a i) false true) e)) (weight_is g plain i a l (omega arith)) (run_seen i l (a + 1) n (omega arith))
@@ -70,64 +78,78 @@ module _ (g : Game) (keys levels hands : List ℕ) (plain : IsPlain g) (tell : T
       both true q e = refl
       both false q e = absurd (cc)
 
-      go : (b : Bool) → (b ≡ true → shows_same g i a ≡ true) → (deal_at g i a).weight ≡ cond b 1 0 → map (seen_by keys) deals' ≡ map (sight tell.pays keys levels (get_or levels i 0)) (map (slice_index hands) places)
+      go : (b : Bool) → (b ≡ true → shows_same g i a ≡ true) → (deal_at g i a).weight ≡ cond b 1 0 → map (seen_by keys) deals' ≡ map (sight (level i)) (map hand places)
           → map (seen_by keys) (cond (nat_lt 0 (deal_at g i a).weight) (deal_at g i a ∷ deals') deals')
-          ≡ map (sight tell.pays keys levels (get_or levels i 0)) (map (slice_index hands) (cond b (a ∷ places) places))
+          ≡ map (sight (level i)) (map hand (cond b (a ∷ places) places))
       go true same w r =
           ap (λ (x : ℕ). map (seen_by keys) (cond (nat_lt 0 x) (deal_at g i a ∷ deals') deals')) w
           ∙ ap (λ x. x ∷ map (seen_by keys) deals') (deal_seen i a l (omega arith) (same refl) w)
-          ∙ ap (λ xs. sight tell.pays keys levels (get_or levels i 0) (get_or hands a 0) ∷ xs) r
+          ∙ ap (λ xs. sight (level i) (hand a) ∷ xs) r
       go false same w r = ap (λ (x : ℕ). map (seen_by keys) (cond (nat_lt 0 x) (deal_at g i a ∷ deals') deals')) w ∙ r
 
   -- the hands beside a signal
-  others : ℕ → List ℕ
-  others i = map (slice_index hands) (filter (but (shows_same g i) i) (range_with_len 0 (last_count g)))
+  abbrev others : ℕ → List ℕ
+  others i = map hand (filter (but (shows_same g i) i) (range_with_len 0 (last_count g)))
 
-  seen_is : (i : ℕ) → i < last_count g → seen g keys i ≡ map (sight tell.pays keys levels (get_or levels i 0)) (others i)
-  unfolding others
+  seen_is : (i : ℕ) → i < last_count g → seen g keys i ≡ map (sight (level i)) (others i)
   seen_is i l = ap (map (seen_by keys)) (row_deals g i l) ∙ run_seen i l 0 (last_count g) (omega arith)
 
-  others_are : (i : ℕ) → i < last_count g → IsPermutation (hands_on g hands i) (get_or hands i 0 ∷ others i)
-  unfolding others
-  others_are i l = taken_out (shows_same g i) (slice_index hands) i 0 (last_count g) (public_self (signal_at g (round_count g) i)) (omega arith) (omega arith)
+  others_are : (i : ℕ) → i < last_count g → IsPermutation (map hand (signals_on g i)) (hand i ∷ others i)
+  others_are i l = taken_out (shows_same g i) hand i 0 (last_count g) (public_self (signal_at g (round_count g) i)) (omega arith) (omega arith)
 
   -- a signal of the same hand, on a board of the same hands, is alike
-  pub place_is : (i r : ℕ) → i < last_count g → r < last_count g → IsPermutation (hands_on g hands r) (hands_on g hands i) → get_or hands r 0 ≡ get_or hands i 0 → AreAlike g keys i r
-  place_is i r l m board hand =
-      let strong : get_or levels i 0 ≡ get_or levels r 0 = sym (level_of_hand i l) ∙ ap (λ h. get_or levels h 0) (sym hand) ∙ level_of_hand r m in
+  pub place_is : (i r : ℕ) → i < last_count g → r < last_count g → IsPermutation (map hand (signals_on g r)) (map hand (signals_on g i)) → hand r ≡ hand i → AreAlike g keys i r
+  place_is i r l m board same =
+      let strong : level i ≡ level r = sym (level_of_hand i l) ∙ ap (λ (h : ℕ). h / 4294967296) (sym same) ∙ level_of_hand r m in
       let mine = others_are i l in
       let his = others_are r m in
-      let both : IsPermutation (get_or hands i 0 ∷ others i) (get_or hands r 0 ∷ others r) =
-      IsPermutation-trans (get_or hands i 0 ∷ others i) (hands_on g hands i) (get_or hands r 0 ∷ others r) (IsPermutation-sym (hands_on g hands i) (get_or hands i 0 ∷ others i) mine)
-      (IsPermutation-trans (hands_on g hands i) (hands_on g hands r) (get_or hands r 0 ∷ others r) (IsPermutation-sym (hands_on g hands r) (hands_on g hands i) board) his) in
-      let Q : ℕ → Type 0 = λ h. IsPermutation (get_or hands i 0 ∷ others i) (h ∷ others r) in
-      let left : IsPermutation (others i) (others r) = cancelled (get_or hands i 0) (others i) (others r) (subst Q hand both) in
-      let mapped = IsPermutation-map (sight tell.pays keys levels (get_or levels i 0)) (others i) (others r) left in
+      let both : IsPermutation (hand i ∷ others i) (hand r ∷ others r) =
+      IsPermutation-trans (hand i ∷ others i) (map hand (signals_on g i)) (hand r ∷ others r) (IsPermutation-sym (map hand (signals_on g i)) (hand i ∷ others i) mine)
+      (IsPermutation-trans (map hand (signals_on g i)) (map hand (signals_on g r)) (hand r ∷ others r) (IsPermutation-sym (map hand (signals_on g r)) (map hand (signals_on g i)) board) his) in
+      let Q : ℕ → Type 0 = λ h. IsPermutation (hand i ∷ others i) (h ∷ others r) in
+      let left : IsPermutation (others i) (others r) = cancelled (hand i) (others i) (others r) (subst Q same both) in
+      let mapped = IsPermutation-map (sight (level i)) (others i) (others r) left in
       let R : List (ℕ × ℤ × ℕ) → Type 0 = λ x. IsPermutation x (seen g keys r) in
-      let S : List (ℕ × ℤ × ℕ) → Type 0 = λ x. IsPermutation (map (sight tell.pays keys levels (get_or levels i 0)) (others i)) x in
-      let there : map (sight tell.pays keys levels (get_or levels i 0)) (others r) ≡ seen g keys r =
-      ap (λ s. map (sight tell.pays keys levels s) (others r)) strong ∙ sym (seen_is r m) in
+      let S : List (ℕ × ℤ × ℕ) → Type 0 = λ x. IsPermutation (map (sight (level i)) (others i)) x in
+      let there : map (sight (level i)) (others r) ≡ seen g keys r = ap (λ s. map (sight s) (others r)) strong ∙ sym (seen_is r m) in
       record {
-        key = sym (key_of_hand i l) ∙ ap (λ h. get_or keys h 0) (sym hand) ∙ key_of_hand r m;
+        key = sym (key_of_hand i l) ∙ ap (λ (h : ℕ). h % 4294967296) (sym same) ∙ key_of_hand r m;
         path = path_is g plain i l ∙ sym (path_is g plain r m);
         deals = subst R (sym (seen_is i l)) (subst S there mapped);
       }
 
--- the first signals of their places stand for all
-pub stand_ins_are : (g : Game) (keys levels hands kinds firsts : List ℕ) → IsPlain g → TellOutcomes g levels → AreFirstPairs levels keys hands
-    → AreKinds g hands kinds → AreFirstPairs kinds hands firsts → AreStandIns g keys firsts
-stand_ins_are g keys levels hands kinds firsts plain tell numbered boards places =
-    let n : ℕ = last_count g in
-    let in' = λ (i : ℕ) (l : i < n). (let e : i < length kinds = omega (arith, l, boards.long) in e) in
-    record {
-      long = places.long ∙ boards.long;
-      before = λ i l. places.before i (in' i l);
-      alike = λ i l.
-          let r : ℕ = get_or firsts i 0 in
-          let m : r < n = omega (arith, places.before i (in' i l), l) in
-          let P : ℕ → Type 0 = λ k. IsPermutation (hands_on g hands k) (hands_on g hands r) in
-          let mine : IsPermutation (hands_on g hands (get_or kinds i 0)) (hands_on g hands r) = subst P (places.one i (in' i l)) (boards.alike r m) in
-          let board : IsPermutation (hands_on g hands r) (hands_on g hands i) =
-          IsPermutation-trans (hands_on g hands r) (hands_on g hands (get_or kinds i 0)) (hands_on g hands i) (IsPermutation-sym (hands_on g hands (get_or kinds i 0)) (hands_on g hands r) mine) (boards.alike i l) in
-          place_is g keys levels hands plain tell numbered i r l m board (places.other i (in' i l));
-    }
+-- the hands of a board's signals
+hands_are : (g : Game) (by_rank : Bool) (keys : List ℕ) (board : Board) (hands : List ℕ) → IsBoard g by_rank board → AreHands board keys hands → hands ≡ map (hand_in keys (level_of g by_rank)) board.signals.items
+hands_are g by_rank keys board hands b h =
+    let sigs : List ℕ = board.signals.items in
+    let f : ℕ → ℕ = hand_in keys (level_of g by_rank) in
+    ext_get_or 0 hands (map f sigs) (h.long ∙ sym (length-map sigs f)) (λ i l.
+    let m : i < length sigs = omega (arith, l, h.long) in
+    let level : get_or board.levels.items i 0 ≡ level_of g by_rank (get_or sigs i 0) = ap (λ (xs : List ℕ). get_or xs i 0) b.levels ∙ get_or-map (level_of g by_rank) sigs i 0 0 m in
+    h.each i m ∙ ap (λ (v : ℕ). v * 4294967296 + get_or keys (get_or sigs i 0) 0) level ∙ sym (get_or-map f sigs i 0 0 m))
+
+-- the hands on the board of one of its signals
+hands_there : (g : Game) (by_rank : Bool) (keys : List ℕ) (board : Board) (hands : List ℕ) (one i : ℕ) → IsBoard g by_rank board → AreHands board keys hands → one < length board.signals.items → get_or board.signals.items one 0 ≡ i
+    → IsPermutation (map (hand_in keys (level_of g by_rank)) (signals_on g i)) hands × (i < last_count g) × (get_or hands one 0 ≡ hand_in keys (level_of g by_rank) i)
+hands_there g by_rank keys board hands one i b h l is =
+    let sigs : List ℕ = board.signals.items in
+    let f : ℕ → ℕ = hand_in keys (level_of g by_rank) in
+    let e : hands ≡ map f sigs = hands_are g by_rank keys board hands b h in
+    let same : IsPermutation (signals_on g i) sigs = permuted_from_times (signals_on g i) sigs (subst (λ (k : ℕ). (v : ℕ) → times v (signals_on g k) ≡ times v sigs) is (b.signals one l)) in (
+      subst (IsPermutation (map f (signals_on g i))) (sym e) (IsPermutation-map f (signals_on g i) sigs same),
+      subst (λ (k : ℕ). k < last_count g) is (b.within one 0 l),
+      ap (λ (xs : List ℕ). get_or xs one 0) e ∙ get_or-map f sigs one 0 0 l ∙ ap f is,
+    )
+
+-- a mark is alike
+pub mark_alike : (g : Game) (by_rank : Bool) (keys : List ℕ) → ((i : ℕ) → i < last_count g → get_or keys i 0 < 4294967296) → (board other : Board) (hands other_hands : List ℕ)
+    → IsBoard g by_rank board → IsBoard g by_rank other → AreHands board keys hands → AreHands other keys other_hands → IsPermutation other_hands hands
+    → (i mark : ℕ) → IsMark board.signals.items hands other.signals.items other_hands i mark → AreAlike g keys i mark
+mark_alike g by_rank keys few board other hands other_hands b o h k moved i mark m =
+    let f : ℕ → ℕ = hand_in keys (level_of g by_rank) in
+    let mine = hands_there g by_rank keys board hands m.one i b h m.one_in m.signal_is in
+    let his = hands_there g by_rank keys other other_hands m.two mark o k m.two_in m.mark_is in
+    let all : IsPermutation (map f (signals_on g mark)) (map f (signals_on g i)) =
+    IsPermutation-trans (map f (signals_on g mark)) other_hands (map f (signals_on g i)) his.0
+    (IsPermutation-trans other_hands hands (map f (signals_on g i)) moved (IsPermutation-sym (map f (signals_on g i)) hands mine.0)) in
+    place_is g keys few (level_of g by_rank) b.plain (tell g by_rank b.once) i mark mine.1 his.1 all (sym his.2 ∙ sym m.same ∙ mine.2)

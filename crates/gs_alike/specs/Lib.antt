@@ -1,4 +1,4 @@
 pub mod Alike
-pub mod FirstPairs
-pub mod Kinds
-pub mod Levels
+pub mod Boards
+pub mod Firsts
+pub mod Hands

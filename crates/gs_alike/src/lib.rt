@@ -1,10 +1,10 @@
 //! Last-round signals that see the same deals.
 #![tactic(auto)]
 
-mod boards;
-mod first;
-mod levels;
-mod pairs;
+mod board;
+mod firsts;
+mod kinds;
+mod marks;
 mod standing;
 
-pub use standing::stand_ins;
+pub use standing::{Boards, stand_ins};

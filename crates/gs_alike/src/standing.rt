@@ -1,17 +1,32 @@
 //! A signal for each signal of the last round that stands for it.
 
-ghost use Rattle.std.specs.Prelude.{◌≡◌, IfOk, IsTrue, length};
+ghost use Rattle.std.specs.Prelude.{◌≡◌, ◌<◌, ℕ, EachIndex, IfOk, IsTrue, length, slice_index};
+ghost use Rattle.std.specs.List.{All};
+ghost use Rattle.gs_tree.specs.Plain.{IsPlain};
 ghost use Rattle.gs_tree.specs.Trees.{rules_of};
 ghost use Rattle.gs_tree.specs.Walk.{last_count};
 ghost use Rattle.gs_alike.specs.Alike.{AreStandIns};
-ghost use Rattle.gs_tree.specs.Plain.{IsPlain};
+ghost use Rattle.gs_alike.specs.Boards.{IsBoard};
+ghost use Rattle.gs_alike.specs.Firsts.{AreMarks};
 
-use crate::boards::board_kinds;
-use crate::levels::levels;
-use crate::pairs::first_pairs;
+use crate::board::{Board, boards_of};
+use crate::firsts::first_items;
+use crate::kinds::{Kinds, hands_on, kind_of};
+use crate::marks::mark_board;
 use gs_game::are_single;
 use gs_tree::Signals;
 use std::alloc::{AllocError, Global};
+use std::collections::HashMap;
+
+/// The boards of the last round, with the signals that they are of. None is looked at where some kind of cards has more than one copy, or the
+/// players are dealt more than one private card.
+#[derive(Drop)]
+pub struct Boards<'a> {
+    signals: &'a Signals<'a>,
+    list: Vec<Board>,
+    by_rank: bool,
+    ghost each: { All (IsBoard (rules_of signals.now) by_rank) list.items },
+}
 
 /// Whether no kind of cards has more than one copy, and each player is dealt one private card.
 fn is_plain(signals: &Signals) -> bool
@@ -21,41 +36,85 @@ fn is_plain(signals: &Signals) -> bool
     signals.own_count() == 1 && are_single(copies)
 }
 
+/// Whether each bonus is 1.
+fn are_ones(bonus: &[u8]) -> bool
+    ensures { IsTrue result → EachIndex bonus.now (λ category. slice_index bonus.now category ≡ 1) }
+{
+    bonus.iter().all(|times| *times == 1)
+}
+
 /// Each signal of the last round for itself.
-fn each_itself(alloc: Global, signals: &Signals, keys: &[u32]) -> Result<Vec<u32>, AllocError>
-    requires { length keys.now ≡ last_count (rules_of signals.now) }
-    ensures { IfOk result (λ v. AreStandIns (rules_of signals.now) keys.now v.items) }
+fn each_itself(alloc: Global, count: u32) -> Result<Vec<u32>, AllocError>
+    ensures long { IfOk result (λ v. length v.items ≡ count) }
+    ensures each { IfOk result (λ v. (i : ℕ) → i < count → slice_index v.items i ≡ i) }
 {
-    let count = signals.count(signals.rounds());
-    let mut firsts = Vec::with_capacity(alloc, keys.len())?;
+    let mut marks = Vec::with_capacity(alloc, count as usize)?;
     for signal in 0..count {
-        firsts.push(signal)?;
+        marks.push(signal)?;
     }
-    Ok(firsts)
+    Ok(marks)
 }
 
-/// For each signal of the last round the first one of the same level and key whose board has as many signals of each level and key.
-fn firsts_of_places(alloc: Global, signals: &Signals, keys: &[u32]) -> Result<Vec<u32>, AllocError>
-    requires long { length keys.now ≡ last_count (rules_of signals.now) }
-    requires plain { IsPlain (rules_of signals.now) }
-    ensures { IfOk result (λ v. AreStandIns (rules_of signals.now) keys.now v.items) }
-{
-    let levels = levels(alloc, signals)?;
-    let hands = first_pairs(alloc, &levels, keys)?;
-    let kinds = board_kinds(alloc, signals, &hands)?;
-    let firsts = first_pairs(alloc, &kinds, &hands)?;
-    Ok(firsts)
+impl<'a> Boards<'a> {
+    /// The boards of the last round.
+    pub fn of(alloc: Global, signals: &'a Signals<'a>) -> Result<Boards<'a>, AllocError>
+        ensures { IfOk result (λ boards. boards.signals.now ≡ signals.entry.now) }
+    {
+        let by_rank = are_ones(&signals.game().game().bonus);
+        let list = if is_plain(signals) {
+            boards_of(alloc, signals, by_rank)?
+        } else {
+            Vec::new(alloc)
+        };
+        Ok(Boards {
+            signals,
+            list,
+            by_rank,
+        })
+    }
+
+    // For each signal of the last round one that is like it: itself, or a signal of the first board with the same hands.
+    fn marks(&self, alloc: Global, keys: &[u32]) -> Result<Vec<u32>, AllocError>
+        requires { length keys.now ≡ last_count (rules_of self.now.signals.now) }
+        ensures { IfOk result (λ v. AreMarks (rules_of self.now.signals.now) keys.now v.items) }
+    {
+        let mut marks = each_itself(alloc, self.signals.count(self.signals.rounds()))?;
+        let mut kinds = Kinds {
+            list: Vec::new(alloc),
+            seen: HashMap::new(alloc),
+        };
+        for (place, board) in self.list.iter().enumerate() {
+            let hands = hands_on(alloc, board, keys)?;
+            let kind = kind_of(alloc, &mut kinds, &hands, place)?;
+            let like = &kinds.list[kind];
+            let other = &self.list[like.board];
+            mark_board(
+                &mut marks,
+                &board.signals,
+                &hands,
+                &other.signals,
+                &like.hands,
+            );
+        }
+        Ok(marks)
+    }
+
+    /// For each signal of the last round one that is like it, no later than itself: of the same key, as hard to come by, and with the same deals
+    /// by the opponent's key, outcome and weight.
+    pub fn stand_ins(&self, alloc: Global, keys: &[u32]) -> Result<Vec<u32>, AllocError>
+        requires { length keys.now ≡ last_count (rules_of self.now.signals.now) }
+        ensures { IfOk result (λ v. AreStandIns (rules_of self.now.signals.now) keys.now v.items) }
+    {
+        let marks = self.marks(alloc, keys)?;
+        first_items(alloc, &marks)
+    }
 }
 
-/// For each signal of the last round one that is like it, no later than itself: of the same key, as hard to come by, and with the same deals
-/// by the opponent's key, outcome and weight.
+/// For each signal of the last round one that is like it, as the boards of the last round give it.
 pub fn stand_ins(alloc: Global, signals: &Signals, keys: &[u32]) -> Result<Vec<u32>, AllocError>
     requires { length keys.now ≡ last_count (rules_of signals.now) }
     ensures { IfOk result (λ v. AreStandIns (rules_of signals.now) keys.now v.items) }
 {
-    if is_plain(signals) {
-        firsts_of_places(alloc, signals, keys)
-    } else {
-        each_itself(alloc, signals, keys)
-    }
+    let boards = Boards::of(alloc, signals)?;
+    boards.stand_ins(alloc, keys)
 }

@@ -1,0 +1,109 @@
+-- Marks of signals.
+use Rattle.std.proofs.Common.{◌≡◌, ◌⊎◌, ◌<◌, ◌≤◌, ◌+◌, ◌∙◌, ℕ, Bool, List, [], ◌∷◌, ◌++◌, get_or, length, set, take, drop, inl, inr, refl, sym, ap, subst, arith, ⊎_elim, length-set}
+use Rattle.std.proofs.lemmas.Bool.{cases_eq}
+use Rattle.std.proofs.lemmas.List.{append-nil, drop_all, get_or-set_other, get_or-set_same, get_or_default, take_all}
+use Rattle.std.specs.Global.{Vec}
+use Rattle.std.specs.HashMap.{HashMap}
+use Rattle.std.specs.List.{All}
+use Rattle.std.specs.List.Sorted.{IsPermutation}
+use Rattle.std.specs.declared.hash.BuildHasherDefault.{BuildHasherDefault}
+use Rattle.std.specs.declared.hash.FoldHasher.{FoldHasher}
+use Rattle.std.proofs.lemmas.List.Elements.{All-push}
+use Rattle.gs_model.specs.Game.{Game}
+use Rattle.gs_tree.specs.Walk.{last_count}
+use Rattle.gs_alike.specs.Alike.{AreAlike}
+use Rattle.gs_alike.specs.Boards.{IsBoard}
+use Rattle.gs_alike.specs.Firsts.{AreMarks}
+use Rattle.gs_alike.specs.Hands.{AreHands, HasMore, IsKindOf, IsMark, KeepsKinds}
+use Rattle.gs_alike.specs.declared.board.Board.{Board}
+use Rattle.gs_alike.specs.declared.kinds.Kind.{Kind}
+use Rattle.gs_alike.proofs.Items.{alike_self}
+use Rattle.gs_alike.proofs.Places.{mark_alike}
+
+-- marks that are as they were, or of a board
+pub record MayMark (signals hands others other_hands old marks : List ℕ) : Type 0 where
+  pub long : length marks ≡ length old
+  pub each : (i : ℕ) → (get_or marks i 0 ≡ get_or old i 0) ⊎ IsMark signals hands others other_hands i (get_or marks i 0)
+
+pub may_none : (signals hands others other_hands old : List ℕ) → MayMark signals hands others other_hands old old
+may_none signals hands others other_hands old = record { long = refl; each = λ i. inl refl }
+
+-- one more
+pub may_more : (signals hands others other_hands old marks : List ℕ) (one two : ℕ) → MayMark signals hands others other_hands old marks → one < length signals → two < length others → get_or hands one 0 ≡ get_or other_hands two 0
+    → get_or signals one 0 < length marks → MayMark signals hands others other_hands old (set marks (get_or signals one 0) (get_or others two 0))
+may_more signals hands others other_hands old marks one two h l m same in' =
+    let s : ℕ = get_or signals one 0 in
+    let v : ℕ = get_or others two 0 in
+    record {
+      long = length-set marks s v ∙ h.long;
+      each = λ i. ⊎_elim
+          (λ (e : i ≡ s).
+          let at : get_or (set marks s v) i 0 ≡ v = ap (λ k. get_or (set marks s v) k 0) e ∙ get_or-set_same marks s v 0 in' in
+          inr (record { one = one; two = two; one_in = l; two_in = m; signal_is = sym e; mark_is = sym at; same = same }))
+          (λ ne.
+          let at : get_or (set marks s v) i 0 ≡ get_or marks i 0 = get_or-set_other marks s i v 0 ne in
+          subst (λ (x : ℕ). (x ≡ get_or old i 0) ⊎ IsMark signals hands others other_hands i x) (sym at) (h.each i))
+          (cases_eq i s);
+    }
+
+-- the place that a board's hands are kept for, among the boards
+pub record IsKnown (boards : List Board) (keys : List ℕ) (kind : Kind) : Type 0 where
+  pub within : kind.board < length boards
+  pub hands : (d : Board) → AreHands (get_or boards kind.board d) keys kind.hands.items
+
+-- marks so far: each signal is marked by one that is like it, and the kinds are those of boards
+pub record AreMarked (g : Game) (boards : List Board) (keys marks : List ℕ) (kinds : List Kind) (seen : HashMap (Vec ℕ) ℕ (BuildHasherDefault FoldHasher)) : Type 0 where
+  pub marks_are : AreMarks g keys marks
+  pub kept : KeepsKinds kinds seen
+  pub known : All (IsKnown boards keys) kinds
+
+pub themselves : (g : Game) (keys marks : List ℕ) → length marks ≡ last_count g → ((i : ℕ) → i < last_count g → get_or marks i 0 ≡ i) → AreMarks g keys marks
+themselves g keys marks long each = record { long = long; alike = λ i l. subst (AreAlike g keys i) (sym (each i l)) (alike_self g keys i) }
+
+pub like_known : (boards : List Board) (keys hands : List ℕ) (kinds : List Kind) (kind : ℕ) (like : Kind) → All (IsKnown boards keys) kinds → IsKindOf kinds kind hands → like ≡ get_or kinds kind like → IsKnown boards keys like
+like_known boards keys hands kinds kind like known of is = subst (IsKnown boards keys) (sym is) (known kind like of.within)
+
+-- a list that was written as a whole
+pub whole : (n : ℕ) (new old : List ℕ) → length new ≡ length old → length old ≡ n → take n (new ++ drop (length new) old) ≡ new
+whole n new old e f =
+    ap (λ (xs : List ℕ). take n (new ++ xs)) (drop_all (length new) old (omega (arith, e))) ∙ ap (take n) (append-nil new) ∙ take_all n new (omega (arith, e, f))
+
+-- the kinds after the board that is read at a place
+pub known_after : (boards read : List Board) (keys hands now : List ℕ) (place : ℕ) (board : Board) (kinds more : List Kind) → read ≡ boards → now ≡ hands → place < length read → board ≡ get_or read place board → AreHands board keys hands
+    → All (IsKnown boards keys) kinds → (more ≡ kinds) ⊎ HasMore kinds more place now → All (IsKnown boards keys) more
+known_after boards read keys hands now place board kinds more e f l at here all step = ⊎_elim
+    (λ same. subst (All (IsKnown boards keys)) (sym same) all)
+    (λ (m : HasMore kinds more place now).
+    let in' : place < length boards = subst (λ (bs : List Board). place < length bs) e l in
+    let is : board ≡ get_or boards place board = subst (λ (bs : List Board). board ≡ get_or bs place board) e at in
+    let P : ℕ → Type 0 = λ b. (d : Board) → AreHands (get_or boards b d) keys m.last.hands.items in
+    let each : (d : Board) → AreHands (get_or boards place d) keys m.last.hands.items = λ d.
+    let there : AreHands (get_or boards place d) keys hands = subst (λ (b : Board). AreHands b keys hands) (is ∙ get_or_default boards place board d in') here in
+    subst (AreHands (get_or boards place d) keys) (sym (m.hands_are ∙ f)) there in
+    let new : IsKnown boards keys m.last = record { within = subst (λ (b : ℕ). b < length boards) (sym m.board_is) in'; hands = subst P (sym m.board_is) each } in
+    subst (All (IsKnown boards keys)) (sym m.joined) (All-push (IsKnown boards keys) kinds m.last all new))
+    step
+
+-- the marks after a board
+pub marks_after : (g : Game) (by_rank : Bool) (boards : List Board) (keys : List ℕ) → ((i : ℕ) → i < last_count g → get_or keys i 0 < 4294967296) → All (IsBoard g by_rank) boards → (place kind : ℕ) (board other : Board) (like : Kind) (kinds : List Kind)
+    → (hands marks new : List ℕ) → place < length boards → board ≡ get_or boards place board → AreHands board keys hands → All (IsKnown boards keys) kinds → IsKindOf kinds kind hands → like ≡ get_or kinds kind like → other ≡ get_or boards like.board other
+    → AreMarks g keys marks → MayMark board.signals.items hands other.signals.items like.hands.items marks new → AreMarks g keys new
+marks_after g by_rank boards keys few each place kind board other like kinds hands marks new l is h known of like_is other_is m may =
+    let b : IsBoard g by_rank board = subst (IsBoard g by_rank) (sym is) (each place board l) in
+    let k : IsKnown boards keys like = like_known boards keys hands kinds kind like known of like_is in
+    let o : IsBoard g by_rank other = subst (IsBoard g by_rank) (sym other_is) (each like.board other k.within) in
+    let theirs : AreHands other keys like.hands.items = subst (λ (x : Board). AreHands x keys like.hands.items) (sym other_is) (k.hands other) in
+    let moved : IsPermutation like.hands.items hands = subst (λ (x : Kind). IsPermutation x.hands.items hands) (sym like_is) (of.same like) in
+    record {
+      long = may.long ∙ m.long;
+      alike = λ i in'. ⊎_elim
+          (λ (e : get_or new i 0 ≡ get_or marks i 0). subst (AreAlike g keys i) (sym e) (m.alike i in'))
+          (λ mark. mark_alike g by_rank keys few board other hands like.hands.items b o h theirs moved i (get_or new i 0) mark)
+          (may.each i);
+    }
+
+-- lists that are read through references
+pub may_read : (s h o k m signals hands others other_hands old marks : List ℕ) → s ≡ signals → h ≡ hands → o ≡ others → k ≡ other_hands → m ≡ old → MayMark s h o k m marks → MayMark signals hands others other_hands old marks
+may_read s h o k m signals hands others other_hands old marks a b d e f may =
+    subst (λ (x : List ℕ). MayMark signals hands others other_hands x marks) f (subst (λ (x : List ℕ). MayMark signals hands others x m marks) e
+    (subst (λ (x : List ℕ). MayMark signals hands x k m marks) d (subst (λ (x : List ℕ). MayMark signals x o k m marks) b (subst (λ (x : List ℕ). MayMark x h o k m marks) a may))))

@@ -1,0 +1,55 @@
+-- Boards: the last-round signals that show the same public cards, and their levels.
+use Rattle.std.specs.Prelude.{ℕ, ◌≡◌, ◌<◌, Bool, true, List, cond, count_by, filter, length, map, nat_eq, nat_lt, slice_index}
+use Rattle.std.specs.List.{All, range_with_len}
+use Rattle.gs_model.specs.Game.{Game, round_count}
+use Rattle.gs_model.specs.Outcome.{category}
+use Rattle.gs_model.specs.Signals.{signal_at, signals}
+use Rattle.gs_model.specs.ViewTree.{signal_strength}
+use Rattle.gs_tree.specs.Plain.{IsPlain}
+use Rattle.gs_tree.specs.Walk.{last_count, shows_same}
+use Rattle.gs_alike.specs.declared.board.Board.{Board}
+use Rattle.gs_alike.specs.declared.board.Seat.{Seat}
+
+-- the last-round signals that show the public cards of the one at a place
+abbrev pub signals_on : Game → ℕ → List ℕ
+signals_on g i = filter (shows_same g i) (range_with_len 0 (last_count g))
+
+-- the strengths of the last-round signals
+abbrev pub strengths_of : Game → List ℕ
+strengths_of g = map (signal_strength g) (signals g (round_count g))
+
+-- the strengths on the board of a last-round signal
+abbrev pub strengths_on : Game → ℕ → List ℕ
+strengths_on g i = map (slice_index (strengths_of g)) (signals_on g i)
+
+-- how many of some numbers are smaller than one
+abbrev pub smaller : ℕ → List ℕ → ℕ
+smaller a xs = count_by (λ x. nat_lt x a) xs
+
+-- for each of some numbers how many of them are smaller
+abbrev pub ranks_in : List ℕ → List ℕ
+ranks_in xs = map (λ a. smaller a xs) xs
+
+-- the level of a last-round signal: its strength, or how many on its board are weaker
+abbrev pub level_of : Game → Bool → ℕ → ℕ
+level_of g by_rank i = cond by_rank (smaller (slice_index (strengths_of g) i) (strengths_on g i)) (slice_index (strengths_of g) i)
+
+-- a last-round signal and the strength of its hand
+abbrev pub seat_of : Game → ℕ → Seat
+seat_of g i = record { strength = slice_index (strengths_of g) i; signal = i }
+
+-- the bonus of each last-round signal's category is 1
+abbrev pub PaysOnce : Game → Type 0
+PaysOnce g = (i : ℕ) → i < last_count g → slice_index g.bonus (category g.ranking (signal_strength g (signal_at g (round_count g) i))) ≡ 1
+
+-- two lists have each number as often
+abbrev pub HaveSame : List ℕ → List ℕ → Type 0
+HaveSame xs ys = (v : ℕ) → count_by (λ x. nat_eq x v) xs ≡ count_by (λ x. nat_eq x v) ys
+
+-- last-round signals, all that show the public cards of any one of them, with their levels
+pub record IsBoard (g : Game) (by_rank : Bool) (board : Board) : Type 0 where
+  pub plain : IsPlain g
+  pub once : by_rank ≡ true → PaysOnce g
+  pub within : All (λ signal. signal < last_count g) board.signals.items
+  pub signals : (i : ℕ) → i < length board.signals.items → HaveSame (signals_on g (slice_index board.signals.items i)) board.signals.items
+  pub levels : board.levels.items ≡ map (level_of g by_rank) board.signals.items

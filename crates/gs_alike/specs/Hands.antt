@@ -1,0 +1,45 @@
+-- Kinds of boards: those with the same hands.
+use Rattle.std.specs.Prelude.{ℕ, ◌≡◌, ◌<◌, ◌+◌, ◌*◌, ◌++◌, ◌∷◌, [], Bool, List, Some, get_or, length, nat_eq, slice_index}
+use Rattle.std.specs.Global.{Vec}
+use Rattle.std.specs.HashMap.{HashMap, get}
+use Rattle.std.specs.List.Sorted.{IsPermutation}
+use Rattle.std.specs.declared.hash.BuildHasherDefault.{BuildHasherDefault}
+use Rattle.std.specs.declared.hash.FoldHasher.{FoldHasher}
+use lib.Pointwise.{pointwise}
+use Rattle.gs_alike.specs.declared.board.Board.{Board}
+use Rattle.gs_alike.specs.declared.kinds.Kind.{Kind}
+
+-- for each signal of a board its hand: a number made of its level and its key
+pub record AreHands (board : Board) (keys hands : List ℕ) : Type 0 where
+  pub long : length hands ≡ length board.signals.items
+  pub each : (i : ℕ) → i < length board.signals.items → slice_index hands i ≡ slice_index board.levels.items i * 4294967296 + slice_index keys (slice_index board.signals.items i)
+
+-- the kind at a place has some hands, in some order
+pub record IsKindOf (kinds : List Kind) (kind : ℕ) (hands : List ℕ) : Type 0 where
+  pub within : kind < length kinds
+  pub same : (d : Kind) → IsPermutation (get_or kinds kind d).hands.items hands
+
+-- whether two rows of hands are the same
+abbrev pub row_eq : Vec ℕ → Vec ℕ → Bool
+row_eq row other = pointwise nat_eq row.items other.items
+
+-- the kinds that are kept for rows have the hands of the row
+abbrev pub KeepsKinds : List Kind → HashMap (Vec ℕ) ℕ (BuildHasherDefault FoldHasher) → Type 0
+KeepsKinds kinds seen = (row : Vec ℕ) (kind : ℕ) → get row_eq seen row ≡ Some kind → IsKindOf kinds kind row.items
+
+-- one more kind, with the hands of the board at a place
+pub record HasMore (kinds more : List Kind) (board : ℕ) (hands : List ℕ) : Type 0 where
+  pub last : Kind
+  pub joined : more ≡ kinds ++ last ∷ []
+  pub board_is : last.board ≡ board
+  pub hands_are : last.hands.items ≡ hands
+
+-- a signal of a board is marked by one of another board that has the same hand
+pub record IsMark (signals hands others other_hands : List ℕ) (signal mark : ℕ) : Type 0 where
+  pub one : ℕ
+  pub two : ℕ
+  pub one_in : one < length signals
+  pub two_in : two < length others
+  pub signal_is : slice_index signals one ≡ signal
+  pub mark_is : slice_index others two ≡ mark
+  pub same : slice_index hands one ≡ slice_index other_hands two
