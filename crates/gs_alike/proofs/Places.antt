@@ -1,16 +1,15 @@
 -- Signals of one level and key, on boards with the same hands, are alike.
-use Rattle.std.proofs.Common.{◌≡◌, ◌+◌, ◌*◌, ◌/◌, ◌%◌, ◌<◌, ◌≤◌, ◌∙◌, ℕ, ℤ, zero, suc, Bool, true, false, cond, eqb, nat_lt, List, [], ◌∷◌, get_or, map, refl, sym, ap, subst, arith, ⊎_elim}
-use Rattle.std.specs.Prelude.{◌&&◌, filter, slice_index, length}
+use Rattle.std.proofs.Common.{◌≡◌, ◌+◌, ◌*◌, ◌/◌, ◌%◌, ◌<◌, ◌≤◌, ◌∙◌, ℕ, ℤ, zero, suc, Bool, true, false, cond, eqb, nat_lt, List, ◌∷◌, get_or, map, refl, sym, ap, subst, arith}
+use Rattle.std.specs.Prelude.{◌&&◌, filter, length}
 use Rattle.std.specs.List.{range_with_len}
 use Rattle.std.specs.List.Sorted.{IsPermutation}
-use Rattle.std.proofs.lemmas.Bool.{cases_eq}
 use Rattle.std.proofs.lemmas.List.{ext_get_or, get_or-map, length-map}
 use Rattle.std.proofs.lemmas.Nat.{div-mul-add, mod-mul-add}
-use Rattle.std.proofs.lemmas.List.Sorted.{IsPermutation-cons, IsPermutation-map, IsPermutation-middle, IsPermutation-refl, IsPermutation-sym, IsPermutation-trans, sum_by-IsPermutation}
+use Rattle.std.proofs.lemmas.List.Sorted.{IsPermutation-map, IsPermutation-sym, IsPermutation-trans, sum_by-IsPermutation}
 use Rattle.gs_model.specs.Deals.{Deal}
 use Rattle.gs_model.specs.Game.{Game, round_count}
 use Rattle.gs_model.specs.Outcome.{outcome}
-use Rattle.gs_model.specs.Signals.{signal_at, signals}
+use Rattle.gs_model.specs.Signals.{signal_at}
 use Rattle.gs_model.specs.ViewTree.{signal_strength}
 use Rattle.gs_model.proofs.Multisets.{permuted_from_times, times, times-cons}
 use Rattle.gs_tree.specs.Walk.{deal_at, last_count, shows_same}

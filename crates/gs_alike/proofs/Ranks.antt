@@ -1,5 +1,5 @@
 -- Ranks in ascending numbers; ranks on a board tell outcomes where each bonus is 1, and strengths do everywhere.
-use Rattle.std.proofs.Common.{◌≡◌, ◌+◌, ◌<◌, ◌≤◌, ◌∙◌, ◌⊎◌, ℕ, ℤ, zero, suc, Bool, true, false, cond, nat_lt, List, [], ◌∷◌, ◌++◌, get_or, length, map, take, pos, neg_ℤ, refl, sym, ap, subst, arith, ⊎_elim}
+use Rattle.std.proofs.Common.{◌≡◌, ◌+◌, ◌<◌, ◌≤◌, ◌∙◌, ℕ, ℤ, zero, suc, Bool, true, false, cond, nat_lt, List, [], ◌∷◌, ◌++◌, get_or, length, map, take, pos, neg_ℤ, refl, sym, ap, subst, arith, ⊎_elim}
 use Rattle.std.specs.Prelude.{filter, slice_index}
 use Rattle.std.specs.List.{All, range_with_len}
 use Rattle.std.specs.List.Sorted.{IsNonDecreasing, IsPermutation}
@@ -12,8 +12,8 @@ use Rattle.gs_model.specs.Outcome.{IsBonus, categories, category, outcome}
 use Rattle.gs_model.specs.Signals.{signal_at, signals}
 use Rattle.gs_model.specs.ViewTree.{signal_outcome, signal_strength}
 use Rattle.gs_tree.specs.Walk.{last_count, shows_same}
-use Rattle.gs_tree.proofs.Same.{public_alike, public_self}
-use Rattle.gs_alike.specs.Boards.{PaysOnce, level_of, ranks_in, signals_on, smaller, strengths_of, strengths_on}
+use Rattle.gs_tree.proofs.Same.{public_self}
+use Rattle.gs_alike.specs.Boards.{PaysOnce, level_of, smaller, strengths_of, strengths_on}
 use Rattle.gs_alike.proofs.Seats.{one_board, shown_back}
 use Rattle.gs_alike.proofs.Taken.{but, taken_out}
 

@@ -15,7 +15,7 @@ use Rattle.gs_model.proofs.Multisets.{times}
 use Rattle.gs_tree.specs.Plain.{IsPlain}
 use Rattle.gs_tree.specs.Walk.{last_count, shows_same}
 use Rattle.gs_tree.proofs.Same.{public_alike, public_self}
-use Rattle.gs_alike.specs.Boards.{HaveSame, IsBoard, PaysOnce, level_of, ranks_in, seat_of, signals_on, smaller, strengths_of, strengths_on}
+use Rattle.gs_alike.specs.Boards.{HaveSame, IsBoard, PaysOnce, level_of, ranks_in, seat_of, signals_on, smaller, strengths_of}
 use Rattle.gs_alike.specs.declared.board.Board.{Board}
 use Rattle.gs_alike.specs.declared.board.Seat.{Seat}
 

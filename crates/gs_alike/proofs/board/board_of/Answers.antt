@@ -1,4 +1,4 @@
-use Rattle.std.proofs.Common.{◌≡◌, ◌<◌, ◌≤◌, ◌∙◌, ℕ, List, cond, length, map, subst, sym, ap, arith}
+use Rattle.std.proofs.Common.{◌≤◌, ◌∙◌, List, cond, length, map, subst, ap, arith}
 use Rattle.std.specs.List.Sorted.{IsPermutation}
 use Rattle.gs_model.specs.Game.{Game, round_count}
 use Rattle.gs_tree.specs.Trees.{rules_of}

@@ -1,4 +1,4 @@
-use Rattle.std.proofs.Common.{◌≡◌, ◌∙◌, ◌++◌, ◌∷◌, [], ◌≤◌, ◌+◌, ◌<◌, ℕ, List, ap, arith, get_or, length, map, subst, sym, take}
+use Rattle.std.proofs.Common.{◌∙◌, ◌++◌, ◌∷◌, [], ◌+◌, ◌<◌, ℕ, List, ap, arith, length, map, subst, sym}
 use Rattle.std.proofs.lemmas.List.{take_all}
 use Rattle.gs_alike.specs.Boards.{smaller}
 use Rattle.gs_alike.proofs.Ranks.{IsRanked, ranked_above, ranked_again, ranked_none}

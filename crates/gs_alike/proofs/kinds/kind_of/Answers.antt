@@ -1,8 +1,7 @@
-use Rattle.std.proofs.Common.{◌≡◌, ◌∙◌, ℕ, List, inr, refl, subst, sym, arith, length}
+use Rattle.std.proofs.Common.{◌∙◌, ℕ, List, inr, refl, subst, sym, arith}
 use Rattle.std.specs.Global.{Vec}
 use Rattle.std.specs.List.Sorted.{IsPermutation}
-use Rattle.std.proofs.lemmas.List.Sorted.{IsPermutation-sym}
-use Rattle.gs_alike.specs.Hands.{HasMore, IsKindOf, KeepsKinds}
+use Rattle.gs_alike.specs.Hands.{KeepsKinds}
 use Rattle.gs_alike.specs.declared.kinds.Kind.{Kind}
 use Rattle.gs_alike.proofs.Kept.{kept_more, kind_moved}
 use Rattle.gs_alike.proofs.kinds.kind_of.Goals as goal

@@ -1,4 +1,4 @@
-use Rattle.std.proofs.Common.{◌≡◌, ◌<◌, ℕ, List, arith, get_or, length, set, subst, sym, ap}
+use Rattle.std.proofs.Common.{◌<◌, ℕ, List, arith, get_or, length, subst, sym}
 use Rattle.gs_alike.proofs.Marked.{MayMark, may_more, may_none}
 use Rattle.gs_alike.proofs.marks.mark_board.Goals as goal
 use Rattle.gs_alike.proofs.marks.mark_board.Goals.{in-Some, in_default}

@@ -9,7 +9,7 @@ use Rattle.gs_alike.specs.Firsts.{AreMarks}
 use Rattle.gs_alike.specs.Hands.{AreHands, IsKindOf}
 use Rattle.gs_alike.specs.declared.board.Board.{Board}
 use Rattle.gs_alike.specs.declared.kinds.Kind.{Kind}
-use Rattle.gs_alike.proofs.Marked.{AreMarked, IsKnown, MayMark, known_after, like_known, marks_after, may_read, themselves, whole}
+use Rattle.gs_alike.proofs.Marked.{IsKnown, MayMark, known_after, like_known, marks_after, may_read, themselves, whole}
 use Rattle.gs_alike.proofs.standing.Boards.marks.Goals as goal
 
 pub index-other-requires : goal.index-other-requires

@@ -1,4 +1,4 @@
-use Rattle.std.proofs.Common.{◌≡◌, ◌∙◌, ℕ, List, ap}
+use Rattle.std.proofs.Common.{◌≡◌, ◌∙◌, ap}
 use Rattle.gs_model.specs.Game.{Game}
 use Rattle.gs_game.specs.declared.game.Game.{Game as Described}
 use Rattle.gs_game.specs.declared.valid.ValidGame.{ValidGame}
