@@ -9,7 +9,7 @@ ghost use Rattle.gs_lossless.specs.Amounts.{AreAmounts, HasSide, key_count, keys
 ghost use Rattle.gs_split.specs.Turns.{AreSettled, AreSideFirsts, AreSideNumbers, AreTurnNumbers};
 
 use crate::numbers::number_of;
-use gs_alike::stand_ins;
+use gs_alike::Boards;
 use gs_filter::Classes;
 use gs_lossless::{Part, Side, side_keys, side_sums};
 use gs_tree::Signals;
@@ -21,17 +21,19 @@ use std::alloc::{AllocError, Global};
 fn side_firsts(
     alloc: Global,
     signals: &Signals,
+    boards: &Boards<'_>,
     side: Side,
     round: u8,
     keys: &[u32],
 ) -> Result<Vec<u32>, AllocError>
+    requires boards { boards.now.signals.now ≡ signals.now }
     requires side { HasSide (frame_of (rules_of signals.now)) side round }
     requires all { length keys.now ≡ key_count (rules_of signals.now) side round }
     ensures { IfOk result (λ v. (lists : ClassLists) → keys.now ≡ keys_of (frame_of (rules_of signals.now)) lists side round
         → AreSideFirsts (frame_of (rules_of signals.now)) lists side round v.items) }
 {
     if round == signals.rounds() {
-        return stand_ins(alloc, signals, keys);
+        return boards.stand_ins(alloc, keys);
     }
     let count = signals.count(round);
     let mut firsts = Vec::with_capacity(alloc, count as usize)?;
@@ -92,17 +94,19 @@ fn wanted_sums(
 fn side_numbers(
     alloc: Global,
     signals: &Signals,
+    boards: &Boards<'_>,
     classes: &Classes,
     side: Side,
     round: u8,
 ) -> Result<Vec<u32>, AllocError>
+    requires boards { boards.now.signals.now ≡ signals.now }
     requires parents { classes.now.parents ≡ (frame_of (rules_of signals.now)).parents }
     requires side { HasSide (frame_of (rules_of signals.now)) side round }
     ensures { IfOk result (λ v. AreSideNumbers (frame_of (rules_of signals.now)) classes.now.lists side round v.items) }
 {
     let _rounds = classes.rounds();
     let keys = side_keys(alloc, signals, classes, side, round)?;
-    let firsts = side_firsts(alloc, signals, side, round, &keys)?;
+    let firsts = side_firsts(alloc, signals, boards, side, round, &keys)?;
     let settled = settled_classes(alloc, classes, round, &firsts)?;
     let count = signals.count(round);
     let mut seen = IndexSet::new(alloc);
@@ -127,17 +131,19 @@ fn side_numbers(
 pub(crate) fn turn_numbers(
     alloc: Global,
     signals: &Signals,
+    boards: &Boards<'_>,
     classes: &Classes,
     round: u8,
 ) -> Result<Vec<u32>, AllocError>
+    requires boards { boards.now.signals.now ≡ signals.now }
     requires parents { classes.now.parents ≡ (frame_of (rules_of signals.now)).parents }
     requires some { 0 < round }
     requires top { round ≤ last_round (frame_of (rules_of signals.now)) }
     ensures { IfOk result (λ v. AreTurnNumbers (frame_of (rules_of signals.now)) classes.now.lists round v.items) }
 {
     if round < signals.rounds() {
-        side_numbers(alloc, signals, classes, Side::Children, round)
+        side_numbers(alloc, signals, boards, classes, Side::Children, round)
     } else {
-        side_numbers(alloc, signals, classes, Side::Deals, round)
+        side_numbers(alloc, signals, boards, classes, Side::Deals, round)
     }
 }

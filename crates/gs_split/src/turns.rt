@@ -12,6 +12,7 @@ ghost use Rattle.gs_split.specs.Turns.{AreKnown, AreTurned, AreTurnNumbers, Have
 
 use crate::parts::turn_numbers;
 use crate::rounds::round_classes;
+use gs_alike::Boards;
 use gs_filter::Classes;
 use gs_tree::Signals;
 use std::alloc::{AllocError, Global};
@@ -40,10 +41,12 @@ fn last_classes(lists: &[Vec<u32>]) -> &[u32]
 fn round_numbers(
     alloc: Global,
     signals: &Signals,
+    boards: &Boards<'_>,
     classes: &Classes,
     round: u8,
     known: bool,
 ) -> Result<Vec<u32>, AllocError>
+    requires boards { boards.now.signals.now ≡ signals.now }
     requires parents { classes.now.parents ≡ (frame_of (rules_of signals.now)).parents }
     requires some { 0 < round }
     requires top { round ≤ last_round (frame_of (rules_of signals.now)) }
@@ -54,7 +57,7 @@ fn round_numbers(
     if known {
         vec![in alloc; 0; signals.count(round) as usize]
     } else {
-        turn_numbers(alloc, signals, classes, round)
+        turn_numbers(alloc, signals, boards, classes, round)
     }
 }
 
@@ -62,11 +65,13 @@ fn round_numbers(
 fn round_turn(
     alloc: Global,
     signals: &Signals,
+    boards: &Boards<'_>,
     classes: &Classes,
     round: u8,
     above: &[u32],
     known: bool,
 ) -> Result<Vec<u32>, AllocError>
+    requires boards { boards.now.signals.now ≡ signals.now }
     requires parents { classes.now.parents ≡ (frame_of (rules_of signals.now)).parents }
     requires some { 0 < round }
     requires top { round ≤ last_round (frame_of (rules_of signals.now)) }
@@ -77,7 +82,7 @@ fn round_turn(
     ensures { IfOk result (λ v. IsRoundTurn (frame_of (rules_of signals.now)) classes.now.lists above.now round v.items) }
 {
     let _rounds = classes.rounds();
-    let numbers = round_numbers(alloc, signals, classes, round, known)?;
+    let numbers = round_numbers(alloc, signals, boards, classes, round, known)?;
     let before = &classes.lists()[usize::from(round) - 1];
     round_classes(alloc, before, above, parents_in(signals, round), &numbers)
 }
@@ -86,9 +91,11 @@ fn round_turn(
 fn turn_lists(
     alloc: Global,
     signals: &Signals,
+    boards: &Boards<'_>,
     classes: &Classes,
     known: &[bool],
 ) -> Result<Vec<Vec<u32>>, AllocError>
+    requires boards { boards.now.signals.now ≡ signals.now }
     requires parents { classes.now.parents ≡ (frame_of (rules_of signals.now)).parents }
     requires known { AreKnown (frame_of (rules_of signals.now)) classes.now.lists known.now }
     ensures { IfOk result (λ v. AreTurned (frame_of (rules_of signals.now)) classes.now.lists (rows v.items)) }
@@ -97,7 +104,7 @@ fn turn_lists(
     for done in 0..signals.rounds() {
         let above = last_classes(&lists);
         let is_known = known[usize::from(done)];
-        let here = round_turn(alloc, signals, classes, done + 1, above, is_known)?;
+        let here = round_turn(alloc, signals, boards, classes, done + 1, above, is_known)?;
         lists.push(here)?;
     }
     Ok(lists)
@@ -108,14 +115,16 @@ fn turn_lists(
 pub(crate) fn turn(
     alloc: Global,
     signals: &Signals,
+    boards: &Boards<'_>,
     classes: &Classes,
     known: &[bool],
 ) -> Result<Classes, AllocError>
+    requires boards { boards.now.signals.now ≡ signals.now }
     requires parents { classes.now.parents ≡ (frame_of (rules_of signals.now)).parents }
     requires known { AreKnown (frame_of (rules_of signals.now)) classes.now.lists known.now }
     ensures parents { IfOk result (λ c. c.parents ≡ (frame_of (rules_of signals.now)).parents) }
     ensures turn { IfOk result (λ c. IsTurn (frame_of (rules_of signals.now)) classes.now.lists c.lists) }
 {
-    let lists = turn_lists(alloc, signals, classes, known)?;
+    let lists = turn_lists(alloc, signals, boards, classes, known)?;
     Classes::of_filter(alloc, signals.parents(), lists)
 }

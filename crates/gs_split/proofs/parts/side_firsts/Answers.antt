@@ -1,8 +1,11 @@
-use Rattle.std.proofs.Common.{◌≡◌, ◌∙◌, ◌≤◌, arith, length}
+use Rattle.std.proofs.Common.{◌≡◌, ◌∙◌, ◌≤◌, ap, arith, length, subst, sym}
 use Rattle.std.proofs.lemmas.Result.{IfOk-weaker}
 use Rattle.gs_model.specs.Frame.{frame_of}
 use Rattle.gs_model.specs.Game.{round_count}
 use Rattle.gs_tree.specs.Trees.{rules_of}
+use Rattle.gs_tree.specs.Walk.{last_count}
+use Rattle.gs_tree.specs.declared.signals.Signals.{Signals}
+use Rattle.gs_alike.specs.Alike.{AreStandIns}
 use Rattle.gs_lossless.proofs.Descent.{last_is, playable}
 use Rattle.gs_lossless.proofs.Scanned.{side_in}
 use Rattle.gs_split.proofs.Alike.{firsts_of_deals, firsts_of_themselves, last_keys}
@@ -11,12 +14,14 @@ use Rattle.gs_split.proofs.parts.side_firsts.Goals as goal
 pub stand_ins-requires : goal.stand_ins-requires
 stand_ins-requires c =
     last_keys (rules_of c.args.signals.now) c.args.side c.args.round (length c.args.keys.now) c.requires.side (c.if-round-rounds.true ∙ c.rounds.ensures.value) c.requires.all
+    ∙ ap (λ (s : Signals). last_count (rules_of s)) (sym c.requires.boards)
 
 pub returns-then-round-rounds : goal.returns-then-round-rounds
 returns-then-round-rounds c =
     let g = rules_of c.args.signals.now in
-    IfOk-weaker c.stand_ins.result _ _
-    (λ v h lists e. firsts_of_deals g (playable c.args.signals.now) c.args.side c.args.round c.requires.side (c.if-round-rounds.true ∙ c.rounds.ensures.value) lists c.args.keys.now v.items e h)
+    IfOk-weaker c.stand_ins.result (λ v. AreStandIns (rules_of c.args.boards.now.signals.now) c.args.keys.now v.items) _
+    (λ v h lists e. firsts_of_deals g (playable c.args.signals.now) c.args.side c.args.round c.requires.side (c.if-round-rounds.true ∙ c.rounds.ensures.value) lists c.args.keys.now v.items e
+    (subst (λ (s : Signals). AreStandIns (rules_of s) c.args.keys.now v.items) c.requires.boards h))
     c.stand_ins.ensures
 
 pub count-count-requires-clause-in_range : goal.count-count-requires-clause-in_range
