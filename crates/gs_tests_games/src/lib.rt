@@ -1,8 +1,10 @@
-//! Tests of betting trees, games and raw signals, through the public calls of `gs_bet`, `gs_game` and `gs_tree`.
+//! Tests of betting trees, games and raw signals, through the public calls of `gs_bet`, `gs_game`, `gs_tree` and `gs_boards`.
 #![tactic(auto)]
 
 #[cfg(test)]
 mod bets;
+#[cfg(test)]
+mod boards;
 #[cfg(test)]
 mod games;
 #[cfg(test)]
