@@ -1,5 +1,6 @@
 -- The plan that puts all on the moves of best totals is a plan.
-use Rattle.std.proofs.Common.{◌≡◌, ℕ, List, length, refl, sym, ap, ◌∙◌}
+use Rattle.std.proofs.Common.{◌≡◌, ℕ, List, length, refl, sym, ap, ◌∙◌, subst, Vec}
+use Rattle.std.specs.declared.alloc.Global.{Global}
 use Rattle.gs_model.specs.BestAnswers.{IsFirstBestPlan, Values}
 use Rattle.gs_model.specs.Classes.{ClassLists, IsClasses}
 use Rattle.gs_model.specs.Frame.{Frame, point_count}
@@ -7,10 +8,15 @@ use Rattle.gs_model.specs.FrameFacts.{InRange, IsWalked}
 use Rattle.gs_model.specs.Lossless.{IsLossless}
 use Rattle.gs_model.specs.Plans.{Plan, lift}
 use Rattle.gs_seq.specs.Slots.{IsPlan, plan_of, slot_count}
+use Rattle.gs_seq.specs.declared.plan.Plan.{Plan as KeptPlan}
 use Rattle.gs_best.specs.Puts.{ArePutBefore}
+use Rattle.gs_best.specs.Tables.{moves_of}
 use Rattle.gs_best.proofs.AllOn.{put_is_plan}
 use Rattle.gs_totals.specs.ClassTotals.{AreBestTotals}
+use Rattle.gs_totals.specs.Places.{totals_of}
 use Rattle.gs_totals.proofs.TotalAnswers.{chosen_is_best}
+use Rattle.gs_play.specs.Seats.{HasAnswered}
+use Rattle.gs_play.specs.declared.seats.Seat.{Seat}
 
 pub put_best : (f : Frame) → InRange f → (lists : ClassLists) → IsClasses f.parents lists → IsLossless f lists → (player : ℕ) → IsWalked f player → (y : Plan) (v : Values) (move : ℕ → ℕ → ℕ) (weights : List ℕ)
     → AreBestTotals f lists player y v move → ArePutBefore f lists player move weights (point_count f) → IsFirstBestPlan f lists player (lift f lists y) (plan_of f lists 1 weights)
@@ -23,3 +29,12 @@ put_plan f r lists k lossless player w y v move weights best puts long = put_is_
 -- answers with the same weights are the same plan
 pub same_plan : (f : Frame) (lists : ClassLists) (one two : ℕ) (xs ys : List ℕ) → one ≡ 1 → two ≡ 1 → xs ≡ ys → plan_of f lists one xs ≡ plan_of f lists two ys
 same_plan f lists one two xs ys e1 e2 same = ap (λ t. plan_of f lists t xs) (e1 ∙ sym e2) ∙ ap (plan_of f lists two) same
+
+-- a player's answer after some turns, by his best totals then
+pub known_on : (f : Frame) (lists : ClassLists) (player : ℕ) (z : Plan) (old new : Seat) → new.picks ≡ old.picks → new.answer ≡ old.answer → AreBestTotals f lists player z (totals_of f lists player z new.totals.points.items) (moves_of f lists old.picks.items)
+    → ArePutBefore f lists player (moves_of f lists old.picks.items) old.answer.weights.items (point_count f) → HasAnswered f lists player z new
+known_on f lists player z old new picks answer best puts = record {
+  best = subst (λ (v : Vec ℕ Global). AreBestTotals f lists player z (totals_of f lists player z new.totals.points.items) (moves_of f lists v.items)) (sym picks) best;
+  puts = subst (λ (p : KeptPlan). ArePutBefore f lists player (moves_of f lists new.picks.items) p.weights.items (point_count f)) (sym answer)
+      (subst (λ (v : Vec ℕ Global). ArePutBefore f lists player (moves_of f lists v.items) old.answer.weights.items (point_count f)) (sym picks) puts);
+}

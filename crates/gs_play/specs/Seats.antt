@@ -1,5 +1,5 @@
 -- What a player holds while the turns go on. Of private functions.
-use Rattle.std.specs.Prelude.{ℕ, ◌-◌, ◌≤◌, ◌≡◌, List, length}
+use Rattle.std.specs.Prelude.{ℕ, ◌-◌, ◌≤◌, ◌≡◌, IsTrue, List, length}
 use Rattle.gs_model.specs.Classes.{ClassLists}
 use Rattle.gs_model.specs.Frame.{Frame, point_count}
 use Rattle.gs_model.specs.Plans.{Plan as ModelPlan}
@@ -37,11 +37,13 @@ pub record HasRises (f : Frame) (lists : ClassLists) (player : ℕ) (b : ModelPl
   pub paid : AreEndSums f lists player b steps.ends.items
   pub followed : IsFollowed f lists player b (totals_of f lists player b steps.points.items) (moves_of f lists picks)
 
--- both players hold their plans after some turns: as many as a plan's total less one
+-- both players hold their plans after some turns, as many as a plan's total less one, and a player who says so has answered the other's plan already
 pub record ArePlaying (f : Frame) (lists : ClassLists) (one two : Seat) : Type 0 where
   pub plan_one : IsPlanOf f lists 1 one.plan
   pub plan_two : IsPlanOf f lists 2 two.plan
   pub seat_one : IsSeat f lists 1 (class_plan f lists two.plan) one
   pub seat_two : IsSeat f lists 2 (class_plan f lists one.plan) two
+  pub known_one : IsTrue one.is_answered → HasAnswered f lists 1 (class_plan f lists two.plan) one
+  pub known_two : IsTrue two.is_answered → HasAnswered f lists 2 (class_plan f lists one.plan) two
   pub total : two.plan.total ≡ one.plan.total
   pub played : IsFictitiousPlay f lists (one.plan.total - 1) (class_plan f lists one.plan) (class_plan f lists two.plan)

@@ -1,6 +1,6 @@
 //! What each player holds while the turns go on.
 
-ghost use Rattle.std.specs.Prelude.{◌≡◌, ◌↔◌, IsTrue, ◌-◌, ◌+◌, ◌*◌, ◌<◌, ◌≤◌, ◌^◌, ℕ, IfOk, pos, get_or, length};
+ghost use Rattle.std.specs.Prelude.{◌≡◌, ◌↔◌, IsTrue, false, ◌+◌, ◌<◌, ◌≤◌, ◌^◌, IfOk, length};
 ghost use Rattle.gs_filter.specs.Filter.{IsSound};
 ghost use Rattle.gs_model.specs.Classes.{IsClass};
 ghost use Rattle.gs_model.specs.Frame.{end_count, other_player, point_count, round_of};
@@ -12,9 +12,9 @@ ghost use Rattle.gs_seq.specs.Slots.{plan_of, slot_count};
 ghost use Rattle.gs_best.specs.Puts.{ArePutBefore};
 ghost use Rattle.gs_best.specs.Tables.{moves_of, start_of};
 ghost use Rattle.gs_totals.specs.ClassTotals.{AreBestTotals};
-ghost use Rattle.gs_totals.specs.Jumps.{AreBeforeChange, line};
+ghost use Rattle.gs_totals.specs.Jumps.{AreBeforeChange};
 ghost use Rattle.gs_totals.specs.KeptSums.{AreAlike, plus_times};
-ghost use Rattle.gs_totals.specs.Places.{AreEndSums, AreInMoves, AreSmallRows, end_start, totals_of};
+ghost use Rattle.gs_totals.specs.Places.{AreEndLines, AreEndSums, AreInMoves, ArePointLines, AreSmallPoints, AreSmallRows, totals_of};
 ghost use Rattle.gs_totals.specs.Room.{HasRows, HasScratch, IsPlaced};
 ghost use Rattle.gs_play.specs.Seats.{HasAnswered, HasRises, HasRoom, IsSeat};
 ghost use Rattle.gs_play.specs.Staying.{AnswerStays};
@@ -23,8 +23,8 @@ use crate::adding::add_times;
 use gs_best::{Deviator, round_total};
 use gs_seq::{Abstract, Plan};
 use gs_totals::{
-    Course, Places, Scratch, Totals, advance, fill, follow, lasting, picks_for, put_all, read_ends,
-    renew_ends,
+    Course, Places, Scratch, Totals, advance, advance_points, fill, follow, lasting, picks_for,
+    put_all, read_ends, renew_ends,
 };
 use std::alloc::{AllocError, Global};
 use std::mem::swap;
@@ -38,6 +38,8 @@ pub(crate) struct Seat {
     pub(crate) next: Vec<u64>,
     pub(crate) totals: Totals,
     pub(crate) picks: Vec<u8>,
+    // whether all this is known already against the other's plan as it stands
+    pub(crate) is_answered: bool,
 }
 
 /// A player with the plan that takes the first move everywhere.
@@ -47,6 +49,7 @@ pub(crate) fn seat_of(alloc: Global, form: &Abstract, player: u8) -> Result<Seat
     ensures room { IfOk result (HasRoom (frame_of form.now) (lists_of form.now) player) }
     ensures plan { IfOk result (λ s. IsPlanOf (frame_of form.now) (lists_of form.now) player s.plan) }
     ensures first { IfOk result (λ s. IsFirstMoves (frame_of form.now) (lists_of form.now) player (class_plan (frame_of form.now) (lists_of form.now) s.plan)) }
+    ensures open { IfOk result (λ s. s.is_answered ≡ false) }
 {
     let plan = form.first_plan(alloc, player)?;
     let answer = form.first_plan(alloc, player)?;
@@ -59,6 +62,7 @@ pub(crate) fn seat_of(alloc: Global, form: &Abstract, player: u8) -> Result<Seat
         next,
         totals,
         picks,
+        is_answered: false,
     })
 }
 
@@ -81,6 +85,7 @@ pub(crate) fn begin(
     ensures scratch { HasScratch (frame_of form.now) (lists_of form.now) scratch.new }
     ensures seat { IsSeat (frame_of form.now) (lists_of form.now) player (class_plan (frame_of form.now) (lists_of form.now) other.now) seat.new }
     ensures plan { seat.new.plan ≡ seat.old.plan }
+    ensures open { seat.new.is_answered ≡ seat.old.is_answered }
 {
     let side = Deviator {
         form,
@@ -134,7 +139,7 @@ fn is_same(first: &[u64], second: &[u64]) -> bool
 }
 
 /// Finds a player's best answer to the other's plan, and says whether it is the same one as before.
-pub(crate) fn answer(
+fn answer_anew(
     form: &Abstract,
     player: u8,
     places: &Places,
@@ -168,6 +173,35 @@ pub(crate) fn answer(
     );
     swap(&mut seat.next, &mut seat.answer.weights);
     is_same(&seat.next, &seat.answer.weights)
+}
+
+/// Finds a player's best answer to the other's plan where it is not known yet, and says whether it is the same one as before.
+pub(crate) fn answer(
+    form: &Abstract,
+    player: u8,
+    places: &Places,
+    seat: &mut Seat,
+    other: &Plan,
+    scratch: &mut Scratch,
+) -> bool
+    requires some { 0 < player }
+    requires two { player ≤ 2 }
+    requires placed { IsPlaced (frame_of form.now) (lists_of form.now) places.now }
+    requires seat { IsSeat (frame_of form.now) (lists_of form.now) player (class_plan (frame_of form.now) (lists_of form.now) other.now) seat.old }
+    requires known { IsTrue seat.old.is_answered → HasAnswered (frame_of form.now) (lists_of form.now) player (class_plan (frame_of form.now) (lists_of form.now) other.now) seat.old }
+    requires other { IsPlanOf (frame_of form.now) (lists_of form.now) (other_player player) other.now }
+    requires scratch { HasScratch (frame_of form.now) (lists_of form.now) scratch.old }
+    ensures scratch { HasScratch (frame_of form.now) (lists_of form.now) scratch.new }
+    ensures seat { IsSeat (frame_of form.now) (lists_of form.now) player (class_plan (frame_of form.now) (lists_of form.now) other.now) seat.new }
+    ensures answered { HasAnswered (frame_of form.now) (lists_of form.now) player (class_plan (frame_of form.now) (lists_of form.now) other.now) seat.new }
+    ensures plan { seat.new.plan ≡ seat.old.plan }
+    ensures same { IsTrue result → seat.new.answer.weights.items ≡ seat.old.answer.weights.items }
+    ensures next { result ≡ false → seat.new.next.items ≡ seat.old.answer.weights.items }
+{
+    if seat.is_answered {
+        return true;
+    }
+    answer_anew(form, player, places, seat, other, scratch)
 }
 
 /// Reads what the other's first answer pays a player each turn.
@@ -214,8 +248,8 @@ pub(crate) fn renew(
     requires before { length other.now.next.items ≡ slot_count (frame_of form.now) (lists_of form.now) (other_player player) }
     requires rows { HasRows (frame_of form.now) (lists_of form.now) steps.old }
     requires scratch { HasScratch (frame_of form.now) (lists_of form.now) scratch.old }
-    requires paid { AreEndSums (frame_of form.now) (lists_of form.now) player (plan_of (frame_of form.now) (lists_of form.now) other.now.answer.total other.now.next.items) steps.old.ends.items }
-    requires kept { IsTrue same → other.now.next.items ≡ other.now.answer.weights.items }
+    requires kept { IsTrue same → AreEndSums (frame_of form.now) (lists_of form.now) player (class_plan (frame_of form.now) (lists_of form.now) other.now.answer) steps.old.ends.items }
+    requires paid { same ≡ false → AreEndSums (frame_of form.now) (lists_of form.now) player (plan_of (frame_of form.now) (lists_of form.now) other.now.answer.total other.now.next.items) steps.old.ends.items }
     ensures scratch { HasScratch (frame_of form.now) (lists_of form.now) scratch.new }
     ensures rows { HasRows (frame_of form.now) (lists_of form.now) steps.new }
     ensures paid { AreEndSums (frame_of form.now) (lists_of form.now) player (class_plan (frame_of form.now) (lists_of form.now) other.now.answer) steps.new.ends.items }
@@ -332,6 +366,10 @@ pub(crate) fn stays(
     ensures paid { AreEndSums (frame_of form.now) (lists_of form.now) player (class_plan (frame_of form.now) (lists_of form.now) more.now) steps.new.ends.items }
     ensures stays { let f = frame_of form.now in let lists = lists_of form.now in
         AnswerStays f lists player (class_plan f lists other.now) (class_plan f lists more.now) (class_plan f lists seat.now.answer) result }
+    ensures rises { 1 < result → HasRises (frame_of form.now) (lists_of form.now) player (class_plan (frame_of form.now) (lists_of form.now) more.now) seat.now.picks.items steps.new }
+    ensures lasts { let f = frame_of form.now in let lists = lists_of form.now in
+        1 < result → AreBeforeChange f lists player (totals_of f lists player (class_plan f lists other.now) seat.now.totals.points.items)
+        (totals_of f lists player (class_plan f lists more.now) steps.new.points.items) (moves_of f lists seat.now.picks.items) result }
     ensures most { result ≤ times }
     ensures some { 0 < result }
 {
@@ -345,7 +383,35 @@ pub(crate) fn stays(
     )
 }
 
-/// Adds a player's answer to his plan so many times, and to his totals what the other's answer adds each time.
+/// Adds to a player's totals so many times what each turn adds: to what ends pay, and where his choices last longer to the totals of points as well.
+fn advance_totals(
+    form: &Abstract,
+    places: &Places,
+    totals: &mut Totals,
+    steps: &Totals,
+    times: u32,
+    lasts: u32,
+)
+    requires placed { IsPlaced (frame_of form.now) (lists_of form.now) places.now }
+    requires rows { HasRows (frame_of form.now) (lists_of form.now) totals.old }
+    requires step_rows { HasRows (frame_of form.now) (lists_of form.now) steps.now }
+    requires small { AreSmallRows (frame_of form.now) (lists_of form.now) totals.old.ends.items }
+    requires small_steps { AreSmallRows (frame_of form.now) (lists_of form.now) steps.now.ends.items }
+    requires small_points { times < lasts → AreSmallPoints (frame_of form.now) (lists_of form.now) totals.old.points.items }
+    requires small_slopes { times < lasts → AreSmallPoints (frame_of form.now) (lists_of form.now) steps.now.points.items }
+    requires few { times ≤ 2 ^ 20 }
+    ensures rows { HasRows (frame_of form.now) (lists_of form.now) totals.new }
+    ensures lines { AreEndLines (frame_of form.now) (lists_of form.now) totals.old.ends.items steps.now.ends.items times totals.new.ends.items }
+    ensures points { times < lasts → ArePointLines (frame_of form.now) (lists_of form.now) totals.old.points.items steps.now.points.items times totals.new.points.items }
+{
+    advance(form, places, totals, steps, times);
+    if times < lasts {
+        advance_points(form, places, totals, steps, times);
+    }
+}
+
+/// Adds a player's answer to his plan so many times, and to his totals what the other's answer adds each time; where his choices last for more turns,
+/// his answer is known after them.
 pub(crate) fn move_on(
     form: &Abstract,
     player: u8,
@@ -353,6 +419,7 @@ pub(crate) fn move_on(
     seat: &mut Seat,
     steps: &Totals,
     times: u32,
+    lasts: u32,
 )
     requires some { 0 < player }
     requires two { player ≤ 2 }
@@ -363,19 +430,22 @@ pub(crate) fn move_on(
     requires rows { HasRows (frame_of form.now) (lists_of form.now) steps.now }
     requires small { AreSmallRows (frame_of form.now) (lists_of form.now) seat.old.totals.ends.items }
     requires small_steps { AreSmallRows (frame_of form.now) (lists_of form.now) steps.now.ends.items }
+    requires small_points { times < lasts → AreSmallPoints (frame_of form.now) (lists_of form.now) seat.old.totals.points.items }
+    requires small_slopes { times < lasts → AreSmallPoints (frame_of form.now) (lists_of form.now) steps.now.points.items }
     requires few { times ≤ 2 ^ 20 }
     ensures room { HasRoom (frame_of form.now) (lists_of form.now) player seat.new }
     ensures answer { seat.new.answer ≡ seat.old.answer }
+    ensures picks { seat.new.picks ≡ seat.old.picks }
     ensures player { seat.new.plan.player ≡ seat.old.plan.player }
     ensures total { seat.new.plan.total ≡ seat.old.plan.total + times }
     ensures long { length seat.new.plan.weights.items ≡ slot_count (frame_of form.now) (lists_of form.now) player }
     ensures sum { let f = frame_of form.now in let lists = lists_of form.now in
         AreAlike f lists player (class_plan f lists seat.new.plan) (plus_times (class_plan f lists seat.old.plan) times (class_plan f lists seat.old.answer)) }
-    ensures lines { let f = frame_of form.now in let lists = lists_of form.now in
-        (z c : ℕ) → z < end_count f → IsClass lists (round_of f (at_end z)) c
-        → get_or seat.new.totals.ends.items (end_start f lists z + (c - 1)) (pos 0)
-        ≡ line (get_or seat.old.totals.ends.items (end_start f lists z + (c - 1)) (pos 0)) (get_or steps.now.ends.items (end_start f lists z + (c - 1)) (pos 0)) times }
+    ensures lines { AreEndLines (frame_of form.now) (lists_of form.now) seat.old.totals.ends.items steps.now.ends.items times seat.new.totals.ends.items }
+    ensures lasting { IsTrue seat.new.is_answered → times < lasts }
+    ensures points { times < lasts → ArePointLines (frame_of form.now) (lists_of form.now) seat.old.totals.points.items steps.now.points.items times seat.new.totals.points.items }
 {
-    advance(form, places, &mut seat.totals, steps, times);
+    advance_totals(form, places, &mut seat.totals, steps, times, lasts);
     add_times(form, player, &mut seat.plan, &seat.answer, times);
+    seat.is_answered = times < lasts;
 }

@@ -12,21 +12,14 @@ use Rattle.gs_model.specs.Plans.{Plan}
 use Rattle.gs_model.specs.Positions.{at_point}
 use Rattle.gs_best.specs.Tables.{start_of}
 use Rattle.gs_best.specs.declared.deviator.Deviator.{Deviator}
-use Rattle.gs_totals.specs.ClassTotals.{IsFollowed, total_worth}
+use Rattle.gs_totals.specs.ClassTotals.{total_worth}
 use Rattle.gs_totals.specs.Courses.{StaysBehind, frame_in, lists_in, moves_chosen, totals_added, totals_now}
 use Rattle.gs_totals.specs.Lasting.{AreBehind, IsBehind, IsNotAhead, IsWithinGap}
 use Rattle.gs_totals.specs.Merged.{AreModestFrom, AreWorths}
-use Rattle.gs_totals.specs.Places.{IsFollowedFrom}
 use Rattle.gs_totals.specs.declared.course.Course.{Course}
 use Rattle.gs_totals.proofs.Behind.{behind_same}
 use Rattle.gs_totals.proofs.Known.{known_modest, worth_modest}
-
-from_some : (f : Frame) (lists : ClassLists) (player : ℕ) (y : Plan) (v : Values) (move : ℕ → ℕ → ℕ) (from : ℕ) → IsFollowed f lists player y v move → IsFollowedFrom f lists player v move from
-from_some f lists player y v move from h = record {
-  in_range = λ q c lo. h.in_range q c;
-  reached = λ q c lo. h.reached q c;
-  at_others = λ q c lo. h.at_others q c;
-}
+use Rattle.gs_totals.proofs.Stepping.{from_some}
 
 abbrev pub now_side : Course → Deviator
 now_side k = record { form = k.form; player = k.player; other = k.other; some = k.some; two = k.two; plan = k.plan }

@@ -1,7 +1,8 @@
 -- In its own round a class gathers itself alone.
-use Rattle.std.proofs.Common.{◌≡◌, ℕ, ◌+◌, ◌-◌, ◌<◌, ◌≤◌, Bool, true, false, cond, List, get_or, refl, sym, ap, ◌∙◌, arith, eqb}
+use Rattle.std.proofs.Common.{◌≡◌, ℕ, ◌+◌, ◌-◌, ◌<◌, ◌≤◌, Bool, true, false, cond, List, drop, get_or, take, refl, sym, ap, ◌∙◌, arith, eqb}
 use Rattle.std.specs.Prelude.{◌==◌, ℤ, pos}
 use Rattle.std.proofs.lemmas.Bool.Decides.{Decides-eqb, same_from_decides}
+use Rattle.std.proofs.lemmas.List.{get_or-drop, get_or-take}
 use Rattle.gs_model.specs.Classes.{ClassLists, IsClass, IsClasses, class_count, class_of, classes_in, first_member}
 use Rattle.gs_model.specs.Frame.{Frame, last_round}
 use Rattle.gs_model.specs.FrameFacts.{InRange}
@@ -30,10 +31,11 @@ gathered_itself f r lists k i c v some top lc =
     ap (λ n. cond (n == c) (v e) (pos 0)) above ∙ ap (λ b. cond b (v e) (pos 0)) (turn e c) ∙ picked (eqb c e) (v e) (v c) (λ t. ap v (sym ((Decides-eqb c e).0 t))))
     ∙ pick_one (eqb c) (v c) (classes_in lists i) (range_once c 1 (class_count lists i) lc.0 (let top_c = lc.1 in omega arith))
 
--- so a row that is copied from its own round is gathered
-pub copied_gathers : (f : Frame) → InRange f → (lists : ClassLists) → IsClasses f.parents lists → (from to : ℕ) → from ≡ to → 0 < to → to ≤ last_round f → (values : List ℤ) (start : ℕ) (sums : List ℤ)
-    → ((k : ℕ) → k < class_count lists to → get_or sums k (pos 0) ≡ get_or values (start + k) (pos 0)) → AreGathered f lists from to values start sums
-copied_gathers f r lists k from to same some top values start sums copied c lc =
-    let inside : c - 1 < class_count lists to = omega (arith, lc.0, lc.1) in
-    copied (c - 1) inside ∙ sym (gathered_itself f r lists k to c (row_from values start) some top lc)
+-- so a row of its own round is gathered as it stands in its list
+pub row_gathers : (f : Frame) → InRange f → (lists : ClassLists) → IsClasses f.parents lists → (from to : ℕ) → from ≡ to → 0 < to → to ≤ last_round f → (values : List ℤ) (start count : ℕ) → count ≡ class_count lists to
+    → AreGathered f lists from to values start (take (start + count - start) (drop start values))
+row_gathers f r lists k from to same some top values start count all c lc =
+    let inside : c - 1 < start + count - start = omega (arith, lc.0, lc.1, all) in
+    get_or-take (start + count - start) (drop start values) (c - 1) (pos 0) inside ∙ get_or-drop start values (c - 1) (pos 0)
+    ∙ sym (gathered_itself f r lists k to c (row_from values start) some top lc)
     ∙ ap (λ i. gathered f lists i to (row_from values start) c) (sym same)

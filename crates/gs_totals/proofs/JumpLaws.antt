@@ -8,14 +8,15 @@ use Rattle.std.proofs.lemmas.Bool.{cases_eq, cases_lt}
 use Rattle.std.proofs.lemmas.Int.{ints}
 use borrow.Author.Differences.{up, down, le_out}
 use Rattle.gs_model.specs.BestAnswers.{Values}
-use Rattle.gs_model.specs.Classes.{ClassLists, IsClasses, classes_in}
-use Rattle.gs_model.specs.Frame.{Frame, choices_at, leads_to, move_count, other_player, payoff_to, round_of}
-use Rattle.gs_model.specs.FrameFacts.{InRange, IsWalked}
+use Rattle.gs_model.specs.Classes.{ClassLists, IsClass, IsClasses, class_count, classes_in}
+use Rattle.gs_model.specs.Frame.{Frame, choices_at, leads_to, move_count, other_player, payoff_to, point_count, round_of}
+use Rattle.gs_model.specs.FrameFacts.{InRange, IsInside, IsWalked}
 use Rattle.gs_model.specs.Plans.{Plan}
-use Rattle.gs_model.specs.Positions.{at_end, at_point}
+use Rattle.gs_model.specs.Positions.{Target, at_end, at_point}
 use Rattle.gs_model.specs.Sums.{sum_z}
 use Rattle.gs_model.proofs.Total.{mul-add_right, mul-le, sum_z-add, sum_z-mul, sum_z-same}
 use Rattle.gs_seq.specs.Payoffs.{end_sum}
+use Rattle.gs_best.proofs.Ranges.{sum_same}
 use Rattle.gs_totals.specs.ClassTotals.{AreBestTotals, IsFollowed, class_above, gathered, total_worth}
 use Rattle.gs_totals.specs.Jumps.{AreBeforeChange, IsBeforeChange, line, tables_after}
 use Rattle.gs_totals.specs.KeptSums.{AreAlike, plus_times}
@@ -167,3 +168,31 @@ best_alike f r lists k player w x y a v move h = record {
   };
   greatest = h.greatest;
 }
+
+-- tables that agree at all positions are best alike
+module _ (f : Frame) (lists : ClassLists) (player : ℕ) (walked : IsWalked f player) (v w : Values) (same : (t : Target) (c : ℕ) → IsInside f t → IsClass lists (round_of f t) c → w t c ≡ v t c) where
+  same_worth : (q m c : ℕ) → q < point_count f → m < move_count f q → total_worth f lists w q m c ≡ total_worth f lists v q m c
+  same_worth q m c lq lm =
+      let t = leads_to f q m in
+      let j = round_of f (at_point q) in
+      let i = round_of f t in
+      sum_same (λ k. cond (class_above f lists i j k == c) (w t k) (pos 0)) (λ k. cond (class_above f lists i j k == c) (v t k) (pos 0)) 1 (class_count lists i)
+      (λ k a b. ap (λ x. cond (class_above f lists i j k == c) x (pos 0)) (same t k (walked.inside q m lq lm) (omega arith, omega arith)))
+
+  pub best_same : (y : Plan) (move : ℕ → ℕ → ℕ) → AreBestTotals f lists player y v move → AreBestTotals f lists player y w move
+  best_same y move h = record {
+    followed = record {
+      at_ends = λ z c lz lc. same (at_end z) c lz lc ∙ h.followed.at_ends z c lz lc;
+      in_range = h.followed.in_range;
+      reached = λ q c lq own lc. same (at_point q) c lq lc ∙ h.followed.reached q c lq own lc ∙ sym (same_worth q (move q c) c lq (h.followed.in_range q c lq own lc));
+      at_others = λ q c lq other lc.
+          same (at_point q) c lq lc ∙ h.followed.at_others q c lq other lc
+          ∙ sym (sum_same (λ m. total_worth f lists w q m c) (λ m. total_worth f lists v q m c) 0 (move_count f q) (λ m a b. same_worth q m c lq (omega arith)));
+    };
+    greatest = record {
+      none_more = λ q m c lq own lm lc. let a = h.greatest.none_more q m c lq own lm lc in let e = same_worth q m c lq lm in let g = same (at_point q) c lq lc in omega (arith, ints, a, e, g);
+      none_before = λ q m c lq own lc lm.
+          let inr = h.followed.in_range q c lq own lc in
+          let a = h.greatest.none_before q m c lq own lc lm in let e = same_worth q m c lq (omega (arith, lm, inr)) in let g = same (at_point q) c lq lc in omega (arith, ints, a, e, g);
+    };
+  }

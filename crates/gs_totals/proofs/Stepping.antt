@@ -44,6 +44,14 @@ all_followed f lists player y values move h = record {
   at_others = λ q c. h.at_others q c (omega arith);
 }
 
+-- and from any point on
+pub from_some : (f : Frame) (lists : ClassLists) (player : ℕ) (y : Plan) (v : Values) (move : ℕ → ℕ → ℕ) (from : ℕ) → IsFollowed f lists player y v move → IsFollowedFrom f lists player v move from
+from_some f lists player y v move from h = record {
+  in_range = λ q c lo. h.in_range q c;
+  reached = λ q c lo. h.reached q c;
+  at_others = λ q c lo. h.at_others q c;
+}
+
 pub all_best : (f : Frame) (lists : ClassLists) (player : ℕ) (y : Plan) (values : List ℤ) (move : ℕ → ℕ → ℕ) → AreBestFrom f lists player (totals_of f lists player y values) move 0 → AreBestTotals f lists player y (totals_of f lists player y values) move
 all_best f lists player y values move h = record {
   followed = all_followed f lists player y values move h.followed;

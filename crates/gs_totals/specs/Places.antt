@@ -10,6 +10,7 @@ use Rattle.gs_model.specs.Sums.{sum_z}
 use Rattle.gs_seq.specs.Payoffs.{end_classes, end_sum}
 use Rattle.gs_best.specs.Tables.{start_of}
 use Rattle.gs_totals.specs.ClassTotals.{total_worth}
+use Rattle.gs_totals.specs.Jumps.{line}
 
 -- the place of an end's first class
 abbrev pub end_start : Frame → ClassLists → ℕ → ℕ
@@ -51,3 +52,19 @@ AreInMoves f lists player move = (q c : ℕ) → q < point_count f → player_at
 -- the numbers of all ends are below 2^90 in size
 abbrev pub AreSmallRows : Frame → ClassLists → List ℤ → Type 0
 AreSmallRows f lists sums = (z c : ℕ) → z < end_count f → IsClass lists (round_of f (at_end z)) c → unsigned_abs (get_or sums (end_start f lists z + (c - 1)) (pos 0)) < 2 ^ 90
+
+-- the numbers of all points are below 2^90 in size
+abbrev pub AreSmallPoints : Frame → ClassLists → List ℤ → Type 0
+AreSmallPoints f lists values = (q c : ℕ) → q < point_count f → IsClass lists (round_of f (at_point q)) c → unsigned_abs (get_or values (start_of f lists q + (c - 1)) (pos 0)) < 2 ^ 90
+
+-- the numbers of all ends have so many times those of a second list added
+abbrev pub AreEndLines : Frame → ClassLists → List ℤ → List ℤ → ℕ → List ℤ → Type 0
+AreEndLines f lists old steps times new =
+    (z c : ℕ) → z < end_count f → IsClass lists (round_of f (at_end z)) c
+    → get_or new (end_start f lists z + (c - 1)) (pos 0) ≡ line (get_or old (end_start f lists z + (c - 1)) (pos 0)) (get_or steps (end_start f lists z + (c - 1)) (pos 0)) times
+
+-- the numbers of all points have so many times those of a second list added
+abbrev pub ArePointLines : Frame → ClassLists → List ℤ → List ℤ → ℕ → List ℤ → Type 0
+ArePointLines f lists old steps times new =
+    (q c : ℕ) → q < point_count f → IsClass lists (round_of f (at_point q)) c
+    → get_or new (start_of f lists q + (c - 1)) (pos 0) ≡ line (get_or old (start_of f lists q + (c - 1)) (pos 0)) (get_or steps (start_of f lists q + (c - 1)) (pos 0)) times

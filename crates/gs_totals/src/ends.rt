@@ -8,7 +8,7 @@ ghost use Rattle.gs_seq.specs.Abstracts.{frame_of, lists_of};
 ghost use Rattle.gs_seq.specs.Plans.{class_plan};
 ghost use Rattle.gs_best.specs.Sizes.{IsWide};
 ghost use Rattle.gs_totals.specs.Jumps.{line};
-ghost use Rattle.gs_totals.specs.Places.{AreEndSums, AreSmallRows, end_start};
+ghost use Rattle.gs_totals.specs.Places.{AreEndLines, AreEndSums, AreSmallRows, end_start};
 ghost use Rattle.gs_totals.specs.Room.{HasRows, HasScratch, IsPlaced};
 
 use crate::paying::read_end;
@@ -54,7 +54,7 @@ fn advanced(sum: i128, step: i128, times: u32) -> i128
 }
 
 /// Adds to so many numbers, from a place on, so many times the numbers of another list; the rest is as it was.
-fn advance_row(sums: &mut [i128], steps: &[i128], start: usize, count: usize, times: u32)
+pub(crate) fn advance_row(sums: &mut [i128], steps: &[i128], start: usize, count: usize, times: u32)
     requires sums { start + count ≤ length sums.old }
     requires steps { start + count ≤ length steps.now }
     requires small { (k : ℕ) → k < count → unsigned_abs (get_or sums.old (start + k) (pos 0)) < 2 ^ 90 }
@@ -77,9 +77,7 @@ fn advance_all(form: &Abstract, places: &Places, sums: &mut [i128], steps: &[i12
     requires small { AreSmallRows (frame_of form.now) (lists_of form.now) sums.old }
     requires small_steps { AreSmallRows (frame_of form.now) (lists_of form.now) steps.now }
     requires few { times ≤ 2 ^ 20 }
-    ensures { let f = frame_of form.now in let lists = lists_of form.now in
-        (z c : ℕ) → z < end_count f → IsClass lists (round_of f (at_end z)) c
-        → get_or sums.new (end_start f lists z + (c - 1)) (pos 0) ≡ line (get_or sums.old (end_start f lists z + (c - 1)) (pos 0)) (get_or steps.now (end_start f lists z + (c - 1)) (pos 0)) times }
+    ensures { AreEndLines (frame_of form.now) (lists_of form.now) sums.old steps.now times sums.new }
 {
     let _rounds = round_total(form);
     for end in 0..end_total(form) {
@@ -98,10 +96,8 @@ pub fn advance(form: &Abstract, places: &Places, totals: &mut Totals, steps: &To
     requires small_steps { AreSmallRows (frame_of form.now) (lists_of form.now) steps.now.ends.items }
     requires few { times ≤ 2 ^ 20 }
     ensures rows { HasRows (frame_of form.now) (lists_of form.now) totals.new }
-    ensures lines { let f = frame_of form.now in let lists = lists_of form.now in
-        (z c : ℕ) → z < end_count f → IsClass lists (round_of f (at_end z)) c
-        → get_or totals.new.ends.items (end_start f lists z + (c - 1)) (pos 0)
-        ≡ line (get_or totals.old.ends.items (end_start f lists z + (c - 1)) (pos 0)) (get_or steps.now.ends.items (end_start f lists z + (c - 1)) (pos 0)) times }
+    ensures lines { AreEndLines (frame_of form.now) (lists_of form.now) totals.old.ends.items steps.now.ends.items times totals.new.ends.items }
+    ensures points { totals.new.points ≡ totals.old.points }
 {
     advance_all(form, places, &mut totals.ends, &steps.ends, times);
 }

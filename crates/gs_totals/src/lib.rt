@@ -3,6 +3,7 @@
 #![tactic(auto)]
 
 mod above;
+mod advancing;
 mod course;
 mod ends;
 mod filling;
@@ -15,6 +16,7 @@ mod renewing;
 mod rows;
 mod staying;
 
+pub use advancing::advance_points;
 pub use course::Course;
 pub use ends::{advance, read_ends};
 pub use filling::fill;

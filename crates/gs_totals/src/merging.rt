@@ -98,8 +98,8 @@ fn best_moves(
     let _rounds = round_total(side.form);
     let count = class_total(side.form, round_at(side.form, point)) as usize;
     for choice in 0..move_total(side.form, point) {
-        read_worths(side, places, totals, point, choice, worths);
-        raise(worths, choice, count, best, moves);
+        let read = read_worths(side, places, totals, point, choice, worths);
+        raise(read, choice, count, best, moves);
     }
 }
 
@@ -127,8 +127,8 @@ fn sum_moves(
     let _rounds = round_total(side.form);
     let count = class_total(side.form, round_at(side.form, point)) as usize;
     for choice in 0..move_total(side.form, point) {
-        read_worths(side, places, totals, point, choice, worths);
-        add(worths, choice, count, sums);
+        let read = read_worths(side, places, totals, point, choice, worths);
+        add(read, choice, count, sums);
     }
 }
 
@@ -159,8 +159,8 @@ fn chosen_moves(
     let start = places.points[point as usize] as usize;
     let count = class_total(side.form, round_at(side.form, point)) as usize;
     for choice in 0..move_total(side.form, point) {
-        read_worths(side, places, totals, point, choice, worths);
-        take(worths, choice, count, picks, start, row);
+        let read = read_worths(side, places, totals, point, choice, worths);
+        take(read, choice, count, picks, start, row);
     }
 }
 

@@ -135,8 +135,8 @@ fn lasting_move(
         player: course.player,
         other: course.more,
     };
-    read_worths(&now, course.places, course.totals, point, choice, worths);
-    read_worths(&added, course.places, course.steps, point, choice, rises);
+    let worth = read_worths(&now, course.places, course.totals, point, choice, worths);
+    let rise = read_worths(&added, course.places, course.steps, point, choice, rises);
     let start = course.places.points[point as usize] as usize;
     let count = class_total(course.form, round_at(course.form, point)) as usize;
     behind_all(
@@ -145,9 +145,9 @@ fn lasting_move(
         start,
         count,
         &course.totals.points,
-        worths,
+        worth,
         &course.steps.points,
-        rises,
+        rise,
         times,
     )
 }

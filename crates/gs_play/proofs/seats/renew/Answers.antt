@@ -4,12 +4,6 @@ use Rattle.gs_seq.specs.Slots.{plan_of}
 use Rattle.gs_totals.specs.Places.{AreEndSums}
 use Rattle.gs_play.proofs.seats.renew.Goals as goal
 
-pub returns-then-same-clause-paid : goal.returns-then-same-clause-paid
-returns-then-same-clause-paid c =
-    let f = frame_of c.args.form.now in
-    let lists = lists_of c.args.form.now in
-    subst (λ (l : List ℕ). AreEndSums f lists c.args.player (plan_of f lists c.args.other.now.answer.total l) c.args.steps.now.ends.items) (c.requires.kept c.if-same.true) c.requires.paid
-
 pub renew_ends-requires-clause-before : goal.renew_ends-requires-clause-before
 renew_ends-requires-clause-before c = ap (λ (l : List ℕ). length l) c.deref.ensures.value ∙ c.requires.before
 
@@ -17,4 +11,4 @@ pub renew_ends-requires-clause-paid : goal.renew_ends-requires-clause-paid
 renew_ends-requires-clause-paid c =
     let f = frame_of c.args.form.now in
     let lists = lists_of c.args.form.now in
-    subst (λ (l : List ℕ). AreEndSums f lists c.args.player (plan_of f lists c.args.other.now.answer.total l) c.args.steps.now.ends.items) (sym c.deref.ensures.value) c.requires.paid
+    subst (λ (l : List ℕ). AreEndSums f lists c.args.player (plan_of f lists c.args.other.now.answer.total l) c.args.steps.now.ends.items) (sym c.deref.ensures.value) (c.requires.paid c.if-same.false)

@@ -14,11 +14,11 @@ loop-choice-preserved c =
     let v = totals_in d c.args.totals.now.points.items in
     let all = c.class_total-count.ensures.value ∙ ap (class_count (lists d)) c.round_at.ensures.value in
     record {
-      worths = λ j some top. omega (arith, i.worths j some top, c.read_worths.auto.worths);
+      worths = λ j some top. omega (arith, i.worths j some top, c.read_worths-read.auto.worths);
       best = λ j some top. omega (arith, i.best j some top, c.raise.auto.best);
       moves = λ j some top. omega (arith, i.moves j some top, c.raise.auto.moves);
       so_far = λ some.
-          greatest_step (frame d) (lists d) v c.args.point c.loop-choice.choice c.class_total-count.result all c.read_worths.new.worths c.read_worths.ensures c.loop-choice.best c.raise.new.best c.loop-choice.moves c.raise.new.moves c.raise.ensures i.so_far;
+          greatest_step (frame d) (lists d) v c.args.point c.loop-choice.choice c.class_total-count.result all c.read_worths-read.result.now c.read_worths-read.ensures.worths c.loop-choice.best c.raise.new.best c.loop-choice.moves c.raise.new.moves c.raise.ensures i.so_far;
     }
 
 pub returns : goal.returns

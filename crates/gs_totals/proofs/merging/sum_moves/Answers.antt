@@ -25,8 +25,8 @@ add-requires-clause-fits c =
     let a = worths_modest d sound v q (k + 1) n c.requires.modest c.requires.point (omega (arith, in_moves)) class in
     let b = worth_modest d sound v q n (k + 1) c.requires.modest c.requires.point in_moves class in
     let sum_is = ap (λ i. get_or c.loop-choice.sums i (pos 0)) (sym at) ∙ c.loop-choice.invariant.so_far some (k + 1) class in
-    let worth_is = ap (λ i. get_or c.read_worths.new.worths i (pos 0)) (sym at) ∙ c.read_worths.ensures (k + 1) class in
-    let both = abs_sum (get_or c.loop-choice.sums k (pos 0)) (get_or c.read_worths.new.worths k (pos 0)) in
+    let worth_is = ap (λ i. get_or c.read_worths-read.result.now i (pos 0)) (sym at) ∙ c.read_worths-read.ensures.worths (k + 1) class in
+    let both = abs_sum (get_or c.loop-choice.sums k (pos 0)) (get_or c.read_worths-read.result.now k (pos 0)) in
     omega (arith, a, b, ap unsigned_abs sum_is, ap unsigned_abs worth_is, both))
 
 pub loop-choice-preserved : goal.loop-choice-preserved
@@ -36,7 +36,7 @@ loop-choice-preserved c =
     let v = totals_in d c.args.totals.now.points.items in
     let all = c.class_total-count.ensures.value ∙ ap (class_count (lists d)) c.round_at.ensures.value in
     record {
-      worths = λ j some top. omega (arith, i.worths j some top, c.read_worths.auto.worths);
+      worths = λ j some top. omega (arith, i.worths j some top, c.read_worths-read.auto.worths);
       sums = λ j some top. omega (arith, i.sums j some top, c.add.auto.sums);
-      so_far = λ some. sum_step (frame d) (lists d) v c.args.point c.loop-choice.choice c.class_total-count.result all c.read_worths.new.worths c.read_worths.ensures c.loop-choice.sums c.add.new.sums c.add.ensures i.so_far;
+      so_far = λ some. sum_step (frame d) (lists d) v c.args.point c.loop-choice.choice c.class_total-count.result all c.read_worths-read.result.now c.read_worths-read.ensures.worths c.loop-choice.sums c.add.new.sums c.add.ensures i.so_far;
     }

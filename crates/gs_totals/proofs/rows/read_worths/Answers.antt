@@ -26,8 +26,8 @@ index-requires c =
     let placed = c.requires.placed in
     omega (arith, n.inside, placed.many_points, c.args.places.now.points.ok.0)
 
-pub round_at-requires : goal.round_at-requires
-round_at-requires c =
+pub round_at-from-requires : goal.round_at-from-requires
+round_at-from-requires c =
     let d = c.args.side.now in
     let f = frame d in
     let q = c.args.point in
@@ -46,7 +46,7 @@ read_row-requires-clause-earlier c =
     let next = c.in-Point.next in
     let n = next_point d q c.args.choice next c.requires.point c.requires.choice leads in
     let placed = c.requires.placed in
-    omega (arith, n.onward, c.round_at-to.ensures.value, c.round_at.ensures.value)
+    omega (arith, n.onward, c.round_at-to.ensures.value, c.round_at-from.ensures.value)
 
 pub read_row-requires-clause-room : goal.read_row-requires-clause-room
 read_row-requires-clause-room c =
@@ -58,7 +58,7 @@ read_row-requires-clause-room c =
     let n = next_point d q c.args.choice next c.requires.point c.requires.choice leads in
     let placed = c.requires.placed in
     let start : c.index.result.now ≡ start_of f (lists d) next = get_or_read c.args.places.now.points.items next _ (omega (arith, n.inside, placed.many_points)) c.index.ensures 0 ∙ placed.points next n.inside in
-    let wide = ap (class_count (lists d)) c.round_at.ensures.value in
+    let wide = ap (class_count (lists d)) c.round_at-from.ensures.value in
     omega (arith, start, wide, starts_more f (lists d) next, starts_le f (lists d) (next + 1) (point_count f) (omega (arith, n.inside)), c.requires.rows.points, ap (λ (l : List ℤ). length l) c.deref.ensures.value)
 
 pub read_row-requires-clause-modest : goal.read_row-requires-clause-modest
@@ -71,7 +71,7 @@ read_row-requires-clause-modest c =
     let n = next_point d q c.args.choice next c.requires.point c.requires.choice leads in
     let placed = c.requires.placed in
     let start : c.index.result.now ≡ start_of f (lists d) next = get_or_read c.args.places.now.points.items next _ (omega (arith, n.inside, placed.many_points)) c.index.ensures 0 ∙ placed.points next n.inside in
-    let wide = ap (class_count (lists d)) c.round_at.ensures.value in
+    let wide = ap (class_count (lists d)) c.round_at-from.ensures.value in
     λ k l.
     (let m = c.requires.modest (at_point next) (k + 1) n.inside n.later (omega arith, omega (arith, l, wide)) in
     let at : start_of f (lists d) next + (k + 1 - 1) ≡ c.index.result.now + k = omega (arith, start) in
@@ -88,8 +88,8 @@ index-requires-in-End c =
     let placed = c.requires.placed in
     omega (arith, n.inside, placed.many_ends, c.args.places.now.ends.ok.0)
 
-pub end_round-requires : goal.end_round-requires
-end_round-requires c =
+pub end_round-from-requires : goal.end_round-from-requires
+end_round-from-requires c =
     let d = c.args.side.now in
     let f = frame d in
     let q = c.args.point in
@@ -108,7 +108,7 @@ read_row-requires-in-End-clause-earlier c =
     let end = c.in-End.end in
     let n = next_end d q c.args.choice end c.requires.point c.requires.choice leads in
     let placed = c.requires.placed in
-    omega (arith, n.onward, c.round_at-to.ensures.value, c.end_round.ensures.value)
+    omega (arith, n.onward, c.round_at-to.ensures.value, c.end_round-from.ensures.value)
 
 pub read_row-requires-in-End-clause-room : goal.read_row-requires-in-End-clause-room
 read_row-requires-in-End-clause-room c =
@@ -120,7 +120,7 @@ read_row-requires-in-End-clause-room c =
     let n = next_end d q c.args.choice end c.requires.point c.requires.choice leads in
     let placed = c.requires.placed in
     let start : c.index-in-End.result.now ≡ end_start f (lists d) end = get_or_read c.args.places.now.ends.items end _ (omega (arith, n.inside, placed.many_ends)) c.index-in-End.ensures 0 ∙ placed.ends end n.inside in
-    let wide = ap (class_count (lists d)) c.end_round.ensures.value in
+    let wide = ap (class_count (lists d)) c.end_round-from.ensures.value in
     omega (arith, start, wide, end_starts_more f (lists d) end, end_starts_le f (lists d) (end + 1) (end_count f) (omega (arith, n.inside)), c.requires.rows.ends, ap (λ (l : List ℤ). length l) c.deref-in-End.ensures.value)
 
 pub read_row-requires-in-End-clause-modest : goal.read_row-requires-in-End-clause-modest
@@ -133,7 +133,7 @@ read_row-requires-in-End-clause-modest c =
     let n = next_end d q c.args.choice end c.requires.point c.requires.choice leads in
     let placed = c.requires.placed in
     let start : c.index-in-End.result.now ≡ end_start f (lists d) end = get_or_read c.args.places.now.ends.items end _ (omega (arith, n.inside, placed.many_ends)) c.index-in-End.ensures 0 ∙ placed.ends end n.inside in
-    let wide = ap (class_count (lists d)) c.end_round.ensures.value in
+    let wide = ap (class_count (lists d)) c.end_round-from.ensures.value in
     λ k l.
     (let class : IsClass (lists d) (round_of f (at_end end)) (k + 1) = (omega arith, omega (arith, l, wide)) in
     let m = c.requires.modest (at_end end) (k + 1) n.inside tt class in
@@ -141,8 +141,8 @@ read_row-requires-in-End-clause-modest c =
     let at : end_start f (lists d) end + (k + 1 - 1) ≡ c.index-in-End.result.now + k = omega (arith, start) in
     omega (arith, m, paid, ap (λ i. unsigned_abs (get_or c.args.totals.now.ends.items i (pos 0))) at, ap (λ l. unsigned_abs (get_or l (c.index-in-End.result.now + k) (pos 0))) c.deref-in-End.ensures.value))
 
-pub returns-in-Point : goal.returns-in-Point
-returns-in-Point c =
+pub returns-in-Point-clause-worths : goal.returns-in-Point-clause-worths
+returns-in-Point-clause-worths c =
     let d = c.args.side.now in
     let f = frame d in
     let q = c.args.point in
@@ -151,14 +151,14 @@ returns-in-Point c =
     let n = next_point d q c.args.choice next c.requires.point c.requires.choice leads in
     let placed = c.requires.placed in
     let start : c.index.result.now ≡ start_of f (lists d) next = get_or_read c.args.places.now.points.items next _ (omega (arith, n.inside, placed.many_points)) c.index.ensures 0 ∙ placed.points next n.inside in
-    let wide = ap (class_count (lists d)) c.round_at.ensures.value in
+    let wide = ap (class_count (lists d)) c.round_at-from.ensures.value in
     let values = c.args.totals.now.points.items in
-    let sums = c.read_row.new.sums in
-    let below = subst (λ l. AreGathered f (lists d) c.round_at.result c.round_at-to.result l c.index.result.now sums) c.deref.ensures.value c.read_row.ensures in
-    worths_at_point f (lists d) d.player (facing d) values q c.args.choice c.round_at-to.result sums c.round_at-to.ensures.value next c.round_at.result c.index.result.now leads c.round_at.ensures.value start below
+    let sums = c.read_row.result.now in
+    let below = subst (λ l. AreGathered f (lists d) c.round_at-from.result c.round_at-to.result l c.index.result.now sums) c.deref.ensures.value c.read_row.ensures.gathered in
+    worths_at_point f (lists d) d.player (facing d) values q c.args.choice c.round_at-to.result sums c.round_at-to.ensures.value next c.round_at-from.result c.index.result.now leads c.round_at-from.ensures.value start below
 
-pub returns-in-End : goal.returns-in-End
-returns-in-End c =
+pub returns-in-End-clause-worths : goal.returns-in-End-clause-worths
+returns-in-End-clause-worths c =
     let d = c.args.side.now in
     let f = frame d in
     let q = c.args.point in
@@ -167,9 +167,9 @@ returns-in-End c =
     let n = next_end d q c.args.choice end c.requires.point c.requires.choice leads in
     let placed = c.requires.placed in
     let start : c.index-in-End.result.now ≡ end_start f (lists d) end = get_or_read c.args.places.now.ends.items end _ (omega (arith, n.inside, placed.many_ends)) c.index-in-End.ensures 0 ∙ placed.ends end n.inside in
-    let wide = ap (class_count (lists d)) c.end_round.ensures.value in
+    let wide = ap (class_count (lists d)) c.end_round-from.ensures.value in
     let values = c.args.totals.now.points.items in
     let row = c.args.totals.now.ends.items in
-    let sums = c.read_row-in-End.new.sums in
-    let below = subst (λ l. AreGathered f (lists d) c.end_round.result c.round_at-to.result l c.index-in-End.result.now sums) c.deref-in-End.ensures.value c.read_row-in-End.ensures in
-    worths_at_end f (lists d) d.player (facing d) values q c.args.choice c.round_at-to.result sums c.round_at-to.ensures.value end c.end_round.result c.index-in-End.result.now row n.inside c.requires.paid leads c.end_round.ensures.value start below
+    let sums = c.read_row-in-End.result.now in
+    let below = subst (λ l. AreGathered f (lists d) c.end_round-from.result c.round_at-to.result l c.index-in-End.result.now sums) c.deref-in-End.ensures.value c.read_row-in-End.ensures.gathered in
+    worths_at_end f (lists d) d.player (facing d) values q c.args.choice c.round_at-to.result sums c.round_at-to.ensures.value end c.end_round-from.result c.index-in-End.result.now row n.inside c.requires.paid leads c.end_round-from.ensures.value start below

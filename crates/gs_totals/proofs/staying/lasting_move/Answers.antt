@@ -9,11 +9,11 @@ use Rattle.gs_totals.specs.Courses.{frame_in, lists_in}
 use Rattle.gs_totals.proofs.CourseLaws.{added_modest, all_ahead, all_behind, all_gains, all_gaps, now_modest, once_behind}
 use Rattle.gs_totals.proofs.staying.lasting_move.Goals as goal
 
-pub read_worths-requires-clause-modest : goal.read_worths-requires-clause-modest
-read_worths-requires-clause-modest c = now_modest c.args.course.now c.round_total-rounds.ensures.sound (c.args.point + 1)
+pub read_worths-worth-requires-clause-modest : goal.read_worths-worth-requires-clause-modest
+read_worths-worth-requires-clause-modest c = now_modest c.args.course.now c.round_total-rounds.ensures.sound (c.args.point + 1)
 
-pub read_worths-requires-2-clause-modest : goal.read_worths-requires-2-clause-modest
-read_worths-requires-2-clause-modest c = added_modest c.args.course.now c.round_total-rounds.ensures.sound (c.args.point + 1)
+pub read_worths-rise-requires-clause-modest : goal.read_worths-rise-requires-clause-modest
+read_worths-rise-requires-clause-modest c = added_modest c.args.course.now c.round_total-rounds.ensures.sound (c.args.point + 1)
 
 pub behind_all-requires-clause-picks : goal.behind_all-requires-clause-picks
 behind_all-requires-clause-picks c =
@@ -61,7 +61,7 @@ behind_all-requires-clause-ahead c =
     let placed = k.placed in
     let start : c.index.result.now ≡ start_of f lists q = get_or_read k.places.now.points.items q _ (omega (arith, c.requires.point, placed.many_points)) c.index.ensures 0 ∙ placed.points q c.requires.point in
     let all = c.class_total-count.ensures.value ∙ ap (class_count lists) c.round_at.ensures.value in
-    all_ahead k q m c.index.result.now c.class_total-count.result start all c.deref.result.now c.read_worths.new.worths c.deref-2.result.now c.read_worths-2.new.worths c.deref.ensures.value c.deref-2.ensures.value c.read_worths.ensures c.read_worths-2.ensures c.round_total-rounds.ensures.sound c.requires.point c.requires.choice c.requires.own
+    all_ahead k q m c.index.result.now c.class_total-count.result start all c.deref.result.now c.read_worths-worth.result.now c.deref-2.result.now c.read_worths-rise.result.now c.deref.ensures.value c.deref-2.ensures.value c.read_worths-worth.ensures.worths c.read_worths-rise.ensures.worths c.round_total-rounds.ensures.sound c.requires.point c.requires.choice c.requires.own
 
 pub behind_all-requires-clause-gaps : goal.behind_all-requires-clause-gaps
 behind_all-requires-clause-gaps c =
@@ -73,7 +73,7 @@ behind_all-requires-clause-gaps c =
     let placed = k.placed in
     let start : c.index.result.now ≡ start_of f lists q = get_or_read k.places.now.points.items q _ (omega (arith, c.requires.point, placed.many_points)) c.index.ensures 0 ∙ placed.points q c.requires.point in
     let all = c.class_total-count.ensures.value ∙ ap (class_count lists) c.round_at.ensures.value in
-    all_gaps k q m c.index.result.now c.class_total-count.result start all c.deref.result.now c.read_worths.new.worths c.deref-2.result.now c.read_worths-2.new.worths c.deref.ensures.value c.deref-2.ensures.value c.read_worths.ensures c.read_worths-2.ensures c.round_total-rounds.ensures.sound c.requires.point c.requires.choice
+    all_gaps k q m c.index.result.now c.class_total-count.result start all c.deref.result.now c.read_worths-worth.result.now c.deref-2.result.now c.read_worths-rise.result.now c.deref.ensures.value c.deref-2.ensures.value c.read_worths-worth.ensures.worths c.read_worths-rise.ensures.worths c.round_total-rounds.ensures.sound c.requires.point c.requires.choice
 
 pub behind_all-requires-clause-gains : goal.behind_all-requires-clause-gains
 behind_all-requires-clause-gains c =
@@ -85,7 +85,7 @@ behind_all-requires-clause-gains c =
     let placed = k.placed in
     let start : c.index.result.now ≡ start_of f lists q = get_or_read k.places.now.points.items q _ (omega (arith, c.requires.point, placed.many_points)) c.index.ensures 0 ∙ placed.points q c.requires.point in
     let all = c.class_total-count.ensures.value ∙ ap (class_count lists) c.round_at.ensures.value in
-    all_gains k q m c.index.result.now c.class_total-count.result start all c.deref.result.now c.read_worths.new.worths c.deref-2.result.now c.read_worths-2.new.worths c.deref.ensures.value c.deref-2.ensures.value c.read_worths.ensures c.read_worths-2.ensures c.round_total-rounds.ensures.sound c.requires.point c.requires.choice
+    all_gains k q m c.index.result.now c.class_total-count.result start all c.deref.result.now c.read_worths-worth.result.now c.deref-2.result.now c.read_worths-rise.result.now c.deref.ensures.value c.deref-2.ensures.value c.read_worths-worth.ensures.worths c.read_worths-rise.ensures.worths c.round_total-rounds.ensures.sound c.requires.point c.requires.choice
 
 pub returns-clause-behind : goal.returns-clause-behind
 returns-clause-behind c =
@@ -97,7 +97,7 @@ returns-clause-behind c =
     let placed = k.placed in
     let start : c.index.result.now ≡ start_of f lists q = get_or_read k.places.now.points.items q _ (omega (arith, c.requires.point, placed.many_points)) c.index.ensures 0 ∙ placed.points q c.requires.point in
     let all = c.class_total-count.ensures.value ∙ ap (class_count lists) c.round_at.ensures.value in
-    all_behind k q m c.index.result.now c.class_total-count.result start all c.deref.result.now c.read_worths.new.worths c.deref-2.result.now c.read_worths-2.new.worths c.deref.ensures.value c.deref-2.ensures.value c.read_worths.ensures c.read_worths-2.ensures c.behind_all.result c.behind_all.ensures.behind
+    all_behind k q m c.index.result.now c.class_total-count.result start all c.deref.result.now c.read_worths-worth.result.now c.deref-2.result.now c.read_worths-rise.result.now c.deref.ensures.value c.deref-2.ensures.value c.read_worths-worth.ensures.worths c.read_worths-rise.ensures.worths c.behind_all.result c.behind_all.ensures.behind
 
 pub returns-then-times-le1-clause-behind : goal.returns-then-times-le1-clause-behind
 returns-then-times-le1-clause-behind c = once_behind c.args.course.now c.round_total-rounds.ensures.sound c.args.point c.args.choice c.args.times c.requires.point c.requires.choice c.requires.own (omega arith)

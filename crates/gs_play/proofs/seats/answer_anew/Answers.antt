@@ -12,7 +12,7 @@ use Rattle.gs_best.proofs.Forms.{form_classes, form_in_range, form_lossless, for
 use Rattle.gs_totals.specs.ClassTotals.{AreBestTotals}
 use Rattle.gs_totals.specs.Places.{AreEndSums, totals_of}
 use Rattle.gs_play.proofs.Answering.{put_plan}
-use Rattle.gs_play.proofs.seats.answer.Goals as goal
+use Rattle.gs_play.proofs.seats.answer_anew.Goals as goal
 
 pub find-requires-clause-long : goal.find-requires-clause-long
 find-requires-clause-long c = ap (λ (l : List ℕ). length l) c.deref_mut-2.ensures.value ∙ c.requires.seat.room.next
