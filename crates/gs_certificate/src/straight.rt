@@ -67,21 +67,18 @@ fn to_quote(bytes: &[u8]) -> Result<(&[u8], &[u8]), Stop>
     Err(Stop::Other)
 }
 
-/// What the digits before a quote represent and how many they are, where it is below 10^18 and nothing else stands before the quote.
-fn digits_in(bytes: &[u8]) -> Option<(u64, usize)>
-    ensures { IfSome result (λ p. AreDigits bytes.now p.0 p.1) }
+/// What the digits that the bytes begin with represent and how many they are: up to the first other byte, or until they are 18.
+fn digits_in(bytes: &[u8]) -> (u64, usize)
+    ensures { AreDigits bytes.now result.0 result.1 }
 {
     let mut size: u64 = 0;
     for (i, b) in bytes.iter().enumerate() {
-        if *b == b'"' {
-            return Some((size, i));
-        }
         if *b < b'0' || *b > b'9' || size >= 100_000_000_000_000_000 {
-            return None;
+            return (size, i);
         }
         size = size * 10 + u64::from(*b - b'0');
     }
-    None
+    (size, bytes.len())
 }
 
 /// Whether so many digits are the text of a number: at least one, without leading zeros.
@@ -102,7 +99,7 @@ fn narrow_in(bytes: &[u8]) -> Option<(i128, &[u8])>
     ensures small { IfSome result (λ p. unsigned_abs p.0 < 2 ^ 90) }
 {
     let (negative, digits) = sign(bytes);
-    let (size, count) = digits_in(digits)?;
+    let (size, count) = digits_in(digits);
     let size = u128::from(size);
     if is_minus_zero(negative, size) {
         return None;
@@ -110,7 +107,11 @@ fn narrow_in(bytes: &[u8]) -> Option<(i128, &[u8])>
     if !is_plain(digits, count) {
         return None;
     }
-    Some((with_sign(negative, size), &digits[count..]))
+    let rest = &digits[count..];
+    match rest {
+        [b'"', ..] => Some((with_sign(negative, size), rest)),
+        _ => None,
+    }
 }
 
 /// A number of any width before the first quote, and what stands from the quote on.
@@ -141,7 +142,8 @@ fn numbers_in<'b>(alloc: Global, bytes: &'b [u8]) -> Result<(Vec<i128>, &'b [u8]
     ensures text { IfOk result (λ p. StandsFor bytes.now p.0.items p.1.now) }
     ensures small { IfOk result (λ p. All (λ z. unsigned_abs z < 2 ^ 90) p.0.items) }
 {
-    let mut numbers = Vec::new(alloc);
+    // With its quotes and comma each takes at least four bytes.
+    let mut numbers = Vec::with_capacity(alloc, bytes.len() / 4)?;
     let mut left = bytes;
     for _ in 0..bytes.len() {
         let (number, rest) = number_in(left)?;

@@ -20,21 +20,21 @@ narrow negative size wide z same few is =
 rest_is : (xs : List ℕ) (count : ℕ) → take (length xs - count) (drop count xs) ≡ drop count xs
 rest_is xs count = take_all (length xs - count) (drop count xs) (omega (arith, length-drop count xs))
 
-pub returns-clause-text : goal.returns-clause-text
-returns-clause-text c =
+pub returns-in-34-clause-text : goal.returns-in-34-clause-text
+returns-in-34-clause-text c =
     let negative = c.sign-negative.result.0 in
     let digits : List ℕ = c.sign-negative.result.1.now in
-    let size = c.in_ok-size.size in
-    let count = c.in_ok-size.count in
+    let size = c.digits_in-size.result.0 in
+    let count = c.digits_in-size.result.1 in
     let z = c.with_sign.result in
-    let n = narrow negative size c.from-size.result z c.from-size.ensures c.in_ok-size.ensures.few c.with_sign.ensures in
+    let n = narrow negative size c.from-size.result z c.from-size.ensures c.digits_in-size.ensures.few c.with_sign.ensures in
     let plain = c.is_plain.ensures c.if-not-is_plain.false in
     let no_minus_zero = ap (λ (k : ℕ). negative && (k == 0)) (sym c.from-size.ensures) ∙ sym c.if-is_minus_zero.ensures in
-    let text = narrow_is c.args.bytes.now digits negative size count c.sign-negative.ensures c.in_ok-size.ensures plain.0 plain.1 no_minus_zero in
+    let text = narrow_is c.args.bytes.now digits negative size count c.sign-negative.ensures c.digits_in-size.ensures plain.0 plain.1 no_minus_zero in
     text ∙ ap (λ (x : ℤ). signed_decimal x ++ drop count digits) (sym n.0 ∙ kept z n.1) ∙ ap (λ (q : List ℕ). signed_decimal (to_z w128 (of_z w128 z)) ++ q) (sym (rest_is digits count))
 
-pub returns-clause-small : goal.returns-clause-small
-returns-clause-small c =
+pub returns-in-34-clause-small : goal.returns-in-34-clause-small
+returns-in-34-clause-small c =
     let z = c.with_sign.result in
-    let n = narrow c.sign-negative.result.0 c.in_ok-size.size c.from-size.result z c.from-size.ensures c.in_ok-size.ensures.few c.with_sign.ensures in
+    let n = narrow c.sign-negative.result.0 c.digits_in-size.result.0 c.from-size.result z c.from-size.ensures c.digits_in-size.ensures.few c.with_sign.ensures in
     subst (λ (x : ℤ). unsigned_abs x < 2 ^ 90) (kept z n.1) n.1

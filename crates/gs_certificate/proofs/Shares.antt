@@ -1,0 +1,42 @@
+-- A number beside an equal share, and nothing is divided.
+use Rattle.std.proofs.Common.{◌≡◌, ℕ, ◌*◌, ◌<◌, ◌≤◌, ◌^◌, Bool, not, inl, inr, sym, subst, ◌∙◌, arith}
+use Rattle.std.specs.Prelude.{ℤ, pos, ◌+ℤ◌, ◌*ℤ◌, ◌≤ℤ◌, ◌<ℤ◌, T}
+use Rattle.std.specs.Int.Signed.{lt_z, lt_z_no, lt_z_yes}
+use Rattle.std.proofs.Math.IntN.{*ℤ_comm}
+use Rattle.std.proofs.Math.Nat.{mul-le-mul_right}
+use Rattle.std.proofs.lemmas.Bool.{cases_Bool}
+use Rattle.std.proofs.lemmas.Int.{by_lt_z, ints}
+use Rattle.gs_model.proofs.Total.{mul-add_right, mul-le}
+use Rattle.gs_certificate.specs.Numbers.{Tells}
+
+abbrev Q : Bool → Type 0
+Q t = T (not t)
+
+less : (n : ℕ) (number worth : ℤ) → (pos n *ℤ number) <ℤ (pos n *ℤ worth) → number <ℤ worth
+less n number worth h = by_lt_z number worth (λ lt. lt) (λ le. absurd (let m = mul-le n worth number le in omega (arith, ints, m, h)))
+
+not_less : (n : ℕ) (number worth : ℤ) → 0 < n → (pos n *ℤ worth) ≤ℤ (pos n *ℤ number) → worth ≤ℤ number
+not_less n number worth some h = by_lt_z number worth
+    (λ lt. absurd (
+    let next : (number +ℤ pos 1) ≤ℤ worth = omega (arith, ints, lt) in
+    let m = mul-le n (number +ℤ pos 1) worth next in
+    let a = mul-add_right (pos n) number (pos 1) in
+    let one : (pos n *ℤ pos 1) ≡ pos n = omega (arith, ints) in
+    omega (arith, ints, m, a, one, h, some)))
+    (λ le. le)
+
+-- so many times a number beside so many equal shares
+pub share_tells : (n : ℕ) (number worth product together : ℤ) → 0 < n → product ≡ pos n *ℤ number → together ≡ worth *ℤ pos n → Tells (lt_z product together) (number <ℤ worth) (worth ≤ℤ number)
+share_tells n number worth product together some is share =
+    let all : together ≡ pos n *ℤ worth = share ∙ *ℤ_comm worth (pos n) in
+    elim (cases_Bool (lt_z product together)) [
+      | inl e ↦
+          let lt : product <ℤ together = lt_z_yes (subst T (sym e) tt) in
+          subst (λ b. Tells b (number <ℤ worth) (worth ≤ℤ number)) (sym e) (less n number worth (subst (λ z. (pos n *ℤ number) <ℤ z) all (subst (λ z. z <ℤ together) is lt)))
+      | inr e ↦
+          let le : together ≤ℤ product = lt_z_no (subst Q (sym e) tt) in
+          subst (λ b. Tells b (number <ℤ worth) (worth ≤ℤ number)) (sym e) (not_less n number worth some (subst (λ z. z ≤ℤ (pos n *ℤ number)) all (subst (λ z. together ≤ℤ z) is le)))
+    ]
+
+pub times_small : (n a : ℕ) → n < 2 ^ 32 → a < 2 ^ 90 → n * a < 2 ^ 127
+times_small n a few small = let m = mul-le-mul_right a (let l : n ≤ 2 ^ 32 = omega (arith, few) in l) in omega (arith, m, small)

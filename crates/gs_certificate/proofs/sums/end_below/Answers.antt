@@ -1,0 +1,65 @@
+use Rattle.std.proofs.Common.{◌≡◌, ◌<◌, ℕ, ◌≤◌, sym, ap, subst, ◌∙◌, arith}
+use Rattle.std.specs.Prelude.{unsigned_abs}
+use Rattle.std.proofs.lemmas.Int.{to_z-of_z}
+use mir.Syntax.{w128}
+use Rattle.gs_model.specs.Classes.{IsClass, first_member}
+use Rattle.gs_model.specs.Frame.{end_count, last_round, round_of, signal_count}
+use Rattle.gs_model.specs.Positions.{at_end}
+use Rattle.gs_best.proofs.Forms.{form_signals}
+use Rattle.gs_best.proofs.Ranges.{run_is}
+use Rattle.gs_best.specs.declared.deviator.Deviator.{Deviator}
+use Rattle.gs_best.proofs.Sides.{against, frame, lists, side_walked}
+use Rattle.gs_certificate.specs.Worths.{sum_below, worth_at}
+use Rattle.gs_certificate.proofs.Ends.{end_small}
+use Rattle.gs_certificate.proofs.Runs.{end_own, run_small, worth_small}
+use Rattle.gs_certificate.proofs.sums.end_below.Goals as goal
+
+-- the end's round is one of the game's
+round_in : (d : Deviator) (z to : ℕ) → z < end_count (frame d) → to ≡ round_of (frame d) (at_end z) → to ≤ last_round (frame d)
+round_in d z to l e = let top = (side_walked d).end_in z l in omega (arith, top, e)
+
+pub end_value-requires-clause-class : goal.end_value-requires-clause-class
+end_value-requires-clause-class c =
+    subst (λ j. IsClass (lists c.args.side.now) j c.args.class) (c.if-from-to.true ∙ c.requires.to) c.requires.class
+
+pub returns-then-from-to-clause-value : goal.returns-then-from-to-clause-value
+returns-then-from-to-clause-value c =
+    let d = c.args.side.now in
+    to_z-of_z w128 c.end_value.result (record { sfits = c.end_value.type_inv }) ∙ c.end_value.ensures
+    ∙ end_own d c.round_total-rounds.ensures.sound c.args.end c.args.from c.args.class (c.if-from-to.true ∙ c.requires.to) c.requires.some (let top = round_in d c.args.end c.args.to c.requires.end c.requires.to in omega (arith, c.if-from-to.true, top)) c.requires.class
+
+pub returns-then-from-to-clause-small : goal.returns-then-from-to-clause-small
+returns-then-from-to-clause-small c =
+    let d = c.args.side.now in
+    let class = subst (λ j. IsClass (lists d) j c.args.class) (c.if-from-to.true ∙ c.requires.to) c.requires.class in
+    let small = end_small d c.round_total-rounds.ensures.sound c.args.end c.args.class c.requires.end class in
+    omega (arith, small, ap unsigned_abs (to_z-of_z w128 c.end_value.result (record { sfits = c.end_value.type_inv }) ∙ c.end_value.ensures))
+
+pub run_below-run-requires-clause-top : goal.run_below-run-requires-clause-top
+run_below-run-requires-clause-top c = round_in c.args.side.now c.args.end c.args.to c.requires.end c.requires.to
+
+pub returns-clause-value : goal.returns-clause-value
+returns-clause-value c =
+    let d = c.args.side.now in
+    let f = frame d in
+    let ls = lists d in
+    let run = c.run_below-run.result in
+    let u = worth_at f ls d.player (against d) c.args.end in
+    to_z-of_z w128 c.ends_sum.result (record { sfits = c.ends_sum.type_inv }) ∙ c.ends_sum.ensures
+    ∙ sym (run_is f c.args.to c.args.from (first_member ls c.args.from c.args.class) run.first run.end u c.run_below-run.ensures)
+    ∙ ap (λ i. sum_below f ls c.args.from c.args.class i u) c.requires.to
+
+pub returns-clause-small : goal.returns-clause-small
+returns-clause-small c =
+    let d = c.args.side.now in
+    let f = frame d in
+    let z = c.args.end in
+    let round = round_of f (at_end z) in
+    let some = (side_walked d).end_round z c.requires.end in
+    let top = (side_walked d).end_in z c.requires.end in
+    let run = c.run_below-run.result in
+    let runs = c.run_below-run.ensures in
+    let within : run.end ≤ signal_count f round = omega (arith, runs.within, ap (signal_count f) c.requires.to) in
+    let small = run_small (worth_at f (lists d) d.player (against d) z) run.first run.end (signal_count f round) runs.ordered within (form_signals d.form.now round some top)
+    (λ r l. worth_small d c.round_total-rounds.ensures.sound z r c.requires.end some top l) in
+    omega (arith, small, ap unsigned_abs (to_z-of_z w128 c.ends_sum.result (record { sfits = c.ends_sum.type_inv }) ∙ c.ends_sum.ensures))

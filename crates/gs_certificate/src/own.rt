@@ -1,0 +1,159 @@
+//! The points of the player whose numbers are checked: a number is to be at least what each move is worth.
+
+ghost use Rattle.std.specs.Prelude.{◌≡◌, ◌<◌, ◌≤◌, ◌≤ℤ◌, ◌<ℤ◌, ◌^◌, MatchOption, unsigned_abs};
+ghost use Rattle.gs_game.specs.Seen.{target_of};
+ghost use Rattle.gs_model.specs.BestAnswers.{end_worth};
+ghost use Rattle.gs_model.specs.Classes.{IsClass, class_count, first_member};
+ghost use Rattle.gs_model.specs.Frame.{end_count, last_round, player_at, point_count, round_of};
+ghost use Rattle.gs_model.specs.Positions.{at_end, at_point};
+ghost use Rattle.gs_seq.specs.Abstracts.{frame_of, lists_of};
+ghost use Rattle.gs_seq.specs.Plans.{lifted};
+ghost use Rattle.gs_best.specs.Tables.{start_of, table_of};
+ghost use Rattle.gs_certificate.specs.Numbers.{AreHighAt, AreNumbers, IsFirstLowAt, Tells};
+ghost use Rattle.gs_certificate.specs.Spots.{IsFirstBelow, IsSpot, IsWay};
+
+use crate::spot::{Spot, Way};
+use crate::spots::way_at;
+use crate::sums::end_below;
+use crate::worths::{number_at, numbers_below};
+use gs_best::{Deviator, class_total, move_total, round_total};
+use gs_game::Target;
+use gs_seq::scaled;
+
+/// Of the first so many classes of a point the first whose number is less than what a move to another point is worth; their count if there is none.
+fn first_below_point(
+    side: &Deviator<'_>,
+    values: &[i128],
+    spot: Spot,
+    next: u32,
+    to: u8,
+    place: u32,
+    count: u32,
+) -> u32
+    requires numbers { AreNumbers (frame_of side.now.form.now) (lists_of side.now.form.now) values.now }
+    requires spot { IsSpot (frame_of side.now.form.now) (lists_of side.now.form.now) spot }
+    requires next { next < point_count (frame_of side.now.form.now) }
+    requires to { to ≡ round_of (frame_of side.now.form.now) (at_point next) }
+    requires place { place ≡ start_of (frame_of side.now.form.now) (lists_of side.now.form.now) next }
+    requires onward { spot.round ≤ to }
+    requires top { to ≤ last_round (frame_of side.now.form.now) }
+    requires count { count ≤ class_count (lists_of side.now.form.now) spot.round }
+    ensures { let f = frame_of side.now.form.now in let lists = lists_of side.now.form.now in
+        IsFirstBelow f lists (table_of f lists side.now.player (lifted f lists side.now.other.now) values.now) spot.point (at_point next) count result }
+{
+    let _rounds = round_total(side.form);
+    for before in 0..count {
+        let class = before + 1;
+        let worth = numbers_below(side, values, next, to, place, spot.round, class);
+        if number_at(side, values, spot, class) < worth {
+            return before;
+        }
+    }
+    count
+}
+
+/// Of the first so many classes of a point the first whose number is less than what a move to an end is worth; their count if there is none.
+fn first_below_end(
+    side: &Deviator<'_>,
+    values: &[i128],
+    spot: Spot,
+    end: u32,
+    to: u8,
+    count: u32,
+) -> u32
+    requires numbers { AreNumbers (frame_of side.now.form.now) (lists_of side.now.form.now) values.now }
+    requires spot { IsSpot (frame_of side.now.form.now) (lists_of side.now.form.now) spot }
+    requires end { end < end_count (frame_of side.now.form.now) }
+    requires to { to ≡ round_of (frame_of side.now.form.now) (at_end end) }
+    requires onward { spot.round ≤ to }
+    requires count { count ≤ class_count (lists_of side.now.form.now) spot.round }
+    ensures { let f = frame_of side.now.form.now in let lists = lists_of side.now.form.now in
+        IsFirstBelow f lists (table_of f lists side.now.player (lifted f lists side.now.other.now) values.now) spot.point (at_end end) count result }
+{
+    let _rounds = round_total(side.form);
+    for before in 0..count {
+        let class = before + 1;
+        let worth = end_below(side, end, to, spot.round, class);
+        if number_at(side, values, spot, class) < worth {
+            return before;
+        }
+    }
+    count
+}
+
+/// Whether a number is less than what an end is worth to a class of its round, from what all members gain together: nothing is divided.
+fn is_below_end(side: &Deviator<'_>, number: i128, end: u32, round: u8, class: u32) -> bool
+    requires small { unsigned_abs number < 2 ^ 90 }
+    requires end { end < end_count (frame_of side.now.form.now) }
+    requires round { round ≡ round_of (frame_of side.now.form.now) (at_end end) }
+    requires class { IsClass (lists_of side.now.form.now) round class }
+    ensures { let f = frame_of side.now.form.now in let lists = lists_of side.now.form.now in let worth = end_worth f side.now.player (lifted f lists side.now.other.now) end (first_member lists (round_of f (at_end end)) class) in
+        Tells result (number <ℤ worth) (worth ≤ℤ number) }
+{
+    let _rounds = round_total(side.form);
+    let together = side.form.end_sum(side.player, side.other, end, class);
+    let members = side.form.lossless().classes().size(round, class);
+    scaled(u64::from(members), number) < together
+}
+
+/// Of the first so many classes of a point the first whose number is less than what a move to an end of the point's own round is worth; their count if
+/// there is none.
+fn first_below_own(side: &Deviator<'_>, values: &[i128], spot: Spot, end: u32, count: u32) -> u32
+    requires numbers { AreNumbers (frame_of side.now.form.now) (lists_of side.now.form.now) values.now }
+    requires spot { IsSpot (frame_of side.now.form.now) (lists_of side.now.form.now) spot }
+    requires end { end < end_count (frame_of side.now.form.now) }
+    requires round { spot.round ≡ round_of (frame_of side.now.form.now) (at_end end) }
+    requires count { count ≤ class_count (lists_of side.now.form.now) spot.round }
+    ensures { let f = frame_of side.now.form.now in let lists = lists_of side.now.form.now in
+        IsFirstBelow f lists (table_of f lists side.now.player (lifted f lists side.now.other.now) values.now) spot.point (at_end end) count result }
+{
+    let _rounds = round_total(side.form);
+    for before in 0..count {
+        let class = before + 1;
+        let number = number_at(side, values, spot, class);
+        if is_below_end(side, number, end, spot.round, class) {
+            return before;
+        }
+    }
+    count
+}
+
+/// Of the first so many classes of a point the first whose number is less than what a move is worth; their count if there is none.
+fn first_below(side: &Deviator<'_>, values: &[i128], spot: Spot, way: Way, count: u32) -> u32
+    requires numbers { AreNumbers (frame_of side.now.form.now) (lists_of side.now.form.now) values.now }
+    requires spot { IsSpot (frame_of side.now.form.now) (lists_of side.now.form.now) spot }
+    requires way { IsWay (frame_of side.now.form.now) (lists_of side.now.form.now) spot.point way }
+    requires count { count ≤ class_count (lists_of side.now.form.now) spot.round }
+    ensures { let f = frame_of side.now.form.now in let lists = lists_of side.now.form.now in
+        IsFirstBelow f lists (table_of f lists side.now.player (lifted f lists side.now.other.now) values.now) spot.point (target_of way.to) count result }
+{
+    match way.to {
+        Target::Point(next) => {
+            first_below_point(side, values, spot, next, way.round, way.place, count)
+        }
+        Target::End(end) => {
+            if spot.round == way.round {
+                return first_below_own(side, values, spot, end, count);
+            }
+            first_below_end(side, values, spot, end, way.round, count)
+        }
+    }
+}
+
+/// The first class of an own point where the number is too low.
+pub(crate) fn own_low_at(side: &Deviator<'_>, values: &[i128], spot: Spot) -> Option<u32>
+    requires numbers { AreNumbers (frame_of side.now.form.now) (lists_of side.now.form.now) values.now }
+    requires spot { IsSpot (frame_of side.now.form.now) (lists_of side.now.form.now) spot }
+    requires own { player_at (frame_of side.now.form.now) spot.point ≡ side.now.player }
+    ensures { let f = frame_of side.now.form.now in let lists = lists_of side.now.form.now in let v = table_of f lists side.now.player (lifted f lists side.now.other.now) values.now in
+        MatchOption result (AreHighAt f lists side.now.player v spot.point) (IsFirstLowAt f lists side.now.player v spot.point) }
+{
+    let _rounds = round_total(side.form);
+    let count = class_total(side.form, spot.round);
+    let mut low = count;
+    for choice in 0..move_total(side.form, spot.point) {
+        let way = way_at(side, spot, choice);
+        low = first_below(side, values, spot, way, low);
+    }
+    if low < count { Some(low + 1) } else { None }
+}

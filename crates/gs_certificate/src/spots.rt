@@ -1,0 +1,66 @@
+//! Where the moves of a point lead.
+
+ghost use Rattle.std.specs.Prelude.{◌≡◌, ◌<◌, ◌≤◌};
+ghost use Rattle.gs_game.specs.Seen.{target_of};
+ghost use Rattle.gs_model.specs.Frame.{leads_to, move_count, point_count};
+ghost use Rattle.gs_seq.specs.Abstracts.{frame_of, lists_of};
+ghost use Rattle.gs_best.specs.Tables.{start_of};
+ghost use Rattle.gs_certificate.specs.Spots.{AreWays, IsSpot, IsWay};
+
+use crate::places::place_from;
+use crate::spot::{Spot, Way};
+use gs_best::{Deviator, end_round, move_total, round_at, target_at};
+use gs_game::Target;
+
+/// A point whose first number stands at a place.
+pub(crate) fn spot_at(side: &Deviator<'_>, point: u32, start: u32) -> Spot
+    requires point { point < point_count (frame_of side.now.form.now) }
+    requires start { start ≡ start_of (frame_of side.now.form.now) (lists_of side.now.form.now) point }
+    ensures spot { IsSpot (frame_of side.now.form.now) (lists_of side.now.form.now) result }
+    ensures point { result.point ≡ point }
+{
+    Spot {
+        point,
+        round: round_at(side.form, point),
+        start,
+    }
+}
+
+/// Where a move of a point leads.
+pub(crate) fn way_at(side: &Deviator<'_>, spot: Spot, choice: u8) -> Way
+    requires spot { IsSpot (frame_of side.now.form.now) (lists_of side.now.form.now) spot }
+    requires choice { choice < move_count (frame_of side.now.form.now) spot.point }
+    ensures way { IsWay (frame_of side.now.form.now) (lists_of side.now.form.now) spot.point result }
+    ensures leads { target_of result.to ≡ leads_to (frame_of side.now.form.now) spot.point choice }
+{
+    let to = target_at(side.form, spot.point, choice);
+    match to {
+        Target::Point(next) => Way {
+            to,
+            round: round_at(side.form, next),
+            place: place_from(side.form, spot.point, spot.start, next),
+        },
+        Target::End(end) => Way {
+            to,
+            round: end_round(side.form, end),
+            place: 0,
+        },
+    }
+}
+
+/// Where each move of a point leads.
+pub(crate) fn ways_at(side: &Deviator<'_>, spot: Spot) -> [Way; 26]
+    requires { IsSpot (frame_of side.now.form.now) (lists_of side.now.form.now) spot }
+    ensures { AreWays (frame_of side.now.form.now) (lists_of side.now.form.now) spot.point (move_count (frame_of side.now.form.now) spot.point) result }
+{
+    let nowhere = Way {
+        to: Target::Point(0),
+        round: 0,
+        place: 0,
+    };
+    let mut ways = [nowhere; 26];
+    for choice in 0..move_total(side.form, spot.point) {
+        ways[usize::from(choice)] = way_at(side, spot, choice);
+    }
+    ways
+}
