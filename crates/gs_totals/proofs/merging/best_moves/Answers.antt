@@ -14,7 +14,6 @@ loop-choice-preserved c =
     let v = totals_in d c.args.totals.now.points.items in
     let all = c.class_total-count.ensures.value ∙ ap (class_count (lists d)) c.round_at.ensures.value in
     record {
-      worths = λ j some top. omega (arith, i.worths j some top, c.read_worths-read.auto.worths);
       best = λ j some top. omega (arith, i.best j some top, c.raise.auto.best);
       moves = λ j some top. omega (arith, i.moves j some top, c.raise.auto.moves);
       so_far = λ some.
@@ -28,3 +27,6 @@ returns c =
     let all : c.loop-choice.choice ≡ move_count (frame d) c.args.point = omega (arith, c.loop-choice-test.false, c.loop-choice.auto.choice-end, c.move_total-choice-end.ensures.value) in
     let some : 0 < c.loop-choice.choice = omega (arith, c.loop-choice-test.false, c.loop-choice.auto.choice-end, c.move_total-choice-end.ensures.some) in
     subst (λ n. AreGreatest (frame d) (lists d) v c.args.point n c.loop-choice.best c.loop-choice.moves) all (c.loop-choice.invariant.so_far some)
+
+pub read_worths-read-requires-clause-wide : goal.read_worths-read-requires-clause-wide
+read_worths-read-requires-clause-wide c = λ j some top. omega (arith, c.requires.worths j some top, c.loop-choice.auto.worths)

@@ -30,7 +30,9 @@ loop-choice-preserved c =
     let start : c.index.result.now ≡ start_of f (lists d) q = get_or_read c.args.places.now.points.items q _ (omega (arith, c.requires.point, placed.many_points)) c.index.ensures 0 ∙ placed.points q c.requires.point in
     let all = c.class_total-count.ensures.value ∙ ap (class_count (lists d)) c.round_at.ensures.value in
     record {
-      worths = λ j some top. omega (arith, i.worths j some top, c.read_worths-read.auto.worths);
       row = λ j some top. omega (arith, i.row j some top, c.take.auto.row);
       so_far = chosen_step f (lists d) v q c.loop-choice.choice c.class_total-count.result all c.read_worths-read.result.now c.read_worths-read.ensures.worths c.args.picks.now c.index.result.now c.loop-choice.row c.take.new.row start c.take.ensures i.so_far;
     }
+
+pub read_worths-read-requires-clause-wide : goal.read_worths-read-requires-clause-wide
+read_worths-read-requires-clause-wide c = λ j some top. omega (arith, c.requires.worths j some top, c.loop-choice.auto.worths)

@@ -9,7 +9,6 @@ use Rattle.gs_totals.proofs.merging.chosen_moves.Given as goal
 
 abbrev pub invariant-loop-choice : goal.invariant-loop-choice
 invariant-loop-choice l = let f = frame_of l.side.form.now in let lists = lists_of l.side.form.now in record {
-  worths : IsWide f lists (length l.worths);
   row : IsWide f lists (length l.row);
   so_far : AreChosen f lists (totals_of f lists l.side.player (class_plan f lists l.side.other.now) l.totals.points.items) (moves_of f lists l.picks) l.point l.choice l.row;
 }

@@ -36,7 +36,9 @@ loop-choice-preserved c =
     let v = totals_in d c.args.totals.now.points.items in
     let all = c.class_total-count.ensures.value ∙ ap (class_count (lists d)) c.round_at.ensures.value in
     record {
-      worths = λ j some top. omega (arith, i.worths j some top, c.read_worths-read.auto.worths);
       sums = λ j some top. omega (arith, i.sums j some top, c.add.auto.sums);
       so_far = λ some. sum_step (frame d) (lists d) v c.args.point c.loop-choice.choice c.class_total-count.result all c.read_worths-read.result.now c.read_worths-read.ensures.worths c.loop-choice.sums c.add.new.sums c.add.ensures i.so_far;
     }
+
+pub read_worths-read-requires-clause-wide : goal.read_worths-read-requires-clause-wide
+read_worths-read-requires-clause-wide c = λ j some top. omega (arith, c.requires.worths j some top, c.loop-choice.auto.worths)

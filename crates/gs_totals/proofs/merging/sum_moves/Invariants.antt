@@ -8,7 +8,6 @@ use Rattle.gs_totals.proofs.merging.sum_moves.Given as goal
 
 abbrev pub invariant-loop-choice : goal.invariant-loop-choice
 invariant-loop-choice l = let f = frame_of l.side.form.now in let lists = lists_of l.side.form.now in record {
-  worths : IsWide f lists (length l.worths);
   sums : IsWide f lists (length l.sums);
   so_far : 0 < l.choice → AreSums f lists (totals_of f lists l.side.player (class_plan f lists l.side.other.now) l.totals.points.items) l.point l.choice l.sums;
 }
