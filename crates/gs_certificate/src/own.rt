@@ -1,20 +1,22 @@
 //! The points of the player whose numbers are checked: a number is to be at least what each move is worth.
 
-ghost use Rattle.std.specs.Prelude.{◌≡◌, ◌<◌, ◌≤◌, ◌≤ℤ◌, ◌<ℤ◌, ◌^◌, MatchOption, unsigned_abs};
+ghost use Rattle.std.specs.Prelude.{◌≡◌, ◌<◌, ◌≤◌, ◌≤ℤ◌, ◌<ℤ◌, ◌^◌, IfSome, MatchOption, unsigned_abs};
 ghost use Rattle.gs_game.specs.Seen.{target_of};
 ghost use Rattle.gs_model.specs.BestAnswers.{end_worth};
 ghost use Rattle.gs_model.specs.Classes.{IsClass, class_count, first_member};
 ghost use Rattle.gs_model.specs.Frame.{end_count, last_round, player_at, point_count, round_of};
 ghost use Rattle.gs_model.specs.Positions.{at_end, at_point};
 ghost use Rattle.gs_seq.specs.Abstracts.{frame_of, lists_of};
-ghost use Rattle.gs_seq.specs.Plans.{lifted};
+ghost use Rattle.gs_seq.specs.Plans.{class_plan, lifted};
 ghost use Rattle.gs_best.specs.Tables.{start_of, table_of};
 ghost use Rattle.gs_certificate.specs.Numbers.{AreHighAt, AreNumbers, IsFirstLowAt, Tells};
+ghost use Rattle.gs_certificate.specs.Paid.{ArePaid};
 ghost use Rattle.gs_certificate.specs.Spots.{IsFirstBelow, IsSpot, IsWay};
 
 use crate::spot::{Spot, Way};
 use crate::spots::way_at;
 use crate::sums::end_below;
+use crate::tables::{EndSums, paid_at};
 use crate::worths::{number_at, numbers_below};
 use gs_best::{Deviator, class_total, move_total, round_total};
 use gs_game::Target;
@@ -56,11 +58,13 @@ fn first_below_point(
 fn first_below_end(
     side: &Deviator<'_>,
     values: &[i128],
+    ends: Option<&EndSums>,
     spot: Spot,
     end: u32,
     to: u8,
     count: u32,
 ) -> u32
+    requires ends { let f = frame_of side.now.form.now in let lists = lists_of side.now.form.now in IfSome ends (λ kept. ArePaid f lists side.now.player (class_plan f lists side.now.other.now) kept.now) }
     requires numbers { AreNumbers (frame_of side.now.form.now) (lists_of side.now.form.now) values.now }
     requires spot { IsSpot (frame_of side.now.form.now) (lists_of side.now.form.now) spot }
     requires end { end < end_count (frame_of side.now.form.now) }
@@ -73,7 +77,7 @@ fn first_below_end(
     let _rounds = round_total(side.form);
     for before in 0..count {
         let class = before + 1;
-        let worth = end_below(side, end, to, spot.round, class);
+        let worth = end_below(side, ends, end, to, spot.round, class);
         if number_at(side, values, spot, class) < worth {
             return before;
         }
@@ -82,7 +86,15 @@ fn first_below_end(
 }
 
 /// Whether a number is less than what an end is worth to a class of its round, from what all members gain together: nothing is divided.
-fn is_below_end(side: &Deviator<'_>, number: i128, end: u32, round: u8, class: u32) -> bool
+fn is_below_end(
+    side: &Deviator<'_>,
+    ends: Option<&EndSums>,
+    number: i128,
+    end: u32,
+    round: u8,
+    class: u32,
+) -> bool
+    requires ends { let f = frame_of side.now.form.now in let lists = lists_of side.now.form.now in IfSome ends (λ kept. ArePaid f lists side.now.player (class_plan f lists side.now.other.now) kept.now) }
     requires small { unsigned_abs number < 2 ^ 90 }
     requires end { end < end_count (frame_of side.now.form.now) }
     requires round { round ≡ round_of (frame_of side.now.form.now) (at_end end) }
@@ -91,14 +103,22 @@ fn is_below_end(side: &Deviator<'_>, number: i128, end: u32, round: u8, class: u
         Tells result (number <ℤ worth) (worth ≤ℤ number) }
 {
     let _rounds = round_total(side.form);
-    let together = side.form.end_sum(side.player, side.other, end, class);
+    let together = paid_at(side, ends, end, class);
     let members = side.form.lossless().classes().size(round, class);
     scaled(u64::from(members), number) < together
 }
 
 /// Of the first so many classes of a point the first whose number is less than what a move to an end of the point's own round is worth; their count if
 /// there is none.
-fn first_below_own(side: &Deviator<'_>, values: &[i128], spot: Spot, end: u32, count: u32) -> u32
+fn first_below_own(
+    side: &Deviator<'_>,
+    values: &[i128],
+    ends: Option<&EndSums>,
+    spot: Spot,
+    end: u32,
+    count: u32,
+) -> u32
+    requires ends { let f = frame_of side.now.form.now in let lists = lists_of side.now.form.now in IfSome ends (λ kept. ArePaid f lists side.now.player (class_plan f lists side.now.other.now) kept.now) }
     requires numbers { AreNumbers (frame_of side.now.form.now) (lists_of side.now.form.now) values.now }
     requires spot { IsSpot (frame_of side.now.form.now) (lists_of side.now.form.now) spot }
     requires end { end < end_count (frame_of side.now.form.now) }
@@ -111,7 +131,7 @@ fn first_below_own(side: &Deviator<'_>, values: &[i128], spot: Spot, end: u32, c
     for before in 0..count {
         let class = before + 1;
         let number = number_at(side, values, spot, class);
-        if is_below_end(side, number, end, spot.round, class) {
+        if is_below_end(side, ends, number, end, spot.round, class) {
             return before;
         }
     }
@@ -119,7 +139,15 @@ fn first_below_own(side: &Deviator<'_>, values: &[i128], spot: Spot, end: u32, c
 }
 
 /// Of the first so many classes of a point the first whose number is less than what a move is worth; their count if there is none.
-fn first_below(side: &Deviator<'_>, values: &[i128], spot: Spot, way: Way, count: u32) -> u32
+fn first_below(
+    side: &Deviator<'_>,
+    values: &[i128],
+    ends: Option<&EndSums>,
+    spot: Spot,
+    way: Way,
+    count: u32,
+) -> u32
+    requires ends { let f = frame_of side.now.form.now in let lists = lists_of side.now.form.now in IfSome ends (λ kept. ArePaid f lists side.now.player (class_plan f lists side.now.other.now) kept.now) }
     requires numbers { AreNumbers (frame_of side.now.form.now) (lists_of side.now.form.now) values.now }
     requires spot { IsSpot (frame_of side.now.form.now) (lists_of side.now.form.now) spot }
     requires way { IsWay (frame_of side.now.form.now) (lists_of side.now.form.now) spot.point way }
@@ -133,15 +161,21 @@ fn first_below(side: &Deviator<'_>, values: &[i128], spot: Spot, way: Way, count
         }
         Target::End(end) => {
             if spot.round == way.round {
-                return first_below_own(side, values, spot, end, count);
+                return first_below_own(side, values, ends, spot, end, count);
             }
-            first_below_end(side, values, spot, end, way.round, count)
+            first_below_end(side, values, ends, spot, end, way.round, count)
         }
     }
 }
 
 /// The first class of an own point where the number is too low.
-pub(crate) fn own_low_at(side: &Deviator<'_>, values: &[i128], spot: Spot) -> Option<u32>
+pub(crate) fn own_low_at(
+    side: &Deviator<'_>,
+    values: &[i128],
+    ends: Option<&EndSums>,
+    spot: Spot,
+) -> Option<u32>
+    requires ends { let f = frame_of side.now.form.now in let lists = lists_of side.now.form.now in IfSome ends (λ kept. ArePaid f lists side.now.player (class_plan f lists side.now.other.now) kept.now) }
     requires numbers { AreNumbers (frame_of side.now.form.now) (lists_of side.now.form.now) values.now }
     requires spot { IsSpot (frame_of side.now.form.now) (lists_of side.now.form.now) spot }
     requires own { player_at (frame_of side.now.form.now) spot.point ≡ side.now.player }
@@ -153,7 +187,7 @@ pub(crate) fn own_low_at(side: &Deviator<'_>, values: &[i128], spot: Spot) -> Op
     let mut low = count;
     for choice in 0..move_total(side.form, spot.point) {
         let way = way_at(side, spot, choice);
-        low = first_below(side, values, spot, way, low);
+        low = first_below(side, values, ends, spot, way, low);
     }
     if low < count { Some(low + 1) } else { None }
 }

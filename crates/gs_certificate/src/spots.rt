@@ -49,6 +49,7 @@ pub(crate) fn way_at(side: &Deviator<'_>, spot: Spot, choice: u8) -> Way
 }
 
 /// Where each move of a point leads.
+#[inline(always)]
 pub(crate) fn ways_at(side: &Deviator<'_>, spot: Spot) -> [Way; 26]
     requires { IsSpot (frame_of side.now.form.now) (lists_of side.now.form.now) spot }
     ensures { AreWays (frame_of side.now.form.now) (lists_of side.now.form.now) spot.point (move_count (frame_of side.now.form.now) spot.point) result }

@@ -4,7 +4,7 @@
 
 ghost use Rattle.std.specs.Prelude.{◌≡◌, ◌≢◌, ◌++◌, ◌<◌, ◌≤◌, ◌^◌, All, IfOk, IfSome, get_or, length, true, unsigned_abs};
 ghost use Rattle.std.specs.Fmt.{signed_decimal};
-ghost use Rattle.gs_frac.specs.Texts.{fraction_text};
+ghost use Rattle.gs_frac.specs.Texts.{fraction_text, number_of};
 ghost use Rattle.serde_json.specs.Written.{compact_text};
 ghost use Rattle.gs_certificate.specs.Checks.{AreSmall};
 ghost use Rattle.gs_certificate.specs.Straight.{AreDigits, StandsFor};
@@ -12,8 +12,8 @@ ghost use Rattle.gs_certificate.specs.Texts.{certificate_text as text_of, side_d
 ghost use Rattle.gs_certificate.specs.Views.{certificate_view, fraction_parts};
 
 use crate::certificate::Certificate;
-use crate::numerals::number_of;
-use gs_frac::{Fraction, is_minus_zero, sign, with_sign};
+use crate::numerals::number_of as wide_number;
+use gs_frac::{Fraction, is_minus_zero, sign};
 use std::alloc::{AllocError, AllocFailed, Global};
 
 /// Why a certificate was not read straight.
@@ -93,6 +93,18 @@ fn is_plain(digits: &[u8], count: usize) -> bool
     }
 }
 
+/// A whole number of few digits with a sign.
+fn narrow_number(negative: bool, size: u64) -> i128
+    requires { size < 10 ^ 18 }
+    ensures { result ≡ number_of negative size }
+{
+    if negative {
+        i128::from(-(size as i64))
+    } else {
+        i128::from(size as i64)
+    }
+}
+
 /// A number of few digits before the first quote, and what stands from the quote on.
 fn narrow_in(bytes: &[u8]) -> Option<(i128, &[u8])>
     ensures text { IfSome result (λ p. bytes.now ≡ signed_decimal p.0 ++ p.1.now) }
@@ -100,8 +112,7 @@ fn narrow_in(bytes: &[u8]) -> Option<(i128, &[u8])>
 {
     let (negative, digits) = sign(bytes);
     let (size, count) = digits_in(digits);
-    let size = u128::from(size);
-    if is_minus_zero(negative, size) {
+    if is_minus_zero(negative, u128::from(size)) {
         return None;
     }
     if !is_plain(digits, count) {
@@ -109,7 +120,7 @@ fn narrow_in(bytes: &[u8]) -> Option<(i128, &[u8])>
     }
     let rest = &digits[count..];
     match rest {
-        [b'"', ..] => Some((with_sign(negative, size), rest)),
+        [b'"', ..] => Some((narrow_number(negative, size), rest)),
         _ => None,
     }
 }
@@ -120,7 +131,7 @@ fn wide_in(bytes: &[u8]) -> Result<(i128, &[u8]), Stop>
     ensures small { IfOk result (λ p. unsigned_abs p.0 < 2 ^ 90) }
 {
     let (text, rest) = to_quote(bytes)?;
-    match number_of(text) {
+    match wide_number(text) {
         Some(number) => Ok((number, rest)),
         None => Err(Stop::Other),
     }

@@ -1,6 +1,7 @@
 //! The value of two plans.
 
 ghost use Rattle.std.specs.Prelude.{◌≡◌, ◌*◌, ◌<◌, ◌≤◌, ◌^◌, pos};
+ghost use Rattle.gs_model.specs.Payoff.{raw_payoff};
 ghost use Rattle.gs_model.specs.Verdict.{IsValue};
 ghost use Rattle.gs_best.specs.Judged.{parts};
 ghost use Rattle.gs_seq.specs.Abstracts.{frame_of, lists_of};
@@ -22,15 +23,15 @@ fn scale_of(weight: u64, one: u64, two: u64) -> u128
     u128::from(weight * one) * u128::from(two)
 }
 
-/// What a plan of player 1 and a plan of player 2 pay player 1, over the weight of all deals and both totals. No greatest is sought.
-pub fn value_of(form: &Abstract, one: &Plan, two: &Plan) -> Fraction
+/// What a plan of player 1 and a plan of player 2 pay player 1, from that in chips: over the weight of all deals and both totals.
+pub fn value_of(form: &Abstract, one: &Plan, two: &Plan, paid: i128) -> Fraction
     requires one { IsPlanOf (frame_of form.now) (lists_of form.now) 1 one.now }
     requires two { IsPlanOf (frame_of form.now) (lists_of form.now) 2 two.now }
+    requires paid { paid ≡ raw_payoff (frame_of form.now) (lifted (frame_of form.now) (lists_of form.now) one.now) (lifted (frame_of form.now) (lists_of form.now) two.now) }
     ensures { let f = frame_of form.now in let lists = lists_of form.now in
         IsValue f (lifted f lists one.now) (lifted f lists two.now) (parts result).0 (parts result).1 }
 {
     let _rounds = round_total(form);
-    let paid = form.payoff(one, two);
     let scale = scale_of(deal_weight(form), one.total, two.total);
     fraction(paid, scale as i128)
 }

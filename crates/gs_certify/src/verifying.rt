@@ -15,7 +15,7 @@ ghost use Rattle.gs_certify.specs.Verifying.{SaysChecked, bounds_text as text_of
 
 use crate::value::value_of;
 use gs_certificate::{
-    CertFault, CertTextFault, Certificate, cert_fault_text, cert_text_fault_text, check_certificate,
+    CertFault, CertTextFault, Certificate, cert_fault_text, cert_text_fault_text, certified_payoff,
 };
 use gs_frac::Fraction;
 use gs_reply::{Answer, bad_certificate};
@@ -77,10 +77,10 @@ pub(crate) fn checked(
     requires modest { AreSmall c.now }
     ensures { IfOk result (Answers (SaysChecked (stored_view stored.now) c.now)) }
 {
-    match check_certificate(form, &stored.one, &stored.two, c) {
-        Some(fault) => unsound(alloc, &fault),
-        None => {
-            let value = value_of(form, &stored.one, &stored.two);
+    match certified_payoff(alloc, form, &stored.one, &stored.two, c)? {
+        Err(fault) => unsound(alloc, &fault),
+        Ok(paid) => {
+            let value = value_of(form, &stored.one, &stored.two, paid);
             Ok(Answer::Prints(bounds_text(alloc, &value, c)?))
         }
     }

@@ -16,6 +16,9 @@ use Rattle.gs_certificate.proofs.PlainTexts.{kept}
 use Rattle.gs_certificate.proofs.Shares.{share_tells, times_small}
 use Rattle.gs_certificate.proofs.own.is_below_end.Goals as goal
 
+pub paid_at-together-requires-clause-class : goal.paid_at-together-requires-clause-class
+paid_at-together-requires-clause-class c = subst (λ j. IsClass (lists c.args.side.now) j c.args.class) c.requires.round c.requires.class
+
 pub size-members-requires-clause-some : goal.size-members-requires-clause-some
 size-members-requires-clause-some c = let some = (side_walked c.args.side.now).end_round c.args.end c.requires.end in omega (arith, some, c.requires.round)
 
@@ -39,4 +42,4 @@ returns c =
     let some = some_member f ls classes round c.args.class ((side_walked d).end_round z c.requires.end) ((side_walked d).end_in z c.requires.end) class in
     share_tells c.from.result c.args.number worth _ _ (omega (arith, size, some))
     (to_z-of_z w128 c.scaled.result (record { sfits = c.scaled.type_inv }) ∙ c.scaled.ensures ∙ ap (λ x. pos c.from.result *ℤ x) (sym (kept c.args.number c.requires.small)))
-    (to_z-of_z w128 c.end_sum-together.result (record { sfits = c.end_sum-together.type_inv }) ∙ c.end_sum-together.ensures ∙ share ∙ ap (λ n. worth *ℤ pos n) (sym size))
+    (to_z-of_z w128 c.paid_at-together.result (record { sfits = c.paid_at-together.type_inv }) ∙ c.paid_at-together.ensures ∙ share ∙ ap (λ n. worth *ℤ pos n) (sym size))

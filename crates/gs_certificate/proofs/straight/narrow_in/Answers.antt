@@ -1,4 +1,4 @@
-use Rattle.std.proofs.Common.{◌≡◌, ◌==◌, ◌&&◌, ◌<◌, ◌-◌, ◌^◌, ◌++◌, ◌∙◌, ℕ, Bool, List, length, take, drop, ap, sym, subst, arith}
+use Rattle.std.proofs.Common.{◌≡◌, ◌==◌, ◌&&◌, ◌<◌, ◌-◌, ◌^◌, ◌++◌, ◌∙◌, ℕ, Bool, List, length, take, drop, ap, sym, refl, subst, arith}
 use Rattle.std.specs.Prelude.{ℤ, unsigned_abs}
 use Rattle.std.specs.Fmt.{signed_decimal}
 use Rattle.std.proofs.lemmas.List.{length-drop, take_all}
@@ -26,15 +26,15 @@ returns-in-34-clause-text c =
     let digits : List ℕ = c.sign-negative.result.1.now in
     let size = c.digits_in-size.result.0 in
     let count = c.digits_in-size.result.1 in
-    let z = c.with_sign.result in
-    let n = narrow negative size c.from-size.result z c.from-size.ensures c.digits_in-size.ensures.few c.with_sign.ensures in
+    let z = c.narrow_number.result in
+    let n = narrow negative size size z refl c.digits_in-size.ensures.few c.narrow_number.ensures in
     let plain = c.is_plain.ensures c.if-not-is_plain.false in
-    let no_minus_zero = ap (λ (k : ℕ). negative && (k == 0)) (sym c.from-size.ensures) ∙ sym c.if-is_minus_zero.ensures in
+    let no_minus_zero = ap (λ (k : ℕ). negative && (k == 0)) (sym c.from.ensures) ∙ sym c.if-is_minus_zero.ensures in
     let text = narrow_is c.args.bytes.now digits negative size count c.sign-negative.ensures c.digits_in-size.ensures plain.0 plain.1 no_minus_zero in
     text ∙ ap (λ (x : ℤ). signed_decimal x ++ drop count digits) (sym n.0 ∙ kept z n.1) ∙ ap (λ (q : List ℕ). signed_decimal (to_z w128 (of_z w128 z)) ++ q) (sym (rest_is digits count))
 
 pub returns-in-34-clause-small : goal.returns-in-34-clause-small
 returns-in-34-clause-small c =
-    let z = c.with_sign.result in
-    let n = narrow c.sign-negative.result.0 c.digits_in-size.result.0 c.from-size.result z c.from-size.ensures c.digits_in-size.ensures.few c.with_sign.ensures in
+    let z = c.narrow_number.result in
+    let n = narrow c.sign-negative.result.0 c.digits_in-size.result.0 c.digits_in-size.result.0 z refl c.digits_in-size.ensures.few c.narrow_number.ensures in
     subst (λ (x : ℤ). unsigned_abs x < 2 ^ 90) (kept z n.1) n.1

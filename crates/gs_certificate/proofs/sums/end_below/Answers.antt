@@ -18,14 +18,13 @@ use Rattle.gs_certificate.proofs.sums.end_below.Goals as goal
 round_in : (d : Deviator) (z to : ℕ) → z < end_count (frame d) → to ≡ round_of (frame d) (at_end z) → to ≤ last_round (frame d)
 round_in d z to l e = let top = (side_walked d).end_in z l in omega (arith, top, e)
 
-pub end_value-requires-clause-class : goal.end_value-requires-clause-class
-end_value-requires-clause-class c =
-    subst (λ j. IsClass (lists c.args.side.now) j c.args.class) (c.if-from-to.true ∙ c.requires.to) c.requires.class
+pub end_share-requires-clause-class : goal.end_share-requires-clause-class
+end_share-requires-clause-class c = subst (λ j. IsClass (lists c.args.side.now) j c.args.class) c.if-from-to.true c.requires.class
 
 pub returns-then-from-to-clause-value : goal.returns-then-from-to-clause-value
 returns-then-from-to-clause-value c =
     let d = c.args.side.now in
-    to_z-of_z w128 c.end_value.result (record { sfits = c.end_value.type_inv }) ∙ c.end_value.ensures
+    to_z-of_z w128 c.end_share.result (record { sfits = c.end_share.type_inv }) ∙ c.end_share.ensures
     ∙ end_own d c.round_total-rounds.ensures.sound c.args.end c.args.from c.args.class (c.if-from-to.true ∙ c.requires.to) c.requires.some (let top = round_in d c.args.end c.args.to c.requires.end c.requires.to in omega (arith, c.if-from-to.true, top)) c.requires.class
 
 pub returns-then-from-to-clause-small : goal.returns-then-from-to-clause-small
@@ -33,7 +32,7 @@ returns-then-from-to-clause-small c =
     let d = c.args.side.now in
     let class = subst (λ j. IsClass (lists d) j c.args.class) (c.if-from-to.true ∙ c.requires.to) c.requires.class in
     let small = end_small d c.round_total-rounds.ensures.sound c.args.end c.args.class c.requires.end class in
-    omega (arith, small, ap unsigned_abs (to_z-of_z w128 c.end_value.result (record { sfits = c.end_value.type_inv }) ∙ c.end_value.ensures))
+    omega (arith, small, ap unsigned_abs (to_z-of_z w128 c.end_share.result (record { sfits = c.end_share.type_inv }) ∙ c.end_share.ensures))
 
 pub run_below-run-requires-clause-top : goal.run_below-run-requires-clause-top
 run_below-run-requires-clause-top c = round_in c.args.side.now c.args.end c.args.to c.requires.end c.requires.to

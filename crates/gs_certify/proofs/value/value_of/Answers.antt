@@ -23,7 +23,7 @@ fraction-requires-clause-fits c =
     let w1 = g.walked 1 (omega arith) (omega arith) in
     let size = ends_few f g.in_range ls g.classes g.modest w1 (g.walked 2 (omega arith) (omega arith)) x y c.requires.one.plan.plan c.requires.two.plan.plan (end_count f) (omega arith) in
     let all = payoff_is f ls x y g.in_range w1 g.classes in
-    let paid = to_z-of_z w128 c.payoff-paid.result (record { sfits = c.payoff-paid.type_inv }) ∙ c.payoff-paid.ensures in
+    let paid = to_z-of_z w128 c.args.paid c.ranges.paid ∙ c.requires.paid in
     omega (arith, size, ap unsigned_abs (paid ∙ sym all))
 
 pub returns : goal.returns
@@ -33,7 +33,7 @@ returns c =
     let x = c.args.one.now in
     let y = c.args.two.now in
     let v = parts c.fraction.result in
-    let paid = to_z-of_z w128 c.payoff-paid.result (record { sfits = c.payoff-paid.type_inv }) ∙ c.payoff-paid.ensures in
+    let paid = to_z-of_z w128 c.args.paid c.ranges.paid ∙ c.requires.paid in
     let scale = c.scale_of-scale.ensures in
     let all : c.scale_of-scale.result ≡ total_weight f * x.total * y.total = scale.value ∙ ap (λ w. w * x.total * y.total) c.deal_weight.ensures.value in
     let wide : c.scale_of-scale.result < 2 ^ 127 = omega (arith, scale.few) in

@@ -13,22 +13,22 @@ use Rattle.gs_certify.specs.Verifying.{SaysChecked}
 use Rattle.gs_certify.proofs.Moved.{moved}
 use Rattle.gs_certify.proofs.verifying.checked.Goals as goal
 
-pub returns-in-Some : goal.returns-in-Some
-returns-in-Some c =
+pub returns-in-Err : goal.returns-in-Err
+returns-in-Err c =
     let l = c.args.form.now.lossless.now in
     let s = c.args.stored.now in
     let k = c.args.c.now in
-    let why = c.in-Some.fault in
+    let why = c.in-Err.fault in
     IfOk-weaker c.unsound.result _ _ (λ a t. tells_answer (SaysChecked (stored_view s) k) a (Bad_certificate (cert_fault_text why)) (record {
       lossless = c.requires.lossless;
       small = c.requires.small;
       why = why;
-      fault = moved (λ f n. IsFault f n (lifted f n s.one) (lifted f n s.two) k why) l s c.requires.held c.in-Some.ensures.exact;
+      fault = moved (λ f n. IsFault f n (lifted f n s.one) (lifted f n s.two) k why) l s c.requires.held c.in-Err.ensures.exact;
       told = refl;
     }) t) c.unsound.ensures
 
-pub returns-in_ok-bounds_text-in-None : goal.returns-in_ok-bounds_text-in-None
-returns-in_ok-bounds_text-in-None c =
+pub returns-in_ok-bounds_text-in-Ok : goal.returns-in_ok-bounds_text-in-Ok
+returns-in_ok-bounds_text-in-Ok c =
     let l = c.args.form.now.lossless.now in
     let s = c.args.stored.now in
     let k = c.args.c.now in
@@ -38,11 +38,11 @@ returns-in_ok-bounds_text-in-None c =
       small = c.requires.small;
       holds = record {
         small = c.requires.modest;
-        sound = moved (λ f n. IsSound f n (lifted f n s.one) (lifted f n s.two) k) l s c.requires.held c.in-None.ensures.exact;
-        bounds = moved (λ f n. BoundsAll f (lifted f n s.one) (lifted f n s.two) k) l s c.requires.held (c.in-None.ensures.bounds refl);
+        sound = moved (λ f n. IsSound f n (lifted f n s.one) (lifted f n s.two) k) l s c.requires.held c.in-Ok.ensures.exact;
+        bounds = moved (λ f n. BoundsAll f (lifted f n s.one) (lifted f n s.two) k) l s c.requires.held c.in-Ok.ensures.bounds;
       };
       value = parts_of v;
       fraction = v.reduced;
       value_is = moved (λ f n. IsValue f (lifted f n s.one) (lifted f n s.two) (parts v).0 (parts v).1) l s c.requires.held c.value_of-value.ensures;
-      printed = c.in_ok-bounds_text-in-None.ensures;
+      printed = c.in_ok-bounds_text-in-Ok.ensures;
     }

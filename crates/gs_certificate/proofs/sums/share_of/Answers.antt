@@ -1,0 +1,14 @@
+use Rattle.std.proofs.Common.{ap, ◌∙◌, arith}
+use Rattle.std.specs.Prelude.{pos, ◌<ℤ◌}
+use Rattle.std.specs.Int.RustNames.{FitsSigned, int_div}
+use Rattle.std.proofs.lemmas.Int.{ints, quot_fits, quot_is}
+use mir.Syntax.{w128}
+use Rattle.gs_best.proofs.Quotients.{exact}
+use Rattle.gs_certificate.proofs.sums.share_of.Goals as goal
+
+pub returns : goal.returns
+returns c = λ share is.
+    (let d = c.from.result in
+    let fits : FitsSigned w128 d = record { sfits = c.from.type_inv } in
+    let some : pos 0 <ℤ d = omega (arith, ints, c.from.ensures, c.requires) in
+    quot_is w128 c.args.together d c.ranges.together fits (quot_fits w128 c.args.together d c.ranges.together some) ∙ ap (int_div c.args.together) c.from.ensures ∙ exact c.args.together share c.args.members c.requires is)

@@ -1,0 +1,18 @@
+-- What ends pay a player, end by end and class by class. Of private functions.
+use Rattle.std.specs.Prelude.{ℕ, ◌+◌, ◌-◌, ◌<◌, ◌≤◌, ◌≡◌, List, get_or, length, ℤ, pos}
+use Rattle.gs_model.specs.Classes.{ClassLists, IsClass}
+use Rattle.gs_model.specs.Frame.{Frame, end_count, round_of}
+use Rattle.gs_model.specs.Plans.{Plan}
+use Rattle.gs_model.specs.Positions.{at_end}
+use Rattle.gs_seq.specs.Payoffs.{end_classes, end_sum}
+use Rattle.gs_certificate.specs.declared.tables.EndSums.{EndSums}
+
+-- for the first so many ends a list has from the place of each on what it pays a player at each class of its round, against the other's plan over classes
+pub record AreKept (f : Frame) (lists : ClassLists) (player : ℕ) (y : Plan) (count : ℕ) (starts : List ℕ) (sums : List ℤ) : Type 0 where
+  pub long : length starts ≡ count
+  pub within : (z : ℕ) → z < count → get_or starts z 0 + end_classes f lists z ≤ length sums
+  pub paid : (z c : ℕ) → z < count → IsClass lists (round_of f (at_end z)) c → get_or sums (get_or starts z 0 + (c - 1)) (pos 0) ≡ end_sum f lists player y z c
+
+-- and so for all ends
+abbrev pub ArePaid : Frame → ClassLists → ℕ → Plan → EndSums → Type 0
+ArePaid f lists player y e = AreKept f lists player y (end_count f) e.starts.items e.sums.items

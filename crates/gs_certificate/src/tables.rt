@@ -1,0 +1,150 @@
+//! What ends pay a player, end by end and class by class. Both the check of a certificate and the payoff read it.
+
+ghost use Rattle.std.specs.Prelude.{◌≡◌, ◌<◌, ◌≤◌, IfOk, IfSome, length};
+ghost use Rattle.gs_model.specs.Classes.{IsClass};
+ghost use Rattle.gs_model.specs.Frame.{end_count, round_of};
+ghost use Rattle.gs_model.specs.Payoff.{raw_payoff};
+ghost use Rattle.gs_model.specs.Positions.{at_end};
+ghost use Rattle.gs_seq.specs.Abstracts.{frame_of, lists_of};
+ghost use Rattle.gs_seq.specs.Payoffs.{end_sum, payoff_at};
+ghost use Rattle.gs_seq.specs.Plans.{IsPlanOf, class_plan, lifted};
+ghost use Rattle.gs_best.specs.Forms.{game_in};
+ghost use Rattle.gs_best.specs.Sizes.{IsWide};
+ghost use Rattle.gs_certificate.specs.Paid.{ArePaid};
+
+use gs_best::{Deviator, class_total, end_round, round_total};
+use gs_game::ValidGame;
+use gs_seq::{Abstract, Plan, plus, scaled};
+use std::alloc::{AllocError, Global};
+
+/// What each end pays the members of each class of its round together, end by end, and the place of each end's first class.
+#[derive(Drop)]
+pub(crate) struct EndSums {
+    pub(crate) starts: Vec<usize>,
+    pub(crate) sums: Vec<i128>,
+}
+
+/// The most classes that a round has.
+pub(crate) fn widest(form: &Abstract) -> u32
+    ensures { IsWide (frame_of form.now) (lists_of form.now) result }
+{
+    let mut most = 0;
+    for before in 0..round_total(form) {
+        most = class_total(form, before + 1).max(most);
+    }
+    most
+}
+
+/// The game.
+fn game<'a>(form: &Abstract<'a>) -> &'a ValidGame
+    ensures { result.now ≡ game_in form.now }
+{
+    form.lossless().signals().game()
+}
+
+/// How many ends there are.
+fn end_total(form: &Abstract) -> u32
+    ensures { result ≡ end_count (frame_of form.now) }
+{
+    game(form).ends().len() as u32
+}
+
+/// What all ends pay a player, over a row for any round's classes and the other player's numbers there, which are written anew.
+fn sums_in(
+    alloc: Global,
+    side: &Deviator<'_>,
+    row: &mut [i128],
+    numbers: &mut [u64],
+) -> Result<EndSums, AllocError>
+    requires row { IsWide (frame_of side.now.form.now) (lists_of side.now.form.now) (length row.old) }
+    requires wide { IsWide (frame_of side.now.form.now) (lists_of side.now.form.now) (length numbers.old) }
+    ensures { let f = frame_of side.now.form.now in let lists = lists_of side.now.form.now in
+        IfOk result (ArePaid f lists side.now.player (class_plan f lists side.now.other.now)) }
+{
+    let _rounds = round_total(side.form);
+    let ends = end_total(side.form);
+    let mut starts = Vec::with_capacity(alloc, ends as usize)?;
+    let mut sums = Vec::new(alloc);
+    for end in 0..ends {
+        let count = class_total(side.form, end_round(side.form, end)) as usize;
+        side.form
+            .end_sums(side.player, side.other, end, 0, row, numbers);
+        starts.push(sums.len())?;
+        sums.extend_from_slice(&row[..count])?;
+    }
+    Ok(EndSums { starts, sums })
+}
+
+/// What all ends pay a player against the other's plan.
+pub(crate) fn sums_of(alloc: Global, side: &Deviator<'_>) -> Result<EndSums, AllocError>
+    ensures { let f = frame_of side.now.form.now in let lists = lists_of side.now.form.now in
+        IfOk result (ArePaid f lists side.now.player (class_plan f lists side.now.other.now)) }
+{
+    let wide = widest(side.form) as usize;
+    let mut row = vec![in alloc; 0i128; wide]?;
+    let mut numbers = vec![in alloc; 0u64; wide]?;
+    sums_in(alloc, side, &mut row, &mut numbers)
+}
+
+/// What an end pays the members of a class of its round together, as it is kept.
+fn kept_at(side: &Deviator<'_>, ends: &EndSums, end: u32, class: u32) -> i128
+    requires ends { let f = frame_of side.now.form.now in let lists = lists_of side.now.form.now in
+        ArePaid f lists side.now.player (class_plan f lists side.now.other.now) ends.now }
+    requires end { end < end_count (frame_of side.now.form.now) }
+    requires class { IsClass (lists_of side.now.form.now) (round_of (frame_of side.now.form.now) (at_end end)) class }
+    ensures { let f = frame_of side.now.form.now in let lists = lists_of side.now.form.now in
+        result ≡ end_sum f lists side.now.player (class_plan f lists side.now.other.now) end class }
+{
+    ends.sums[ends.starts[end as usize] + class as usize - 1]
+}
+
+/// What an end pays the members of a class of its round together: read where it is kept, else added up.
+pub(crate) fn paid_at(side: &Deviator<'_>, ends: Option<&EndSums>, end: u32, class: u32) -> i128
+    requires ends { let f = frame_of side.now.form.now in let lists = lists_of side.now.form.now in
+        IfSome ends (λ kept. ArePaid f lists side.now.player (class_plan f lists side.now.other.now) kept.now) }
+    requires end { end < end_count (frame_of side.now.form.now) }
+    requires class { IsClass (lists_of side.now.form.now) (round_of (frame_of side.now.form.now) (at_end end)) class }
+    ensures { let f = frame_of side.now.form.now in let lists = lists_of side.now.form.now in
+        result ≡ end_sum f lists side.now.player (class_plan f lists side.now.other.now) end class }
+{
+    match ends {
+        Some(kept) => kept_at(side, kept, end, class),
+        None => side.form.end_sum(side.player, side.other, end, class),
+    }
+}
+
+/// What a plan of player 1 and one of player 2 pay player 1 at an end, by what that pays player 1's classes.
+fn end_paid(first: &Deviator<'_>, x: &Plan, ends: &EndSums, end: u32) -> i128
+    requires first { first.now.player ≡ 1 }
+    requires x { IsPlanOf (frame_of first.now.form.now) (lists_of first.now.form.now) 1 x.now }
+    requires ends { let f = frame_of first.now.form.now in let lists = lists_of first.now.form.now in
+        ArePaid f lists first.now.player (class_plan f lists first.now.other.now) ends.now }
+    requires end { end < end_count (frame_of first.now.form.now) }
+    ensures { let f = frame_of first.now.form.now in let lists = lists_of first.now.form.now in
+        result ≡ payoff_at f lists (class_plan f lists x.now) (class_plan f lists first.now.other.now) end }
+{
+    let _rounds = round_total(first.form);
+    let mut sum = 0i128;
+    for before in 0..class_total(first.form, end_round(first.form, end)) {
+        let number = first.form.number_at_end(x, end, before + 1);
+        sum = plus(sum, scaled(number, kept_at(first, ends, end, before + 1)));
+    }
+    sum
+}
+
+/// What a plan of player 1 and the other's pay player 1, by what ends pay player 1's classes.
+pub(crate) fn plans_pay(first: &Deviator<'_>, x: &Plan, ends: &EndSums) -> i128
+    requires first { first.now.player ≡ 1 }
+    requires x { IsPlanOf (frame_of first.now.form.now) (lists_of first.now.form.now) 1 x.now }
+    requires ends { let f = frame_of first.now.form.now in let lists = lists_of first.now.form.now in
+        ArePaid f lists first.now.player (class_plan f lists first.now.other.now) ends.now }
+    ensures { let f = frame_of first.now.form.now in let lists = lists_of first.now.form.now in
+        result ≡ raw_payoff f (lifted f lists x.now) (lifted f lists first.now.other.now) }
+{
+    let _rounds = round_total(first.form);
+    let mut sum = 0i128;
+    for end in 0..end_total(first.form) {
+        sum = plus(sum, end_paid(first, x, ends, end));
+    }
+    sum
+}
