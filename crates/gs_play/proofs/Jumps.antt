@@ -1,7 +1,7 @@
 -- Turns taken at once: while both answers stay, so many turns add so many times both answers.
 use Rattle.std.proofs.Common.{◌≡◌, ℕ, zero, suc, ◌+◌, ◌<◌, ◌≤◌, refl, sym, subst, arith}
 use Rattle.std.specs.Prelude.{◌==◌, if◌then◌else◌}
-use Rattle.gs_model.specs.BestAnswers.{IsFirstBestPlan, Values}
+use Rattle.gs_model.specs.BestAnswers.{Values}
 use Rattle.gs_model.specs.Classes.{ClassLists, IsClass, IsClasses, first_member}
 use Rattle.gs_model.specs.Frame.{Frame, last_step, move_count, other_player, player_at, point_count, round_of}
 use Rattle.gs_model.specs.FrameFacts.{InRange, IsWalked}

@@ -8,7 +8,6 @@ use Rattle.gs_model.specs.Frame.{Frame, last_step, move_count, other_player, pay
 use Rattle.gs_model.specs.FrameFacts.{InRange, IsInside, IsWalked}
 use Rattle.gs_model.specs.Lossless.{IsLossless}
 use Rattle.gs_model.specs.Plans.{Plan, lift, number_before}
-use Rattle.gs_model.specs.Play.{IsFictitiousPlay}
 use Rattle.gs_model.specs.Positions.{Target, at_end, at_point}
 use Rattle.gs_seq.specs.Payoffs.{end_sum}
 use Rattle.gs_seq.specs.Slots.{plan_of, slot_of}
