@@ -1,5 +1,6 @@
 -- What the tables tell of the signals of the next round, and what is kept of these from the round before.
-use Rattle.std.proofs.Common.{◌≡◌, ℕ, zero, suc, ◌-◌, ◌*◌, ◌^◌, ◌<◌, ◌≤◌, ◌++◌, List, [], ◌∷◌, length, get_or, refl, sym, ap, ◌∙◌, arith, subst, All}
+use Rattle.std.proofs.Common.{◌≡◌, ℕ, zero, suc, ◌-◌, ◌*◌, ◌^◌, ◌<◌, ◌≤◌, ◌++◌, List, [], ◌∷◌, length, map, get_or, replicate, refl, sym, ap, ◌∙◌, arith, subst, All}
+use Rattle.std.proofs.lemmas.List.{get_or-map, get_or-replicate, length-map, length-replicate}
 use Rattle.std.specs.Global.{Vec}
 use Rattle.gs_game.specs.Limits.{IsDealable}
 use Rattle.gs_model.specs.Deals.{path_weight}
@@ -8,10 +9,12 @@ use Rattle.gs_model.specs.Signals.{Seen, Signal, last_edge, own_cards, parents, 
 use Rattle.gs_model.proofs.Ranges.{length-parents}
 use Rattle.gs_tree.specs.Kept.{AreHands}
 use Rattle.gs_tree.specs.Layers.{last_seen}
-use Rattle.gs_tree.specs.Shown.{seen_of}
+use Rattle.gs_tree.specs.Shown.{cards_on, seen_of, seen_on}
 use Rattle.gs_tree.specs.Tables.{AreTables}
 use Rattle.gs_tree.specs.declared.layer.Layer.{Layer}
 use Rattle.gs_tree.specs.declared.layer.Shown.{Shown}
+use Rattle.gs_tree.specs.declared.layer.Side.{Side}
+use Rattle.gs_tree.specs.declared.layer.Side.TheVariants.{Own, Public}
 use Rattle.gs_tree.proofs.Hands.{own_cards-push, public_cards-push}
 use Rattle.gs_tree.proofs.Lookups.{is_child, layer_of}
 use Rattle.gs_tree.proofs.Paths.{last_edge_small, path_small, path_step, power_fits, power_step}
@@ -63,12 +66,40 @@ path_fits g n i p a b d few in' rounds m l e f =
     let edge : b ≤ 59049 = omega (arith, f, last_edge_small g (suc n) i d few (omega arith) (omega (arith, in')) m) in
     power_fits (a * b) (suc n) (omega (arith, in', rounds)) (power_step a b (suc n) (omega arith) (subst P before small) edge)
 
+all_ones : {X : Type 0} (f : X → ℕ) (xs : List X) (d : X) (n : ℕ) → n ≡ length xs → ((i : ℕ) → i < length xs → f (get_or xs i d) ≡ 1) → replicate n 1 ≡ map f xs
+all_ones f [] d zero e h = refl
+all_ones f [] d (suc n) e h = absurd (omega (arith, e))
+all_ones f (x ∷ xs) d zero e h = absurd (omega (arith, e))
+all_ones f (x ∷ xs) d (suc n) e h =
+    let here : f x ≡ 1 = h 0 (omega arith) in
+    ap (λ y. y ∷ replicate n 1) (sym here) ∙ ap (λ l. f x ∷ l) (all_ones f xs d n (omega (arith, e)) (λ i l. h (suc i) (omega arith)))
+
+-- where there is one way to each signal of a round, and to go on from there to each of the next one, there is one way to each of these
+pub one_way : (g : Game) (ps : List (Vec ℕ)) (ls : List Layer) (n : ℕ) → AreTables g ps ls → n < length ls → (row : Vec ℕ) (l : Layer) → row ≡ get_or ps n row → l ≡ get_or ls n l →
+    (before count : ℕ) → map (path_weight g.copies) (signals g n) ≡ replicate before 1 → l.edges ≡ replicate count 1 → replicate count 1 ≡ map (path_weight g.copies) (signals g (suc n))
+one_way g ps ls n t in' row l r e before count b w =
+    let ss : List Signal = signals g (suc n) in
+    let long : count ≡ length ss = sym (length-replicate count 1) ∙ ap (λ (x : List ℕ). length x) (sym w) ∙ (layer_long g ps ls n t in' l e).1 in
+    let wide : before ≡ length (signals g n) = sym (length-replicate before 1) ∙ ap (λ (x : List ℕ). length x) (sym b) ∙ length-map (signals g n) (path_weight g.copies) in
+    all_ones (path_weight g.copies) ss [] count long (λ i m.
+    let h = told g ps ls n t in' row l i r e m in
+    let p : ℕ = get_or row.items i 0 in
+    let path : path_weight g.copies (signal_at g n p) ≡ 1 =
+    sym (get_or-map (path_weight g.copies) (signals g n) p [] 0 h.parent_in) ∙ ap (λ (x : List ℕ). get_or x p 0) b ∙ get_or-replicate before p 1 0 (omega (arith, wide, h.parent_in)) in
+    let edge : last_edge g.copies (signal_at g (suc n) i) ≡ 1 =
+    sym h.edge_is ∙ ap (λ (x : List ℕ). get_or x i 0) w ∙ get_or-replicate count i 1 0 (omega (arith, long, m)) in
+    h.path_is ∙ ap (λ k. k * last_edge g.copies (signal_at g (suc n) i)) path ∙ ap (λ k. 1 * k) edge)
+
 -- the cards of a signal: its parent's, and those that it shows last
-pub own_hand : (s front : Signal) (last : Seen) (part cards : List ℕ) → s ≡ front ++ last ∷ [] → part ≡ own_cards front → cards ≡ last.own → part ++ cards ≡ own_cards s
+own_hand : (s front : Signal) (last : Seen) (part cards : List ℕ) → s ≡ front ++ last ∷ [] → part ≡ own_cards front → cards ≡ last.own → part ++ cards ≡ own_cards s
 own_hand s front last part cards e p c = ap (λ x. x ++ cards) p ∙ ap (λ x. own_cards front ++ x) c ∙ sym (own_cards-push front last) ∙ ap own_cards (sym e)
 
-pub public_hand : (s front : Signal) (last : Seen) (part cards : List ℕ) → s ≡ front ++ last ∷ [] → part ≡ public_cards front → cards ≡ last.public → part ++ cards ≡ public_cards s
+public_hand : (s front : Signal) (last : Seen) (part cards : List ℕ) → s ≡ front ++ last ∷ [] → part ≡ public_cards front → cards ≡ last.public → part ++ cards ≡ public_cards s
 public_hand s front last part cards e p c = ap (λ x. x ++ cards) p ∙ ap (λ x. public_cards front ++ x) c ∙ sym (public_cards-push front last) ∙ ap public_cards (sym e)
+
+pub hand_on : (side : Side) (s front : Signal) (last : Seen) (part cards : List ℕ) → s ≡ front ++ last ∷ [] → part ≡ cards_on side front → cards ≡ seen_on side last → part ++ cards ≡ cards_on side s
+hand_on Own s front last part cards e p c = own_hand s front last part cards e p c
+hand_on Public s front last part cards e p c = public_hand s front last part cards e p c
 
 -- the empty signal has no cards
 pub no_hands : (g : Game) (paths owns publics : List ℕ) → paths ≡ 1 ∷ [] → owns ≡ [] → publics ≡ [] → AreHands g 0 paths owns publics 0 0

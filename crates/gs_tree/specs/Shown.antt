@@ -1,8 +1,10 @@
 -- What the tables of signals keep for each signal: the groups that its last round shows.
 use Rattle.std.specs.Prelude.{ℕ, List, take}
-use Rattle.gs_model.specs.Signals.{Seen}
+use Rattle.gs_model.specs.Signals.{Seen, Signal, own_cards, public_cards}
 use Rattle.gs_tree.specs.declared.few.FewCards.{FewCards}
 use Rattle.gs_tree.specs.declared.layer.Shown.{Shown}
+use Rattle.gs_tree.specs.declared.layer.Side.{Side}
+use Rattle.gs_tree.specs.declared.layer.Side.TheVariants.{Own, Public}
 
 -- the cards of a small group
 abbrev pub cards_of : FewCards → List ℕ
@@ -11,3 +13,13 @@ cards_of f = take f.len f.cards
 -- what a player sees in one round
 abbrev pub seen_of : Shown → Seen
 seen_of s = record { own = cards_of s.own; public = cards_of s.public }
+
+-- the cards on one side of what a player sees in one round
+abbrev pub seen_on : Side → Seen → List ℕ
+seen_on Own p = p.own
+seen_on Public p = p.public
+
+-- the cards on one side of a signal
+abbrev pub cards_on : Side → Signal → List ℕ
+cards_on Own s = own_cards s
+cards_on Public s = public_cards s

@@ -96,6 +96,7 @@ fn board_code(game: &Game, hands: &Hands, signal: u32) -> usize
 }
 
 /// Adds the next signal, from the last one before it that shows the same public cards.
+#[inline(always)]
 fn push_linked(boards: &mut Boards, before: Option<u32>, count: u32) -> Result<(), AllocError>
     requires long { length boards.old.nexts.items ≡ length boards.old.firsts.items }
     requires few { length boards.old.firsts.items < 2 ^ 32 }

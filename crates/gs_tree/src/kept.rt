@@ -1,6 +1,6 @@
 //! What is kept of the last round's signals to weigh deals.
 
-ghost use Rattle.std.specs.Prelude.{◌≡◌, ◌≤◌, ◌<◌, ◌+◌, ◌*◌, ◌++◌, ◌∷◌, [], suc, All, IfOk, IsTrue, OnOk, drop, length, map, take};
+ghost use Rattle.std.specs.Prelude.{◌≡◌, ◌≤◌, ◌<◌, ◌+◌, ◌*◌, ◌++◌, ◌∷◌, ℕ, [], suc, All, IfOk, IsTrue, OnOk, drop, flat_map, length, map, take};
 ghost use Rattle.gs_card.specs.Rankings.{ranking_of};
 ghost use Rattle.gs_game.specs.Games.{game_of};
 ghost use Rattle.gs_game.specs.Limits.{IsDealable, IsWithinLimits};
@@ -11,9 +11,11 @@ ghost use Rattle.gs_model.specs.ViewTree.{signal_strength};
 ghost use Rattle.gs_rank.specs.Hands.{IsStrength};
 ghost use Rattle.gs_tree.specs.Kept.{AreHands};
 ghost use Rattle.gs_tree.specs.Plain.{IsPlain};
+ghost use Rattle.gs_tree.specs.Shown.{cards_on};
 ghost use Rattle.gs_tree.specs.Tables.{AreTables};
 ghost use Rattle.gs_tree.specs.Walk.{last_count};
 
+use crate::layer::Side;
 use crate::tables::Tables;
 use crate::ways::Ways;
 use gs_card::Card;
@@ -61,6 +63,9 @@ fn next_paths(
     let _kinds = game.deck.kinds();
     let parents = &tables.parents[round];
     let edges = &tables.layers[round].edges;
+    if let (Some(_), Some(count)) = (before.ones(), edges.ones()) {
+        return Ok(Ways::all_ones(alloc, count));
+    }
     let mut paths = Ways::new(alloc);
     for signal in 0..edges.len() {
         let path = before.of(parents[signal] as usize);
@@ -79,7 +84,7 @@ pub(crate) fn part(cards: &[Card], each: usize, place: u32) -> &[Card]
 }
 
 /// Adds cards behind others, one by one: they are few.
-#[inline(never)]
+#[inline(always)]
 fn push_each(cards: &mut Vec<Card>, more: &[Card]) -> Result<(), AllocError>
     ensures { OnOk result (cards.new.items ≡ cards.old.items ++ more.now) }
 {
@@ -89,28 +94,39 @@ fn push_each(cards: &mut Vec<Card>, more: &[Card]) -> Result<(), AllocError>
     Ok(())
 }
 
-/// Adds cards behind others: mostly one or none.
-#[inline(always)]
-fn push_all(cards: &mut Vec<Card>, more: &[Card]) -> Result<(), AllocError>
-    ensures { OnOk result (cards.new.items ≡ cards.old.items ++ more.now) }
+/// The cards that the signals of the round after the first `round` rounds have on one side, from those of the round before it: each has those
+/// of its parent, and those that its last round shows.
+fn next_cards(
+    alloc: Global,
+    game: &Game,
+    tables: &Tables,
+    round: usize,
+    before: &[Card],
+    each: usize,
+    side: Side,
+) -> Result<Vec<Card>, AllocError>
+    requires tables { AreTables (game_of game.now) tables.now.parents.items tables.now.layers.items }
+    requires round_in { round < length tables.now.layers.items }
+    requires before { before.now ≡ flat_map (cards_on side) (signals (game_of game.now) round) }
+    requires each { (i : ℕ) → i < length (signals (game_of game.now) round) → length (cards_on side (signal_at (game_of game.now) round i)) ≡ each }
+    ensures { IfOk result (λ v. v.items ≡ flat_map (cards_on side) (signals (game_of game.now) (suc round))) }
 {
-    match more {
-        [] => Ok(()),
-        [card] => {
-            cards.push(*card)?;
-            Ok(())
-        }
-        _ => push_each(cards, more),
+    let parents = &tables.parents[round];
+    let shown = &tables.layers[round].shown;
+    let more = match shown.first() {
+        Some(first) => first.on(side).len(),
+        None => 0,
+    };
+    let mut cards = Vec::with_capacity(
+        alloc,
+        shown.len().saturating_mul(each.saturating_add(more)),
+    )?;
+    for (signal, last) in shown.iter().enumerate() {
+        let parent = part(before, each, parents[signal]);
+        push_each(&mut cards, parent)?;
+        push_each(&mut cards, last.on(side))?;
     }
-}
-
-/// Adds the cards of a signal: those of its parent, and those that its last round shows.
-#[inline(always)]
-fn push_hand(cards: &mut Vec<Card>, parent: &[Card], last: &[Card]) -> Result<(), AllocError>
-    ensures { OnOk result (cards.new.items ≡ cards.old.items ++ (parent.now ++ last.now)) }
-{
-    push_all(cards, parent)?;
-    push_all(cards, last)
+    Ok(cards)
 }
 
 /// The hands of the signals of the round after the first `round` rounds, from the hands of the round before it.
@@ -130,18 +146,25 @@ fn next_hands(
     ensures { IfOk result (λ h. AreHands (game_of game.now) (suc round) h.paths h.owns.items h.publics.items h.own h.public) }
 {
     let paths = next_paths(alloc, game, tables, round, &before.paths)?;
-    let parents = &tables.parents[round];
-    let count = paths.len();
-    let mut owns = Vec::with_capacity(alloc, count)?;
-    let mut publics = Vec::with_capacity(alloc, count)?;
-    for (signal, shown) in tables.layers[round].shown.iter().enumerate() {
-        let parent = parents[signal];
-        let own = part(&before.owns, before.own, parent);
-        push_hand(&mut owns, own, shown.own.cards())?;
-        let public = part(&before.publics, before.public, parent);
-        push_hand(&mut publics, public, shown.public.cards())?;
-    }
-    let each = count.max(1);
+    let owns = next_cards(
+        alloc,
+        game,
+        tables,
+        round,
+        &before.owns,
+        before.own,
+        Side::Own,
+    )?;
+    let publics = next_cards(
+        alloc,
+        game,
+        tables,
+        round,
+        &before.publics,
+        before.public,
+        Side::Public,
+    )?;
+    let each = paths.len().max(1);
     let own = owns.len() / each;
     let public = publics.len() / each;
     Ok(Hands {

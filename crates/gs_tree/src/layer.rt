@@ -22,6 +22,29 @@ pub(crate) struct Shown {
     pub(crate) public: FewCards,
 }
 
+/// One of the two sides of what a signal shows.
+#[derive(Clone, Copy, Debug)]
+pub(crate) enum Side {
+    Own,
+    Public,
+}
+
+impl Shown {
+    ghost use Rattle.std.specs.Prelude.{◌≡◌};
+    ghost use Rattle.gs_tree.specs.Shown.{seen_of, seen_on};
+
+    /// The cards on one side.
+    #[inline(always)]
+    pub(crate) fn on(&self, side: Side) -> &[Card]
+        ensures { result.now ≡ seen_on side (seen_of self.now) }
+    {
+        match side {
+            Side::Own => self.own.cards(),
+            Side::Public => self.public.cards(),
+        }
+    }
+}
+
 /// The ways of taking a small group from the copies that are left.
 fn few_ways(left: &[u8], group: &Group) -> u64
     requires in_range { All (λ card. card < length left.now) group.now }

@@ -21,7 +21,7 @@ impl Model for Ways {
 }
 
 impl Ways {
-    ghost use Rattle.std.specs.Prelude.{◌≡◌, ◌<◌, ◌++◌, ◌∷◌, [], OnOk, length, slice_index};
+    ghost use Rattle.std.specs.Prelude.{◌≡◌, ◌<◌, ◌++◌, ◌∷◌, [], IfSome, OnOk, length, replicate, slice_index};
 
     /// No numbers yet.
     pub(crate) fn new(alloc: Global) -> Ways
@@ -30,6 +30,27 @@ impl Ways {
         Ways {
             ones: 0,
             rest: Vec::new(alloc),
+        }
+    }
+
+    /// So many ones.
+    pub(crate) fn all_ones(alloc: Global, count: u32) -> Ways
+        ensures { result ≡ replicate count 1 }
+    {
+        Ways {
+            ones: count,
+            rest: Vec::new(alloc),
+        }
+    }
+
+    /// How many numbers there are, where each is 1.
+    pub(crate) fn ones(&self) -> Option<u32>
+        ensures { IfSome result (λ count. self.now ≡ replicate count 1) }
+    {
+        if self.rest.is_empty() {
+            Some(self.ones)
+        } else {
+            None
         }
     }
 

@@ -6,7 +6,7 @@ use Rattle.gs_model.specs.Deals.{path_weight}
 use Rattle.gs_model.specs.Game.{Game}
 use Rattle.gs_model.specs.Signals.{Signal, last_edge, signal_at, signals}
 use Rattle.gs_tree.proofs.Pushed.{mapped_more}
-use Rattle.gs_tree.proofs.Rounds.{layer_long, path_fits, told}
+use Rattle.gs_tree.proofs.Rounds.{layer_long, one_way, path_fits, told}
 use Rattle.gs_tree.proofs.kept.next_paths.Goals as goal
 
 pub index-requires-in-loop-signal : goal.index-requires-in-loop-signal
@@ -75,3 +75,10 @@ loop-signal-preserved c =
     ap (λ k. k * c.of.result) path ∙ ap (λ k. path_weight g.copies (signal_at g n p) * k) edge
     ∙ ap (λ k. path_weight g.copies (signal_at g n k) * last_edge g.copies (signal_at g (suc n) i)) parent ∙ sym h.path_is in
     c.in_ok-push.ensures ∙ mapped_more (path_weight g.copies) [] c.loop-signal.paths ss i [] (c.of-path.result * c.of.result) here c.loop-signal.invariant value
+
+pub returns-in-Some-Some : goal.returns-in-Some-Some
+returns-in-Some-Some c =
+    let g : Game = game_of c.args.game.now in
+    let t = c.args.tables.now in
+    let ones = c.in-Some-Some in
+    c.all_ones.ensures ∙ one_way g t.parents.items t.layers.items c.args.round c.requires.tables c.requires.round_in c.index-parents.result.now c.index.result.now c.index-parents.ensures c.index.ensures ones.field-0-0 ones.count (sym c.requires.before ∙ ones.ensures) ones.ensures'
