@@ -20,3 +20,4 @@ pub mod Named
 pub mod Coded
 pub mod Rounds
 pub mod Weighed
+pub mod Sides

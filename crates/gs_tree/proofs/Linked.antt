@@ -1,12 +1,12 @@
 -- Tables of equal keys: for each place the first one with its key and the next one, made place by place.
-use Rattle.std.proofs.Common.{◌≡◌, ◌≢◌, ◌⊎◌, inl, inr, ⊎_elim, ℕ, zero, suc, ◌+◌, ◌<◌, ◌≤◌, ◌++◌, List, [], ◌∷◌, length, get_or, set, refl, sym, ap, ◌∙◌, arith, subst, Bool, true, false, cond, Option, Some, None, length-append, length-set, get_or-set_same, get_or-set_other}
+use Rattle.std.proofs.Common.{◌≡◌, ◌≢◌, ◌⊎◌, inl, inr, ⊎_elim, ℕ, zero, suc, ◌+◌, ◌<◌, ◌≤◌, ◌++◌, List, [], ◌∷◌, length, take, take_all, get_or, set, replicate, refl, sym, ap, ◌∙◌, arith, subst, Bool, true, false, cond, Option, Some, None, length-append, length-set, get_or-set_same, get_or-set_other, get_or-take}
 use Rattle.std.proofs.lemmas.Bool.{cases_eq, cases_lt, true≢false}
 use Rattle.std.proofs.lemmas.Bool.Decides.{Decides-eqb}
-use Rattle.std.proofs.lemmas.List.{get_or_append_left}
+use Rattle.std.proofs.lemmas.List.{get_or_append_left, get_or-replicate, length-replicate, take_more, take_more_set}
 use Rattle.std.proofs.lemmas.Slice.Eq.{slice_eq-Decides}
 use Rattle.std.proofs.Math.Seq.{get_or-append_seam}
 use Rattle.std.specs.Bool.{Decides}
-use Rattle.std.specs.Prelude.{IfSome, nat_eq}
+use Rattle.std.specs.Prelude.{IfSome, nat_eq, slice_set}
 use lib.Pointwise.{pointwise}
 use Rattle.gs_model.specs.Game.{Game, round_count}
 use Rattle.gs_model.specs.Signals.{public_cards, signal_at}
@@ -62,9 +62,9 @@ last_none key (suc n) b e k l = go (last_none key n b) (pointwise nat_eq (key n)
         (λ (ne : k ≢ n). rest e k (omega arith)) (cases_eq k n)
 
 -- the last place before n is among the first n
-pub last_in : (key : ℕ → List ℕ) (n : ℕ) (b xs : List ℕ) (o : Option ℕ) → length xs ≡ n → o ≡ last_place key n b → IfSome o (λ last. last < length xs)
-last_in key n b xs None l e = tt
-last_in key n b xs (Some last) l e = omega (arith, l, (last_some key n b last (sym e)).below)
+pub last_in : (key : ℕ → List ℕ) (n : ℕ) (b : List ℕ) (o : Option ℕ) → o ≡ last_place key n b → IfSome o (λ last. last < n)
+last_in key n b None e = tt
+last_in key n b (Some last) e = (last_some key n b last (sym e)).below
 
 -- the first place with a key
 pub record IsFirst (key : ℕ → List ℕ) (n i first : ℕ) : Type 0 where
@@ -85,14 +85,8 @@ pub record AreLinked (key : ℕ → List ℕ) (n count : ℕ) (firsts nexts : Li
   pub first : (i : ℕ) → i < n → IsFirst key n i (get_or firsts i 0)
   pub next : (i : ℕ) → i < n → IsNext key n count i (get_or nexts i 0)
 
-pub none_linked : (key : ℕ → List ℕ) (count : ℕ) → AreLinked key 0 count [] []
+none_linked : (key : ℕ → List ℕ) (count : ℕ) → AreLinked key 0 count [] []
 none_linked key count = record { firsts_long = refl; nexts_long = refl; first = λ i l. absurd (omega arith); next = λ i l. absurd (omega arith) }
-
-pub start_linked : (key : ℕ → List ℕ) (count : ℕ) (firsts nexts : List ℕ) → firsts ≡ [] → nexts ≡ [] → AreLinked key 0 count firsts nexts
-start_linked key count firsts nexts f h =
-    let P : List ℕ → Type 0 = λ x. AreLinked key 0 count x nexts in
-    let Q : List ℕ → Type 0 = λ x. AreLinked key 0 count [] x in
-    subst P (sym f) (subst Q (sym h) (none_linked key count))
 
 -- one more member of a list, read
 old_read : (P : ℕ → ℕ → Type 0) (xs : List ℕ) (n y : ℕ) → length xs ≡ n → ((i : ℕ) → i < n → P i (get_or xs i 0)) → P n y → (i : ℕ) → i < n + 1 → P i (get_or (xs ++ y ∷ []) i 0)
@@ -179,22 +173,76 @@ module _ (key : ℕ → List ℕ) (n count : ℕ) (firsts nexts : List ℕ) (old
               (λ (after : last ≤ i). h.none_after i (omega arith) m (sym same))
               (cases_lt i last)
 
-  -- one more place, from the last one with its key
-  pub linked_more : (before : Option ℕ) (more next : List ℕ) → n < count → before ≡ last_place key n (key n) → more ≡ firsts ++ first_beside before firsts ∷ [] → next ≡ linked before nexts ++ count ∷ [] → AreLinked key (n + 1) count more next
-  linked_more None more next l e f h =
-      let P : List ℕ → Type 0 = λ x. AreLinked key (n + 1) count x next in
-      let Q : List ℕ → Type 0 = λ x. AreLinked key (n + 1) count (firsts ++ length firsts ∷ []) x in
-      subst P (sym f) (subst Q (sym h) (linked_none l (last_none key n (key n) (sym e))))
-  linked_more (Some last) more next l e f h =
-      let P : List ℕ → Type 0 = λ x. AreLinked key (n + 1) count x next in
-      let Q : List ℕ → Type 0 = λ x. AreLinked key (n + 1) count (firsts ++ get_or firsts last 0 ∷ []) x in
-      subst P (sym f) (subst Q (sym h) (linked_some last l (last_some key n (key n) last (sym e))))
+-- tables of as many places as there are, of which the first n are linked
+pub record AreBegun (key : ℕ → List ℕ) (n count : ℕ) (firsts nexts : List ℕ) : Type 0 where
+  pub firsts_whole : length firsts ≡ count
+  pub nexts_whole : length nexts ≡ count
+  pub begun : AreLinked key n count (take n firsts) (take n nexts)
+  pub ahead : (i : ℕ) → n ≤ i → i < count → get_or nexts i 0 ≡ count
+
+pub start_linked : (key : ℕ → List ℕ) (count : ℕ) (firsts nexts : List ℕ) → firsts ≡ replicate count count → nexts ≡ replicate count count → AreBegun key 0 count firsts nexts
+start_linked key count firsts nexts f h = record {
+  firsts_whole = ap (λ (x : List ℕ). length x) f ∙ length-replicate count count;
+  nexts_whole = ap (λ (x : List ℕ). length x) h ∙ length-replicate count count;
+  begun = none_linked key count;
+  ahead = λ i l m. ap (λ (x : List ℕ). get_or x i 0) h ∙ get_or-replicate count i count 0 m;
+}
+
+-- a change before the end of the first n
+take_before : (xs : List ℕ) (n i y : ℕ) → take n (set xs i y) ≡ set (take n xs) i y
+take_before [] zero i y = refl
+take_before [] (suc n) i y = refl
+take_before (x ∷ xs) zero zero y = refl
+take_before (x ∷ xs) zero (suc i) y = refl
+take_before (x ∷ xs) (suc n) zero y = refl
+take_before (x ∷ xs) (suc n) (suc i) y = ap (λ l. x ∷ l) (take_before xs n i y)
+
+-- one more place, from the last one with its key
+pub linked_more : (key : ℕ → List ℕ) (n count : ℕ) (firsts nexts : List ℕ) → AreBegun key n count firsts nexts → (before : Option ℕ) (more next : List ℕ) → n < count → before ≡ last_place key n (key n) → more ≡ slice_set firsts n (first_beside before n firsts) → next ≡ linked before n nexts → AreBegun key (n + 1) count more next
+linked_more key n count firsts nexts h None more next l e f k =
+    let fs : List ℕ = take n firsts in
+    let ns : List ℕ = take n nexts in
+    let one = linked_none key n count fs ns h.begun l (last_none key n (key n) (sym e)) in
+    let more_is : take (n + 1) more ≡ fs ++ length fs ∷ [] =
+    ap (take (n + 1)) f ∙ take_more_set firsts n n (omega (arith, h.firsts_whole)) ∙ ap (λ z. fs ++ z ∷ []) (sym h.begun.firsts_long) in
+    let next_is : take (n + 1) next ≡ ns ++ count ∷ [] =
+    ap (take (n + 1)) k ∙ take_more nexts n 0 (omega (arith, h.nexts_whole)) ∙ ap (λ z. ns ++ z ∷ []) (h.ahead n (omega arith) l) in
+    let P : List ℕ → Type 0 = λ x. AreLinked key (n + 1) count x (take (n + 1) next) in
+    let Q : List ℕ → Type 0 = λ x. AreLinked key (n + 1) count (fs ++ length fs ∷ []) x in
+    record {
+      firsts_whole = ap (λ (x : List ℕ). length x) f ∙ length-set firsts n n ∙ h.firsts_whole;
+      nexts_whole = ap (λ (x : List ℕ). length x) k ∙ h.nexts_whole;
+      begun = subst P (sym more_is) (subst Q (sym next_is) one);
+      ahead = λ i m c. ap (λ (x : List ℕ). get_or x i 0) k ∙ h.ahead i (omega (arith, m)) c;
+    }
+linked_more key n count firsts nexts h (Some last) more next l e f k =
+    let fs : List ℕ = take n firsts in
+    let ns : List ℕ = take n nexts in
+    let r = last_some key n (key n) last (sym e) in
+    let one = linked_some key n count fs ns h.begun last l r in
+    let more_is : take (n + 1) more ≡ fs ++ get_or fs last 0 ∷ [] =
+    ap (take (n + 1)) f ∙ take_more_set firsts n (get_or firsts last 0) (omega (arith, h.firsts_whole)) ∙ ap (λ z. fs ++ z ∷ []) (sym (get_or-take n firsts last 0 r.below)) in
+    let new : List ℕ = set nexts last n in
+    let end : get_or new n 0 ≡ count = get_or-set_other nexts last n n 0 (λ same. absurd (omega (arith, same, r.below))) ∙ h.ahead n (omega arith) l in
+    let next_is : take (n + 1) next ≡ set ns last (length ns) ++ count ∷ [] =
+    ap (take (n + 1)) k ∙ take_more new n 0 (omega (arith, length-set nexts last n, h.nexts_whole)) ∙ ap (λ z. take n new ++ z ∷ []) end
+    ∙ ap (λ x. x ++ count ∷ []) (take_before nexts n last n ∙ ap (set ns last) (sym h.begun.nexts_long)) in
+    let P : List ℕ → Type 0 = λ x. AreLinked key (n + 1) count x (take (n + 1) next) in
+    let Q : List ℕ → Type 0 = λ x. AreLinked key (n + 1) count (fs ++ get_or fs last 0 ∷ []) x in
+    record {
+      firsts_whole = ap (λ (x : List ℕ). length x) f ∙ length-set firsts n (get_or firsts last 0) ∙ h.firsts_whole;
+      nexts_whole = ap (λ (x : List ℕ). length x) k ∙ length-set nexts last n ∙ h.nexts_whole;
+      begun = subst P (sym more_is) (subst Q (sym next_is) one);
+      ahead = λ i m c. ap (λ (x : List ℕ). get_or x i 0) k ∙ get_or-set_other nexts last i n 0 (λ same. absurd (omega (arith, same, r.below, m))) ∙ h.ahead i (omega (arith, m)) c;
+    }
 
 -- where all places are linked by their public cards, the tables are whole
-pub are_boards : (g : Game) (n count : ℕ) (firsts nexts : List ℕ) → AreLinked (λ i. public_cards (signal_at g (round_count g) i)) n count firsts nexts → n ≡ last_count g → count ≡ last_count g → AreBoards g firsts nexts
+pub are_boards : (g : Game) (n count : ℕ) (firsts nexts : List ℕ) → AreBegun (λ i. public_cards (signal_at g (round_count g) i)) n count firsts nexts → n ≡ last_count g → count ≡ last_count g → AreBoards g firsts nexts
 are_boards g n count firsts nexts h a b =
     let P : ℕ → Type 0 = λ m. AreLinked (λ i. public_cards (signal_at g (round_count g) i)) m count firsts nexts in
-    let t = subst P a h in
+    let Q : List ℕ → Type 0 = λ x. AreLinked (λ i. public_cards (signal_at g (round_count g) i)) n count x (take n nexts) in
+    let R : List ℕ → Type 0 = λ x. AreLinked (λ i. public_cards (signal_at g (round_count g) i)) n count firsts x in
+    let t = subst P a (subst R (take_all n nexts (omega (arith, h.nexts_whole, a, b))) (subst Q (take_all n firsts (omega (arith, h.firsts_whole, a, b))) h.begun)) in
     record {
       firsts_long = t.firsts_long;
       nexts_long = t.nexts_long;

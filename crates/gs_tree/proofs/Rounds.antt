@@ -9,13 +9,10 @@ use Rattle.gs_model.specs.Signals.{Seen, Signal, last_edge, own_cards, parents, 
 use Rattle.gs_model.proofs.Ranges.{length-parents}
 use Rattle.gs_tree.specs.Kept.{AreHands}
 use Rattle.gs_tree.specs.Layers.{last_seen}
-use Rattle.gs_tree.specs.Shown.{cards_on, seen_of, seen_on}
+use Rattle.gs_tree.specs.Shown.{seen_of}
 use Rattle.gs_tree.specs.Tables.{AreTables}
 use Rattle.gs_tree.specs.declared.layer.Layer.{Layer}
 use Rattle.gs_tree.specs.declared.layer.Shown.{Shown}
-use Rattle.gs_tree.specs.declared.layer.Side.{Side}
-use Rattle.gs_tree.specs.declared.layer.Side.TheVariants.{Own, Public}
-use Rattle.gs_tree.proofs.Hands.{own_cards-push, public_cards-push}
 use Rattle.gs_tree.proofs.Lookups.{is_child, layer_of}
 use Rattle.gs_tree.proofs.Paths.{last_edge_small, path_small, path_step, power_fits, power_step}
 
@@ -37,6 +34,9 @@ module _ (g : Game) (ps : List (Vec ℕ)) (ls : List Layer) (n : ℕ) (t : AreTa
   layer_long l e =
       let h = layer_of g ps ls (suc n) l t (omega arith) (omega (arith, in')) (e ∙ ap (λ k. get_or ls k l) (sym before)) in
       (h.long, h.edges_long)
+
+  pub row_is_long : (row : Vec ℕ) → row ≡ get_or ps n row → length row.items ≡ length (signals g (suc n))
+  row_is_long row r = ap (λ (v : Vec ℕ). length v.items) r ∙ ap (λ (x : List ℕ). length x) (t.owned n row in') ∙ length-parents g (suc n)
 
   pub told : (row : Vec ℕ) (l : Layer) (i : ℕ) → row ≡ get_or ps n row → l ≡ get_or ls n l → i < length (signals g (suc n)) → IsTold g n i row.items l
   told row l i r e m =
@@ -89,17 +89,6 @@ one_way g ps ls n t in' row l r e before count b w =
     let edge : last_edge g.copies (signal_at g (suc n) i) ≡ 1 =
     sym h.edge_is ∙ ap (λ (x : List ℕ). get_or x i 0) w ∙ get_or-replicate count i 1 0 (omega (arith, long, m)) in
     h.path_is ∙ ap (λ k. k * last_edge g.copies (signal_at g (suc n) i)) path ∙ ap (λ k. 1 * k) edge)
-
--- the cards of a signal: its parent's, and those that it shows last
-own_hand : (s front : Signal) (last : Seen) (part cards : List ℕ) → s ≡ front ++ last ∷ [] → part ≡ own_cards front → cards ≡ last.own → part ++ cards ≡ own_cards s
-own_hand s front last part cards e p c = ap (λ x. x ++ cards) p ∙ ap (λ x. own_cards front ++ x) c ∙ sym (own_cards-push front last) ∙ ap own_cards (sym e)
-
-public_hand : (s front : Signal) (last : Seen) (part cards : List ℕ) → s ≡ front ++ last ∷ [] → part ≡ public_cards front → cards ≡ last.public → part ++ cards ≡ public_cards s
-public_hand s front last part cards e p c = ap (λ x. x ++ cards) p ∙ ap (λ x. public_cards front ++ x) c ∙ sym (public_cards-push front last) ∙ ap public_cards (sym e)
-
-pub hand_on : (side : Side) (s front : Signal) (last : Seen) (part cards : List ℕ) → s ≡ front ++ last ∷ [] → part ≡ cards_on side front → cards ≡ seen_on side last → part ++ cards ≡ cards_on side s
-hand_on Own s front last part cards e p c = own_hand s front last part cards e p c
-hand_on Public s front last part cards e p c = public_hand s front last part cards e p c
 
 -- the empty signal has no cards
 pub no_hands : (g : Game) (paths owns publics : List ℕ) → paths ≡ 1 ∷ [] → owns ≡ [] → publics ≡ [] → AreHands g 0 paths owns publics 0 0

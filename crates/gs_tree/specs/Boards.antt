@@ -15,14 +15,14 @@ pub record AreBoards (g : Game) (firsts nexts : List ℕ) : Type 0 where
   pub none_between : (i k : ℕ) → i < last_count g → i < k → k < slice_index nexts i → k < last_count g → shows_same g i k ≡ false
 
 -- the first signal like the next one, from the last one before it that is like it
-abbrev pub first_beside : Option ℕ → List ℕ → ℕ
-first_beside None firsts = length firsts
-first_beside (Some last) firsts = slice_index firsts last
+abbrev pub first_beside : Option ℕ → ℕ → List ℕ → ℕ
+first_beside None signal firsts = signal
+first_beside (Some last) signal firsts = slice_index firsts last
 
 -- the last one before it gets the next one as its next
-abbrev pub linked : Option ℕ → List ℕ → List ℕ
-linked None nexts = nexts
-linked (Some last) nexts = slice_set nexts last (length nexts)
+abbrev pub linked : Option ℕ → ℕ → List ℕ → List ℕ
+linked None signal nexts = nexts
+linked (Some last) signal nexts = slice_set nexts last signal
 
 -- the number of a list of cards, whose digits stand behind those of another number
 abbrev pub code_behind : ℕ → ℕ → List ℕ → ℕ

@@ -1,5 +1,6 @@
 -- What the tables of signals keep for each signal: the groups that its last round shows.
 use Rattle.std.specs.Prelude.{ℕ, List, take}
+use Rattle.gs_model.specs.Game.{Round}
 use Rattle.gs_model.specs.Signals.{Seen, Signal, own_cards, public_cards}
 use Rattle.gs_tree.specs.declared.few.FewCards.{FewCards}
 use Rattle.gs_tree.specs.declared.layer.Shown.{Shown}
@@ -23,3 +24,8 @@ seen_on Public p = p.public
 abbrev pub cards_on : Side → Signal → List ℕ
 cards_on Own s = own_cards s
 cards_on Public s = public_cards s
+
+-- how many cards a round shows on one side
+abbrev pub shown_by : Side → Round → ℕ
+shown_by Own r = r.private
+shown_by Public r = r.public

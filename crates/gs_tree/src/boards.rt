@@ -1,6 +1,6 @@
 //! Last-round signals that show the same public cards.
 
-ghost use Rattle.std.specs.Prelude.{◌≡◌, ◌≤◌, ◌<◌, All, ◌^◌, ◌++◌, ◌∷◌, [], IfOk, IfSome, OnOk, length, replicate};
+ghost use Rattle.std.specs.Prelude.{◌≡◌, ◌≤◌, ◌<◌, All, ◌^◌, IfOk, IfSome, length, replicate, slice_set};
 ghost use Rattle.gs_card.specs.Decks.{kinds};
 ghost use Rattle.gs_game.specs.Games.{game_of};
 ghost use Rattle.gs_game.specs.Limits.{IsWithinLimits};
@@ -95,16 +95,25 @@ fn board_code(game: &Game, hands: &Hands, signal: u32) -> usize
     code(kinds, part(&hands.publics, hands.public, signal))
 }
 
-/// Adds the next signal, from the last one before it that shows the same public cards.
-#[inline(always)]
-fn push_linked(boards: &mut Boards, before: Option<u32>, count: u32) -> Result<(), AllocError>
-    requires long { length boards.old.nexts.items ≡ length boards.old.firsts.items }
-    requires few { length boards.old.firsts.items < 2 ^ 32 }
-    requires before_in { IfSome before (λ last. last < length boards.old.firsts.items) }
-    ensures firsts { OnOk result (boards.new.firsts.items ≡ boards.old.firsts.items ++ first_beside before boards.old.firsts.items ∷ []) }
-    ensures nexts { OnOk result (boards.new.nexts.items ≡ linked before boards.old.nexts.items ++ count ∷ []) }
+/// No signals linked yet, with a place for each.
+fn none_linked(alloc: Global, count: u32) -> Result<Boards, AllocError>
+    ensures firsts { IfOk result (λ b. b.firsts.items ≡ replicate count count) }
+    ensures nexts { IfOk result (λ b. b.nexts.items ≡ replicate count count) }
 {
-    let signal = boards.firsts.len() as u32;
+    Ok(Boards {
+        firsts: none_seen(alloc, count, count as usize)?,
+        nexts: none_seen(alloc, count, count as usize)?,
+    })
+}
+
+/// Links the next signal to the last one before it that shows the same public cards.
+fn link(boards: &mut Boards, before: Option<u32>, signal: u32)
+    requires long { length boards.old.nexts.items ≡ length boards.old.firsts.items }
+    requires signal_in { signal < length boards.old.firsts.items }
+    requires before_in { IfSome before (λ last. last < signal) }
+    ensures firsts { boards.new.firsts.items ≡ slice_set boards.old.firsts.items signal (first_beside before signal boards.old.firsts.items) }
+    ensures nexts { boards.new.nexts.items ≡ linked before signal boards.old.nexts.items }
+{
     let first = match before {
         Some(last) => {
             boards.nexts[last as usize] = signal;
@@ -112,9 +121,7 @@ fn push_linked(boards: &mut Boards, before: Option<u32>, count: u32) -> Result<(
         }
         None => signal,
     };
-    boards.firsts.push(first)?;
-    boards.nexts.push(count)?;
-    Ok(())
+    boards.firsts[signal as usize] = first;
 }
 
 /// The signals of the last round beside each other, where each shows at most three public cards: a table has a place for each list of as many.
@@ -126,17 +133,14 @@ fn link_by_table(alloc: Global, game: &Game, hands: &Hands) -> Result<Boards, Al
 {
     let count = hands.paths.len() as u32;
     let kinds = usize::from(game.deck.kinds());
-    let mut boards = Boards {
-        firsts: Vec::with_capacity(alloc, hands.paths.len())?,
-        nexts: Vec::with_capacity(alloc, hands.paths.len())?,
-    };
+    let mut boards = none_linked(alloc, count)?;
     // the last signal before the next one that shows these cards, or the number of all signals where there is none
     let mut last = none_seen(alloc, count, code_count(kinds, hands.public))?;
     for signal in 0..count {
         let code = board_code(game, hands, signal);
         let before = seen_last(count, last[code]);
         last[code] = signal;
-        push_linked(&mut boards, before, count)?;
+        link(&mut boards, before, signal);
     }
     Ok(boards)
 }
@@ -148,15 +152,12 @@ fn link_by_map(alloc: Global, game: &Game, hands: &Hands) -> Result<Boards, Allo
     ensures { IfOk result (λ b. AreBoards (game_of game.now) b.firsts.items b.nexts.items) }
 {
     let count = hands.paths.len() as u32;
-    let mut boards = Boards {
-        firsts: Vec::with_capacity(alloc, hands.paths.len())?,
-        nexts: Vec::with_capacity(alloc, hands.paths.len())?,
-    };
+    let mut boards = none_linked(alloc, count)?;
     let mut seen = HashMap::new(alloc);
     for signal in 0..count {
         let board = board_of(alloc, game, hands, signal)?;
         let before = seen.insert(board, signal)?;
-        push_linked(&mut boards, before, count)?;
+        link(&mut boards, before, signal);
     }
     Ok(boards)
 }

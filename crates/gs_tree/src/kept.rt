@@ -1,8 +1,8 @@
 //! What is kept of the last round's signals to weigh deals.
 
-ghost use Rattle.std.specs.Prelude.{◌≡◌, ◌≤◌, ◌<◌, ◌+◌, ◌*◌, ◌++◌, ◌∷◌, ℕ, [], suc, All, IfOk, IsTrue, OnOk, drop, flat_map, length, map, take};
+ghost use Rattle.std.specs.Prelude.{◌≡◌, ◌≤◌, ◌<◌, ◌+◌, ◌*◌, ◌++◌, ◌∷◌, ℕ, [], suc, All, IfOk, IsTrue, OnOk, drop, flat_map, length, map, slice_index, take};
 ghost use Rattle.gs_card.specs.Rankings.{ranking_of};
-ghost use Rattle.gs_game.specs.Games.{game_of};
+ghost use Rattle.gs_game.specs.Games.{game_of, round_of};
 ghost use Rattle.gs_game.specs.Limits.{IsDealable, IsWithinLimits};
 ghost use Rattle.gs_model.specs.Deals.{path_weight};
 ghost use Rattle.gs_model.specs.Game.{round_count};
@@ -11,7 +11,8 @@ ghost use Rattle.gs_model.specs.ViewTree.{signal_strength};
 ghost use Rattle.gs_rank.specs.Hands.{IsStrength};
 ghost use Rattle.gs_tree.specs.Kept.{AreHands};
 ghost use Rattle.gs_tree.specs.Plain.{IsPlain};
-ghost use Rattle.gs_tree.specs.Shown.{cards_on};
+ghost use Rattle.gs_tree.specs.Layers.{last_seen};
+ghost use Rattle.gs_tree.specs.Shown.{cards_on, seen_on, shown_by};
 ghost use Rattle.gs_tree.specs.Tables.{AreTables};
 ghost use Rattle.gs_tree.specs.Walk.{last_count};
 
@@ -19,7 +20,7 @@ use crate::layer::Side;
 use crate::tables::Tables;
 use crate::ways::Ways;
 use gs_card::Card;
-use gs_game::{Game, are_single};
+use gs_game::{Game, Round, are_single};
 use gs_rank::{Ranker, strength};
 use std::alloc::{AllocError, Global};
 
@@ -94,6 +95,54 @@ fn push_each(cards: &mut Vec<Card>, more: &[Card]) -> Result<(), AllocError>
     Ok(())
 }
 
+/// The card of each parent, where each signal of the round before has one.
+fn parent_cards(alloc: Global, parents: &[u32], before: &[Card]) -> Result<Vec<Card>, AllocError>
+    requires { All (λ parent. parent < length before.now) parents.now }
+    ensures { IfOk result (λ v. v.items ≡ map (slice_index before.now) parents.now) }
+{
+    let mut cards = Vec::with_capacity(alloc, parents.len())?;
+    for parent in parents {
+        cards.push(before[*parent as usize])?;
+    }
+    Ok(cards)
+}
+
+/// How many cards a round shows on one side.
+fn cards_shown(round: &Round, side: Side) -> usize
+    ensures { result ≡ shown_by side (round_of round.now) }
+{
+    match side {
+        Side::Own => usize::from(round.private),
+        Side::Public => usize::from(round.public),
+    }
+}
+
+/// The cards of the signals of the round after the first `round` rounds on one side, where each has its parent's one card and shows one more.
+fn paired_cards(
+    alloc: Global,
+    game: &Game,
+    tables: &Tables,
+    round: usize,
+    before: &[Card],
+    side: Side,
+) -> Result<Vec<Card>, AllocError>
+    requires tables { AreTables (game_of game.now) tables.now.parents.items tables.now.layers.items }
+    requires round_in { round < length tables.now.layers.items }
+    requires before { before.now ≡ flat_map (cards_on side) (signals (game_of game.now) round) }
+    requires each { (i : ℕ) → i < length (signals (game_of game.now) round) → length (cards_on side (signal_at (game_of game.now) round i)) ≡ 1 }
+    requires more { (i : ℕ) → i < length (signals (game_of game.now) (suc round)) → length (seen_on side (last_seen (signal_at (game_of game.now) (suc round) i))) ≡ 1 }
+    ensures { IfOk result (λ v. v.items ≡ flat_map (cards_on side) (signals (game_of game.now) (suc round))) }
+{
+    let parents = &tables.parents[round];
+    let shown = &tables.layers[round].shown;
+    let mut cards = Vec::with_capacity(alloc, shown.len().saturating_mul(2))?;
+    for (signal, last) in shown.iter().enumerate() {
+        cards.push(before[parents[signal] as usize])?;
+        cards.push(last.on(side)[0])?;
+    }
+    Ok(cards)
+}
+
 /// The cards that the signals of the round after the first `round` rounds have on one side, from those of the round before it: each has those
 /// of its parent, and those that its last round shows.
 fn next_cards(
@@ -106,6 +155,7 @@ fn next_cards(
     side: Side,
 ) -> Result<Vec<Card>, AllocError>
     requires tables { AreTables (game_of game.now) tables.now.parents.items tables.now.layers.items }
+    requires all { length tables.now.layers.items ≡ round_count (game_of game.now) }
     requires round_in { round < length tables.now.layers.items }
     requires before { before.now ≡ flat_map (cards_on side) (signals (game_of game.now) round) }
     requires each { (i : ℕ) → i < length (signals (game_of game.now) round) → length (cards_on side (signal_at (game_of game.now) round i)) ≡ each }
@@ -113,14 +163,16 @@ fn next_cards(
 {
     let parents = &tables.parents[round];
     let shown = &tables.layers[round].shown;
-    let more = match shown.first() {
-        Some(first) => first.on(side).len(),
-        None => 0,
-    };
-    let mut cards = Vec::with_capacity(
-        alloc,
-        shown.len().saturating_mul(each.saturating_add(more)),
-    )?;
+    let now = &game.rounds[round];
+    let more = cards_shown(now, side);
+    if each == 1 && more == 0 {
+        return parent_cards(alloc, parents, before);
+    }
+    if each == 1 && more == 1 {
+        return paired_cards(alloc, game, tables, round, before, side);
+    }
+    let room = shown.len().saturating_mul(each.saturating_add(more));
+    let mut cards = Vec::with_capacity(alloc, room)?;
     for (signal, last) in shown.iter().enumerate() {
         let parent = part(before, each, parents[signal]);
         push_each(&mut cards, parent)?;

@@ -9,13 +9,13 @@ use Rattle.gs_tree.proofs.Linked.{are_boards, last_in, last_place, linked_more}
 use Rattle.gs_tree.proofs.Parts.{paths_long}
 use Rattle.gs_tree.proofs.boards.link_by_map.Goals as goal
 
-pub push_linked-requires-clause-before_in : goal.push_linked-requires-clause-before_in
-push_linked-requires-clause-before_in c =
+pub link-requires-clause-before_in : goal.link-requires-clause-before_in
+link-requires-clause-before_in c =
     let g : Game = game_of c.args.game.now in
     let key : ℕ → List ℕ = λ i. public_cards (signal_at g (round_count g) i) in
     let board = c.in_ok-board.board in
     let last : c.in_ok-before.before ≡ last_place key c.loop-signal.signal board.items = c.in_ok-before.ensures.old ∙ c.loop-signal.invariant.found board in
-    last_in key c.loop-signal.signal board.items c.loop-signal.boards.firsts.items c.in_ok-before.before c.loop-signal.invariant.linked.firsts_long last
+    last_in key c.loop-signal.signal board.items c.in_ok-before.before last
 
 pub loop-signal-preserved : goal.loop-signal-preserved
 loop-signal-preserved c =
@@ -28,7 +28,7 @@ loop-signal-preserved c =
     let last : c.in_ok-before.before ≡ last_place key n (key n) = c.in_ok-before.ensures.old ∙ c.loop-signal.invariant.found board ∙ ap (last_place key n) is in
     let next : suc n ≡ n + 1 = omega arith in
     record {
-      linked = linked_more key n c.len-count.result old.firsts.items old.nexts.items c.loop-signal.invariant.linked c.in_ok-before.before c.push_linked.new.boards.firsts.items c.push_linked.new.boards.nexts.items c.loop-signal-test.true last c.in_ok-push_linked.ensures.firsts c.in_ok-push_linked.ensures.nexts;
+      linked = linked_more key n c.len-count.result old.firsts.items old.nexts.items c.loop-signal.invariant.linked c.in_ok-before.before c.link.new.boards.firsts.items c.link.new.boards.nexts.items c.loop-signal-test.true last c.link.ensures.firsts c.link.ensures.nexts;
       found = λ q.
           c.in_ok-before.ensures.updates.0 q
           ∙ ap (λ (o : Option ℕ). cond (pointwise nat_eq board.items q.items) (Some n) o) (c.loop-signal.invariant.found q)

@@ -17,7 +17,7 @@ loop-signal-init c =
     let k : ℕ = kinds c.args.game.now.deck in
     let wide : c.code_count.result ≡ k ^ c.args.hands.now.public = c.code_count.ensures ∙ ap (λ n. n ^ c.args.hands.now.public) (c.from-kinds.ensures ∙ c.kinds.ensures.number) in
     record {
-      linked = start_linked key c.len-count.result c.in_ok-with_capacity.field-0.items c.in_ok-with_capacity-2.field-0.items c.in_ok-with_capacity.ensures.items c.in_ok-with_capacity-2.ensures.items;
+      linked = start_linked key c.len-count.result c.in_ok-boards.boards.firsts.items c.in_ok-boards.boards.nexts.items c.in_ok-boards.ensures.firsts c.in_ok-boards.ensures.nexts;
       kept = none_in_table key c.len-count.result k c.args.hands.now.public c.code_count.result c.in_ok-last.last.items c.in_ok-last.ensures wide;
     }
 
@@ -53,8 +53,8 @@ index_mut-requires c =
     let within : code_behind k 0 (key n) < length c.loop-signal.last.items = board_in k h.public (length c.loop-signal.last.items) (key n) board c.loop-signal.invariant.kept.wide in
     omega (arith, within, c.board_code-code.ensures, c.loop-signal.last.ok.0)
 
-pub push_linked-requires-clause-before_in : goal.push_linked-requires-clause-before_in
-push_linked-requires-clause-before_in c =
+pub link-requires-clause-before_in : goal.link-requires-clause-before_in
+link-requires-clause-before_in c =
     let g : Game = game_of c.args.game.now in
     let key : ℕ → List ℕ = λ i. public_cards (signal_at g (round_count g) i) in
     let n : ℕ = c.loop-signal.signal in
@@ -64,7 +64,7 @@ push_linked-requires-clause-before_in c =
     let here : n < last_count g = omega (arith, long, c.len-count.ensures, c.loop-signal-test.true) in
     let board = shown_board g c.args.game.now.deck h.paths h.owns.items h.publics.items h.own h.public n c.kinds.ensures.deck refl c.requires.hands here in
     let before : c.seen_last-before.result ≡ last_place key n (key n) = c.seen_last-before.ensures ∙ table_read key n c.len-count.result k h.public c.board_code-code.result c.index.result.now c.loop-signal.last.items c.loop-signal.invariant.kept board c.board_code-code.ensures c.index.ensures in
-    last_in key n (key n) c.loop-signal.boards.firsts.items c.seen_last-before.result c.loop-signal.invariant.linked.firsts_long before
+    last_in key n (key n) c.seen_last-before.result before
 
 pub loop-signal-preserved : goal.loop-signal-preserved
 loop-signal-preserved c =
@@ -81,7 +81,7 @@ loop-signal-preserved c =
     let before : c.seen_last-before.result ≡ last_place key n (key n) = c.seen_last-before.ensures ∙ table_read key n c.len-count.result k h.public c.board_code-code.result c.index.result.now last c.loop-signal.invariant.kept board c.board_code-code.ensures c.index.ensures in
     let P : ℕ → Type 0 = λ code. IsTableOf key (n + 1) c.len-count.result k h.public (set last code n) in
     record {
-      linked = linked_more key n c.len-count.result old.firsts.items old.nexts.items c.loop-signal.invariant.linked c.seen_last-before.result c.push_linked.new.boards.firsts.items c.push_linked.new.boards.nexts.items c.loop-signal-test.true before c.in_ok-push_linked.ensures.firsts c.in_ok-push_linked.ensures.nexts;
+      linked = linked_more key n c.len-count.result old.firsts.items old.nexts.items c.loop-signal.invariant.linked c.seen_last-before.result c.link.new.boards.firsts.items c.link.new.boards.nexts.items c.loop-signal-test.true before c.link.ensures.firsts c.link.ensures.nexts;
       kept = subst P (sym c.board_code-code.ensures) (table_more key n c.len-count.result k h.public last c.loop-signal.invariant.kept c.loop-signal-test.true board);
     }
 
