@@ -1,24 +1,27 @@
 -- From the numbers of a round to those of the round before, and from the classes of a round to those of the next.
 use Rattle.std.proofs.Common.{◌≡◌, ◌↔◌, ℕ, zero, suc, ◌+◌, ◌-◌, ◌<◌, ◌≤◌, List, [], ◌∷◌, ◌++◌, length, map, take, drop, get_or, refl, sym, ap, ◌∙◌, subst, arith, length-append, slice_index_or}
-use Rattle.std.specs.List.{All, AllByRecursion, range_with_len}
-use Rattle.std.proofs.lemmas.List.{take-append-le, take_all}
+use Rattle.std.specs.List.{All, AllByRecursion, range_with_len, slice_range}
+use Rattle.std.proofs.lemmas.List.{get_or-drop, length-drop, take-append-le, take_all, take_more}
 use Rattle.std.proofs.lemmas.List.Elements.{All-from_recursion}
 use Rattle.std.proofs.lemmas.List.Folds.{length-flat_map-take}
-use Rattle.std.proofs.lemmas.List.FromFn.{get_or-map-range_with_len, get_or-range_with_len, length-range_with_len}
+use Rattle.std.proofs.lemmas.List.FromFn.{get_or-map-range_with_len, get_or-range_with_len, length-range_with_len, map-range_with_len_more}
+use Rattle.std.proofs.lemmas.List.Sorted.{IsPermutation-sym}
 use Rattle.std.proofs.Math.Seq.{drop-cons}
 use Rattle.gs_model.specs.Betting.{even}
 use Rattle.gs_model.specs.Game.{Game, Round, round_at, round_count}
-use Rattle.gs_model.specs.Isomorphism.{Isomorphic, IsomorphicFor}
+use Rattle.gs_model.specs.Isomorphism.{Isomorphic, IsomorphicFor, Matched}
 use Rattle.gs_model.specs.Numbering.{IsClassesOf}
 use Rattle.gs_model.specs.SignalClasses.{SameClass}
 use Rattle.gs_model.specs.Signals.{Seen, Signal, child_count, children, edge, first_child, last_edge, left_by, owners, parents, showings, signal_at, signals}
 use Rattle.gs_model.specs.Signatures.{IsSignature}
+use Rattle.gs_model.proofs.Bijections.{IsPermutation-from_Matched_members, Matched-from_IsPermutation_members}
 use Rattle.gs_model.proofs.Children.{children-run, child-only}
+use Rattle.gs_model.proofs.Order.{sorts_equal}
 use Rattle.gs_model.proofs.Ranges.{every-append, every-weaker, length-flat_map_map, length-parents}
-use Rattle.gs_model.proofs.Signatures.{signature_law}
-use Rattle.gs_iso.specs.Numbers.{IsKeyClasses, IsNumbering, child_part}
-use Rattle.gs_iso.specs.Orders.{child_lt}
-use Rattle.gs_iso.proofs.Exact.{child_order, child_ranks}
+use Rattle.gs_model.proofs.Signatures.{Matched-map, Matched-unmap}
+use Rattle.gs_iso.specs.Numbers.{AreMarks, IsKeyClasses, IsNumbering, child_part, marks_under}
+use Rattle.gs_iso.specs.Orders.{mark_lt}
+use Rattle.gs_iso.proofs.Exact.{mark_order, mark_ranks, pairs}
 use Rattle.gs_iso.proofs.Rounds.{classes_like}
 
 -- ---- isomorphism before the last round
@@ -43,42 +46,91 @@ children_in g round i l =
     let b = length-flat_map_map (λ (c : ℕ × Signal). c.1) f (signals g round) in
     omega (arith, a, b)
 
--- equal signatures are isomorphism, where equal numbers are that in the next round
-pub child_law : (g : Game) (round : ℕ) → round < round_count g → (numbers : List ℕ) → IsNumbering g (suc round) numbers
-    → (i j : ℕ) → i < length (signals g round) → j < length (signals g round) → (a b : List (ℕ × ℕ))
-    → IsSignature child_lt (map (child_part g (suc round) numbers) (range_with_len (first_child g round i) (child_count g round i))) a
-    → IsSignature child_lt (map (child_part g (suc round) numbers) (range_with_len (first_child g round j) (child_count g round j))) b
-    → (a ≡ b) ↔ Isomorphic g round (signal_at g round i) (signal_at g round j)
-child_law g round l numbers n i j li lj a b ha hb =
-    let child : ℕ → ℕ × Signal = λ x. (last_edge g.copies (signal_at g (suc round) x), signal_at g (suc round) x) in
-    let number : ℕ → ℕ = λ x. get_or numbers x 0 in
-    let s = signal_at g round i in
-    let t = signal_at g round j in
-    let xs = range_with_len (first_child g round i) (child_count g round i) in
-    let ys = range_with_len (first_child g round j) (child_count g round j) in
-    let rest = drop (suc round) g.rounds in
-    let agree : All (λ x. All (λ y. (number x ≡ number y) ↔ IsomorphicFor g rest (child x).1 (child y).1) ys) xs = λ k d lk. λ m e lm.
-    let ck = length-range_with_len (first_child g round i) (child_count g round i) in
-    let cm = length-range_with_len (first_child g round j) (child_count g round j) in
-    let x = get_or-range_with_len (first_child g round i) (child_count g round i) k d (omega (arith, lk, ck)) in
-    let y = get_or-range_with_len (first_child g round j) (child_count g round j) m e (omega (arith, lm, cm)) in
-    let bi = children_in g round i li in
-    let bj = children_in g round j lj in
-    n.same (get_or xs k d) (get_or ys m e) (omega (arith, x, bi, n.long, lk, ck)) (omega (arith, y, bj, n.long, lm, cm)) in
-    subst (λ P. (a ≡ b) ↔ P) (sym (isomorphic_before g round l s t))
-    (signature_law g (round_at g (suc round)) rest child_lt child_ranks child_order child number s t xs ys (children-run g round i li) (children-run g round j lj) agree a b ha hb)
+-- a run of numbers by their places
+take_run : (xs : List ℕ) (a n : ℕ) → a + n ≤ length xs → take n (drop a xs) ≡ map (λ x. get_or xs x 0) (range_with_len a n)
+take_run xs a zero l = refl
+take_run xs a (suc n) l =
+    let e : suc n ≡ n + 1 = omega arith in
+    let long = length-drop a xs in
+    let at = λ (x : ℕ). get_or xs x 0 in
+    ap (λ k. take k (drop a xs)) e ∙ take_more (drop a xs) n 0 (omega (arith, long, l))
+    ∙ ap (λ (ys : List ℕ). ys ++ get_or (drop a xs) n 0 ∷ []) (take_run xs a n (omega (arith, l)))
+    ∙ ap (λ (v : ℕ). map at (range_with_len a n) ++ v ∷ []) (get_or-drop a xs n 0)
+    ∙ sym (map-range_with_len_more at a n (a + n) refl)
+    ∙ ap (λ k. map at (range_with_len a k)) (sym e)
 
--- the children of a signal in ascending order
-abbrev pub IsChildSignature : Game → ℕ → ℕ → List ℕ → ℕ → List (ℕ × ℕ) → Type 0
-IsChildSignature g round next numbers i a = IsSignature child_lt (map (child_part g next numbers) (range_with_len (first_child g round i) (child_count g round i))) a
+pub slice_run : (xs : List ℕ) (first end n : ℕ) → first + n ≡ end → end ≤ length xs → slice_range xs first end ≡ map (λ x. get_or xs x 0) (range_with_len first n)
+slice_run xs first end n e l =
+    let k : end - first ≡ n = omega (arith, e) in
+    ap (λ k. take k (drop first xs)) k ∙ take_run xs first n (omega (arith, e, l))
+
+-- the children of a signal are in the next round
+run_in : (g : Game) (round i : ℕ) → i < length (signals g round) → All (λ x. x < length (signals g (suc round))) (range_with_len (first_child g round i) (child_count g round i))
+run_in g round i l k d lk =
+    let n = length-range_with_len (first_child g round i) (child_count g round i) in
+    let x = get_or-range_with_len (first_child g round i) (child_count g round i) k d (omega (arith, lk, n)) in
+    omega (arith, x, lk, n, children_in g round i l)
+
+module _ (g : Game) (round : ℕ) (l : round < round_count g) (numbers marks : List ℕ) (n : IsNumbering g (suc round) numbers) (m : AreMarks g (suc round) numbers marks) where
+  abbrev child : ℕ → ℕ × Signal
+  child x = (last_edge g.copies (signal_at g (suc round) x), signal_at g (suc round) x)
+
+  abbrev mark : ℕ → ℕ
+  mark x = get_or marks x 0
+
+  abbrev Alike : ℕ × Signal → ℕ × Signal → Type 0
+  Alike a b = (a.0 ≡ b.0) × IsomorphicFor g (drop (suc round) g.rounds) a.1 b.1
+
+  abbrev IsIn : ℕ → Type 0
+  IsIn x = x < length (signals g (suc round))
+
+  -- equal marks are alike children
+  alike : (x y : ℕ) → IsIn x → IsIn y → (mark x ≡ mark y) ↔ Alike (child x) (child y)
+  alike x y lx ly =
+      let both = n.same x y (omega (arith, lx, n.long)) (omega (arith, ly, n.long)) in
+      let same = m.same x y (omega (arith, lx, m.long)) (omega (arith, ly, m.long)) in (
+        (λ e. (ap (λ (p : ℕ × ℕ). p.0) (same.0 e), both.0 (ap (λ (p : ℕ × ℕ). p.1) (same.0 e)))),
+        (λ a. same.1 (pairs (child_part g (suc round) numbers x) (child_part g (suc round) numbers y) a.0 (both.1 a.1))),
+      )
+
+  -- equal signatures are isomorphism, where equal numbers are that in the next round
+  pub mark_law : (i j : ℕ) → i < length (signals g round) → j < length (signals g round) → (a b : List ℕ) → IsSignature mark_lt (marks_under g round marks i) a → IsSignature mark_lt (marks_under g round marks j) b
+      → (a ≡ b) ↔ Isomorphic g round (signal_at g round i) (signal_at g round j)
+  mark_law i j li lj a b ha hb =
+      let r = round_at g (suc round) in
+      let s = signal_at g round i in
+      let t = signal_at g round j in
+      let xs = range_with_len (first_child g round i) (child_count g round i) in
+      let ys = range_with_len (first_child g round j) (child_count g round j) in
+      let R = λ (x y : ℕ). Alike (child x) (child y) in
+      let es = children-run g round i li in
+      let et = children-run g round j lj in
+      let e = sorts_equal mark_lt mark_ranks mark_order.exact (map mark xs) a (map mark ys) b ha.moved hb.moved ha.sorted hb.sorted in
+      subst (λ P. (a ≡ b) ↔ P) (sym (isomorphic_before g round l s t)) (
+        (λ q. subst (λ l. Matched Alike l (children g r t)) (sym es) (subst (λ l. Matched Alike (map child xs) l) (sym et) (Matched-map Alike child xs ys
+            (Matched-from_IsPermutation_members R mark IsIn IsIn (λ x y p q k. (alike x y p q).0 k) xs ys (run_in g round i li) (run_in g round j lj)
+            (IsPermutation-sym (map mark ys) (map mark xs) (e.0 q)))))),
+        (λ q. e.1 (IsPermutation-sym (map mark xs) (map mark ys)
+            (IsPermutation-from_Matched_members R mark IsIn IsIn (λ x y p q k. (alike x y p q).1 k) xs ys (run_in g round i li) (run_in g round j lj)
+            (Matched-unmap Alike child xs ys (subst (λ l. Matched Alike l (map child ys)) es (subst (λ l. Matched Alike (children g r s) l) et q)))))),
+      )
 
 -- the same for a number of the next round that is not written as a successor
-pub child_law_at : (g : Game) (round next : ℕ) → suc round ≡ next → round < round_count g → (numbers : List ℕ) → IsNumbering g next numbers
-    → (i j : ℕ) → i < length (signals g round) → j < length (signals g round) → (a b : List (ℕ × ℕ))
-    → IsChildSignature g round next numbers i a → IsChildSignature g round next numbers j b → (a ≡ b) ↔ Isomorphic g round (signal_at g round i) (signal_at g round j)
-child_law_at g round next e l numbers n i j li lj a b ha hb =
-    child_law g round l numbers (subst (λ r. IsNumbering g r numbers) (sym e) n) i j li lj a b
-    (subst (λ r. IsChildSignature g round r numbers i a) (sym e) ha) (subst (λ r. IsChildSignature g round r numbers j b) (sym e) hb)
+pub mark_law_at : (g : Game) (round next : ℕ) → suc round ≡ next → round < round_count g → (numbers marks : List ℕ) → IsNumbering g next numbers → AreMarks g next numbers marks
+    → (i j : ℕ) → i < length (signals g round) → j < length (signals g round) → (a b : List ℕ)
+    → IsSignature mark_lt (marks_under g round marks i) a → IsSignature mark_lt (marks_under g round marks j) b → (a ≡ b) ↔ Isomorphic g round (signal_at g round i) (signal_at g round j)
+mark_law_at g round next e l numbers marks n m =
+    mark_law g round l numbers marks (subst (λ r. IsNumbering g r numbers) (sym e) n) (subst (λ r. AreMarks g r numbers marks) (sym e) m)
+
+-- where each edge weighs 1, numbers are marks
+pub marks_light : (g : Game) (round : ℕ) (numbers : List ℕ) → IsNumbering g round numbers → ((i : ℕ) → i < length (signals g round) → last_edge g.copies (signal_at g round i) ≡ 1) → AreMarks g round numbers numbers
+marks_light g round numbers n light = record {
+  long = n.long;
+  same = λ x y lx ly. (
+    (λ e. pairs (child_part g round numbers x) (child_part g round numbers y) (light x (omega (arith, lx, n.long)) ∙ sym (light y (omega (arith, ly, n.long)))) e),
+    (λ e. ap (λ (p : ℕ × ℕ). p.1) e),
+  );
+}
 
 -- ---- classes of the next round
 

@@ -8,3 +8,4 @@ pub mod Listed
 pub mod Pairs
 pub mod Paired
 pub mod Alike
+pub mod Light

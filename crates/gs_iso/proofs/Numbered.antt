@@ -1,6 +1,6 @@
 -- Numbers by first sight: equal numbers are equal keys.
 use Rattle.std.proofs.Common.{◌≡◌, ◌↔◌, ℕ, zero, suc, ◌-◌, ◌<◌, List, [], ◌∷◌, ◌++◌, length, get_or, refl, sym, ap, ◌∙◌, subst, arith, Bool, true, false, cond, true≢false, Some, Vec, Global, ⊎_elim, length-append}
-use Rattle.std.specs.List.{AllByRecursion, IsDistinct, slice_get, list_any}
+use Rattle.std.specs.List.{AllByRecursion, IsDistinct, find, list_any, slice_get}
 use Rattle.std.proofs.lemmas.Bool.{cases_eq}
 use Rattle.std.specs.Bool.{Decides}
 use Rattle.std.proofs.lemmas.Slice.Eq.{slice_eq-Decides}
@@ -8,7 +8,7 @@ use Rattle.std.proofs.lemmas.Map.Keys.{IsDistinct-head, IsDistinct-tail}
 use Rattle.std.proofs.lemmas.Grind.{elements}
 use lib.Pointwise.{pointwise}
 use Rattle.indexmap.specs.IndexSet.{insert_key}
-use Rattle.gs_iso.specs.Numbers.{HasKey, LeadToKeys}
+use Rattle.gs_iso.specs.Numbers.{HasKey, IsNumberOf, LeadToKeys, StayIn, same_parts}
 
 -- a place keeps its item when another goes behind
 slice_get-append : {X : Type 0} (xs ys : List X) (i : ℕ) (x : X) → slice_get xs i ≡ Some x → slice_get (xs ++ ys) i ≡ Some x
@@ -46,34 +46,34 @@ one_place eq flips (z ∷ zs) d (suc i) (suc j) x y ex ey e = ap suc (one_place 
 at_end : (xs : List ℕ) (n : ℕ) → get_or (xs ++ n ∷ []) (length xs) 0 ≡ n
 at_end xs n = grind (arith, elements)
 
-module _ {X : Type 0} (eq : X → X → Bool) (exact : (x y : X) → Decides (eq x y) (x ≡ y)) where
-  abbrev pub same_items : Vec X Global → Vec X Global → Bool
-  same_items k l = pointwise eq k.items l.items
+-- the key that a look-up finds passes its test
+pub find_passes : {K : Type 0} (test : K → Bool) (keys : List K) (k : K) → find test keys ≡ Some k → test k ≡ true
+find_passes test [] k e = absurd (cc)
+find_passes {K} test (x ∷ xs) k e = by (test x) refl (find_passes test xs k)
+  where
+    by : (b : Bool) → test x ≡ b → (find test xs ≡ Some k → test k ≡ true) → test k ≡ true
+    by true t rest = let found : Some x ≡ Some k = ap (λ c. cond c (Some x) (find test xs)) (sym t) ∙ e in let same : x ≡ k = cc in ap test (sym same) ∙ t
+    by false t rest = rest (ap (λ c. cond c (Some x) (find test xs)) (sym t) ∙ e)
 
+module _ {X : Type 0} (eq : X → X → Bool) (exact : (x y : X) → Decides (eq x y) (x ≡ y)) where
   items_decide : (xs ys : List X) → Decides (pointwise eq xs ys) (xs ≡ ys)
   items_decide xs ys = slice_eq-Decides {E = eq} exact xs ys (pointwise eq xs ys) refl
 
   -- one more item, with the number of its key
-  pub leads_more : (sign : ℕ → List X → Type 0) (keys more : List (Vec X Global)) (numbers : List ℕ) (key k : Vec X Global) (n : ℕ)
-      → LeadToKeys sign keys numbers → more ≡ insert_key same_items keys key → 0 < n → slice_get more (n - 1) ≡ Some k → same_items key k ≡ true
-      → sign (length numbers) key.items → LeadToKeys sign more (numbers ++ n ∷ [])
-  leads_more sign keys more numbers key k n leads grown some stands same signs i l = ⊎_elim
+  pub leads_more : (sign : ℕ → List X → Type 0) (keys more : List (Vec X Global)) (numbers : List ℕ) (parts : List X) (n : ℕ)
+      → LeadToKeys sign keys numbers → StayIn keys more → IsNumberOf eq more parts n → sign (length numbers) parts → LeadToKeys sign more (numbers ++ n ∷ [])
+  leads_more sign keys more numbers parts n leads stay number signs i l = ⊎_elim
       (λ e.
       let at : get_or (numbers ++ n ∷ []) i 0 ≡ n = ap (λ j. get_or (numbers ++ n ∷ []) j 0) e ∙ at_end numbers n in
-      let items : key.items ≡ k.items = (items_decide key.items k.items).0 same in
-      let here : sign i k.items = subst (λ j. sign j k.items) (sym e) (subst (λ l. sign (length numbers) l) items signs) in
-      let h : HasKey sign more i n = record { some = some; key = k; stands = stands; signs = here } in
+      let items : parts ≡ number.key.items = (items_decide parts number.key.items).0 number.same in
+      let here : sign i number.key.items = subst (λ j. sign j number.key.items) (sym e) (subst (λ l. sign (length numbers) l) items signs) in
+      let h : HasKey sign more i n = record { some = number.some; key = number.key; stands = number.stands; signs = here } in
       subst (λ m. HasKey sign more i m) (sym at) h)
       (λ ne.
       let lt : i < length numbers = omega (arith, length-append numbers (n ∷ [])) in
       let old = leads i lt in
       let at : get_or (numbers ++ n ∷ []) i 0 ≡ get_or numbers i 0 = grind (arith, elements) in
-      let h : HasKey sign more i (get_or numbers i 0) = record {
-        some = old.some;
-        key = old.key;
-        stands = ap (λ ks. slice_get ks (get_or numbers i 0 - 1)) grown ∙ slice_get-insert same_items keys key (get_or numbers i 0 - 1) old.key old.stands;
-        signs = old.signs;
-      } in
+      let h : HasKey sign more i (get_or numbers i 0) = record { some = old.some; key = old.key; stands = stay (get_or numbers i 0 - 1) old.key old.stands; signs = old.signs } in
       subst (λ m. HasKey sign more i m) (sym at) h)
       (cases_eq i (length numbers))
 
@@ -93,7 +93,7 @@ module _ {X : Type 0} (eq : X → X → Bool) (exact : (x y : X) → Decides (eq
       (cases_eq i (length numbers))
 
   -- equal numbers are equal signatures
-  pub numbers_are : (sign : ℕ → List X → Type 0) (keys : List (Vec X Global)) (numbers : List ℕ) → IsDistinct same_items keys → LeadToKeys sign keys numbers
+  pub numbers_are : (sign : ℕ → List X → Type 0) (keys : List (Vec X Global)) (numbers : List ℕ) → IsDistinct (same_parts eq) keys → LeadToKeys sign keys numbers
       → (R : ℕ → ℕ → Type 0) → ((i j : ℕ) (a b : List X) → i < length numbers → j < length numbers → sign i a → sign j b → (a ≡ b) ↔ R i j)
       → (i j : ℕ) → i < length numbers → j < length numbers → (get_or numbers i 0 ≡ get_or numbers j 0) ↔ R i j
   numbers_are sign keys numbers distinct leads R law i j li lj =
@@ -107,9 +107,9 @@ module _ {X : Type 0} (eq : X → X → Bool) (exact : (x y : X) → Decides (eq
             both.0 (ap (λ (v : Vec X Global). v.items) k)),
         (λ r.
             let items : a.key.items ≡ b.key.items = both.1 r in
-            let same : same_items a.key b.key ≡ true = (items_decide a.key.items b.key.items).1 items in
-            let flips = λ (x y : Vec X Global) (e : same_items x y ≡ true). (items_decide y.items x.items).1 (sym ((items_decide x.items y.items).0 e)) in
-            let place : get_or numbers i 0 - 1 ≡ get_or numbers j 0 - 1 = one_place same_items flips keys distinct (get_or numbers i 0 - 1) (get_or numbers j 0 - 1) a.key b.key a.stands b.stands same in
+            let same : same_parts eq a.key b.key ≡ true = (items_decide a.key.items b.key.items).1 items in
+            let flips = λ (x y : Vec X Global) (e : same_parts eq x y ≡ true). (items_decide y.items x.items).1 (sym ((items_decide x.items y.items).0 e)) in
+            let place : get_or numbers i 0 - 1 ≡ get_or numbers j 0 - 1 = one_place (same_parts eq) flips keys distinct (get_or numbers i 0 - 1) (get_or numbers j 0 - 1) a.key b.key a.stands b.stands same in
             let some_a = a.some in let some_b = b.some in
             omega arith),
       )

@@ -17,7 +17,7 @@ use Rattle.gs_iso.specs.Numbers.{IsNumbering, child_part}
 use Rattle.gs_iso.specs.Orders.{child_eq, leaf_eq}
 use Rattle.gs_iso.specs.Pairings.{IsPaired, IsPairedFor, IsPairingAnswer, IsPairingFor, IsPairingOf}
 use Rattle.gs_iso.proofs.Below.{children_in, rounds_after}
-use Rattle.gs_iso.proofs.Exact.{child_exact, leaf_exact}
+use Rattle.gs_iso.proofs.Exact.{child_exact, leaf_exact, pairs}
 use Rattle.gs_iso.proofs.Pairs.{matched_from_pairing, pairing_from_matched, pairing_like}
 use Rattle.gs_iso.proofs.Rounds.{drop_whole}
 
@@ -66,9 +66,6 @@ over : {A B : Type 0} (T : A → A → B → B → Type 0) (a a' b b' : A) (u u'
 over T a a' b b' u u' v v' e f p q t =
     subst (λ x. T x b u v) (sym e) (subst (λ x. T a' x u v) (sym f) (subst (λ x. T a' b' x v) (sym p) (subst (λ x. T a' b' u' x) (sym q) t)))
 
-pair_of : (p q : ℕ × ℕ) → p.0 ≡ q.0 → p.1 ≡ q.1 → p ≡ q
-pair_of p q e f = let g : ℕ → ℕ × ℕ = λ m. (m, p.1) in let h : ℕ → ℕ × ℕ = λ m. (q.0, m) in ap g e ∙ ap h f
-
 module _ (g : Game) (round : ℕ) (l : round < round_count g) (numbers : List ℕ) (n : IsNumbering g (suc round) numbers) where
   abbrev Alike : ℕ × Signal → ℕ × Signal → Type 0
   Alike a b = (a.0 ≡ b.0) × IsomorphicFor g (drop (suc round) g.rounds) a.1 b.1
@@ -88,7 +85,7 @@ module _ (g : Game) (round : ℕ) (l : round < round_count g) (numbers : List �
       let both = n.same x y (omega (arith, lx, n.long)) (omega (arith, ly, n.long)) in
       let exact = child_exact (part x) (part y) in (
         (λ e. (ap (λ (p : ℕ × ℕ). p.0) (exact.0 e), both.0 (ap (λ (p : ℕ × ℕ). p.1) (exact.0 e)))),
-        (λ a. exact.1 (pair_of (part x) (part y) a.0 (both.1 a.1))),
+        (λ a. exact.1 (pairs (part x) (part y) a.0 (both.1 a.1))),
       )
 
   child_paired : (i j : ℕ) → i < length (signals g round) → j < length (signals g round) → (m : Option (List ℕ)) → IsPairingAnswer child_eq (map part (places i)) (map part (places j)) m

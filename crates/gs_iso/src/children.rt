@@ -1,15 +1,15 @@
-//! The numbers of signals before the last round, by their children's numbers.
+//! The numbers of signals before the last round, by their children's.
 
-ghost use Rattle.std.specs.Prelude.{◌≡◌, ◌<◌, ◌+◌, IfOk, length, map};
+ghost use Rattle.std.specs.Prelude.{ℕ, ◌≡◌, ◌<◌, ◌≤◌, ◌+◌, IfOk, IsTrue, List, OnOk, length, map};
 ghost use Rattle.std.specs.List.{range_with_len};
 ghost use Rattle.gs_model.specs.Game.{round_count};
-ghost use Rattle.gs_model.specs.Signals.{child_count, first_child, signals as signals_in};
+ghost use Rattle.gs_model.specs.Signals.{child_count, first_child, last_edge, signal_at, signals as signals_in};
 ghost use Rattle.gs_model.specs.Signatures.{IsSignature};
 ghost use Rattle.gs_tree.specs.Trees.{rules_of};
-ghost use Rattle.gs_iso.specs.Numbers.{IsNumbering, child_part};
-ghost use Rattle.gs_iso.specs.Orders.{child_lt};
+ghost use Rattle.gs_iso.specs.Numbers.{AreMarks, IsNumbering, child_part, marks_under};
+ghost use Rattle.gs_iso.specs.Orders.{mark_lt};
 
-use crate::numbers::number_of;
+use crate::numbers::{number_of, number_of_list};
 use crate::parts::Child;
 use gs_tree::Signals;
 use indexmap::IndexSet;
@@ -41,27 +41,95 @@ pub(crate) fn children_under(
     Ok(children)
 }
 
-/// The children of a signal, in ascending order.
-fn child_signature(
+/// Whether the edge to each signal of a round weighs 1.
+fn are_light(signals: &Signals, round: u8) -> bool
+    requires some { 0 < round }
+    requires last { round ≤ round_count (rules_of signals.now) }
+    ensures { IsTrue result → (i : ℕ) → i < length (signals_in (rules_of signals.now) round) → last_edge (rules_of signals.now).copies (signal_at (rules_of signals.now) round i) ≡ 1 }
+{
+    for signal in 0..signals.count(round) {
+        if signals.edge(round, signal) != 1 {
+            return false;
+        }
+    }
+    true
+}
+
+/// For each signal of a round a mark: equal exactly where both the edges to the signals and their numbers are.
+fn edge_marks(
     alloc: Global,
     signals: &Signals,
     round: u8,
+    numbers: &[u32],
+) -> Result<Vec<u32>, AllocError>
+    requires some { 0 < round }
+    requires last { round ≤ round_count (rules_of signals.now) }
+    requires numbers { IsNumbering (rules_of signals.now) round numbers.now }
+    ensures { IfOk result (λ v. AreMarks (rules_of signals.now) round numbers.now v.items) }
+{
+    let count = signals.count(round);
+    let mut seen = IndexSet::new(alloc);
+    let mut marks = Vec::with_capacity(alloc, count as usize)?;
+    for signal in 0..count {
+        let child = Child {
+            edge: signals.edge(round, signal),
+            number: numbers[signal as usize],
+        };
+        let mark = number_of(&mut seen, child)?;
+        marks.push(mark)?;
+    }
+    Ok(marks)
+}
+
+/// Puts the marks of a signal's children, in ascending order, into a list in place of what it held. `marks` has those of the next round.
+fn sign_children(
+    signature: &mut Vec<u32>,
+    signals: &Signals,
+    round: u8,
     signal: u32,
-    below: &[u32],
-) -> Result<Vec<Child>, AllocError>
+    marks: &[u32],
+) -> Result<(), AllocError>
     requires some { 0 < round }
     requires before_last { round < round_count (rules_of signals.now) }
     requires in_range { signal < length (signals_in (rules_of signals.now) round) }
-    requires numbers { IsNumbering (rules_of signals.now) (round + 1) below.now }
-    ensures { IfOk result (λ v. IsSignature child_lt (map (child_part (rules_of signals.now) (round + 1) below.now)
-        (range_with_len (first_child (rules_of signals.now) round signal) (child_count (rules_of signals.now) round signal))) v.items) }
+    requires marks { length marks.now ≡ length (signals_in (rules_of signals.now) (round + 1)) }
+    ensures { OnOk result (IsSignature mark_lt (marks_under (rules_of signals.now) round marks.now signal) signature.new.items) }
 {
-    let mut children = children_under(alloc, signals, round, signal, below)?;
-    children.sort_unstable();
-    Ok(children)
+    let (first, end) = signals.children(round, signal);
+    signature.clear();
+    signature.extend_from_slice(&marks[first as usize..end as usize])?;
+    signature.sort_unstable();
+    Ok(())
 }
 
-/// For each signal of a round before the last a number: equal exactly where the signals are isomorphic. `below` has the numbers of the next round.
+/// For each signal of a round before the last a number: equal exactly where the signals are isomorphic. `below` has the numbers of the next round,
+/// and `marks` its marks.
+fn marked_numbers(
+    alloc: Global,
+    signals: &Signals,
+    round: u8,
+    marks: &[u32],
+) -> Result<Vec<u32>, AllocError>
+    requires some { 0 < round }
+    requires before_last { round < round_count (rules_of signals.now) }
+    requires marks { length marks.now ≡ length (signals_in (rules_of signals.now) (round + 1)) }
+    ensures { IfOk result (λ v. (below : List ℕ) → IsNumbering (rules_of signals.now) (round + 1) below → AreMarks (rules_of signals.now) (round + 1) below marks.now
+        → IsNumbering (rules_of signals.now) round v.items) }
+{
+    let count = signals.count(round);
+    let mut seen = IndexSet::new(alloc);
+    let mut signature = Vec::new(alloc);
+    let mut numbers = Vec::with_capacity(alloc, count as usize)?;
+    for signal in 0..count {
+        sign_children(&mut signature, signals, round, signal, marks)?;
+        let number = number_of_list(alloc, &mut seen, &signature)?;
+        numbers.push(number)?;
+    }
+    Ok(numbers)
+}
+
+/// For each signal of a round before the last a number: equal exactly where the signals are isomorphic. `below` has the numbers of the next round,
+/// which are marks where each edge weighs 1.
 pub(crate) fn child_numbers(
     alloc: Global,
     signals: &Signals,
@@ -73,13 +141,9 @@ pub(crate) fn child_numbers(
     requires numbers { IsNumbering (rules_of signals.now) (round + 1) below.now }
     ensures { IfOk result (λ v. IsNumbering (rules_of signals.now) round v.items) }
 {
-    let count = signals.count(round);
-    let mut seen = IndexSet::new(alloc);
-    let mut numbers = Vec::with_capacity(alloc, count as usize)?;
-    for signal in 0..count {
-        let signature = child_signature(alloc, signals, round, signal, below)?;
-        let number = number_of(&mut seen, signature)?;
-        numbers.push(number)?;
+    if are_light(signals, round + 1) {
+        return marked_numbers(alloc, signals, round, below);
     }
-    Ok(numbers)
+    let marks = edge_marks(alloc, signals, round + 1, below)?;
+    marked_numbers(alloc, signals, round, &marks)
 }

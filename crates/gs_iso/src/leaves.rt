@@ -1,21 +1,26 @@
 //! The signatures of last-round signals.
 
-ghost use Rattle.std.specs.Prelude.{◌≡◌, ◌<◌, IfOk, map};
+ghost use Rattle.std.specs.Prelude.{◌≡◌, ◌<◌, ◌^◌, All, IfOk, OnOk, map, unsigned_abs};
 ghost use Rattle.gs_model.specs.Game.{round_count};
 ghost use Rattle.gs_model.specs.Signals.{signal_at};
-ghost use Rattle.gs_model.specs.Signatures.{IsSignature};
 ghost use Rattle.gs_model.specs.ViewTree.{leaves};
 ghost use Rattle.gs_tree.specs.Trees.{rules_of};
 ghost use Rattle.gs_tree.specs.Walk.{last_count};
-ghost use Rattle.gs_iso.specs.Orders.{leaf_lt, leaf_of};
-ghost use Rattle.gs_iso.specs.Numbers.{IsNumbering};
+ghost use Rattle.gs_iso.specs.Orders.{leaf_mark, leaf_of};
+ghost use Rattle.gs_iso.specs.Numbers.{IsLeafSignature, IsNumbering};
 
-use crate::numbers::number_of;
+use crate::numbers::number_of_list;
 use crate::parts::Leaf;
 use gs_alike::stand_ins;
-use gs_tree::{Deals, Signals};
+use gs_tree::{Deal, Deals, Signals};
 use indexmap::IndexSet;
 use std::alloc::{AllocError, Global};
+
+/// What a lost leaf's mark is higher by: more than any outcome's size.
+const LOST: u64 = 256;
+
+/// How far apart the marks of leaves are for one way more.
+const A_WAY: u64 = 512;
 
 /// The leaves that some deals of one signal are: their ways are the deals' weights over the ways to the signal.
 fn leaves_of(alloc: Global, deals: Deals<'_>, path: u64) -> Result<Vec<Leaf>, AllocError>
@@ -42,14 +47,39 @@ pub(crate) fn leaves_under(
     leaves_of(alloc, signals.deals_of(signal), signals.path_weight(signal))
 }
 
-/// The leaves under a signal of the last round, in ascending order.
-fn leaf_signature(alloc: Global, signals: &Signals, signal: u32) -> Result<Vec<Leaf>, AllocError>
-    requires { signal < last_count (rules_of signals.now) }
-    ensures { IfOk result (λ v. IsSignature leaf_lt (leaves (rules_of signals.now) (signal_at (rules_of signals.now) (round_count (rules_of signals.now)) signal)) v.items) }
+/// The mark of the leaf that a deal is, by the ways to the signal that it is dealt to: one number for its ways and its outcome.
+fn mark_of(deal: Deal, path: u64) -> u64
+    requires some { 0 < path }
+    requires few { deal.weight < 2 ^ 32 }
+    ensures mark { result ≡ leaf_mark (leaf_of path deal) }
+    ensures small { unsigned_abs deal.outcome < 256 }
 {
-    let mut leaves = leaves_under(alloc, signals, signal)?;
-    leaves.sort_unstable();
-    Ok(leaves)
+    let side = if deal.outcome < 0 { LOST } else { 0 };
+    deal.weight / path * A_WAY + side + u64::from(deal.outcome.unsigned_abs())
+}
+
+/// Puts the marks of the leaves under a signal of the last round, in the order of its deals, into a list in place of what it held.
+fn mark_leaves(marks: &mut Vec<u64>, signals: &Signals, signal: u32) -> Result<(), AllocError>
+    requires { signal < last_count (rules_of signals.now) }
+    ensures marks { OnOk result (marks.new.items ≡ map leaf_mark (leaves (rules_of signals.now) (signal_at (rules_of signals.now) (round_count (rules_of signals.now)) signal))) }
+    ensures small { OnOk result (All (λ leaf. unsigned_abs leaf.1 < 256) (leaves (rules_of signals.now) (signal_at (rules_of signals.now) (round_count (rules_of signals.now)) signal))) }
+{
+    let path = signals.path_weight(signal);
+    marks.clear();
+    for deal in signals.deals_of(signal) {
+        marks.push(mark_of(deal, path))?;
+    }
+    Ok(())
+}
+
+/// Puts the marks of the leaves under a signal of the last round, in ascending order, into a list in place of what it held.
+fn sign_leaves(signature: &mut Vec<u64>, signals: &Signals, signal: u32) -> Result<(), AllocError>
+    requires { signal < last_count (rules_of signals.now) }
+    ensures { OnOk result (IsLeafSignature (rules_of signals.now) signal signature.new.items) }
+{
+    mark_leaves(signature, signals, signal)?;
+    signature.sort_unstable();
+    Ok(())
 }
 
 /// For each signal of the last round a number: equal exactly where the signals are isomorphic. The leaves of a signal are looked at only where no
@@ -61,6 +91,7 @@ pub(crate) fn leaf_numbers(alloc: Global, signals: &Signals) -> Result<Vec<u32>,
     let keys = vec![in alloc; 0; count as usize]?;
     let firsts = stand_ins(alloc, signals, &keys)?;
     let mut seen = IndexSet::new(alloc);
+    let mut signature = Vec::new(alloc);
     let mut numbers = Vec::with_capacity(alloc, count as usize)?;
     for signal in 0..count {
         let first = firsts[signal as usize];
@@ -69,8 +100,8 @@ pub(crate) fn leaf_numbers(alloc: Global, signals: &Signals) -> Result<Vec<u32>,
             numbers.push(number)?;
             continue;
         }
-        let signature = leaf_signature(alloc, signals, signal)?;
-        let number = number_of(&mut seen, signature)?;
+        sign_leaves(&mut signature, signals, signal)?;
+        let number = number_of_list(alloc, &mut seen, &signature)?;
         numbers.push(number)?;
     }
     Ok(numbers)

@@ -2,9 +2,10 @@
 
 ghost use Rattle.std.specs.Prelude.{◌≡◌, ◌+◌, ◌-◌, ◌<◌, ◌≤◌, ◌^◌, IfOk, OnOk, Some, slice_get, true};
 ghost use Rattle.indexmap.specs.IndexSet.{IsUnique, index_set_len, insert_key};
+ghost use Rattle.gs_iso.specs.Numbers.{IsNumberOf, StayIn, same_parts};
 
 use indexmap::IndexSet;
-use std::alloc::AllocError;
+use std::alloc::{AllocError, Global};
 use std::hash::Hash;
 
 /// The number of a key: one above its place among the keys that were seen, in the order of their first sight.
@@ -21,4 +22,26 @@ pub(crate) fn number_of<K: Eq + Hash + Drop>(
 {
     let (index, _) = keys.insert_full(key)?;
     Ok(index as u32 + 1)
+}
+
+/// The number of a list, by first sight too. The list is copied only where it was not seen before.
+pub(crate) fn number_of_list<P: Copy + Eq + Hash + Drop>(
+    alloc: Global,
+    lists: &mut IndexSet<Vec<P>>,
+    list: &[P],
+) -> Result<u32, AllocError>
+    requires few { index_set_len lists.old + 1 < 2 ^ 32 }
+    requires unique { IsUnique (same_parts P.eq) lists.old }
+    ensures kept { OnOk result (StayIn lists.old.keys lists.new.keys) }
+    ensures number { IfOk result (IsNumberOf P.eq lists.new.keys list.now) }
+    ensures few { OnOk result (index_set_len lists.new ≤ index_set_len lists.old + 1) }
+    ensures unique { OnOk result (IsUnique (same_parts P.eq) lists.new) }
+{
+    if let Some((index, _found)) = lists.get_full(list) {
+        return Ok(index as u32 + 1);
+    }
+    let mut key = Vec::with_capacity(alloc, list.len())?;
+    key.extend_from_slice(list)?;
+    let number = number_of(lists, key)?;
+    Ok(number)
 }

@@ -1,9 +1,9 @@
-//! The parts of a node's signature.
+//! The parts of a node: its leaves or children, and what tells the classes of a round apart.
 
 use std::marker::Model;
 
 /// A leaf under a last-round signal: the ways of taking the opponent's groups, and the viewer's outcome.
-#[derive(Clone, Copy, Debug, PartialEq, Eq, PartialOrd, Ord, Hash)]
+#[derive(Clone, Copy, Debug, PartialEq, Eq)]
 pub(crate) struct Leaf {
     pub ways: u64,
     pub outcome: i8,
@@ -19,8 +19,8 @@ impl Model for Leaf {
     ghost inverse = { λ p. record { ways = p.0; outcome = p.1 } };
 }
 
-/// A child of a signal: the weight of its edge, and its number among the children.
-#[derive(Clone, Copy, Debug, PartialEq, Eq, PartialOrd, Ord, Hash)]
+/// A child of a signal: the weight of its edge, and its number.
+#[derive(Clone, Copy, Debug, PartialEq, Eq, Hash)]
 pub(crate) struct Child {
     pub edge: u64,
     pub number: u32,
