@@ -45,7 +45,8 @@ pub(crate) fn children_under(
 fn are_light(signals: &Signals, round: u8) -> bool
     requires some { 0 < round }
     requires last { round ≤ round_count (rules_of signals.now) }
-    ensures { IsTrue result → (i : ℕ) → i < length (signals_in (rules_of signals.now) round) → last_edge (rules_of signals.now).copies (signal_at (rules_of signals.now) round i) ≡ 1 }
+    ensures { IsTrue result → (i : ℕ) → i < length (signals_in (rules_of signals.now) round)
+        → last_edge (rules_of signals.now).copies (signal_at (rules_of signals.now) round i) ≡ 1 }
 {
     for signal in 0..signals.count(round) {
         if signals.edge(round, signal) != 1 {
@@ -102,8 +103,7 @@ fn sign_children(
     Ok(())
 }
 
-/// For each signal of a round before the last a number: equal exactly where the signals are isomorphic. `below` has the numbers of the next round,
-/// and `marks` its marks.
+/// For each signal of a round before the last a number: equal exactly where the signals are isomorphic. `marks` has the marks of the next round.
 fn marked_numbers(
     alloc: Global,
     signals: &Signals,
@@ -113,8 +113,8 @@ fn marked_numbers(
     requires some { 0 < round }
     requires before_last { round < round_count (rules_of signals.now) }
     requires marks { length marks.now ≡ length (signals_in (rules_of signals.now) (round + 1)) }
-    ensures { IfOk result (λ v. (below : List ℕ) → IsNumbering (rules_of signals.now) (round + 1) below → AreMarks (rules_of signals.now) (round + 1) below marks.now
-        → IsNumbering (rules_of signals.now) round v.items) }
+    ensures { IfOk result (λ v. (below : List ℕ) → IsNumbering (rules_of signals.now) (round + 1) below
+        → AreMarks (rules_of signals.now) (round + 1) below marks.now → IsNumbering (rules_of signals.now) round v.items) }
 {
     let count = signals.count(round);
     let mut seen = IndexSet::new(alloc);

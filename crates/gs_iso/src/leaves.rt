@@ -61,8 +61,10 @@ fn mark_of(deal: Deal, path: u64) -> u64
 /// Puts the marks of the leaves under a signal of the last round, in the order of its deals, into a list in place of what it held.
 fn mark_leaves(marks: &mut Vec<u64>, signals: &Signals, signal: u32) -> Result<(), AllocError>
     requires { signal < last_count (rules_of signals.now) }
-    ensures marks { OnOk result (marks.new.items ≡ map leaf_mark (leaves (rules_of signals.now) (signal_at (rules_of signals.now) (round_count (rules_of signals.now)) signal))) }
-    ensures small { OnOk result (All (λ leaf. unsigned_abs leaf.1 < 256) (leaves (rules_of signals.now) (signal_at (rules_of signals.now) (round_count (rules_of signals.now)) signal))) }
+    ensures marks { OnOk result (marks.new.items ≡ map leaf_mark
+        (leaves (rules_of signals.now) (signal_at (rules_of signals.now) (round_count (rules_of signals.now)) signal))) }
+    ensures small { OnOk result (All (λ leaf. unsigned_abs leaf.1 < 256)
+        (leaves (rules_of signals.now) (signal_at (rules_of signals.now) (round_count (rules_of signals.now)) signal))) }
 {
     let path = signals.path_weight(signal);
     marks.clear();
