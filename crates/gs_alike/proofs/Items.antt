@@ -1,21 +1,80 @@
 -- The first items with their marks.
-use Rattle.std.proofs.Common.{◌≡◌, ◌≤◌, ◌<◌, ◌∙◌, ℕ, List, get_or, length, refl, sym, subst, arith}
+use Rattle.std.proofs.Common.{◌≡◌, ◌⊎◌, ◌≤◌, ◌<◌, ◌+◌, ◌∙◌, ℕ, List, get_or, length, replicate, set, refl, sym, ap, subst, below_more, arith, ⊎_elim, length-set}
+use Rattle.std.proofs.lemmas.Bool.{cases_eq, cases_lt}
+use Rattle.std.proofs.lemmas.List.{get_or-replicate, get_or-set_other, get_or-set_same, length-replicate}
 use Rattle.std.proofs.lemmas.List.Sorted.{IsPermutation-refl, IsPermutation-sym, IsPermutation-trans}
 use Rattle.gs_model.specs.Game.{Game}
 use Rattle.gs_tree.specs.Walk.{last_count}
 use Rattle.gs_alike.specs.Alike.{AreAlike, AreStandIns, seen}
 use Rattle.gs_alike.specs.Firsts.{AreFirsts, AreMarks}
-use Rattle.gs_alike.proofs.Each.{HasEach}
 
--- an item with the same mark, no later
-pub record IsFirst (marks : List ℕ) (i first : ℕ) : Type 0 where
-  pub before : first ≤ i
-  pub same : get_or marks first 0 ≡ get_or marks i 0
+-- each item that is kept has the mark that it is kept for
+abbrev pub IsKept : List ℕ → List ℕ → Type 0
+IsKept marks kept = (m : ℕ) → m < length kept → get_or kept m 0 < length marks → get_or marks (get_or kept m 0) 0 ≡ m
 
-pub firsts_all : (marks firsts : List ℕ) (n : ℕ) → n ≡ length marks → HasEach (IsFirst marks) firsts n → AreFirsts marks firsts
-firsts_all marks firsts n e so =
-    let all : HasEach (IsFirst marks) firsts (length marks) = subst (λ (k : ℕ). HasEach (IsFirst marks) firsts k) e so in
-    record { long = all.long; before = λ i l. (all.each i l).before; same = λ i l. (all.each i l).same }
+-- the marks of the first items are made first items with their marks
+pub record AreMade (marks : List ℕ) (n : ℕ) (now kept : List ℕ) : Type 0 where
+  pub long : length now ≡ length marks
+  pub before : (i : ℕ) → i < n → get_or now i 0 ≤ i
+  pub same : (i : ℕ) → i < n → get_or marks (get_or now i 0) 0 ≡ get_or marks i 0
+  pub after : (i : ℕ) → n ≤ i → get_or now i 0 ≡ get_or marks i 0
+  pub each_kept : IsKept marks kept
+
+pub none_made : (marks kept : List ℕ) (none : ℕ) → kept ≡ replicate (length marks) none → length marks ≤ none → AreMade marks 0 marks kept
+none_made marks kept none e big = record {
+  long = refl;
+  before = λ i l. absurd (omega arith);
+  same = λ i l. absurd (omega arith);
+  after = λ i l. refl;
+  each_kept = subst (IsKept marks) (sym e) (λ m l small. absurd (
+      let in' : m < length marks = omega (arith, l, length-replicate (length marks) none) in
+      let is : get_or (replicate (length marks) none) m 0 ≡ none = get_or-replicate (length marks) m none 0 in' in
+      omega (arith, is, small, big)));
+}
+
+kept_one : (marks kept : List ℕ) (item mark : ℕ) → mark ≡ get_or marks item 0 → IsKept marks kept → IsKept marks (set kept mark item)
+kept_one marks kept item mark is h m l = ⊎_elim
+    (λ (e : m ≡ mark).
+    let in' : mark < length kept = omega (arith, l, e, length-set kept mark item) in
+    let at : get_or (set kept mark item) m 0 ≡ item = ap (λ (k : ℕ). get_or (set kept mark item) k 0) e ∙ get_or-set_same kept mark item 0 in' in
+    λ small. ap (λ (k : ℕ). get_or marks k 0) at ∙ sym is ∙ sym e)
+    (λ ne.
+    let at : get_or (set kept mark item) m 0 ≡ get_or kept m 0 = get_or-set_other kept mark m item 0 ne in
+    λ small. ap (λ (k : ℕ). get_or marks k 0) at ∙ h m (omega (arith, l, length-set kept mark item)) (omega (arith, small, at)))
+    (cases_eq m mark)
+
+-- one more
+pub one_made : (marks : List ℕ) (n : ℕ) (now kept more : List ℕ) (mark first : ℕ) → n < length marks → AreMade marks n now kept → mark ≡ get_or now n 0 → first ≤ n
+    → (first < n → (mark < length kept) × (get_or kept mark 0 ≡ first)) → (more ≡ kept) ⊎ (more ≡ set kept mark n) → AreMade marks (n + 1) (set now n first) more
+one_made marks n now kept more mark first l h is le earlier step =
+    let at : n < length now = omega (arith, l, h.long) in
+    let mark_is : mark ≡ get_or marks n 0 = is ∙ h.after n (omega arith) in
+    let marked : get_or marks first 0 ≡ get_or marks n 0 = ⊎_elim
+    (λ (s : first < n).
+    let found = earlier s in
+    let small : get_or kept mark 0 < length marks = omega (arith, found.1, s, l) in
+    ap (λ (k : ℕ). get_or marks k 0) (sym found.1) ∙ h.each_kept mark found.0 small ∙ mark_is)
+    (λ (s : n ≤ first). let e : first ≡ n = omega (arith, s, le) in ap (λ (k : ℕ). get_or marks k 0) e)
+    (cases_lt first n) in
+    let other = λ (k : ℕ) (ne : k ≡ n → ⊥). get_or-set_other now n k first 0 ne in
+    let here : get_or (set now n first) n 0 ≡ first = get_or-set_same now n first 0 at in
+    record {
+      long = length-set now n first ∙ h.long;
+      before = below_more (λ (k : ℕ). get_or (set now n first) k 0 ≤ k) n
+          (λ k m. let e = other k (λ e. absurd (omega (arith, e, m))) in omega (arith, e, h.before k m))
+          (omega (arith, here, le));
+      same = below_more (λ (k : ℕ). get_or marks (get_or (set now n first) k 0) 0 ≡ get_or marks k 0) n
+          (λ k m. ap (λ (v : ℕ). get_or marks v 0) (other k (λ e. absurd (omega (arith, e, m)))) ∙ h.same k m)
+          (ap (λ (v : ℕ). get_or marks v 0) here ∙ marked);
+      after = λ k m. other k (λ e. absurd (omega (arith, e, m))) ∙ h.after k (omega (arith, m));
+      each_kept = ⊎_elim
+          (λ (e : more ≡ kept). subst (IsKept marks) (sym e) h.each_kept)
+          (λ (e : more ≡ set kept mark n). subst (IsKept marks) (sym e) (kept_one marks kept n mark mark_is h.each_kept))
+          step;
+    }
+
+pub all_made : (marks : List ℕ) (n : ℕ) (now kept : List ℕ) → length marks ≤ n → AreMade marks n now kept → AreFirsts marks now
+all_made marks n now kept l h = record { long = h.long; before = λ i m. h.before i (omega (arith, l, m)); same = λ i m. h.same i (omega (arith, l, m)) }
 
 -- a signal is like itself
 pub alike_self : (g : Game) (keys : List ℕ) (i : ℕ) → AreAlike g keys i i

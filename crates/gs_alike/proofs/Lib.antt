@@ -3,6 +3,7 @@ pub mod Seats
 pub mod Taken
 pub mod Chain
 pub mod Ranks
+pub mod Ranked
 pub mod Places
 pub mod Marked
 pub mod Items

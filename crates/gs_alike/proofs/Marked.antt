@@ -1,7 +1,7 @@
 -- Marks of signals.
 use Rattle.std.proofs.Common.{◌≡◌, ◌⊎◌, ◌<◌, ◌∙◌, ℕ, Bool, List, ◌++◌, get_or, length, set, take, drop, inl, inr, refl, sym, ap, subst, arith, ⊎_elim, length-set}
 use Rattle.std.proofs.lemmas.Bool.{cases_eq}
-use Rattle.std.proofs.lemmas.List.{append-nil, drop_all, get_or-set_other, get_or-set_same, get_or_default, take_all}
+use Rattle.std.proofs.lemmas.List.{append-nil, drop_all, get_or-set_other, get_or-set_same, get_or_default, get_or-map, length-map, take_all}
 use Rattle.std.specs.Global.{Vec}
 use Rattle.std.specs.HashMap.{HashMap}
 use Rattle.std.specs.List.{All}
@@ -12,13 +12,15 @@ use Rattle.std.proofs.lemmas.List.Elements.{All-push}
 use Rattle.gs_model.specs.Game.{Game}
 use Rattle.gs_tree.specs.Walk.{last_count}
 use Rattle.gs_alike.specs.Alike.{AreAlike}
-use Rattle.gs_alike.specs.Boards.{IsBoard}
+use Rattle.gs_alike.specs.Boards.{IsBoard, signals_in}
 use Rattle.gs_alike.specs.Firsts.{AreMarks}
 use Rattle.gs_alike.specs.Hands.{AreHands, HasMore, IsKindOf, IsMark, KeepsKinds}
 use Rattle.gs_alike.specs.declared.board.Board.{Board}
+use Rattle.gs_alike.specs.declared.board.Seat.{Seat}
 use Rattle.gs_alike.specs.declared.kinds.Kind.{Kind}
 use Rattle.gs_alike.proofs.Items.{alike_self}
 use Rattle.gs_alike.proofs.Places.{mark_alike}
+use Rattle.gs_alike.proofs.Seats.{none}
 
 -- marks that are as they were, or of a board
 pub record MayMark (signals hands others other_hands old marks : List ℕ) : Type 0 where
@@ -45,6 +47,20 @@ may_more signals hands others other_hands old marks one two h l m same in' =
           subst (λ (x : ℕ). (x ≡ get_or old i 0) ⊎ IsMark signals hands others other_hands i x) (sym at) (h.each i))
           (cases_eq i s);
     }
+
+-- one more, of seats
+pub may_seat : (seats others : List Seat) (hands other_hands old marks : List ℕ) (one two : ℕ) → MayMark (signals_in seats) hands (signals_in others) other_hands old marks → one < length seats → two < length others
+    → get_or hands one 0 ≡ get_or other_hands two 0 → (get_or seats one none).signal < length marks
+    → MayMark (signals_in seats) hands (signals_in others) other_hands old (set marks (get_or seats one none).signal (get_or others two none).signal)
+may_seat seats others hands other_hands old marks one two h l m same in' =
+    let f : Seat → ℕ = λ s. s.signal in
+    let mine : get_or (signals_in seats) one 0 ≡ (get_or seats one none).signal = get_or-map f seats one none 0 l in
+    let theirs : get_or (signals_in others) two 0 ≡ (get_or others two none).signal = get_or-map f others two none 0 m in
+    let one_in : one < length (signals_in seats) = omega (arith, l, length-map seats f) in
+    let two_in : two < length (signals_in others) = omega (arith, m, length-map others f) in
+    let more = may_more (signals_in seats) hands (signals_in others) other_hands old marks one two h one_in two_in same (omega (arith, mine, in')) in
+    subst (λ (k : ℕ). MayMark (signals_in seats) hands (signals_in others) other_hands old (set marks k (get_or others two none).signal)) mine
+    (subst (λ (k : ℕ). MayMark (signals_in seats) hands (signals_in others) other_hands old (set marks (get_or (signals_in seats) one 0) k)) theirs more)
 
 -- the place that a board's hands are kept for, among the boards
 pub record IsKnown (boards : List Board) (keys : List ℕ) (kind : Kind) : Type 0 where
@@ -87,7 +103,7 @@ known_after boards read keys hands now place board kinds more e f l at here all 
 -- the marks after a board
 pub marks_after : (g : Game) (by_rank : Bool) (boards : List Board) (keys : List ℕ) → ((i : ℕ) → i < last_count g → get_or keys i 0 < 4294967296) → All (IsBoard g by_rank) boards → (place kind : ℕ) (board other : Board) (like : Kind) (kinds : List Kind)
     → (hands marks new : List ℕ) → place < length boards → board ≡ get_or boards place board → AreHands board keys hands → All (IsKnown boards keys) kinds → IsKindOf kinds kind hands → like ≡ get_or kinds kind like → other ≡ get_or boards like.board other
-    → AreMarks g keys marks → MayMark board.signals.items hands other.signals.items like.hands.items marks new → AreMarks g keys new
+    → AreMarks g keys marks → MayMark (signals_in board.seats.items) hands (signals_in other.seats.items) like.hands.items marks new → AreMarks g keys new
 marks_after g by_rank boards keys few each place kind board other like kinds hands marks new l is h known of like_is other_is m may =
     let b : IsBoard g by_rank board = subst (IsBoard g by_rank) (sym is) (each place board l) in
     let k : IsKnown boards keys like = like_known boards keys hands kinds kind like known of like_is in
@@ -103,7 +119,9 @@ marks_after g by_rank boards keys few each place kind board other like kinds han
     }
 
 -- lists that are read through references
-pub may_read : (s h o k m signals hands others other_hands old marks : List ℕ) → s ≡ signals → h ≡ hands → o ≡ others → k ≡ other_hands → m ≡ old → MayMark s h o k m marks → MayMark signals hands others other_hands old marks
-may_read s h o k m signals hands others other_hands old marks a b d e f may =
-    subst (λ (x : List ℕ). MayMark signals hands others other_hands x marks) f (subst (λ (x : List ℕ). MayMark signals hands others x m marks) e
-    (subst (λ (x : List ℕ). MayMark signals hands x k m marks) d (subst (λ (x : List ℕ). MayMark signals x o k m marks) b (subst (λ (x : List ℕ). MayMark x h o k m marks) a may))))
+pub may_read : (s o seats others : List Seat) (h k m hands other_hands old marks : List ℕ) → s ≡ seats → h ≡ hands → o ≡ others → k ≡ other_hands → m ≡ old → MayMark (signals_in s) h (signals_in o) k m marks
+    → MayMark (signals_in seats) hands (signals_in others) other_hands old marks
+may_read s o seats others h k m hands other_hands old marks a b d e f may =
+    subst (λ (x : List ℕ). MayMark (signals_in seats) hands (signals_in others) other_hands x marks) f (subst (λ (x : List ℕ). MayMark (signals_in seats) hands (signals_in others) x m marks) e
+    (subst (λ (x : List Seat). MayMark (signals_in seats) hands (signals_in x) k m marks) d (subst (λ (x : List ℕ). MayMark (signals_in seats) x (signals_in o) k m marks) b
+    (subst (λ (x : List Seat). MayMark (signals_in x) h (signals_in o) k m marks) a may))))

@@ -16,10 +16,12 @@ use Rattle.gs_tree.specs.Walk.{deal_at, last_count, shows_same}
 use Rattle.gs_tree.proofs.Pairs.{row_deals}
 use Rattle.gs_tree.proofs.Same.{public_self}
 use Rattle.gs_alike.specs.Alike.{AreAlike, seen, seen_by}
-use Rattle.gs_alike.specs.Boards.{IsBoard, level_of, signals_on}
+use Rattle.gs_alike.specs.Boards.{IsBoard, level_of, levels_in, signals_in, signals_on}
 use Rattle.gs_alike.specs.Hands.{AreHands, IsMark}
 use Rattle.gs_alike.specs.declared.board.Board.{Board}
+use Rattle.gs_alike.specs.declared.board.Seat.{Seat}
 use Rattle.gs_alike.proofs.Ranks.{TellOutcomes, tell}
+use Rattle.gs_alike.proofs.Seats.{none}
 use Rattle.gs_alike.proofs.Taken.{but, taken_out}
 use Rattle.gs_tree.specs.Plain.{IsPlain}
 use Rattle.gs_tree.proofs.Weighed.{path_is, weight_is}
@@ -118,32 +120,34 @@ module _ (g : Game) (keys : List ℕ) (few : (i : ℕ) → i < last_count g → 
       }
 
 -- the hands of a board's signals
-hands_are : (g : Game) (by_rank : Bool) (keys : List ℕ) (board : Board) (hands : List ℕ) → IsBoard g by_rank board → AreHands board keys hands → hands ≡ map (hand_in keys (level_of g by_rank)) board.signals.items
+hands_are : (g : Game) (by_rank : Bool) (keys : List ℕ) (board : Board) (hands : List ℕ) → IsBoard g by_rank board → AreHands board keys hands → hands ≡ map (hand_in keys (level_of g by_rank)) (signals_in board.seats.items)
 hands_are g by_rank keys board hands b h =
-    let sigs : List ℕ = board.signals.items in
+    let sigs : List ℕ = signals_in board.seats.items in
     let f : ℕ → ℕ = hand_in keys (level_of g by_rank) in
-    ext_get_or 0 hands (map f sigs) (h.long ∙ sym (length-map sigs f)) (λ i l.
-    let m : i < length sigs = omega (arith, l, h.long) in
-    let level : get_or board.levels.items i 0 ≡ level_of g by_rank (get_or sigs i 0) = ap (λ (xs : List ℕ). get_or xs i 0) b.levels ∙ get_or-map (level_of g by_rank) sigs i 0 0 m in
-    h.each i m ∙ ap (λ (v : ℕ). v * 4294967296 + get_or keys (get_or sigs i 0) 0) level ∙ sym (get_or-map f sigs i 0 0 m))
+    let long : length sigs ≡ length board.seats.items = length-map board.seats.items (λ (s : Seat). s.signal) in
+    ext_get_or 0 hands (map f sigs) (h.long ∙ sym long ∙ sym (length-map sigs f)) (λ i l.
+    let m : i < length sigs = omega (arith, l, h.long, long) in
+    let level : get_or (levels_in board.seats.items) i 0 ≡ level_of g by_rank (get_or sigs i 0) = ap (λ (xs : List ℕ). get_or xs i 0) b.levels ∙ get_or-map (level_of g by_rank) sigs i 0 0 m in
+    h.each i (omega (arith, m, long)) ∙ ap (λ (v : ℕ). v * 4294967296 + get_or keys (get_or sigs i 0) 0) level ∙ sym (get_or-map f sigs i 0 0 m))
 
 -- the hands on the board of one of its signals
-hands_there : (g : Game) (by_rank : Bool) (keys : List ℕ) (board : Board) (hands : List ℕ) (one i : ℕ) → IsBoard g by_rank board → AreHands board keys hands → one < length board.signals.items → get_or board.signals.items one 0 ≡ i
+hands_there : (g : Game) (by_rank : Bool) (keys : List ℕ) (board : Board) (hands : List ℕ) (one i : ℕ) → IsBoard g by_rank board → AreHands board keys hands → one < length (signals_in board.seats.items) → get_or (signals_in board.seats.items) one 0 ≡ i
     → IsPermutation (map (hand_in keys (level_of g by_rank)) (signals_on g i)) hands × (i < last_count g) × (get_or hands one 0 ≡ hand_in keys (level_of g by_rank) i)
 hands_there g by_rank keys board hands one i b h l is =
-    let sigs : List ℕ = board.signals.items in
+    let sigs : List ℕ = signals_in board.seats.items in
     let f : ℕ → ℕ = hand_in keys (level_of g by_rank) in
+    let m : one < length board.seats.items = omega (arith, l, length-map board.seats.items (λ (s : Seat). s.signal)) in
     let e : hands ≡ map f sigs = hands_are g by_rank keys board hands b h in
-    let same : IsPermutation (signals_on g i) sigs = permuted_from_times (signals_on g i) sigs (subst (λ (k : ℕ). (v : ℕ) → times v (signals_on g k) ≡ times v sigs) is (b.signals one l)) in (
+    let same : IsPermutation (signals_on g i) sigs = permuted_from_times (signals_on g i) sigs (subst (λ (k : ℕ). (v : ℕ) → times v (signals_on g k) ≡ times v sigs) is (b.signals one m)) in (
       subst (IsPermutation (map f (signals_on g i))) (sym e) (IsPermutation-map f (signals_on g i) sigs same),
-      subst (λ (k : ℕ). k < last_count g) is (b.within one 0 l),
+      subst (λ (k : ℕ). k < last_count g) (sym (get_or-map (λ (s : Seat). s.signal) board.seats.items one none 0 m) ∙ is) (b.within one none m),
       ap (λ (xs : List ℕ). get_or xs one 0) e ∙ get_or-map f sigs one 0 0 l ∙ ap f is,
     )
 
 -- a mark is alike
 pub mark_alike : (g : Game) (by_rank : Bool) (keys : List ℕ) → ((i : ℕ) → i < last_count g → get_or keys i 0 < 4294967296) → (board other : Board) (hands other_hands : List ℕ)
     → IsBoard g by_rank board → IsBoard g by_rank other → AreHands board keys hands → AreHands other keys other_hands → IsPermutation other_hands hands
-    → (i mark : ℕ) → IsMark board.signals.items hands other.signals.items other_hands i mark → AreAlike g keys i mark
+    → (i mark : ℕ) → IsMark (signals_in board.seats.items) hands (signals_in other.seats.items) other_hands i mark → AreAlike g keys i mark
 mark_alike g by_rank keys few board other hands other_hands b o h k moved i mark m =
     let f : ℕ → ℕ = hand_in keys (level_of g by_rank) in
     let mine = hands_there g by_rank keys board hands m.one i b h m.one_in m.signal_is in

@@ -1,10 +1,10 @@
 -- Ranks in ascending numbers; ranks on a board tell outcomes where each bonus is 1, and strengths do everywhere.
-use Rattle.std.proofs.Common.{◌≡◌, ◌+◌, ◌<◌, ◌≤◌, ◌∙◌, ℕ, ℤ, zero, suc, Bool, true, false, cond, nat_lt, List, [], ◌∷◌, ◌++◌, get_or, length, map, take, pos, neg_ℤ, refl, sym, ap, subst, arith, ⊎_elim}
+use Rattle.std.proofs.Common.{◌≡◌, ◌+◌, ◌<◌, ◌≤◌, ◌∙◌, ℕ, ℤ, zero, suc, Bool, true, false, cond, nat_lt, List, [], ◌∷◌, get_or, length, map, pos, neg_ℤ, refl, sym, ap, subst, arith, ⊎_elim}
 use Rattle.std.specs.Prelude.{filter, slice_index}
 use Rattle.std.specs.List.{All, range_with_len}
 use Rattle.std.specs.List.Sorted.{IsNonDecreasing, IsPermutation}
 use Rattle.std.proofs.lemmas.Bool.{cases_lt, lt-ltb, ltb-true}
-use Rattle.std.proofs.lemmas.List.{get_or-map, length-map, map_more}
+use Rattle.std.proofs.lemmas.List.{get_or-map, length-map}
 use Rattle.std.proofs.lemmas.List.Sorted.{sum_by-IsPermutation}
 use Rattle.std.proofs.lemmas.List.Sums.{sum_by-cons}
 use Rattle.gs_model.specs.Game.{Game, Ranking, round_count}
@@ -80,35 +80,30 @@ first_smaller (suc n) (x ∷ xs) a l lo hi =
     let q : cond (nat_lt x a) 1 0 ≡ 1 = ap {B = ℕ} (λ t. cond t 1 0) (is_less x a (lo 0 (omega arith))) in
     omega (arith, p, q, first_smaller n xs a (omega arith) (λ k m. lo (suc k) (omega arith)) (λ k m e. hi (suc k) (omega arith) (omega arith)))
 
--- the ranks of the first numbers, with the rank of the last one of them
-pub record IsRanked (xs : List ℕ) (n : ℕ) (ranks : List ℕ) (rank above : ℕ) : Type 0 where
-  pub ranks_are : ranks ≡ map (λ a. smaller a xs) (take n xs)
+-- the last of the first numbers, and its rank
+pub record IsRanked (xs : List ℕ) (n : ℕ) (rank above : ℕ) : Type 0 where
   pub rank_is : rank ≡ smaller above xs
   pub below : (k : ℕ) → k < n → get_or xs k 0 ≤ above
   pub rest : (k : ℕ) → n ≤ k → k < length xs → above ≤ get_or xs k 0
 
-pub ranked_none : (xs : List ℕ) → IsRanked xs 0 [] 0 0
-ranked_none xs = record { ranks_are = refl; rank_is = sym (none_smaller xs 0 (λ k l. omega arith)); below = λ k l. absurd (omega arith); rest = λ k m l. omega arith }
+pub ranked_none : (xs : List ℕ) → IsRanked xs 0 0 0
+ranked_none xs = record { rank_is = sym (none_smaller xs 0 (λ k l. omega arith)); below = λ k l. absurd (omega arith); rest = λ k m l. omega arith }
 
-module _ (xs : List ℕ) (up : IsNonDecreasing xs) (n : ℕ) (l : n < length xs) (ranks : List ℕ) (rank above : ℕ) (h : IsRanked xs n ranks rank above) where
-  one_rank : (next : ℕ) → next ≡ smaller (get_or xs n 0) xs → ranks ++ next ∷ [] ≡ map (λ a. smaller a xs) (take (n + 1) xs)
-  one_rank next e = ap (λ rs. rs ++ next ∷ []) h.ranks_are ∙ ap (λ r. map (λ a. smaller a xs) (take n xs) ++ r ∷ []) e ∙ sym (map_more (λ a. smaller a xs) xs n 0 l)
-
+module _ (xs : List ℕ) (up : IsNonDecreasing xs) (n : ℕ) (l : n < length xs) (rank above : ℕ) (h : IsRanked xs n rank above) where
   -- a greater number
-  pub ranked_above : above < get_or xs n 0 → IsRanked xs (n + 1) (ranks ++ n ∷ []) n (get_or xs n 0)
+  pub ranked_above : above < get_or xs n 0 → IsRanked xs (n + 1) n (get_or xs n 0)
   ranked_above more =
       let s : ℕ = get_or xs n 0 in
       let is : n ≡ smaller s xs = sym (first_smaller n xs s (omega (arith, l)) (λ k m. let b = h.below k m in omega (arith, b, more)) (λ k m e. up n k 0 m e)) in
-      record { ranks_are = one_rank n is; rank_is = is; below = λ k m. up k n 0 (omega (arith, m)) l; rest = λ k m e. up n k 0 (omega (arith, m)) e }
+      record { rank_is = is; below = λ k m. up k n 0 (omega (arith, m)) l; rest = λ k m e. up n k 0 (omega (arith, m)) e }
 
   -- the same number
-  pub ranked_again : get_or xs n 0 ≤ above → IsRanked xs (n + 1) (ranks ++ rank ∷ []) rank above
+  pub ranked_again : get_or xs n 0 ≤ above → IsRanked xs (n + 1) rank (get_or xs n 0)
   ranked_again less =
       let s : ℕ = get_or xs n 0 in
       let there : above ≤ s = h.rest n (omega arith) l in
       let same : above ≡ s = omega (arith, less, there) in
-      let below' = λ (k : ℕ) (m : k < n + 1). (let b = up k n 0 (omega (arith, m)) l in let e : get_or xs k 0 ≤ above = omega (arith, b, less) in e) in
-      record { ranks_are = one_rank rank (h.rank_is ∙ ap (λ a. smaller a xs) same); rank_is = h.rank_is; below = below'; rest = λ k m e. h.rest k (omega (arith, m)) e }
+      record { rank_is = h.rank_is ∙ ap (λ a. smaller a xs) same; below = λ k m. up k n 0 (omega (arith, m)) l; rest = λ k m e. up n k 0 (omega (arith, m)) e }
 
 -- ---- outcomes
 

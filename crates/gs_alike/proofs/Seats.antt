@@ -15,7 +15,7 @@ use Rattle.gs_model.proofs.Multisets.{times}
 use Rattle.gs_tree.specs.Plain.{IsPlain}
 use Rattle.gs_tree.specs.Walk.{last_count, shows_same}
 use Rattle.gs_tree.proofs.Same.{public_alike, public_self}
-use Rattle.gs_alike.specs.Boards.{HaveSame, IsBoard, PaysOnce, level_of, ranks_in, seat_of, signals_on, smaller, strengths_of}
+use Rattle.gs_alike.specs.Boards.{HaveSame, IsBoard, PaysOnce, level_of, levels_in, ranked, ranked_in, seat_of, signals_in, signals_on, smaller, strengths_of}
 use Rattle.gs_alike.specs.declared.board.Board.{Board}
 use Rattle.gs_alike.specs.declared.board.Seat.{Seat}
 
@@ -34,6 +34,23 @@ on_board p a (suc n) =
     go rest true e = All-cons (λ s. (s < a + suc n) × (p s ≡ true)) a (filter p (range_with_len (a + 1) n)) (omega arith, e) rest
     go rest false e = rest
 
+abbrev pub none : Seat
+none = record { level = 0; signal = 0 }
+
+-- ranks leave the signals
+signals_kept : (by_rank : Bool) (seats : List Seat) → signals_in (cond by_rank (ranked seats) seats) ≡ signals_in seats
+signals_kept true seats = map-map (λ (s : Seat). s.signal) (ranked_in seats) seats
+signals_kept false seats = refl
+
+levels_ranked : (by_rank : Bool) (seats : List Seat) → levels_in (cond by_rank (ranked seats) seats) ≡ cond by_rank (map (λ a. smaller a (levels_in seats)) (levels_in seats)) (levels_in seats)
+levels_ranked true seats = map-map (λ (s : Seat). s.level) (ranked_in seats) seats ∙ sym (map-map (λ a. smaller a (levels_in seats)) (λ (s : Seat). s.level) seats)
+levels_ranked false seats = refl
+
+-- what holds of the signals holds of the seats
+pub seats_within : (P : ℕ → Type 0) (seats : List Seat) → All P (signals_in seats) → All (λ (s : Seat). P s.signal) seats
+seats_within P seats all i d l =
+    subst P (get_or-map (λ (s : Seat). s.signal) seats i d 0 l) (all i 0 (omega (arith, l, length-map seats (λ (s : Seat). s.signal))))
+
 module _ (g : Game) where
   pub shown_back : (i k : ℕ) → shows_same g i k ≡ true → shows_same g k i ≡ true
   shown_back i k same =
@@ -51,12 +68,12 @@ module _ (g : Game) where
       let p : ℕ → Bool = shows_same g i in
       omega (arith, length-filter p r, count_by-le-length p r, length-range_with_len 0 (last_count g))
 
-  strengths_are : (seats : List Seat) → All (λ s. s ≡ seat_of g s.signal) seats → map (λ (s : Seat). s.strength) seats ≡ map (slice_index (strengths_of g)) (map (λ (s : Seat). s.signal) seats)
+  strengths_are : (seats : List Seat) → All (λ s. s ≡ seat_of g s.signal) seats → levels_in seats ≡ map (slice_index (strengths_of g)) (signals_in seats)
   strengths_are [] h = refl
   strengths_are (s ∷ seats) h =
       let P : Seat → Type 0 = λ s. s ≡ seat_of g s.signal in
-      let e : s.strength ≡ slice_index (strengths_of g) s.signal = ap (λ (x : Seat). x.strength) (All-head P s seats h) in
-      ap (λ v. v ∷ map (λ (s : Seat). s.strength) seats) e ∙ ap (λ l. slice_index (strengths_of g) s.signal ∷ l) (strengths_are seats (All-tail P s seats h))
+      let e : s.level ≡ slice_index (strengths_of g) s.signal = ap (λ (x : Seat). x.level) (All-head P s seats h) in
+      ap (λ v. v ∷ levels_in seats) e ∙ ap (λ l. slice_index (strengths_of g) s.signal ∷ l) (strengths_are seats (All-tail P s seats h))
 
   levels_are : (f h : ℕ → ℕ) (xs : List ℕ) → All (λ i. f i ≡ h i) xs → map f xs ≡ map h xs
   levels_are f h [] all = refl
@@ -65,10 +82,10 @@ module _ (g : Game) where
 
   module _ (first : ℕ) (seats : List Seat) (moved : IsPermutation (map (seat_of g) (signals_on g first)) seats) where
     abbrev sigs : List ℕ
-    sigs = map (λ (s : Seat). s.signal) seats
+    sigs = signals_in seats
 
     abbrev zs : List ℕ
-    zs = map (λ (s : Seat). s.strength) seats
+    zs = levels_in seats
 
     abbrev On : ℕ → Type 0
     On = λ i. (i < last_count g) × (shows_same g first i ≡ true)
@@ -93,7 +110,7 @@ module _ (g : Game) where
         ∙ sum_by-IsPermutation (λ (x : ℕ). cond (nat_lt x (st i)) 1 0) (map st (signals_on g first)) (map st sigs) (IsPermutation-map st (signals_on g first) sigs sigs_moved)
         ∙ ap (λ l. smaller (st i) (map st l)) (one_board first i on.1)
 
-    levels_by : (by_rank : Bool) → cond by_rank (ranks_in zs) zs ≡ map (level_of g by_rank) sigs
+    levels_by : (by_rank : Bool) → cond by_rank (map (λ a. smaller a zs) zs) zs ≡ map (level_of g by_rank) sigs
     levels_by false = zs_are
     levels_by true =
         ap (map (λ a. smaller a zs)) zs_are ∙ map-map (λ a. smaller a zs) (slice_index (strengths_of g)) sigs
@@ -104,23 +121,28 @@ module _ (g : Game) where
         let on : On (get_or sigs i 0) = sigs_on i 0 l in
         ap (λ xs. times v xs) (sym (one_board first (get_or sigs i 0) on.1)) ∙ sym (sum_by-IsPermutation (λ (x : ℕ). cond (eqb x v) 1 0) (signals_on g first) sigs sigs_moved)
 
-    pub board_is : (by_rank : Bool) (board : Board) → IsPlain g → (by_rank ≡ true → PaysOnce g) → board.signals.items ≡ map (λ (s : Seat). s.signal) seats → board.levels.items ≡ cond by_rank (ranks_in zs) zs → IsBoard g by_rank board
-    board_is by_rank board plain once signals levels = record {
-      plain = plain;
-      once = once;
-      within = subst (All (λ i. i < last_count g)) (sym signals) (All-weaker On (λ i. i < last_count g) (λ i h. h.0) sigs sigs_on);
-      signals = subst (λ l. (i : ℕ) → i < length l → HaveSame (signals_on g (slice_index l i)) l) (sym signals) board_whole;
-      levels = levels ∙ levels_by by_rank ∙ ap (map (level_of g by_rank)) (sym signals);
-    }
+    pub board_is : (by_rank : Bool) (board : Board) → IsPlain g → (by_rank ≡ true → PaysOnce g) → board.seats.items ≡ cond by_rank (ranked seats) seats → IsBoard g by_rank board
+    board_is by_rank board plain once is =
+        let signals : signals_in board.seats.items ≡ sigs = ap signals_in is ∙ signals_kept by_rank seats in
+        let levels : levels_in board.seats.items ≡ cond by_rank (map (λ a. smaller a zs) zs) zs = ap levels_in is ∙ levels_ranked by_rank seats in
+        let long : length board.seats.items ≡ length (signals_in board.seats.items) = sym (length-map board.seats.items (λ (s : Seat). s.signal)) in
+        let all : (i : ℕ) → i < length (signals_in board.seats.items) → HaveSame (signals_on g (slice_index (signals_in board.seats.items) i)) (signals_in board.seats.items) =
+        subst (λ l. (i : ℕ) → i < length l → HaveSame (signals_on g (slice_index l i)) l) (sym signals) board_whole in
+        record {
+          plain = plain;
+          once = once;
+          within = seats_within (λ i. i < last_count g) board.seats.items (subst (All (λ i. i < last_count g)) (sym signals) (All-weaker On (λ i. i < last_count g) (λ i h. h.0) sigs sigs_on));
+          signals = λ i l. all i (omega (arith, l, long));
+          levels = levels ∙ levels_by by_rank ∙ ap (map (level_of g by_rank)) (sym signals);
+        }
 
     pub seats_few : length seats ≤ last_count g
     seats_few = omega (arith, length_permutation (map (seat_of g) (signals_on g first)) seats moved, length-map (signals_on g first) (seat_of g), board_few first)
 
--- the strengths ascend with the seats
-pub ascending_in : (seats : List Seat) → IsNonDecreasingBy (λ (s : Seat). s.strength) seats → IsNonDecreasing (map (λ (s : Seat). s.strength) seats)
+-- the levels ascend with the seats
+pub ascending_in : (seats : List Seat) → IsNonDecreasingBy (λ (s : Seat). s.level) seats → IsNonDecreasing (levels_in seats)
 ascending_in seats up i j d le l =
-    let f : Seat → ℕ = λ s. s.strength in
-    let none : Seat = record { strength = 0; signal = 0 } in
+    let f : Seat → ℕ = λ s. s.level in
     let m : j < length seats = omega (arith, l, length-map seats f) in
     let p : get_or (map f seats) i d ≡ f (get_or seats i none) = get_or-map f seats i none d (omega (arith, m, le)) in
     let q : get_or (map f seats) j d ≡ f (get_or seats j none) = get_or-map f seats j none d m in

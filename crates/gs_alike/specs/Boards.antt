@@ -26,17 +26,29 @@ strengths_on g i = map (slice_index (strengths_of g)) (signals_on g i)
 abbrev pub smaller : ℕ → List ℕ → ℕ
 smaller a xs = count_by (λ x. nat_lt x a) xs
 
--- for each of some numbers how many of them are smaller
-abbrev pub ranks_in : List ℕ → List ℕ
-ranks_in xs = map (λ a. smaller a xs) xs
+-- the signals of some seats
+abbrev pub signals_in : List Seat → List ℕ
+signals_in seats = map (λ (s : Seat). s.signal) seats
+
+-- the levels of some seats
+abbrev pub levels_in : List Seat → List ℕ
+levels_in seats = map (λ (s : Seat). s.level) seats
+
+-- a seat whose level is its rank: how many of some seats have a smaller level
+abbrev pub ranked_in : List Seat → Seat → Seat
+ranked_in seats s = record { level = smaller s.level (levels_in seats); signal = s.signal }
+
+-- some seats whose levels are their ranks
+abbrev pub ranked : List Seat → List Seat
+ranked seats = map (ranked_in seats) seats
 
 -- the level of a last-round signal: its strength, or how many on its board are weaker
 abbrev pub level_of : Game → Bool → ℕ → ℕ
 level_of g by_rank i = cond by_rank (smaller (slice_index (strengths_of g) i) (strengths_on g i)) (slice_index (strengths_of g) i)
 
--- a last-round signal and the strength of its hand
+-- a last-round signal with the strength of its hand as its level
 abbrev pub seat_of : Game → ℕ → Seat
-seat_of g i = record { strength = slice_index (strengths_of g) i; signal = i }
+seat_of g i = record { level = slice_index (strengths_of g) i; signal = i }
 
 -- the bonus of each last-round signal's category is 1
 abbrev pub PaysOnce : Game → Type 0
@@ -50,6 +62,6 @@ HaveSame xs ys = (v : ℕ) → count_by (λ x. nat_eq x v) xs ≡ count_by (λ x
 pub record IsBoard (g : Game) (by_rank : Bool) (board : Board) : Type 0 where
   pub plain : IsPlain g
   pub once : by_rank ≡ true → PaysOnce g
-  pub within : All (λ signal. signal < last_count g) board.signals.items
-  pub signals : (i : ℕ) → i < length board.signals.items → HaveSame (signals_on g (slice_index board.signals.items i)) board.signals.items
-  pub levels : board.levels.items ≡ map (level_of g by_rank) board.signals.items
+  pub within : All (λ seat. seat.signal < last_count g) board.seats.items
+  pub signals : (i : ℕ) → i < length board.seats.items → HaveSame (signals_on g (slice_index (signals_in board.seats.items) i)) (signals_in board.seats.items)
+  pub levels : levels_in board.seats.items ≡ map (level_of g by_rank) (signals_in board.seats.items)

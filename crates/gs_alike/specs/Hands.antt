@@ -6,13 +6,14 @@ use Rattle.std.specs.List.Sorted.{IsPermutation}
 use Rattle.std.specs.declared.hash.BuildHasherDefault.{BuildHasherDefault}
 use Rattle.std.specs.declared.hash.FoldHasher.{FoldHasher}
 use lib.Pointwise.{pointwise}
+use Rattle.gs_alike.specs.Boards.{levels_in, signals_in}
 use Rattle.gs_alike.specs.declared.board.Board.{Board}
 use Rattle.gs_alike.specs.declared.kinds.Kind.{Kind}
 
 -- for each signal of a board its hand: a number made of its level and its key
 pub record AreHands (board : Board) (keys hands : List ℕ) : Type 0 where
-  pub long : length hands ≡ length board.signals.items
-  pub each : (i : ℕ) → i < length board.signals.items → slice_index hands i ≡ slice_index board.levels.items i * 4294967296 + slice_index keys (slice_index board.signals.items i)
+  pub long : length hands ≡ length board.seats.items
+  pub each : (i : ℕ) → i < length board.seats.items → slice_index hands i ≡ slice_index (levels_in board.seats.items) i * 4294967296 + slice_index keys (slice_index (signals_in board.seats.items) i)
 
 -- the kind at a place has some hands, in some order
 pub record IsKindOf (kinds : List Kind) (kind : ℕ) (hands : List ℕ) : Type 0 where

@@ -1,31 +1,30 @@
 //! Boards: the signals of the last round that show the same public cards.
 
-ghost use Rattle.std.specs.Prelude.{◌≡◌, ◌<◌, ◌^◌, true, if◌then◌else◌, IfOk, length, map};
+ghost use Rattle.std.specs.Prelude.{◌≡◌, ◌<◌, ◌^◌, true, IfOk, length, map};
 ghost use Rattle.std.specs.List.{All};
-ghost use Rattle.std.specs.List.Sorted.{IsNonDecreasing, IsNonDecreasingBy, IsPermutation};
+ghost use Rattle.std.specs.List.Sorted.{IsNonDecreasingBy, IsPermutation};
 ghost use Rattle.gs_tree.specs.Plain.{IsPlain};
 ghost use Rattle.gs_tree.specs.Trees.{rules_of};
 ghost use Rattle.gs_tree.specs.Walk.{last_count};
-ghost use Rattle.gs_alike.specs.Boards.{IsBoard, PaysOnce, ranks_in, seat_of, signals_on};
+ghost use Rattle.gs_alike.specs.Boards.{IsBoard, PaysOnce, ranked, seat_of, signals_on};
 
 use gs_tree::Signals;
 use std::alloc::{AllocError, Global};
 
-/// A signal of the last round, and how strong its hand is.
+/// A signal of the last round and its level, at first how strong its hand is. On a board the levels of two signals tell their outcome.
 #[derive(Clone, Copy)]
-struct Seat {
-    strength: u32,
-    signal: u32,
+pub(crate) struct Seat {
+    pub(crate) level: u32,
+    pub(crate) signal: u32,
 }
 
-/// The signals on a board, the weakest first, and a level for each: on a board the levels of two signals tell their outcome.
+/// The seats of the signals on a board, the weakest first.
 #[derive(Drop)]
 pub(crate) struct Board {
-    pub(crate) signals: Vec<u32>,
-    pub(crate) levels: Vec<u32>,
+    pub(crate) seats: Vec<Seat>,
 }
 
-/// The signals on the board of one.
+/// The signals on the board of one, with their strengths.
 fn seats_beside(alloc: Global, signals: &Signals, first: u32) -> Result<Vec<Seat>, AllocError>
     requires { first < last_count (rules_of signals.now) }
     ensures { IfOk result (λ v. v.items ≡ map (seat_of (rules_of signals.now)) (signals_on (rules_of signals.now) first)) }
@@ -37,7 +36,7 @@ fn seats_beside(alloc: Global, signals: &Signals, first: u32) -> Result<Vec<Seat
     let mut signal = firsts[first as usize];
     while (signal as usize) < nexts.len() {
         seats.push(Seat {
-            strength: strengths[signal as usize],
+            level: strengths[signal as usize],
             signal,
         })?;
         signal = nexts[signal as usize];
@@ -45,62 +44,36 @@ fn seats_beside(alloc: Global, signals: &Signals, first: u32) -> Result<Vec<Seat
     Ok(seats)
 }
 
-/// For each of some strengths, in ascending order, how many of them are smaller.
-fn ranks(alloc: Global, strengths: &[u32]) -> Result<Vec<u32>, AllocError>
-    requires few { length strengths.now < 2 ^ 32 }
-    requires ascending { IsNonDecreasing strengths.now }
-    ensures { IfOk result (λ v. v.items ≡ ranks_in strengths.now) }
+/// The weakest seat first.
+fn sort_by_level(seats: &mut Vec<Seat>)
+    ensures moved { IsPermutation seats.old.items seats.new.items }
+    ensures ascending { IsNonDecreasingBy (λ seat. seat.level) seats.new.items }
 {
-    let mut ranks = Vec::with_capacity(alloc, strengths.len())?;
+    seats.sort_unstable_by_key(|seat| seat.level);
+}
+
+/// Writes for the level of each seat its rank, which is how many of the seats are weaker.
+fn rank(seats: &mut Vec<Seat>)
+    requires few { length seats.old.items < 2 ^ 32 }
+    requires ascending { IsNonDecreasingBy (λ seat. seat.level) seats.old.items }
+    ensures { seats.new.items ≡ ranked seats.old.items }
+{
     let mut rank = 0;
     let mut above = 0;
-    for (place, strength) in strengths.iter().enumerate() {
-        if above < *strength {
+    for place in 0..seats.len() {
+        let Seat { level, signal } = seats[place];
+        if above < level {
             rank = place as u32;
-            above = *strength;
+            above = level;
         }
-        ranks.push(rank)?;
-    }
-    Ok(ranks)
-}
-
-/// The weakest seat first.
-fn sort_by_strength(seats: &mut Vec<Seat>)
-    ensures moved { IsPermutation seats.old.items seats.new.items }
-    ensures ascending { IsNonDecreasingBy (λ seat. seat.strength) seats.new.items }
-{
-    seats.sort_unstable_by_key(|seat| seat.strength);
-}
-
-/// The signals of some seats.
-fn signals_in(alloc: Global, seats: &[Seat]) -> Result<Vec<u32>, AllocError>
-    ensures { IfOk result (λ v. v.items ≡ map (λ seat. seat.signal) seats.now) }
-{
-    seats.iter().map(|seat| seat.signal).collect(alloc)
-}
-
-/// The strengths of some seats.
-fn strengths_in(alloc: Global, seats: &[Seat]) -> Result<Vec<u32>, AllocError>
-    ensures { IfOk result (λ v. v.items ≡ map (λ seat. seat.strength) seats.now) }
-{
-    seats.iter().map(|seat| seat.strength).collect(alloc)
-}
-
-/// The levels of a board's signals: their ranks, so that boards of the same order are alike whatever their cards, or their strengths.
-fn levels(alloc: Global, seats: &[Seat], by_rank: bool) -> Result<Vec<u32>, AllocError>
-    requires few { length seats.now < 2 ^ 32 }
-    requires ascending { IsNonDecreasingBy (λ seat. seat.strength) seats.now }
-    ensures { IfOk result (λ v. v.items ≡ if by_rank then ranks_in (map (λ seat. seat.strength) seats.now) else map (λ seat. seat.strength) seats.now) }
-{
-    let strengths = strengths_in(alloc, seats)?;
-    if by_rank {
-        ranks(alloc, &strengths)
-    } else {
-        Ok(strengths)
+        seats[place] = Seat {
+            level: rank,
+            signal,
+        };
     }
 }
 
-/// The board of a signal.
+/// The board of a signal. Where each bonus is 1 the levels are ranks, so that boards of the same order are alike whatever their cards.
 fn board_of(
     alloc: Global,
     signals: &Signals,
@@ -113,10 +86,11 @@ fn board_of(
     ensures { IfOk result (λ board. IsBoard (rules_of signals.now) by_rank board) }
 {
     let mut seats = seats_beside(alloc, signals, first)?;
-    sort_by_strength(&mut seats);
-    let levels = levels(alloc, &seats, by_rank)?;
-    let signals = signals_in(alloc, &seats)?;
-    Ok(Board { signals, levels })
+    sort_by_level(&mut seats);
+    if by_rank {
+        rank(&mut seats);
+    }
+    Ok(Board { seats })
 }
 
 /// All boards.

@@ -15,25 +15,31 @@ pub(crate) struct Kind {
     pub(crate) hands: Vec<u64>,
 }
 
-/// The kinds so far, and for the hands of each, in ascending order, its place.
+/// How many keys there can be. A hand is the level of a signal times this, and its key.
+pub(crate) const KEYS: u64 = 4294967296;
+
+/// The kinds so far, for the hands of each, in ascending order, its place, and the hands that were looked for last, in that order.
 #[derive(Drop)]
 pub(crate) struct Kinds {
     pub(crate) list: Vec<Kind>,
     pub(crate) seen: HashMap<Vec<u64>, usize>,
+    pub(crate) row: Vec<u64>,
 }
 
-/// The hands of all signals of a board.
-pub(crate) fn hands_on(alloc: Global, board: &Board, keys: &[u32]) -> Result<Vec<u64>, AllocError>
-    requires levels { length board.now.levels.items ≡ length board.now.signals.items }
-    requires within { All (λ signal. signal < length keys.now) board.now.signals.items }
-    ensures { IfOk result (λ v. AreHands board.now keys.now v.items) }
+/// The hands of all signals of a board, in place of those of another one.
+pub(crate) fn list_hands(
+    hands: &mut Vec<u64>,
+    board: &Board,
+    keys: &[u32],
+) -> Result<(), AllocError>
+    requires { All (λ seat. seat.signal < length keys.now) board.now.seats.items }
+    ensures { OnOk result (AreHands board.now keys.now hands.new.items) }
 {
-    let mut hands = Vec::with_capacity(alloc, board.signals.len())?;
-    for (place, signal) in board.signals.iter().enumerate() {
-        let level = u64::from(board.levels[place]);
-        hands.push(level * 4294967296 + u64::from(keys[*signal as usize]))?;
+    hands.clear();
+    for seat in board.seats.iter() {
+        hands.push(u64::from(seat.level) * KEYS + u64::from(keys[seat.signal as usize]))?;
     }
-    Ok(hands)
+    Ok(())
 }
 
 /// The kind with the hands of the board at a place, each as often: a new one where there is none.
@@ -48,12 +54,14 @@ pub(crate) fn kind_of(
     ensures kept { OnOk result (KeepsKinds kinds.new.list.items kinds.new.seen) }
     ensures list { OnOk result ((kinds.new.list.items ≡ kinds.old.list.items) ⊎ HasMore kinds.old.list.items kinds.new.list.items board hands.now) }
 {
-    let mut row = Vec::from_slice(alloc, hands)?;
-    row.sort_unstable();
-    if let Some(kind) = kinds.seen.get(&row) {
+    kinds.row.clear();
+    kinds.row.extend_from_slice(hands)?;
+    kinds.row.sort_unstable();
+    if let Some(kind) = kinds.seen.get(&kinds.row) {
         return Ok(*kind);
     }
     let kind = kinds.list.len();
+    let row = Vec::from_slice(alloc, &kinds.row)?;
     let hands = Vec::from_slice(alloc, hands)?;
     kinds.list.push(Kind { board, hands })?;
     kinds.seen.insert(row, kind)?;

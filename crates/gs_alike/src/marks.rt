@@ -2,7 +2,20 @@
 
 ghost use Rattle.std.specs.Prelude.{◌≡◌, ◌<◌, ◌⊎◌, ℕ, IfSome, length, slice_index};
 ghost use Rattle.std.specs.List.{All};
+ghost use Rattle.gs_alike.specs.Boards.{signals_in};
 ghost use Rattle.gs_alike.specs.Hands.{IsMark};
+
+use crate::board::Seat;
+use crate::kinds::KEYS;
+
+/// Where the hands of one board are looked for on another: the last level, its first place, and where the last hand was found. On both boards the levels
+/// ascend in the same way.
+#[derive(Drop)]
+struct Search {
+    level: u64,
+    from: usize,
+    found: usize,
+}
 
 /// The place of a hand among others, at a place or behind it.
 fn place_of(hands: &[u64], from: usize, hand: u64) -> Option<usize>
@@ -16,30 +29,45 @@ fn place_of(hands: &[u64], from: usize, hand: u64) -> Option<usize>
     None
 }
 
-/// Marks the signals of a board by signals of another one with the same hands. On both the levels ascend in the same way, so that a hand is looked for
-/// from the first place of its level on.
+/// The place among others of the hand at a place: where the last one was found, if it is the same, or else from the first place of its level on.
+fn find(search: &mut Search, others: &[u64], place: usize, hand: u64) -> Option<usize>
+    ensures { IfSome result (λ other. (other < length others.now) × (slice_index others.now other ≡ hand)) }
+{
+    if search.found < others.len() && others[search.found] == hand {
+        return Some(search.found);
+    }
+    let level = hand / KEYS;
+    if search.level < level {
+        search.level = level;
+        search.from = place;
+    }
+    let found = place_of(others, search.from, hand);
+    search.found = found.unwrap_or(others.len());
+    found
+}
+
+/// Marks the signals of a board by signals of another one with the same hands.
 pub(crate) fn mark_board(
     marks: &mut [u32],
-    signals: &[u32],
+    seats: &[Seat],
     hands: &[u64],
-    others: &[u32],
+    others: &[Seat],
     other_hands: &[u64],
 )
-    requires hands { length hands.now ≡ length signals.now }
+    requires hands { length hands.now ≡ length seats.now }
     requires other_hands { length other_hands.now ≡ length others.now }
-    requires within { All (λ signal. signal < length marks.old) signals.now }
+    requires within { All (λ seat. seat.signal < length marks.old) seats.now }
     ensures long { length marks.new ≡ length marks.old }
-    ensures each { (i : ℕ) → (slice_index marks.new i ≡ slice_index marks.old i) ⊎ IsMark signals.now hands.now others.now other_hands.now i (slice_index marks.new i) }
+    ensures each { (i : ℕ) → (slice_index marks.new i ≡ slice_index marks.old i) ⊎ IsMark (signals_in seats.now) hands.now (signals_in others.now) other_hands.now i (slice_index marks.new i) }
 {
-    let mut from = 0;
-    let mut level = 0;
+    let mut search = Search {
+        level: 0,
+        from: 0,
+        found: other_hands.len(),
+    };
     for (place, hand) in hands.iter().enumerate() {
-        if level < *hand / 4294967296 {
-            level = *hand / 4294967296;
-            from = place;
-        }
-        if let Some(other) = place_of(other_hands, from, *hand) {
-            marks[signals[place] as usize] = others[other];
+        if let Some(other) = find(&mut search, other_hands, place, *hand) {
+            marks[seats[place].signal as usize] = others[other].signal;
         }
     }
 }

@@ -11,7 +11,7 @@ ghost use Rattle.gs_alike.specs.Firsts.{AreMarks};
 
 use crate::board::{Board, boards_of};
 use crate::firsts::first_items;
-use crate::kinds::{Kinds, hands_on, kind_of};
+use crate::kinds::{Kinds, kind_of, list_hands};
 use crate::marks::mark_board;
 use gs_game::are_single;
 use gs_tree::Signals;
@@ -82,19 +82,15 @@ impl<'a> Boards<'a> {
         let mut kinds = Kinds {
             list: Vec::new(alloc),
             seen: HashMap::new(alloc),
+            row: Vec::new(alloc),
         };
+        let mut hands = Vec::new(alloc);
         for (place, board) in self.list.iter().enumerate() {
-            let hands = hands_on(alloc, board, keys)?;
+            list_hands(&mut hands, board, keys)?;
             let kind = kind_of(alloc, &mut kinds, &hands, place)?;
             let like = &kinds.list[kind];
             let other = &self.list[like.board];
-            mark_board(
-                &mut marks,
-                &board.signals,
-                &hands,
-                &other.signals,
-                &like.hands,
-            );
+            mark_board(&mut marks, &board.seats, &hands, &other.seats, &like.hands);
         }
         Ok(marks)
     }
@@ -106,7 +102,7 @@ impl<'a> Boards<'a> {
         ensures { IfOk result (λ v. AreStandIns (rules_of self.now.signals.now) keys.now v.items) }
     {
         let marks = self.marks(alloc, keys)?;
-        first_items(alloc, &marks)
+        first_items(alloc, marks)
     }
 }
 

@@ -20,8 +20,8 @@ loop-signal-preserved c =
     let old : List Seat = c.loop-signal.seats.items in
     let P : List Seat → Type 0 = IsOnChain g (seat_of g) c.args.first (get_or c.boards.result.1.now s 0) in
     let in' : s < last_count g = omega (arith, c.loop-signal-test.true, c.boards.ensures.nexts_long) in
-    let seat : (old ++ (let one : Seat = record { strength = get_or c.strengths-strengths.result.now s 0; signal = s } in one) ∷ []) ≡ old ++ seat_of g s ∷ [] =
-    ap (λ (xs : List ℕ). old ++ (let one : Seat = record { strength = get_or xs s 0; signal = s } in one) ∷ []) c.strengths-strengths.ensures in
+    let seat : (old ++ (let one : Seat = record { level = get_or c.strengths-strengths.result.now s 0; signal = s } in one) ∷ []) ≡ old ++ seat_of g s ∷ [] =
+    ap (λ (xs : List ℕ). old ++ (let one : Seat = record { level = get_or xs s 0; signal = s } in one) ∷ []) c.strengths-strengths.ensures in
     subst P (sym (c.in_ok-push.ensures.items ∙ seat)) (chain_more g (seat_of g) c.boards.result.0.now c.boards.result.1.now c.boards.ensures c.args.first s old in' c.loop-signal.invariant)
 
 pub loop-signal-smaller : goal.loop-signal-smaller

@@ -6,8 +6,10 @@ use Rattle.gs_model.specs.Signals.{signals}
 use Rattle.gs_tree.specs.Trees.{rules_of}
 use Rattle.gs_tree.specs.Walk.{last_count}
 use Rattle.gs_alike.specs.Firsts.{AreMarks}
+use Rattle.gs_alike.specs.Boards.{signals_in}
 use Rattle.gs_alike.specs.Hands.{AreHands, IsKindOf}
 use Rattle.gs_alike.specs.declared.board.Board.{Board}
+use Rattle.gs_alike.specs.declared.board.Seat.{Seat}
 use Rattle.gs_alike.specs.declared.kinds.Kind.{Kind}
 use Rattle.gs_alike.proofs.Marked.{IsKnown, MayMark, known_after, like_known, marks_after, may_read, themselves, whole}
 use Rattle.gs_alike.proofs.standing.Boards.marks.Goals as goal
@@ -17,8 +19,8 @@ index-other-requires c =
     let boards : List Board = c.args.self.now.list.items in
     let keys : List ℕ = c.args.keys.now in
     let known : All (IsKnown boards keys) c.kind_of.new.kinds.list.items =
-    known_after boards c.deref-board-items.result.now keys c.in_ok-hands.hands.items c.deref.result.now c.loop-place.place c.board-item.result c.loop-place.kinds.list.items c.kind_of.new.kinds.list.items
-    c.deref-board-items.ensures.value c.deref.ensures.value c.loop-place-test.true c.board-item.is c.in_ok-hands.ensures c.loop-place.invariant.known c.in_ok-kind.ensures.list in
+    known_after boards c.deref-board-items.result.now keys c.list_hands.new.hands.items c.deref.result.now c.loop-place.place c.board-item.result c.loop-place.kinds.list.items c.kind_of.new.kinds.list.items
+    c.deref-board-items.ensures.value c.deref.ensures.value c.loop-place-test.true c.board-item.is c.in_ok-list_hands.ensures c.loop-place.invariant.known c.in_ok-kind.ensures.list in
     let like = like_known boards keys c.deref.result.now c.kind_of.new.kinds.list.items c.in_ok-kind.kind c.index-like.result.now known c.in_ok-kind.ensures.kind c.index-like.ensures in
     omega (arith, like.within, c.args.self.now.list.ok.0)
 
@@ -27,11 +29,11 @@ mark_board-requires-clause-other_hands c =
     let boards : List Board = c.args.self.now.list.items in
     let keys : List ℕ = c.args.keys.now in
     let known : All (IsKnown boards keys) c.kind_of.new.kinds.list.items =
-    known_after boards c.deref-board-items.result.now keys c.in_ok-hands.hands.items c.deref.result.now c.loop-place.place c.board-item.result c.loop-place.kinds.list.items c.kind_of.new.kinds.list.items
-    c.deref-board-items.ensures.value c.deref.ensures.value c.loop-place-test.true c.board-item.is c.in_ok-hands.ensures c.loop-place.invariant.known c.in_ok-kind.ensures.list in
+    known_after boards c.deref-board-items.result.now keys c.list_hands.new.hands.items c.deref.result.now c.loop-place.place c.board-item.result c.loop-place.kinds.list.items c.kind_of.new.kinds.list.items
+    c.deref-board-items.ensures.value c.deref.ensures.value c.loop-place-test.true c.board-item.is c.in_ok-list_hands.ensures c.loop-place.invariant.known c.in_ok-kind.ensures.list in
     let like = like_known boards keys c.deref.result.now c.kind_of.new.kinds.list.items c.in_ok-kind.kind c.index-like.result.now known c.in_ok-kind.ensures.kind c.index-like.ensures in
     let theirs : AreHands c.index-other.result.now keys c.index-like.result.now.hands.items = subst (λ (b : Board). AreHands b keys c.index-like.result.now.hands.items) (sym c.index-other.ensures) (like.hands c.index-other.result.now) in
-    ap (λ (l : List ℕ). length l) c.deref-in-loop-place-4.ensures.value ∙ theirs.long ∙ ap (λ (l : List ℕ). length l) (sym c.deref-in-loop-place-3.ensures.value)
+    ap (λ (l : List ℕ). length l) c.deref-in-loop-place-4.ensures.value ∙ theirs.long ∙ ap (λ (l : List Seat). length l) (sym c.deref-in-loop-place-3.ensures.value)
 
 pub loop-place-init : goal.loop-place-init
 loop-place-init c =
@@ -50,7 +52,7 @@ loop-place-preserved c =
     let boards : List Board = c.args.self.now.list.items in
     let keys : List ℕ = c.args.keys.now in
     let kinds : List Kind = c.kind_of.new.kinds.list.items in
-    let hands : List ℕ = c.in_ok-hands.hands.items in
+    let hands : List ℕ = c.list_hands.new.hands.items in
     let marks : List ℕ = c.loop-place.marks.items in
     let board : Board = c.board-item.result in
     let other : Board = c.index-other.result.now in
@@ -60,14 +62,14 @@ loop-place-preserved c =
     let at : board ≡ get_or boards c.loop-place.place board = subst (λ (l : List Board). board ≡ get_or l c.loop-place.place board) c.deref-board-items.ensures.value c.board-item.is in
     let known : All (IsKnown boards keys) kinds =
     known_after boards c.deref-board-items.result.now keys hands c.deref.result.now c.loop-place.place board c.loop-place.kinds.list.items kinds
-    c.deref-board-items.ensures.value c.deref.ensures.value c.loop-place-test.true c.board-item.is c.in_ok-hands.ensures c.loop-place.invariant.known c.in_ok-kind.ensures.list in
+    c.deref-board-items.ensures.value c.deref.ensures.value c.loop-place-test.true c.board-item.is c.in_ok-list_hands.ensures c.loop-place.invariant.known c.in_ok-kind.ensures.list in
     let kind : IsKindOf kinds c.in_ok-kind.kind hands = subst (IsKindOf kinds c.in_ok-kind.kind) c.deref.ensures.value c.in_ok-kind.ensures.kind in
-    let may : MayMark board.signals.items hands other.signals.items like.hands.items marks new =
-    may_read c.deref-in-loop-place.result.now c.deref-in-loop-place-2.result.now c.deref-in-loop-place-3.result.now c.deref-in-loop-place-4.result.now c.deref_mut.result.now board.signals.items hands other.signals.items like.hands.items marks new
+    let may : MayMark (signals_in board.seats.items) hands (signals_in other.seats.items) like.hands.items marks new =
+    may_read c.deref-in-loop-place.result.now c.deref-in-loop-place-3.result.now board.seats.items other.seats.items c.deref-in-loop-place-2.result.now c.deref-in-loop-place-4.result.now c.deref_mut.result.now hands like.hands.items marks new
     c.deref-in-loop-place.ensures.value c.deref-in-loop-place-2.ensures.value c.deref-in-loop-place-3.ensures.value c.deref-in-loop-place-4.ensures.value c.deref_mut.ensures.value
     (record { long = c.mark_board.ensures.long; each = c.mark_board.ensures.each }) in
     let all : AreMarks g keys new =
-    marks_after g c.args.self.now.by_rank boards keys (λ i l. omega (arith, c.type_inv.keys i)) c.args.self.now.each c.loop-place.place c.in_ok-kind.kind board other like kinds hands marks new here at c.in_ok-hands.ensures known kind
+    marks_after g c.args.self.now.by_rank boards keys (λ i l. omega (arith, c.type_inv.keys i)) c.args.self.now.each c.loop-place.place c.in_ok-kind.kind board other like kinds hands marks new here at c.in_ok-list_hands.ensures known kind
     c.index-like.ensures c.index-other.ensures c.loop-place.invariant.marks_are may in
     let long : length new ≡ length marks = c.mark_board.ensures.long ∙ ap (λ (l : List ℕ). length l) c.deref_mut.ensures.value in
     let read : take c.loop-place.marks.len (new ++ drop (length new) marks) ≡ new = whole c.loop-place.marks.len new marks long (omega (arith, c.loop-place.marks.ok.0)) in

@@ -1,4 +1,4 @@
-use Rattle.std.proofs.Common.{ℕ, List, subst}
+use Rattle.std.proofs.Common.{ℕ, List}
 use Rattle.std.specs.Global.{Vec}
 use Rattle.std.proofs.lemmas.Result.{IfOk-weaker}
 use Rattle.gs_model.specs.Game.{Game}
@@ -13,5 +13,5 @@ returns c =
     let g : Game = rules_of c.args.self.now.signals.now in
     let keys : List ℕ = c.args.keys.now in
     let marks : List ℕ = c.in_ok-marks.marks.items in
-    IfOk-weaker c.first_items.result (λ (v : Vec ℕ). AreFirsts c.deref.result.now v.items) (λ (v : Vec ℕ). AreStandIns g keys v.items)
-    (λ v h. firsts_stand g keys marks v.items c.in_ok-marks.ensures (subst (λ (m : List ℕ). AreFirsts m v.items) c.deref.ensures.value h)) c.first_items.ensures
+    IfOk-weaker c.first_items.result (λ (v : Vec ℕ). AreFirsts marks v.items) (λ (v : Vec ℕ). AreStandIns g keys v.items)
+    (λ v h. firsts_stand g keys marks v.items c.in_ok-marks.ensures h) c.first_items.ensures
