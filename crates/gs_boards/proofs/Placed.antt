@@ -1,24 +1,23 @@
 -- Places made signal by signal and sorted are the places of a game in order.
 use Rattle.std.proofs.Common.{◌≡◌, ◌∙◌, List, length, map, sym, ap}
-use Rattle.std.specs.Ordering.{is_lt}
 use Rattle.std.specs.Prelude.{All}
 use Rattle.std.specs.List.{range_with_len}
-use Rattle.std.specs.List.Sorted.{IsPermutation, IsSortedBy}
+use Rattle.std.specs.List.Sorted.{IsPermutation}
 use Rattle.std.proofs.lemmas.List.{length-map}
 use Rattle.std.proofs.lemmas.List.FromFn.{length-range_with_len}
 use Rattle.std.proofs.lemmas.List.Sorted.{All-permutation, length_permutation}
 use Rattle.gs_model.specs.Game.{Game}
 use Rattle.gs_tree.specs.Walk.{last_count}
 use Rattle.gs_boards.specs.Boards.{ArePlaces, IsPlace}
+use Rattle.gs_boards.specs.Places.{AreInOrder}
 use Rattle.gs_boards.specs.declared.place.Place.{Place}
 use Rattle.gs_boards.proofs.Once.{once_from}
-use Rattle.gs_boards.proofs.Sorted.{in_order, place_cmp}
 
 pub placed : (g : Game) (made sorted : List Place) → All (IsPlace g) made → map (λ (p : Place). p.signal) made ≡ range_with_len 0 (last_count g)
-    → IsPermutation made sorted → IsSortedBy (λ p q. is_lt (place_cmp p q)) sorted → ArePlaces g sorted
+    → IsPermutation made sorted → AreInOrder sorted → ArePlaces g sorted
 placed g made sorted each all moved order = record {
   long = length_permutation made sorted moved ∙ sym (length-map made (λ (p : Place). p.signal)) ∙ ap length all ∙ length-range_with_len 0 (last_count g);
   each = All-permutation (IsPlace g) made sorted moved each;
   once = once_from (last_count g) made sorted all moved;
-  order = in_order sorted order;
+  order = order;
 }

@@ -1,5 +1,5 @@
 -- The order of places.
-use Rattle.std.specs.Prelude.{ℕ, ◌≡◌, ◌<◌, ◌≤◌, List, length, slice_index_or}
+use Rattle.std.specs.Prelude.{ℕ, ◌≡◌, ◌+◌, ◌*◌, ◌^◌, ◌<◌, ◌≤◌, List, length, slice_index_or}
 use Rattle.gs_boards.specs.declared.place.Place.{Place}
 
 -- a place comes no later than another: it is on a board no later, and on one board it is no stronger
@@ -14,3 +14,9 @@ AreInOrder places = (i j : ℕ) (d : Place) → i ≤ j → j < length places �
 -- no signal has two places
 abbrev pub AreApart : List Place → Type 0
 AreApart places = (i j : ℕ) (d : Place) → i < j → j < length places → (slice_index_or places i d).signal ≡ (slice_index_or places j d).signal → ⊥
+
+-- ---- of private functions
+
+-- the board and the strength of a place as one number
+abbrev pub rank_of : Place → ℕ
+rank_of p = p.board * 2 ^ 32 + p.strength

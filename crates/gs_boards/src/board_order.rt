@@ -7,7 +7,7 @@ ghost use Rattle.gs_tree.specs.Walk.{last_count};
 ghost use Rattle.gs_boards.specs.Boards.{ArePlaces};
 
 use crate::pays::Pays;
-use crate::place::{Place, places_of};
+use crate::place::{Place, places_of, sort_places};
 use crate::walks::{climb, descend};
 use gs_game::are_single;
 use gs_tree::Signals;
@@ -43,7 +43,7 @@ impl<'s> BoardOrder<'s> {
             return Ok(None);
         }
         let mut places = places_of(alloc, signals)?;
-        places.sort_unstable();
+        sort_places(&mut places);
         Ok(Some(BoardOrder { signals, places }))
     }
 

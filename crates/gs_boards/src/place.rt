@@ -1,18 +1,23 @@
 //! Last-round signals on their boards.
 
-ghost use Rattle.std.specs.Prelude.{◌≡◌, ◌<◌, All, IfOk, map};
+ghost use Rattle.std.specs.Prelude.{◌≡◌, ◌<◌, ◌^◌, All, IfOk, map};
 ghost use Rattle.std.specs.List.{range_with_len};
+ghost use Rattle.std.specs.List.Sorted.{IsPermutation};
 ghost use Rattle.gs_tree.specs.Trees.{rules_of};
 ghost use Rattle.gs_tree.specs.Walk.{last_count};
 ghost use Rattle.gs_boards.specs.Boards.{IsPlace};
+ghost use Rattle.gs_boards.specs.Places.{AreInOrder};
 ghost use Rattle.gs_boards.specs.declared.place.Place.{Place as Placed};
 
 use gs_rank::category;
 use gs_tree::Signals;
 use std::alloc::{AllocError, Global};
 
+/// What a board counts for in the rank of a place: more than any strength.
+const BOARD: u64 = 0x1_0000_0000;
+
 /// A signal of the last round. Places are ordered by board, and on a board by strength.
-#[derive(Clone, Copy, Debug, PartialEq, Eq, PartialOrd, Ord)]
+#[derive(Clone, Copy, Debug, PartialEq, Eq)]
 pub(crate) struct Place {
     // the first signal that shows the same public cards
     pub(crate) board: u32,
@@ -21,6 +26,18 @@ pub(crate) struct Place {
     // the bonus of the hand's category
     pub(crate) win: u8,
     pub(crate) signal: u32,
+}
+
+impl Place {
+    ghost use Rattle.std.specs.Prelude.{◌≡◌};
+    ghost use Rattle.gs_boards.specs.Places.{rank_of};
+
+    // Its board and its strength as one number: places are compared at once.
+    fn rank(self) -> u64
+        ensures { result ≡ rank_of self }
+    {
+        u64::from(self.board) * BOARD + u64::from(self.strength)
+    }
 }
 
 /// The place of a signal of the last round.
@@ -44,6 +61,7 @@ fn place_of(signals: &Signals, signal: u32) -> Place
 /// The places of all signals of the last round, signal by signal.
 pub(crate) fn places_of(alloc: Global, signals: &Signals) -> Result<Vec<Place>, AllocError>
     ensures each { IfOk result (λ v. All (IsPlace (rules_of signals.now)) v.items) }
+    ensures small { IfOk result (λ v. All (λ p. p.strength < 2 ^ 32) v.items) }
     ensures all { IfOk result (λ v. map (λ (p : Placed). p.signal) v.items ≡ range_with_len 0 (last_count (rules_of signals.now))) }
 {
     let count = signals.count(signals.rounds());
@@ -52,4 +70,13 @@ pub(crate) fn places_of(alloc: Global, signals: &Signals) -> Result<Vec<Place>, 
         places.push(place_of(signals, signal))?;
     }
     Ok(places)
+}
+
+/// Puts places in the order of boards, and those of one board in that of strengths.
+pub(crate) fn sort_places(places: &mut Vec<Place>)
+    requires small { All (λ p. p.strength < 2 ^ 32) places.old.items }
+    ensures moved { IsPermutation places.old.items places.new.items }
+    ensures order { AreInOrder places.new.items }
+{
+    places.sort_unstable_by_key(|place| place.rank());
 }

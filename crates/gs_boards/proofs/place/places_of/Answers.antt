@@ -1,4 +1,4 @@
-use Rattle.std.proofs.Common.{◌≡◌, ◌+◌, ◌∙◌, ◌++◌, ◌∷◌, [], ℕ, List, ap, arith, map, subst, sym}
+use Rattle.std.proofs.Common.{◌≡◌, ◌<◌, ◌^◌, ◌+◌, ◌∙◌, ◌++◌, ◌∷◌, [], ℕ, List, ap, arith, map, subst, sym}
 use Rattle.std.specs.List.{range_with_len}
 use Rattle.std.specs.Prelude.{All}
 use Rattle.std.proofs.lemmas.List.{map-append}
@@ -19,6 +19,7 @@ loop-signal-preserved c =
     let next : c.place_of.result.signal ≡ 0 + n = c.place_of.ensures.signal ∙ omega arith in
     record {
       each = subst (All (IsPlace g)) (sym c.in_ok-push.ensures.items) (All-push (IsPlace g) old c.place_of.result c.loop-signal.invariant.each c.place_of.ensures.place);
+      small = subst (All (λ (p : Place). p.strength < 2 ^ 32)) (sym c.in_ok-push.ensures.items) (All-push (λ (p : Place). p.strength < 2 ^ 32) old c.place_of.result c.loop-signal.invariant.small (omega arith));
       all = ap (map signal_of) c.in_ok-push.ensures.items ∙ map-append signal_of old (c.place_of.result ∷ []) ∙ ap (λ xs. xs ++ c.place_of.result.signal ∷ []) c.loop-signal.invariant.all
           ∙ ap (λ (x : ℕ). range_with_len 0 n ++ x ∷ []) next ∙ sym (range_append 0 n 1);
     }
