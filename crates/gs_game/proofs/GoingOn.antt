@@ -8,7 +8,7 @@ use Rattle.gs_model.specs.Game.{Round}
 use Rattle.gs_model.specs.Signals.{Seen, Signal, edge, left_by}
 use Rattle.gs_model.specs.ViewTree.{facing}
 use Rattle.gs_model.proofs.Choose.{choose_swap}
-use Rattle.gs_model.proofs.Facing.{length-after, listed}
+use Rattle.gs_model.proofs.Listed.{length-after, listed}
 use Rattle.gs_model.proofs.Fits.{groups_of_fewer}
 use Rattle.gs_model.proofs.Ranges.{every-flat_map, every-weaker}
 use Rattle.gs_model.proofs.Children.{every-map}

@@ -1,11 +1,9 @@
 -- What deals weigh by the signals of a round, and that it is the same where the game stops after that round, but for the ways to go on.
-use Rattle.std.proofs.Common.{◌≡◌, ℕ, zero, suc, ◌+◌, ◌-◌, ◌*◌, ◌<◌, ◌≤◌, Bool, true, false, cond, List, [], ◌∷◌, ◌++◌, map, length, get_or, take, drop, sum, refl, sym, ap, ◌∙◌, subst, arith, length-append, length-take}
+use Rattle.std.proofs.Common.{◌≡◌, ℕ, zero, suc, ◌+◌, ◌-◌, ◌*◌, ◌<◌, ◌≤◌, Bool, true, false, cond, List, [], ◌∷◌, ◌++◌, map, length, get_or, take, drop, sum, refl, sym, ap, ◌∙◌, subst, arith, length-take}
 use Rattle.std.specs.Prelude.{filter, flat_map, ◌==◌, ◌&&◌}
-use Rattle.std.specs.List.{AllByRecursion, range_with_len}
+use Rattle.std.specs.List.{range_with_len}
 use Rattle.std.proofs.lemmas.Bool.Decides.{Decides-eqb}
-use Rattle.std.proofs.lemmas.List.{get_or-take, take-append-drop, take-append-le, take-take, take_all}
-use Rattle.std.proofs.lemmas.List.Elements.{All-from_recursion}
-use Rattle.std.proofs.lemmas.List.FromFn.{get_or-map-range_with_len}
+use Rattle.std.proofs.lemmas.List.{get_or-take, take-append-drop, take-take, take_all}
 use Rattle.gs_model.specs.Betting.{even}
 use Rattle.gs_model.specs.Cards.{groups, left_after, ways}
 use Rattle.gs_model.specs.Classes.{ClassLists, class_of, list_of}
@@ -13,18 +11,20 @@ use Rattle.gs_model.specs.Deals.{Deal, deals, path_weight, same_cards}
 use Rattle.gs_model.specs.Frame.{ancestor, ancestor_up, at_round, frame_of, last_round, parents_of}
 use Rattle.gs_model.specs.Game.{Game, Round, round_at, round_count}
 use Rattle.gs_model.specs.Lossless.{weight_against}
-use Rattle.gs_model.specs.Signals.{Seen, Signal, child_count, children, edge, first_child, last_edge, left_by, owners, parents, showings, signal_at, signals}
+use Rattle.gs_model.specs.Signals.{Seen, Signal, children, left_by, parents, signal_at, signals}
 use Rattle.gs_model.specs.ViewTree.{facing}
-use Rattle.gs_model.proofs.Children.{child-only, children-run, same_cards-self}
+use Rattle.gs_model.proofs.Children.{same_cards-self}
 use Rattle.gs_model.proofs.Exchanged.{and_both, flat_map-same, same_cards-is}
-use Rattle.gs_model.proofs.Facing.{listed, listed-all, signals_differ}
-use Rattle.gs_model.proofs.Ranges.{deals-below, every-append, every-weaker, kept_pass, length-parents, parents_at}
+use Rattle.gs_model.proofs.Facing.{signals_differ}
+use Rattle.gs_model.proofs.Listed.{listed, listed-all}
+use Rattle.gs_model.proofs.Ranges.{deals-below, every-weaker, kept_pass, parents_at}
 use Rattle.gs_model.proofs.Walked.{last_round_of}
 use Rattle.gs_game.specs.GoingOn.{StopsAfter, cards_shown, own_cards_of, ways_on}
 use Rattle.gs_game.specs.Sequences.{deal_sizes, draws, seen_sizes}
 use Rattle.gs_game.proofs.GoingOn.{beside_sum, going_on, pair_sum}
 use Rattle.gs_game.proofs.Sequencing.{in-range, same_triples}
 use Rattle.gs_game.proofs.Totals.{sum-total, total, total-keys, total-places, total-same, total-same_every, total-times}
+use Rattle.gs_model.proofs.Extends.{parent_below, before_last, signal_long}
 
 -- ---- all deals, each with a number of its two signals
 
@@ -56,68 +56,6 @@ deals_sum g f =
 
 -- ---- the first rounds of a signal are its ancestor
 
-owners_in : {X Y : Type 0} (f : X → List Y) (n : ℕ) (xs : List X) → AllByRecursion (λ k. k < n + length xs) (owners f n xs)
-owners_in f n [] = tt
-owners_in {X} {Y} f n (x ∷ xs) =
-    every-append (λ k. k < n + length (x ∷ xs)) (map (λ _. n) (f x)) (owners f (n + 1) xs)
-    (all_in (f x))
-    (every-weaker (λ k. k < (n + 1) + length xs) (λ k. k < n + length (x ∷ xs)) (λ k l. omega arith) (owners f (n + 1) xs) (owners_in f (n + 1) xs))
-  where
-    all_in : (ys : List Y) → AllByRecursion (λ k. k < n + length (x ∷ xs)) (map (λ _. n) ys)
-    all_in [] = tt
-    all_in (y ∷ ys) = (omega arith, all_in ys)
-
-parent_below : (g : Game) (round x : ℕ) → x < length (signals g (suc round)) → get_or (parents g (suc round)) x 0 < length (signals g round)
-parent_below g round x l =
-    let r = All-from_recursion (λ k. k < 0 + length (signals g round)) (parents g (suc round)) (owners_in (λ s. children g (round_at g (suc round)) s) 0 (signals g round)) x 0 (omega (arith, l, length-parents g (suc round))) in
-    omega (arith, r)
-
--- a child is its parent with what one more round shows
-record Extends (s c : Signal) : Type 0 where
-  pub seen : Seen
-  pub is : c ≡ s ++ seen ∷ []
-
-all_extend : (left : List ℕ) (s : Signal) (ps : List Seen) → AllByRecursion (λ (c : ℕ × Signal). Extends s c.1) (map (λ p. (edge left p, s ++ p ∷ [])) ps)
-all_extend left s [] = tt
-all_extend left s (p ∷ ps) = (record { seen = p; is = refl }, all_extend left s ps)
-
-child_extends : (g : Game) (round x : ℕ) → x < length (signals g (suc round)) → Extends (signal_at g round (get_or (parents g (suc round)) x 0)) (signal_at g (suc round) x)
-child_extends g round x l =
-    let i = get_or (parents g (suc round)) x 0 in
-    let in' : i < length (signals g round) = parent_below g round x l in
-    let here = child-only g round i in' x l refl in
-    let s = signal_at g round i in
-    let r = round_at g (suc round) in
-    let first = first_child g round i in
-    let count = child_count g round i in
-    let child : ℕ → ℕ × Signal = λ x. (last_edge g.copies (signal_at g (suc round) x), signal_at g (suc round) x) in
-    let all = All-from_recursion (λ (c : ℕ × Signal). Extends s c.1) (children g r s) (all_extend (left_by g.copies s) s (showings (left_by g.copies s) r)) in
-    let run = children-run g round i in' in
-    let lt : x - first < count = omega (arith, here.0, here.1) in
-    let at : first + (x - first) ≡ x = omega (arith, here.0) in
-    let read : get_or (children g r s) (x - first) (0, []) ≡ child x =
-    ap (λ (cs : List (ℕ × Signal)). get_or cs (x - first) (0, [])) run ∙ get_or-map-range_with_len child first count (x - first) x (0, []) lt at in
-    subst (λ (c : ℕ × Signal). Extends s c.1) read (all (x - first) (0, []) lt)
-
-signal_long : (g : Game) (round x : ℕ) → x < length (signals g round) → length (signal_at g round x) ≡ round
-signal_long g zero zero l = refl
-signal_long g zero (suc x) l = absurd (omega (arith, l))
-signal_long g (suc round) x l =
-    let e = child_extends g round x l in
-    let p = get_or (parents g (suc round)) x 0 in
-    let h = signal_long g round p (parent_below g round x l) in
-    let a = length-append (signal_at g round p) (e.seen ∷ []) in
-    let b = ap length e.is in
-    omega (arith, a, b, h)
-
--- a signal without its last round is its parent
-parent_is : (g : Game) (round x : ℕ) → x < length (signals g (suc round)) → take round (signal_at g (suc round) x) ≡ signal_at g round (get_or (parents g (suc round)) x 0)
-parent_is g round x l =
-    let e = child_extends g round x l in
-    let p = get_or (parents g (suc round)) x 0 in
-    let h = signal_long g round p (parent_below g round x l) in
-    ap (take round) e.is ∙ take-append-le round (signal_at g round p) (e.seen ∷ []) (omega (arith, h)) ∙ take_all round (signal_at g round p) (omega (arith, h))
-
 -- so many rounds up
 front_up : (g : Game) (round k at x : ℕ) → at ≡ round + k → at ≤ round_count g → x < length (signals g at)
     → (take round (signal_at g at x) ≡ signal_at g round (ancestor_up (frame_of g) at k x)) × (ancestor_up (frame_of g) at k x < length (signals g round))
@@ -133,7 +71,7 @@ front_up g round (suc k) (suc at) x e top l =
     let read : get_or (parents_of (frame_of g) (suc at)) x 0 ≡ p = ap (λ (ps : List ℕ). get_or ps x 0) (parents_at g (suc at) (omega arith) top) in
     let up : ancestor_up (frame_of g) at k p ≡ ancestor_up (frame_of g) (suc at) (suc k) x = sym (ap (λ (n : ℕ). ancestor_up (frame_of g) n k (get_or (parents_of (frame_of g) (suc at)) x 0)) under ∙ ap (ancestor_up (frame_of g) at k) read) in
     let h = front_up g round k at p (omega (arith, e)) (omega (arith, top)) (parent_below g at x l) in (
-      sym (take-take round at (signal_at g (suc at) x) (omega (arith, e))) ∙ ap (take round) (parent_is g at x l) ∙ h.0 ∙ ap (signal_at g round) up,
+      sym (take-take round at (signal_at g (suc at) x) (omega (arith, e))) ∙ ap (take round) (before_last g at x l) ∙ h.0 ∙ ap (signal_at g round) up,
       subst (λ (n : ℕ). n < length (signals g round)) up h.1,
     )
 

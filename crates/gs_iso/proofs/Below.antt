@@ -1,10 +1,9 @@
 -- From the numbers of a round to those of the round before, and from the classes of a round to those of the next.
-use Rattle.std.proofs.Common.{◌≡◌, ◌↔◌, ℕ, zero, suc, ◌+◌, ◌-◌, ◌<◌, ◌≤◌, List, [], ◌∷◌, ◌++◌, length, map, take, drop, get_or, refl, sym, ap, ◌∙◌, subst, arith, length-append, slice_index_or}
-use Rattle.std.specs.List.{All, AllByRecursion, range_with_len, slice_range}
-use Rattle.std.proofs.lemmas.List.{get_or-drop, length-drop, take-append-le, take_all, take_more}
-use Rattle.std.proofs.lemmas.List.Elements.{All-from_recursion}
+use Rattle.std.proofs.Common.{◌≡◌, ◌↔◌, ℕ, zero, suc, ◌+◌, ◌-◌, ◌<◌, ◌≤◌, List, [], ◌∷◌, ◌++◌, length, map, take, drop, get_or, refl, sym, ap, ◌∙◌, subst, arith, slice_index_or}
+use Rattle.std.specs.List.{All, range_with_len, slice_range}
+use Rattle.std.proofs.lemmas.List.{get_or-drop, length-drop, take_more}
 use Rattle.std.proofs.lemmas.List.Folds.{length-flat_map-take}
-use Rattle.std.proofs.lemmas.List.FromFn.{get_or-map-range_with_len, get_or-range_with_len, length-range_with_len, map-range_with_len_more}
+use Rattle.std.proofs.lemmas.List.FromFn.{get_or-range_with_len, length-range_with_len, map-range_with_len_more}
 use Rattle.std.proofs.lemmas.List.Sorted.{IsPermutation-sym}
 use Rattle.std.proofs.Math.Seq.{drop-cons}
 use Rattle.gs_model.specs.Betting.{even}
@@ -12,17 +11,18 @@ use Rattle.gs_model.specs.Game.{Game, Round, round_at, round_count}
 use Rattle.gs_model.specs.Isomorphism.{Isomorphic, IsomorphicFor, Matched}
 use Rattle.gs_model.specs.Numbering.{IsClassesOf}
 use Rattle.gs_model.specs.SignalClasses.{SameClass}
-use Rattle.gs_model.specs.Signals.{Seen, Signal, child_count, children, edge, first_child, last_edge, left_by, owners, parents, showings, signal_at, signals}
+use Rattle.gs_model.specs.Signals.{Signal, child_count, children, first_child, last_edge, parents, signal_at, signals}
 use Rattle.gs_model.specs.Signatures.{IsSignature}
 use Rattle.gs_model.proofs.Bijections.{IsPermutation-from_Matched_members, Matched-from_IsPermutation_members}
-use Rattle.gs_model.proofs.Children.{children-run, child-only}
+use Rattle.gs_model.proofs.Children.{children-run}
 use Rattle.gs_model.proofs.Order.{sorts_equal}
-use Rattle.gs_model.proofs.Ranges.{every-append, every-weaker, length-flat_map_map, length-parents}
+use Rattle.gs_model.proofs.Ranges.{length-flat_map_map, length-parents}
 use Rattle.gs_model.proofs.Signatures.{Matched-map, Matched-unmap}
 use Rattle.gs_iso.specs.Numbers.{AreMarks, IsKeyClasses, IsNumbering, child_part, marks_under}
 use Rattle.gs_iso.specs.Orders.{mark_lt}
 use Rattle.gs_iso.proofs.Exact.{mark_order, mark_ranks, pairs}
 use Rattle.gs_iso.proofs.Rounds.{classes_like}
+use Rattle.gs_model.proofs.Extends.{before_last, parents_below}
 
 -- ---- isomorphism before the last round
 
@@ -134,71 +134,6 @@ marks_light g round numbers n light = record {
 
 -- ---- classes of the next round
 
--- the places of owners are in range
-owners_in : {X Y : Type 0} (f : X → List Y) (n : ℕ) (xs : List X) → AllByRecursion (λ k. k < n + length xs) (owners f n xs)
-owners_in f n [] = tt
-owners_in {X} {Y} f n (x ∷ xs) =
-    every-append (λ k. k < n + length (x ∷ xs)) (map (λ _. n) (f x)) (owners f (n + 1) xs)
-    (all_in (f x))
-    (every-weaker (λ k. k < (n + 1) + length xs) (λ k. k < n + length (x ∷ xs)) (λ k l. omega arith) (owners f (n + 1) xs) (owners_in f (n + 1) xs))
-  where
-    all_in : (ys : List Y) → AllByRecursion (λ k. k < n + length (x ∷ xs)) (map (λ _. n) ys)
-    all_in [] = tt
-    all_in (y ∷ ys) = (omega arith, all_in ys)
-
--- a parent is a signal of the round before
-pub parents_below : (g : Game) (round : ℕ) → All (λ p. p < length (signals g round)) (parents g (suc round))
-parents_below g round k d l =
-    let r = All-from_recursion (λ k. k < 0 + length (signals g round)) (parents g (suc round)) (owners_in (λ s. children g (round_at g (suc round)) s) 0 (signals g round)) k d l in omega (arith, r)
-
--- a child is its parent with what one more round shows
-pub record Extends (s c : Signal) : Type 0 where
-  pub seen : Seen
-  pub is : c ≡ s ++ seen ∷ []
-
-all_extend : (left : List ℕ) (s : Signal) (ps : List Seen) → AllByRecursion (λ (c : ℕ × Signal). Extends s c.1) (map (λ p. (edge left p, s ++ p ∷ [])) ps)
-all_extend left s [] = tt
-all_extend left s (p ∷ ps) = (record { seen = p; is = refl }, all_extend left s ps)
-
-pub child_extends : (g : Game) (round x : ℕ) → x < length (signals g (suc round)) → Extends (signal_at g round (get_or (parents g (suc round)) x 0)) (signal_at g (suc round) x)
-child_extends g round x l =
-    let i = get_or (parents g (suc round)) x 0 in
-    let in' : i < length (signals g round) = parents_below g round x 0 (omega (arith, l, length-parents g (suc round))) in
-    let here = child-only g round i in' x l refl in
-    let s = signal_at g round i in
-    let r = round_at g (suc round) in
-    let first = first_child g round i in
-    let count = child_count g round i in
-    let child : ℕ → ℕ × Signal = λ x. (last_edge g.copies (signal_at g (suc round) x), signal_at g (suc round) x) in
-    let all = All-from_recursion (λ (c : ℕ × Signal). Extends s c.1) (children g r s) (all_extend (left_by g.copies s) s (showings (left_by g.copies s) r)) in
-    let run = children-run g round i in' in
-    let lt : x - first < count = omega (arith, here.0, here.1) in
-    let at : first + (x - first) ≡ x = omega (arith, here.0) in
-    let read : get_or (children g r s) (x - first) (0, []) ≡ child x =
-    ap (λ (cs : List (ℕ × Signal)). get_or cs (x - first) (0, [])) run ∙ get_or-map-range_with_len child first count (x - first) x (0, []) lt at in
-    subst (λ (c : ℕ × Signal). Extends s c.1) read (all (x - first) (0, []) lt)
-
--- a signal of a round has what that many rounds show
-pub signal_long : (g : Game) (round x : ℕ) → x < length (signals g round) → length (signal_at g round x) ≡ round
-signal_long g zero zero l = refl
-signal_long g zero (suc x) l = absurd (omega (arith, l))
-signal_long g (suc round) x l =
-    let e = child_extends g round x l in
-    let lt : get_or (parents g (suc round)) x 0 < length (signals g round) = parents_below g round x 0 (omega (arith, l, length-parents g (suc round))) in
-    let h = signal_long g round (get_or (parents g (suc round)) x 0) lt in
-    let a = length-append (signal_at g round (get_or (parents g (suc round)) x 0)) (e.seen ∷ []) in
-    let b = ap length e.is in
-    omega (arith, a, b, h)
-
--- a signal without its last round is its parent
-pub parent_is : (g : Game) (round x : ℕ) → x < length (signals g (suc round)) → take round (signal_at g (suc round) x) ≡ signal_at g round (get_or (parents g (suc round)) x 0)
-parent_is g round x l =
-    let e = child_extends g round x l in
-    let p = get_or (parents g (suc round)) x 0 in
-    let lt : p < length (signals g round) = parents_below g round x 0 (omega (arith, l, length-parents g (suc round))) in
-    let h = signal_long g round p lt in
-    ap (take round) e.is ∙ take-append-le round (signal_at g round p) (e.seen ∷ []) (omega (arith, h)) ∙ take_all round (signal_at g round p) (omega (arith, h))
-
 -- what the classes of a round are
 abbrev pub AreRoundClasses : Game → ℕ → List ℕ → Type 0
 AreRoundClasses g round classes = IsClassesOf (λ i j. SameClass g round (signal_at g round i) (signal_at g round j)) classes
@@ -219,7 +154,7 @@ next_classes g round above numbers classes la ha n long h =
     below i l = let p = parents_below g round i 0 (omega (arith, l, long, n.long, length-parents g (suc round))) in omega (arith, p, la)
 
     at : (i : ℕ) → i < length classes → take round (signal_at g (suc round) i) ≡ signal_at g round (parent i)
-    at i l = parent_is g round i (omega (arith, l, long, n.long))
+    at i l = before_last g round i (omega (arith, l, long, n.long))
 
     like : (i j : ℕ) → i < length classes → j < length classes → (key i ≡ key j) ↔ SameClass g (suc round) (signal_at g (suc round) i) (signal_at g (suc round) j)
     like i j li lj =

@@ -11,7 +11,8 @@ use Rattle.gs_game.specs.Limits.{IsWithinLimits}
 use Rattle.gs_filter.specs.Rows.{rows}
 use Rattle.gs_filter.proofs.RowLaws.{length-rows, row_read}
 use Rattle.gs_iso.specs.Numbers.{AreNumberings, IsKeyClasses, IsNumbering, classes_above}
-use Rattle.gs_iso.proofs.Below.{AreRoundClasses, next_classes, parents_below}
+use Rattle.gs_iso.proofs.Below.{AreRoundClasses, next_classes}
+use Rattle.gs_model.proofs.Extends.{parents_below}
 
 -- what holds of each list and of one more
 pub rows_more : (P : ℕ → List ℕ → Type 0) (vs : List (Vec ℕ Global)) (v : Vec ℕ Global) → ((k : ℕ) → k < length vs → P k (get_or (rows vs) k [])) → P (length vs) v.items

@@ -9,7 +9,7 @@ use Rattle.gs_model.specs.Signals.{parents, signal_at}
 use Rattle.gs_model.proofs.Ranges.{length-parents}
 use Rattle.gs_filter.specs.Filter.{AreParents}
 use Rattle.gs_game.specs.Limits.{IsWithinLimits}
-use Rattle.gs_iso.proofs.Below.{parent_is, parents_below}
+use Rattle.gs_model.proofs.Extends.{before_last, parents_below}
 
 -- for each round the parents of its signals
 abbrev pub all_parents : Game → List (List ℕ)
@@ -73,8 +73,8 @@ are_classes g lists h =
         let ps = get_or (parents g (suc round)) s 0 in
         let pt = get_or (parents g (suc round)) t 0 in
         let up : SameClass g round (signal_at g round ps) (signal_at g round pt) =
-        subst (λ a. SameClass g round a (signal_at g round pt)) (parent_is g round s (omega (arith, ins, p)))
-        (subst (λ b. SameClass g round (take round (signal_at g (suc round) s)) b) (parent_is g round t (omega (arith, inst, p))) alike) in
+        subst (λ a. SameClass g round a (signal_at g round pt)) (before_last g round s (omega (arith, ins, p)))
+        (subst (λ b. SameClass g round (take round (signal_at g (suc round) s)) b) (before_last g round t (omega (arith, inst, p))) alike) in
         let rs = parents_below g round s 0 ins in
         let rt = parents_below g round t 0 inst in
         let u = h.lengths round some (omega (arith, lt, n)) in
