@@ -21,10 +21,10 @@ use crate::numbers::judged;
 use crate::reading::{deal_weight, end_round, round_at, round_total, signal_total, start_at};
 use crate::room::{Scratch, Table};
 use crate::rows::run_sum;
-use crate::runs::Run;
 use crate::work::Work;
 use gs_frac::Verdict;
 use gs_game::Target;
+use gs_lossless::Run;
 use gs_seq::{Abstract, Plan};
 
 /// The sum, over all signals of a round, of the value at each one's class.

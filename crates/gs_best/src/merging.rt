@@ -31,7 +31,7 @@ fn added(choice: u8, sum: i128, worth: i128) -> i128
 }
 
 /// Raises each of so many bests to its worth, where this is the first move or it is greater.
-fn raise(worths: &[i128], choice: u8, count: usize, best: &mut [i128], moves: &mut [u8])
+pub fn raise(worths: &[i128], choice: u8, count: usize, best: &mut [i128], moves: &mut [u8])
     requires worths { count ≤ length worths.now }
     requires best { count ≤ length best.old }
     requires moves { count ≤ length moves.old }
@@ -46,7 +46,7 @@ fn raise(worths: &[i128], choice: u8, count: usize, best: &mut [i128], moves: &m
 }
 
 /// Adds to each of so many sums its worth; the first move's worth begins them.
-fn add(worths: &[i128], choice: u8, count: usize, sums: &mut [i128])
+pub fn add(worths: &[i128], choice: u8, count: usize, sums: &mut [i128])
     requires worths { count ≤ length worths.now }
     requires sums { count ≤ length sums.old }
     requires fits { (k : ℕ) → k < count → 0 < choice → unsigned_abs (get_or sums.old k (pos 0) +ℤ get_or worths.now k (pos 0)) < 2 ^ 127 }

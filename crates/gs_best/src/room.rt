@@ -34,7 +34,7 @@ pub(crate) struct Scratch {
 }
 
 /// Writes where the values of each point start.
-pub(crate) fn place_points(form: &Abstract, starts: &mut [u32])
+pub fn place_points(form: &Abstract, starts: &mut [u32])
     requires { point_count (frame_of form.now) ≤ length starts.old }
     ensures { AreStarts (frame_of form.now) (lists_of form.now) starts.new }
 {

@@ -8,12 +8,10 @@ ghost use Rattle.gs_model.specs.Positions.{at_end};
 ghost use Rattle.gs_seq.specs.Abstracts.{frame_of, lists_of};
 ghost use Rattle.gs_seq.specs.Payoffs.{end_sum, payoff_at};
 ghost use Rattle.gs_seq.specs.Plans.{IsPlanOf, class_plan, lifted};
-ghost use Rattle.gs_best.specs.Forms.{game_in};
 ghost use Rattle.gs_best.specs.Sizes.{IsWide};
 ghost use Rattle.gs_certificate.specs.Paid.{ArePaid};
 
-use gs_best::{Deviator, class_total, end_round, round_total};
-use gs_game::ValidGame;
+use gs_best::{Deviator, class_total, end_round, end_total, round_total, widest};
 use gs_seq::{Abstract, Plan, plus, scaled};
 use std::alloc::{AllocError, Global};
 
@@ -22,31 +20,6 @@ use std::alloc::{AllocError, Global};
 pub(crate) struct EndSums {
     pub(crate) starts: Vec<usize>,
     pub(crate) sums: Vec<i128>,
-}
-
-/// The most classes that a round has.
-pub(crate) fn widest(form: &Abstract) -> u32
-    ensures { IsWide (frame_of form.now) (lists_of form.now) result }
-{
-    let mut most = 0;
-    for before in 0..round_total(form) {
-        most = class_total(form, before + 1).max(most);
-    }
-    most
-}
-
-/// The game.
-fn game<'a>(form: &Abstract<'a>) -> &'a ValidGame
-    ensures { result.now ≡ game_in form.now }
-{
-    form.lossless().signals().game()
-}
-
-/// How many ends there are.
-fn end_total(form: &Abstract) -> u32
-    ensures { result ≡ end_count (frame_of form.now) }
-{
-    game(form).ends().len() as u32
 }
 
 /// What all ends pay a player, over a row for any round's classes and the other player's numbers there, which are written anew.

@@ -1,4 +1,4 @@
-//! The last-round signals that descend from a signal.
+//! The signals of a later round that descend from a signal: a run of places.
 
 ghost use Rattle.std.specs.Prelude.{◌≡◌, ◌+◌, ◌<◌, ◌≤◌, length};
 ghost use Rattle.gs_model.specs.Frame.{at_round, frame_of};
@@ -6,11 +6,11 @@ ghost use Rattle.gs_model.specs.Game.{round_count};
 ghost use Rattle.gs_model.specs.Signals.{first_child, parents, signals as signals_in};
 ghost use Rattle.gs_tree.specs.Trees.{rules_of};
 ghost use Rattle.gs_tree.specs.Walk.{last_count};
-ghost use Rattle.gs_lossless.specs.Amounts.{IsRun};
+ghost use Rattle.gs_lossless.specs.Amounts.{IsRun, IsRunIn};
 
 use gs_tree::Signals;
 
-/// A run of places in a round: from the first one up to the end, which is not one of them.
+/// A run of signals of a round, by their places: from the first one up to the end, which is not one of them.
 #[derive(Clone, Copy, Debug)]
 pub struct Run {
     pub first: u32,
@@ -57,6 +57,23 @@ fn first_below(signals: &Signals, round: u8, place: u32) -> u32
     }
 }
 
+/// The signals of a round that descend from a signal of an earlier round, or from itself in its own.
+pub fn descendants_in(signals: &Signals, round: u8, signal: u32, to: u8) -> Run
+    requires some { 0 < round }
+    requires onward { round ≤ to }
+    requires top { to ≤ round_count (rules_of signals.now) }
+    requires in_range { signal < length (signals_in (rules_of signals.now) round) }
+    ensures { IsRunIn (frame_of (rules_of signals.now)) to round signal result.first result.end }
+{
+    let mut first = signal;
+    let mut end = signal + 1;
+    for at in round..to {
+        first = first_below(signals, at, first);
+        end = first_below(signals, at, end);
+    }
+    Run { first, end }
+}
+
 /// The last-round signals that descend from a signal.
 pub fn descendants(signals: &Signals, round: u8, signal: u32) -> Run
     requires some { 0 < round }
@@ -64,11 +81,5 @@ pub fn descendants(signals: &Signals, round: u8, signal: u32) -> Run
     requires in_range { signal < length (signals_in (rules_of signals.now) round) }
     ensures { IsRun (frame_of (rules_of signals.now)) round signal result.first result.end }
 {
-    let mut first = signal;
-    let mut end = signal + 1;
-    for at in round..signals.rounds() {
-        first = first_below(signals, at, first);
-        end = first_below(signals, at, end);
-    }
-    Run { first, end }
+    descendants_in(signals, round, signal, signals.rounds())
 }

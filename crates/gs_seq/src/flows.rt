@@ -30,8 +30,8 @@ pub struct Source {
     pub(crate) choice: u8,
 }
 
-/// The class that a class descends from in an earlier round.
-pub(crate) fn class_above(classes: &Classes, round: u8, to: u8, class: u32) -> u32
+/// The class that a class descends from in an earlier round, or itself in its own.
+pub fn class_above(classes: &Classes, round: u8, to: u8, class: u32) -> u32
     requires some { 0 < to }
     requires earlier { to ≤ round }
     requires top { round ≤ length classes.now.lists }

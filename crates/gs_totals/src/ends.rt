@@ -12,8 +12,8 @@ ghost use Rattle.gs_totals.specs.Places.{AreEndLines, AreEndSums, AreSmallRows, 
 ghost use Rattle.gs_totals.specs.Room.{HasRows, HasScratch, IsPlaced};
 
 use crate::paying::read_end;
-use crate::places::{Places, Scratch, Totals, end_total};
-use gs_best::{Deviator, class_total, end_round, round_total};
+use crate::places::{Places, Scratch, Totals};
+use gs_best::{Deviator, class_total, end_round, end_total, round_total};
 use gs_seq::{Abstract, plus, scaled};
 
 /// What all ends pay the members of each class together.

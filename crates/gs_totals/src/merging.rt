@@ -1,10 +1,9 @@
 //! The class totals of a point, from what its moves are worth.
 
-ghost use Rattle.std.specs.Prelude.{◌≡◌, ◌≢◌, ◌==◌, ◌+◌, ◌<◌, ◌≤◌, ◌^◌, ◌+ℤ◌, ℕ, pos, length, get_or, unsigned_abs, if◌then◌else◌};
+ghost use Rattle.std.specs.Prelude.{◌+◌, ◌<◌, ◌≤◌, length};
 ghost use Rattle.gs_model.specs.Frame.{move_count, player_at, point_count};
 ghost use Rattle.gs_seq.specs.Abstracts.{frame_of, lists_of};
 ghost use Rattle.gs_seq.specs.Plans.{class_plan};
-ghost use Rattle.gs_best.specs.Rows.{AreAdded, AreRaised, raises};
 ghost use Rattle.gs_best.specs.Sizes.{IsWide};
 ghost use Rattle.gs_best.specs.Tables.{classes_at, moves_of, start_of};
 ghost use Rattle.gs_totals.specs.Merged.{AreChosen, AreGreatest, AreModestFrom, AreSums, AreTaken, IsFollowing, IsMerged};
@@ -13,50 +12,7 @@ ghost use Rattle.gs_totals.specs.Room.{HasRows, IsPlaced};
 
 use crate::places::{Places, Totals};
 use crate::rows::read_worths;
-use gs_best::{Deviator, chooser, class_total, move_total, round_at, round_total};
-use gs_seq::plus;
-
-/// Whether a worth takes the place of the best so far: it is the first move's, or greater.
-fn is_raised(choice: u8, best: i128, worth: i128) -> bool
-    ensures { result ≡ raises choice best worth }
-{
-    choice == 0 || best < worth
-}
-
-/// A sum with one more worth; the first move's worth begins it.
-fn added(choice: u8, sum: i128, worth: i128) -> i128
-    requires { 0 < choice → unsigned_abs (sum +ℤ worth) < 2 ^ 127 }
-    ensures { result ≡ (if choice == 0 then worth else (sum +ℤ worth)) }
-{
-    if choice == 0 { worth } else { plus(sum, worth) }
-}
-
-/// Raises each of so many bests to its worth, where this is the first move or it is greater.
-fn raise(worths: &[i128], choice: u8, count: usize, best: &mut [i128], moves: &mut [u8])
-    requires worths { count ≤ length worths.now }
-    requires best { count ≤ length best.old }
-    requires moves { count ≤ length moves.old }
-    ensures { AreRaised count choice worths.now best.old best.new moves.old moves.new }
-{
-    for class in 0..count {
-        if is_raised(choice, best[class], worths[class]) {
-            best[class] = worths[class];
-            moves[class] = choice;
-        }
-    }
-}
-
-/// Adds to each of so many sums its worth; the first move's worth begins them.
-fn add(worths: &[i128], choice: u8, count: usize, sums: &mut [i128])
-    requires worths { count ≤ length worths.now }
-    requires sums { count ≤ length sums.old }
-    requires fits { (k : ℕ) → k < count → 0 < choice → unsigned_abs (get_or sums.old k (pos 0) +ℤ get_or worths.now k (pos 0)) < 2 ^ 127 }
-    ensures { AreAdded count choice worths.now sums.old sums.new }
-{
-    for class in 0..count {
-        sums[class] = added(choice, sums[class], worths[class]);
-    }
-}
+use gs_best::{Deviator, add, chooser, class_total, move_total, raise, round_at, round_total};
 
 /// Takes the worth of a move for each of so many classes that have chosen it; their moves are listed from a place on.
 fn take(worths: &[i128], choice: u8, count: usize, picks: &[u8], start: usize, row: &mut [i128])

@@ -10,8 +10,7 @@ ghost use Rattle.gs_seq.specs.Payoffs.{end_classes, end_sum};
 ghost use Rattle.gs_seq.specs.Plans.{class_plan};
 ghost use Rattle.gs_best.specs.Sizes.{IsWide};
 
-use crate::places::game;
-use gs_best::Deviator;
+use gs_best::{Deviator, game};
 use gs_game::End;
 use gs_seq::Abstract;
 

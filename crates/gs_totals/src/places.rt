@@ -3,14 +3,13 @@
 ghost use Rattle.std.specs.Prelude.{◌≡◌, ◌≤◌, IfOk, length};
 ghost use Rattle.gs_model.specs.Frame.{end_count, point_count};
 ghost use Rattle.gs_seq.specs.Abstracts.{frame_of, lists_of};
-ghost use Rattle.gs_best.specs.Forms.{game_in};
-ghost use Rattle.gs_best.specs.Sizes.{IsWide};
-ghost use Rattle.gs_best.specs.Tables.{AreStarts, start_of};
+ghost use Rattle.gs_best.specs.Tables.{start_of};
 ghost use Rattle.gs_totals.specs.Places.{AreEndStarts, end_start};
 ghost use Rattle.gs_totals.specs.Room.{HasRows, HasScratch, IsPlaced};
 
-use gs_best::{class_total, end_round, point_total, round_at, round_total};
-use gs_game::ValidGame;
+use gs_best::{
+    class_total, end_round, end_total, place_points, point_total, round_total, value_total, widest,
+};
 use gs_seq::Abstract;
 use std::alloc::{AllocError, Global};
 
@@ -43,32 +42,6 @@ pub struct Scratch {
     pub(crate) moves: Vec<u8>,
 }
 
-/// The game.
-pub(crate) fn game<'a>(form: &Abstract<'a>) -> &'a ValidGame
-    ensures { result.now ≡ game_in form.now }
-{
-    form.lossless().signals().game()
-}
-
-/// How many ends there are.
-pub(crate) fn end_total(form: &Abstract) -> u32
-    ensures { result ≡ end_count (frame_of form.now) }
-{
-    game(form).ends().len() as u32
-}
-
-/// Writes where the row of each point starts.
-fn place_points(form: &Abstract, starts: &mut [u32])
-    requires { point_count (frame_of form.now) ≤ length starts.old }
-    ensures { AreStarts (frame_of form.now) (lists_of form.now) starts.new }
-{
-    let mut start = 0;
-    for point in 0..point_total(form) {
-        starts[point as usize] = start;
-        start += class_total(form, round_at(form, point));
-    }
-}
-
 /// Writes where the row of each end starts.
 fn place_ends(form: &Abstract, starts: &mut [u32])
     requires { end_count (frame_of form.now) ≤ length starts.old }
@@ -82,17 +55,6 @@ fn place_ends(form: &Abstract, starts: &mut [u32])
     }
 }
 
-/// How many numbers the rows of all points have.
-fn point_room(form: &Abstract) -> u32
-    ensures { result ≡ start_of (frame_of form.now) (lists_of form.now) (point_count (frame_of form.now)) }
-{
-    let mut total = 0;
-    for point in 0..point_total(form) {
-        total += class_total(form, round_at(form, point));
-    }
-    total
-}
-
 /// How many numbers the rows of all ends have.
 fn end_room(form: &Abstract) -> u32
     ensures { result ≡ end_start (frame_of form.now) (lists_of form.now) (end_count (frame_of form.now)) }
@@ -103,17 +65,6 @@ fn end_room(form: &Abstract) -> u32
         total += class_total(form, end_round(form, end));
     }
     total
-}
-
-/// The most classes that a round has.
-fn widest(form: &Abstract) -> u32
-    ensures { IsWide (frame_of form.now) (lists_of form.now) result }
-{
-    let mut most = 0;
-    for before in 0..round_total(form) {
-        most = class_total(form, before + 1).max(most);
-    }
-    most
 }
 
 impl Places {
@@ -135,7 +86,7 @@ impl Totals {
         ensures { IfOk result (HasRows (frame_of form.now) (lists_of form.now)) }
     {
         let ends = vec![in alloc; 0i128; end_room(form) as usize]?;
-        let points = vec![in alloc; 0i128; point_room(form) as usize]?;
+        let points = vec![in alloc; 0i128; value_total(form) as usize]?;
         Ok(Totals { ends, points })
     }
 }
@@ -144,7 +95,7 @@ impl Totals {
 pub fn picks_for(alloc: Global, form: &Abstract) -> Result<Vec<u8>, AllocError>
     ensures { IfOk result (λ v. start_of (frame_of form.now) (lists_of form.now) (point_count (frame_of form.now)) ≤ length v.items) }
 {
-    let picks = vec![in alloc; 0u8; point_room(form) as usize]?;
+    let picks = vec![in alloc; 0u8; value_total(form) as usize]?;
     Ok(picks)
 }
 

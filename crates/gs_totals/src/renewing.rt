@@ -15,8 +15,8 @@ ghost use Rattle.gs_totals.specs.Renewed.{AgreeAt, AreSameAt};
 ghost use Rattle.gs_totals.specs.Room.{HasRows, HasScratch, IsPlaced};
 
 use crate::paying::{end_in, read_end};
-use crate::places::{Places, Scratch, Totals, end_total};
-use gs_best::{Deviator, class_total, round_at, round_total};
+use crate::places::{Places, Scratch, Totals};
+use gs_best::{Deviator, class_total, end_total, round_at, round_total};
 use gs_game::Step;
 use gs_seq::Abstract;
 

@@ -3,7 +3,7 @@ use Rattle.gs_model.specs.Frame.{frame_of}
 use Rattle.gs_model.specs.Game.{round_count}
 use Rattle.gs_tree.specs.Trees.{rules_of}
 use Rattle.gs_lossless.specs.Amounts.{IsRunIn}
-use Rattle.gs_best.proofs.runs.descendants.Given as goal
+use Rattle.gs_lossless.proofs.runs.descendants_in.Given as goal
 
 abbrev pub invariant-loop-at : goal.invariant-loop-at
 invariant-loop-at l = record {

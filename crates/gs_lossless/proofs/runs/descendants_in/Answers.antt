@@ -6,7 +6,7 @@ use Rattle.gs_model.proofs.Ranges.{signal_count_is}
 use Rattle.gs_tree.specs.Trees.{rules_of}
 use Rattle.gs_lossless.specs.Amounts.{IsRunIn}
 use Rattle.gs_lossless.proofs.Descent.{playable, run_more, run_start}
-use Rattle.gs_best.proofs.runs.descendants.Goals as goal
+use Rattle.gs_lossless.proofs.runs.descendants_in.Goals as goal
 
 pub loop-at-init : goal.loop-at-init
 loop-at-init c =
