@@ -1,4 +1,4 @@
-pub mod Each
+pub mod Filled
 pub mod Seats
 pub mod Taken
 pub mod Chain

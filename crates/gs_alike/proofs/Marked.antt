@@ -1,7 +1,7 @@
 -- Marks of signals.
-use Rattle.std.proofs.Common.{◌≡◌, ◌⊎◌, ◌<◌, ◌∙◌, ℕ, Bool, List, ◌++◌, get_or, length, set, take, drop, inl, inr, refl, sym, ap, subst, arith, ⊎_elim, length-set}
+use Rattle.std.proofs.Common.{◌≡◌, ◌⊎◌, ◌≤◌, ◌<◌, ◌∙◌, ℕ, Bool, List, ◌++◌, get_or, length, replicate, set, take, drop, inl, inr, refl, sym, ap, subst, arith, ⊎_elim, length-set}
 use Rattle.std.proofs.lemmas.Bool.{cases_eq}
-use Rattle.std.proofs.lemmas.List.{append-nil, drop_all, get_or-set_other, get_or-set_same, get_or_default, get_or-map, length-map, take_all}
+use Rattle.std.proofs.lemmas.List.{append-nil, drop_all, get_or-replicate, get_or-set_other, get_or-set_same, get_or_default, get_or-map, length-map, length-replicate, take_all}
 use Rattle.std.specs.Global.{Vec}
 use Rattle.std.specs.HashMap.{HashMap}
 use Rattle.std.specs.List.{All}
@@ -18,7 +18,6 @@ use Rattle.gs_alike.specs.Hands.{AreHands, HasMore, IsKindOf, IsMark, KeepsKinds
 use Rattle.gs_alike.specs.declared.board.Board.{Board}
 use Rattle.gs_alike.specs.declared.board.Seat.{Seat}
 use Rattle.gs_alike.specs.declared.kinds.Kind.{Kind}
-use Rattle.gs_alike.proofs.Items.{alike_self}
 use Rattle.gs_alike.proofs.Places.{mark_alike}
 use Rattle.gs_alike.proofs.Seats.{none}
 
@@ -73,8 +72,13 @@ pub record AreMarked (g : Game) (boards : List Board) (keys marks : List ℕ) (k
   pub kept : KeepsKinds kinds seen
   pub known : All (IsKnown boards keys) kinds
 
-pub themselves : (g : Game) (keys marks : List ℕ) → length marks ≡ last_count g → ((i : ℕ) → i < last_count g → get_or marks i 0 ≡ i) → AreMarks g keys marks
-themselves g keys marks long each = record { long = long; alike = λ i l. subst (AreAlike g keys i) (sym (each i l)) (alike_self g keys i) }
+pub unmarked : (g : Game) (keys marks : List ℕ) (none : ℕ) → marks ≡ replicate (last_count g) none → last_count g ≤ none → AreMarks g keys marks
+unmarked g keys marks none e big = record {
+  long = ap (λ (k : List ℕ). length k) e ∙ length-replicate (last_count g) none;
+  alike = λ i l small. absurd (
+      let is : get_or marks i 0 ≡ none = ap (λ (k : List ℕ). get_or k i 0) e ∙ get_or-replicate (last_count g) i none 0 l in
+      omega (arith, is, small, big));
+}
 
 pub like_known : (boards : List Board) (keys hands : List ℕ) (kinds : List Kind) (kind : ℕ) (like : Kind) → All (IsKnown boards keys) kinds → IsKindOf kinds kind hands → like ≡ get_or kinds kind like → IsKnown boards keys like
 like_known boards keys hands kinds kind like known of is = subst (IsKnown boards keys) (sym is) (known kind like of.within)
@@ -112,8 +116,8 @@ marks_after g by_rank boards keys few each place kind board other like kinds han
     let moved : IsPermutation like.hands.items hands = subst (λ (x : Kind). IsPermutation x.hands.items hands) (sym like_is) (of.same like) in
     record {
       long = may.long ∙ m.long;
-      alike = λ i in'. ⊎_elim
-          (λ (e : get_or new i 0 ≡ get_or marks i 0). subst (AreAlike g keys i) (sym e) (m.alike i in'))
+      alike = λ i in' small. ⊎_elim
+          (λ (e : get_or new i 0 ≡ get_or marks i 0). subst (AreAlike g keys i) (sym e) (m.alike i in' (omega (arith, e, small))))
           (λ mark. mark_alike g by_rank keys few board other hands like.hands.items b o h theirs moved i (get_or new i 0) mark)
           (may.each i);
     }

@@ -4,13 +4,14 @@ use Rattle.gs_model.specs.Game.{Game}
 use Rattle.gs_tree.specs.Walk.{last_count}
 use Rattle.gs_alike.specs.Alike.{AreAlike}
 
--- for each item one with the same mark, no later
+-- for each item one with the same mark, no later, and itself where the mark is no place of an item
 pub record AreFirsts (marks firsts : List ℕ) : Type 0 where
   pub long : length firsts ≡ length marks
   pub before : (i : ℕ) → i < length marks → slice_index firsts i ≤ i
   pub same : (i : ℕ) → i < length marks → slice_index marks (slice_index firsts i) ≡ slice_index marks i
+  pub itself : (i : ℕ) → i < length marks → length marks ≤ slice_index marks i → slice_index firsts i ≡ i
 
--- each last-round signal is marked by one that is like it
+-- each last-round signal whose mark is the place of one is like that one
 pub record AreMarks (g : Game) (keys marks : List ℕ) : Type 0 where
   pub long : length marks ≡ last_count g
-  pub alike : (i : ℕ) → i < last_count g → AreAlike g keys i (slice_index marks i)
+  pub alike : (i : ℕ) → i < last_count g → slice_index marks i < last_count g → AreAlike g keys i (slice_index marks i)

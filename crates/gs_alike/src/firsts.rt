@@ -5,6 +5,9 @@ ghost use Rattle.gs_alike.specs.Firsts.{AreFirsts};
 
 use std::alloc::{AllocError, Global};
 
+/// The place of no item, and so the mark of an item that has none.
+pub(crate) const NONE: u32 = u32::MAX;
+
 /// The item that is kept for a mark, where there is an earlier one; else this one, which is kept from then on.
 fn first_of(kept: &mut [u32], item: u32, mark: u32) -> u32
     ensures before { result ≤ item }
@@ -23,12 +26,12 @@ fn first_of(kept: &mut [u32], item: u32, mark: u32) -> u32
     item
 }
 
-/// For each item the first one with its mark.
+/// For each item the first one with its mark, and itself where it has none.
 pub(crate) fn first_items(alloc: Global, mut marks: Vec<u32>) -> Result<Vec<u32>, AllocError>
     requires { length marks.items < 2 ^ 32 }
     ensures { IfOk result (λ v. AreFirsts marks.items v.items) }
 {
-    let mut kept = vec![in alloc; u32::MAX; marks.len()]?;
+    let mut kept = vec![in alloc; NONE; marks.len()]?;
     for item in 0..marks.len() {
         let first = first_of(&mut kept, item as u32, marks[item]);
         marks[item] = first;

@@ -35,9 +35,9 @@ pub(crate) fn list_hands(
     requires { All (λ seat. seat.signal < length keys.now) board.now.seats.items }
     ensures { OnOk result (AreHands board.now keys.now hands.new.items) }
 {
-    hands.clear();
-    for seat in board.seats.iter() {
-        hands.push(u64::from(seat.level) * KEYS + u64::from(keys[seat.signal as usize]))?;
+    hands.resize(board.seats.len(), 0)?;
+    for (place, seat) in board.seats.iter().enumerate() {
+        hands[place] = u64::from(seat.level) * KEYS + u64::from(keys[seat.signal as usize]);
     }
     Ok(())
 }

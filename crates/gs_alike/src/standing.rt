@@ -10,7 +10,7 @@ ghost use Rattle.gs_alike.specs.Boards.{IsBoard};
 ghost use Rattle.gs_alike.specs.Firsts.{AreMarks};
 
 use crate::board::{Board, boards_of};
-use crate::firsts::first_items;
+use crate::firsts::{NONE, first_items};
 use crate::kinds::{Kinds, kind_of, list_hands};
 use crate::marks::mark_board;
 use gs_game::are_single;
@@ -43,18 +43,6 @@ fn are_ones(bonus: &[u8]) -> bool
     bonus.iter().all(|times| *times == 1)
 }
 
-/// Each signal of the last round for itself.
-fn each_itself(alloc: Global, count: u32) -> Result<Vec<u32>, AllocError>
-    ensures long { IfOk result (λ v. length v.items ≡ count) }
-    ensures each { IfOk result (λ v. (i : ℕ) → i < count → slice_index v.items i ≡ i) }
-{
-    let mut marks = Vec::with_capacity(alloc, count as usize)?;
-    for signal in 0..count {
-        marks.push(signal)?;
-    }
-    Ok(marks)
-}
-
 impl<'a> Boards<'a> {
     /// The boards of the last round.
     pub fn of(alloc: Global, signals: &'a Signals<'a>) -> Result<Boards<'a>, AllocError>
@@ -73,12 +61,13 @@ impl<'a> Boards<'a> {
         })
     }
 
-    // For each signal of the last round one that is like it: itself, or a signal of the first board with the same hands.
+    // For each signal of the last round one that is like it, on the first board with the same hands, or no mark.
     fn marks(&self, alloc: Global, keys: &[u32]) -> Result<Vec<u32>, AllocError>
         requires { length keys.now ≡ last_count (rules_of self.now.signals.now) }
         ensures { IfOk result (λ v. AreMarks (rules_of self.now.signals.now) keys.now v.items) }
     {
-        let mut marks = each_itself(alloc, self.signals.count(self.signals.rounds()))?;
+        let count = self.signals.count(self.signals.rounds());
+        let mut marks = vec![in alloc; NONE; count as usize]?;
         let mut kinds = Kinds {
             list: Vec::new(alloc),
             seen: HashMap::new(alloc),

@@ -1,7 +1,7 @@
-use Rattle.std.proofs.Common.{◌≡◌, ◌<◌, ◌∙◌, ◌++◌, ℕ, List, ap, arith, drop, get_or, length, subst, sym, take}
+use Rattle.std.proofs.Common.{◌≡◌, ◌≤◌, ◌<◌, ◌∙◌, ◌++◌, ℕ, List, ap, arith, drop, get_or, length, replicate, rules, subst, sym, take}
 use Rattle.std.specs.List.{All}
 use Rattle.std.proofs.lemmas.List.Elements.{All-nil}
-use Rattle.gs_model.specs.Game.{Game}
+use Rattle.gs_model.specs.Game.{Game, round_count}
 use Rattle.gs_model.specs.Signals.{signals}
 use Rattle.gs_tree.specs.Trees.{rules_of}
 use Rattle.gs_tree.specs.Walk.{last_count}
@@ -11,7 +11,7 @@ use Rattle.gs_alike.specs.Hands.{AreHands, IsKindOf}
 use Rattle.gs_alike.specs.declared.board.Board.{Board}
 use Rattle.gs_alike.specs.declared.board.Seat.{Seat}
 use Rattle.gs_alike.specs.declared.kinds.Kind.{Kind}
-use Rattle.gs_alike.proofs.Marked.{IsKnown, MayMark, known_after, like_known, marks_after, may_read, themselves, whole}
+use Rattle.gs_alike.proofs.Marked.{IsKnown, MayMark, known_after, like_known, marks_after, may_read, unmarked, whole}
 use Rattle.gs_alike.proofs.standing.Boards.marks.Goals as goal
 
 pub index-other-requires : goal.index-other-requires
@@ -39,9 +39,11 @@ pub loop-place-init : goal.loop-place-init
 loop-place-init c =
     let g : Game = rules_of c.args.self.now.signals.now in
     let known : Kind → Type 0 = IsKnown c.args.self.now.list.items c.args.keys.now in
-    let all : c.count.result ≡ last_count g = c.count.ensures.value ∙ ap (λ k. length (signals g k)) c.rounds.ensures.value in
+    let all : c.count-count.result ≡ last_count g = c.count-count.ensures.value ∙ ap (λ k. length (signals g k)) c.rounds.ensures.value in
+    let free : c.in_ok-marks.marks.items ≡ replicate c.count-count.result 4294967295 = c.in_ok-marks.ensures.items_if_clones_equal (λ y k. search rules) in
+    let few : last_count g ≤ 4294967295 = omega (arith, c.args.self.now.signals.now.game.now.limits.signals_in (round_count g) (omega arith)) in
     record {
-      marks_are = themselves g c.args.keys.now c.in_ok-marks.marks.items (c.in_ok-marks.ensures.long ∙ all) (λ i l. c.in_ok-marks.ensures.each i (omega (arith, l, all)));
+      marks_are = unmarked g c.args.keys.now c.in_ok-marks.marks.items 4294967295 (free ∙ ap (λ (n : ℕ). replicate n 4294967295) all) few;
       kept = λ row kind e. grind (arith, c.new-2.ensures.empty, e);
       known = subst (All known) (sym c.new.ensures.items) (All-nil known);
     }
