@@ -5,3 +5,4 @@ pub mod Turned
 pub mod Splits
 pub mod Alike
 pub mod Known
+pub mod Proposed

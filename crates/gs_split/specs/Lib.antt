@@ -1,1 +1,2 @@
+pub mod Proposal
 pub mod Turns

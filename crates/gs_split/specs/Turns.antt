@@ -95,18 +95,29 @@ AreKeyClasses before above parents numbers classes = IsClassesOf (λ i j. turn_k
 abbrev pub classes_above : List (List ℕ) → List ℕ
 classes_above lists = get_or lists (length lists - 1) (1 ∷ [])
 
--- two signals of a round stay together in a turn; `above` has the new classes of the round before
-pub record StayInRound (f : Frame) (old : ClassLists) (above : List ℕ) (round s t : ℕ) : Type 0 where
+-- two signals of a round stay together where they have one old class, one new class of the parent and one number; `above` has the new classes of the
+-- round before
+pub record StayInRound (f : Frame) (old : ClassLists) (above numbers : List ℕ) (round s t : ℕ) : Type 0 where
   pub before : class_of old round s ≡ class_of old round t
   pub parents : 1 < round → get_or above (get_or (parents_of f round) s 0) 0 ≡ get_or above (get_or (parents_of f round) t 0) 0
-  pub sums : HaveSameSums f old round s t
+  pub number : get_or numbers s 0 ≡ get_or numbers t 0
 
 -- the new classes of a round: those of the signals that stay together, numbered by first member
-pub record IsRoundTurn (f : Frame) (old : ClassLists) (above : List ℕ) (round : ℕ) (list : List ℕ) : Type 0 where
+pub record IsRoundParted (f : Frame) (old : ClassLists) (above numbers : List ℕ) (round : ℕ) (list : List ℕ) : Type 0 where
   pub long : length list ≡ signal_count f round
-  pub classes : IsClassesOf (StayInRound f old above round) list
+  pub classes : IsClassesOf (StayInRound f old above numbers round) list
 
--- the new classes of all rounds
-pub record AreTurned (f : Frame) (old new : ClassLists) : Type 0 where
+-- the new classes of all rounds, by a number for each signal of each round
+pub record AreParted (f : Frame) (old numbers new : ClassLists) : Type 0 where
   pub rounds : length new ≡ last_round f
-  pub each : (round : ℕ) → 0 < round → round ≤ last_round f → IsRoundTurn f old (list_of new (round - 1)) round (list_of new round)
+  pub each : (round : ℕ) → 0 < round → round ≤ last_round f → IsRoundParted f old (list_of new (round - 1)) (list_of numbers round) round (list_of new round)
+
+-- for each round a number for each of its signals
+pub record HaveNumbers (f : Frame) (numbers : ClassLists) : Type 0 where
+  pub rounds : length numbers ≡ last_round f
+  pub each : (round : ℕ) → 0 < round → round ≤ last_round f → length (list_of numbers round) ≡ signal_count f round
+
+-- in each round the numbers are equal, within a class, exactly where the signals have the same sums
+pub record AreExact (f : Frame) (lists numbers : ClassLists) : Type 0 where
+  pub rounds : length numbers ≡ last_round f
+  pub each : (round : ℕ) → 0 < round → round ≤ last_round f → AreTurnNumbers f lists round (list_of numbers round)

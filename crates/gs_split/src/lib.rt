@@ -2,7 +2,9 @@
 #![tactic(auto)]
 
 mod numbers;
+mod parting;
 mod parts;
+mod proposal;
 mod rounds;
 mod splitting;
 mod stays;

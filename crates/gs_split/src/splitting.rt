@@ -7,6 +7,7 @@ ghost use Rattle.gs_model.specs.Numbering.{greatest};
 ghost use Rattle.gs_model.specs.Refinement.{IsCoarsestLossless};
 ghost use Rattle.gs_tree.specs.Trees.{rules_of};
 
+use crate::proposal::proposal;
 use crate::stays::known_rounds;
 use crate::turns::turn;
 use gs_alike::Boards;
@@ -27,13 +28,8 @@ fn class_total(classes: &Classes) -> u64
     total
 }
 
-/// The coarsest lossless classes that refine given ones: every lossless refinement of the given classes refines them. They are numbered from 1 by
-/// first member.
-///
-/// Each turn parts members of a class whose parents were parted, or that differ against the classes so far; it ends where a turn parts none.
-///
-/// Source: partition refinement.
-pub fn split(alloc: Global, signals: &Signals, from: &Classes) -> Result<Classes, AllocError>
+/// Exact turns from given classes until nothing is parted.
+fn settled(alloc: Global, signals: &Signals, from: &Classes) -> Result<Classes, AllocError>
     requires { from.now.parents ≡ (frame_of (rules_of signals.now)).parents }
     ensures coarsest { IfOk result (λ c. IsCoarsestLossless (frame_of (rules_of signals.now)) from.now.lists c.lists) }
     ensures parents { IfOk result (λ c. c.parents ≡ (frame_of (rules_of signals.now)).parents) }
@@ -49,4 +45,22 @@ pub fn split(alloc: Global, signals: &Signals, from: &Classes) -> Result<Classes
         classes = finer;
     }
     Ok(classes)
+}
+
+/// The coarsest lossless classes that refine given ones: every lossless refinement of the given classes refines them. They are numbered from 1 by
+/// first member.
+///
+/// A proposal goes before the exact turns, where there is one. Each turn parts members of a class whose parents were parted, or that differ against the
+/// classes so far; it ends where a turn parts none.
+///
+/// Source: partition refinement.
+pub fn split(alloc: Global, signals: &Signals, from: &Classes) -> Result<Classes, AllocError>
+    requires { from.now.parents ≡ (frame_of (rules_of signals.now)).parents }
+    ensures coarsest { IfOk result (λ c. IsCoarsestLossless (frame_of (rules_of signals.now)) from.now.lists c.lists) }
+    ensures parents { IfOk result (λ c. c.parents ≡ (frame_of (rules_of signals.now)).parents) }
+{
+    if let Some(proposed) = proposal(alloc, signals, from)? {
+        return settled(alloc, signals, &proposed);
+    }
+    settled(alloc, signals, from)
 }

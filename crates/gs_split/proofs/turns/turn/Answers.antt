@@ -1,27 +1,23 @@
-use Rattle.std.proofs.Common.{◌≡◌, List, ℕ, subst, sym}
-use Rattle.gs_model.specs.Classes.{ClassLists, IsClasses}
+use Rattle.std.proofs.Common.{List, Vec, ℕ, Global, subst, sym}
 use Rattle.gs_model.specs.Frame.{frame_of}
 use Rattle.gs_model.specs.RefinementTurn.{IsTurn}
-use Rattle.gs_filter.specs.Filter.{AreParents, Filter}
+use Rattle.gs_filter.specs.Filter.{Filter}
 use Rattle.gs_filter.specs.Rows.{rows}
 use Rattle.gs_tree.specs.Trees.{rules_of}
-use Rattle.gs_lossless.proofs.Descent.{are_parents}
 use Rattle.gs_lossless.proofs.Settled.{if_ok}
-use Rattle.gs_split.proofs.Turned.{classes_of, turn_of}
+use Rattle.gs_split.specs.Turns.{AreExact, AreParted, HaveNumbers}
+use Rattle.gs_split.proofs.Turned.{exact_have, turn_of}
 use Rattle.gs_split.proofs.turns.turn.Goals as goal
 
-pub of_filter-requires-clause-parents : goal.of_filter-requires-clause-parents
-of_filter-requires-clause-parents c = subst AreParents (sym c.parents.ensures) (are_parents c.args.signals.now)
-
-pub of_filter-requires-clause-classes : goal.of_filter-requires-clause-classes
-of_filter-requires-clause-classes c =
-    let new = rows c.in_ok-lists.lists.items in
-    subst (λ (ps : List (List ℕ)). IsClasses ps new) (sym c.parents.ensures) (classes_of (frame_of (rules_of c.args.signals.now)) c.args.classes.now.lists new c.in_ok-lists.ensures)
+pub parted-requires-clause-numbers : goal.parted-requires-clause-numbers
+parted-requires-clause-numbers c =
+    let f = frame_of (rules_of c.args.signals.now) in
+    subst (λ (vs : List (Vec ℕ Global)). HaveNumbers f (rows vs)) (sym c.deref.ensures.value) (exact_have f c.args.classes.now.lists (rows c.in_ok-numbers.numbers.items) c.in_ok-numbers.ensures)
 
 pub returns-clause-turn : goal.returns-clause-turn
 returns-clause-turn c =
     let f = frame_of (rules_of c.args.signals.now) in
     let old = c.args.classes.now.lists in
-    let new = rows c.in_ok-lists.lists.items in
-    if_ok c.of_filter.result (λ (v : Filter). v.lists ≡ new) (λ (v : Filter). IsTurn f old v.lists)
-    (λ v e. subst (λ (lists : ClassLists). IsTurn f old lists) (sym e) (turn_of f old new c.in_ok-lists.ensures)) c.of_filter.ensures.lists
+    let exact = subst (λ (vs : List (Vec ℕ Global)). AreExact f old (rows vs)) (sym c.deref.ensures.value) c.in_ok-numbers.ensures in
+    if_ok c.parted.result (λ (v : Filter). AreParted f old (rows c.deref.result.now) v.lists) (λ (v : Filter). IsTurn f old v.lists)
+    (λ v h. turn_of f old (rows c.deref.result.now) v.lists h exact) c.parted.ensures.parted

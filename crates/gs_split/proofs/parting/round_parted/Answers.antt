@@ -5,9 +5,9 @@ use Rattle.gs_model.specs.Game.{round_count}
 use Rattle.gs_model.proofs.Ranges.{length-parents, parents_at, signal_count_is}
 use Rattle.gs_tree.specs.Trees.{rules_of}
 use Rattle.gs_lossless.proofs.Descent.{last_is, list_long}
-use Rattle.gs_split.specs.Turns.{AreKeyClasses, IsRoundTurn}
+use Rattle.gs_split.specs.Turns.{AreKeyClasses, IsRoundParted}
 use Rattle.gs_split.proofs.Turned.{both_ok, first_parents, list_read, parents_under, round_made}
-use Rattle.gs_split.proofs.turns.round_turn.Goals as goal
+use Rattle.gs_split.proofs.parting.round_parted.Goals as goal
 
 pub parents_in-requires-clause-last : goal.parents_in-requires-clause-last
 parents_in-requires-clause-last c = omega (arith, c.requires.top, last_is (rules_of c.args.signals.now))
@@ -16,8 +16,7 @@ pub round_classes-requires-clause-all : goal.round_classes-requires-clause-all
 round_classes-requires-clause-all c =
     let g = rules_of c.args.signals.now in
     let round = c.args.round in
-    ap (λ (l : List ℕ). length l) c.parents_in.ensures ∙ length-parents g round ∙ sym (signal_count_is g round c.requires.some (omega (arith, c.requires.top, last_is g))) ∙ sym c.in_ok-numbers.ensures.long
-    ∙ ap (λ (l : List ℕ). length l) (sym c.deref-2.ensures.value)
+    ap (λ (l : List ℕ). length l) c.parents_in.ensures ∙ length-parents g round ∙ sym (signal_count_is g round c.requires.some (omega (arith, c.requires.top, last_is g))) ∙ sym c.requires.numbers
 
 pub round_classes-requires-clause-old : goal.round_classes-requires-clause-old
 round_classes-requires-clause-old c =
@@ -27,8 +26,7 @@ round_classes-requires-clause-old c =
     let sound = c.rounds-rounds.ensures.sound in
     let all = sound.classes.rounds ∙ ap (λ (ps : List (List ℕ)). length ps) c.requires.parents in
     let before = list_read c.lists.result.now c.args.classes.now.lists c.from.result round c.index-lists-from.result c.deref.result.now c.lists.ensures.value c.from.ensures c.requires.some (omega (arith, all, c.requires.top)) c.index-lists-from.is c.deref.ensures.value in
-    ap (λ (l : List ℕ). length l) before ∙ list_long g c.args.classes.now c.requires.parents sound round c.requires.some top ∙ sym (signal_count_is g round c.requires.some top) ∙ sym c.in_ok-numbers.ensures.long
-    ∙ ap (λ (l : List ℕ). length l) (sym c.deref-2.ensures.value)
+    ap (λ (l : List ℕ). length l) before ∙ list_long g c.args.classes.now c.requires.parents sound round c.requires.some top ∙ sym (signal_count_is g round c.requires.some top) ∙ sym c.requires.numbers
 
 pub round_classes-requires-clause-few : goal.round_classes-requires-clause-few
 round_classes-requires-clause-few c =
@@ -37,8 +35,7 @@ round_classes-requires-clause-few c =
     let top : round ≤ round_count g = omega (arith, c.requires.top, last_is g) in
     let n = c.args.signals.now.game.now.limits.signals_in round top in
     let m = signal_count_is g round c.requires.some top in
-    let k = ap (λ (l : List ℕ). length l) c.deref-2.ensures.value in
-    omega (arith, n, m, k, c.in_ok-numbers.ensures.long)
+    omega (arith, n, m, c.requires.numbers)
 
 pub round_classes-requires-clause-in_range : goal.round_classes-requires-clause-in_range
 round_classes-requires-clause-in_range c =
@@ -53,14 +50,15 @@ returns c =
     let round = c.args.round in
     let lists = c.args.classes.now.lists in
     let above = c.args.above.now in
+    let numbers = c.args.numbers.now in
     let top : round ≤ round_count g = omega (arith, c.requires.top, last_is g) in
     let all = c.rounds-rounds.ensures.sound.classes.rounds ∙ ap (λ (ps : List (List ℕ)). length ps) c.requires.parents in
     let before = list_read c.lists.result.now lists c.from.result round c.index-lists-from.result c.deref.result.now c.lists.ensures.value c.from.ensures c.requires.some (omega (arith, all, c.requires.top)) c.index-lists-from.is c.deref.ensures.value in
     let ps = c.parents_in.ensures ∙ sym (parents_at g round c.requires.some top) in
     both_ok c.round_classes.result
-    (λ (v : Vec ℕ Global). length v.items ≡ length c.deref-2.result.now)
-    (λ (v : Vec ℕ Global). AreKeyClasses c.deref.result.now above c.parents_in.result.now c.deref-2.result.now v.items)
-    (λ (v : Vec ℕ Global). IsRoundTurn f lists above round v.items)
-    (λ v long h. round_made f lists round above c.in_ok-numbers.numbers.items v.items c.deref.result.now c.parents_in.result.now c.deref-2.result.now before ps c.deref-2.ensures.value c.in_ok-numbers.ensures
+    (λ (v : Vec ℕ Global). length v.items ≡ length numbers)
+    (λ (v : Vec ℕ Global). AreKeyClasses c.deref.result.now above c.parents_in.result.now numbers v.items)
+    (λ (v : Vec ℕ Global). IsRoundParted f lists above numbers round v.items)
+    (λ v long h. round_made f lists round above numbers v.items c.deref.result.now c.parents_in.result.now before ps c.requires.numbers
     (λ i one l. first_parents c.args.signals.now round i one l) c.requires.some long h)
     c.round_classes.ensures.long c.round_classes.ensures.classes

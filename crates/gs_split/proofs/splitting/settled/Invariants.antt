@@ -3,7 +3,7 @@ use Rattle.gs_model.specs.Frame.{frame_of}
 use Rattle.gs_tree.specs.Trees.{rules_of}
 use Rattle.gs_split.specs.Turns.{AreKnown}
 use Rattle.gs_split.proofs.Splits.{IsUnderway}
-use Rattle.gs_split.proofs.splitting.split.Given as goal
+use Rattle.gs_split.proofs.splitting.settled.Given as goal
 
 abbrev pub invariant-loop-total : goal.invariant-loop-total
 invariant-loop-total l = record {

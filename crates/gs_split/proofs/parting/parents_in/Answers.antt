@@ -5,7 +5,7 @@ use Rattle.gs_model.specs.Game.{round_count}
 use Rattle.gs_model.specs.Signals.{parents}
 use Rattle.gs_filter.proofs.RowLaws.{row_read}
 use Rattle.gs_tree.specs.Trees.{rules_of}
-use Rattle.gs_split.proofs.turns.parents_in.Goals as goal
+use Rattle.gs_split.proofs.parting.parents_in.Goals as goal
 
 pub returns : goal.returns
 returns c =

@@ -1,0 +1,12 @@
+use Rattle.std.proofs.Common.{◌≡◌, Option, subst}
+use Rattle.std.specs.Prelude.{MatchOption}
+use Rattle.gs_boards.specs.declared.board_order.BoardOrder.{BoardOrder}
+use Rattle.gs_tree.specs.Plain.{IsPlain}
+use Rattle.gs_tree.specs.Trees.{rules_of}
+use Rattle.gs_tree.specs.Walk.{last_count}
+use Rattle.gs_split.proofs.proposal.last_numbers.Goals as goal
+
+pub deals_apart-requires-clause-order : goal.deals_apart-requires-clause-order
+deals_apart-requires-clause-order c =
+    let s = c.args.signals.now in
+    subst (λ (o : Option BoardOrder). MatchOption o (IsPlain (rules_of s) → last_count (rules_of s) ≡ 0) (λ (b : BoardOrder). b.signals.now ≡ s)) c.in-Some.is c.in_ok-order.ensures

@@ -1,0 +1,29 @@
+use Rattle.std.proofs.Common.{List, Option, ℕ, subst, sym, Vec, Global}
+use Rattle.std.specs.Prelude.{IfSome}
+use Rattle.gs_model.specs.Frame.{frame_of, last_round}
+use Rattle.gs_model.proofs.Ranges.{in_range}
+use Rattle.gs_filter.specs.Rows.{rows}
+use Rattle.gs_tree.specs.Trees.{rules_of}
+use Rattle.gs_lossless.proofs.Descent.{playable}
+use Rattle.gs_split.specs.Proposal.{AreFair, AreFairFrom}
+use Rattle.gs_split.specs.Turns.{HaveNumbers}
+use Rattle.gs_split.proofs.Proposed.{fair_have, parted_proposal}
+use Rattle.gs_split.proofs.proposal.proposal.Goals as goal
+
+pub all_numbers-requires-clause-fair : goal.all_numbers-requires-clause-fair
+all_numbers-requires-clause-fair c =
+    let f = frame_of (rules_of c.args.signals.now) in
+    subst (λ (o : Option (Vec ℕ Global)). IfSome o (λ (v : Vec ℕ Global). AreFair f c.args.from.now.lists (last_round f) v.items)) c.in-Some.is c.in_ok-last.ensures
+
+pub parted-requires-clause-numbers : goal.parted-requires-clause-numbers
+parted-requires-clause-numbers c =
+    let f = frame_of (rules_of c.args.signals.now) in
+    subst (λ (vs : List (Vec ℕ Global)). HaveNumbers f (rows vs)) (sym c.deref.ensures.value) (fair_have f c.args.from.now.lists (rows c.in_ok-numbers.numbers.items) c.in_ok-numbers.ensures)
+
+pub returns-clause-proposal : goal.returns-clause-proposal
+returns-clause-proposal c =
+    let g = rules_of c.args.signals.now in
+    let f = frame_of g in
+    let old = c.args.from.now.lists in
+    let fair = subst (λ (vs : List (Vec ℕ Global)). AreFairFrom f old 1 (rows vs)) (sym c.deref.ensures.value) c.in_ok-numbers.ensures in
+    parted_proposal f old (rows c.deref.result.now) fair (in_range g (playable c.args.signals.now)) c.in_ok-classes.classes.lists c.in_ok-classes.ensures.parted

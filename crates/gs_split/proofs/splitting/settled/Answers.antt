@@ -1,0 +1,50 @@
+use Rattle.std.proofs.Common.{◌∙◌, Bool, List, arith, rules, subst, sym}
+use Rattle.gs_model.specs.Frame.{frame_of}
+use Rattle.gs_model.proofs.Ranges.{in_range}
+use Rattle.gs_tree.specs.Trees.{rules_of}
+use Rattle.gs_lossless.proofs.Descent.{last_is, playable}
+use Rattle.gs_lossless.proofs.Settled.{over}
+use Rattle.gs_split.specs.Turns.{AreKnown}
+use Rattle.gs_split.proofs.Known.{none_known}
+use Rattle.gs_split.proofs.Splits.{ended, one_more}
+use Rattle.gs_split.proofs.splitting.settled.Goals as goal
+
+pub turn-requires-clause-known : goal.turn-requires-clause-known
+turn-requires-clause-known c =
+    let g = rules_of c.args.signals.now in
+    none_known (frame_of g) c.args.from.now.lists c.deref.result.now c.from.result (c.deref.ensures.value ∙ c.in_ok-known.ensures.items_if_clones_equal (λ y k. search rules)) (omega (arith, c.from.ensures, c.rounds.ensures.value, last_is g))
+
+pub loop-total-init : goal.loop-total-init
+loop-total-init c =
+    let g = rules_of c.args.signals.now in
+    record {
+      parents = search rules;
+      known = none_known (frame_of g) c.in_ok-classes.classes.lists c.in_ok-known.known.items c.from.result (c.in_ok-known.ensures.items_if_clones_equal (λ y k. search rules)) (omega (arith, c.from.ensures, c.rounds.ensures.value, last_is g));
+      underway = search rules;
+    }
+
+pub turn-requires-in-loop-total-clause-known : goal.turn-requires-in-loop-total-clause-known
+turn-requires-in-loop-total-clause-known c =
+    subst (λ (k : List Bool). AreKnown (frame_of (rules_of c.args.signals.now)) c.loop-total.classes.lists k) (sym c.deref-in-loop-total.ensures.value) c.loop-total.invariant.known
+
+pub loop-total-preserved : goal.loop-total-preserved
+loop-total-preserved c =
+    let g = rules_of c.args.signals.now in
+    let f = frame_of g in
+    let now = c.loop-total.classes in
+    let k = over f now c.loop-total.invariant.parents c.class_total.ensures.classes in
+    record {
+      parents = c.in_ok-finer.ensures.parents;
+      known = c.in_ok-known-2.ensures;
+      underway = one_more f (in_range g (playable c.args.signals.now)) c.args.from.now.lists now.lists c.loop-total.total k c.loop-total.invariant.underway c.in_ok-finer.finer.lists
+          c.class_total-total-in-loop-total.result c.in_ok-finer.ensures.turn c.class_total-total-in-loop-total.ensures.value;
+    }
+
+pub returns-clause-coarsest : goal.returns-clause-coarsest
+returns-clause-coarsest c =
+    let g = rules_of c.args.signals.now in
+    let f = frame_of g in
+    let p = playable c.args.signals.now in
+    let now = c.loop-total.classes in
+    let k = over f now c.loop-total.invariant.parents c.class_total.ensures.classes in
+    ended f (in_range g p) c.args.from.now.lists now.lists c.loop-total.total k c.loop-total.invariant.underway (omega (arith, last_is g, p.some)) (omega (arith, c.loop-total-test.false, c.class_total.ensures.value))

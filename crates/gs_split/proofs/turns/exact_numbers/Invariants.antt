@@ -1,0 +1,12 @@
+use Rattle.std.proofs.Common.{◌≡◌, length}
+use Rattle.gs_model.specs.Frame.{frame_of}
+use Rattle.gs_filter.specs.Rows.{rows}
+use Rattle.gs_tree.specs.Trees.{rules_of}
+use Rattle.gs_split.proofs.Turned.{AreExactTo}
+use Rattle.gs_split.proofs.turns.exact_numbers.Given as goal
+
+abbrev pub invariant-loop-done : goal.invariant-loop-done
+invariant-loop-done l = record {
+  long : length (rows l.numbers.items) ≡ l.done;
+  each : AreExactTo (frame_of (rules_of l.signals)) l.classes.lists (rows l.numbers.items);
+}

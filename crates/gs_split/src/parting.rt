@@ -1,0 +1,92 @@
+//! Classes parted by numbers of their members.
+
+ghost use Rattle.std.specs.Prelude.{◌≡◌, ◌-◌, ◌<◌, ◌≤◌, IfOk, length};
+ghost use Rattle.gs_model.specs.Frame.{frame_of, last_round, signal_count};
+ghost use Rattle.gs_model.specs.Game.{round_count};
+ghost use Rattle.gs_model.specs.Signals.{parents};
+ghost use Rattle.gs_filter.specs.Rows.{rows};
+ghost use Rattle.gs_tree.specs.Trees.{rules_of};
+ghost use Rattle.gs_split.specs.Turns.{AreParted, HaveNumbers, IsRoundParted, classes_above};
+
+use crate::rounds::round_classes;
+use gs_filter::Classes;
+use gs_tree::Signals;
+use std::alloc::{AllocError, Global};
+
+/// The parent of each signal of a round, by its place in the round before; zeros in round 1.
+pub(crate) fn parents_in<'a>(signals: &'a Signals, round: u8) -> &'a [u32]
+    requires some { 0 < round }
+    requires last { round ≤ round_count (rules_of signals.now) }
+    ensures { result.now ≡ parents (rules_of signals.entry.now) round }
+{
+    &signals.parents()[usize::from(round) - 1]
+}
+
+/// The classes of the last of some rounds; before round 1 one signal, of class 1.
+fn last_classes(lists: &[Vec<u32>]) -> &[u32]
+    ensures { result.now ≡ classes_above (rows lists.entry.now) }
+{
+    match lists.len() {
+        0 => [1].as_slice(),
+        rounds => &lists[rounds - 1],
+    }
+}
+
+/// The new classes of a round, by a number for each signal. `above` has the new classes of the round before.
+fn round_parted(
+    alloc: Global,
+    signals: &Signals,
+    classes: &Classes,
+    round: u8,
+    above: &[u32],
+    numbers: &[u32],
+) -> Result<Vec<u32>, AllocError>
+    requires parents { classes.now.parents ≡ (frame_of (rules_of signals.now)).parents }
+    requires some { 0 < round }
+    requires top { round ≤ last_round (frame_of (rules_of signals.now)) }
+    requires any { round ≡ 1 → 0 < length above.now }
+    requires above { 1 < round → length above.now ≡ signal_count (frame_of (rules_of signals.now)) (round - 1) }
+    requires numbers { length numbers.now ≡ signal_count (frame_of (rules_of signals.now)) round }
+    ensures { IfOk result (λ v. IsRoundParted (frame_of (rules_of signals.now)) classes.now.lists above.now numbers.now round v.items) }
+{
+    let _rounds = classes.rounds();
+    let before = &classes.lists()[usize::from(round) - 1];
+    round_classes(alloc, before, above, parents_in(signals, round), numbers)
+}
+
+/// The new classes of all rounds, by a number for each signal of each round.
+fn parted_lists(
+    alloc: Global,
+    signals: &Signals,
+    classes: &Classes,
+    numbers: &[Vec<u32>],
+) -> Result<Vec<Vec<u32>>, AllocError>
+    requires parents { classes.now.parents ≡ (frame_of (rules_of signals.now)).parents }
+    requires numbers { HaveNumbers (frame_of (rules_of signals.now)) (rows numbers.now) }
+    ensures { IfOk result (λ v. AreParted (frame_of (rules_of signals.now)) classes.now.lists (rows numbers.now) (rows v.items)) }
+{
+    let mut lists = Vec::with_capacity(alloc, usize::from(signals.rounds()))?;
+    for done in 0..signals.rounds() {
+        let above = last_classes(&lists);
+        let here_numbers = &numbers[usize::from(done)];
+        let here = round_parted(alloc, signals, classes, done + 1, above, here_numbers)?;
+        lists.push(here)?;
+    }
+    Ok(lists)
+}
+
+/// Signals of one class stay together where their parents do and their numbers are equal.
+pub(crate) fn parted(
+    alloc: Global,
+    signals: &Signals,
+    classes: &Classes,
+    numbers: &[Vec<u32>],
+) -> Result<Classes, AllocError>
+    requires parents { classes.now.parents ≡ (frame_of (rules_of signals.now)).parents }
+    requires numbers { HaveNumbers (frame_of (rules_of signals.now)) (rows numbers.now) }
+    ensures parents { IfOk result (λ c. c.parents ≡ (frame_of (rules_of signals.now)).parents) }
+    ensures parted { IfOk result (λ c. AreParted (frame_of (rules_of signals.now)) classes.now.lists (rows numbers.now) c.lists) }
+{
+    let lists = parted_lists(alloc, signals, classes, numbers)?;
+    Classes::of_filter(alloc, signals.parents(), lists)
+}

@@ -1,0 +1,209 @@
+//! A proposal for the exact turns: classes parted by mixed sums, which part no more than a turn.
+
+ghost use Rattle.std.specs.Prelude.{◌≡◌, ◌+◌, ◌*◌, ◌/◌, ◌<◌, ◌^◌, ℕ, pos, [], All, IfOk, IfSome, get_or, length, map};
+ghost use Rattle.std.specs.Int.{int_rem_euclid};
+ghost use Rattle.gs_model.specs.Frame.{frame_of, last_round};
+ghost use Rattle.gs_filter.specs.Rows.{rows};
+ghost use Rattle.gs_tree.specs.Trees.{rules_of};
+ghost use Rattle.gs_tree.specs.Walk.{last_count};
+ghost use Rattle.gs_split.specs.Proposal.{AreFair, AreFairFrom, IsProposal, child_number, deal_number, mixed as mixed_of};
+
+use crate::parting::{parents_in, parted};
+use gs_boards::{BoardOrder, Pays};
+use gs_filter::Classes;
+use gs_tree::Signals;
+use std::alloc::{AllocError, Global};
+
+/// An odd factor with no pattern in its bits.
+const SPREAD: u64 = 11_400_714_819_323_198_485;
+
+/// Two to the power of half of the bits of a mixed number.
+const HALF: u64 = 0x1_0000_0000;
+
+/// A number that hangs on another alone, spread over 64 bits.
+#[tactic(auto, unfolding(crate::specs::Proposal::mixed))]
+fn mixed(number: u64) -> u64
+    ensures { result ≡ mixed_of number }
+{
+    let spread = number.wrapping_mul(SPREAD);
+    (spread ^ (spread / HALF)).wrapping_mul(SPREAD)
+}
+
+/// The mixed numbers of classes.
+fn mixed_classes(alloc: Global, classes: &[u32]) -> Result<Vec<u64>, AllocError>
+    ensures { IfOk result (λ v. v.items ≡ map mixed_of classes.now) }
+{
+    let mut numbers = Vec::with_capacity(alloc, classes.len())?;
+    for class in classes {
+        numbers.push(mixed(u64::from(*class)))?;
+    }
+    Ok(numbers)
+}
+
+/// A sum at a place, modulo 2 ^ 32.
+fn folded(sums: &[i128], at: usize) -> u32
+    requires { at < length sums.now }
+    ensures { pos result ≡ int_rem_euclid (get_or sums.now at (pos 0)) (pos (2 ^ 32)) }
+{
+    sums[at].rem_euclid(i128::from(HALF)) as u32
+}
+
+/// Sums modulo 2 ^ 32.
+fn folded_sums(alloc: Global, sums: &[i128]) -> Result<Vec<u32>, AllocError>
+    ensures long { IfOk result (λ v. length v.items ≡ length sums.now) }
+    ensures each { IfOk result (λ v. (s : ℕ) → s < length sums.now → pos (get_or v.items s 0) ≡ int_rem_euclid (get_or sums.now s (pos 0)) (pos (2 ^ 32))) }
+{
+    let mut numbers = Vec::with_capacity(alloc, sums.len())?;
+    for at in 0..sums.len() {
+        numbers.push(folded(sums, at))?;
+    }
+    Ok(numbers)
+}
+
+/// The mixed sums of the last-round signals, by two walks along the boards.
+fn deal_numbers(
+    alloc: Global,
+    order: &BoardOrder<'_>,
+    classes: &[u32],
+) -> Result<Vec<u32>, AllocError>
+    requires { length classes.now ≡ last_count (rules_of order.now.signals.now) }
+    ensures long { IfOk result (λ v. length v.items ≡ length classes.now) }
+    ensures each { IfOk result (λ v. (s : ℕ) → s < length classes.now → pos (get_or v.items s 0) ≡ deal_number (rules_of order.now.signals.now) classes.now s) }
+{
+    let numbers = mixed_classes(alloc, classes)?;
+    let mut sums = vec![in alloc; 0i128; classes.len()]?;
+    order.deal_sums(Pays::Showdown(1), &numbers, &mut sums);
+    folded_sums(alloc, &sums)
+}
+
+/// What a child of a class counts for its parent.
+fn child_term_of(class: u32, number: u32) -> u32
+    ensures { result ≡ mixed_of (class + number * 2 ^ 32) / 2 ^ 32 }
+{
+    (mixed(u64::from(class) + u64::from(number) * HALF) / HALF) as u32
+}
+
+/// For each signal of a round the terms of its children, modulo 2 ^ 32. The children have parents, classes and numbers.
+#[tactic(auto, using(crate::proofs::Proposed::child_none))]
+fn child_numbers(
+    alloc: Global,
+    count: u32,
+    parents: &[u32],
+    classes: &[u32],
+    numbers: &[u32],
+) -> Result<Vec<u32>, AllocError>
+    requires classes { length classes.now ≡ length parents.now }
+    requires numbers { length numbers.now ≡ length parents.now }
+    requires in_range { All (λ p. p < count) parents.now }
+    ensures long { IfOk result (λ v. length v.items ≡ count) }
+    ensures each { IfOk result (λ v. (s : ℕ) → s < count → get_or v.items s 0 ≡ child_number parents.now classes.now numbers.now s) }
+{
+    let mut sums = vec![in alloc; 0u32; count as usize]?;
+    for (child, parent) in parents.iter().enumerate() {
+        let term = child_term_of(classes[child], numbers[child]);
+        let place = *parent as usize;
+        sums[place] = sums[place].wrapping_add(term);
+    }
+    Ok(sums)
+}
+
+/// Fair numbers of the last round, by the order of its signals.
+fn deals_apart(
+    alloc: Global,
+    signals: &Signals,
+    order: &BoardOrder<'_>,
+    classes: &Classes,
+) -> Result<Vec<u32>, AllocError>
+    requires order { order.now.signals.now ≡ signals.now }
+    requires parents { classes.now.parents ≡ (frame_of (rules_of signals.now)).parents }
+    ensures { IfOk result (λ v. AreFair (frame_of (rules_of signals.now)) classes.now.lists (last_round (frame_of (rules_of signals.now))) v.items) }
+{
+    let _rounds = classes.rounds();
+    let last = signals.rounds();
+    let list = &classes.lists()[usize::from(last) - 1];
+    deal_numbers(alloc, order, list)
+}
+
+/// Fair numbers of the last round, where no kind of cards has more than one copy and each player is dealt one private card.
+fn last_numbers(
+    alloc: Global,
+    signals: &Signals,
+    classes: &Classes,
+) -> Result<Option<Vec<u32>>, AllocError>
+    requires { classes.now.parents ≡ (frame_of (rules_of signals.now)).parents }
+    ensures { IfOk result (λ o. IfSome o (λ v. AreFair (frame_of (rules_of signals.now)) classes.now.lists (last_round (frame_of (rules_of signals.now))) v.items)) }
+{
+    let Some(order) = BoardOrder::of(alloc, signals)? else {
+        return Ok(None);
+    };
+    let numbers = deals_apart(alloc, signals, &order, classes)?;
+    Ok(Some(numbers))
+}
+
+/// Fair numbers of a round, by those of the next round.
+fn fair_numbers(
+    alloc: Global,
+    signals: &Signals,
+    classes: &Classes,
+    round: u8,
+    below: &[u32],
+) -> Result<Vec<u32>, AllocError>
+    requires parents { classes.now.parents ≡ (frame_of (rules_of signals.now)).parents }
+    requires some { 0 < round }
+    requires before_last { round < last_round (frame_of (rules_of signals.now)) }
+    requires fair { AreFair (frame_of (rules_of signals.now)) classes.now.lists (round + 1) below.now }
+    ensures { IfOk result (λ v. AreFair (frame_of (rules_of signals.now)) classes.now.lists round v.items) }
+{
+    let _rounds = classes.rounds();
+    let list = &classes.lists()[usize::from(round)];
+    let parents = parents_in(signals, round + 1);
+    child_numbers(alloc, signals.count(round), parents, list, below)
+}
+
+/// The first of some lists.
+fn first_list(lists: &[Vec<u32>]) -> &[u32]
+    requires { 0 < length lists.now }
+    ensures { result.now ≡ get_or (rows lists.entry.now) 0 [] }
+{
+    &lists[0]
+}
+
+/// Fair numbers of all rounds, from the last one up.
+fn all_numbers(
+    alloc: Global,
+    signals: &Signals,
+    classes: &Classes,
+    last: Vec<u32>,
+) -> Result<Vec<Vec<u32>>, AllocError>
+    requires parents { classes.now.parents ≡ (frame_of (rules_of signals.now)).parents }
+    requires fair { AreFair (frame_of (rules_of signals.now)) classes.now.lists (last_round (frame_of (rules_of signals.now))) last.items }
+    ensures { IfOk result (λ v. AreFairFrom (frame_of (rules_of signals.now)) classes.now.lists 1 (rows v.items)) }
+{
+    let mut numbers = Vec::with_capacity(alloc, usize::from(signals.rounds()))?;
+    numbers.push(last)?;
+    for round in (1..signals.rounds()).rev() {
+        let below = first_list(&numbers);
+        let here = fair_numbers(alloc, signals, classes, round, below)?;
+        numbers.insert(0, here)?;
+    }
+    Ok(numbers)
+}
+
+/// Classes between the given ones and their coarsest lossless refinement, where the boards can be walked along: the last round is parted by mixed
+/// sums, and the rounds before it by those of the children.
+pub(crate) fn proposal(
+    alloc: Global,
+    signals: &Signals,
+    from: &Classes,
+) -> Result<Option<Classes>, AllocError>
+    requires { from.now.parents ≡ (frame_of (rules_of signals.now)).parents }
+    ensures parents { IfOk result (λ o. IfSome o (λ c. c.parents ≡ (frame_of (rules_of signals.now)).parents)) }
+    ensures proposal { IfOk result (λ o. IfSome o (λ c. IsProposal (frame_of (rules_of signals.now)) from.now.lists c.lists)) }
+{
+    let Some(last) = last_numbers(alloc, signals, from)? else {
+        return Ok(None);
+    };
+    let numbers = all_numbers(alloc, signals, from, last)?;
+    let classes = parted(alloc, signals, from, &numbers)?;
+    Ok(Some(classes))
+}
