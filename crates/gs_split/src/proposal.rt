@@ -108,7 +108,7 @@ fn child_numbers(
 }
 
 /// Fair numbers of the last round, by the order of its signals.
-fn deals_apart(
+fn order_numbers(
     alloc: Global,
     signals: &Signals,
     order: &BoardOrder<'_>,
@@ -136,7 +136,7 @@ fn last_numbers(
     let Some(order) = BoardOrder::of(alloc, signals)? else {
         return Ok(None);
     };
-    let numbers = deals_apart(alloc, signals, &order, classes)?;
+    let numbers = order_numbers(alloc, signals, &order, classes)?;
     Ok(Some(numbers))
 }
 

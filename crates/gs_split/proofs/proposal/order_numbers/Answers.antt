@@ -11,7 +11,7 @@ use Rattle.gs_lossless.proofs.Descent.{last_is, list_long, playable}
 use Rattle.gs_split.specs.Proposal.{AreFair, deal_number}
 use Rattle.gs_split.proofs.Proposed.{deals_fair}
 use Rattle.gs_split.proofs.Turned.{both_ok, list_read}
-use Rattle.gs_split.proofs.proposal.deals_apart.Goals as goal
+use Rattle.gs_split.proofs.proposal.order_numbers.Goals as goal
 
 pub deal_numbers-requires : goal.deal_numbers-requires
 deal_numbers-requires c =
