@@ -1,10 +1,11 @@
-//! Stand-ins of whole games, against their deals one by one. A separate program counted the boards' hands by rank and key.
+//! Stand-ins of whole games, against their deals one by one. A separate program counted the boards' hands by rank and key, or where bonuses
+//! differ by strength and key.
 
 ghost use Rattle.std.specs.Prelude.{◌≡◌, IfOk, length};
 ghost use Rattle.gs_tree.specs.Trees.{rules_of};
 ghost use Rattle.gs_tree.specs.Walk.{last_count};
 
-use crate::decks::{KUHN, LEDUC, LEDUC_OF_COPIES, RHODE_TJQK, TWO_OWN_CARDS};
+use crate::decks::{KUHN, LEDUC, LEDUC_OF_COPIES, RHODE_OF_BONUSES, RHODE_TJQK, TWO_OWN_CARDS};
 use gs_alike::stand_ins;
 use gs_game::ValidGame;
 use gs_samples::{Sample, game_of};
@@ -87,7 +88,7 @@ struct Case {
     two_keys: u32,
 }
 
-const CASES: [Case; 5] = [
+const CASES: [Case; 6] = [
     Case {
         sample: TWO_OWN_CARDS,
         one_key: 12,
@@ -112,6 +113,11 @@ const CASES: [Case; 5] = [
         sample: RHODE_TJQK,
         one_key: 28,
         two_keys: 322,
+    },
+    Case {
+        sample: RHODE_OF_BONUSES,
+        one_key: 72,
+        two_keys: 222,
     },
 ];
 

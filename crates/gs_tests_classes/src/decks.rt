@@ -102,6 +102,17 @@ pub(crate) const RHODE_TJQK: Sample<'static> = Sample {
     rounds: &[(1, 0, NO_BETS), (0, 1, NO_BETS), (0, 1, NO_BETS)],
 };
 
+/// The same with two suits. Hands above the lowest category win twice what was put, so that boards of one order may pay differently.
+pub(crate) const RHODE_OF_BONUSES: Sample<'static> = Sample {
+    ranks: "TJQK",
+    suits: "sh",
+    copies: "",
+    ranking: Ranking::Three,
+    bonus: (1, 2),
+    ante: 1,
+    rounds: &[(1, 0, NO_BETS), (0, 1, NO_BETS), (0, 1, NO_BETS)],
+};
+
 /// Two own cards and a public one, of four cards with 2, 1, 3 and no copies.
 pub(crate) const TWO_OWN_CARDS: Sample<'static> = Sample {
     ranks: "JQ",
