@@ -1,3 +1,4 @@
+pub mod Each
 pub mod Numbered
 pub mod FirstSeen
 pub mod Agreed

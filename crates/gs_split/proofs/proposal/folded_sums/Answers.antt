@@ -1,6 +1,6 @@
 use Rattle.std.proofs.Common.{◌≡◌, ◌+◌, ◌^◌, ℕ, List, pos, ap, arith, get_or, length, subst, sym}
 use Rattle.std.specs.Int.{int_rem_euclid}
-use Rattle.gs_alike.proofs.Each.{HasEach, each_more, each_none}
+use Rattle.gs_split.proofs.Each.{HasEach, each_more, each_none}
 use Rattle.gs_split.proofs.proposal.folded_sums.Goals as goal
 
 pub loop-at-init : goal.loop-at-init

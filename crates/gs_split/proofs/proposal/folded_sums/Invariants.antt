@@ -1,6 +1,6 @@
 use Rattle.std.proofs.Common.{◌≡◌, ◌^◌, pos, get_or}
 use Rattle.std.specs.Int.{int_rem_euclid}
-use Rattle.gs_alike.proofs.Each.{HasEach}
+use Rattle.gs_split.proofs.Each.{HasEach}
 use Rattle.gs_split.proofs.proposal.folded_sums.Given as goal
 
 abbrev pub invariant-loop-at : goal.invariant-loop-at
