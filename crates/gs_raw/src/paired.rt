@@ -11,9 +11,9 @@ ghost use Rattle.gs_raw.specs.Answers.{AreHandValuesOf, IsHandValueOf};
 ghost use Rattle.gs_raw.specs.Hands.{hand_pays_at, signal_pays, signal_weighs, signals_pay};
 
 use crate::hands::{hand_weight, paid_over};
-use gs_best::{Deviator, Run, end_round, end_value, run_below, signal_total};
+use gs_best::{Deviator, end_round, end_value, run_below, signal_total};
 use gs_frac::Fraction;
-use gs_lossless::descendants;
+use gs_lossless::{Run, descendants};
 use gs_seq::{Abstract, Plan, plus, scaled};
 use std::alloc::{AllocError, Global};
 
