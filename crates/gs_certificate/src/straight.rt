@@ -14,7 +14,7 @@ ghost use Rattle.gs_certificate.specs.Views.{certificate_view, fraction_parts};
 use crate::certificate::Certificate;
 use crate::numerals::number_of as wide_number;
 use gs_frac::{Fraction, is_minus_zero, sign};
-use std::alloc::{AllocError, AllocFailed, Global};
+use std::alloc::{AllocError, Global};
 
 /// Why a certificate was not read straight.
 #[derive(Clone, Copy)]
@@ -25,14 +25,8 @@ pub(crate) enum Stop {
     Memory,
 }
 
-impl From<AllocError> for Stop {
-    fn from(_: AllocError) -> Stop {
-        Stop::Memory
-    }
-}
-
-impl<T: Drop> From<AllocFailed<T>> for Stop {
-    fn from(_: AllocFailed<T>) -> Stop {
+impl<E: Into<AllocError> + Drop> From<E> for Stop {
+    fn from(_: E) -> Stop {
         Stop::Memory
     }
 }

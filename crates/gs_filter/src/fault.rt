@@ -3,7 +3,7 @@
 ghost use Rattle.std.specs.Prelude.{◌≡◌};
 ghost use Rattle.gs_filter.specs.declared.fault.ClassFault.TheVariants.{Memory};
 
-use std::alloc::{AllocError, AllocFailed};
+use std::alloc::AllocError;
 use std::error::Error;
 use std::fmt;
 
@@ -40,18 +40,10 @@ impl fmt::Display for ClassFault {
 
 impl Error for ClassFault {}
 
-impl From<AllocError> for ClassFault {
+impl<E: Into<AllocError> + Drop> From<E> for ClassFault {
     ghost from_gives = { λ _ e. e ≡ Memory };
 
-    fn from(_error: AllocError) -> ClassFault {
-        ClassFault::Memory
-    }
-}
-
-impl<T: Drop> From<AllocFailed<T>> for ClassFault {
-    ghost from_gives = { λ _ e. e ≡ Memory };
-
-    fn from(_error: AllocFailed<T>) -> ClassFault {
+    fn from(_error: E) -> ClassFault {
         ClassFault::Memory
     }
 }

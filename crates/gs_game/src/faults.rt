@@ -3,7 +3,7 @@
 ghost use Rattle.std.specs.Prelude.{◌≡◌};
 ghost use Rattle.gs_game.specs.declared.faults.GameFault.TheVariants.{Memory};
 
-use std::alloc::{AllocError, AllocFailed};
+use std::alloc::AllocError;
 
 /// Why a game is refused. The first that applies is answered, in this order.
 #[derive(Debug, Drop)]
@@ -34,18 +34,10 @@ pub enum GameFault {
     Memory,
 }
 
-impl From<AllocError> for GameFault {
+impl<E: Into<AllocError> + Drop> From<E> for GameFault {
     ghost from_gives = { λ _ e. e ≡ Memory };
 
-    fn from(_e: AllocError) -> GameFault {
-        GameFault::Memory
-    }
-}
-
-impl<T: Drop> From<AllocFailed<T>> for GameFault {
-    ghost from_gives = { λ _ e. e ≡ Memory };
-
-    fn from(_e: AllocFailed<T>) -> GameFault {
+    fn from(_e: E) -> GameFault {
         GameFault::Memory
     }
 }

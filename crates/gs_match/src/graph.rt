@@ -3,7 +3,7 @@
 ghost use Rattle.std.specs.Prelude.{◌≡◌};
 ghost use Rattle.gs_match.specs.declared.graph.NoMatch.TheVariants.{Memory};
 
-use std::alloc::{AllocError, AllocFailed};
+use std::alloc::AllocError;
 use std::error::Error;
 use std::fmt;
 use std::marker::Model;
@@ -63,18 +63,10 @@ impl fmt::Display for NoMatch {
 
 impl Error for NoMatch {}
 
-impl From<AllocError> for NoMatch {
+impl<E: Into<AllocError> + Drop> From<E> for NoMatch {
     ghost from_gives = { λ _ e. e ≡ Memory };
 
-    fn from(_error: AllocError) -> NoMatch {
-        NoMatch::Memory
-    }
-}
-
-impl<T: Drop> From<AllocFailed<T>> for NoMatch {
-    ghost from_gives = { λ _ e. e ≡ Memory };
-
-    fn from(_error: AllocFailed<T>) -> NoMatch {
+    fn from(_error: E) -> NoMatch {
         NoMatch::Memory
     }
 }
