@@ -7,8 +7,9 @@ ghost use Rattle.gs_certify.specs.Certificates.{IsCertified};
 
 use gs_best::round_total;
 use gs_certificate::{certificate_text, make_certificate};
+use gs_file::Version;
 use gs_seq::Abstract;
-use gs_strategy::{Stored, write_strategy};
+use gs_strategy::Stored;
 use std::alloc::{AllocError, Global};
 
 /// A strategy's text in version 2, and behind it the text of its certificate.
@@ -23,14 +24,7 @@ pub(crate) fn certified_text(
     let _rounds = round_total(form);
     let c = make_certificate(alloc, form, &stored.one, &stored.two)?;
     let line = certificate_text(alloc, &c)?;
-    let mut text = write_strategy(
-        alloc,
-        &stored.game,
-        &stored.classes,
-        &stored.one,
-        &stored.two,
-        &stored.verdict,
-    )?;
+    let mut text = stored.text(alloc, Version::Two)?;
     text.extend_from_slice(&line)?;
     Ok(text)
 }

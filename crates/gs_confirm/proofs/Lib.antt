@@ -1,3 +1,3 @@
 pub mod Spots
 pub mod Faults
-pub mod Checks
+pub mod Told

@@ -3,6 +3,7 @@ use Rattle.std.specs.Prelude.{◌≡◌, ◌≢◌, ◌⊎◌, ℕ, List, codes}
 use Rattle.gs_file.specs.Reading.{rules_of}
 use Rattle.gs_model.specs.Lossless.{IsFirstUnlike, IsLossless}
 use Rattle.gs_model.specs.Signals.{signal_at}
+use Rattle.gs_reply.specs.Replies.{Reply, Refuses}
 use Rattle.gs_reply.specs.Refusals.{Limit, Sequences, Cells, Table_numbers, Raw_cells, Refusal, Unlike_pair, Too_large, Wrong_number}
 use Rattle.gs_seq.specs.Stops.{IsSmall, IsStopOf}
 use Rattle.gs_seq.specs.declared.stop.SeqStop.TheVariants.{TooManySequences, TooManyCells}
@@ -52,3 +53,17 @@ IsTrouble s (Unlike_pair round one two) = IsUnlikePair s round one two
 IsTrouble s (Too_large limit) = IsTooLarge s limit
 IsTrouble s (Wrong_number name stated found) = IsWrongNumber s name stated found
 IsTrouble s other = ⊥
+
+-- ---- the refusal for one of them
+
+-- the first unlike pair of classes that are not lossless
+abbrev pub SaysUnlike : Strategy → Reply → Type 0
+SaysUnlike s reply = (round : ℕ) × (one : List ℕ) × (two : List ℕ) × IsUnlikePair s round one two × (reply ≡ Refuses (Unlike_pair round one two))
+
+-- the first limit that a game passes
+abbrev pub SaysLarge : Strategy → Reply → Type 0
+SaysLarge s reply = (limit : Limit) × IsTooLarge s limit × (reply ≡ Refuses (Too_large limit))
+
+-- the first wrong number of a strategy
+abbrev pub SaysWrong : Strategy → Reply → Type 0
+SaysWrong s reply = (name : List ℕ) × (stated : Parts) × (found : Parts) × IsWrongNumber s name stated found × (reply ≡ Refuses (Wrong_number name stated found))

@@ -2,10 +2,11 @@
 #![tactic(auto)]
 
 mod asking;
+mod checks;
 mod commands;
 mod confirming;
 mod numbers;
 mod saying;
 
+pub use checks::{form_of, lossless_of, wrong_of};
 pub use commands::{evaluate_answer, query_answer, upgrade_answer};
-pub use numbers::{Wrong, first_wrong};

@@ -8,7 +8,7 @@ use gs_frac::{Fraction, Verdict};
 
 /// A number by its name, as it is stated and as it was found.
 #[derive(Clone, Copy)]
-pub struct Wrong {
+pub(crate) struct Wrong {
     pub name: &'static str,
     pub stated: Fraction,
     pub found: Fraction,
@@ -35,7 +35,7 @@ fn named(name: &'static str, stated: &Fraction, found: &Fraction) -> Wrong
 }
 
 /// The first of the three numbers that is stated otherwise than it was found.
-pub fn first_wrong(stated: &Verdict, found: &Verdict) -> Option<Wrong>
+pub(crate) fn first_wrong(stated: &Verdict, found: &Verdict) -> Option<Wrong>
     ensures { MatchOption result (numbers_of stated.now ≡ numbers_of found.now)
         (λ w. IsFirstWrong (numbers_of stated.now) (numbers_of found.now) w.name.now (parts_of w.stated) (parts_of w.found)) }
 {

@@ -10,11 +10,12 @@ ghost use Rattle.gs_reply.specs.Replies.{Answers};
 ghost use Rattle.gs_strategy.specs.Views.{stored_view};
 
 use crate::asking::{Ask, Query};
+use gs_file::Version;
 use gs_frac::Fraction;
 use gs_lift::{Mixture, Spot, locate, mix};
 use gs_reply::{Answer, bad_query};
 use gs_seq::{Abstract, Plan};
-use gs_strategy::{Stored, write_strategy};
+use gs_strategy::Stored;
 use gs_text::{mix_text, verdict_text};
 use std::alloc::{AllocError, Global};
 
@@ -78,14 +79,7 @@ fn queried(
 fn upgraded(alloc: Global, stored: &Stored) -> Result<Answer, AllocError>
     ensures { IfOk result (Answers (SaysUpgraded (stored_view stored.now))) }
 {
-    let text = write_strategy(
-        alloc,
-        &stored.game,
-        &stored.classes,
-        &stored.one,
-        &stored.two,
-        &stored.verdict,
-    )?;
+    let text = stored.text(alloc, Version::Two)?;
     Ok(Answer::Prints(text))
 }
 

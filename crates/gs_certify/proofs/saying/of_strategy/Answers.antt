@@ -1,7 +1,12 @@
 use Rattle.std.proofs.Common.{sym, ap, ◌∙◌}
 use Rattle.gs_game.specs.declared.valid.ValidGame.{ValidGame}
 use Rattle.gs_seq.specs.Games.{frame_in}
+use Rattle.gs_strategy.specs.Views.{stored_view}
+use Rattle.gs_certify.proofs.Moved.{unlike_said}
 use Rattle.gs_certify.proofs.saying.of_strategy.Goals as goal
 
-pub of_signals-requires-clause-parents : goal.of_signals-requires-clause-parents
-of_signals-requires-clause-parents c = c.args.stored.now.parents ∙ ap (λ (v : ValidGame). (frame_in v).parents) (sym c.in_ok-signals.ensures)
+pub lossless_of-requires-clause-parents : goal.lossless_of-requires-clause-parents
+lossless_of-requires-clause-parents c = c.args.stored.now.parents ∙ ap (λ (v : ValidGame). (frame_in v).parents) (sym c.in_ok-signals.ensures)
+
+pub returns : goal.returns
+returns c = unlike_said c.args.task.now (stored_view c.args.stored.now) c.in-Err.refusal (rw c.in-Err.is at c.in_ok-lossless.ensures.unlike)

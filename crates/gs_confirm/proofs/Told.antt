@@ -14,13 +14,12 @@ use Rattle.gs_model.specs.Verdict.{IsVerdict}
 use Rattle.gs_model.proofs.Ranges.{signal_count_is}
 use Rattle.gs_model.proofs.Walked.{last_round_of}
 use Rattle.gs_reply.proofs.Refused.{tells_answer}
-use Rattle.gs_reply.specs.Refusals.{Refusal, Unlike_pair, Limit, Too_large, Wrong_number}
+use Rattle.gs_reply.specs.Refusals.{Unlike_pair, Limit, Too_large, Wrong_number}
 use Rattle.gs_reply.specs.Replies.{Answers, Reply, Tells}
 use Rattle.gs_reply.specs.declared.answers.Answer.{Answer}
 use Rattle.gs_seq.specs.Games.{frame_in}
 use Rattle.gs_seq.specs.Plans.{lifted}
 use Rattle.gs_seq.specs.Stops.{IsSmall, IsStopOf}
-use Rattle.gs_seq.specs.declared.plan.Plan.{Plan}
 use Rattle.gs_seq.specs.declared.stop.SeqStop.{SeqStop}
 use Rattle.gs_strategy.specs.Confirmed.{AreNumbersOf, IsConfirmed, frame_of}
 use Rattle.gs_strategy.specs.Values.{Parts, Strategy}
@@ -29,26 +28,33 @@ use Rattle.gs_strategy.specs.declared.stored.Stored.{Stored}
 use Rattle.gs_tree.specs.Texts.{signal_text}
 use Rattle.gs_confirm.proofs.Faults.{answers_map}
 use Rattle.gs_confirm.specs.Commands.{OfConfirmed}
-use Rattle.gs_confirm.specs.Troubles.{IsFirstWrong, IsTrouble, Passes}
+use Rattle.gs_confirm.specs.Troubles.{IsFirstWrong, Passes, SaysLarge, SaysUnlike, SaysWrong}
 
--- a trouble that is told is an answer
-pub trouble_told : (says : Strategy → Reply → Type 0) (s : Strategy) (why : Refusal) (a : Answer) → IsTrouble s why → Tells a why → Answers (OfConfirmed says s) a
-trouble_told says s why a h t = tells_answer (OfConfirmed says s) a why (inr (why, h, refl)) t
+-- what is said of a strategy that is not confirmed is what its command answers
+pub unlike_refused : (says : Strategy → Reply → Type 0) (s : Strategy) (a : Answer) → Answers (SaysUnlike s) a → Answers (OfConfirmed says s) a
+unlike_refused says s a h = answers_map (SaysUnlike s) (OfConfirmed says s) (λ r said. inr (Unlike_pair said.0 said.1 said.2, said.3, said.4)) a h
+
+pub large_refused : (says : Strategy → Reply → Type 0) (s : Strategy) (a : Answer) → Answers (SaysLarge s) a → Answers (OfConfirmed says s) a
+large_refused says s a h = answers_map (SaysLarge s) (OfConfirmed says s) (λ r said. inr (Too_large said.0, said.1, said.2)) a h
+
+pub wrong_refused : (says : Strategy → Reply → Type 0) (s : Strategy) (a : Answer) → Answers (SaysWrong s) a → Answers (OfConfirmed says s) a
+wrong_refused says s a h = answers_map (SaysWrong s) (OfConfirmed says s) (λ r said. inr (Wrong_number said.0 said.1 said.2, said.3, said.4)) a h
+
+pub confirmed_said : (says : Strategy → Reply → Type 0) (s : Strategy) (a : Answer) → IsConfirmed s → Answers (says s) a → Answers (OfConfirmed says s) a
+confirmed_said says s a confirmed h = answers_map (says s) (OfConfirmed says s) (λ r said. inl (confirmed, said)) a h
 
 -- ---- classes
 
-same_game : (says : Strategy → Reply → Type 0) (w v : ValidGame) (c : Filter) (one two : Plan) (n : Verdict) (a : Answer) → w ≡ v → Answers (OfConfirmed says (strategy_of w c one two n)) a → Answers (OfConfirmed says (strategy_of v c one two n)) a
-same_game says w v c one two n a e h = subst (λ (x : ValidGame). Answers (OfConfirmed says (strategy_of x c one two n)) a) e h
-
-pub unlike_told : (says : Strategy → Reply → Type 0) (w : ValidGame) (s : Stored) (round named first second : ℕ) (a : Answer) → w ≡ s.game
+-- the first unlike pair of a strategy's classes, by the texts of its signals
+pub pair_told : (w : ValidGame) (s : Stored) (round named first second : ℕ) (a : Answer) → w ≡ s.game
     → IsFirstUnlike (frame_in w) s.classes.lists round named second → (IsLossless (frame_in w) s.classes.lists → ⊥) → first ≡ first_member s.classes.lists round (class_of s.classes.lists round second)
-    → Tells a (Unlike_pair round (signal_text w.game.deck (signal_at (game_of w.game) round first)) (signal_text w.game.deck (signal_at (game_of w.game) round second))) → Answers (OfConfirmed says (stored_view s)) a
-unlike_told says w s round named first second a e unlike not is t =
+    → Tells a (Unlike_pair round (signal_text w.game.deck (signal_at (game_of w.game) round first)) (signal_text w.game.deck (signal_at (game_of w.game) round second))) → Answers (SaysUnlike (stored_view s)) a
+pair_told w s round named first second a e unlike not is t =
     let same : named ≡ first = unlike.member ∙ sym is in
     let here : IsFirstUnlike (frame_in w) s.classes.lists round first second = subst (λ n. IsFirstUnlike (frame_in w) s.classes.lists round n second) same unlike in
-    same_game says w s.game s.classes s.one s.two s.verdict a e
-    (trouble_told says (strategy_of w s.classes s.one s.two s.verdict) (Unlike_pair round _ _) a
-    (record { first = first; second = second; unlike = here; not_lossless = not; first_text = refl; second_text = refl }) t)
+    let told = tells_answer (SaysUnlike (strategy_of w s.classes s.one s.two s.verdict)) a (Unlike_pair round _ _)
+    (round, _, _, record { first = first; second = second; unlike = here; not_lossless = not; first_text = refl; second_text = refl }, refl) t in
+    subst (λ (x : ValidGame). Answers (SaysUnlike (strategy_of x s.classes s.one s.two s.verdict)) a) e told
 
 -- the two signals of an unlike pair are signals of a round of the game
 pub record IsPairIn (g : Game) (round first second : ℕ) : Type 0 where
@@ -79,8 +85,8 @@ stop_is s w k stop named e f same h =
     let at_classes = subst (λ (x : Filter). IsStopOf (frame_in s.game) x.lists stop) f at_game in
     subst (λ (x : SeqStop). IsStopOf (frame_in s.game) s.classes.lists x) same at_classes
 
-pub large_told : (says : Strategy → Reply → Type 0) (s : Stored) (limit : Limit) (a : Answer) → IsLossless (frame_of (stored_view s)) s.classes.lists → Passes (stored_view s) limit → Tells a (Too_large limit) → Answers (OfConfirmed says (stored_view s)) a
-large_told says s limit a lossless passed t = trouble_told says (stored_view s) (Too_large limit) a (record { lossless = lossless; passed = passed }) t
+pub large_told : (s : Strategy) (limit : Limit) (a : Answer) → IsLossless (frame_of s) s.classes → Passes s limit → Tells a (Too_large limit) → Answers (SaysLarge s) a
+large_told s limit a lossless passed t = tells_answer (SaysLarge s) a (Too_large limit) (limit, record { lossless = lossless; passed = passed }, refl) t
 
 -- ---- numbers
 
@@ -92,14 +98,12 @@ numbers_are s w k n e f h =
     let at_classes = subst (λ (x : Filter). IsVerdict (frame_in s.game) (lifted (frame_in s.game) x.lists s.one) (lifted (frame_in s.game) x.lists s.two) (parts n.value) (parts n.gap1) (parts n.gap2)) f at_game in
     record { value = n.value.reduced; gap1 = n.gap1.reduced; gap2 = n.gap2.reduced; verdict = at_classes }
 
-pub wrong_told : (says : Strategy → Reply → Type 0) (s : Stored) (n : Verdict) (name : List ℕ) (stated found : Parts) (a : Answer) → IsLossless (frame_of (stored_view s)) s.classes.lists → IsSmall (frame_of (stored_view s)) s.classes.lists
-    → AreNumbersOf (stored_view s) (numbers_of n) → IsFirstWrong (numbers_of s.verdict) (numbers_of n) name stated found → Tells a (Wrong_number name stated found) → Answers (OfConfirmed says (stored_view s)) a
-wrong_told says s n name stated found a lossless small are first t =
-    trouble_told says (stored_view s) (Wrong_number name stated found) a (record { lossless = lossless; small = small; numbers = numbers_of n; are = are; first = first }) t
+pub wrong_told : (s : Stored) (n : Verdict) (name : List ℕ) (stated found : Parts) (a : Answer) → IsLossless (frame_of (stored_view s)) s.classes.lists → IsSmall (frame_of (stored_view s)) s.classes.lists
+    → AreNumbersOf (stored_view s) (numbers_of n) → IsFirstWrong (numbers_of s.verdict) (numbers_of n) name stated found → Tells a (Wrong_number name stated found) → Answers (SaysWrong (stored_view s)) a
+wrong_told s n name stated found a lossless small are first t =
+    tells_answer (SaysWrong (stored_view s)) a (Wrong_number name stated found)
+    (name, stated, found, record { lossless = lossless; small = small; numbers = numbers_of n; are = are; first = first }, refl) t
 
-pub confirmed_told : (says : Strategy → Reply → Type 0) (s : Stored) (n : Verdict) (a : Answer) → IsLossless (frame_of (stored_view s)) s.classes.lists → IsSmall (frame_of (stored_view s)) s.classes.lists
-    → AreNumbersOf (stored_view s) (numbers_of n) → numbers_of s.verdict ≡ numbers_of n → Answers (says (stored_view s)) a → Answers (OfConfirmed says (stored_view s)) a
-confirmed_told says s n a lossless small are same h =
-    let own : AreNumbersOf (stored_view s) (numbers_of s.verdict) = subst (AreNumbersOf (stored_view s)) (sym same) are in
-    let confirmed : IsConfirmed (stored_view s) = record { lossless = lossless; small = small; numbers = own } in
-    answers_map (says (stored_view s)) (OfConfirmed says (stored_view s)) (λ r said. inl (confirmed, said)) a h
+pub confirmed : (s : Stored) (n : Verdict) → IsLossless (frame_of (stored_view s)) s.classes.lists → IsSmall (frame_of (stored_view s)) s.classes.lists
+    → AreNumbersOf (stored_view s) (numbers_of n) → numbers_of s.verdict ≡ numbers_of n → IsConfirmed (stored_view s)
+confirmed s n lossless small are same = record { lossless = lossless; small = small; numbers = subst (AreNumbersOf (stored_view s)) (sym same) are }

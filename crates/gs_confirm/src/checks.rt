@@ -1,0 +1,83 @@
+//! The checks that stand before anything is said of a strategy: its classes, its size, its numbers.
+
+ghost use Rattle.std.specs.Prelude.{◌≡◌, IfErr, IfOk, MatchOption};
+ghost use Rattle.gs_model.specs.{Frame.{frame_of as rules_frame}, Lossless.{IsLossless}};
+ghost use Rattle.gs_tree.specs.Trees.{rules_of};
+ghost use Rattle.gs_seq.specs.Stops.{IsSmall};
+ghost use Rattle.gs_strategy.specs.{Confirmed.{IsConfirmed, frame_of}, Views.{stored_view}};
+ghost use Rattle.gs_reply.specs.Replies.{Answers};
+ghost use Rattle.gs_confirm.specs.{Held.{Holds}, Troubles.{SaysLarge, SaysUnlike, SaysWrong}};
+
+use crate::numbers::first_wrong;
+use gs_best::{Work, verdict};
+use gs_lossless::{CheckStop, Lossless, check};
+use gs_reply::{Answer, many_cells, many_sequences, unlike, wrong_number};
+use gs_seq::{Abstract, SeqStop};
+use gs_strategy::Stored;
+use gs_tree::Signals;
+use std::alloc::{AllocError, Global};
+
+/// The lossless classes of a strategy, over the signals of its game; or the refusal that names their first unlike pair.
+pub fn lossless_of<'a>(
+    alloc: Global,
+    stored: &'a Stored,
+    signals: &'a Signals<'a>,
+) -> Result<Result<Lossless<'a>, Answer>, AllocError>
+    requires game { signals.now.game.now ≡ stored.now.game }
+    requires parents { stored.now.classes.parents ≡ (rules_frame (rules_of signals.now)).parents }
+    ensures held { IfOk result (λ found. IfOk found (λ l. Holds l stored.entry.now)) }
+    ensures lossless { IfOk result (λ found. IfOk found (λ _. IsLossless (frame_of (stored_view stored.entry.now)) stored.entry.now.classes.lists)) }
+    ensures unlike { IfOk result (λ found. IfErr found (Answers (SaysUnlike (stored_view stored.entry.now)))) }
+{
+    let classes = &stored.classes;
+    let _rounds = classes.rounds();
+    match check(alloc, signals, classes) {
+        Ok(lossless) => Ok(Ok(lossless)),
+        Err(CheckStop::Unlike { round, second, .. }) => {
+            let first = classes.first(round, classes.class_of(round, second));
+            Ok(Err(unlike(alloc, signals, round, first, second)?))
+        }
+        Err(CheckStop::Memory) => Err(AllocError),
+    }
+}
+
+/// The game of a strategy in sequence form over its classes, or the refusal of a game that is too large.
+pub fn form_of<'a>(
+    alloc: Global,
+    stored: &Stored,
+    lossless: &'a Lossless<'a>,
+) -> Result<Result<Abstract<'a>, Answer>, AllocError>
+    requires held { Holds lossless.now stored.now }
+    requires lossless { IsLossless (frame_of (stored_view stored.now)) stored.now.classes.lists }
+    ensures held { IfOk result (λ found. IfOk found (λ form. Holds form.lossless.now stored.now)) }
+    ensures small { IfOk result (λ found. IfOk found (λ _. IsSmall (frame_of (stored_view stored.now)) stored.now.classes.lists)) }
+    ensures large { IfOk result (λ found. IfErr found (Answers (SaysLarge (stored_view stored.now)))) }
+{
+    match Abstract::of(alloc, lossless) {
+        Ok(form) => Ok(Ok(form)),
+        Err(SeqStop::TooManySequences { player, count }) => {
+            Ok(Err(many_sequences(alloc, player, count)?))
+        }
+        Err(SeqStop::TooManyCells { count }) => Ok(Err(many_cells(alloc, count)?)),
+        Err(SeqStop::Memory) => Err(AllocError),
+    }
+}
+
+/// The refusal that names the first number that a strategy states otherwise than its plans have it; none where it is confirmed.
+pub fn wrong_of(
+    alloc: Global,
+    stored: &Stored,
+    form: &Abstract,
+) -> Result<Option<Answer>, AllocError>
+    requires held { Holds form.now.lossless.now stored.now }
+    requires lossless { IsLossless (frame_of (stored_view stored.now)) stored.now.classes.lists }
+    requires small { IsSmall (frame_of (stored_view stored.now)) stored.now.classes.lists }
+    ensures { IfOk result (λ found. MatchOption found (IsConfirmed (stored_view stored.now)) (Answers (SaysWrong (stored_view stored.now)))) }
+{
+    let mut work = Work::new(alloc, form)?;
+    let found = verdict(form, &stored.one, &stored.two, &mut work);
+    match first_wrong(&stored.verdict, &found) {
+        Some(wrong) => Ok(Some(wrong_number(alloc, wrong.name, &wrong.stated, &wrong.found)?)),
+        None => Ok(None),
+    }
+}
