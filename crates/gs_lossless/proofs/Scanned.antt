@@ -1,5 +1,6 @@
 -- The steps of the scans, and what their answers make of classes.
 use Rattle.std.proofs.Common.{◌≡◌, ◌≢◌, ℕ, ◌+◌, ◌-◌, ◌<◌, ◌≤◌, false, List, length, get_or, set, refl, sym, ap, ◌∙◌, subst, arith, ⊎_elim, reverse, true≢false, Option, Some, None, Vec, Global}
+use Rattle.std.specs.Option.{option_or}
 use Rattle.std.specs.Prelude.{is_some, unwrap_or}
 use Rattle.std.proofs.lemmas.Bool.{cases_eq, cases_lt}
 use Rattle.std.proofs.lemmas.List.{reverse-reverse, get_or-set_other, get_or-set_same}
@@ -7,20 +8,35 @@ use Rattle.gs_filter.specs.Filter.{Filter, IsSound, single_classes}
 use Rattle.gs_filter.proofs.ClassLaws.{single_are_classes}
 use Rattle.gs_filter.proofs.TallyLaws.{first_member_of}
 use Rattle.gs_model.specs.Classes.{ClassLists, class_count, class_of, class_size, first_member, list_of}
-use Rattle.gs_model.specs.Frame.{Frame, last_round, signal_count}
+use Rattle.gs_model.specs.Frame.{Frame, frame_of, last_round, signal_count}
+use Rattle.gs_model.specs.Game.{Game, round_count}
 use Rattle.gs_model.specs.Lossless.{Alike, IsFirstUnlike, IsLossless}
 use Rattle.gs_model.specs.Numbering.{IsNumbered}
+use Rattle.gs_model.specs.Signals.{signals}
+use Rattle.gs_model.proofs.Ranges.{signal_count_is}
 use Rattle.gs_lossless.specs.Amounts.{Agree, AgreesWithFirst, AreAmounts, HasSide}
 use Rattle.gs_lossless.specs.Scans.{AgreeBelow, IsFirstApart, StoredBelow}
 use Rattle.gs_lossless.specs.Stops.{AreAlikeBelow, IsChildrenApart, MatchUnlike}
 use Rattle.gs_lossless.specs.declared.parts.Part.{Part}
 use Rattle.gs_lossless.specs.declared.sides.Side.{Side}
 use Rattle.gs_lossless.specs.declared.sides.Side.TheVariants.{Deals, Children}
+use Rattle.gs_lossless.proofs.Descent.{last_is, list_long}
 use Rattle.gs_lossless.proofs.Settled.{agree_children, agree_deals, alike_from, not_lossless, over, singles}
 
 pub side_in : (f : Frame) (side : Side) (round : ℕ) → HasSide f side round → (0 < round) × (round ≤ last_round f)
 side_in f Deals round h = h
 side_in f Children round h = (h.0, omega (arith, h.1))
+
+pub side_top : (g : Game) (side : Side) (round : ℕ) → HasSide (frame_of g) side round → round ≤ round_count g
+side_top g side round h = let l = side_in (frame_of g) side round h in omega (arith, l.1, last_is g)
+
+-- the signals of a round with a side, by the frame and by the game
+pub side_signals : (g : Game) (side : Side) (round : ℕ) → HasSide (frame_of g) side round → signal_count (frame_of g) round ≡ length (signals g round)
+side_signals g side round h = signal_count_is g round (side_in (frame_of g) side round h).0 (side_top g side round h)
+
+-- and by the lists of classes over the game's parents
+pub side_classes : (g : Game) (l : Filter) → l.parents ≡ (frame_of g).parents → IsSound l → (side : Side) (round : ℕ) → HasSide (frame_of g) side round → length (list_of l.lists round) ≡ length (signals g round)
+side_classes g l e sound side round h = list_long g l e sound round (side_in (frame_of g) side round h).0 (side_top g side round h)
 
 -- ---- sums that are kept
 
@@ -74,12 +90,8 @@ pub children_from : (f : Frame) (lists : ClassLists) (round end : ℕ) (r : Opti
 children_from f lists round end None l h = λ _. h
 children_from f lists round end (Some s) l h = (l, h)
 
-abbrev pub or_else : Option ℕ → Option ℕ → Option ℕ
-or_else (Some s) other = Some s
-or_else None other = other
-
 pub unlike_from : (f : Frame) (lists : ClassLists) (round : ℕ) → 0 < round → (apart r : Option ℕ) → IsFirstApart f lists Deals round (signal_count f round) apart
-    → IsChildrenApart f lists round (unwrap_or apart (signal_count f round)) r → MatchUnlike f lists round (or_else r apart)
+    → IsChildrenApart f lists round (unwrap_or apart (signal_count f round)) r → MatchUnlike f lists round (option_or r apart)
 unlike_from f lists round some None None h k = λ s l. alike_from f lists round (first_member lists round (class_of lists round s)) s some (h s l) (λ b. k b s l)
 unlike_from f lists round some (Some t) None h k = (
   h.0,

@@ -2,3 +2,4 @@ pub mod Sums
 pub mod Amounts
 pub mod Scans
 pub mod Stops
+pub mod Stopped

@@ -108,10 +108,8 @@ fn unlike_in(
     let count = signals.count(round);
     let apart = first_deals_apart(alloc, signals, classes, round, count)?;
     let end = apart.unwrap_or(count);
-    match children_apart(alloc, signals, classes, round, end)? {
-        Some(signal) => Ok(Some(signal)),
-        None => Ok(apart),
-    }
+    let before = children_apart(alloc, signals, classes, round, end)?;
+    Ok(before.or(apart))
 }
 
 /// The first unlike pair, or none where the classes are lossless.

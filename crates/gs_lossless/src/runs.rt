@@ -18,7 +18,7 @@ pub struct Run {
 }
 
 /// The parent of each signal of a round, by its place in the round before; zeros in round 1.
-fn parents_in<'a>(signals: &'a Signals, round: u8) -> &'a [u32]
+pub fn parents_in<'a>(signals: &'a Signals, round: u8) -> &'a [u32]
     requires some { 0 < round }
     requires last { round ≤ round_count (rules_of signals.now) }
     ensures { result.now ≡ parents (rules_of signals.entry.now) round }

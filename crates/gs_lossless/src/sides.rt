@@ -103,44 +103,6 @@ fn child_parts(
     Ok(parts)
 }
 
-/// The sums of a signal's children, by the classes of the keys.
-fn child_sums(
-    alloc: Global,
-    signals: &Signals,
-    round: u8,
-    keys: &[u32],
-    signal: u32,
-) -> Result<Vec<Part>, AllocError>
-    requires side { HasSide (frame_of (rules_of signals.now)) Side.Children round }
-    requires all { length keys.now ≡ key_count (rules_of signals.now) Side.Children round }
-    requires in_range { signal < length (signals_in (rules_of signals.now) round) }
-    ensures { IfOk result (λ v. (lists : ClassLists) → keys.now ≡ keys_of (frame_of (rules_of signals.now)) lists Side.Children round
-        → AreAmounts (frame_of (rules_of signals.now)) lists Side.Children round signal (reverse v.items)) }
-{
-    let parts = child_parts(alloc, signals, round, signal, keys)?;
-    sums_of(alloc, parts)
-}
-
-/// The sums of a signal's deals, by the classes of the keys, and in the last round by outcomes.
-fn deal_sums(
-    alloc: Global,
-    signals: &Signals,
-    round: u8,
-    keys: &[u32],
-    signal: u32,
-) -> Result<Vec<Part>, AllocError>
-    requires side { HasSide (frame_of (rules_of signals.now)) Side.Deals round }
-    requires all { length keys.now ≡ key_count (rules_of signals.now) Side.Deals round }
-    requires in_range { signal < length (signals_in (rules_of signals.now) round) }
-    ensures { IfOk result (λ v. (lists : ClassLists) → keys.now ≡ keys_of (frame_of (rules_of signals.now)) lists Side.Deals round
-        → AreAmounts (frame_of (rules_of signals.now)) lists Side.Deals round signal (reverse v.items)) }
-{
-    let run = descendants(signals, round, signal);
-    let by_outcome = round == signals.rounds();
-    let parts = run_parts(alloc, signals, keys, by_outcome, run)?;
-    sums_of(alloc, parts)
-}
-
 /// The sums of a signal on one side, in descending order, by class and then by outcome. `keys` are those of the side. Signals that agree on the side
 /// have one list of sums, and no others have.
 pub fn side_sums(
@@ -157,8 +119,12 @@ pub fn side_sums(
     ensures { IfOk result (λ v. (lists : ClassLists) → keys.now ≡ keys_of (frame_of (rules_of signals.now)) lists side round
         → AreAmounts (frame_of (rules_of signals.now)) lists side round signal (reverse v.items)) }
 {
-    match side {
-        Side::Children => child_sums(alloc, signals, round, keys, signal),
-        Side::Deals => deal_sums(alloc, signals, round, keys, signal),
-    }
+    let parts = match side {
+        Side::Children => child_parts(alloc, signals, round, signal, keys)?,
+        Side::Deals => {
+            let run = descendants(signals, round, signal);
+            run_parts(alloc, signals, keys, round == signals.rounds(), run)?
+        }
+    };
+    sums_of(alloc, parts)
 }

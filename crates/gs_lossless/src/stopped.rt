@@ -2,14 +2,15 @@
 //!
 //! After a round all pairs of signals go on in as many ways, so the deals of the game that stops there are compared in place of all deals.
 
-ghost use Rattle.std.specs.Prelude.{◌≡◌, ◌<◌, ◌≤◌, ◌++◌, ◌∷◌, [], IfOk, IfSome, length, take};
+ghost use Rattle.std.specs.Prelude.{◌≡◌, ◌<◌, ◌≤◌, IfOk, IfSome, MatchOption, length};
 ghost use Rattle.gs_filter.specs.Rows.{rows};
-ghost use Rattle.gs_model.specs.Classes.{list_of};
+ghost use Rattle.gs_model.specs.Classes.{IsClasses, list_of};
 ghost use Rattle.gs_model.specs.Frame.{frame_of};
 ghost use Rattle.gs_model.specs.Signals.{signals as signals_in};
 ghost use Rattle.gs_tree.specs.Trees.{rules_of};
 ghost use Rattle.gs_lossless.specs.Amounts.{HasSide};
 ghost use Rattle.gs_lossless.specs.Scans.{IsFirstApart};
+ghost use Rattle.gs_lossless.specs.Stopped.{stopped_lists as lists_after};
 ghost use Rattle.gs_lossless.specs.declared.sides.Side.TheVariants.{Deals};
 
 use crate::scan::first_apart;
@@ -22,7 +23,7 @@ use std::alloc::{AllocError, Global};
 fn stopped_lists(alloc: Global, classes: &Classes, round: u8) -> Result<Vec<Vec<u32>>, AllocError>
     requires some { 0 < round }
     requires top { round ≤ length classes.now.lists }
-    ensures { IfOk result (λ v. rows v.items ≡ take round classes.now.lists ++ list_of classes.now.lists round ∷ []) }
+    ensures { IfOk result (λ v. rows v.items ≡ lists_after classes.now.lists round) }
 {
     let lists = classes.lists();
     let mut stopped = Vec::new(alloc);
@@ -44,12 +45,17 @@ pub fn stopped_classes(
     requires top { round ≤ length classes.now.lists }
     ensures parents { IfOk result (λ o. IfSome o (λ c. c.parents ≡ (frame_of (rules_of stopped.now)).parents)) }
     ensures same { IfOk result (λ o. IfSome o (λ c. list_of c.lists round ≡ list_of classes.now.lists round)) }
+    // They are given exactly where they are classes there.
+    ensures whenever { IfOk result (λ o. MatchOption o (IsClasses (frame_of (rules_of stopped.now)).parents (lists_after classes.now.lists round) → ⊥)
+        (λ c. c.lists ≡ lists_after classes.now.lists round)) }
 {
     let lists = stopped_lists(alloc, classes, round)?;
     match Classes::new(alloc, stopped.parents(), lists) {
         Ok(classes) => Ok(Some(classes)),
-        Err(ClassFault::Memory) => Err(AllocError),
-        Err(_) => Ok(None),
+        Err(fault) => match fault {
+            ClassFault::Memory => Err(AllocError),
+            _ => Ok(None),
+        },
     }
 }
 

@@ -1,16 +1,16 @@
 use Rattle.std.proofs.lemmas.List.{length-set}
-use Rattle.std.proofs.Common.{true, false, true≢false, rules, ◌≡◌, ◌≢◌, ◌+◌, ◌-◌, ◌<◌, ◌≤◌, ℕ, List, ap, get_or, length, set, sym, ◌∙◌, subst, arith, reverse, Vec, Global}
+use Rattle.std.proofs.Common.{true, false, true≢false, rules, ◌≡◌, ◌≢◌, ◌+◌, ◌-◌, ◌≤◌, ℕ, List, ap, get_or, length, set, sym, ◌∙◌, subst, arith, reverse, Vec, Global}
 use Rattle.gs_model.specs.Classes.{class_of, class_size, first_member}
 use Rattle.gs_model.specs.Frame.{frame_of}
 use Rattle.gs_tree.specs.Trees.{rules_of}
-use Rattle.gs_lossless.specs.Amounts.{Agree}
+use Rattle.gs_lossless.specs.Amounts.{Agree, AreAmounts}
 use Rattle.gs_lossless.specs.Scans.{StoredBelow}
 use Rattle.gs_lossless.specs.declared.parts.Part.{Part}
 use Rattle.gs_lossless.proofs.Descent.{keys_long, last_is, list_long, playable}
 use Rattle.gs_lossless.proofs.Scanned.{reverse_one, agree_more, agree_self, side_in, stored_first, stored_later, stored_single}
 use Rattle.gs_lossless.proofs.Settled.{first_le, agree_if_same, same_if_agree, single_agrees}
 use Rattle.gs_lossless.proofs.scan.first_apart.Goals as goal
-use Rattle.gs_lossless.proofs.scan.first_apart.Goals.{then-first-signal, else-first-signal+else-not-are_same}
+use Rattle.gs_lossless.proofs.scan.first_apart.Goals.{After-first, then-first-signal, else-first-signal+else-not-are_same}
 
 pub class_of-class-requires-clause-within : goal.class_of-class-requires-clause-within
 class_of-class-requires-clause-within c =
@@ -44,35 +44,34 @@ loop-signal-preserved-then-size-eq1 c =
           (single_agrees f lists c.args.side c.args.round c.loop-signal.signal (omega (arith, long, c.requires.within)) one);
     }
 
+-- the first member of the class stands before another one, and its sums are kept
+earlier : (c : After-first) → c.first.result ≢ c.loop-signal.signal → (d : Vec Part Global)
+    → AreAmounts (frame_of (rules_of c.args.signals.now)) c.args.classes.now.lists c.args.side c.args.round (first_member c.args.classes.now.lists c.args.round c.class_of-class.result) (reverse (get_or c.loop-signal.kept.items (c.class_of-class.result - 1) d).items)
+earlier c other d =
+    let g = rules_of c.args.signals.now in
+    let lists = c.args.classes.now.lists in
+    let h = side_in (frame_of g) c.args.side c.args.round c.requires.side in
+    let long = list_long g c.args.classes.now c.requires.parents c.rounds-rounds.ensures.sound c.args.round h.0 (omega (arith, h.1, last_is g)) in
+    let le = first_le lists c.args.round c.loop-signal.signal (omega (arith, long, c.requires.within)) in
+    let own = ap (first_member lists c.args.round) c.class_of-class.ensures.value in
+    c.loop-signal.invariant.stored c.class_of-class.result d c.class_of-class.ensures.class.0 c.class_of-class.ensures.class.1 (omega (arith, le, own, c.first.ensures.value, other))
+    (λ one. c.if-size-eq1.false (c.size.ensures ∙ one))
+
 pub returns-then-not-are_same : goal.returns-then-not-are_same
 returns-then-not-are_same c =
-    let g = rules_of c.args.signals.now in
-    let f = frame_of g in
+    let f = frame_of (rules_of c.args.signals.now) in
     let lists = c.args.classes.now.lists in
-    let side = c.args.side in
-    let round = c.args.round in
-    let signal = c.loop-signal.signal in
-    let kept = c.loop-signal.kept.items in
-    let class = c.class_of-class.result in
+    let kept = get_or c.loop-signal.kept.items (c.class_of-class.result - 1) c.index.result.now in
     let sums = c.in_ok-sums.sums in
-    let d = c.index.result.now in
-    let h = side_in f side round c.requires.side in
-    let long = list_long g c.args.classes.now c.requires.parents c.rounds-rounds.ensures.sound round h.0 (omega (arith, h.1, last_is g)) in
-    let is = c.class_of-class.ensures.value in
-    let under : first_member lists round class < signal =
-    let le = first_le lists round signal (omega (arith, long, c.requires.within)) in
-    let own = ap (first_member lists round) is in
-    omega (arith, le, own, c.first.ensures.value, c.if-first-signal.false) in
-    let many : class_size lists round class ≢ 1 = λ q. c.if-size-eq1.false (c.size.ensures ∙ q) in
-    let first = c.loop-signal.invariant.stored class d c.class_of-class.ensures.class.0 c.class_of-class.ensures.class.1 under many in
+    let first = earlier (goal.at.returns-then-not-are_same c).After-first c.if-first-signal.false c.index.result.now in
     let here = c.in_ok-sums.ensures lists (c.deref.ensures.value ∙ c.in_ok-keys.ensures) in
     let no : c.are_same.result ≡ false = search rules in (
       c.loop-signal-test.true,
       c.loop-signal.invariant.agree,
       (λ a.
-          let b = subst (λ (x : ℕ). Agree f lists side round (first_member lists round x) signal) (sym is) a in
-          let e = same_if_agree f lists side round (first_member lists round class) signal (reverse (get_or kept (class - 1) d).items) (reverse sums.items) first here b in
-          let items = reverse_one (get_or kept (class - 1) d).items sums.items e in
+          let own = subst (λ (x : ℕ). Agree f lists c.args.side c.args.round (first_member lists c.args.round x) c.loop-signal.signal) (sym c.class_of-class.ensures.value) a in
+          let turned = same_if_agree f lists c.args.side c.args.round (first_member lists c.args.round c.class_of-class.result) c.loop-signal.signal (reverse kept.items) (reverse sums.items) first here own in
+          let items = reverse_one kept.items sums.items turned in
           let same = c.deref-else-first-signal.ensures.value ∙ ap (λ (v : Vec Part Global). v.items) c.index.ensures ∙ items ∙ sym c.deref-else-first-signal-2.ensures.value in
           true≢false (sym (c.are_same.ensures.1 same) ∙ no)),
     )
@@ -92,7 +91,6 @@ loop-signal-preserved c =
     let sound = c.rounds-rounds.ensures.sound in
     let top : round ≤ length c.args.classes.now.parents = omega (arith, h.1, ap (λ (ps : List (List ℕ)). length ps) c.requires.parents) in
     let n = sound.classes.numbered round h.0 top in
-    let long = list_long g c.args.classes.now c.requires.parents sound round h.0 (omega (arith, h.1, last_is g)) in
     let is = c.class_of-class.ensures.value in
     let in_class = c.class_of-class.ensures.class in
     let here = c.in_ok-sums.ensures lists (c.deref.ensures.value ∙ c.in_ok-keys.ensures) in
@@ -111,12 +109,7 @@ loop-signal-preserved c =
           let items = ap (λ (v : Vec (Vec Part Global) Global). v.items) w.kept-is in
           let d = w.index.result.now in
           let later : first_member lists round (class_of lists round signal) ≡ signal → ⊥ = λ q. w.if-first-signal.false (c.first.ensures.value ∙ ap (first_member lists round) is ∙ q) in
-          let under : first_member lists round class < signal =
-          let le = first_le lists round signal (omega (arith, long, c.requires.within)) in
-          let own = ap (first_member lists round) is in
-          omega (arith, le, own, c.first.ensures.value, w.if-first-signal.false) in
-          let many : class_size lists round class ≢ 1 = λ q. c.if-size-eq1.false (c.size.ensures ∙ q) in
-          let first = c.loop-signal.invariant.stored class d in_class.0 in_class.1 under many in
+          let first = earlier (goal.at.loop-signal-preserved c).After-first w.if-first-signal.false d in
           let yes : w.are_same.result ≡ true = search rules in
           let same = ap (λ (v : Vec Part Global). reverse v.items) (sym w.index.ensures) ∙ ap reverse (sym w.deref-else-first-signal.ensures.value ∙ w.are_same.ensures.0 yes ∙ w.deref-else-first-signal-2.ensures.value) in
           let agrees = agree_if_same f lists side round (first_member lists round class) signal (reverse (get_or kept (class - 1) d).items) (reverse sums.items) first here same in

@@ -1,7 +1,21 @@
-use Rattle.std.proofs.Common.{sym, subst}
+use Rattle.std.proofs.Common.{List, ℕ, sym, subst}
+use Rattle.gs_filter.specs.Faults.{IsFaultOf}
 use Rattle.gs_filter.specs.Filter.{AreParents}
+use Rattle.gs_filter.specs.Rows.{rows}
+use Rattle.gs_filter.proofs.Kept.{classes_kept}
+use Rattle.gs_model.specs.Classes.{ClassLists}
+use Rattle.gs_model.specs.Frame.{frame_of}
+use Rattle.gs_tree.specs.Trees.{rules_of}
+use Rattle.gs_lossless.specs.Stopped.{stopped_lists}
 use Rattle.gs_lossless.proofs.Descent.{are_parents}
 use Rattle.gs_lossless.proofs.stopped.stopped_classes.Goals as goal
 
 pub new-requires : goal.new-requires
 new-requires c = subst AreParents (sym c.parents.ensures) (are_parents c.args.stopped.now)
+
+pub returns-in_default-clause-whenever : goal.returns-in_default-clause-whenever
+returns-in_default-clause-whenever c = λ classes.
+    let parents = (frame_of (rules_of c.args.stopped.now)).parents in
+    let lists = stopped_lists c.args.classes.now.lists c.args.round in
+    let fault = subst (λ (ls : ClassLists). IsFaultOf (rows c.parents.result.now) ls c.in-Err.fault) c.in_ok-lists.ensures c.in-Err.ensures.refused in
+    classes_kept parents lists c.in-Err.fault classes c.in_default.not-Memory (subst (λ (ps : List (List ℕ)). IsFaultOf ps lists c.in-Err.fault) c.parents.ensures fault)
