@@ -18,7 +18,8 @@ use Rattle.gs_model.proofs.Children.{children-run}
 use Rattle.gs_model.proofs.Order.{sorts_equal}
 use Rattle.gs_model.proofs.Ranges.{length-flat_map_map, length-parents}
 use Rattle.gs_model.proofs.Signatures.{Matched-map, Matched-unmap}
-use Rattle.gs_iso.specs.Numbers.{AreMarks, IsKeyClasses, IsNumbering, child_part, marks_under}
+use Rattle.gs_numbers.specs.Numbers.{IsKeyClasses}
+use Rattle.gs_iso.specs.Numbers.{AreMarks, IsNumbering, child_part, class_key, marks_under}
 use Rattle.gs_iso.specs.Orders.{mark_lt}
 use Rattle.gs_iso.proofs.Exact.{mark_order, mark_ranks, pairs}
 use Rattle.gs_iso.proofs.Rounds.{classes_like}
@@ -140,7 +141,7 @@ AreRoundClasses g round classes = IsClassesOf (λ i j. SameClass g round (signal
 
 -- by the classes of a round and the numbers of the next, the classes of equal keys are those of the next round
 pub next_classes : (g : Game) (round : ℕ) (above numbers classes : List ℕ) → length above ≡ length (signals g round) → AreRoundClasses g round above
-    → IsNumbering g (suc round) numbers → length classes ≡ length numbers → IsKeyClasses above (parents g (suc round)) numbers classes → AreRoundClasses g (suc round) classes
+    → IsNumbering g (suc round) numbers → length classes ≡ length numbers → IsKeyClasses (class_key above (parents g (suc round)) numbers) classes → AreRoundClasses g (suc round) classes
 next_classes g round above numbers classes la ha n long h =
     classes_like (λ i j. key i ≡ key j) (λ i j. SameClass g (suc round) (signal_at g (suc round) i) (signal_at g (suc round) j)) classes like h
   where

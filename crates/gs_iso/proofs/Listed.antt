@@ -10,7 +10,8 @@ use Rattle.gs_model.proofs.Ranges.{length-parents}
 use Rattle.gs_game.specs.Limits.{IsWithinLimits}
 use Rattle.gs_filter.specs.Rows.{rows}
 use Rattle.gs_filter.proofs.RowLaws.{length-rows, row_read}
-use Rattle.gs_iso.specs.Numbers.{AreNumberings, IsKeyClasses, IsNumbering, classes_above}
+use Rattle.gs_numbers.specs.Numbers.{IsKeyClasses}
+use Rattle.gs_iso.specs.Numbers.{AreNumberings, IsNumbering, class_key, classes_above}
 use Rattle.gs_iso.proofs.Below.{AreRoundClasses, next_classes}
 use Rattle.gs_model.proofs.Extends.{parents_below}
 
@@ -80,10 +81,10 @@ ready g round above ps numbers limits l a is n = record {
 
 -- with the classes of a round, those of the next
 pub classes_next : (g : Game) (round : ℕ) (above numbers classes : List ℕ) → AreClassesIn g round above → IsNumbering g (suc round) numbers
-    → length classes ≡ length numbers → (ps : List ℕ) → ps ≡ parents g (suc round) → IsKeyClasses above ps numbers classes → AreClassesIn g (suc round) classes
+    → length classes ≡ length numbers → (ps : List ℕ) → ps ≡ parents g (suc round) → IsKeyClasses (class_key above ps numbers) classes → AreClassesIn g (suc round) classes
 classes_next g round above numbers classes a n long ps is h = record {
   long = long ∙ n.long;
-  grouped = next_classes g round above numbers classes a.long a.grouped n long (subst (λ ps. IsKeyClasses above ps numbers classes) is h);
+  grouped = next_classes g round above numbers classes a.long a.grouped n long (subst (λ ps. IsKeyClasses (class_key above ps numbers) classes) is h);
 }
 
 -- the lists of all rounds are signal classes

@@ -9,8 +9,8 @@ ghost use Rattle.gs_tree.specs.Trees.{rules_of};
 ghost use Rattle.gs_iso.specs.Numbers.{AreMarks, IsNumbering, child_part, marks_under};
 ghost use Rattle.gs_iso.specs.Orders.{mark_lt};
 
-use crate::numbers::{number_of, number_of_list};
 use crate::parts::Child;
+use gs_numbers::{number_of, number_of_list};
 use gs_tree::Signals;
 use indexmap::IndexSet;
 use std::alloc::{AllocError, Global};

@@ -1,10 +1,11 @@
 //! The classes of one round.
 
 ghost use Rattle.std.specs.Prelude.{◌≡◌, ◌+◌, ◌≤◌, ◌<◌, ◌^◌, All, IfOk, IfSome, length};
-ghost use Rattle.gs_iso.specs.Numbers.{HasClassOf, IsKeyClasses};
+ghost use Rattle.gs_numbers.specs.Numbers.{HasClassOf, IsKeyClasses};
+ghost use Rattle.gs_iso.specs.Numbers.{class_key};
 
-use crate::numbers::number_of;
 use crate::parts::ClassKey;
+use gs_numbers::number_of;
 use indexmap::IndexSet;
 use std::alloc::{AllocError, Global};
 use std::mem;
@@ -29,7 +30,7 @@ fn class_again(
     requires all { length parents.now ≡ length numbers.now }
     requires within { length classes.now ≤ length numbers.now }
     requires in_range { All (λ p. p < length above.now) parents.now }
-    ensures { IfSome result (HasClassOf above.now parents.now numbers.now classes.now key) }
+    ensures { IfSome result (HasClassOf (class_key above.now parents.now numbers.now) classes.now key) }
 {
     let place = item as usize;
     if classes.len() <= place || numbers[place] != key.number {
@@ -53,7 +54,7 @@ pub(crate) fn round_classes(
     requires few { length numbers.now + 1 < 2 ^ 32 }
     requires in_range { All (λ p. p < length above.now) parents.now }
     ensures long { IfOk result (λ v. length v.items ≡ length numbers.now) }
-    ensures classes { IfOk result (λ v. IsKeyClasses above.now parents.now numbers.now v.items) }
+    ensures classes { IfOk result (λ v. IsKeyClasses (class_key above.now parents.now numbers.now) v.items) }
 {
     let most = numbers.iter().max().copied().unwrap_or(0);
     let mut last = vec![in alloc; 0; most as usize + 1]?;

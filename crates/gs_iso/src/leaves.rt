@@ -9,9 +9,9 @@ ghost use Rattle.gs_tree.specs.Walk.{last_count};
 ghost use Rattle.gs_iso.specs.Orders.{leaf_mark, leaf_of};
 ghost use Rattle.gs_iso.specs.Numbers.{IsLeafSignature, IsNumbering};
 
-use crate::numbers::number_of_list;
 use crate::parts::Leaf;
 use gs_alike::stand_ins;
+use gs_numbers::number_of_list;
 use gs_tree::{Deal, Deals, Signals};
 use indexmap::IndexSet;
 use std::alloc::{AllocError, Global};

@@ -5,7 +5,6 @@ mod children;
 mod classes;
 mod equals;
 mod leaves;
-mod numbers;
 mod pairings;
 mod parts;
 mod signal_classes;

@@ -1,6 +1,4 @@
 pub mod Each
-pub mod Numbered
-pub mod FirstSeen
 pub mod Agreed
 pub mod Turned
 pub mod Splits

@@ -17,7 +17,8 @@ use Rattle.gs_filter.proofs.RowLaws.{length-rows, row_read}
 use Rattle.gs_tree.specs.Trees.{rules_of}
 use Rattle.gs_tree.specs.declared.signals.Signals.{Signals}
 use Rattle.gs_lossless.proofs.Descent.{playable}
-use Rattle.gs_split.specs.Turns.{AreExact, AreKeyClasses, AreParted, AreTurnNumbers, HaveNumbers, IsRoundParted, StayInRound, classes_above, turn_key}
+use Rattle.gs_numbers.specs.Numbers.{IsKeyClasses}
+use Rattle.gs_split.specs.Turns.{AreExact, AreParted, AreTurnNumbers, HaveNumbers, IsRoundParted, StayInRound, classes_above, turn_key}
 use Rattle.gs_split.proofs.Agreed.{triples}
 
 -- classes of a relation are classes of one that says the same
@@ -68,7 +69,7 @@ module _ (s : Signals) where
 -- signals with one key stay together
 round_turned : (f : Frame) (old : ClassLists) (round : ℕ) (above numbers list : List ℕ) → length numbers ≡ signal_count f round
     → ((i : ℕ) → round ≡ 1 → i < signal_count f round → get_or (parents_of f round) i 0 ≡ 0) → 0 < round → length list ≡ length numbers
-    → AreKeyClasses (list_of old round) above (parents_of f round) numbers list → IsRoundParted f old above numbers round list
+    → IsKeyClasses (turn_key (list_of old round) above (parents_of f round) numbers) list → IsRoundParted f old above numbers round list
 round_turned f old round above numbers list n first some long h = record {
   long = long ∙ n;
   classes = classes_like (λ i j. key i ≡ key j) (StayInRound f old above numbers round) list both h;
@@ -91,10 +92,10 @@ round_turned f old round above numbers list n first some long h = record {
 
 pub round_made : (f : Frame) (old : ClassLists) (round : ℕ) (above numbers list before ps : List ℕ) → before ≡ list_of old round → ps ≡ parents_of f round → length numbers ≡ signal_count f round
     → ((i : ℕ) → round ≡ 1 → i < signal_count f round → get_or (parents_of f round) i 0 ≡ 0) → 0 < round → length list ≡ length numbers
-    → AreKeyClasses before above ps numbers list → IsRoundParted f old above numbers round list
+    → IsKeyClasses (turn_key before above ps numbers) list → IsRoundParted f old above numbers round list
 round_made f old round above numbers list before ps eb ep n first some long h =
-    let h1 = subst (λ b. AreKeyClasses b above ps numbers list) eb h in
-    let h2 = subst (λ p. AreKeyClasses (list_of old round) above p numbers list) ep h1 in
+    let h1 = subst (λ b. IsKeyClasses (turn_key b above ps numbers) list) eb h in
+    let h2 = subst (λ p. IsKeyClasses (turn_key (list_of old round) above p numbers) list) ep h1 in
     round_turned f old round above numbers list n first some long h2
 
 -- the list of a round that is read

@@ -1,6 +1,5 @@
 -- What a turn of the refinement looks at, round by round.
-use Rattle.std.specs.Prelude.{ℕ, ◌-◌, ◌<◌, ◌≤◌, ◌≡◌, ◌↔◌, ◌==◌, ◌&&◌, ℤ, Bool, true, false, List, [], ◌∷◌, Some, Vec, get_or, length, reverse, slice_get}
-use Rattle.std.specs.declared.alloc.Global.{Global}
+use Rattle.std.specs.Prelude.{ℕ, ◌-◌, ◌<◌, ◌≤◌, ◌≡◌, ◌↔◌, ◌==◌, ◌&&◌, ℤ, Bool, true, false, List, [], ◌∷◌, get_or, length, reverse}
 use Rattle.std.specs.Ordering.{int_eq}
 use Rattle.gs_model.specs.Classes.{ClassLists, InOneClass, class_count, class_of, first_member, list_of}
 use Rattle.gs_model.specs.Frame.{Frame, last_round, parents_of, signal_count}
@@ -59,35 +58,13 @@ part_eq p q = (p.class == q.class) && (int_eq p.outcome q.outcome && (p.weight =
 
 -- ---- keys
 
--- the key with a number is that of the item i
-pub record HasKey {X : Type 0} (sign : ℕ → List X → Type 0) (keys : List (Vec X Global)) (i n : ℕ) : Type 0 where
-  pub some : 0 < n
-  pub key : Vec X Global
-  pub stands : slice_get keys (n - 1) ≡ Some key
-  pub signs : sign i key.items
-
--- the numbers of the first items lead to their keys
-abbrev pub LeadToKeys : {X : Type 0} → (ℕ → List X → Type 0) → List (Vec X Global) → List ℕ → Type 0
-LeadToKeys sign keys numbers = (i : ℕ) → i < length numbers → HasKey sign keys i (get_or numbers i 0)
-
 -- what tells the signals of a round apart: the old class, the new class of the parent, and the number of the sums
 abbrev pub turn_key : List ℕ → List ℕ → List ℕ → List ℕ → ℕ → ℕ × ℕ × ℕ
 turn_key before above parents numbers i = (get_or before i 0, get_or above (get_or parents i 0) 0, get_or numbers i 0)
 
--- some item has a key and a class
-pub record HasClassOf (before above parents numbers classes : List ℕ) (key : ℕ × ℕ × ℕ) (class : ℕ) : Type 0 where
-  pub item : ℕ
-  pub within : item < length classes
-  pub is : get_or classes item 0 ≡ class
-  pub alike : turn_key before above parents numbers item ≡ key
-
 -- whether two such keys are the same
 abbrev pub key_eq : ℕ × ℕ × ℕ → ℕ × ℕ × ℕ → Bool
 key_eq x y = (x.0 == y.0) && ((x.1 == y.1) && (x.2 == y.2))
-
--- the classes of equal keys, numbered by first member
-abbrev pub AreKeyClasses : List ℕ → List ℕ → List ℕ → List ℕ → List ℕ → Type 0
-AreKeyClasses before above parents numbers classes = IsClassesOf (λ i j. turn_key before above parents numbers i ≡ turn_key before above parents numbers j) classes
 
 -- ---- rounds
 

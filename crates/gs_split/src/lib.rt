@@ -1,7 +1,6 @@
 //! The coarsest lossless classes: those that every lossless refinement of given classes refines.
 #![tactic(auto)]
 
-mod numbers;
 mod parting;
 mod parts;
 mod proposal;

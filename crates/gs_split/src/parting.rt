@@ -2,25 +2,15 @@
 
 ghost use Rattle.std.specs.Prelude.{◌≡◌, ◌-◌, ◌<◌, ◌≤◌, IfOk, length};
 ghost use Rattle.gs_model.specs.Frame.{frame_of, last_round, signal_count};
-ghost use Rattle.gs_model.specs.Game.{round_count};
-ghost use Rattle.gs_model.specs.Signals.{parents};
 ghost use Rattle.gs_filter.specs.Rows.{rows};
 ghost use Rattle.gs_tree.specs.Trees.{rules_of};
 ghost use Rattle.gs_split.specs.Turns.{AreParted, HaveNumbers, IsRoundParted, classes_above};
 
 use crate::rounds::round_classes;
 use gs_filter::Classes;
+use gs_lossless::parents_in;
 use gs_tree::Signals;
 use std::alloc::{AllocError, Global};
-
-/// The parent of each signal of a round, by its place in the round before; zeros in round 1.
-pub(crate) fn parents_in<'a>(signals: &'a Signals, round: u8) -> &'a [u32]
-    requires some { 0 < round }
-    requires last { round ≤ round_count (rules_of signals.now) }
-    ensures { result.now ≡ parents (rules_of signals.entry.now) round }
-{
-    &signals.parents()[usize::from(round) - 1]
-}
 
 /// The classes of the last of some rounds; before round 1 one signal, of class 1.
 fn last_classes(lists: &[Vec<u32>]) -> &[u32]

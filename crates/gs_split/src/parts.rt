@@ -8,10 +8,10 @@ ghost use Rattle.gs_tree.specs.Trees.{rules_of};
 ghost use Rattle.gs_lossless.specs.Amounts.{AreAmounts, HasSide, key_count, keys_of};
 ghost use Rattle.gs_split.specs.Turns.{AreSettled, AreSideFirsts, AreSideNumbers, AreTurnNumbers};
 
-use crate::numbers::number_of;
 use gs_alike::Boards;
 use gs_filter::Classes;
 use gs_lossless::{Part, Side, side_keys, side_sums};
+use gs_numbers::number_of_list;
 use gs_tree::Signals;
 use indexmap::IndexSet;
 use std::alloc::{AllocError, Global};
@@ -120,7 +120,7 @@ fn side_numbers(
         }
         let wanted = !settled[classes.class_of(round, signal) as usize - 1];
         let sums = wanted_sums(alloc, signals, side, round, &keys, signal, wanted)?;
-        let number = number_of(&mut seen, sums)?;
+        let number = number_of_list(alloc, &mut seen, &sums)?;
         numbers.push(number)?;
     }
     Ok(numbers)

@@ -8,9 +8,10 @@ ghost use Rattle.gs_tree.specs.Trees.{rules_of};
 ghost use Rattle.gs_tree.specs.Walk.{last_count};
 ghost use Rattle.gs_split.specs.Proposal.{AreFair, AreFairFrom, IsProposal, child_number, deal_number, mixed as mixed_of};
 
-use crate::parting::{parents_in, parted};
+use crate::parting::parted;
 use gs_boards::{BoardOrder, Pays};
 use gs_filter::Classes;
+use gs_lossless::parents_in;
 use gs_tree::Signals;
 use std::alloc::{AllocError, Global};
 

@@ -1,9 +1,10 @@
 //! The new classes of one round.
 
 ghost use Rattle.std.specs.Prelude.{◌≡◌, ◌+◌, ◌≤◌, ◌<◌, ◌^◌, All, IfOk, IfSome, length};
-ghost use Rattle.gs_split.specs.Turns.{AreKeyClasses, HasClassOf};
+ghost use Rattle.gs_numbers.specs.Numbers.{HasClassOf, IsKeyClasses};
+ghost use Rattle.gs_split.specs.Turns.{turn_key};
 
-use crate::numbers::number_of;
+use gs_numbers::number_of;
 use indexmap::IndexSet;
 use std::alloc::{AllocError, Global};
 use std::marker::Model;
@@ -53,7 +54,7 @@ fn class_again(
     requires all { length parents.now ≡ length numbers.now }
     requires within { length classes.now ≤ length numbers.now }
     requires in_range { All (λ p. p < length above.now) parents.now }
-    ensures { IfSome result (HasClassOf before.now above.now parents.now numbers.now classes.now key) }
+    ensures { IfSome result (HasClassOf (turn_key before.now above.now parents.now numbers.now) classes.now key) }
 {
     let place = item as usize;
     if classes.len() <= place || before[place] != key.before || numbers[place] != key.number {
@@ -79,7 +80,7 @@ pub(crate) fn round_classes(
     requires few { length numbers.now + 1 < 2 ^ 32 }
     requires in_range { All (λ p. p < length above.now) parents.now }
     ensures long { IfOk result (λ v. length v.items ≡ length numbers.now) }
-    ensures classes { IfOk result (λ v. AreKeyClasses before.now above.now parents.now numbers.now v.items) }
+    ensures classes { IfOk result (λ v. IsKeyClasses (turn_key before.now above.now parents.now numbers.now) v.items) }
 {
     let mut last = vec![in alloc; 0; KEPT]?;
     let mut seen = IndexSet::new(alloc);

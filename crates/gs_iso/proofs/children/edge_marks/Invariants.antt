@@ -1,15 +1,9 @@
-use Rattle.std.proofs.Common.{◌≡◌, ◌≤◌, length}
-use Rattle.indexmap.specs.IndexSet.{index_set_len}
+use Rattle.gs_numbers.proofs.FirstSeen.{AreSeen}
 use Rattle.gs_tree.specs.Trees.{rules_of}
 use Rattle.gs_iso.specs.Numbers.{child_part}
 use Rattle.gs_iso.specs.Orders.{child_eq}
 use Rattle.gs_iso.proofs.Exact.{child_exact}
-use Rattle.gs_iso.proofs.FirstSeen.{AreFirstSeen}
 use Rattle.gs_iso.proofs.children.edge_marks.Given as goal
 
 abbrev pub invariant-loop-signal : goal.invariant-loop-signal
-invariant-loop-signal l = record {
-  few : index_set_len l.seen ≤ l.signal;
-  long : length l.marks.items ≡ l.signal;
-  seen : AreFirstSeen child_eq child_exact (child_part (rules_of l.signals) l.round l.numbers) l.seen.keys l.marks.items;
-}
+invariant-loop-signal l = AreSeen child_eq child_exact (child_part (rules_of l.signals) l.round l.numbers) l.seen.keys l.marks.items l.signal

@@ -1,29 +1,22 @@
-use Rattle.std.proofs.Common.{◌≡◌, ◌+◌, ◌∷◌, [], ◌∙◌, ℕ, List, ap, arith, length, length-append, subst, sym}
+use Rattle.std.proofs.Common.{◌≡◌, ◌+◌, ℕ, List, arith, length, subst, sym}
 use Rattle.std.specs.Prelude.{nat_eq}
 use Rattle.std.proofs.lemmas.Bool.Decides.{Decides-eqb}
 use Rattle.gs_model.specs.Isomorphism.{Isomorphic}
 use Rattle.gs_model.specs.Signals.{signal_at, signals}
 use Rattle.gs_model.specs.Signatures.{IsSignature}
+use Rattle.gs_numbers.proofs.Numbered.{numbered_more, numbers_are}
 use Rattle.gs_tree.specs.Trees.{rules_of}
-use Rattle.gs_iso.specs.Numbers.{LeadToKeys, marks_under}
+use Rattle.gs_iso.specs.Numbers.{marks_under}
 use Rattle.gs_iso.specs.Orders.{mark_lt}
 use Rattle.gs_iso.proofs.Below.{mark_law_at}
-use Rattle.gs_iso.proofs.Numbered.{leads_more, numbers_are}
 use Rattle.gs_iso.proofs.children.marked_numbers.Goals as goal
 
 pub loop-signal-preserved : goal.loop-signal-preserved
 loop-signal-preserved c =
     let sign : ℕ → List ℕ → Type 0 = λ i a. IsSignature mark_lt (marks_under (rules_of c.args.signals.now) c.args.round c.args.marks.now i) a in
     let n = c.in_ok-number.ensures in
-    let long : length c.loop-signal.numbers.items ≡ c.loop-signal.signal = c.loop-signal.invariant.long in
-    record {
-      few = omega (arith, c.loop-signal.invariant.few, n.few);
-      long = ap length c.in_ok-push.ensures.items ∙ length-append c.loop-signal.numbers.items (c.in_ok-number.number ∷ []) ∙ ap (λ k. k + 1) long;
-      distinct = n.unique;
-      leads = subst (LeadToKeys sign c.number_of_list.new.lists.keys) (sym c.in_ok-push.ensures.items)
-          (leads_more nat_eq Decides-eqb sign c.loop-signal.seen.keys c.number_of_list.new.lists.keys c.loop-signal.numbers.items c.deref.result.now c.in_ok-number.number
-          c.loop-signal.invariant.leads n.kept n.number (subst (λ i. sign i c.deref.result.now) (sym long) (subst (sign c.loop-signal.signal) (sym c.deref.ensures.value) c.in_ok-sign_children.ensures)));
-    }
+    let signs = subst (sign c.loop-signal.signal) (sym c.deref.ensures.value) c.in_ok-sign_children.ensures in
+    numbered_more nat_eq Decides-eqb sign _ _ _ _ _ _ _ c.loop-signal.invariant signs n.kept n.number n.few n.unique c.in_ok-push.ensures.items
 
 pub returns : goal.returns
 returns c =
@@ -33,7 +26,7 @@ returns c =
     let count : length numbers ≡ length (signals g r) = omega (arith, c.count-count.ensures.value, c.loop-signal.invariant.long) in
     λ below numbering are_marks. record {
       long = count;
-      same = numbers_are nat_eq Decides-eqb (λ i a. IsSignature mark_lt (marks_under g r c.args.marks.now i) a) c.loop-signal.seen.keys numbers c.loop-signal.invariant.distinct c.loop-signal.invariant.leads
-          (λ i j. Isomorphic g r (signal_at g r i) (signal_at g r j))
-          (λ i j a b li lj ha hb. mark_law_at g r (r + 1) (omega arith) c.requires.before_last below c.args.marks.now numbering are_marks i j (omega (arith, li, count)) (omega (arith, lj, count)) a b ha hb);
+      same = λ i j li lj. numbers_are nat_eq Decides-eqb (λ i a. IsSignature mark_lt (marks_under g r c.args.marks.now i) a) c.loop-signal.seen.keys numbers c.loop-signal.invariant.distinct c.loop-signal.invariant.leads
+          (λ i j. Unit {0}) (λ i j. Isomorphic g r (signal_at g r i) (signal_at g r j))
+          (λ i j a b li lj one ha hb. mark_law_at g r (r + 1) (omega arith) c.requires.before_last below c.args.marks.now numbering are_marks i j (omega (arith, li, count)) (omega (arith, lj, count)) a b ha hb) i j li lj tt;
     }

@@ -1,36 +1,19 @@
-use Rattle.std.proofs.Common.{◌≡◌, ◌+◌, ◌∷◌, [], ◌∙◌, ℕ, List, true, ap, arith, length, length-append, subst, sym}
-use Rattle.indexmap.specs.IndexSet.{insert_key}
-use Rattle.gs_iso.specs.Numbers.{HasClassOf, class_key}
+use Rattle.std.proofs.Common.{ℕ, List, refl, subst}
+use Rattle.gs_numbers.specs.Numbers.{HasClassOf}
+use Rattle.gs_numbers.proofs.FirstSeen.{seen_again, seen_more}
+use Rattle.gs_iso.specs.Numbers.{class_key}
 use Rattle.gs_iso.specs.Orders.{child_eq}
 use Rattle.gs_iso.proofs.Exact.{child_exact}
-use Rattle.gs_iso.proofs.FirstSeen.{AreFirstSeen, first_again, first_more}
 use Rattle.gs_iso.proofs.classes.round_classes.Goals as goal
 
 pub loop-at-preserved-in-Some : goal.loop-at-preserved-in-Some
 loop-at-preserved-in-Some c =
     let key = class_key c.args.above.now c.args.parents.now c.args.numbers.now in
-    let old : List ℕ = c.loop-at.classes.items in
-    let h : HasClassOf c.args.above.now c.args.parents.now c.args.numbers.now old (key (length old)) c.in-Some.class =
-    subst (λ (i : ℕ). HasClassOf c.args.above.now c.args.parents.now c.args.numbers.now old (key i) c.in-Some.class) (sym c.loop-at.invariant.long)
-    (subst (λ (xs : List ℕ). HasClassOf c.args.above.now c.args.parents.now c.args.numbers.now xs (key c.loop-at.at) c.in-Some.class) c.deref.ensures.value c.in-Some.ensures) in
-    record {
-      few = omega (arith, c.loop-at.invariant.few);
-      long = ap length c.in_ok-push.ensures.items ∙ length-append old (c.in-Some.class ∷ []) ∙ ap (λ k. k + 1) c.loop-at.invariant.long;
-      seen = subst (AreFirstSeen child_eq child_exact key c.loop-at.seen.keys) (sym c.in_ok-push.ensures.items)
-          (first_again child_eq child_exact key c.loop-at.seen.keys old h.item c.in-Some.class c.loop-at.invariant.seen h.within h.is h.alike);
-    }
+    let found = subst (λ (xs : List ℕ). HasClassOf key xs (key c.loop-at.at) c.in-Some.class) c.deref.ensures.value c.in-Some.ensures in
+    seen_again child_eq child_exact key _ _ _ _ _ _ c.loop-at.invariant refl found c.in_ok-push.ensures.items
 
 pub loop-at-preserved : goal.loop-at-preserved
 loop-at-preserved c =
     let key = class_key c.args.above.now c.args.parents.now c.args.numbers.now in
     let n = c.in_ok-class.ensures in
-    let s = c.loop-at.invariant.seen in
-    let long = sym c.loop-at.invariant.long in
-    let grown = subst (λ i. c.number_of.new.keys.keys ≡ insert_key child_eq c.loop-at.seen.keys (key i)) long n.grown in
-    let same = subst (λ i. child_eq (key i) n.stored.0 ≡ true) long n.stored.2 in
-    record {
-      few = omega (arith, c.loop-at.invariant.few, n.few);
-      long = ap length c.in_ok-push-2.ensures.items ∙ length-append c.loop-at.classes.items (c.in_ok-class.class ∷ []) ∙ ap (λ k. k + 1) c.loop-at.invariant.long;
-      seen = subst (AreFirstSeen child_eq child_exact key c.number_of.new.keys.keys) (sym c.in_ok-push-2.ensures.items)
-          (first_more child_eq child_exact key c.loop-at.seen.keys c.number_of.new.keys.keys c.loop-at.classes.items c.in_ok-class.class n.stored.0 s n.unique grown n.some n.stored.1 same);
-    }
+    seen_more child_eq child_exact key _ _ _ _ _ _ _ c.loop-at.invariant refl n.stored n.grown n.few n.unique n.some c.in_ok-push-2.ensures.items

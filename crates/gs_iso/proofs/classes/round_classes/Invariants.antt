@@ -1,14 +1,8 @@
-use Rattle.std.proofs.Common.{◌≡◌, ◌≤◌, length}
-use Rattle.indexmap.specs.IndexSet.{index_set_len}
+use Rattle.gs_numbers.proofs.FirstSeen.{AreSeen}
 use Rattle.gs_iso.specs.Numbers.{class_key}
 use Rattle.gs_iso.specs.Orders.{child_eq}
 use Rattle.gs_iso.proofs.Exact.{child_exact}
-use Rattle.gs_iso.proofs.FirstSeen.{AreFirstSeen}
 use Rattle.gs_iso.proofs.classes.round_classes.Given as goal
 
 abbrev pub invariant-loop-at : goal.invariant-loop-at
-invariant-loop-at l = record {
-  few : index_set_len l.seen ≤ l.at;
-  long : length l.classes.items ≡ l.at;
-  seen : AreFirstSeen child_eq child_exact (class_key l.above l.parents l.numbers) l.seen.keys l.classes.items;
-}
+invariant-loop-at l = AreSeen child_eq child_exact (class_key l.above l.parents l.numbers) l.seen.keys l.classes.items l.at

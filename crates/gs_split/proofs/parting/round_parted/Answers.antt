@@ -5,7 +5,8 @@ use Rattle.gs_model.specs.Game.{round_count}
 use Rattle.gs_model.proofs.Ranges.{length-parents, parents_at, signal_count_is}
 use Rattle.gs_tree.specs.Trees.{rules_of}
 use Rattle.gs_lossless.proofs.Descent.{last_is, list_long}
-use Rattle.gs_split.specs.Turns.{AreKeyClasses, IsRoundParted}
+use Rattle.gs_numbers.specs.Numbers.{IsKeyClasses}
+use Rattle.gs_split.specs.Turns.{IsRoundParted, turn_key}
 use Rattle.gs_split.proofs.Turned.{both_ok, first_parents, list_read, parents_under, round_made}
 use Rattle.gs_split.proofs.parting.round_parted.Goals as goal
 
@@ -57,7 +58,7 @@ returns c =
     let ps = c.parents_in.ensures ∙ sym (parents_at g round c.requires.some top) in
     both_ok c.round_classes.result
     (λ (v : Vec ℕ Global). length v.items ≡ length numbers)
-    (λ (v : Vec ℕ Global). AreKeyClasses c.deref.result.now above c.parents_in.result.now numbers v.items)
+    (λ (v : Vec ℕ Global). IsKeyClasses (turn_key c.deref.result.now above c.parents_in.result.now numbers) v.items)
     (λ (v : Vec ℕ Global). IsRoundParted f lists above numbers round v.items)
     (λ v long h. round_made f lists round above numbers v.items c.deref.result.now c.parents_in.result.now before ps c.requires.numbers
     (λ i one l. first_parents c.args.signals.now round i one l) c.requires.some long h)

@@ -1,18 +1,15 @@
-//! Numbers by first sight: equal keys get equal numbers, from 1 on.
+//! The numbers of keys and of lists.
 
 ghost use Rattle.std.specs.Prelude.{◌≡◌, ◌+◌, ◌-◌, ◌<◌, ◌≤◌, ◌^◌, IfOk, OnOk, Some, slice_get, true};
 ghost use Rattle.indexmap.specs.IndexSet.{IsUnique, index_set_len, insert_key};
-ghost use Rattle.gs_iso.specs.Numbers.{IsNumberOf, StayIn, same_parts};
+ghost use Rattle.gs_numbers.specs.Numbers.{IsNumberOf, StayIn, same_parts};
 
 use indexmap::IndexSet;
 use std::alloc::{AllocError, Global};
 use std::hash::Hash;
 
 /// The number of a key: one above its place among the keys that were seen, in the order of their first sight.
-pub(crate) fn number_of<K: Eq + Hash + Drop>(
-    keys: &mut IndexSet<K>,
-    key: K,
-) -> Result<u32, AllocError>
+pub fn number_of<K: Eq + Hash + Drop>(keys: &mut IndexSet<K>, key: K) -> Result<u32, AllocError>
     requires { index_set_len keys.old + 1 < 2 ^ 32 }
     ensures grown { OnOk result (keys.new.keys ≡ insert_key K.eq keys.old.keys key) }
     ensures some { IfOk result (λ n. 0 < n) }
@@ -25,7 +22,7 @@ pub(crate) fn number_of<K: Eq + Hash + Drop>(
 }
 
 /// The number of a list, by first sight too. The list is copied only where it was not seen before.
-pub(crate) fn number_of_list<P: Copy + Eq + Hash + Drop>(
+pub fn number_of_list<P: Copy + Eq + Hash + Drop>(
     alloc: Global,
     lists: &mut IndexSet<Vec<P>>,
     list: &[P],

@@ -7,18 +7,16 @@ use Rattle.std.proofs.lemmas.Option.{slice_get_within}
 use Rattle.std.proofs.lemmas.Grind.{elements}
 use Rattle.indexmap.specs.IndexSet.{insert_key}
 use Rattle.gs_model.specs.Numbering.{IsClassesOf, greatest}
+use Rattle.gs_model.proofs.Numbered.{greatest_push}
 use Rattle.gs_model.proofs.Push.{classes_push}
-use Rattle.gs_split.proofs.Numbered.{one_place, slice_get-insert}
+use Rattle.gs_numbers.specs.Numbers.{HasClassOf}
+use Rattle.gs_numbers.proofs.Numbered.{one_place, slice_get-insert}
 
 at_old : (xs : List ℕ) (n i : ℕ) → i < length xs → get_or (xs ++ n ∷ []) i 0 ≡ get_or xs i 0
 at_old xs n i l = grind (arith, elements)
 
 at_new : (xs : List ℕ) (n : ℕ) → get_or (xs ++ n ∷ []) (length xs) 0 ≡ n
 at_new xs n = grind (arith, elements)
-
-greatest-push : (xs : List ℕ) (n : ℕ) → greatest (xs ++ n ∷ []) ≡ max (greatest xs) n
-greatest-push [] n = omega arith
-greatest-push (x ∷ xs) n = let r = greatest-push xs n in omega (arith, r)
 
 slice_get-last : {X : Type 0} (xs : List X) (x : X) → slice_get (xs ++ x ∷ []) (length xs) ≡ Some x
 slice_get-last [] x = refl
@@ -56,7 +54,7 @@ module _ {K : Type 0} (eq : K → K → Bool) (exact : (x y : K) → Decides (eq
       let span = length-append classes (n ∷ []) in
       record {
         distinct = old.distinct;
-        top = (let g = greatest-push classes n in omega (arith, g, w, t, some));
+        top = (let g = greatest_push classes n in omega (arith, g, w, t, some));
         some = λ i l. ⊎_elim
             (λ e. let a = ap (λ j. get_or (classes ++ n ∷ []) j 0) e ∙ at_new classes n in omega (arith, a, some))
             (λ ne. let lt : i < length classes = omega (arith, l, span, ne) in let a = at_old classes n i lt in let o = old.some i lt in omega (arith, a, o))
@@ -109,7 +107,7 @@ module _ {K : Type 0} (eq : K → K → Bool) (exact : (x y : K) → Decides (eq
         let span = length-append classes (n ∷ []) in
         record {
           distinct = distinct;
-          top = (let g = greatest-push classes n in omega (arith, g, m, t));
+          top = (let g = greatest_push classes n in omega (arith, g, m, t));
           some = λ i l. ⊎_elim
               (λ e. let a = ap (λ j. get_or (classes ++ n ∷ []) j 0) e ∙ at_new classes n in omega (arith, a, some))
               (λ ne. let lt : i < length classes = omega (arith, l, span, ne) in let a = at_old classes n i lt in let o = old.some i lt in omega (arith, a, o))
@@ -128,3 +126,44 @@ module _ {K : Type 0} (eq : K → K → Bool) (exact : (x y : K) → Decides (eq
               let place : get_or classes i 0 - 1 ≡ n - 1 = one_place eq flips more distinct (get_or classes i 0 - 1) (n - 1) (key i) (key (length classes)) (kept i l) here ((exact (key i) (key (length classes))).1 e) in
               let o = old.some i l in omega (arith, place, o, some)),
         )
+
+  -- what a loop over items knows before one of them: the keys that were seen, and the classes of the items before it
+  pub record AreSeen (keys : List K) (classes : List ℕ) (item : ℕ) : Type 0 where
+    pub few : length keys ≤ item
+    pub long : length classes ≡ item
+    pub seen : AreFirstSeen keys classes
+
+  pub seen_none : (keys : List K) (classes : List ℕ) → keys ≡ [] → classes ≡ [] → AreSeen keys classes 0
+  seen_none keys classes none empty =
+      let few = ap length none in
+      record {
+        few = omega (arith, few);
+        long = ap length empty;
+        seen = subst (λ ks. AreFirstSeen ks classes) (sym none) (subst (AreFirstSeen []) (sym empty) first_none);
+      }
+
+  -- the next item has the class of an earlier one
+  pub seen_again : (keys : List K) (classes pushed : List ℕ) (item n : ℕ) (k : K) → AreSeen keys classes item → key item ≡ k → HasClassOf key classes k n → pushed ≡ classes ++ n ∷ []
+      → AreSeen keys pushed (item + 1)
+  seen_again keys classes pushed item n k old is has e =
+      let span = ap length e ∙ length-append classes (n ∷ []) in
+      let like : key has.item ≡ key (length classes) = has.alike ∙ sym is ∙ ap key (sym old.long) in
+      record {
+        few = omega (arith, old.few);
+        long = omega (arith, span, old.long);
+        seen = subst (AreFirstSeen keys) (sym e) (first_again keys classes has.item n old.seen has.within has.is like);
+      }
+
+  -- the next item has the number of its key
+  pub seen_more : (keys more : List K) (classes pushed : List ℕ) (item n : ℕ) (k : K) → AreSeen keys classes item → key item ≡ k → ((found : K) × (slice_get more (n - 1) ≡ Some found) × (eq k found ≡ true))
+      → more ≡ insert_key eq keys k → length more ≤ length keys + 1 → IsDistinct eq more → 0 < n → pushed ≡ classes ++ n ∷ [] → AreSeen more pushed (item + 1)
+  seen_more keys more classes pushed item n k old is stored grown few distinct some e =
+      let span = ap length e ∙ length-append classes (n ∷ []) in
+      let here : k ≡ key (length classes) = sym is ∙ ap key (sym old.long) in
+      let grown' = subst (λ k. more ≡ insert_key eq keys k) here grown in
+      let same = subst (λ k. eq k stored.0 ≡ true) here stored.2 in
+      record {
+        few = omega (arith, old.few, few);
+        long = omega (arith, span, old.long);
+        seen = subst (AreFirstSeen more) (sym e) (first_more keys more classes n stored.0 old.seen distinct grown' some stored.1 same);
+      }

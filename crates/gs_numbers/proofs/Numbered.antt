@@ -1,14 +1,15 @@
 -- Numbers by first sight: equal numbers are equal keys.
-use Rattle.std.proofs.Common.{◌≡◌, ◌↔◌, ℕ, zero, suc, ◌-◌, ◌<◌, List, [], ◌∷◌, ◌++◌, length, get_or, refl, sym, ap, ◌∙◌, subst, arith, Bool, true, false, cond, true≢false, Some, Vec, Global, ⊎_elim, length-append}
+use Rattle.std.proofs.Common.{◌≡◌, ◌↔◌, ℕ, zero, suc, ◌+◌, ◌-◌, ◌<◌, ◌≤◌, List, [], ◌∷◌, ◌++◌, length, get_or, refl, sym, ap, ◌∙◌, subst, arith, Bool, true, false, cond, true≢false, Some, Vec, Global, ⊎_elim, length-append}
 use Rattle.std.specs.List.{AllByRecursion, IsDistinct, find, list_any, slice_get}
 use Rattle.std.proofs.lemmas.Bool.{cases_eq}
 use Rattle.std.specs.Bool.{Decides}
 use Rattle.std.proofs.lemmas.Slice.Eq.{slice_eq-Decides}
 use Rattle.std.proofs.lemmas.Map.Keys.{IsDistinct-head, IsDistinct-tail}
 use Rattle.std.proofs.lemmas.Grind.{elements}
+use Rattle.std.proofs.lemmas.List.{get_or_read}
 use lib.Pointwise.{pointwise}
 use Rattle.indexmap.specs.IndexSet.{insert_key}
-use Rattle.gs_iso.specs.Numbers.{HasKey, IsNumberOf, LeadToKeys, StayIn, same_parts}
+use Rattle.gs_numbers.specs.Numbers.{HasKey, IsNumberOf, LeadToKeys, StayIn, same_parts}
 
 -- a place keeps its item when another goes behind
 slice_get-append : {X : Type 0} (xs ys : List X) (i : ℕ) (x : X) → slice_get xs i ≡ Some x → slice_get (xs ++ ys) i ≡ Some x
@@ -92,14 +93,14 @@ module _ {X : Type 0} (eq : X → X → Bool) (exact : (x y : X) → Decides (eq
       subst (λ m. HasKey sign keys i m) (sym at) (leads i lt))
       (cases_eq i (length numbers))
 
-  -- equal numbers are equal signatures
+  -- for items that belong together, equal numbers are equal keys
   pub numbers_are : (sign : ℕ → List X → Type 0) (keys : List (Vec X Global)) (numbers : List ℕ) → IsDistinct (same_parts eq) keys → LeadToKeys sign keys numbers
-      → (R : ℕ → ℕ → Type 0) → ((i j : ℕ) (a b : List X) → i < length numbers → j < length numbers → sign i a → sign j b → (a ≡ b) ↔ R i j)
-      → (i j : ℕ) → i < length numbers → j < length numbers → (get_or numbers i 0 ≡ get_or numbers j 0) ↔ R i j
-  numbers_are sign keys numbers distinct leads R law i j li lj =
+      → (P R : ℕ → ℕ → Type 0) → ((i j : ℕ) (a b : List X) → i < length numbers → j < length numbers → P i j → sign i a → sign j b → (a ≡ b) ↔ R i j)
+      → (i j : ℕ) → i < length numbers → j < length numbers → P i j → (get_or numbers i 0 ≡ get_or numbers j 0) ↔ R i j
+  numbers_are sign keys numbers distinct leads P R law i j li lj p =
       let a = leads i li in
       let b = leads j lj in
-      let both = law i j a.key.items b.key.items li lj a.signs b.signs in (
+      let both = law i j a.key.items b.key.items li lj p a.signs b.signs in (
         (λ e.
             let there : slice_get keys (get_or numbers i 0 - 1) ≡ Some b.key = ap (λ n. slice_get keys (n - 1)) e ∙ b.stands in
             let one : Some a.key ≡ Some b.key = sym a.stands ∙ there in
@@ -113,3 +114,36 @@ module _ {X : Type 0} (eq : X → X → Bool) (exact : (x y : X) → Decides (eq
             let some_a = a.some in let some_b = b.some in
             omega arith),
       )
+
+  module _ (sign : ℕ → List X → Type 0) where
+    -- what a loop over items knows before one of them: the lists that were seen, and the numbers of the items before it
+    pub record AreNumbered (keys : List (Vec X Global)) (numbers : List ℕ) (item : ℕ) : Type 0 where
+      pub few : length keys ≤ item
+      pub long : length numbers ≡ item
+      pub distinct : IsDistinct (same_parts eq) keys
+      pub leads : LeadToKeys sign keys numbers
+
+    -- the next item has the number of its list
+    pub numbered_more : (keys more : List (Vec X Global)) (numbers pushed : List ℕ) (parts : List X) (item n : ℕ) → AreNumbered keys numbers item → sign item parts → StayIn keys more → IsNumberOf eq more parts n
+        → length more ≤ length keys + 1 → IsDistinct (same_parts eq) more → pushed ≡ numbers ++ n ∷ [] → AreNumbered more pushed (item + 1)
+    numbered_more keys more numbers pushed parts item n old signs stay number few distinct e =
+        let span = ap length e ∙ length-append numbers (n ∷ []) in
+        record {
+          few = omega (arith, old.few, few);
+          long = omega (arith, span, old.long);
+          distinct = distinct;
+          leads = subst (LeadToKeys sign more) (sym e) (leads_more sign keys more numbers parts n old.leads stay number (subst (λ i. sign i parts) (sym old.long) signs));
+        }
+
+    -- the next item has the number of an earlier one, whose lists are its own too
+    pub numbered_again : (keys : List (Vec X Global)) (numbers pushed : List ℕ) (item j n : ℕ) → AreNumbered keys numbers item → j < item → n ≡ get_or numbers j n → ((a : List X) → sign j a → sign item a)
+        → pushed ≡ numbers ++ n ∷ [] → AreNumbered keys pushed (item + 1)
+    numbered_again keys numbers pushed item j n old before is like e =
+        let span = ap length e ∙ length-append numbers (n ∷ []) in
+        let lj : j < length numbers = omega (arith, before, old.long) in
+        record {
+          few = omega (arith, old.few);
+          long = omega (arith, span, old.long);
+          distinct = old.distinct;
+          leads = subst (LeadToKeys sign keys) (sym e) (leads_again sign keys numbers j n old.leads lj (get_or_read numbers j n lj is 0) (λ a h. subst (λ i. sign i a) (sym old.long) (like a h)));
+        }

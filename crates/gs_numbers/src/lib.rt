@@ -1,0 +1,6 @@
+//! Numbers by first sight: equal keys get equal numbers, from 1 on.
+#![tactic(auto)]
+
+mod numbers;
+
+pub use numbers::{number_of, number_of_list};
