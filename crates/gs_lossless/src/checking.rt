@@ -1,12 +1,11 @@
 //! Lossless classes, and the check for them.
 
-ghost use Rattle.std.specs.Prelude.{◌≡◌, ◌<◌, ◌≤◌, IfOk, IfErr, IsTrue, length};
+ghost use Rattle.std.specs.Prelude.{◌≡◌, ◌<◌, ◌≤◌, IfOk, IfErr, IsTrue};
 ghost use Rattle.gs_model.specs.Frame.{frame_of, last_round};
 ghost use Rattle.gs_model.specs.Lossless.{IsLossless};
-ghost use Rattle.gs_model.specs.Signals.{signals as signals_in};
 ghost use Rattle.gs_filter.specs.Filter.{single_classes};
 ghost use Rattle.gs_tree.specs.Trees.{rules_of};
-ghost use Rattle.gs_lossless.specs.Stops.{IsChildrenApart, IsUnlike, IsUnlikeIn, MatchUnlike};
+ghost use Rattle.gs_lossless.specs.Stops.{IsUnlike, IsUnlikeIn, MatchUnlike};
 
 use crate::scan::first_apart;
 use crate::sides::Side;
@@ -72,28 +71,7 @@ fn settles(alloc: Global, signals: &Signals, classes: &Classes) -> Result<bool, 
     Ok(first_apart(alloc, signals, classes, Side::Deals, last, end)?.is_none())
 }
 
-/// The first signal of a round, of those before `end`, whose children differ from those of the first member of its class. The last round has no
-/// children.
-fn children_apart(
-    alloc: Global,
-    signals: &Signals,
-    classes: &Classes,
-    round: u8,
-    end: u32,
-) -> Result<Option<u32>, AllocError>
-    requires parents { classes.now.parents ≡ (frame_of (rules_of signals.now)).parents }
-    requires some { 0 < round }
-    requires within { end ≤ length (signals_in (rules_of signals.now) round) }
-    ensures { IfOk result (IsChildrenApart (frame_of (rules_of signals.now)) classes.now.lists round end) }
-{
-    if round < signals.rounds() {
-        first_apart(alloc, signals, classes, Side::Children, round, end)
-    } else {
-        Ok(None)
-    }
-}
-
-/// The first signal of a round that is not like the first member of its class.
+/// The first signal of a round that is not like the first member of its class. The last round has no children.
 fn unlike_in(
     alloc: Global,
     signals: &Signals,
@@ -107,8 +85,11 @@ fn unlike_in(
 {
     let count = signals.count(round);
     let apart = first_deals_apart(alloc, signals, classes, round, count)?;
+    if round == signals.rounds() {
+        return Ok(apart);
+    }
     let end = apart.unwrap_or(count);
-    let before = children_apart(alloc, signals, classes, round, end)?;
+    let before = first_apart(alloc, signals, classes, Side::Children, round, end)?;
     Ok(before.or(apart))
 }
 

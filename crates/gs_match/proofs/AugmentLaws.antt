@@ -39,6 +39,20 @@ shift_start adjacent holders root visits place right m p =
       apart = λ j some low e. some_none (visit visits j).left (holder holders right) (ap (λ k. holder holders k) (sym e) ∙ (p.tree.linked j some (omega arith)).held) p.free;
     }
 
+-- a right node is given to a left node
+module _ (holders : List (Option ℕ)) (right left : ℕ) (inside : right < length holders) where
+  abbrev given : List (Option ℕ)
+  given = set holders right (Some left)
+
+  given_here : holder given right ≡ Some left
+  given_here = get_or-set_same holders right (Some left) None inside
+
+  given_there : (b : ℕ) → b ≢ right → holder given b ≡ holder holders b
+  given_there b ne = get_or-set_other holders right b (Some left) None ne
+
+  given_at : (b a : ℕ) → b ≡ right → holder given b ≡ Some a → a ≡ left
+  given_at b a e h = some_same a left (holder given right) (ap (λ k. holder given k) (sym e) ∙ h) given_here
+
 module _ (adjacent : List (List ℕ)) (before holders : List (Option ℕ)) (reached : List Bool) (root : ℕ) (visits : List Visit) (place right : ℕ)
     (t : IsTree adjacent before visits reached) (s : IsShift adjacent holders root visits place right) (some : 0 < place) where
   abbrev left : ℕ
@@ -50,20 +64,17 @@ module _ (adjacent : List (List ℕ)) (before holders : List (Option ℕ)) (reac
   abbrev changed : List (Option ℕ)
   changed = set holders right (Some left)
 
-  here : holder changed right ≡ Some left
-  here = get_or-set_same holders right (Some left) None s.right_in
-
   there : (b : ℕ) → b ≢ right → holder changed b ≡ holder holders b
-  there b ne = get_or-set_other holders right b (Some left) None ne
+  there = given_there holders right left s.right_in
+
+  at_right : (b a : ℕ) → b ≡ right → holder changed b ≡ Some a → a ≡ left
+  at_right = given_at holders right left s.right_in
 
   held : holder holders next ≡ Some left
   held = s.waiting place some (omega arith)
 
   next_apart : next ≢ right
   next_apart = s.apart place some (omega arith)
-
-  at_right : (b a : ℕ) → b ≡ right → holder changed b ≡ Some a → a ≡ left
-  at_right b a e h = some_same a left (holder changed right) (ap (λ k. holder changed k) (sym e) ∙ h) here
 
   -- another right node that the left node of this visit holds is the next one
   only_next : (c a : ℕ) → a ≡ left → c ≢ right → holder changed c ≡ Some a → c ≡ next
@@ -101,7 +112,7 @@ module _ (adjacent : List (List ℕ)) (before holders : List (Option ℕ)) (reac
               let h = s.but.all a l in ⊎_elim
               (λ (e : h.at ≡ next).
               let same : a ≡ left = some_same a left (holder holders next) (ap (λ k. holder holders k) (sym e) ∙ h.is) held in
-              record { at = right; is = here ∙ ap (λ k. Some k) (sym same); other = λ q. next_apart (sym q) })
+              record { at = right; is = given_here holders right left s.right_in ∙ ap (λ k. Some k) (sym same); other = λ q. next_apart (sym q) })
               (λ ne. record { at = h.at; is = there h.at h.other ∙ h.is; other = ne })
               (cases_eq h.at next);
         };
@@ -116,14 +127,11 @@ module _ (adjacent : List (List ℕ)) (holders : List (Option ℕ)) (root : ℕ)
   abbrev full : List (Option ℕ)
   full = set holders right (Some root)
 
-  here_root : holder full right ≡ Some root
-  here_root = get_or-set_same holders right (Some root) None s.right_in
-
   there_root : (b : ℕ) → b ≢ right → holder full b ≡ holder holders b
-  there_root b ne = get_or-set_other holders right b (Some root) None ne
+  there_root = given_there holders right root s.right_in
 
   root_at : (b a : ℕ) → b ≡ right → holder full b ≡ Some a → a ≡ root
-  root_at b a e h = some_same a root (holder full right) (ap (λ k. holder full k) (sym e) ∙ h) here_root
+  root_at = given_at holders right root s.right_in
 
   not_root : (c a : ℕ) → a ≡ root → c ≢ right → holder full c ≡ Some a → ⊥
   not_root c a e nc h = let b = s.but.below c a nc (sym (there_root c nc) ∙ h) in absurd (omega arith)
@@ -145,7 +153,7 @@ module _ (adjacent : List (List ℕ)) (holders : List (Option ℕ)) (root : ℕ)
             (λ db. let l = s.but.below b a db (sym (there_root b db) ∙ hb) in omega arith)
             (cases_eq b right);
         all = λ a l. ⊎_elim
-            (λ (e : a ≡ root). record { at = right; is = here_root ∙ ap (λ k. Some k) (sym e); other = λ q. absurd (omega arith) })
+            (λ (e : a ≡ root). record { at = right; is = given_here holders right root s.right_in ∙ ap (λ k. Some k) (sym e); other = λ q. absurd (omega arith) })
             (λ ne. let h = s.but.all a (omega arith) in let k = held_in holders h.at a h.is in record { at = h.at; is = there_root h.at h.other ∙ h.is; other = λ q. absurd (omega arith) })
             (cases_eq a root);
       }

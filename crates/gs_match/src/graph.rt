@@ -4,9 +4,8 @@ ghost use Rattle.std.specs.Prelude.{◌≡◌};
 ghost use Rattle.gs_match.specs.declared.graph.NoMatch.TheVariants.{Memory};
 
 use std::alloc::AllocError;
-use std::error::Error;
-use std::fmt;
 use std::marker::Model;
+use thiserror::Error;
 
 /// A bipartite graph: two sides of nodes, each counted from 0, and edges from left to right.
 #[derive(Debug, Drop)]
@@ -39,34 +38,23 @@ impl Model for Match {
 }
 
 /// Why there is no perfect matching.
-#[derive(Debug, Drop)]
+#[derive(Debug, Drop, Error)]
 pub enum NoMatch {
     /// One side has more nodes than the other.
+    #[error("{left} left nodes and {right} right nodes")]
     Sides { left: u32, right: u32 },
     /// These left nodes, in ascending order, have fewer neighbours than they are.
+    #[error("too few neighbours of left nodes {set:?}")]
     Hall { set: Vec<u32> },
     /// Memory ran out.
+    #[error("out of memory")]
     Memory,
 }
 
-impl fmt::Display for NoMatch {
-    fn fmt<W: fmt::Write>(&self, f: &mut fmt::Formatter<W>) -> fmt::Result {
-        match self {
-            NoMatch::Sides { left, right } => {
-                write!(f, "{left} left nodes and {right} right nodes")
-            }
-            NoMatch::Hall { set } => write!(f, "too few neighbours of left nodes {set:?}"),
-            NoMatch::Memory => write!(f, "out of memory"),
-        }
-    }
-}
-
-impl Error for NoMatch {}
-
-impl<E: Into<AllocError> + Drop> From<E> for NoMatch {
+impl From<AllocError> for NoMatch {
     ghost from_gives = { λ _ e. e ≡ Memory };
 
-    fn from(_error: E) -> NoMatch {
+    fn from(_error: AllocError) -> NoMatch {
         NoMatch::Memory
     }
 }
