@@ -83,12 +83,11 @@ fn unlike_in(
     requires top { round ≤ last_round (frame_of (rules_of signals.now)) }
     ensures { IfOk result (MatchUnlike (frame_of (rules_of signals.now)) classes.now.lists round) }
 {
-    let count = signals.count(round);
-    let apart = first_deals_apart(alloc, signals, classes, round, count)?;
+    let apart = first_deals_apart(alloc, signals, classes, round)?;
     if round == signals.rounds() {
         return Ok(apart);
     }
-    let end = apart.unwrap_or(count);
+    let end = apart.unwrap_or(signals.count(round));
     let before = first_apart(alloc, signals, classes, Side::Children, round, end)?;
     Ok(before.or(apart))
 }

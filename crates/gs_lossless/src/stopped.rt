@@ -5,8 +5,7 @@
 ghost use Rattle.std.specs.Prelude.{◌≡◌, ◌<◌, ◌≤◌, IfOk, IfSome, MatchOption, length};
 ghost use Rattle.gs_filter.specs.Rows.{rows};
 ghost use Rattle.gs_model.specs.Classes.{IsClasses, list_of};
-ghost use Rattle.gs_model.specs.Frame.{frame_of};
-ghost use Rattle.gs_model.specs.Signals.{signals as signals_in};
+ghost use Rattle.gs_model.specs.Frame.{frame_of, signal_count};
 ghost use Rattle.gs_tree.specs.Trees.{rules_of};
 ghost use Rattle.gs_lossless.specs.Amounts.{HasSide};
 ghost use Rattle.gs_lossless.specs.Scans.{IsFirstApart};
@@ -59,20 +58,19 @@ pub fn stopped_classes(
     }
 }
 
-/// The first signal of a round, of those before `end`, whose deals weigh otherwise than those of the first member of its class.
+/// The first signal of a round whose deals weigh otherwise than those of the first member of its class.
 pub(crate) fn first_deals_apart(
     alloc: Global,
     signals: &Signals,
     classes: &Classes,
     round: u8,
-    end: u32,
 ) -> Result<Option<u32>, AllocError>
     requires parents { classes.now.parents ≡ (frame_of (rules_of signals.now)).parents }
     requires side { HasSide (frame_of (rules_of signals.now)) Deals round }
-    requires within { end ≤ length (signals_in (rules_of signals.now) round) }
-    ensures { IfOk result (IsFirstApart (frame_of (rules_of signals.now)) classes.now.lists Deals round end) }
+    ensures { IfOk result (IsFirstApart (frame_of (rules_of signals.now)) classes.now.lists Deals round (signal_count (frame_of (rules_of signals.now)) round)) }
 {
     let _rounds = classes.rounds();
+    let end = signals.count(round);
     if round < signals.rounds() {
         if let Some(game) = signals.game().stopped(alloc, round)? {
             let stopped = Signals::of(alloc, &game)?;

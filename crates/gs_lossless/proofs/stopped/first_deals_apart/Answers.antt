@@ -1,22 +1,26 @@
-use Rattle.std.proofs.Common.{◌≡◌, ◌<◌, ◌≤◌, ℕ, List, Option, length, sym, ap, subst, arith}
-use Rattle.std.specs.Prelude.{IfSome}
+use Rattle.std.proofs.Common.{◌≡◌, ◌<◌, ◌≤◌, ℕ, List, Option, length, sym, ap, ◌∙◌, subst, arith}
+use Rattle.std.specs.Prelude.{IfOk, IfSome}
 use Rattle.gs_filter.specs.Filter.{Filter}
 use Rattle.gs_game.specs.Games.{game_of}
 use Rattle.gs_game.specs.GoingOn.{StopsAfter}
 use Rattle.gs_game.specs.declared.valid.ValidGame.{ValidGame}
 use Rattle.gs_game.proofs.StopLaws.{stops_later, stops_signals}
 use Rattle.gs_model.specs.Classes.{list_of}
-use Rattle.gs_model.specs.Frame.{frame_of}
+use Rattle.gs_model.specs.Frame.{frame_of, signal_count}
 use Rattle.gs_model.specs.Game.{Game, round_count}
 use Rattle.gs_model.specs.Signals.{Signal, signals}
 use Rattle.gs_tree.specs.Trees.{rules_of}
 use Rattle.gs_lossless.specs.Scans.{IsFirstApart}
 use Rattle.gs_lossless.specs.declared.sides.Side.TheVariants.{Deals}
 use Rattle.gs_lossless.proofs.Descent.{last_is}
+use Rattle.gs_lossless.proofs.Scanned.{side_signals, side_top}
 use Rattle.gs_lossless.proofs.Settled.{if_ok}
 use Rattle.gs_lossless.proofs.Transfer.{apart_from}
 use Rattle.gs_lossless.proofs.stopped.first_deals_apart.Goals as goal
 use Rattle.gs_lossless.proofs.stopped.first_deals_apart.Goals.{In_ok-stopped}
+
+pub count-end-requires-clause-in_range : goal.count-end-requires-clause-in_range
+count-end-requires-clause-in_range c = side_top (rules_of c.args.signals.now) Deals c.args.round c.requires.side
 
 later : (g h : Game) (round last : ℕ) → round < last → last ≡ round_count g → StopsAfter g round h → round < round_count h
 later g h round last l e stops = stops_later g h round (omega (arith, l, e)) stops
@@ -41,8 +45,8 @@ first_apart-requires-clause-side c =
 
 pub first_apart-requires-clause-within : goal.first_apart-requires-clause-within
 first_apart-requires-clause-within c =
-    within (rules_of c.args.signals.now) (rules_of c.in_ok-stopped.stopped) c.args.round c.rounds.result c.args.end c.if-round-rounds.true c.rounds.ensures.value
-    (stops (goal.at.first_apart-requires-clause-within c).In_ok-stopped) c.requires.within
+    within (rules_of c.args.signals.now) (rules_of c.in_ok-stopped.stopped) c.args.round c.rounds.result c.count-end.result c.if-round-rounds.true c.rounds.ensures.value
+    (stops (goal.at.first_apart-requires-clause-within c).In_ok-stopped) (omega (arith, c.count-end.ensures.value))
 
 pub returns-in-Some-2 : goal.returns-in-Some-2
 returns-in-Some-2 c =
@@ -52,6 +56,14 @@ returns-in-Some-2 c =
     let others = c.in-Some-2.seen.lists in
     let round = c.args.round in
     let same = subst (λ (o : Option Filter). IfSome o (λ (f : Filter). list_of f.lists round ≡ list_of lists round)) c.in-Some-2.is c.in_ok-seen.ensures.same in
-    if_ok c.first_apart.result (IsFirstApart (frame_of h) others Deals round c.args.end) (IsFirstApart (frame_of g) lists Deals round c.args.end)
-    (apart_from g h round lists others c.requires.side.0 (omega (arith, c.if-round-rounds.true, c.rounds.ensures.value)) c.args.signals.now.game.now.accepted (stops (goal.at.returns-in-Some-2 c).In_ok-stopped) same c.args.end)
+    let all = c.count-end.ensures.value ∙ sym (side_signals g Deals round c.requires.side) in
+    if_ok c.first_apart.result (IsFirstApart (frame_of h) others Deals round c.count-end.result) (IsFirstApart (frame_of g) lists Deals round (signal_count (frame_of g) round))
+    (λ r apart. subst (λ (n : ℕ). IsFirstApart (frame_of g) lists Deals round n r) all
+    (apart_from g h round lists others c.requires.side.0 (omega (arith, c.if-round-rounds.true, c.rounds.ensures.value)) c.args.signals.now.game.now.accepted (stops (goal.at.returns-in-Some-2 c).In_ok-stopped) same c.count-end.result r apart))
     c.first_apart.ensures
+
+pub returns : goal.returns
+returns c =
+    let g = rules_of c.args.signals.now in
+    let all = c.count-end.ensures.value ∙ sym (side_signals g Deals c.args.round c.requires.side) in
+    subst (λ (n : ℕ). IfOk c.first_apart-2.result (IsFirstApart (frame_of g) c.args.classes.now.lists Deals c.args.round n)) all c.first_apart-2.ensures
