@@ -94,6 +94,10 @@ pub fn strength(ranker: &Ranker, ranking: Ranking, own: &[Card], public: &[Card]
     match ranking {
         Ranking::High => u32::from(ranker.rank(own[0])),
         Ranking::Pair => pair_strength(ranker, own[0], public),
+        // the usual hand of three cards, which are read where they stand
+        Ranking::Three if own.len() == 1 && public.len() == 2 => {
+            three_strength(ranker, own[0], public[0], public[1])
+        }
         Ranking::Three => three_strength(
             ranker,
             card_at(own, public, 0),
