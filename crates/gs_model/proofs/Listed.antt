@@ -1,7 +1,7 @@
 -- The last-round signals by recursion from the first round, in order; a group stands once in a list of groups.
 use Rattle.std.proofs.Common.{◌≡◌, ◌≢◌, ℕ, zero, suc, ◌+◌, ◌-◌, ◌<◌, ◌≤◌, List, [], ◌∷◌, ◌++◌, length, map, get_or, refl, sym, ap, ◌∙◌, subst, arith, append_assoc, append-nil, Bool, true, false, cond, eqb, ⊎_elim, slice_set, slice_index, nat_lt}
 use Rattle.std.specs.Prelude.{flat_map, filter, ◌&&◌, ◌==◌, count_by}
-use Rattle.std.specs.List.{range_with_len, AllByRecursion, All}
+use Rattle.std.specs.List.{range_with_len, AllByRecursion}
 use Rattle.std.proofs.lemmas.Bool.{cases_eq, cases_lt}
 use Rattle.std.proofs.lemmas.Bool.Decides.{Decides-eqb}
 use Rattle.std.proofs.lemmas.Grind.{flat_map-append}
