@@ -29,13 +29,13 @@ choose_more (suc n) (suc t) =
 abbrev pub times : ℕ → List ℕ → ℕ
 times k g = count_by (λ x. x == k) g
 
-times_here : (k : ℕ) (g : List ℕ) → times k (g ++ k ∷ []) ≡ suc (times k g)
+pub times_here : (k : ℕ) (g : List ℕ) → times k (g ++ k ∷ []) ≡ suc (times k g)
 times_here k g =
     let p = sum_by_push (λ x. cond (eqb x k) 1 0) g k in
     let e : eqb k k ≡ true = eq-eqb k k refl in
     grind (arith, p, e)
 
-times_other : (k a : ℕ) (g : List ℕ) → a ≢ k → times k (g ++ a ∷ []) ≡ times k g
+pub times_other : (k a : ℕ) (g : List ℕ) → a ≢ k → times k (g ++ a ∷ []) ≡ times k g
 times_other k a g n =
     let p = sum_by_push (λ x. cond (eqb x k) 1 0) g a in
     let e : eqb a k ≡ false = ne_eqb a k n in

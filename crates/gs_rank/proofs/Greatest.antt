@@ -1,7 +1,8 @@
 -- The category of three cards is the greatest that applies.
-use Rattle.std.proofs.Common.{◌≡◌, ◌≢◌, ℕ, ◌+◌, ◌-◌, ◌*◌, ◌/◌, ◌<◌, ◌≤◌, max, min, refl, arith, Bool, true, false, cond, ⊎_elim, inl, inr}
-use Rattle.std.specs.Prelude.{◌==◌, ◌&&◌, ◌⊎◌}
-use Rattle.std.proofs.lemmas.Bool.{eqb-true, eq-eqb, and_parts, and_from, cases_eq}
+use Rattle.std.proofs.Common.{◌≡◌, ◌≢◌, ℕ, ◌+◌, ◌-◌, ◌*◌, ◌/◌, ◌<◌, ◌≤◌, max, min, refl, sym, ap, ◌∙◌, suc, arith, Bool, true, false, cond, ⊎_elim, inl, inr}
+use Rattle.std.specs.Prelude.{◌==◌, ◌&&◌, ◌||◌, ◌⊎◌, nat_lt}
+use Rattle.std.proofs.Math.Bool.{or-true}
+use Rattle.std.proofs.lemmas.Bool.{eqb-true, eq-eqb, and_parts, and_from, or_cases, cases_eq}
 use Rattle.gs_model.specs.Game.{Three}
 use Rattle.gs_model.specs.Outcome.{rank_of, suit_of, three_strength, category}
 use Rattle.gs_rank.specs.ThreeCards.{Cards, Category, HighCard, OnePair, Flush, Straight, ThreeOfAKind, StraightFlush, number, Applies, IsPair, IsFlush, IsStraight, IsThreeOfAKind, IsGreatest}
@@ -59,86 +60,52 @@ all_same x y z h m l o e = (omega arith, omega arith)
 same_all : (x y z : ℕ) (h m l : ℕ) → InOrder x y z h m l → (x ≡ y) × (y ≡ z) → h ≡ l
 same_all x y z h m l o e = omega arith
 
--- what the tests say where a category is chosen
-at_pair : (s f e p q : Bool) → 1 ≡ chosen s f e p q → (p ≡ true) ⊎ (q ≡ true)
-at_pair s f e true q h = inl refl
-at_pair s f e false true h = inr refl
-at_pair true true e false false h = absurd (omega arith)
-at_pair true false true false false h = absurd (omega arith)
-at_pair true false false false false h = absurd (omega arith)
-at_pair false f true false false h = absurd (omega arith)
-at_pair false true false false false h = absurd (omega arith)
-at_pair false false false false false h = absurd (omega arith)
+-- what the tests have to say where a category applies
+abbrev says : Category → Bool → Bool → Bool → Bool → Bool → Bool
+says HighCard s f e p q = true
+says OnePair s f e p q = p || q
+says Flush s f e p q = f
+says Straight s f e p q = s
+says ThreeOfAKind s f e p q = e
+says StraightFlush s f e p q = s && f
 
-at_flush : (s f e p q : Bool) → 2 ≡ chosen s f e p q → f ≡ true
-at_flush s true e p q h = refl
-at_flush true false true p q h = absurd (omega arith)
-at_flush true false false p q h = absurd (omega arith)
-at_flush false false true p q h = absurd (omega arith)
-at_flush false false false true q h = absurd (omega arith)
-at_flush false false false false true h = absurd (omega arith)
-at_flush false false false false false h = absurd (omega arith)
+-- what is chosen applies, and what applies is no higher
+abbrev agrees : Category → Bool → Bool → Bool → Bool → Bool → Bool
+agrees c s f e p q = cond (number c == chosen s f e p q) (says c s f e p q) true && cond (says c s f e p q) (nat_lt (number c) (suc (chosen s f e p q))) true
 
-at_straight : (s f e p q : Bool) → 3 ≡ chosen s f e p q → s ≡ true
-at_straight true f e p q h = refl
-at_straight false f true p q h = absurd (omega arith)
-at_straight false true false p q h = absurd (omega arith)
-at_straight false false false true q h = absurd (omega arith)
-at_straight false false false false true h = absurd (omega arith)
-at_straight false false false false false h = absurd (omega arith)
+-- a test at both truth values
+abbrev each : (Bool → Bool) → Bool
+each t = t true && t false
 
-at_three : (s f e p q : Bool) → 4 ≡ chosen s f e p q → e ≡ true
-at_three s f true p q h = refl
-at_three true true false p q h = absurd (omega arith)
-at_three true false false p q h = absurd (omega arith)
-at_three false true false p q h = absurd (omega arith)
-at_three false false false true q h = absurd (omega arith)
-at_three false false false false true h = absurd (omega arith)
-at_three false false false false false h = absurd (omega arith)
+at_each : (t : Bool → Bool) → each t ≡ true → (b : Bool) → t b ≡ true
+at_each t h true = (and_parts (t true) (t false) h).0
+at_each t h false = (and_parts (t true) (t false) h).1
 
-at_straight_flush : (s f e p q : Bool) → 5 ≡ chosen s f e p q → (s ≡ true) × (f ≡ true)
-at_straight_flush true true e p q h = (refl, refl)
-at_straight_flush true false true p q h = absurd (omega arith)
-at_straight_flush true false false p q h = absurd (omega arith)
-at_straight_flush false f true p q h = absurd (omega arith)
-at_straight_flush false true false p q h = absurd (omega arith)
-at_straight_flush false false false true q h = absurd (omega arith)
-at_straight_flush false false false false true h = absurd (omega arith)
-at_straight_flush false false false false false h = absurd (omega arith)
+-- all 32 outcomes of the tests
+all_agree : (c : Category) → each (λ s. each (λ f. each (λ e. each (λ p. each (λ q. agrees c s f e p q))))) ≡ true
+all_agree HighCard = refl
+all_agree OnePair = refl
+all_agree Flush = refl
+all_agree Straight = refl
+all_agree ThreeOfAKind = refl
+all_agree StraightFlush = refl
 
--- and what is chosen where the tests hold
-from_pair : (s f e p q : Bool) → (p ≡ true) ⊎ (q ≡ true) → 1 ≤ chosen s f e p q
-from_pair true true e p q h = omega arith
-from_pair true false true p q h = omega arith
-from_pair true false false p q h = omega arith
-from_pair false f true p q h = omega arith
-from_pair false true false p q h = omega arith
-from_pair false false false true q h = omega arith
-from_pair false false false false true h = omega arith
-from_pair false false false false false h = ⊎_elim (λ (n : false ≡ true). absurd (cc)) (λ (n : false ≡ true). absurd (cc)) h
+module _ (c : Category) (s f e p q : Bool) where
+  agree : (cond (number c == chosen s f e p q) (says c s f e p q) true ≡ true) × (cond (says c s f e p q) (nat_lt (number c) (suc (chosen s f e p q))) true ≡ true)
+  agree =
+      let a = at_each (λ s. each (λ f. each (λ e. each (λ p. each (λ q. agrees c s f e p q))))) (all_agree c) s in
+      let b = at_each (λ f. each (λ e. each (λ p. each (λ q. agrees c s f e p q)))) a f in
+      let d = at_each (λ e. each (λ p. each (λ q. agrees c s f e p q))) b e in
+      let g = at_each (λ q. agrees c s f e p q) (at_each (λ p. each (λ q. agrees c s f e p q)) d p) q in
+      and_parts (cond (number c == chosen s f e p q) (says c s f e p q) true) (cond (says c s f e p q) (nat_lt (number c) (suc (chosen s f e p q))) true) g
 
-from_flush : (s f e p q : Bool) → f ≡ true → 2 ≤ chosen s f e p q
-from_flush s false e p q h = absurd (cc)
-from_flush true true e p q h = omega arith
-from_flush false true true p q h = omega arith
-from_flush false true false p q h = omega arith
+  said : number c ≡ chosen s f e p q → says c s f e p q ≡ true
+  said n = ap (λ t. cond t (says c s f e p q) true) (sym (eq-eqb _ _ n)) ∙ agree.0
 
-from_straight : (s f e p q : Bool) → s ≡ true → 3 ≤ chosen s f e p q
-from_straight false f e p q h = absurd (cc)
-from_straight true true e p q h = omega arith
-from_straight true false true p q h = omega arith
-from_straight true false false p q h = omega arith
-
-from_three : (s f e p q : Bool) → e ≡ true → 4 ≤ chosen s f e p q
-from_three s f false p q h = absurd (cc)
-from_three true true true p q h = omega arith
-from_three true false true p q h = omega arith
-from_three false f true p q h = omega arith
-
-from_straight_flush : (s f e p q : Bool) → s ≡ true → f ≡ true → 5 ≤ chosen s f e p q
-from_straight_flush false f e p q h k = absurd (cc)
-from_straight_flush true false e p q h k = absurd (cc)
-from_straight_flush true true e p q h k = omega arith
+  most : says c s f e p q ≡ true → number c ≤ chosen s f e p q
+  most h =
+      let l : nat_lt (number c) (suc (chosen s f e p q)) ≡ true = ap (λ t. cond t (nat_lt (number c) (suc (chosen s f e p q))) true) (sym h) ∙ agree.1 in
+      grind (arith, l)
 
 -- the category is the greatest that applies
 pub is_greatest : (suits : ℕ) (h : Cards) → rank_of suits h.first < 64 → rank_of suits h.second < 64 → rank_of suits h.third < 64 → IsGreatest suits h (category Three (three_strength suits h.first h.second h.third))
@@ -169,18 +136,24 @@ is_greatest suits h a b c =
     by : (suits : ℕ) (h : Cards) (s f e p q : Bool) → (s ≡ true → IsStraight suits h) → (IsStraight suits h → s ≡ true) → (f ≡ true → IsFlush suits h) → (IsFlush suits h → f ≡ true) → (e ≡ true → IsThreeOfAKind suits h) → (IsThreeOfAKind suits h → e ≡ true) → ((p ≡ true) ⊎ (q ≡ true) → IsPair suits h) → (IsPair suits h → (p ≡ true) ⊎ (q ≡ true)) → IsGreatest suits h (chosen s f e p q)
     by suits h s f e p q straight straight_back flush flush_back three three_back pair pair_back = record { applies = applies; greatest = greatest }
       where
+        told : (c : Category) → says c s f e p q ≡ true → Applies suits h c
+        told HighCard t = tt
+        told OnePair t = pair (or_cases p q t)
+        told Flush t = flush t
+        told Straight t = straight t
+        told ThreeOfAKind t = three t
+        told StraightFlush t = let k = and_parts s f t in (straight k.0, flush k.1)
+
+        tells : (c : Category) → Applies suits h c → says c s f e p q ≡ true
+        tells HighCard a = refl
+        tells OnePair a = ⊎_elim (λ (k : p ≡ true). ap (λ t. t || q) k) (λ (k : q ≡ true). ap (λ t. p || t) k ∙ or-true p) (pair_back a)
+        tells Flush a = flush_back a
+        tells Straight a = straight_back a
+        tells ThreeOfAKind a = three_back a
+        tells StraightFlush a = and_from s f (straight_back a.0) (flush_back a.1)
+
         applies : (c : Category) → number c ≡ chosen s f e p q → Applies suits h c
-        applies HighCard n = tt
-        applies OnePair n = pair (at_pair s f e p q n)
-        applies Flush n = flush (at_flush s f e p q n)
-        applies Straight n = straight (at_straight s f e p q n)
-        applies ThreeOfAKind n = three (at_three s f e p q n)
-        applies StraightFlush n = let k = at_straight_flush s f e p q n in (straight k.0, flush k.1)
+        applies c n = told c (said c s f e p q n)
 
         greatest : (c : Category) → Applies suits h c → number c ≤ chosen s f e p q
-        greatest HighCard a = omega arith
-        greatest OnePair a = from_pair s f e p q (pair_back a)
-        greatest Flush a = from_flush s f e p q (flush_back a)
-        greatest Straight a = from_straight s f e p q (straight_back a)
-        greatest ThreeOfAKind a = from_three s f e p q (three_back a)
-        greatest StraightFlush a = from_straight_flush s f e p q (straight_back a.0) (flush_back a.1)
+        greatest c a = most c s f e p q (tells c a)

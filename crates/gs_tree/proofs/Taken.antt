@@ -7,19 +7,7 @@ use Rattle.std.proofs.lemmas.List.Sums.{sum_by_push}
 use Rattle.std.specs.List.{AllByRecursion}
 use Rattle.std.proofs.lemmas.List.Elements.{All-from_recursion, recursion_from_All}
 use Rattle.gs_model.specs.Cards.{left_after, left_from, ways}
-use Rattle.gs_card.proofs.TakenCards.{times, ways_more, few_ways, ways-none}
-
-times_here : (k : ℕ) (g : List ℕ) → count_by (λ x. x == k) (g ++ k ∷ []) ≡ suc (count_by (λ x. x == k) g)
-times_here k g =
-    let p = sum_by_push (λ x. cond (eqb x k) 1 0) g k in
-    let e : eqb k k ≡ true = eq-eqb k k refl in
-    grind (arith, p, e)
-
-times_other : (k a : ℕ) (g : List ℕ) → a ≢ k → count_by (λ x. x == k) (g ++ a ∷ []) ≡ count_by (λ x. x == k) g
-times_other k a g n =
-    let p = sum_by_push (λ x. cond (eqb x k) 1 0) g a in
-    let e : eqb a k ≡ false = ne_eqb a k n in
-    grind (arith, p, e)
+use Rattle.gs_card.proofs.TakenCards.{times, times_here, times_other, ways_more, few_ways, ways-none}
 
 -- a card of a lower kind does not matter
 left_skip : (kind : ℕ) (left g : List ℕ) (a : ℕ) → a < kind → left_from kind left (g ++ a ∷ []) ≡ left_from kind left g
