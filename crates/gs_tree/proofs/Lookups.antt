@@ -220,6 +220,11 @@ text_first g d i c =
     ap (signal_text d) (c.signal_is ∙ ap (λ (s : Signal). s ++ last_seen (signal_at g 1 i) ∷ []) (no_signal (get_or (parents g 1) i 0) (signal_at g (1 - 1) (get_or (parents g 1) i 0)) refl))
     ∙ append-nil (seen_text d (last_seen (signal_at g 1 i)))
 
+pub shown_first : (g : Game) (d : DeckValue) (round i : ℕ) (shown : Shown) → round ≡ 1 → i < length (signals g round) → seen_of shown ≡ last_seen (signal_at g round i) → seen_text d (seen_of shown) ≡ signal_text d (signal_at g round i)
+shown_first g d round i shown first m shows =
+    let P : ℕ → Type 0 = λ k. i < length (signals g k) in
+    ap (seen_text d) (shows ∙ ap (λ k. last_seen (signal_at g k i)) first) ∙ sym (text_first g d i (is_child g 1 i (omega arith) (subst P first m))) ∙ ap (λ k. signal_text d (signal_at g k i)) (sym first)
+
 -- ---- what a table shows of one signal
 pub shown_read : (g : Game) (ps : List (Vec ℕ)) (ls : List Layer) (round i : ℕ) (l : Layer) (shown : Shown) → AreTables g ps ls → 0 < round → round ≤ length ls → l ≡ get_or ls (round - 1) l → i < length (signals g round) → shown ≡ get_or l.shown.items i shown → seen_of shown ≡ last_seen (signal_at g round i)
 shown_read g ps ls round i l shown t some le e m s =
@@ -237,3 +242,29 @@ shown_cards g round i n shown some m s e =
     let P : Seen → Type 0 = λ p. All (λ c. c < length g.copies) p.own × All (λ c. c < length g.copies) p.public in
     let Q : ℕ → Type 0 = λ k. All (λ c. c < k) (cards_of shown.own) × All (λ c. c < k) (cards_of shown.public) in
     subst Q e (subst P (sym s) (h.own_in, h.public_in))
+
+-- what was read of a signal's last round
+pub record IsSeen (g : Game) (round i n : ℕ) (shown : Shown) : Type 0 where
+  pub shows : seen_of shown ≡ last_seen (signal_at g round i)
+  pub own : All (λ c. c < n) (cards_of shown.own)
+  pub public : All (λ c. c < n) (cards_of shown.public)
+
+pub seen_read : (g : Game) (ps : List (Vec ℕ)) (ls : List Layer) (round i n : ℕ) (l : Layer) (shown : Shown) → AreTables g ps ls → 0 < round → round ≤ length ls → l ≡ get_or ls (round - 1) l → i < length (signals g round) → shown ≡ get_or l.shown.items i shown → length g.copies ≡ n → IsSeen g round i n shown
+seen_read g ps ls round i n l shown t some le e m s counted =
+    let shows = shown_read g ps ls round i l shown t some le e m s in
+    let cards = shown_cards g round i n shown some m shows counted in
+    record { shows = shows; own = cards.0; public = cards.1 }
+
+-- what was read of its parent
+pub record IsParent (g : Game) (round i p : ℕ) : Type 0 where
+  pub is : p ≡ get_or (parents g round) i 0
+  pub within : p < length (signals g (round - 1))
+
+module _ (g : Game) (ps : List (Vec ℕ)) (ls : List Layer) (round i : ℕ) (row : Vec ℕ) (t : AreTables g ps ls) (some : 0 < round) (le : round ≤ length ls) (e : row ≡ get_or ps (round - 1) row) (m : i < length (signals g round)) where
+  pub row_within : i < vec_len row
+  row_within = omega (arith, ap (λ (x : List ℕ). length x) (parents_of g ps ls round row t some le e), length-parents g round, row.ok.0, m)
+
+  pub parent_is : (p : ℕ) → p ≡ get_or row.items i p → IsParent g round i p
+  parent_is p r =
+      let is = parent_read g row round i p (parents_of g ps ls round row t some le e) m r in
+      record { is = is; within = omega (arith, is, (is_child g round i some m).parent_in) }

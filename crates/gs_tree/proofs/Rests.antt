@@ -33,3 +33,7 @@ text_grown g d round i parent shown some l at shows =
     ap (λ k. (signal_text d (signal_at g (round - 1) k) ++ 47 ∷ []) ++ seen_text d (seen_of shown)) at
     ∙ ap (λ (q : Seen). (signal_text d (signal_at g (round - 1) (get_or (parents g round) i 0)) ++ 47 ∷ []) ++ seen_text d q) shows
     ∙ sym (text_later g d round i some l (is_child g round i (omega arith) l))
+
+-- the same behind what stands before
+pub text_behind : (before front last whole : List ℕ) → (front ++ 47 ∷ []) ++ last ≡ whole → ((before ++ front) ++ 47 ∷ []) ++ last ≡ before ++ whole
+text_behind before front last whole e = ap (λ x. x ++ last) (append_assoc before front (47 ∷ [])) ∙ append_assoc before (front ++ 47 ∷ []) last ∙ ap (λ x. before ++ x) e

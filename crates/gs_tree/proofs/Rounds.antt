@@ -1,5 +1,6 @@
 -- What the tables tell of the signals of the next round, and what is kept of these from the round before.
 use Rattle.std.proofs.Common.{◌≡◌, ℕ, zero, suc, ◌-◌, ◌*◌, ◌^◌, ◌<◌, ◌≤◌, ◌++◌, List, [], ◌∷◌, length, map, get_or, replicate, refl, sym, ap, ◌∙◌, arith, subst, All}
+use Rattle.std.proofs.lemmas.Grind.{get_or_default_zero}
 use Rattle.std.proofs.lemmas.List.{get_or-map, get_or-replicate, length-map, length-replicate}
 use Rattle.std.specs.Global.{Vec}
 use Rattle.gs_game.specs.Limits.{IsDealable}
@@ -17,13 +18,14 @@ use Rattle.gs_tree.proofs.Lookups.{is_child, layer_of}
 use Rattle.gs_tree.proofs.Paths.{last_edge_small, path_small, path_step, power_fits, power_step}
 
 -- what the tables hold of a signal of the round after the first n
-pub record IsTold (g : Game) (n i : ℕ) (row : List ℕ) (l : Layer) : Type 0 where
+pub record IsTold (g : Game) (n i p : ℕ) (row : List ℕ) (l : Layer) : Type 0 where
+  pub here : i < length (signals g (suc n))
   pub row_long : i < length row
-  pub parent_in : get_or row i 0 < length (signals g n)
+  pub parent_in : p < length (signals g n)
   pub edge_is : get_or l.edges i 0 ≡ last_edge g.copies (signal_at g (suc n) i)
   pub shows : (d : Shown) → seen_of (get_or l.shown.items i d) ≡ last_seen (signal_at g (suc n) i)
-  pub signal_is : signal_at g (suc n) i ≡ signal_at g n (get_or row i 0) ++ last_seen (signal_at g (suc n) i) ∷ []
-  pub path_is : path_weight g.copies (signal_at g (suc n) i) ≡ path_weight g.copies (signal_at g n (get_or row i 0)) * last_edge g.copies (signal_at g (suc n) i)
+  pub signal_is : signal_at g (suc n) i ≡ signal_at g n p ++ last_seen (signal_at g (suc n) i) ∷ []
+  pub path_is : path_weight g.copies (signal_at g (suc n) i) ≡ path_weight g.copies (signal_at g n p) * last_edge g.copies (signal_at g (suc n) i)
 
 module _ (g : Game) (ps : List (Vec ℕ)) (ls : List Layer) (n : ℕ) (t : AreTables g ps ls) (in' : n < length ls) where
   before : suc n - 1 ≡ n
@@ -38,7 +40,13 @@ module _ (g : Game) (ps : List (Vec ℕ)) (ls : List Layer) (n : ℕ) (t : AreTa
   pub row_is_long : (row : Vec ℕ) → row ≡ get_or ps n row → length row.items ≡ length (signals g (suc n))
   row_is_long row r = ap (λ (v : Vec ℕ). length v.items) r ∙ ap (λ (x : List ℕ). length x) (t.owned n row in') ∙ length-parents g (suc n)
 
-  pub told : (row : Vec ℕ) (l : Layer) (i : ℕ) → row ≡ get_or ps n row → l ≡ get_or ls n l → i < length (signals g (suc n)) → IsTold g n i row.items l
+  -- what the layer shows of a signal
+  pub shown_at : (l : Layer) (i : ℕ) → l ≡ get_or ls n l → i < length l.shown.items → (d : Shown) → seen_of (get_or l.shown.items i d) ≡ last_seen (signal_at g (suc n) i)
+  shown_at l i e m d =
+      let h = layer_of g ps ls (suc n) l t (omega arith) (omega (arith, in')) (e ∙ ap (λ k. get_or ls k l) (sym before)) in
+      h.shows i d (omega (arith, h.long, m))
+
+  pub told : (row : Vec ℕ) (l : Layer) (i : ℕ) → row ≡ get_or ps n row → l ≡ get_or ls n l → i < length (signals g (suc n)) → IsTold g n i (get_or row.items i 0) row.items l
   told row l i r e m =
       let h = layer_of g ps ls (suc n) l t (omega arith) (omega (arith, in')) (e ∙ ap (λ k. get_or ls k l) (sym before)) in
       let rows : row.items ≡ parents g (suc n) = ap (λ (v : Vec ℕ). v.items) r ∙ t.owned n row in' in
@@ -48,6 +56,7 @@ module _ (g : Game) (ps : List (Vec ℕ)) (ls : List Layer) (n : ℕ) (t : AreTa
       let last : Seen = last_seen (signal_at g (suc n) i) in
       let P : ℕ → Type 0 = λ k. p < length (signals g k) in
       record {
+        here = m;
         row_long = omega (arith, ap (λ (x : List ℕ). length x) rows, length-parents g (suc n), m);
         parent_in = omega (arith, owner, subst P before c.parent_in);
         edge_is = h.weighs i m;
@@ -56,6 +65,17 @@ module _ (g : Game) (ps : List (Vec ℕ)) (ls : List Layer) (n : ℕ) (t : AreTa
         path_is = path_step g (suc n) i c ∙ ap (λ k. path_weight g.copies (signal_at g k p) * last_edge g.copies (signal_at g (suc n) i)) before
             ∙ ap (λ k. path_weight g.copies (signal_at g n k) * last_edge g.copies (signal_at g (suc n) i)) (sym owner);
       }
+
+  -- a signal of the layer has a parent in the row
+  pub row_covers : (row : Vec ℕ) (l : Layer) (i : ℕ) → row ≡ get_or ps n row → l ≡ get_or ls n l → i < length l.shown.items → i < length row.items
+  row_covers row l i r e m = omega (arith, row_is_long row r, (layer_long l e).0, m)
+
+  -- the same by the parent that was read
+  pub told_at : (row : Vec ℕ) (l : Layer) (i p : ℕ) → row ≡ get_or ps n row → l ≡ get_or ls n l → i < length l.shown.items → p ≡ get_or row.items i p → IsTold g n i p row.items l
+  told_at row l i p r e m read =
+      let h = told row l i r e (omega (arith, (layer_long l e).0, m)) in
+      let P : ℕ → Type 0 = λ k. IsTold g n i k row.items l in
+      subst P (sym (read ∙ get_or_default_zero row.items i p h.row_long)) h
 
 -- the ways to a signal fit
 pub path_fits : (g : Game) (n i p a b : ℕ) → IsDealable g → All (λ c. c ≤ 9) g.copies → n < round_count g → round_count g ≤ 4 → i < length (signals g (suc n)) → p < length (signals g n) → a ≡ path_weight g.copies (signal_at g n p) → b ≡ last_edge g.copies (signal_at g (suc n) i) → a * b ≤ 12157665459056928801

@@ -1,80 +1,58 @@
 use Rattle.std.proofs.Common.{◌≡◌, ◌*◌, ◌<◌, ℕ, List, [], suc, length, get_or, sym, ap, ◌∙◌, arith}
-use Rattle.std.proofs.lemmas.Grind.{get_or_default_zero}
 use Rattle.std.proofs.lemmas.List.{get_or-map, length-map}
 use Rattle.gs_game.specs.Games.{game_of}
 use Rattle.gs_model.specs.Deals.{path_weight}
 use Rattle.gs_model.specs.Game.{Game}
-use Rattle.gs_model.specs.Signals.{Signal, last_edge, signal_at, signals}
+use Rattle.gs_model.specs.Signals.{signal_at, signals}
 use Rattle.gs_tree.proofs.Pushed.{mapped_more}
-use Rattle.gs_tree.proofs.Rounds.{layer_long, one_way, path_fits, told}
+use Rattle.gs_tree.proofs.Rounds.{IsTold, layer_long, one_way, path_fits, row_covers, told_at}
 use Rattle.gs_tree.proofs.kept.next_paths.Goals as goal
+use Rattle.gs_tree.proofs.kept.next_paths.Goals.{After-index-in-loop-signal, After-of-path, In-loop-signal}
+
+-- the signal is one of the layer
+within : (c : In-loop-signal) → c.loop-signal.signal < length c.index.result.now.shown.items
+within c =
+    let long = layer_long (game_of c.args.game.now) c.args.tables.now.parents.items c.args.tables.now.layers.items c.args.round c.requires.tables c.requires.round_in c.index.result.now c.index.ensures in
+    omega (arith, long.0, long.1, c.len-signal-end.ensures, c.loop-signal-test.true)
+
+-- what the tables tell of it
+known : (c : After-index-in-loop-signal) → c.loop-signal.signal < length c.index.result.now.shown.items → IsTold (game_of c.args.game.now) c.args.round c.loop-signal.signal c.index-in-loop-signal.result.now c.index-parents.result.now.items c.index.result.now
+known c m = told_at (game_of c.args.game.now) c.args.tables.now.parents.items c.args.tables.now.layers.items c.args.round c.requires.tables c.requires.round_in c.index-parents.result.now c.index.result.now c.loop-signal.signal c.index-in-loop-signal.result.now c.index-parents.ensures c.index.ensures m c.index-in-loop-signal.ensures
+
+-- the ways to its parent
+path : (c : After-of-path) → c.index-in-loop-signal.result.now < length (signals (game_of c.args.game.now) c.args.round) → c.of-path.result ≡ path_weight (game_of c.args.game.now).copies (signal_at (game_of c.args.game.now) c.args.round c.index-in-loop-signal.result.now)
+path c m =
+    let g : Game = game_of c.args.game.now in
+    c.of-path.ensures ∙ ap (λ (x : List ℕ). get_or x c.index-in-loop-signal.result.now 0) c.requires.before ∙ get_or-map (path_weight g.copies) (signals g c.args.round) c.index-in-loop-signal.result.now [] 0 m
 
 pub index-requires-in-loop-signal : goal.index-requires-in-loop-signal
 index-requires-in-loop-signal c =
-    let g : Game = game_of c.args.game.now in
-    let t = c.args.tables.now in
-    let l = c.index.result.now in
-    let row = c.index-parents.result.now in
-    let long = layer_long g t.parents.items t.layers.items c.args.round c.requires.tables c.requires.round_in l c.index.ensures in
-    let here : c.loop-signal.signal < length (signals g (suc c.args.round)) = omega (arith, long.1, c.len-signal-end.ensures, c.loop-signal-test.true) in
-    let h = told g t.parents.items t.layers.items c.args.round c.requires.tables c.requires.round_in row l c.loop-signal.signal c.index-parents.ensures c.index.ensures here in
-    omega (arith, h.row_long, row.ok.0)
+    omega (arith, c.index-parents.result.now.ok.0, row_covers (game_of c.args.game.now) c.args.tables.now.parents.items c.args.tables.now.layers.items c.args.round c.requires.tables c.requires.round_in c.index-parents.result.now c.index.result.now c.loop-signal.signal c.index-parents.ensures c.index.ensures (within (goal.at.index-requires-in-loop-signal c).In-loop-signal))
 
 pub of-path-requires : goal.of-path-requires
 of-path-requires c =
+    let w = goal.at.of-path-requires c in
     let g : Game = game_of c.args.game.now in
-    let t = c.args.tables.now in
-    let l = c.index.result.now in
-    let row = c.index-parents.result.now in
-    let i : ℕ = c.loop-signal.signal in
-    let long = layer_long g t.parents.items t.layers.items c.args.round c.requires.tables c.requires.round_in l c.index.ensures in
-    let here : i < length (signals g (suc c.args.round)) = omega (arith, long.1, c.len-signal-end.ensures, c.loop-signal-test.true) in
-    let h = told g t.parents.items t.layers.items c.args.round c.requires.tables c.requires.round_in row l i c.index-parents.ensures c.index.ensures here in
-    let parent : c.index-in-loop-signal.result.now ≡ get_or row.items i 0 = c.index-in-loop-signal.ensures ∙ get_or_default_zero row.items i c.index-in-loop-signal.result.now h.row_long in
-    omega (arith, parent, h.parent_in, ap (λ (x : List ℕ). length x) c.requires.before, length-map (signals g c.args.round) (path_weight g.copies))
+    omega (arith, (known w.After-index-in-loop-signal (within w.In-loop-signal)).parent_in, ap (λ (x : List ℕ). length x) c.requires.before, length-map (signals g c.args.round) (path_weight g.copies))
 
 pub overflow_mul-path : goal.overflow_mul-path
 overflow_mul-path c =
-    let g : Game = game_of c.args.game.now in
-    let t = c.args.tables.now in
-    let l = c.index.result.now in
-    let row = c.index-parents.result.now in
-    let n : ℕ = c.args.round in
-    let i : ℕ = c.loop-signal.signal in
-    let p : ℕ = c.index-in-loop-signal.result.now in
-    let long = layer_long g t.parents.items t.layers.items n c.requires.tables c.requires.round_in l c.index.ensures in
-    let here : i < length (signals g (suc n)) = omega (arith, long.1, c.len-signal-end.ensures, c.loop-signal-test.true) in
-    let h = told g t.parents.items t.layers.items n c.requires.tables c.requires.round_in row l i c.index-parents.ensures c.index.ensures here in
-    let parent : p ≡ get_or row.items i 0 = c.index-in-loop-signal.ensures ∙ get_or_default_zero row.items i p h.row_long in
-    let within : p < length (signals g n) = omega (arith, parent, h.parent_in) in
-    let path : c.of-path.result ≡ path_weight g.copies (signal_at g n p) =
-    c.of-path.ensures ∙ ap (λ (x : List ℕ). get_or x p 0) c.requires.before ∙ get_or-map (path_weight g.copies) (signals g n) p [] 0 within in
-    let edge : c.of.result ≡ last_edge g.copies (signal_at g (suc n) i) = c.of.ensures ∙ h.edge_is in
-    let fits = path_fits g n i p c.of-path.result c.of.result c.requires.dealable c.kinds-kinds.ensures.deck.copies (omega (arith, c.requires.round_in, c.requires.all)) c.requires.limits.few_rounds here within path edge in
+    let w = goal.at.overflow_mul-path c in
+    let h = known w.After-index-in-loop-signal (within w.In-loop-signal) in
+    let fits = path_fits (game_of c.args.game.now) c.args.round c.loop-signal.signal c.index-in-loop-signal.result.now c.of-path.result c.of.result c.requires.dealable c.kinds-kinds.ensures.deck.copies (omega (arith, c.requires.round_in, c.requires.all)) c.requires.limits.few_rounds h.here h.parent_in (path w.After-of-path h.parent_in) (c.of.ensures ∙ h.edge_is) in
     omega (arith, fits)
 
 pub loop-signal-preserved : goal.loop-signal-preserved
 loop-signal-preserved c =
+    let w = goal.at.loop-signal-preserved c in
     let g : Game = game_of c.args.game.now in
-    let t = c.args.tables.now in
-    let l = c.index.result.now in
-    let row = c.index-parents.result.now in
     let n : ℕ = c.args.round in
     let i : ℕ = c.loop-signal.signal in
-    let p : ℕ = c.index-in-loop-signal.result.now in
-    let ss : List Signal = signals g (suc n) in
-    let long = layer_long g t.parents.items t.layers.items n c.requires.tables c.requires.round_in l c.index.ensures in
-    let here : i < length ss = omega (arith, long.1, c.len-signal-end.ensures, c.loop-signal-test.true) in
-    let h = told g t.parents.items t.layers.items n c.requires.tables c.requires.round_in row l i c.index-parents.ensures c.index.ensures here in
-    let parent : p ≡ get_or row.items i 0 = c.index-in-loop-signal.ensures ∙ get_or_default_zero row.items i p h.row_long in
-    let within : p < length (signals g n) = omega (arith, parent, h.parent_in) in
-    let path : c.of-path.result ≡ path_weight g.copies (signal_at g n p) =
-    c.of-path.ensures ∙ ap (λ (x : List ℕ). get_or x p 0) c.requires.before ∙ get_or-map (path_weight g.copies) (signals g n) p [] 0 within in
-    let edge : c.of.result ≡ last_edge g.copies (signal_at g (suc n) i) = c.of.ensures ∙ h.edge_is in
+    let h = known w.After-index-in-loop-signal (within w.In-loop-signal) in
     let value : c.of-path.result * c.of.result ≡ path_weight g.copies (signal_at g (suc n) i) =
-    ap (λ k. k * c.of.result) path ∙ ap (λ k. path_weight g.copies (signal_at g n p) * k) edge
-    ∙ ap (λ k. path_weight g.copies (signal_at g n k) * last_edge g.copies (signal_at g (suc n) i)) parent ∙ sym h.path_is in
-    c.in_ok-push.ensures ∙ mapped_more (path_weight g.copies) [] c.loop-signal.paths ss i [] (c.of-path.result * c.of.result) here c.loop-signal.invariant value
+    ap (λ k. k * c.of.result) (path w.After-of-path h.parent_in)
+    ∙ ap (λ k. path_weight g.copies (signal_at g n c.index-in-loop-signal.result.now) * k) (c.of.ensures ∙ h.edge_is) ∙ sym h.path_is in
+    c.in_ok-push.ensures ∙ mapped_more (path_weight g.copies) [] c.loop-signal.paths (signals g (suc n)) i [] (c.of-path.result * c.of.result) h.here c.loop-signal.invariant value
 
 pub returns-in-Some-Some : goal.returns-in-Some-Some
 returns-in-Some-Some c =

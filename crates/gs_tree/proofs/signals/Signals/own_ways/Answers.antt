@@ -12,18 +12,30 @@ use Rattle.gs_model.specs.Signals.{Seen, Signal, signal_at, signals, left_by, ow
 use Rattle.gs_tree.specs.Trees.{rules_of}
 use Rattle.gs_tree.proofs.Beside.{left_by_cards}
 use Rattle.gs_tree.proofs.Paths.{power_fits}
-use Rattle.gs_tree.proofs.Rows.{has_rounds, nothing, part_in, parts_length, power_more, turn}
+use Rattle.gs_tree.proofs.Rows.{IsTurn, has_rounds, nothing, part_in, parts_length, power_more, turn}
 use Rattle.gs_tree.proofs.signals.Signals.own_ways.Goals as goal
+use Rattle.gs_tree.proofs.signals.Signals.own_ways.Goals.{After-deref-round-items, After-from}
+
+-- the rounds of the loop are the game's
+all_rounds : (c : After-deref-round-items) → (rules_of c.args.self.now).rounds ≡ map round_of c.deref-round-items.result.now
+all_rounds c = sym (ap (map round_of) (c.deref-round-items.ensures.value ∙ ap (λ (x : Described). x.rounds.items) c.game.ensures))
+
+-- what one turn reads
+read_turn : (c : After-from) → (rules_of c.args.self.now).rounds ≡ map round_of c.deref-round-items.result.now
+    → IsTurn (rules_of c.args.self.now) (left_by (rules_of c.args.self.now).copies (signal_at (rules_of c.args.self.now) (round_count (rules_of c.args.self.now)) c.args.one)) (signal_at (rules_of c.args.self.now) (round_count (rules_of c.args.self.now)) c.args.two) c.loop-round.round-index c.loop-round.start (c.loop-round.start + c.from.result) c.own-own.result.now
+read_turn c all =
+    let s = c.args.self.now in
+    let g : Game = rules_of s in
+    let left : List ℕ = left_by g.copies (signal_at g (round_count g) c.args.one) in
+    turn g left c.deref-round-items.result.now c.args.two c.loop-round.round-index c.round-item.result c.loop-round.start (c.loop-round.start + c.from.result) c.own-own.result.now s.game.now.dealable all c.requires.two_in c.own-own.ensures c.loop-round-test.true c.round-item.is c.loop-round.invariant.start
+    (ap (λ w. c.loop-round.start + w) c.from.ensures)
 
 pub overflow_add-end : goal.overflow_add-end
 overflow_add-end c =
+    let w = goal.at.overflow_add-end c in
     let s = c.args.self.now in
     let g : Game = rules_of s in
-    let k : ℕ = c.loop-round.round-index in
-    let left : List ℕ = left_by g.copies (signal_at g (round_count g) c.args.one) in
-    let all : g.rounds ≡ map round_of c.deref-round-items.result.now = sym (ap (map round_of) (c.deref-round-items.ensures.value ∙ ap (λ (x : Described). x.rounds.items) c.game.ensures)) in
-    let end : c.loop-round.start + c.from.result ≡ c.loop-round.start + c.round-item.result.private = ap (λ w. c.loop-round.start + w) c.from.ensures in
-    let h = turn g left c.deref-round-items.result.now c.args.two k c.round-item.result c.loop-round.start (c.loop-round.start + c.from.result) c.own-own.result.now s.game.now.dealable all c.requires.two_in c.own-own.ensures c.loop-round-test.true c.round-item.is c.loop-round.invariant.start end in
+    let h = read_turn w.After-from (all_rounds w.After-deref-round-items) in
     let ss : List Signal = signals g (round_count g) in
     let long : length s.hands.owns.items ≡ length ss * s.hands.own = ap (λ (x : List ℕ). length x) s.dealt.owned ∙ parts_length own_cards s.hands.own ss [] s.dealt.own_each in
     let room : c.args.two * s.hands.own + s.hands.own ≤ length ss * s.hands.own = part_in c.args.two (length ss) s.hands.own c.requires.two_in in
@@ -32,71 +44,42 @@ overflow_add-end c =
 
 pub slice_bounds-ways_beside-end : goal.slice_bounds-ways_beside-end
 slice_bounds-ways_beside-end c =
-    let s = c.args.self.now in
-    let g : Game = rules_of s in
-    let k : ℕ = c.loop-round.round-index in
-    let left : List ℕ = left_by g.copies (signal_at g (round_count g) c.args.one) in
-    let all : g.rounds ≡ map round_of c.deref-round-items.result.now = sym (ap (map round_of) (c.deref-round-items.ensures.value ∙ ap (λ (x : Described). x.rounds.items) c.game.ensures)) in
-    let end : c.loop-round.start + c.from.result ≡ c.loop-round.start + c.round-item.result.private = ap (λ w. c.loop-round.start + w) c.from.ensures in
-    let h = turn g left c.deref-round-items.result.now c.args.two k c.round-item.result c.loop-round.start (c.loop-round.start + c.from.result) c.own-own.result.now s.game.now.dealable all c.requires.two_in c.own-own.ensures c.loop-round-test.true c.round-item.is c.loop-round.invariant.start end in
-    sym (length-take-le c.loop-round.start c.own-own.result.now (omega (arith, h.step.within)))
+    let w = goal.at.slice_bounds-ways_beside-end c in
+    sym (length-take-le c.loop-round.start c.own-own.result.now (omega (arith, (read_turn w.After-from (all_rounds w.After-deref-round-items)).step.within)))
 
 pub slice_bounds-ways_beside-end-in-loop-round : goal.slice_bounds-ways_beside-end-in-loop-round
 slice_bounds-ways_beside-end-in-loop-round c =
-    let s = c.args.self.now in
-    let g : Game = rules_of s in
-    let k : ℕ = c.loop-round.round-index in
-    let left : List ℕ = left_by g.copies (signal_at g (round_count g) c.args.one) in
-    let all : g.rounds ≡ map round_of c.deref-round-items.result.now = sym (ap (map round_of) (c.deref-round-items.ensures.value ∙ ap (λ (x : Described). x.rounds.items) c.game.ensures)) in
-    let end : c.loop-round.start + c.from.result ≡ c.loop-round.start + c.round-item.result.private = ap (λ w. c.loop-round.start + w) c.from.ensures in
-    let h = turn g left c.deref-round-items.result.now c.args.two k c.round-item.result c.loop-round.start (c.loop-round.start + c.from.result) c.own-own.result.now s.game.now.dealable all c.requires.two_in c.own-own.ensures c.loop-round-test.true c.round-item.is c.loop-round.invariant.start end in
-    omega (arith, h.step.within)
+    let w = goal.at.slice_bounds-ways_beside-end-in-loop-round c in
+    omega (arith, (read_turn w.After-from (all_rounds w.After-deref-round-items)).step.within)
 
 pub ways_beside-ways-requires-clause-own_in : goal.ways_beside-ways-requires-clause-own_in
 ways_beside-ways-requires-clause-own_in c =
-    let s = c.args.self.now in
-    let g : Game = rules_of s in
-    let k : ℕ = c.loop-round.round-index in
-    let left : List ℕ = left_by g.copies (signal_at g (round_count g) c.args.one) in
-    let all : g.rounds ≡ map round_of c.deref-round-items.result.now = sym (ap (map round_of) (c.deref-round-items.ensures.value ∙ ap (λ (x : Described). x.rounds.items) c.game.ensures)) in
-    let end : c.loop-round.start + c.from.result ≡ c.loop-round.start + c.round-item.result.private = ap (λ w. c.loop-round.start + w) c.from.ensures in
-    let h = turn g left c.deref-round-items.result.now c.args.two k c.round-item.result c.loop-round.start (c.loop-round.start + c.from.result) c.own-own.result.now s.game.now.dealable all c.requires.two_in c.own-own.ensures c.loop-round-test.true c.round-item.is c.loop-round.invariant.start end in
-    let kinds_are : length g.copies ≡ kinds c.deck-deck.result.now = c.deck-deck.ensures.valid.counted ∙ sym (ap kinds c.deck-deck.ensures.deck) in
+    let w = goal.at.ways_beside-ways-requires-clause-own_in c in
+    let kinds_are : length (rules_of c.args.self.now).copies ≡ kinds c.deck-deck.result.now = c.deck-deck.ensures.valid.counted ∙ sym (ap kinds c.deck-deck.ensures.deck) in
     let P : ℕ → Type 0 = λ n. All (λ card. card < n) (between c.loop-round.start (c.loop-round.start + c.from.result) c.own-own.result.now) in
-    subst P kinds_are h.own_in
+    subst P kinds_are (read_turn w.After-from (all_rounds w.After-deref-round-items)).own_in
 
 pub ways_beside-ways-requires-clause-own_few : goal.ways_beside-ways-requires-clause-own_few
 ways_beside-ways-requires-clause-own_few c =
-    let s = c.args.self.now in
-    let g : Game = rules_of s in
-    let k : ℕ = c.loop-round.round-index in
-    let left : List ℕ = left_by g.copies (signal_at g (round_count g) c.args.one) in
-    let all : g.rounds ≡ map round_of c.deref-round-items.result.now = sym (ap (map round_of) (c.deref-round-items.ensures.value ∙ ap (λ (x : Described). x.rounds.items) c.game.ensures)) in
-    let end : c.loop-round.start + c.from.result ≡ c.loop-round.start + c.round-item.result.private = ap (λ w. c.loop-round.start + w) c.from.ensures in
-    let h = turn g left c.deref-round-items.result.now c.args.two k c.round-item.result c.loop-round.start (c.loop-round.start + c.from.result) c.own-own.result.now s.game.now.dealable all c.requires.two_in c.own-own.ensures c.loop-round-test.true c.round-item.is c.loop-round.invariant.start end in
-    h.few
+    let w = goal.at.ways_beside-ways-requires-clause-own_few c in
+    (read_turn w.After-from (all_rounds w.After-deref-round-items)).few
 
 pub overflow_mul-ways : goal.overflow_mul-ways
 overflow_mul-ways c =
-    let s = c.args.self.now in
-    let g : Game = rules_of s in
     let k : ℕ = c.loop-round.round-index in
-    let left : List ℕ = left_by g.copies (signal_at g (round_count g) c.args.one) in
-    let all : g.rounds ≡ map round_of c.deref-round-items.result.now = sym (ap (map round_of) (c.deref-round-items.ensures.value ∙ ap (λ (x : Described). x.rounds.items) c.game.ensures)) in
+    let all = all_rounds (goal.at.overflow_mul-ways c).After-deref-round-items in
     let power = power_more c.loop-round.ways c.ways_beside-ways.result k c.loop-round.invariant.small c.ways_beside-ways.ensures.small in
-    let few : k + 1 ≤ 4 = omega (arith, s.game.now.limits.few_rounds, c.loop-round-test.true, ap (λ (x : List Round). length x) all, length-map c.deref-round-items.result.now round_of) in
+    let few : k + 1 ≤ 4 = omega (arith, c.args.self.now.game.now.limits.few_rounds, c.loop-round-test.true, ap (λ (x : List Round). length x) all, length-map c.deref-round-items.result.now round_of) in
     let fits = power_fits (c.loop-round.ways * c.ways_beside-ways.result) (k + 1) few power in
     omega (arith, fits)
 
 pub loop-round-preserved : goal.loop-round-preserved
 loop-round-preserved c =
-    let s = c.args.self.now in
-    let g : Game = rules_of s in
+    let w = goal.at.loop-round-preserved c in
+    let g : Game = rules_of c.args.self.now in
     let k : ℕ = c.loop-round.round-index in
     let left : List ℕ = left_by g.copies (signal_at g (round_count g) c.args.one) in
-    let all : g.rounds ≡ map round_of c.deref-round-items.result.now = sym (ap (map round_of) (c.deref-round-items.ensures.value ∙ ap (λ (x : Described). x.rounds.items) c.game.ensures)) in
-    let end : c.loop-round.start + c.from.result ≡ c.loop-round.start + c.round-item.result.private = ap (λ w. c.loop-round.start + w) c.from.ensures in
-    let h = turn g left c.deref-round-items.result.now c.args.two k c.round-item.result c.loop-round.start (c.loop-round.start + c.from.result) c.own-own.result.now s.game.now.dealable all c.requires.two_in c.own-own.ensures c.loop-round-test.true c.round-item.is c.loop-round.invariant.start end in
+    let h = read_turn w.After-from (all_rounds w.After-deref-round-items) in
     let t : Signal = signal_at g (round_count g) c.args.two in
     let p : Seen = get_or t k nothing in
     let copies : left_after (left_after c.deck-deck.result.now.counts c.own-held.result.now) c.public-board.result.now ≡ left =
@@ -119,11 +102,9 @@ loop-round-preserved c =
 
 pub returns : goal.returns
 returns c =
-    let s = c.args.self.now in
-    let g : Game = rules_of s in
+    let g : Game = rules_of c.args.self.now in
     let t : Signal = signal_at g (round_count g) c.args.two in
-    let left : List ℕ = left_by g.copies (signal_at g (round_count g) c.args.one) in
-    let all : g.rounds ≡ map round_of c.deref-round-items.result.now = sym (ap (map round_of) (c.deref-round-items.ensures.value ∙ ap (λ (x : Described). x.rounds.items) c.game.ensures)) in
+    let all = all_rounds (goal.at.returns c).After-deref-round-items in
     let h = has_rounds g (round_count g) c.args.two c.requires.two_in in
     let over : length t ≤ c.loop-round.round-index = omega (arith, h.long, c.loop-round-test.false, ap (λ (x : List Round). length x) all, length-map c.deref-round-items.result.now round_of) in
-    c.loop-round.invariant.counted ∙ ap (own_ways left) (take_all c.loop-round.round-index t over)
+    c.loop-round.invariant.counted ∙ ap (own_ways (left_by g.copies (signal_at g (round_count g) c.args.one))) (take_all c.loop-round.round-index t over)
