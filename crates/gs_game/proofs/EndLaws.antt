@@ -24,39 +24,25 @@ pub record HasCounts (go_on : Place → Walked) (points ends : ℕ) : Type 0 whe
   pub points_are : (p : Place) → length (go_on p).points ≡ points
 
 mutual
-  pub tree_ends : (t : Bet) (go_on : Place → Walked) (points ends : ℕ) → HasCounts go_on points ends → (p : Place) → length (walk_tree go_on t p).ends ≡ ends_of ends t
-  tree_ends (act player ms) g m n h p = moves_ends ms g m n h player p.point 0 (record p { point = p.point + 1 })
-  tree_ends fold g m n h p = refl
-  tree_ends even g m n h p = h.ends_are p
+  pub tree_counts : (t : Bet) (go_on : Place → Walked) (points ends : ℕ) → HasCounts go_on points ends → (p : Place) → (length (walk_tree go_on t p).ends ≡ ends_of ends t) × (length (walk_tree go_on t p).points ≡ points_of points t)
+  tree_counts (act player ms) g m n h p = let e = moves_counts ms g m n h player p.point 0 (record p { point = p.point + 1 }) in (e.0, omega (arith, e.1))
+  tree_counts fold g m n h p = (refl, refl)
+  tree_counts even g m n h p = (h.ends_are p, h.points_are p)
 
-  moves_ends : (ms : Moves) (go_on : Place → Walked) (points ends : ℕ) → HasCounts go_on points ends → (player point choice : ℕ) (p : Place)
-      → length (walk_moves go_on ms player point choice p).walked.ends ≡ move_ends ends ms
-  moves_ends none g m n h player point choice p = refl
-  moves_ends (move letter chips next ms) g m n h player point choice p =
+  moves_counts : (ms : Moves) (go_on : Place → Walked) (points ends : ℕ) → HasCounts go_on points ends → (player point choice : ℕ) (p : Place)
+      → (length (walk_moves go_on ms player point choice p).walked.ends ≡ move_ends ends ms) × (length (walk_moves go_on ms player point choice p).walked.points ≡ move_points points ms)
+  moves_counts none g m n h player point choice p = (refl, refl)
+  moves_counts (move letter chips next ms) g m n h player point choice p =
       let here = after_move player point choice chips p in
       let first = walk_tree g next here in
       let there : Place = record p { point = p.point + length first.points; end = p.end + length first.ends } in
-      omega (arith, length-append first.ends (walk_moves g ms player point (choice + 1) there).walked.ends, tree_ends next g m n h here, moves_ends ms g m n h player point (choice + 1) there)
-
-mutual
-  pub tree_points : (t : Bet) (go_on : Place → Walked) (points ends : ℕ) → HasCounts go_on points ends → (p : Place) → length (walk_tree go_on t p).points ≡ points_of points t
-  tree_points (act player ms) g m n h p = let e = moves_points ms g m n h player p.point 0 (record p { point = p.point + 1 }) in omega (arith, e)
-  tree_points fold g m n h p = refl
-  tree_points even g m n h p = h.points_are p
-
-  moves_points : (ms : Moves) (go_on : Place → Walked) (points ends : ℕ) → HasCounts go_on points ends → (player point choice : ℕ) (p : Place)
-      → length (walk_moves go_on ms player point choice p).walked.points ≡ move_points points ms
-  moves_points none g m n h player point choice p = refl
-  moves_points (move letter chips next ms) g m n h player point choice p =
-      let here = after_move player point choice chips p in
-      let first = walk_tree g next here in
-      let there : Place = record p { point = p.point + length first.points; end = p.end + length first.ends } in
-      omega (arith, length-append first.points (walk_moves g ms player point (choice + 1) there).walked.points, tree_points next g m n h here, moves_points ms g m n h player point (choice + 1) there)
+      let others = walk_moves g ms player point (choice + 1) there in
+      let one = tree_counts next g m n h here in
+      let rest = moves_counts ms g m n h player point (choice + 1) there in
+      (omega (arith, length-append first.ends others.walked.ends, one.0, rest.0), omega (arith, length-append first.points others.walked.points, one.1, rest.1))
 
 pub rounds_count : (ts : List Bet) → HasCounts (walk_rounds ts) (points_in ts) (ends_in ts)
 rounds_count [] = record { ends_are = λ p. refl; points_are = λ p. refl }
 rounds_count (t ∷ ts) =
-    record {
-      ends_are = λ p. tree_ends t (walk_rounds ts) (points_in ts) (ends_in ts) (rounds_count ts) (record p { round = p.round + 1 });
-      points_are = λ p. tree_points t (walk_rounds ts) (points_in ts) (ends_in ts) (rounds_count ts) (record p { round = p.round + 1 });
-    }
+    let c : (p : Place) → (length (walk_tree (walk_rounds ts) t p).ends ≡ ends_in (t ∷ ts)) × (length (walk_tree (walk_rounds ts) t p).points ≡ points_in (t ∷ ts)) = tree_counts t (walk_rounds ts) (points_in ts) (ends_in ts) (rounds_count ts) in
+    record { ends_are = λ p. (c (record p { round = p.round + 1 })).0; points_are = λ p. (c (record p { round = p.round + 1 })).1 }

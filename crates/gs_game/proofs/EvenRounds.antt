@@ -14,30 +14,18 @@ some x = Some x
 some_none : {A : Type 0} (x : A) → some x ≡ None → ⊥
 some_none x h = cc
 
+-- a tree with an even leaf leads to no fewer points and ends than follow that leaf
 mutual
-  more-points : (t : Bet) (n : ℕ) → has_even t ≡ true → n ≤ points_of n t
-  more-points (act player ms) n h = let r = more-move-points ms n h in omega (arith, r)
-  more-points fold n h = absurd cc
-  more-points even n h = omega arith
+  no-fewer : (t : Bet) (n m : ℕ) → has_even t ≡ true → (n ≤ points_of n t) × (m ≤ ends_of m t)
+  no-fewer (act player ms) n m h = let r = no-fewer-moves ms n m h in (omega (arith, r.0), r.1)
+  no-fewer fold n m h = absurd cc
+  no-fewer even n m h = (omega arith, omega arith)
 
-  more-move-points : (ms : Moves) (n : ℕ) → any_even ms ≡ true → n ≤ move_points n ms
-  more-move-points none n h = absurd cc
-  more-move-points (move l c t ms) n h = elim (or_cases (has_even t) (any_even ms) h) [
-    | inl here ↦ let r = more-points t n here in omega (arith, r)
-    | inr there ↦ let r = more-move-points ms n there in omega (arith, r)
-  ]
-
-mutual
-  more-ends : (t : Bet) (n : ℕ) → has_even t ≡ true → n ≤ ends_of n t
-  more-ends (act player ms) n h = more-move-ends ms n h
-  more-ends fold n h = absurd cc
-  more-ends even n h = omega arith
-
-  more-move-ends : (ms : Moves) (n : ℕ) → any_even ms ≡ true → n ≤ move_ends n ms
-  more-move-ends none n h = absurd cc
-  more-move-ends (move l c t ms) n h = elim (or_cases (has_even t) (any_even ms) h) [
-    | inl here ↦ let r = more-ends t n here in omega (arith, r)
-    | inr there ↦ let r = more-move-ends ms n there in omega (arith, r)
+  no-fewer-moves : (ms : Moves) (n m : ℕ) → any_even ms ≡ true → (n ≤ move_points n ms) × (m ≤ move_ends m ms)
+  no-fewer-moves none n m h = absurd cc
+  no-fewer-moves (move l c t ms) n m h = elim (or_cases (has_even t) (any_even ms) h) [
+    | inl here ↦ let r = no-fewer t n m here in (omega (arith, r.0), omega (arith, r.1))
+    | inr there ↦ let r = no-fewer-moves ms n m there in (omega (arith, r.0), omega (arith, r.1))
   ]
 
 -- the first of several rounds has an even leaf, and the others go on
@@ -62,11 +50,8 @@ pub behind_first : (t : Bet) (ts : List Bet) (points ends : ℕ) → RoundsFollo
 behind_first t [] points ends h = record { evens = refl; points_in_them = omega arith; ends_in_them = omega arith }
 behind_first t (u ∷ ts) points ends h =
     let g = goes-on 1 t u ts h.evens in
-    record {
-      evens = from-any 2 1 (u ∷ ts) g.1;
-      points_in_them = omega (arith, h.few_points, more-points t (points_in (u ∷ ts)) g.0);
-      ends_in_them = omega (arith, h.few_ends, more-ends t (ends_in (u ∷ ts)) g.0);
-    }
+    let r = no-fewer t (points_in (u ∷ ts)) (ends_in (u ∷ ts)) g.0 in
+    record { evens = from-any 2 1 (u ∷ ts) g.1; points_in_them = omega (arith, h.few_points, r.0); ends_in_them = omega (arith, h.few_ends, r.1) }
 
 pub first_follows : (t : Bet) (ts : List Bet) (points ends : ℕ) → RoundsFollow (t ∷ ts) points ends → TreeFollows ts t points ends
 first_follows t ts points ends h = record { evens = (behind_first t ts points ends h).evens; few_points = h.few_points; few_ends = h.few_ends }

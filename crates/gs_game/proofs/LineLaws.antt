@@ -82,26 +82,19 @@ pub record GoesOn (texts_on : List ℕ → Texts) (mp me : ℕ) (follow_on : ℕ
   pub name : (before : List ℕ) (p e : ℕ) (at : Target) (x : List ℕ) → StandsAt p e (texts_on before) at x → (text : List ℕ) × (x ≡ before ++ text) × (follow_on p e text ≡ Some at)
 
 mutual
-  pub count_points : (t : Bet) (f : List ℕ → Texts) (mp me : ℕ) (g : ℕ → ℕ → List ℕ → Option Target) → GoesOn f mp me g → (before : List ℕ) → length (tree_lines f before t).points ≡ points_of mp t
-  count_points (act player ms) f mp me g on before = let r = count_move_points ms f mp me g on before in omega (arith, r)
-  count_points fold f mp me g on before = refl
-  count_points even f mp me g on before = on.points_are before
+  pub lines_counted : (t : Bet) (f : List ℕ → Texts) (mp me : ℕ) (g : ℕ → ℕ → List ℕ → Option Target) → GoesOn f mp me g → (before : List ℕ) → (length (tree_lines f before t).points ≡ points_of mp t) × (length (tree_lines f before t).ends ≡ ends_of me t)
+  lines_counted (act player ms) f mp me g on before = let r = move_lines_counted ms f mp me g on before in (omega (arith, r.0), r.1)
+  lines_counted fold f mp me g on before = (refl, refl)
+  lines_counted even f mp me g on before = (on.points_are before, on.ends_are before)
 
-  count_move_points : (ms : Moves) (f : List ℕ → Texts) (mp me : ℕ) (g : ℕ → ℕ → List ℕ → Option Target) → GoesOn f mp me g → (before : List ℕ) → length (move_lines f before ms).points ≡ move_points mp ms
-  count_move_points none f mp me g on before = refl
-  count_move_points (move l c t ms) f mp me g on before =
-      omega (arith, length-append (tree_lines f (before ++ l ∷ []) t).points (move_lines f before ms).points, count_points t f mp me g on (before ++ l ∷ []), count_move_points ms f mp me g on before)
-
-mutual
-  pub count_ends : (t : Bet) (f : List ℕ → Texts) (mp me : ℕ) (g : ℕ → ℕ → List ℕ → Option Target) → GoesOn f mp me g → (before : List ℕ) → length (tree_lines f before t).ends ≡ ends_of me t
-  count_ends (act player ms) f mp me g on before = count_move_ends ms f mp me g on before
-  count_ends fold f mp me g on before = refl
-  count_ends even f mp me g on before = on.ends_are before
-
-  count_move_ends : (ms : Moves) (f : List ℕ → Texts) (mp me : ℕ) (g : ℕ → ℕ → List ℕ → Option Target) → GoesOn f mp me g → (before : List ℕ) → length (move_lines f before ms).ends ≡ move_ends me ms
-  count_move_ends none f mp me g on before = refl
-  count_move_ends (move l c t ms) f mp me g on before =
-      omega (arith, length-append (tree_lines f (before ++ l ∷ []) t).ends (move_lines f before ms).ends, count_ends t f mp me g on (before ++ l ∷ []), count_move_ends ms f mp me g on before)
+  move_lines_counted : (ms : Moves) (f : List ℕ → Texts) (mp me : ℕ) (g : ℕ → ℕ → List ℕ → Option Target) → GoesOn f mp me g → (before : List ℕ) → (length (move_lines f before ms).points ≡ move_points mp ms) × (length (move_lines f before ms).ends ≡ move_ends me ms)
+  move_lines_counted none f mp me g on before = (refl, refl)
+  move_lines_counted (move l c t ms) f mp me g on before =
+      let one = lines_counted t f mp me g on (before ++ l ∷ []) in
+      let rest = move_lines_counted ms f mp me g on before in (
+        omega (arith, length-append (tree_lines f (before ++ l ∷ []) t).points (move_lines f before ms).points, one.0, rest.0),
+        omega (arith, length-append (tree_lines f (before ++ l ∷ []) t).ends (move_lines f before ms).ends, one.1, rest.1),
+      )
 
 -- ---- a text leads to the position whose text it is
 
@@ -141,7 +134,7 @@ mutual
         | inr other ↦
             let there = leads_moves ms f mp me g on before b text (p + points_of mp t) (e + ends_of me t) at (rw other at h) in
             in_second p e (p + points_of mp t) (e + ends_of me t) first (move_lines f before ms) at (before ++ (b ∷ text))
-            (ap (λ (n : ℕ). p + n) (sym (count_points t f mp me g on (before ++ l ∷ [])))) (ap (λ (n : ℕ). e + n) (sym (count_ends t f mp me g on (before ++ l ∷ [])))) there
+            (ap (λ (n : ℕ). p + n) (sym (lines_counted t f mp me g on (before ++ l ∷ [])).0)) (ap (λ (n : ℕ). e + n) (sym (lines_counted t f mp me g on (before ++ l ∷ [])).1)) there
       ]
 
 -- ---- each position is named by its text
@@ -224,7 +217,7 @@ mutual
       let m = sound_move left l c t ms sound in
       let first = tree_lines f (before ++ l ∷ []) t in
       elim (in_either p e (p + points_of mp t) (e + ends_of me t) first (move_lines f before ms) at x
-      (ap (λ (n : ℕ). p + n) (sym (count_points t f mp me g on (before ++ l ∷ [])))) (ap (λ (n : ℕ). e + n) (sym (count_ends t f mp me g on (before ++ l ∷ [])))) h) [
+      (ap (λ (n : ℕ). p + n) (sym (lines_counted t f mp me g on (before ++ l ∷ [])).0)) (ap (λ (n : ℕ). e + n) (sym (lines_counted t f mp me g on (before ++ l ∷ [])).1)) h) [
         | inl here ↦
             let n = name t left f mp me g on (before ++ l ∷ []) p e at x m.next here in
             record { letter = l; text = n.text; is = n.is ∙ append_assoc before (l ∷ []) n.text; leads_to = rw (eq-eqb l l refl) n.leads_to }
@@ -264,8 +257,8 @@ rounds [] sound = record { points_are = λ before. refl; ends_are = λ before. r
 rounds (t ∷ ts) sound =
     let on = rounds ts sound.1 in
     record {
-      points_are = λ before. count_points t (lines_from ts) (points_in ts) (ends_in ts) (follow_from ts) on (before ++ 47 ∷ []);
-      ends_are = λ before. count_ends t (lines_from ts) (points_in ts) (ends_in ts) (follow_from ts) on (before ++ 47 ∷ []);
+      points_are = λ before. (lines_counted t (lines_from ts) (points_in ts) (ends_in ts) (follow_from ts) on (before ++ 47 ∷ [])).0;
+      ends_are = λ before. (lines_counted t (lines_from ts) (points_in ts) (ends_in ts) (follow_from ts) on (before ++ 47 ∷ [])).1;
       leads = round_leads t ts on;
       name = λ before p e at x h.
           let m = name t 16 (lines_from ts) (points_in ts) (ends_in ts) (follow_from ts) on (before ++ 47 ∷ []) p e at x sound.0 h in

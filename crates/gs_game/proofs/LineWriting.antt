@@ -15,7 +15,7 @@ use Rattle.gs_game.proofs.Deciding.{trees_are}
 use Rattle.gs_game.proofs.EndLaws.{rounds_count}
 use Rattle.gs_game.specs.Lines.{Texts, TreeFollows, MovesFollow, IsAmong, IsPast, tree_lines, move_lines, lines_from, text_at}
 use Rattle.gs_game.specs.declared.game.Round.{Round}
-use Rattle.gs_game.proofs.LineLaws.{rounds, all_sound, get_within, get_right, count_points, count_ends}
+use Rattle.gs_game.proofs.LineLaws.{rounds, all_sound, get_within, get_right, lines_counted}
 
 text-first : (x y : Texts) (at : Target) → IsAmong (length x.points) (length x.ends) at → text_at (record { points = x.points ++ y.points; ends = x.ends ++ y.ends }) at ≡ text_at x at
 text-first x y (at_point q) h = get_within x.points y.points q h
@@ -45,9 +45,8 @@ pub text_here : (rs : List Round) (before : List ℕ) (letter chips mp me : ℕ)
 text_here rs before letter chips mp me t ms all at p e is h =
     let on = rounds (plain_trees rs) (all_sound rs) in
     let x = tree_lines (lines_from (plain_trees rs)) (before ++ letter ∷ []) t in
-    let n = count_points t (lines_from (plain_trees rs)) (points_in (plain_trees rs)) (ends_in (plain_trees rs)) _ on (before ++ letter ∷ []) in
-    let m = count_ends t (lines_from (plain_trees rs)) (points_in (plain_trees rs)) (ends_in (plain_trees rs)) _ on (before ++ letter ∷ []) in
-    let h' : IsAmong (length x.points) (length x.ends) at = rw (n, m) (rw (p, e) at h) in
+    let n = lines_counted t (lines_from (plain_trees rs)) (points_in (plain_trees rs)) (ends_in (plain_trees rs)) _ on (before ++ letter ∷ []) in
+    let h' : IsAmong (length x.points) (length x.ends) at = rw (n.0, n.1) (rw (p, e) at h) in
     rw is (text-first x (move_lines (lines_from (plain_trees rs)) before ms) at h')
 
 pub text_further : (rs : List Round) (before : List ℕ) (letter chips mp me : ℕ) (t : Bet) (ms all : Moves) (at further : Target) → mp ≡ points_in (plain_trees rs) → me ≡ ends_in (plain_trees rs) → all ≡ move letter chips t ms
@@ -56,9 +55,8 @@ pub text_further : (rs : List Round) (before : List ℕ) (letter chips mp me : �
 text_further rs before letter chips mp me t ms all at further p e is h =
     let on = rounds (plain_trees rs) (all_sound rs) in
     let x = tree_lines (lines_from (plain_trees rs)) (before ++ letter ∷ []) t in
-    let n = count_points t (lines_from (plain_trees rs)) (points_in (plain_trees rs)) (ends_in (plain_trees rs)) _ on (before ++ letter ∷ []) in
-    let m = count_ends t (lines_from (plain_trees rs)) (points_in (plain_trees rs)) (ends_in (plain_trees rs)) _ on (before ++ letter ∷ []) in
-    let h' : IsPast (length x.points) (length x.ends) at further = rw (n, m) (rw (p, e) at h) in
+    let n = lines_counted t (lines_from (plain_trees rs)) (points_in (plain_trees rs)) (ends_in (plain_trees rs)) _ on (before ++ letter ∷ []) in
+    let h' : IsPast (length x.points) (length x.ends) at further = rw (n.0, n.1) (rw (p, e) at h) in
     rw is (text-second x (move_lines (lines_from (plain_trees rs)) before ms) at further h')
 
 -- the letter of a sound move is a byte of text

@@ -13,7 +13,7 @@ use Rattle.gs_game.specs.Money.{one_after, two_after, most_put, most_in}
 use Rattle.gs_game.specs.Walks.{IsWalkable, AreWalkable}
 use Rattle.gs_game.specs.declared.game.Round.{Round}
 use Rattle.gs_game.proofs.MoneyLaws.{sound_act, sound_move, tree_sound}
-use Rattle.gs_game.proofs.EndLaws.{rounds_count, tree_points, tree_ends}
+use Rattle.gs_game.proofs.EndLaws.{rounds_count, tree_counts}
 use Rattle.gs_game.proofs.WalkLaws.{at}
 
 -- after a move nobody has put less
@@ -87,15 +87,14 @@ pub walkable_rest : (rest : List Bet) (player letter chips points ends : ℕ) (t
 walkable_rest rest player letter chips points ends t ms all p here h e f g =
     let h' : AreWalkable rest player (move letter chips t ms) p = rw e at h in
     let m = sound_move h'.left letter chips t ms h'.sound in
-    let c = tree_points t (walk_rounds rest) (points_in rest) (ends_in rest) (rounds_count rest) here in
-    let d = tree_ends t (walk_rounds rest) (points_in rest) (ends_in rest) (rounds_count rest) here in
+    let c = tree_counts t (walk_rounds rest) (points_in rest) (ends_in rest) (rounds_count rest) here in
     record {
       left = h'.left;
       sound = m.others;
       rounds = h'.rounds;
       put = omega (arith, h'.put);
-      points = omega (arith, h'.points, f, c);
-      ends = omega (arith, h'.ends, g, d);
+      points = omega (arith, h'.points, f, c.1);
+      ends = omega (arith, h'.ends, g, c.0);
     }
 
 -- a point's moves can be walked once its number is given

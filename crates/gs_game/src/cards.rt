@@ -10,32 +10,21 @@ use crate::faults::GameFault;
 use crate::game::{Game, Round};
 use gs_card::Ranking;
 
-/// One player's own cards over all rounds.
-fn own_cards(rounds: &[Round]) -> u8
+/// One player's own cards over all rounds, and the public ones.
+fn cards_over(rounds: &[Round]) -> (u8, u8)
     requires few { length rounds.now ≤ 4 }
     requires cards { All HasFewCards rounds.now }
-    ensures own { result ≡ sum_by (λ r. r.private) rounds.now }
-    ensures small { result ≤ 8 }
+    ensures own { result.0 ≡ sum_by (λ r. r.private) rounds.now }
+    ensures public { result.1 ≡ sum_by (λ r. r.public) rounds.now }
+    ensures small { (result.0 ≤ 8) × (result.1 ≤ 12) }
 {
     let mut own = 0;
-    for round in rounds {
-        own += round.private;
-    }
-    own
-}
-
-/// The public cards over all rounds.
-fn public_cards(rounds: &[Round]) -> u8
-    requires few { length rounds.now ≤ 4 }
-    requires cards { All HasFewCards rounds.now }
-    ensures public { result ≡ sum_by (λ r. r.public) rounds.now }
-    ensures small { result ≤ 12 }
-{
     let mut public = 0;
     for round in rounds {
+        own += round.private;
         public += round.public;
     }
-    public
+    (own, public)
 }
 
 /// All copies of all kinds.
@@ -82,8 +71,7 @@ pub fn check_cards(game: &Game) -> Result<(), GameFault>
     if game.rounds[0].private == 0 {
         return Err(GameFault::NoPrivate);
     }
-    let own = own_cards(&game.rounds);
-    let public = public_cards(&game.rounds);
+    let (own, public) = cards_over(&game.rounds);
     let all = own + public;
     if !ranks(game.ranking, own, all) {
         return Err(GameFault::RankingCards { own, all });

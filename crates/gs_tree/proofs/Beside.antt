@@ -5,6 +5,7 @@ use Rattle.std.proofs.lemmas.List.Sums.{sum_by-append}
 use Rattle.gs_model.specs.Cards.{ways, left_after, left_from}
 use Rattle.gs_model.specs.Deals.{own_ways}
 use Rattle.gs_model.specs.Signals.{Seen, Signal, left_by, own_cards, public_cards}
+use Rattle.gs_game.proofs.Ways.{copies_after}
 use Rattle.gs_tree.proofs.Taken.{taken_none}
 
 -- how often a card stands among cards
@@ -13,15 +14,6 @@ times card g = count_by (λ other. other == card) g
 
 times-append : (card : ℕ) (g h : List ℕ) → times card (g ++ h) ≡ times card g + times card h
 times-append card g h = sum_by-append (λ x. cond (eqb x card) 1 0) g h
-
--- the copies of a kind that are left
-left_read : (left g : List ℕ) (card : ℕ) → get_or (left_after left g) card 0 ≡ get_or left card 0 - times card g
-left_read left g card = go 0 card card left (omega arith)
-  where
-    go : (kind i card : ℕ) (left : List ℕ) → kind + i ≡ card → get_or (left_from kind left g) i 0 ≡ get_or left i 0 - times card g
-    go kind i card [] e = omega arith
-    go kind zero card (c ∷ cs) e = let same : kind ≡ card = omega arith in ap (λ k. c - times k g) same
-    go kind (suc i) card (c ∷ cs) e = go (suc kind) i card cs (omega arith)
 
 -- taking groups one after another
 left_twice : (left g h : List ℕ) → left_after (left_after left g) h ≡ left_after left (g ++ h)
@@ -60,4 +52,4 @@ own_ways-push left (q ∷ s) p =
 
 -- the copies of a kind left beside another player's own cards, the public cards and earlier own cards
 pub beside_read : (left held board before : List ℕ) (card : ℕ) → get_or (left_after (left_after (left_after left held) board) before) card 0 ≡ get_or left card 0 - times card held - times card board - times card before
-beside_read left held board before card = omega (arith, left_read (left_after (left_after left held) board) before card, left_read (left_after left held) board card, left_read left held card)
+beside_read left held board before card = omega (arith, copies_after (left_after (left_after left held) board) before card, copies_after (left_after left held) board card, copies_after left held card)

@@ -14,7 +14,7 @@ use Rattle.gs_model.specs.Signals.{Seen, Signal, signals, signal_at, parents, ow
 use Rattle.gs_rank.specs.Hands.{IsHand, IsSized}
 use Rattle.gs_tree.specs.Layers.{last_seen}
 use Rattle.gs_tree.proofs.Dealt.{last_is_shown}
-use Rattle.gs_tree.proofs.Lookups.{is_child}
+use Rattle.gs_tree.proofs.Lookups.{grown_from}
 
 pub own_cards-push : (s : Signal) (p : Seen) → own_cards (s ++ p ∷ []) ≡ own_cards s ++ p.own
 own_cards-push s p = flat_map-append (λ (q : Seen). q.own) s (p ∷ []) ∙ ap (λ x. own_cards s ++ x) (append-nil p.own)
@@ -33,23 +33,20 @@ pub dealt : (g : Game) (n i : ℕ) → n ≤ round_count g → i < length (signa
 dealt g zero zero le l = record { own_in = λ k d m. absurd (omega arith); public_in = λ k d m. absurd (omega arith); own_n = refl; public_n = refl }
 dealt g zero (suc i) le l = absurd (omega arith)
 dealt g (suc n) i le l =
-    let c = is_child g (suc n) i (omega arith) l in
+    let c = grown_from g n i l in
     let h = last_is_shown g (suc n) i (omega arith) l in
     let before : suc n - 1 ≡ n = omega arith in
-    let p : ℕ = get_or (parents g (suc n)) i 0 in
-    let Q : ℕ → Type 0 = λ k. p < length (signals g k) in
-    let front : Signal = signal_at g n p in
+    let front : Signal = signal_at g n (get_or (parents g (suc n)) i 0) in
     let last : Seen = last_seen (signal_at g (suc n) i) in
-    let grown : signal_at g (suc n) i ≡ front ++ last ∷ [] = c.signal_is ∙ ap (λ k. signal_at g k p ++ last ∷ []) before in
-    let r = dealt g n p (omega arith) (subst Q before c.parent_in) in
+    let r = dealt g n (get_or (parents g (suc n)) i 0) (omega arith) c.within in
     let none : Round = record { private = 0; public = 0; tree = even } in
     let at : round_at g (suc n) ≡ get_or g.rounds n none = ap (λ k. get_or g.rounds k none) before in
     let next : suc n ≡ n + 1 = omega arith in
     let privates = sum_by_more (λ (r : Round). r.private) g.rounds n none (omega arith) in
     let publics = sum_by_more (λ (r : Round). r.public) g.rounds n none (omega arith) in
     let P : List ℕ → Type 0 = λ xs. All (λ c. c < length g.copies) xs in
-    let own : own_cards (signal_at g (suc n) i) ≡ own_cards front ++ last.own = ap own_cards grown ∙ own_cards-push front last in
-    let public : public_cards (signal_at g (suc n) i) ≡ public_cards front ++ last.public = ap public_cards grown ∙ public_cards-push front last in
+    let own : own_cards (signal_at g (suc n) i) ≡ own_cards front ++ last.own = ap own_cards c.is ∙ own_cards-push front last in
+    let public : public_cards (signal_at g (suc n) i) ≡ public_cards front ++ last.public = ap public_cards c.is ∙ public_cards-push front last in
     record {
       own_in = subst P (sym own) (All-append (λ c. c < length g.copies) (own_cards front) last.own r.own_in h.own_in);
       public_in = subst P (sym public) (All-append (λ c. c < length g.copies) (public_cards front) last.public r.public_in h.public_in);

@@ -94,6 +94,19 @@ is_child g (suc r) i some l =
           ∙ ap (λ k. signal_at g k (get_or (parents g (suc r)) i 0) ++ last_seen (signal_at g (suc r) i) ∷ []) (sym before);
     }
 
+-- a signal of the round after the first n is one of round n and what it shows last
+pub record IsGrown (g : Game) (n i p : ℕ) : Type 0 where
+  pub within : p < length (signals g n)
+  pub is : signal_at g (suc n) i ≡ signal_at g n p ++ last_seen (signal_at g (suc n) i) ∷ []
+
+pub grown_from : (g : Game) (n i : ℕ) → i < length (signals g (suc n)) → IsGrown g n i (get_or (parents g (suc n)) i 0)
+grown_from g n i l =
+    let c = is_child g (suc n) i (omega arith) l in
+    let before : suc n - 1 ≡ n = omega arith in
+    let p : ℕ = get_or (parents g (suc n)) i 0 in
+    let P : ℕ → Type 0 = λ k. p < length (signals g k) in
+    record { within = subst P before c.parent_in; is = c.signal_is ∙ ap (λ k. signal_at g k p ++ last_seen (signal_at g (suc n) i) ∷ []) before }
+
 -- ---- the tables at one round
 
 pub record IsLayerOf (g : Game) (round : ℕ) (l : Layer) : Type 0 where

@@ -11,7 +11,7 @@ use Rattle.gs_model.proofs.Facing.{signals_differ}
 use Rattle.gs_tree.specs.Layers.{last_seen}
 use Rattle.gs_tree.specs.Texts.{group_text, public_text, seen_text, rounds_text, signal_text}
 use Rattle.gs_tree.proofs.Dealt.{last_is_shown}
-use Rattle.gs_tree.proofs.Lookups.{is_child}
+use Rattle.gs_tree.proofs.Lookups.{grown_from}
 use Rattle.gs_tree.proofs.Same.{parted, shapes, shaped}
 
 row_below : (a b n : ℕ) → n < a * b → n / b < a
@@ -115,17 +115,14 @@ of_deck : (g : Game) (d : DeckValue) (round i : ℕ) → length g.copies ≡ kin
 of_deck g d zero zero k l = tt
 of_deck g d zero (suc i) k l = absurd (omega arith)
 of_deck g d (suc r) i k l =
-    let c = is_child g (suc r) i (omega arith) l in
+    let c = grown_from g r i l in
     let h = last_is_shown g (suc r) i (omega arith) l in
-    let before : suc r - 1 ≡ r = omega arith in
     let p : ℕ = get_or (parents g (suc r)) i 0 in
-    let Q : ℕ → Type 0 = λ k. p < length (signals g k) in
     let last : Seen = last_seen (signal_at g (suc r) i) in
     let P : Signal → Type 0 = λ s. OfDeck d s in
     let A : ℕ → Type 0 = λ n. All (λ c. c < n) last.own in
     let B : ℕ → Type 0 = λ n. All (λ c. c < n) last.public in
-    let grown : signal_at g (suc r) i ≡ signal_at g r p ++ last ∷ [] = c.signal_is ∙ ap (λ k. signal_at g k p ++ last ∷ []) before in
-    subst P (sym grown) (of_deck-push d (signal_at g r p) last (of_deck g d r p k (subst Q before c.parent_in)) (subst A k h.own_in) (subst B k h.public_in))
+    subst P (sym c.is) (of_deck-push d (signal_at g r p) last (of_deck g d r p k c.within) (subst A k h.own_in) (subst B k h.public_in))
 
 -- signals of a round with one text are one
 pub text_once : (g : Game) (d : DeckValue) (round i k : ℕ) → IsDeck d → length g.copies ≡ kinds d → i < length (signals g round) → k < length (signals g round) → signal_text d (signal_at g round i) ≡ signal_text d (signal_at g round k) → i ≡ k

@@ -20,7 +20,7 @@ use Rattle.gs_tree.specs.Walk.{last_count}
 use Rattle.gs_tree.proofs.Beside.{own_ways-push}
 use Rattle.gs_tree.proofs.Dealt.{IsShown, last_is_shown}
 use Rattle.gs_tree.proofs.Hands.{own_cards-push}
-use Rattle.gs_tree.proofs.Lookups.{is_child}
+use Rattle.gs_tree.proofs.Lookups.{grown_from}
 use Rattle.gs_tree.proofs.Paths.{product_small}
 
 -- ---- lists of equal parts
@@ -78,16 +78,12 @@ pub has_rounds : (g : Game) (n i : ℕ) → i < length (signals g n) → HasRoun
 has_rounds g zero zero l = record { long = refl; each = λ k m. absurd (omega arith) }
 has_rounds g zero (suc i) l = absurd (omega arith)
 has_rounds g (suc n) i l =
-    let c = is_child g (suc n) i (omega arith) l in
-    let before : suc n - 1 ≡ n = omega arith in
-    let p : ℕ = get_or (parents g (suc n)) i 0 in
-    let Q : ℕ → Type 0 = λ k. p < length (signals g k) in
-    let front : Signal = signal_at g n p in
+    let c = grown_from g n i l in
+    let front : Signal = signal_at g n (get_or (parents g (suc n)) i 0) in
     let last : Seen = last_seen (signal_at g (suc n) i) in
-    let grown : signal_at g (suc n) i ≡ front ++ last ∷ [] = c.signal_is ∙ ap (λ k. signal_at g k p ++ last ∷ []) before in
-    let r = has_rounds g n p (subst Q before c.parent_in) in
+    let r = has_rounds g n (get_or (parents g (suc n)) i 0) c.within in
     let P : Signal → Type 0 = HasRounds g (suc n) in
-    subst P (sym grown) (record {
+    subst P (sym c.is) (record {
       long = length_push front last ∙ omega (arith, r.long);
       each = λ k m. ⊎_elim
           (λ (h : k < n).

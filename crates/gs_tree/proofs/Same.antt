@@ -9,9 +9,10 @@ use Rattle.gs_model.proofs.Children.{same_cards-self}
 use Rattle.gs_model.proofs.Exchanged.{and_both}
 use Rattle.gs_tree.specs.Layers.{last_seen}
 use Rattle.gs_tree.proofs.Dealt.{last_is_shown}
-use Rattle.gs_tree.proofs.Lookups.{is_child}
+use Rattle.gs_tree.proofs.Lookups.{grown_from}
 
-cards_are : (xs ys : List ℕ) → same_cards xs ys ≡ true → xs ≡ ys
+-- lists of the same cards are one
+pub cards_are : (xs ys : List ℕ) → same_cards xs ys ≡ true → xs ≡ ys
 cards_are [] [] h = refl
 cards_are [] (y ∷ ys) h = cc
 cards_are (x ∷ xs) [] h = cc
@@ -85,15 +86,13 @@ unfolding dealt_shapes
 shaped g zero zero l = refl
 shaped g zero (suc i) l = absurd (omega arith)
 shaped g (suc r) i l =
-    let c = is_child g (suc r) i (omega arith) l in
+    let c = grown_from g r i l in
     let h = last_is_shown g (suc r) i (omega arith) l in
-    let before : suc r - 1 ≡ r = omega arith in
     let p : ℕ = get_or (parents g (suc r)) i 0 in
-    let Q : ℕ → Type 0 = λ k. p < length (signals g k) in
     let last : Seen = last_seen (signal_at g (suc r) i) in
-    ap shapes (c.signal_is ∙ ap (λ k. signal_at g k p ++ last ∷ []) before)
+    ap shapes c.is
     ∙ shapes-push (signal_at g r p) last
-    ∙ ap (λ l. l ++ (length last.own, length last.public) ∷ []) (shaped g r p (subst Q before c.parent_in))
+    ∙ ap (λ l. l ++ (length last.own, length last.public) ∷ []) (shaped g r p c.within)
     ∙ ap (λ n. dealt_shapes g r ++ (n, length last.public) ∷ []) h.own_counted
     ∙ ap (λ n. dealt_shapes g r ++ ((round_at g (suc r)).private, n) ∷ []) h.public_counted
 

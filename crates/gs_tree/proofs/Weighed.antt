@@ -13,7 +13,7 @@ use Rattle.gs_model.proofs.Facing.{leaves_are_deals, signals_differ}
 use Rattle.gs_tree.specs.Walk.{deal_at, last_count, shows_same}
 use Rattle.gs_tree.proofs.Beside.{left_by_cards}
 use Rattle.gs_tree.proofs.Hands.{dealt}
-use Rattle.gs_tree.proofs.Same.{one_list, parted, shaped, shapes}
+use Rattle.gs_tree.proofs.Same.{cards_are, one_list, parted, shaped, shapes}
 use Rattle.gs_tree.specs.Plain.{IsPlain}
 use Rattle.gs_game.proofs.Ways.{Single, copies_after, length_after, one_product, single_after, some_parts, some_product, times, ways_one, ways_room, ways_some}
 
@@ -84,15 +84,6 @@ single_by : (left : List ℕ) (s : Signal) → Single left → Single (left_by l
 single_by left s h card = omega (arith, copies_by left s card, h card)
 
 -- signals of one shape that show the same public and the same own cards are the same
-cards_same : (xs ys : List ℕ) → same_cards xs ys ≡ true → xs ≡ ys
-cards_same [] [] h = refl
-cards_same [] (y ∷ ys) h = cc
-cards_same (x ∷ xs) [] h = cc
-cards_same (x ∷ xs) (y ∷ ys) h =
-    let b = and_both (eqb x y) (same_cards xs ys) h in
-    let same : x ≡ y = grind (arith, b.0) in
-    let r = cards_same xs ys b.1 in cc
-
 same_signals : (s t : Signal) → shapes s ≡ shapes t → same_public s t ≡ true → own_cards s ≡ own_cards t → s ≡ t
 same_signals [] [] e h o = refl
 same_signals [] (q ∷ t) e h o = cc
@@ -104,7 +95,7 @@ same_signals (p ∷ s) (q ∷ t) e h o =
     let tail : shapes s ≡ shapes t = cc in
     let b = and_both (same_cards p.public q.public) (same_public s t) h in
     let r = parted p.own q.own (own_cards s) (own_cards t) (ap (λ (x : ℕ × ℕ). x.0) pair) o in
-    let public : p.public ≡ q.public = cards_same p.public q.public b.0 in
+    let public : p.public ≡ q.public = cards_are p.public q.public b.0 in
     let here : p ≡ q = ap (λ (x : List ℕ). let m : Seen = record { own = x; public = p.public } in m) r.0 ∙ ap (λ (x : List ℕ). let m : Seen = record { own = q.own; public = x } in m) public in
     ap (λ (x : Seen). x ∷ s) here ∙ ap (λ (x : Signal). q ∷ x) (same_signals s t tail b.1 r.1)
 

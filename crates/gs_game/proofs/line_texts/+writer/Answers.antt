@@ -17,20 +17,11 @@ use Rattle.gs_game.proofs.Sizes.{steps_of, steps_in}
 use Rattle.gs_game.proofs.TreeSteps.{moves_step}
 use Rattle.gs_game.proofs.line_texts.+writer.Goals as goal
 
-pub push_from-numbers_in-requires-clause-evens : goal.push_from-numbers_in-requires-clause-evens
-push_from-numbers_in-requires-clause-evens t c =
+pub push_from-numbers_in-requires : goal.push_from-numbers_in-requires
+push_from-numbers_in-requires t c =
     let e = split_first c.first-item.result c.args.rounds.now c.in-len1-up.len_at_least c.first-item.is in
-    (behind_first (plain c.first-item.result.tree.tree) (plain_trees (take (length c.args.rounds.now - 1) (drop 1 c.args.rounds.now))) 0 0 (rw e at c.requires.room)).evens
-
-pub push_from-numbers_in-requires-clause-points : goal.push_from-numbers_in-requires-clause-points
-push_from-numbers_in-requires-clause-points t c =
-    let e = split_first c.first-item.result c.args.rounds.now c.in-len1-up.len_at_least c.first-item.is in
-    (behind_first (plain c.first-item.result.tree.tree) (plain_trees (take (length c.args.rounds.now - 1) (drop 1 c.args.rounds.now))) 0 0 (rw e at c.requires.room)).points_in_them
-
-pub push_from-numbers_in-requires-clause-ends : goal.push_from-numbers_in-requires-clause-ends
-push_from-numbers_in-requires-clause-ends t c =
-    let e = split_first c.first-item.result c.args.rounds.now c.in-len1-up.len_at_least c.first-item.is in
-    (behind_first (plain c.first-item.result.tree.tree) (plain_trees (take (length c.args.rounds.now - 1) (drop 1 c.args.rounds.now))) 0 0 (rw e at c.requires.room)).ends_in_them
+    let h = behind_first (plain c.first-item.result.tree.tree) (plain_trees (take (length c.args.rounds.now - 1) (drop 1 c.args.rounds.now))) 0 0 (rw e at c.requires.room) in
+    record { evens = h.evens; points = h.points_in_them; ends = h.ends_in_them }
 
 pub push_from-push_below-requires : goal.push_from-push_below-requires
 push_from-push_below-requires t c =

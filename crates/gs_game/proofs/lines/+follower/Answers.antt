@@ -10,20 +10,11 @@ use Rattle.gs_game.proofs.RoundSteps.{split_first, split_number}
 use Rattle.gs_game.proofs.Sizes.{steps_of, steps_in}
 use Rattle.gs_game.proofs.lines.+follower.Goals as goal
 
-pub follow_from-numbers_in-requires-clause-evens : goal.follow_from-numbers_in-requires-clause-evens
-follow_from-numbers_in-requires-clause-evens t c =
+pub follow_from-numbers_in-requires : goal.follow_from-numbers_in-requires
+follow_from-numbers_in-requires t c =
     let e = split_first c.first-item.result c.args.rounds.now c.in-len1-up.len_at_least c.first-item.is in
-    (behind_first (plain c.first-item.result.tree.tree) (plain_trees (take (length c.args.rounds.now - 1) (drop 1 c.args.rounds.now))) c.args.before.points c.args.before.ends (rw e at c.requires)).evens
-
-pub follow_from-numbers_in-requires-clause-points : goal.follow_from-numbers_in-requires-clause-points
-follow_from-numbers_in-requires-clause-points t c =
-    let e = split_first c.first-item.result c.args.rounds.now c.in-len1-up.len_at_least c.first-item.is in
-    (behind_first (plain c.first-item.result.tree.tree) (plain_trees (take (length c.args.rounds.now - 1) (drop 1 c.args.rounds.now))) c.args.before.points c.args.before.ends (rw e at c.requires)).points_in_them
-
-pub follow_from-numbers_in-requires-clause-ends : goal.follow_from-numbers_in-requires-clause-ends
-follow_from-numbers_in-requires-clause-ends t c =
-    let e = split_first c.first-item.result c.args.rounds.now c.in-len1-up.len_at_least c.first-item.is in
-    (behind_first (plain c.first-item.result.tree.tree) (plain_trees (take (length c.args.rounds.now - 1) (drop 1 c.args.rounds.now))) c.args.before.points c.args.before.ends (rw e at c.requires)).ends_in_them
+    let h = behind_first (plain c.first-item.result.tree.tree) (plain_trees (take (length c.args.rounds.now - 1) (drop 1 c.args.rounds.now))) c.args.before.points c.args.before.ends (rw e at c.requires) in
+    record { evens = h.evens; points = h.points_in_them; ends = h.ends_in_them }
 
 pub follow_from-follow_below-requires : goal.follow_from-follow_below-requires
 follow_from-follow_below-requires t c =

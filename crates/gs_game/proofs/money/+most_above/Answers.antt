@@ -20,9 +20,8 @@ loop-next-init t c =
 
 pub most_above-requires : goal.most_above-requires
 most_above-requires t c =
-    let step = moves_step c.deref-next-items.result.now c.loop-next.next-index c.next-item.result c.loop-next-test.true c.next-item.is in
-    let fallen = rw step at c.loop-next.invariant.falls in (
-      omega (arith, fallen, c.decreases),
+    let step = moves_step c.deref-next-items.result.now c.loop-next.next-index c.next-item.result c.loop-next-test.true c.next-item.is in (
+      omega (arith, rw step at c.loop-next.invariant.falls, c.decreases),
       (
         fits_after c.args.put.one c.args.put.two (out-Act c.in-Act.act).player c.next-item.result.letter c.next-item.result.chips (plain c.next-item.result.next) _ _ _ _ c.loop-next.invariant.fits step c.after.ensures.one c.after.ensures.two,
         c.requires.above,

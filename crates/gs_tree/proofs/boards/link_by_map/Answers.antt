@@ -8,6 +8,11 @@ use Rattle.gs_tree.specs.Walk.{last_count}
 use Rattle.gs_tree.proofs.Linked.{are_boards, last_in, last_place, linked_more}
 use Rattle.gs_tree.proofs.Parts.{paths_long}
 use Rattle.gs_tree.proofs.boards.link_by_map.Goals as goal
+use Rattle.gs_tree.proofs.boards.link_by_map.Goals.{After-len-count}
+
+-- a place for each signal
+counted : (c : After-len-count) → c.len-count.result ≡ last_count (game_of c.args.game.now)
+counted c = omega (arith, paths_long (game_of c.args.game.now) (round_count (game_of c.args.game.now)) c.args.hands.now.paths c.args.hands.now.owns.items c.args.hands.now.publics.items c.args.hands.now.own c.args.hands.now.public c.requires.hands, c.len-count.ensures)
 
 pub link-requires-clause-before_in : goal.link-requires-clause-before_in
 link-requires-clause-before_in c =
@@ -37,16 +42,9 @@ loop-signal-preserved c =
     }
 
 pub board_of-requires-clause-signal_in : goal.board_of-requires-clause-signal_in
-board_of-requires-clause-signal_in c =
-    let k = c.args.hands.now in
-    let long : length k.paths ≡ last_count (game_of c.args.game.now) = paths_long (game_of c.args.game.now) (round_count (game_of c.args.game.now)) k.paths k.owns.items k.publics.items k.own k.public c.requires.hands in
-    omega (arith, long, c.len-count.ensures, c.loop-signal-test.true)
+board_of-requires-clause-signal_in c = omega (arith, counted (goal.at.board_of-requires-clause-signal_in c).After-len-count, c.loop-signal-test.true)
 
 pub returns : goal.returns
 returns c =
-    let g : Game = game_of c.args.game.now in
-    let k = c.args.hands.now in
-    let long : length k.paths ≡ last_count g = paths_long g (round_count g) k.paths k.owns.items k.publics.items k.own k.public c.requires.hands in
-    let count : c.len-count.result ≡ last_count g = omega (arith, long, c.len-count.ensures) in
-    let done : c.loop-signal.signal ≡ last_count g = omega (arith, count, c.loop-signal.auto.signal-end, c.loop-signal-test.false) in
-    are_boards g c.loop-signal.signal c.len-count.result c.loop-signal.boards.firsts.items c.loop-signal.boards.nexts.items c.loop-signal.invariant.linked done count
+    let count = counted (goal.at.returns c).After-len-count in
+    are_boards (game_of c.args.game.now) c.loop-signal.signal c.len-count.result c.loop-signal.boards.firsts.items c.loop-signal.boards.nexts.items c.loop-signal.invariant.linked (omega (arith, count, c.loop-signal.auto.signal-end, c.loop-signal-test.false)) count

@@ -11,13 +11,18 @@ use Rattle.gs_tree.specs.Tables.{shown_in}
 use Rattle.gs_tree.proofs.Pushed.{joined_more}
 use Rattle.gs_tree.proofs.Grown.{shows_of, few_before, first_grown, owners_more, filled, seen_grown, edges_grown}
 use Rattle.gs_tree.proofs.tables.grow.Goals as goal
+use Rattle.gs_tree.proofs.tables.grow.Goals.{At-loop-parent}
+
+-- as many showings as the signals so far have children
+long : (c : At-loop-parent) → vec_len c.loop-parent.grown.layer.shown ≡ first_child (game_of c.args.game.now) (length c.args.layers.now) c.loop-parent.parent
+long c = omega (arith, c.loop-parent.grown.layer.shown.ok.0, length-map c.loop-parent.grown.layer.shown.items seen_of, ap (λ (x : List Seen). length x) c.loop-parent.invariant.shown, first_grown (game_of c.args.game.now) (length c.args.layers.now) c.loop-parent.parent)
+
+-- which are no more than the signals of the next round
+few : (c : At-loop-parent) → c.loop-parent.parent ≤ length (signals (game_of c.args.game.now) (length c.args.layers.now)) → first_child (game_of c.args.game.now) (length c.args.layers.now) c.loop-parent.parent ≤ length (signals (game_of c.args.game.now) (suc (length c.args.layers.now)))
+few c l = omega (arith, few_before (game_of c.args.game.now) (length c.args.layers.now) c.loop-parent.parent l, first_grown (game_of c.args.game.now) (length c.args.layers.now) c.loop-parent.parent)
 
 pub overflow_cast-len : goal.overflow_cast-len
-overflow_cast-len c =
-    let g : Game = game_of c.args.game.now in
-    let n : ℕ = length c.args.layers.now in
-    let few = few_before g n c.loop-parent.parent (omega (arith, c.requires.counted)) in
-    omega (arith, few, c.requires.few, ap (λ (x : List Seen). length x) c.loop-parent.invariant.shown, length-map c.loop-parent.grown.layer.shown.items seen_of, c.len.ensures, c.loop-parent.grown.layer.shown.ok.0)
+overflow_cast-len c = let w = (goal.at.overflow_cast-len c).At-loop-parent in omega (arith, long w, few w (omega (arith, c.requires.counted)), c.requires.few, c.len.ensures)
 
 pub push_showings-requires-clause-counted : goal.push_showings-requires-clause-counted
 push_showings-requires-clause-counted c = ap (λ (x : List ℕ). length x) c.deref.ensures.value ∙ c.in_ok-left.ensures.len ∙ c.kinds.ensures.deck.counted
@@ -36,7 +41,7 @@ loop-parent-preserved c =
     let more : showings c.deref.result.now (round_of c.args.next.now) ≡ shows (get_or ss i []) = ap (λ x. showings x (round_of c.args.next.now)) left ∙ ap (showings (left_by g.copies (get_or ss i []))) c.requires.round in
     let showing : List Seen = showings c.deref.result.now (round_of c.args.next.now) in
     let old : List ℕ = c.loop-parent.grown.parents.items in
-    let before : c.len.result ≡ first_child g n i = omega (arith, c.len.ensures, c.loop-parent.grown.layer.shown.ok.0, length-map c.loop-parent.grown.layer.shown.items seen_of, ap (λ (x : List Seen). length x) c.loop-parent.invariant.shown, first_grown g n i) in
+    let before : c.len.result ≡ first_child g n i = omega (arith, c.len.ensures, long (goal.at.loop-parent-preserved c).At-loop-parent) in
     let grew : length c.push_showings.new.layer.shown.items ≡ length c.loop-parent.grown.layer.shown.items + length showing =
     omega (arith, ap (λ (x : List Seen). length x) c.in_ok-push_showings.ensures.shown, length-map c.push_showings.new.layer.shown.items seen_of, length-map c.loop-parent.grown.layer.shown.items seen_of, length-append (map seen_of c.loop-parent.grown.layer.shown.items) showing) in
     let kids : List (ℕ × Signal) = children g r (get_or ss i []) in
@@ -55,11 +60,7 @@ loop-parent-preserved c =
     }
 
 pub overflow_cast-len-2 : goal.overflow_cast-len-2
-overflow_cast-len-2 c =
-    let g : Game = game_of c.args.game.now in
-    let n : ℕ = length c.args.layers.now in
-    let few = few_before g n c.loop-parent.parent (omega (arith, c.requires.counted)) in
-    omega (arith, few, c.requires.few, ap (λ (x : List Seen). length x) c.loop-parent.invariant.shown, length-map c.loop-parent.grown.layer.shown.items seen_of, c.len-2.ensures, c.loop-parent.grown.layer.shown.ok.0)
+overflow_cast-len-2 c = let w = (goal.at.overflow_cast-len-2 c).At-loop-parent in omega (arith, long w, few w (omega (arith, c.requires.counted)), c.requires.few, c.len-2.ensures)
 
 pub returns-clause-layer : goal.returns-clause-layer
 returns-clause-layer c =
@@ -71,7 +72,7 @@ returns-clause-layer c =
     let over : length ss ≤ i = omega (arith, c.requires.counted) in
     let end : i ≡ length ss = omega (arith, c.requires.counted) in
     let edges : Signal → List ℕ = λ s. map (edge (left_by g.copies s)) (showings (left_by g.copies s) r) in
-    let last : c.len-2.result ≡ first_child g n i = omega (arith, c.len-2.ensures, c.loop-parent.grown.layer.shown.ok.0, length-map c.loop-parent.grown.layer.shown.items seen_of, ap (λ (x : List Seen). length x) c.loop-parent.invariant.shown, first_grown g n i) in
+    let last : c.len-2.result ≡ first_child g n i = omega (arith, c.len-2.ensures, long (goal.at.returns-clause-layer c).At-loop-parent) in
     record {
       shown = c.loop-parent.invariant.shown ∙ ap (flat_map (shows_of g n)) (take_all i ss over) ∙ sym (seen_grown g n);
       edges = c.loop-parent.invariant.edges ∙ ap (flat_map edges) (take_all i ss over) ∙ sym (edges_grown g n);
