@@ -73,6 +73,17 @@ pub record IsRun (t m n : ℕ) (A : ℕ → ℕ → ℤ) (aim : ℕ → ℤ) (Fr
   pub state : (k : ℕ) → k ≤ t → IsState m n A aim Free (col k) (R k) (a k)
   pub turn : (k : ℕ) → k < t → IsPivot m n Free (col k) (R k) (a k) (col (suc k)) (e k) (r k)
 
+-- what holds at one turn holds d turns later, but for a turn at which it ends
+carried : (t : ℕ) (P Q : ℕ → Type 0) → ((k : ℕ) → k < t → P k → (P (suc k)) ⊎ (Q k)) → (d k : ℕ) → k + d ≤ t → P k → (P (k + d)) ⊎ ((l : ℕ) × (l < t) × Q l)
+carried t P Q one zero k h f = inl (subst P (omega arith) f)
+carried t P Q one (suc d) k h f = elim (one k (omega arith) f) [
+  | inr q ↦ inr (k, omega arith, q)
+  | inl g ↦ elim (carried t P Q one d (suc k) (omega arith) g) [
+    | inl x ↦ inl (subst P (omega arith) x)
+    | inr w ↦ inr w
+  ]
+]
+
 module _ (t m n : ℕ) (A : ℕ → ℕ → ℤ) (aim : ℕ → ℤ) (Free : ℕ → Type 0) (col : ℕ → ℕ → ℕ) (R : ℕ → ℕ → ℕ → ℤ) (a : ℕ → ℕ → ℤ) (e r : ℕ → ℕ) (run : IsRun t m n A aim Free col R a e r) where
   abbrev In : ℕ → ℕ → Type 0
   In k j = InCols m (col k) j
@@ -97,24 +108,10 @@ module _ (t m n : ℕ) (A : ℕ → ℕ → ℤ) (aim : ℕ → ℤ) (Free : ℕ
 
   -- over d turns from k on
   stays : (d k : ℕ) → k + d ≤ t → (j : ℕ) → In k j → (In (k + d) j) ⊎ ((l : ℕ) × (l < t) × (left l ≡ j))
-  stays zero k h j f = inl (let P : ℕ → Type 0 = λ x. In x j in subst P (omega arith) f)
-  stays (suc d) k h j f = elim (stays_one k (omega arith) j f) [
-    | inr q ↦ inr (k, omega arith, q)
-    | inl g ↦ elim (stays d (suc k) (omega arith) j g) [
-      | inl x ↦ inl (let P : ℕ → Type 0 = λ x. In x j in subst P (omega arith) x)
-      | inr w ↦ inr w
-    ]
-  ]
+  stays d k h j f = carried t (λ k. In k j) (λ l. left l ≡ j) (λ k kt f. stays_one k kt j f) d k h f
 
   stays_out : (d k : ℕ) → k + d ≤ t → (j : ℕ) → Out k j → (Out (k + d) j) ⊎ ((l : ℕ) × (l < t) × (e l ≡ j))
-  stays_out zero k h j f = inl (let P : ℕ → Type 0 = λ x. Out x j in subst P (omega arith) f)
-  stays_out (suc d) k h j f = elim (out_one k (omega arith) j f) [
-    | inr q ↦ inr (k, omega arith, q)
-    | inl g ↦ elim (stays_out d (suc k) (omega arith) j g) [
-      | inl x ↦ inl (let P : ℕ → Type 0 = λ x. Out x j in subst P (omega arith) x)
-      | inr w ↦ inr w
-    ]
-  ]
+  stays_out d k h j f = carried t (λ k. Out k j) (λ l. e l ≡ j) (λ k kt f. out_one k kt j f) d k h f
 
   abbrev Moves : ℕ → Type 0
   Moves j = ((l : ℕ) × (l < t) × (left l ≡ j)) ⊎ ((l : ℕ) × (l < t) × (e l ≡ j))

@@ -78,10 +78,45 @@ elimination_exists p R a r c ne u =
           ((elim (cases_lt (suc n) n) as (λ q. lead c *ℤ a (suc n) ≡ mixed (suc n) q (cases_eq (suc n) n)) [ inl x ↦ absurd (omega arith) | inr x ↦ elim (cases_eq (suc n) n) as (λ s. lead c *ℤ a (suc n) ≡ mixed (suc n) (inr x) s) [ inl e ↦ absurd (omega arith) | inr d ↦ refl ] ]) ∙ w.3 (suc n) (omega arith)),
     )
 
+-- the rows of the empty list, from rows that are the program's but for a common factor
+pub empty_rows_from : (p : Program) (R : ℕ → ℕ → ℤ) (a : ℕ → ℤ) → ((i : ℕ) → i < p.rows → (g : ℤ) × (pos 0 <ℤ g) × ((j : ℕ) → j ≤ p.cols → number p i j ≡ g *ℤ R i j) × IsPrimitive p.cols (R i))
+    → ((j : ℕ) → j < p.cols → a j ≡ aim_of p j) → a p.cols ≡ pos 0 → a (suc p.cols) ≡ pos 1 → IsRowsOf p [] R a
+empty_rows_from p R a w below last top =
+    let n = p.cols in let m = p.rows in
+    record {
+      listed = λ i j h. absurd (omega (arith, h.1));
+      unlisted = λ i im out. (let g = w i im in (
+        pos 1 *ℤ g.0,
+        only_at i,
+        record {
+          combination = combination_divided m n (number p) (pos 1) g.0 (only_at i) (number p i) (R i) (program_row m n (number p) i im) g.1 g.2;
+          own = (let e : only_at i i ≡ pos 1 = only_at_same i in omega (arith, linear));
+          others = λ k km off ne. only_at_other i k ne;
+          zeros = λ j h. absurd (omega (arith, h.1.1));
+        },
+      ));
+      aim_row = (
+        pos 1,
+        λ i. pos 0,
+        record {
+          multiple = omega (arith, linear, top);
+          positive = omega (arith, linear);
+          each = λ j jn. (let e : a j ≡ aim_of p j = below j jn in let s : sum_to m (λ i. pos 0 *ℤ number p i j) ≡ pos 0 = sum_zero m (λ i. pos 0 *ℤ number p i j) (λ i h. zero_times (number p i j)) in
+              let f : pos 1 *ℤ (a (suc n) *ℤ aim_of p j -ℤ a j) ≡ pos 1 *ℤ (pos 1 *ℤ aim_of p j -ℤ aim_of p j) = ap (λ x. pos 1 *ℤ (x *ℤ aim_of p j -ℤ a j)) top ∙ ap (λ x. pos 1 *ℤ (pos 1 *ℤ aim_of p j -ℤ x)) e in
+              let g : pos 1 *ℤ (pos 1 *ℤ aim_of p j -ℤ aim_of p j) ≡ pos 0 = simp ring (omega (arith, linear)) in f ∙ g ∙ sym s);
+          side = (let s : sum_to m (λ i. pos 0 *ℤ number p i n) ≡ pos 0 = sum_zero m (λ i. pos 0 *ℤ number p i n) (λ i h. zero_times (number p i n)) in ap (λ x. pos 1 *ℤ x) last ∙ times_zero (pos 1) ∙ sym s);
+          others = λ i im off. refl;
+          zeros = λ j h. absurd (omega (arith, h.1.1));
+        },
+      );
+      primitive = λ i im. (w i im).3;
+      primitive_aim = record { form = inr (λ d h. eq-one_of_dvd-one (let e : unsigned_abs (a (suc n)) ≡ 1 = ap unsigned_abs top in let P : ℕ → Type 0 = λ t. d ∣ t in subst P e (h (suc n) (omega arith)))) };
+    }
+
 -- the rows of the empty list
 pub empty_rows : (p : Program) → (R : ℕ → ℕ → ℤ) × (a : ℕ → ℤ) × IsRowsOf p [] R a
 empty_rows p =
-    let n = p.cols in let m = p.rows in
+    let n = p.cols in
     let w : (i : ℕ) → (g : ℤ) × (Q : ℕ → ℤ) × (pos 0 <ℤ g) × ((j : ℕ) → j ≤ n → number p i j ≡ g *ℤ Q j) × IsPrimitive n Q = λ i. primitive_exists n (number p i) in
     let pick : (j : ℕ) → (j < n) ⊎ (n ≤ j) → (j ≡ n) ⊎ (j ≡ n → ⊥) → ℤ = λ j q s. elim q [ inl h ↦ aim_of p j | inr h ↦ elim s [ inl e ↦ pos 0 | inr d ↦ pos 1 ] ] in
     let a : ℕ → ℤ = λ j. pick j (cases_lt j n) (cases_eq j n) in
@@ -90,35 +125,7 @@ empty_rows p =
     let top : a (suc n) ≡ pos 1 = elim (cases_lt (suc n) n) as (λ q. pick (suc n) q (cases_eq (suc n) n) ≡ pos 1) [ inl x ↦ absurd (omega arith) | inr x ↦ elim (cases_eq (suc n) n) as (λ s. pick (suc n) (inr x) s ≡ pos 1) [ inl e ↦ absurd (omega arith) | inr d ↦ refl ] ] in (
       λ i. (w i).1,
       a,
-      record {
-        listed = λ i j h. absurd (omega (arith, h.1));
-        unlisted = λ i im out. (
-          pos 1 *ℤ (w i).0,
-          only_at i,
-          record {
-            combination = combination_divided m n (number p) (pos 1) (w i).0 (only_at i) (number p i) (w i).1 (program_row m n (number p) i im) (w i).2 (w i).3;
-            own = (let e : only_at i i ≡ pos 1 = only_at_same i in omega (arith, linear));
-            others = λ k km off ne. only_at_other i k ne;
-            zeros = λ j h. absurd (omega (arith, h.1.1));
-          },
-        );
-        aim_row = (
-          pos 1,
-          λ i. pos 0,
-          record {
-            multiple = omega (arith, linear, top);
-            positive = omega (arith, linear);
-            each = λ j jn. (let e : a j ≡ aim_of p j = below j jn in let s : sum_to m (λ i. pos 0 *ℤ number p i j) ≡ pos 0 = sum_zero m (λ i. pos 0 *ℤ number p i j) (λ i h. zero_times (number p i j)) in
-                let f : pos 1 *ℤ (a (suc n) *ℤ aim_of p j -ℤ a j) ≡ pos 1 *ℤ (pos 1 *ℤ aim_of p j -ℤ aim_of p j) = ap (λ x. pos 1 *ℤ (x *ℤ aim_of p j -ℤ a j)) top ∙ ap (λ x. pos 1 *ℤ (pos 1 *ℤ aim_of p j -ℤ x)) e in
-                let g : pos 1 *ℤ (pos 1 *ℤ aim_of p j -ℤ aim_of p j) ≡ pos 0 = simp ring (omega (arith, linear)) in f ∙ g ∙ sym s);
-            side = (let s : sum_to m (λ i. pos 0 *ℤ number p i n) ≡ pos 0 = sum_zero m (λ i. pos 0 *ℤ number p i n) (λ i h. zero_times (number p i n)) in ap (λ x. pos 1 *ℤ x) last ∙ times_zero (pos 1) ∙ sym s);
-            others = λ i im off. refl;
-            zeros = λ j h. absurd (omega (arith, h.1.1));
-          },
-        );
-        primitive = λ i im. (w i).4;
-        primitive_aim = record { form = inr (λ d h. eq-one_of_dvd-one (let e : unsigned_abs (a (suc n)) ≡ 1 = ap unsigned_abs top in let P : ℕ → Type 0 = λ t. d ∣ t in subst P e (h (suc n) (omega arith)))) };
-      },
+      empty_rows_from p (λ i. (w i).1) a (λ i im. ((w i).0, (w i).2, (w i).3, (w i).4)) below last top,
     )
 
 -- the row of the pair that can be taken is not 0 in its column, whichever row it is

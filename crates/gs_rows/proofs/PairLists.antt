@@ -21,7 +21,7 @@ place_of l i j h = any_default l h.0 (0, 0) (i + 1, j + 1) h.1 ∙ h.2
 pub listed_at : (l : Listing) (k i j : ℕ) → k < length l → slice_index_or l k (0, 0) ≡ (i + 1, j + 1) → IsListed l i j
 listed_at l k i j h e = (k, h, any_default l k (i + 1, j + 1) (0, 0) h ∙ e)
 
-less_one : (a b : ℕ) → a + 1 ≡ b + 1 → a ≡ b
+pub less_one : (a b : ℕ) → a + 1 ≡ b + 1 → a ≡ b
 less_one a b e = omega arith
 
 -- the names of the pair at a listed place are those of the row and the column
@@ -31,6 +31,19 @@ names_are p l u i j h =
     let e : (n.0 + 1, n.1 + 1) ≡ (i + 1, j + 1) = sym n.2 ∙ place_of l i j h in
     let a : n.0 ≡ i = less_one n.0 i (ap (λ (w : ℕ × ℕ). w.0) e) in let b : n.1 ≡ j = less_one n.1 j (ap (λ (w : ℕ × ℕ). w.1) e) in
     (omega (arith, n.3), omega (arith, n.4))
+
+-- a column, or a row, that stands in no pair
+pub no_column : (p : Program) (l : Listing) (j k : ℕ) → IsPairList p l → (ColListed l j → ⊥) → k < length l → (slice_index_or l k (0, 0)).1 ≡ j + 1 → ⊥
+no_column p l j k pairs out h e =
+    let n = pairs.named k h in
+    let s : n.1 ≡ j = less_one n.1 j (ap (λ (x : ℕ × ℕ). x.1) (sym n.2) ∙ e) in
+    out (n.0, (let P : ℕ → Type 0 = λ x. IsListed l n.0 x in subst P s (listed_at l k n.0 n.1 h n.2)))
+
+pub no_row : (p : Program) (l : Listing) (i k : ℕ) → IsPairList p l → (RowListed l i → ⊥) → k < length l → (slice_index_or l k (0, 0)).0 ≡ i + 1 → ⊥
+no_row p l i k pairs out h e =
+    let n = pairs.named k h in
+    let s : n.0 ≡ i = less_one n.0 i (ap (λ (x : ℕ × ℕ). x.0) (sym n.2) ∙ e) in
+    out (n.1, (let P : ℕ → Type 0 = λ x. IsListed l x n.1 in subst P s (listed_at l k n.0 n.1 h n.2)))
 
 same_place : (l : Listing) (i j k h : ℕ) (a : IsListed l i j) (b : IsListed l k h) → a.0 ≡ b.0 → (i ≡ k) × (j ≡ h)
 same_place l i j k h a b e =

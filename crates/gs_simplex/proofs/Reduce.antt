@@ -164,3 +164,9 @@ pub undivided_row : (row : List ℤ) (d by : ℕ) → 0 < length row → IsDivis
 undivided_row row d by some u e small =
     let one : 1 ≡ by = omega arith in
     divided_row row row d by some u e (λ j l. sym (one_times (at row j)) ∙ ap (λ t. pos t *ℤ at row j) one)
+
+-- all numbers divide 0, which is narrow
+pub nothing_common : (z : ℤ) → z ≡ pos 0 → ((d : ℕ) → d ∣ unsigned_abs z) × (unsigned_abs z < 2 ^ 62)
+nothing_common z e =
+    let P : ℤ → Type 0 = λ t. ((d : ℕ) → d ∣ unsigned_abs t) × (unsigned_abs t < 2 ^ 62) in
+    subst P (sym e) (λ d. dvd-zero d, omega arith)

@@ -6,6 +6,7 @@ use Rattle.gs_rows.specs.declared.Program.{Program}
 use Rattle.gs_rows.specs.Sums.{sum_to}
 use Rattle.gs_rows.specs.Rows.{IsNarrow, IsPrimitive}
 use Rattle.gs_rows.specs.Program.{number, aim_of, IsShaped, IsRowsOf}
+use Rattle.gs_rows.proofs.Exists.{empty_rows_from}
 use Rattle.gs_rows.proofs.Ring.{ring, linear, times_zero, zero_times, cancel_zero}
 use Rattle.gs_rows.proofs.Sums.{sum_zero}
 use Rattle.gs_rows.proofs.Pivot.{combination_divided}
@@ -40,41 +41,6 @@ raw_narrow p xs s u k h = rows_cover (p.cols + 2) (p.rows + 1) (λ t. IsNarrow (
             ]
           ]))
     ]) k (omega (arith, u.long))
-
--- the rows of the empty list, from rows that are the program's but for a common factor
-pub empty_rows_from : (p : Program) (R : ℕ → ℕ → ℤ) (a : ℕ → ℤ) → ((i : ℕ) → i < p.rows → (g : ℤ) × (pos 0 <ℤ g) × ((j : ℕ) → j ≤ p.cols → number p i j ≡ g *ℤ R i j) × IsPrimitive p.cols (R i))
-    → ((j : ℕ) → j < p.cols → a j ≡ aim_of p j) → a p.cols ≡ pos 0 → a (suc p.cols) ≡ pos 1 → IsRowsOf p [] R a
-empty_rows_from p R a w below last top =
-    let n = p.cols in let m = p.rows in
-    record {
-      listed = λ i j h. absurd (omega (arith, h.1));
-      unlisted = λ i im out. (let g = w i im in (
-        pos 1 *ℤ g.0,
-        only_at i,
-        record {
-          combination = combination_divided m n (number p) (pos 1) g.0 (only_at i) (number p i) (R i) (program_row m n (number p) i im) g.1 g.2;
-          own = (let e : only_at i i ≡ pos 1 = only_at_same i in omega (arith, linear));
-          others = λ k km off ne. only_at_other i k ne;
-          zeros = λ j h. absurd (omega (arith, h.1.1));
-        },
-      ));
-      aim_row = (
-        pos 1,
-        λ i. pos 0,
-        record {
-          multiple = omega (arith, linear, top);
-          positive = omega (arith, linear);
-          each = λ j jn. (let e : a j ≡ aim_of p j = below j jn in let s : sum_to m (λ i. pos 0 *ℤ number p i j) ≡ pos 0 = sum_zero m (λ i. pos 0 *ℤ number p i j) (λ i h. zero_times (number p i j)) in
-              let f : pos 1 *ℤ (a (suc n) *ℤ aim_of p j -ℤ a j) ≡ pos 1 *ℤ (pos 1 *ℤ aim_of p j -ℤ aim_of p j) = ap (λ x. pos 1 *ℤ (x *ℤ aim_of p j -ℤ a j)) top ∙ ap (λ x. pos 1 *ℤ (pos 1 *ℤ aim_of p j -ℤ x)) e in
-              let g : pos 1 *ℤ (pos 1 *ℤ aim_of p j -ℤ aim_of p j) ≡ pos 0 = simp ring (omega (arith, linear)) in f ∙ g ∙ sym s);
-          side = (let s : sum_to m (λ i. pos 0 *ℤ number p i n) ≡ pos 0 = sum_zero m (λ i. pos 0 *ℤ number p i n) (λ i h. zero_times (number p i n)) in ap (λ x. pos 1 *ℤ x) last ∙ times_zero (pos 1) ∙ sym s);
-          others = λ i im off. refl;
-          zeros = λ j h. absurd (omega (arith, h.1.1));
-        },
-      );
-      primitive = λ i im. (w i im).3;
-      primitive_aim = record { form = inr (λ d h. eq-one_of_dvd-one (let e : unsigned_abs (a (suc n)) ≡ 1 = ap unsigned_abs top in let P : ℕ → Type 0 = λ t. d ∣ t in subst P e (h (suc n) (omega arith)))) };
-    }
 
 -- the table that the divided rows are
 module _ (p : Program) (raw new : List ℤ) (shaped : IsShaped p) (u : IsRaw p raw) (long : length new ≡ length raw)

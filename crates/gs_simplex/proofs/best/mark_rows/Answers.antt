@@ -2,12 +2,9 @@ use Rattle.std.proofs.Common.{◌≡◌, ◌≢◌, inl, inr, ℕ, ◌+◌, ◌<
 use Rattle.std.proofs.lemmas.Bool.{cases_eq}
 use Rattle.gs_rows.specs.declared.Program.{Program}
 use Rattle.gs_rows.specs.Program.{Listing, IsListed, ColListed, IsPairList}
-use Rattle.gs_rows.proofs.PairLists.{place_of, listed_at}
+use Rattle.gs_rows.proofs.PairLists.{less_one, no_column, place_of}
 use Rattle.gs_simplex.specs.Values.{IsMarked}
 use Rattle.gs_simplex.proofs.best.mark_rows.Goals as goal
-
-less_one : (a b : ℕ) → a + 1 ≡ b + 1 → a ≡ b
-less_one a b e = omega arith
 
 -- one more pair marked
 marked : (p : Program) (l : Listing) (old rows : List ℕ) (n r c : ℕ) → IsPairList p l → length rows ≡ p.cols → n < length l → slice_index_or l n (0, 0) ≡ (r + 1, c + 1) → c < p.cols → IsMarked l old rows n → IsMarked l old (slice_set rows c (r + 1)) (n + 1)
@@ -30,12 +27,5 @@ loop-place-preserved c =
 pub returns-clause-listed : goal.returns-clause-listed
 returns-clause-listed c = λ i j h. c.loop-place.invariant.listed h.0 i j (omega (arith, h.1)) (place_of c.args.basis.now i j h)
 
--- a column that stands in no pair
-none_names : (p : Program) (l : Listing) (j k : ℕ) → IsPairList p l → (ColListed l j → ⊥) → k < length l → (slice_index_or l k (0, 0)).1 ≡ j + 1 → ⊥
-none_names p l j k pairs out h e =
-    let n = pairs.named k h in
-    let s : n.1 ≡ j = less_one n.1 j (ap (λ (x : ℕ × ℕ). x.1) (sym n.2) ∙ e) in
-    out (n.0, (let P : ℕ → Type 0 = λ x. IsListed l n.0 x in subst P s (listed_at l k n.0 n.1 h n.2)))
-
 pub returns-clause-unlisted : goal.returns-clause-unlisted
-returns-clause-unlisted c = λ j out. c.loop-place.invariant.unlisted j (λ k h. none_names c.args.p.now c.args.basis.now j k c.requires.pairs out (omega arith))
+returns-clause-unlisted c = λ j out. c.loop-place.invariant.unlisted j (λ k h. no_column c.args.p.now c.args.basis.now j k c.requires.pairs out (omega arith))

@@ -2,12 +2,9 @@ use Rattle.std.proofs.Common.{◌≡◌, ◌≢◌, inl, inr, ℕ, ◌+◌, ◌<
 use Rattle.std.proofs.lemmas.Bool.{cases_eq}
 use Rattle.gs_rows.specs.declared.Program.{Program}
 use Rattle.gs_rows.specs.Program.{Listing, IsListed, RowListed, IsPairList}
-use Rattle.gs_rows.proofs.PairLists.{place_of, listed_at}
+use Rattle.gs_rows.proofs.PairLists.{less_one, no_row, place_of}
 use Rattle.gs_simplex.specs.Live.{AreOwns}
 use Rattle.gs_simplex.proofs.live.mark_owns.Goals as goal
-
-less_one : (a b : ℕ) → a + 1 ≡ b + 1 → a ≡ b
-less_one a b e = omega arith
 
 -- one more pair noted
 noted : (p : Program) (l : Listing) (old owns : List ℕ) (n r c : ℕ) → IsPairList p l → n < length l → slice_index_or l n (0, 0) ≡ (r + 1, c + 1) → r < length owns → AreOwns l old owns n → AreOwns l old (slice_set owns r c) (n + 1)
@@ -30,12 +27,5 @@ loop-place-preserved c =
 pub returns-clause-listed : goal.returns-clause-listed
 returns-clause-listed c = λ i j h. c.loop-place.invariant.listed h.0 i j (omega (arith, h.1)) (place_of c.args.basis.now i j h)
 
--- a row that stands in no pair
-none_names : (p : Program) (l : Listing) (i k : ℕ) → IsPairList p l → (RowListed l i → ⊥) → k < length l → (slice_index_or l k (0, 0)).0 ≡ i + 1 → ⊥
-none_names p l i k pairs out h e =
-    let n = pairs.named k h in
-    let s : n.0 ≡ i = less_one n.0 i (ap (λ (x : ℕ × ℕ). x.0) (sym n.2) ∙ e) in
-    out (n.1, (let P : ℕ → Type 0 = λ x. IsListed l x n.1 in subst P s (listed_at l k n.0 n.1 h n.2)))
-
 pub returns-clause-unlisted : goal.returns-clause-unlisted
-returns-clause-unlisted c = λ i out. c.loop-place.invariant.unlisted i (λ k h. none_names c.args.p.now c.args.basis.now i k c.requires.pairs out (omega arith))
+returns-clause-unlisted c = λ i out. c.loop-place.invariant.unlisted i (λ k h. no_row c.args.p.now c.args.basis.now i k c.requires.pairs out (omega arith))

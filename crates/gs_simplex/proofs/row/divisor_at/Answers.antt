@@ -4,19 +4,15 @@ use Rattle.std.proofs.Math.Nat.{one-dvd}
 use Rattle.std.proofs.lemmas.Int.{to_z_pos}
 use Rattle.std.proofs.lemmas.Nat.Gcd.{dvd_refl, dvd-zero}
 use Rattle.gs_simplex.specs.Numbers.{at}
-use Rattle.gs_simplex.proofs.Reduce.{one_more_of}
+use Rattle.gs_simplex.proofs.Reduce.{nothing_common, one_more_of}
 use Rattle.gs_simplex.proofs.Fits.{kept_64}
 use Rattle.gs_simplex.proofs.Lives.{everywhere}
 use Rattle.gs_simplex.proofs.row.divisor_at.Goals as goal
 
 pub loop-k-init : goal.loop-k-init
 loop-k-init c =
-    let e : c.of-common.result.number ≡ pos 0 = c.of-common.ensures in
-    let P : ℤ → Type 0 = λ t. (d : ℕ) → d ∣ unsigned_abs t in let Q : ℤ → Type 0 = λ t. unsigned_abs t < 2 ^ 62 in
-    record {
-      all = (λ j h. absurd (omega arith), λ d h. subst P (sym e) (λ k. dvd-zero k) d);
-      narrow = subst Q (sym e) (omega arith);
-    }
+    let h = nothing_common c.of-common.result.number c.of-common.ensures in
+    record { all = (λ j l. absurd (omega arith), λ d l. h.0 d); narrow = h.1 }
 
 pub loop-k-preserved-then-number-eq0 : goal.loop-k-preserved-then-number-eq0
 loop-k-preserved-then-number-eq0 c =

@@ -4,18 +4,14 @@ use Rattle.std.proofs.Math.Nat.{one-dvd}
 use Rattle.std.proofs.lemmas.Int.{to_z_pos}
 use Rattle.std.proofs.lemmas.Nat.Gcd.{dvd_refl, dvd-zero}
 use Rattle.gs_simplex.specs.Numbers.{at}
-use Rattle.gs_simplex.proofs.Reduce.{one_more}
+use Rattle.gs_simplex.proofs.Reduce.{nothing_common, one_more}
 use Rattle.gs_simplex.proofs.Fits.{kept_64}
 use Rattle.gs_simplex.proofs.row.narrow_divisor.Goals as goal
 
 pub loop-number-init : goal.loop-number-init
 loop-number-init c =
-    let e : c.of-found.result.number ≡ pos 0 = c.of-found.ensures in
-    let P : ℤ → Type 0 = λ t. (d : ℕ) → d ∣ unsigned_abs t in let Q : ℤ → Type 0 = λ t. unsigned_abs t < 2 ^ 62 in
-    record {
-      all = (λ j h. absurd (omega arith), λ d h. subst P (sym e) (λ k. dvd-zero k) d);
-      narrow = subst Q (sym e) (omega arith);
-    }
+    let h = nothing_common c.of-found.result.number c.of-found.ensures in
+    record { all = (λ j l. absurd (omega arith), λ d l. h.0 d); narrow = h.1 }
 
 pub loop-number-preserved-then-number-eq0 : goal.loop-number-preserved-then-number-eq0
 loop-number-preserved-then-number-eq0 c =

@@ -14,6 +14,7 @@ use Rattle.gs_simplex.specs.Live.{IsFound, IsLive}
 use Rattle.gs_simplex.proofs.Lives.{live_of}
 use Rattle.gs_simplex.proofs.Paths.{primitive_of}
 use Rattle.gs_simplex.proofs.table.Table.list.Goals as goal
+use Rattle.gs_simplex.proofs.table.Table.list.Goals.{After-deref, After-deref_mut-3, After-take_lead}
 
 taken : (n : ℕ) (xs ys : List ℤ) → length xs ≡ n → take n (xs ++ ys) ≡ xs
 taken n xs ys e = take_at xs ys n e
@@ -130,67 +131,50 @@ module _ (p : Program) (items old mid mid' lead lead' : List ℤ) (r c : ℕ) (r
       let B : List ℕ → Type 0 = λ x. IsLive places x found (p.rows + 1) r (p.cols + 2) (cell mid (p.cols + 2)) (at lead) in
       subst W (sym wide') (subst M (sym em) (subst L (sym el) (subst A (sym ep) (subst B (sym ew) (live_of p l r c found places owns items mid (at lead) pairs table of rows f kept_items turned_items)))))
 
+-- what take_lead left, in the table and in the lead
+taken_lead : (c : After-take_lead) → IsTaken c.args.p.now c.deref_mut.result.now c.take_lead.new.numbers c.take_lead.new.lead c.args.r c.args.c
+taken_lead c = record {
+  long = c.take_lead.auto.numbers;
+  wide = omega (arith, c.take_lead.auto.lead, c.deref_mut-2.ensures.len, c.requires.room.lead);
+  same = c.take_lead.ensures.same;
+  turned = c.take_lead.ensures.turned;
+  others = c.take_lead.ensures.others;
+}
+
+same_numbers : (c : After-deref_mut-3) → c.deref_mut-3.result.now ≡ c.take_lead.new.numbers
+same_numbers c = c.deref_mut-3.ensures.value ∙ taken c.args.self.now.numbers.len c.take_lead.new.numbers (drop (length c.take_lead.new.numbers) c.args.self.now.numbers.items) (omega (arith, c.take_lead.auto.numbers, c.deref_mut.ensures.len))
+
+same_lead : (c : After-deref) → c.deref.result.now ≡ c.take_lead.new.lead
+same_lead c = c.deref.ensures.value ∙ taken c.args.self.now.lead.len c.take_lead.new.lead (drop (length c.take_lead.new.lead) c.args.self.now.lead.items) (omega (arith, c.take_lead.auto.lead, c.deref_mut-2.ensures.len))
+
 pub clear_column-requires-clause-live : goal.clear_column-requires-clause-live
 clear_column-requires-clause-live c =
-    let p = c.args.p.now in let old = c.deref_mut.result.now in let mid = c.take_lead.new.numbers in let lead = c.take_lead.new.lead in
-    let u : IsTaken p old mid lead c.args.r c.args.c = record {
-      long = c.take_lead.auto.numbers;
-      wide = omega (arith, c.take_lead.auto.lead, c.deref_mut-2.ensures.len, c.requires.room.lead);
-      same = c.take_lead.ensures.same;
-      turned = c.take_lead.ensures.turned;
-      others = c.take_lead.ensures.others;
-    } in
-    live' p c.args.self.now.numbers.items old mid c.deref_mut-3.result.now lead c.deref.result.now c.args.r c.args.c c.requires.row c.requires.column c.requires.table (primitive_of p c.args.basis.now c.args.self.now.numbers.items c.requires.rows) c.requires.nonzero u
-    c.deref_mut.ensures.value
-    (c.deref_mut-3.ensures.value ∙ taken c.args.self.now.numbers.len mid (drop (length mid) c.args.self.now.numbers.items) (omega (arith, c.take_lead.auto.numbers, c.deref_mut.ensures.len)))
-    (c.deref.ensures.value ∙ taken c.args.self.now.lead.len lead (drop (length lead) c.args.self.now.lead.items) (omega (arith, c.take_lead.auto.lead, c.deref_mut-2.ensures.len)))
+    let w = goal.at.clear_column-requires-clause-live c in
+    live' c.args.p.now c.args.self.now.numbers.items c.deref_mut.result.now c.take_lead.new.numbers c.deref_mut-3.result.now c.take_lead.new.lead c.deref.result.now c.args.r c.args.c c.requires.row c.requires.column c.requires.table (primitive_of c.args.p.now c.args.basis.now c.args.self.now.numbers.items c.requires.rows) c.requires.nonzero (taken_lead w.After-take_lead)
+    c.deref_mut.ensures.value (same_numbers w.After-deref_mut-3) (same_lead w.After-deref)
     c.args.basis.now c.find-found.new.self.places.items c.deref_mut-5.result.now c.find-found.new.self.owns.items c.deref-2.result.now c.find-found.result c.requires.pairs c.requires.rows c.find-found.ensures.found c.deref_mut-5.ensures.value c.deref-2.ensures.value
 
 pub clear_column-requires-clause-narrow : goal.clear_column-requires-clause-narrow
 clear_column-requires-clause-narrow c =
-    let p = c.args.p.now in let old = c.deref_mut.result.now in let mid = c.take_lead.new.numbers in let lead = c.take_lead.new.lead in
-    let u : IsTaken p old mid lead c.args.r c.args.c = record {
-      long = c.take_lead.auto.numbers;
-      wide = omega (arith, c.take_lead.auto.lead, c.deref_mut-2.ensures.len, c.requires.room.lead);
-      same = c.take_lead.ensures.same;
-      turned = c.take_lead.ensures.turned;
-      others = c.take_lead.ensures.others;
-    } in
-    narrow' p c.args.self.now.numbers.items old mid c.deref_mut-3.result.now lead c.deref.result.now c.args.r c.args.c c.requires.row c.requires.column c.requires.table (primitive_of p c.args.basis.now c.args.self.now.numbers.items c.requires.rows) c.requires.nonzero u
-    c.deref_mut.ensures.value
-    (c.deref_mut-3.ensures.value ∙ taken c.args.self.now.numbers.len mid (drop (length mid) c.args.self.now.numbers.items) (omega (arith, c.take_lead.auto.numbers, c.deref_mut.ensures.len)))
-    (c.deref.ensures.value ∙ taken c.args.self.now.lead.len lead (drop (length lead) c.args.self.now.lead.items) (omega (arith, c.take_lead.auto.lead, c.deref_mut-2.ensures.len)))
+    let w = goal.at.clear_column-requires-clause-narrow c in
+    narrow' c.args.p.now c.args.self.now.numbers.items c.deref_mut.result.now c.take_lead.new.numbers c.deref_mut-3.result.now c.take_lead.new.lead c.deref.result.now c.args.r c.args.c c.requires.row c.requires.column c.requires.table (primitive_of c.args.p.now c.args.basis.now c.args.self.now.numbers.items c.requires.rows) c.requires.nonzero (taken_lead w.After-take_lead)
+    c.deref_mut.ensures.value (same_numbers w.After-deref_mut-3) (same_lead w.After-deref)
 
 pub clear_column-requires-clause-primitive : goal.clear_column-requires-clause-primitive
 clear_column-requires-clause-primitive c =
-    let p = c.args.p.now in let old = c.deref_mut.result.now in let mid = c.take_lead.new.numbers in let lead = c.take_lead.new.lead in
-    let u : IsTaken p old mid lead c.args.r c.args.c = record {
-      long = c.take_lead.auto.numbers;
-      wide = omega (arith, c.take_lead.auto.lead, c.deref_mut-2.ensures.len, c.requires.room.lead);
-      same = c.take_lead.ensures.same;
-      turned = c.take_lead.ensures.turned;
-      others = c.take_lead.ensures.others;
-    } in
-    primitive' p c.args.self.now.numbers.items old mid c.deref_mut-3.result.now lead c.deref.result.now c.args.r c.args.c c.requires.row c.requires.column c.requires.table (primitive_of p c.args.basis.now c.args.self.now.numbers.items c.requires.rows) c.requires.nonzero u
-    c.deref_mut.ensures.value
-    (c.deref_mut-3.ensures.value ∙ taken c.args.self.now.numbers.len mid (drop (length mid) c.args.self.now.numbers.items) (omega (arith, c.take_lead.auto.numbers, c.deref_mut.ensures.len)))
-    (c.deref.ensures.value ∙ taken c.args.self.now.lead.len lead (drop (length lead) c.args.self.now.lead.items) (omega (arith, c.take_lead.auto.lead, c.deref_mut-2.ensures.len)))
+    let w = goal.at.clear_column-requires-clause-primitive c in
+    primitive' c.args.p.now c.args.self.now.numbers.items c.deref_mut.result.now c.take_lead.new.numbers c.deref_mut-3.result.now c.take_lead.new.lead c.deref.result.now c.args.r c.args.c c.requires.row c.requires.column c.requires.table (primitive_of c.args.p.now c.args.basis.now c.args.self.now.numbers.items c.requires.rows) c.requires.nonzero (taken_lead w.After-take_lead)
+    c.deref_mut.ensures.value (same_numbers w.After-deref_mut-3) (same_lead w.After-deref)
 
 pub returns-clause-listed : goal.returns-clause-listed
 returns-clause-listed c =
-    let p = c.args.p.now in let old = c.deref_mut.result.now in let mid = c.take_lead.new.numbers in let lead = c.take_lead.new.lead in let new = c.clear_column.new.numbers in
+    let w = goal.at.returns-clause-listed c in
+    let mid = c.take_lead.new.numbers in let new = c.clear_column.new.numbers in
     let n = c.args.self.now.numbers.len in
-    let u : IsTaken p old mid lead c.args.r c.args.c = record {
-      long = c.take_lead.auto.numbers;
-      wide = omega (arith, c.take_lead.auto.lead, c.deref_mut-2.ensures.len, c.requires.room.lead);
-      same = c.take_lead.ensures.same;
-      turned = c.take_lead.ensures.turned;
-      others = c.take_lead.ensures.others;
-    } in
-    let em : c.deref_mut-3.result.now ≡ mid = c.deref_mut-3.ensures.value ∙ taken n mid (drop (length mid) c.args.self.now.numbers.items) (omega (arith, c.take_lead.auto.numbers, c.deref_mut.ensures.len)) in
-    answer' p c.args.self.now.numbers.items old mid c.deref_mut-3.result.now lead c.deref.result.now c.args.r c.args.c c.requires.row c.requires.column c.requires.table (primitive_of p c.args.basis.now c.args.self.now.numbers.items c.requires.rows) c.requires.nonzero u
-    c.deref_mut.ensures.value em
-    (c.deref.ensures.value ∙ taken c.args.self.now.lead.len lead (drop (length lead) c.args.self.now.lead.items) (omega (arith, c.take_lead.auto.lead, c.deref_mut-2.ensures.len)))
-    new (take n (new ++ drop (length new) (take n (mid ++ drop (length mid) c.args.self.now.numbers.items)))) c.clear_column.result
-    (taken n new (drop (length new) (take n (mid ++ drop (length mid) c.args.self.now.numbers.items))) (omega (arith, c.clear_column.auto.numbers, c.take_lead.auto.numbers, c.deref_mut.ensures.len, ap length em)))
+    let em = same_numbers w.After-deref_mut-3 in
+    let rest = drop (length new) (take n (mid ++ drop (length mid) c.args.self.now.numbers.items)) in
+    answer' c.args.p.now c.args.self.now.numbers.items c.deref_mut.result.now c.take_lead.new.numbers c.deref_mut-3.result.now c.take_lead.new.lead c.deref.result.now c.args.r c.args.c c.requires.row c.requires.column c.requires.table (primitive_of c.args.p.now c.args.basis.now c.args.self.now.numbers.items c.requires.rows) c.requires.nonzero (taken_lead w.After-take_lead)
+    c.deref_mut.ensures.value (same_numbers w.After-deref_mut-3) (same_lead w.After-deref)
+    new (take n (new ++ rest)) c.clear_column.result
+    (taken n new rest (omega (arith, c.clear_column.auto.numbers, c.take_lead.auto.numbers, c.deref_mut.ensures.len, ap length em)))
     (c.clear_column.auto.numbers ∙ ap length em) c.clear_column.ensures
