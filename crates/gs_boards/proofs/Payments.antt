@@ -89,47 +89,33 @@ none_of chips n = omega (arith, ints)
 no_more : (z : ℤ) → z *ℤ pos 0 ≡ pos 0
 no_more z = omega (arith, ints)
 
-weaker : (chips : ℕ) (numbers : List ℕ) (p q : Place) → (q.board ≡ p.board → q.strength ≤ p.strength)
-    → cond (q.board == p.board) (shown chips numbers p q) (pos 0) ≡ pos (chips * p.win) *ℤ pos (apart (number_at numbers) p q)
-weaker chips numbers p q weak = ⊎_elim
+-- a place of the same board and another strength settles what is paid
+settled : (chips : ℕ) (numbers : List ℕ) (p q : Place) (factor : ℤ) (worth : Place → ℕ)
+    → (q.board ≡ p.board → (q.strength ≡ p.strength → ⊥) → shown chips numbers p q ≡ factor *ℤ pos (worth q))
+    → cond (q.board == p.board) (shown chips numbers p q) (pos 0) ≡ factor *ℤ pos (apart worth p q)
+settled chips numbers p q factor worth pays = ⊎_elim
     (λ (b : q.board ≡ p.board).
     let t : (q.board == p.board) ≡ true = (Decides-eqb q.board p.board).1 b in
     ap (λ c. cond c (shown chips numbers p q) (pos 0)) t
     ∙ ⊎_elim
     (λ (s : q.strength ≡ p.strength).
-    ap (λ o. pos (number_at numbers q) *ℤ (pos chips *ℤ o)) (ties p q s) ∙ none_of chips (number_at numbers q) ∙ sym (no_more (pos (chips * p.win)))
-    ∙ ap (λ c. pos (chips * p.win) *ℤ pos (cond c 0 (number_at numbers q))) (sym ((Decides-eqb q.strength p.strength).1 s)))
-    (λ (s : q.strength ≡ p.strength → ⊥).
-    ap (λ o. pos (number_at numbers q) *ℤ (pos chips *ℤ o)) (wins p q (omega (arith, weak b, s))) ∙ won_of chips (number_at numbers q) p.win
-    ∙ ap (λ c. pos (chips * p.win) *ℤ pos (cond c 0 (number_at numbers q))) (sym (not_eq q.strength p.strength s)))
+    ap (λ o. pos (number_at numbers q) *ℤ (pos chips *ℤ o)) (ties p q s) ∙ none_of chips (number_at numbers q) ∙ sym (no_more factor)
+    ∙ ap (λ c. factor *ℤ pos (cond c 0 (worth q))) (sym ((Decides-eqb q.strength p.strength).1 s)))
+    (λ (s : q.strength ≡ p.strength → ⊥). pays b s ∙ ap (λ c. factor *ℤ pos (cond c 0 (worth q))) (sym (not_eq q.strength p.strength s)))
     (cases_eq q.strength p.strength)
-    ∙ ap (λ c. pos (chips * p.win) *ℤ pos (cond c (cond (q.strength == p.strength) 0 (number_at numbers q)) 0)) (sym t))
+    ∙ ap (λ c. factor *ℤ pos (cond c (cond (q.strength == p.strength) 0 (worth q)) 0)) (sym t))
     (λ (b : q.board ≡ p.board → ⊥).
     let t : (q.board == p.board) ≡ false = not_eq q.board p.board b in
-    ap (λ c. cond c (shown chips numbers p q) (pos 0)) t ∙ sym (no_more (pos (chips * p.win)))
-    ∙ ap (λ c. pos (chips * p.win) *ℤ pos (cond c (cond (q.strength == p.strength) 0 (number_at numbers q)) 0)) (sym t))
+    ap (λ c. cond c (shown chips numbers p q) (pos 0)) t ∙ sym (no_more factor) ∙ ap (λ c. factor *ℤ pos (cond c (cond (q.strength == p.strength) 0 (worth q)) 0)) (sym t))
     (cases_eq q.board p.board)
+
+weaker : (chips : ℕ) (numbers : List ℕ) (p q : Place) → (q.board ≡ p.board → q.strength ≤ p.strength)
+    → cond (q.board == p.board) (shown chips numbers p q) (pos 0) ≡ pos (chips * p.win) *ℤ pos (apart (number_at numbers) p q)
+weaker chips numbers p q weak = settled chips numbers p q (pos (chips * p.win)) (number_at numbers) (λ b s. ap (λ o. pos (number_at numbers q) *ℤ (pos chips *ℤ o)) (wins p q (omega (arith, weak b, s))) ∙ won_of chips (number_at numbers q) p.win)
 
 stronger : (chips : ℕ) (numbers : List ℕ) (p q : Place) → (q.board ≡ p.board → p.strength ≤ q.strength)
     → cond (q.board == p.board) (shown chips numbers p q) (pos 0) ≡ neg_ℤ (pos chips) *ℤ pos (apart (worth_at (Showdown chips) numbers) p q)
-stronger chips numbers p q strong = ⊎_elim
-    (λ (b : q.board ≡ p.board).
-    let t : (q.board == p.board) ≡ true = (Decides-eqb q.board p.board).1 b in
-    ap (λ c. cond c (shown chips numbers p q) (pos 0)) t
-    ∙ ⊎_elim
-    (λ (s : q.strength ≡ p.strength).
-    ap (λ o. pos (number_at numbers q) *ℤ (pos chips *ℤ o)) (ties p q s) ∙ none_of chips (number_at numbers q) ∙ sym (no_more (neg_ℤ (pos chips)))
-    ∙ ap (λ c. neg_ℤ (pos chips) *ℤ pos (cond c 0 (worth_at (Showdown chips) numbers q))) (sym ((Decides-eqb q.strength p.strength).1 s)))
-    (λ (s : q.strength ≡ p.strength → ⊥).
-    ap (λ o. pos (number_at numbers q) *ℤ (pos chips *ℤ o)) (loses p q (omega (arith, strong b, s))) ∙ lost_of chips (number_at numbers q) q.win
-    ∙ ap (λ c. neg_ℤ (pos chips) *ℤ pos (cond c 0 (worth_at (Showdown chips) numbers q))) (sym (not_eq q.strength p.strength s)))
-    (cases_eq q.strength p.strength)
-    ∙ ap (λ c. neg_ℤ (pos chips) *ℤ pos (cond c (cond (q.strength == p.strength) 0 (worth_at (Showdown chips) numbers q)) 0)) (sym t))
-    (λ (b : q.board ≡ p.board → ⊥).
-    let t : (q.board == p.board) ≡ false = not_eq q.board p.board b in
-    ap (λ c. cond c (shown chips numbers p q) (pos 0)) t ∙ sym (no_more (neg_ℤ (pos chips)))
-    ∙ ap (λ c. neg_ℤ (pos chips) *ℤ pos (cond c (cond (q.strength == p.strength) 0 (worth_at (Showdown chips) numbers q)) 0)) (sym t))
-    (cases_eq q.board p.board)
+stronger chips numbers p q strong = settled chips numbers p q (neg_ℤ (pos chips)) (worth_at (Showdown chips) numbers) (λ b s. ap (λ o. pos (number_at numbers q) *ℤ (pos chips *ℤ o)) (loses p q (omega (arith, strong b, s))) ∙ lost_of chips (number_at numbers q) q.win)
 
 -- ---- all that a walk has passed
 

@@ -42,12 +42,12 @@ bounds-on-0 c =
 
 pub loop-signal-preserved : goal.loop-signal-preserved
 loop-signal-preserved c =
+    let w = goal.at.loop-signal-preserved c in
     let g : Game = game_of c.args.game.now in
     let n : ℕ = c.args.round in
     let i : ℕ = c.loop-signal.signal in
     let p : ℕ = c.index-in-loop-signal.result.now in
     let before : List ℕ = c.args.before.now in
-    let w = goal.at.loop-signal-preserved c in
     let h = known w.After-index-in-loop-signal in
     let here_in = parent_in w.After-index-in-loop-signal in
     let last : Seen = last_seen (signal_at g (suc n) i) in
