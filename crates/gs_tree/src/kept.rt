@@ -1,27 +1,21 @@
-//! What is kept of the last round's signals to weigh deals.
+//! What is kept of the last round's signals to weigh deals: their ways and their cards.
 
-ghost use Rattle.std.specs.Prelude.{◌≡◌, ◌≤◌, ◌<◌, ◌+◌, ◌*◌, ◌++◌, ◌∷◌, ℕ, [], suc, All, IfOk, IsTrue, OnOk, drop, flat_map, length, map, slice_index, take};
-ghost use Rattle.gs_card.specs.Rankings.{ranking_of};
+ghost use Rattle.std.specs.Prelude.{◌≡◌, ◌≤◌, ◌<◌, ◌+◌, ◌*◌, ◌++◌, ◌∷◌, ℕ, [], suc, All, IfOk, OnOk, drop, flat_map, length, map, slice_index, take};
 ghost use Rattle.gs_game.specs.Games.{game_of, round_of};
 ghost use Rattle.gs_game.specs.Limits.{IsDealable, IsWithinLimits};
 ghost use Rattle.gs_model.specs.Deals.{path_weight};
 ghost use Rattle.gs_model.specs.Game.{round_count};
 ghost use Rattle.gs_model.specs.Signals.{signal_at, signals};
-ghost use Rattle.gs_model.specs.ViewTree.{signal_strength};
-ghost use Rattle.gs_rank.specs.Hands.{IsStrength};
 ghost use Rattle.gs_tree.specs.Kept.{AreHands};
-ghost use Rattle.gs_tree.specs.Plain.{IsPlain};
 ghost use Rattle.gs_tree.specs.Layers.{last_seen};
 ghost use Rattle.gs_tree.specs.Shown.{cards_on, seen_on, shown_by};
 ghost use Rattle.gs_tree.specs.Tables.{AreTables};
-ghost use Rattle.gs_tree.specs.Walk.{last_count};
 
 use crate::layer::Side;
 use crate::tables::Tables;
 use crate::ways::Ways;
 use gs_card::Card;
-use gs_game::{Game, Round, are_single};
-use gs_rank::{Ranker, strength};
+use gs_game::{Game, Round};
 use std::alloc::{AllocError, Global};
 
 /// The cards of a round's signals, and the ways to take all that each shows. The cards of each stand behind those of the one before:
@@ -250,45 +244,4 @@ pub(crate) fn gather(alloc: Global, game: &Game, tables: &Tables) -> Result<Hand
         hands = next_hands(alloc, game, tables, round, &hands)?;
     }
     Ok(hands)
-}
-
-/// Whether no kind of cards has more than one copy, and each player is dealt one private card.
-pub(crate) fn is_plain(game: &Game, hands: &Hands) -> bool
-    requires { AreHands (game_of game.now) (round_count (game_of game.now)) hands.now.paths hands.now.owns.items hands.now.publics.items hands.now.own hands.now.public }
-    ensures { IsTrue result → IsPlain (game_of game.now) }
-{
-    let copies = game.deck.counts();
-    hands.own == 1 && are_single(copies)
-}
-
-/// The strength of the hand that a last-round signal holds.
-fn strength_of(ranker: &Ranker, game: &Game, hands: &Hands, signal: u32) -> u32
-    requires deck { ranker.now.deck.now ≡ game.now.deck }
-    requires hands { AreHands (game_of game.now) (round_count (game_of game.now)) hands.now.paths hands.now.owns.items hands.now.publics.items hands.now.own hands.now.public }
-    requires dealable { IsDealable (game_of game.now) }
-    requires signal_in { signal < last_count (game_of game.now) }
-    ensures value { result ≡ signal_strength (game_of game.now) (signal_at (game_of game.now) (round_count (game_of game.now)) signal) }
-    ensures within { IsStrength (ranking_of game.now.ranking) result }
-{
-    let _kinds = game.deck.kinds();
-    let own = part(&hands.owns, hands.own, signal);
-    let public = part(&hands.publics, hands.public, signal);
-    strength(ranker, game.ranking, own, public)
-}
-
-/// The strengths of the hands of all last-round signals.
-pub(crate) fn strengths(alloc: Global, game: &Game, hands: &Hands) -> Result<Vec<u32>, AllocError>
-    requires hands { AreHands (game_of game.now) (round_count (game_of game.now)) hands.now.paths hands.now.owns.items hands.now.publics.items hands.now.own hands.now.public }
-    requires limits { IsWithinLimits (game_of game.now) }
-    requires dealable { IsDealable (game_of game.now) }
-    ensures value { IfOk result (λ v. v.items ≡ map (signal_strength (game_of game.now)) (signals (game_of game.now) (round_count (game_of game.now)))) }
-    ensures within { IfOk result (λ v. All (IsStrength (ranking_of game.now.ranking)) v.items) }
-{
-    let count = hands.paths.len() as u32;
-    let ranker = Ranker::of(alloc, &game.deck)?;
-    let mut found = Vec::with_capacity(alloc, hands.paths.len())?;
-    for signal in 0..count {
-        found.push(strength_of(&ranker, game, hands, signal))?;
-    }
-    Ok(found)
 }

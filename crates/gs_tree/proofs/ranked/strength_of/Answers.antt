@@ -8,8 +8,8 @@ use Rattle.gs_model.specs.Signals.{signal_at, own_cards, public_cards}
 use Rattle.gs_rank.specs.Hands.{IsHand}
 use Rattle.gs_tree.proofs.Hands.{is_hand}
 use Rattle.gs_tree.proofs.Parts.{own_part, own_room, public_part, public_room}
-use Rattle.gs_tree.proofs.kept.strength_of.Goals as goal
-use Rattle.gs_tree.proofs.kept.strength_of.Goals.{After-part-own, After-part-public}
+use Rattle.gs_tree.proofs.ranked.strength_of.Goals as goal
+use Rattle.gs_tree.proofs.ranked.strength_of.Goals.{After-part-own, After-part-public}
 
 pub part-own-requires : goal.part-own-requires
 part-own-requires c =

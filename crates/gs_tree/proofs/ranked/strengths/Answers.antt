@@ -10,7 +10,7 @@ use Rattle.gs_model.specs.ViewTree.{signal_strength}
 use Rattle.gs_tree.specs.Walk.{last_count}
 use Rattle.gs_tree.proofs.Parts.{paths_long}
 use Rattle.gs_tree.proofs.Pushed.{mapped_more}
-use Rattle.gs_tree.proofs.kept.strengths.Goals as goal
+use Rattle.gs_tree.proofs.ranked.strengths.Goals as goal
 
 pub strength_of-requires-clause-signal_in : goal.strength_of-requires-clause-signal_in
 strength_of-requires-clause-signal_in c =

@@ -5,7 +5,7 @@ use Rattle.gs_game.specs.Games.{game_of}
 use Rattle.gs_model.specs.Game.{round_count}
 use Rattle.gs_model.specs.Signals.{signals}
 use Rattle.gs_model.specs.ViewTree.{signal_strength}
-use Rattle.gs_tree.proofs.kept.strengths.Given as goal
+use Rattle.gs_tree.proofs.ranked.strengths.Given as goal
 
 abbrev pub invariant-loop-signal : goal.invariant-loop-signal
 invariant-loop-signal l = record {
