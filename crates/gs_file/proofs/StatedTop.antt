@@ -11,7 +11,7 @@ use Rattle.gs_file.specs.declared.fault.Key.TheVariants as key
 use Rattle.gs_file.specs.declared.form.Form.TheVariants.{File}
 use Rattle.gs_file.specs.declared.version.Version.{Version}
 use Rattle.gs_file.specs.declared.version.Version.TheVariants.{One, Two}
-use Rattle.gs_file.proofs.Stating.{IsTable, IsWhole, after, found_ok, never, numbers_is, numbers_ok, only_ok, same_ok, tables_is, tables_ok}
+use Rattle.gs_file.proofs.Stating.{IsTable, IsWhole, after, found_ok, never, numbers_are, only_ok, same_ok, tables_are}
 
 -- ---- the values at the top
 
@@ -114,11 +114,11 @@ pub numbers_typed : (o : Option Data) (numbers : Option (List ℤ)) → bonus_nu
 numbers_typed None numbers e = sym (same_ok None numbers e)
 numbers_typed (Some d) numbers e =
     let (zs, ez, e1) = after (whole_numbers_in (top key.Bonus) d) (λ numbers. Ok (Some numbers)) numbers e in
-    (zs, sym (same_ok (Some zs) numbers e1), numbers_ok (top key.Bonus) d zs ez)
+    (zs, sym (same_ok (Some zs) numbers e1), (numbers_are (top key.Bonus) d zs).0 ez)
 
 pub typed_numbers : (o : Option Data) (numbers : Option (List ℤ)) → BonusTyped numbers o → bonus_numbers o ≡ Ok numbers
 typed_numbers None numbers h = rw h refl
-typed_numbers (Some d) numbers h = rw (numbers_is (top key.Bonus) d h.0 h.2, h.1) refl
+typed_numbers (Some d) numbers h = rw ((numbers_are (top key.Bonus) d h.0).1 h.2, h.1) refl
 
 pub typed_ok : (v : TopValues) (t : Top) → typed_at v ≡ Ok t → TypedHas t v
 unfolding typed_at
@@ -137,10 +137,10 @@ typed_ok v t e =
       ranking = found_ok (as_str v.ranking) (wrong_type (top key.Ranking)) ranking ek;
       bonus = numbers_typed v.bonus bonus eb;
       ante = found_ok (as_integer v.ante) (wrong_type (top key.Ante)) ante ea;
-      rounds = tables_ok (top key.Round) v.rounds rounds en;
+      rounds = (tables_are (top key.Round) v.rounds rounds).0 en;
     })
 
 pub typed_is : (v : TopValues) (t : Top) → TypedHas t v → typed_at v ≡ Ok t
 unfolding typed_at
 typed_is v t h =
-    rw (h.ranks, h.suits, copies_is v.copies t.copies h.copies, h.ranking, typed_numbers v.bonus t.bonus h.bonus, h.ante, tables_is (top key.Round) v.rounds t.rounds h.rounds) refl
+    rw (h.ranks, h.suits, copies_is v.copies t.copies h.copies, h.ranking, typed_numbers v.bonus t.bonus h.bonus, h.ante, (tables_are (top key.Round) v.rounds t.rounds).1 h.rounds) refl

@@ -1,6 +1,6 @@
 -- Each check of a game file as a fact on values, with no order of checks: it passes where the fact holds, and nowhere else.
 use Rattle.std.proofs.Common.{◌≡◌, ℕ, ◌+◌, ◌≤◌, ◌&&◌, Bool, true, false, List, [], ◌∷◌, Option, Some, None, Result, Ok, Err, ℤ, pos, negsuc, nat_le, refl, ap, subst, arith}
-use Rattle.std.specs.Prelude.{if◌then◌else◌}
+use Rattle.std.specs.Prelude.{◌↔◌, if◌then◌else◌}
 use Rattle.std.specs.Option.{ok_or}
 use Rattle.std.proofs.lemmas.Bool.{and_parts, le-leb, leb-true}
 use Rattle.toml.specs.Data.{Data, Members, as_array, as_table, as_integer}
@@ -97,21 +97,14 @@ IsTable table d = as_table d ≡ Some table
 abbrev pub IsWhole : ℤ → Data → Type 0
 IsWhole z d = as_integer d ≡ Some z
 
-pub tables_ok : (place : Place) (d : Data) (ts : List Members) → tables_in place d ≡ Ok ts → IsList IsTable ts d
+-- the tables of an array, and its whole numbers
+pub tables_are : (place : Place) (d : Data) (ts : List Members) → (tables_in place d ≡ Ok ts) ↔ IsList IsTable ts d
 unfolding tables_in
-tables_ok place d ts e = array_ok (λ n. table_in place) IsTable (λ n x y r. found_ok (as_table x) (wrong_type place) y r) place d ts e
+tables_are place d ts = (array_ok (λ n. table_in place) IsTable (λ n x y r. found_ok (as_table x) (wrong_type place) y r) place d ts, array_is (λ n. table_in place) IsTable (λ n x y r. rw r refl) place d ts)
 
-pub tables_is : (place : Place) (d : Data) (ts : List Members) → IsList IsTable ts d → tables_in place d ≡ Ok ts
-unfolding tables_in
-tables_is place d ts g = array_is (λ n. table_in place) IsTable (λ n x y r. rw r refl) place d ts g
-
-pub numbers_ok : (place : Place) (d : Data) (zs : List ℤ) → whole_numbers_in place d ≡ Ok zs → IsList IsWhole zs d
+pub numbers_are : (place : Place) (d : Data) (zs : List ℤ) → (whole_numbers_in place d ≡ Ok zs) ↔ IsList IsWhole zs d
 unfolding whole_numbers_in
-numbers_ok place d zs e = array_ok (λ n. whole_number place) IsWhole (λ n x y r. found_ok (as_integer x) (wrong_type place) y r) place d zs e
-
-pub numbers_is : (place : Place) (d : Data) (zs : List ℤ) → IsList IsWhole zs d → whole_numbers_in place d ≡ Ok zs
-unfolding whole_numbers_in
-numbers_is place d zs g = array_is (λ n. whole_number place) IsWhole (λ n x y r. rw r refl) place d zs g
+numbers_are place d zs = (array_ok (λ n. whole_number place) IsWhole (λ n x y r. found_ok (as_integer x) (wrong_type place) y r) place d zs, array_is (λ n. whole_number place) IsWhole (λ n x y r. rw r refl) place d zs)
 
 -- ---- lists that go together through a third
 
