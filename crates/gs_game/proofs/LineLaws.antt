@@ -56,22 +56,20 @@ pub in_second : (p e p' e' : ℕ) (x y : Texts) (at : Target) (s : List ℕ) →
 in_second p e p' e' x y (at_point q) s f g h = (length x.points + h.0, omega (arith, f, h.1), get_right x.points y.points h.0 ∙ h.2)
 in_second p e p' e' x y (at_end z) s f g h = (length x.ends + h.0, omega (arith, g, h.1), get_right x.ends y.ends h.0 ∙ h.2)
 
+in_one : (xs ys : List (List ℕ)) (q p p' : ℕ) (s : List ℕ) → p' ≡ p + length xs → (k : ℕ) × (q ≡ p + k) × (slice_get (xs ++ ys) k ≡ Some s)
+    → ((k : ℕ) × (q ≡ p + k) × (slice_get xs k ≡ Some s)) ⊎ ((k : ℕ) × (q ≡ p' + k) × (slice_get ys k ≡ Some s))
+in_one xs ys q p p' s f h = elim (cases_lt h.0 (length xs)) [
+  | inl lt ↦ inl (h.0, h.1, sym (get_within xs ys h.0 lt) ∙ h.2)
+  | inr ge ↦
+      let k = h.0 - length xs in
+      let n : length xs + k ≡ h.0 = omega arith in
+      inr (k, omega (arith, f, h.1, n), sym (get_right xs ys k) ∙ ap (slice_get (xs ++ ys)) n ∙ h.2)
+]
+
 pub in_either : (p e p' e' : ℕ) (x y : Texts) (at : Target) (s : List ℕ) → p' ≡ p + length x.points → e' ≡ e + length x.ends → StandsAt p e (both x y) at s
     → StandsAt p e x at s ⊎ StandsAt p' e' y at s
-in_either p e p' e' x y (at_point q) s f g h = elim (cases_lt h.0 (length x.points)) [
-  | inl lt ↦ inl (h.0, h.1, sym (get_within x.points y.points h.0 lt) ∙ h.2)
-  | inr ge ↦
-      let k = h.0 - length x.points in
-      let n : length x.points + k ≡ h.0 = omega arith in
-      inr (k, omega (arith, f, h.1, n), sym (get_right x.points y.points k) ∙ ap (slice_get (x.points ++ y.points)) n ∙ h.2)
-]
-in_either p e p' e' x y (at_end z) s f g h = elim (cases_lt h.0 (length x.ends)) [
-  | inl lt ↦ inl (h.0, h.1, sym (get_within x.ends y.ends h.0 lt) ∙ h.2)
-  | inr ge ↦
-      let k = h.0 - length x.ends in
-      let n : length x.ends + k ≡ h.0 = omega arith in
-      inr (k, omega (arith, g, h.1, n), sym (get_right x.ends y.ends k) ∙ ap (slice_get (x.ends ++ y.ends)) n ∙ h.2)
-]
+in_either p e p' e' x y (at_point q) s f g h = in_one x.points y.points q p p' s f h
+in_either p e p' e' x y (at_end z) s f g h = in_one x.ends y.ends z e e' s g h
 
 -- ---- what is known of what follows an even leaf
 

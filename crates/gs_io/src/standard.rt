@@ -6,31 +6,34 @@ use crate::{Failed, Sink, Source, count_fault};
 use std::io::{Read, Write};
 use std::marker::Model;
 
-/// A source over any reader. It reads once for each call and counts the errors, an interrupted
-/// read among them. It tells the bytes that the reader tells: standard input tells none.
+/// A reader or a writer with a count of its errors.
 #[derive(Drop)]
-pub struct StdSource<R: Read> {
-    inner: R,
+pub struct Counted<T> {
+    inner: T,
     faults: u64,
 }
 
-impl<R: Read> Model for StdSource<R> {
+impl<T> Model for Counted<T> {
     ghost use Rattle.std.specs.Prelude.{ℕ};
 
-    ghost Value = { R × ℕ };
+    ghost Value = { T × ℕ };
 
     ghost view = { λ s. (s.inner, s.faults) };
 }
 
-impl<R: Read> StdSource<R> {
-    pub fn new(inner: R) -> StdSource<R>
+impl<T> Counted<T> {
+    pub fn new(inner: T) -> Counted<T>
         ensures { result ≡ (inner, 0) }
     {
-        StdSource { inner, faults: 0 }
+        Counted { inner, faults: 0 }
     }
 }
 
-impl<R: Read> Source for StdSource<R> {
+/// A source over any reader. It reads once for each call and counts the errors, an interrupted
+/// read among them. It tells the bytes that the reader tells: standard input tells none.
+pub type StdSource<R> = Counted<R>;
+
+impl<R: Read> Source for Counted<R> {
     ghost left = { λ s. R.remaining s.0 };
 
     ghost faults = { λ s. s.1 };
@@ -46,29 +49,9 @@ impl<R: Read> Source for StdSource<R> {
 /// A sink over any writer. It writes once for each call and counts the errors, an interrupted
 /// write and a write that takes no byte among them. It tells the bytes that the writer tells:
 /// standard output tells none.
-#[derive(Drop)]
-pub struct StdSink<W: Write> {
-    inner: W,
-    faults: u64,
-}
+pub type StdSink<W> = Counted<W>;
 
-impl<W: Write> Model for StdSink<W> {
-    ghost use Rattle.std.specs.Prelude.{ℕ};
-
-    ghost Value = { W × ℕ };
-
-    ghost view = { λ s. (s.inner, s.faults) };
-}
-
-impl<W: Write> StdSink<W> {
-    pub fn new(inner: W) -> StdSink<W>
-        ensures { result ≡ (inner, 0) }
-    {
-        StdSink { inner, faults: 0 }
-    }
-}
-
-impl<W: Write> Sink for StdSink<W> {
+impl<W: Write> Sink for Counted<W> {
     ghost given = { λ s. W.contents s.0 };
 
     ghost faults = { λ s. s.1 };

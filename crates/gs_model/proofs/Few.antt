@@ -28,3 +28,11 @@ module _ (P : ℕ → Type 0) where
   from_one_to_two a b (suc zero) lo hi = a
   from_one_to_two a b (suc (suc zero)) lo hi = b
   from_one_to_two a b (suc (suc (suc n))) lo hi = absurd (omega arith)
+
+  pub from_one_to_four : P 1 → P 2 → P 3 → P 4 → (n : ℕ) → 0 < n → n ≤ 4 → P n
+  from_one_to_four a b c d zero lo hi = absurd (omega arith)
+  from_one_to_four a b c d (suc zero) lo hi = a
+  from_one_to_four a b c d (suc (suc zero)) lo hi = b
+  from_one_to_four a b c d (suc (suc (suc zero))) lo hi = c
+  from_one_to_four a b c d (suc (suc (suc (suc zero)))) lo hi = d
+  from_one_to_four a b c d (suc (suc (suc (suc (suc n))))) lo hi = absurd (omega arith)

@@ -7,6 +7,7 @@ use Rattle.std.proofs.lemmas.Bool.{le-ltb, ne_eqb}
 use Rattle.std.proofs.Math.Nat.{mul-le-mul_left, mul-le-mul_right}
 use Rattle.std.specs.Str.{IsAscii}
 use Rattle.toml_writer.specs.Text.{string_text, encoding_of, escaped, needs_escape, quotes_after}
+use Rattle.gs_model.proofs.Few.{from_one_to_four}
 use Rattle.gs_card.specs.DeckFaults.{fault_of}
 use Rattle.gs_card.specs.Decks.{repeats}
 use Rattle.gs_made.proofs.Ascii.{ascii}
@@ -52,12 +53,12 @@ ranks_are (suc (suc (suc (suc (suc (suc (suc (suc (suc (suc (suc (suc (suc (suc 
 
 pub suits_are : (n : ℕ) → 1 ≤ n → n ≤ 4 → AreLetters n (suits_text n)
 unfolding string_text encoding_of escaped needs_escape quotes_after
-suits_are zero low high = absurd (omega arith)
-suits_are (suc zero) low high = record { plain = record { written = refl; is_ascii = ascii (suits_text 1) refl }; long = refl; letters = refl; differ = refl }
-suits_are (suc (suc zero)) low high = record { plain = record { written = refl; is_ascii = ascii (suits_text 2) refl }; long = refl; letters = refl; differ = refl }
-suits_are (suc (suc (suc zero))) low high = record { plain = record { written = refl; is_ascii = ascii (suits_text 3) refl }; long = refl; letters = refl; differ = refl }
-suits_are (suc (suc (suc (suc zero)))) low high = record { plain = record { written = refl; is_ascii = ascii (suits_text 4) refl }; long = refl; letters = refl; differ = refl }
-suits_are (suc (suc (suc (suc (suc n))))) low high = absurd (omega arith)
+suits_are n low high = from_one_to_four (λ k. AreLetters k (suits_text k))
+    (record { plain = record { written = refl; is_ascii = ascii (suits_text 1) refl }; long = refl; letters = refl; differ = refl })
+    (record { plain = record { written = refl; is_ascii = ascii (suits_text 2) refl }; long = refl; letters = refl; differ = refl })
+    (record { plain = record { written = refl; is_ascii = ascii (suits_text 3) refl }; long = refl; letters = refl; differ = refl })
+    (record { plain = record { written = refl; is_ascii = ascii (suits_text 4) refl }; long = refl; letters = refl; differ = refl })
+    n low high
 
 -- the word of each ranking
 pub ranking_plain : (kind : Kind) → IsPlain (ranking_of kind)

@@ -10,9 +10,7 @@ use Rattle.gs_simplex.proofs.Lives.{everywhere}
 use Rattle.gs_simplex.proofs.row.divisor_at.Goals as goal
 
 pub loop-k-init : goal.loop-k-init
-loop-k-init c =
-    let h = nothing_common c.of-common.result.number c.of-common.ensures in
-    record { all = (λ j l. absurd (omega arith), λ d l. h.0 d); narrow = h.1 }
+loop-k-init c = let h = nothing_common c.of-common.result.number c.of-common.ensures in record { all = (λ j l. absurd (omega arith), λ d l. h.0 d); narrow = h.1 }
 
 pub loop-k-preserved-then-number-eq0 : goal.loop-k-preserved-then-number-eq0
 loop-k-preserved-then-number-eq0 c =

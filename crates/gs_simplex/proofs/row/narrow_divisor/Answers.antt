@@ -9,9 +9,7 @@ use Rattle.gs_simplex.proofs.Fits.{kept_64}
 use Rattle.gs_simplex.proofs.row.narrow_divisor.Goals as goal
 
 pub loop-number-init : goal.loop-number-init
-loop-number-init c =
-    let h = nothing_common c.of-found.result.number c.of-found.ensures in
-    record { all = (λ j l. absurd (omega arith), λ d l. h.0 d); narrow = h.1 }
+loop-number-init c = let h = nothing_common c.of-found.result.number c.of-found.ensures in record { all = (λ j l. absurd (omega arith), λ d l. h.0 d); narrow = h.1 }
 
 pub loop-number-preserved-then-number-eq0 : goal.loop-number-preserved-then-number-eq0
 loop-number-preserved-then-number-eq0 c =

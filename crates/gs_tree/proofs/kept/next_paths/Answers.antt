@@ -47,12 +47,11 @@ loop-signal-preserved c =
     let w = goal.at.loop-signal-preserved c in
     let g : Game = game_of c.args.game.now in
     let n : ℕ = c.args.round in
-    let i : ℕ = c.loop-signal.signal in
     let h = known w.After-index-in-loop-signal (within w.In-loop-signal) in
-    let value : c.of-path.result * c.of.result ≡ path_weight g.copies (signal_at g (suc n) i) =
+    let value : c.of-path.result * c.of.result ≡ path_weight g.copies (signal_at g (suc n) c.loop-signal.signal) =
     ap (λ k. k * c.of.result) (path w.After-of-path h.parent_in)
     ∙ ap (λ k. path_weight g.copies (signal_at g n c.index-in-loop-signal.result.now) * k) (c.of.ensures ∙ h.edge_is) ∙ sym h.path_is in
-    c.in_ok-push.ensures ∙ mapped_more (path_weight g.copies) [] c.loop-signal.paths (signals g (suc n)) i [] (c.of-path.result * c.of.result) h.here c.loop-signal.invariant value
+    c.in_ok-push.ensures ∙ mapped_more (path_weight g.copies) [] c.loop-signal.paths (signals g (suc n)) c.loop-signal.signal [] (c.of-path.result * c.of.result) h.here c.loop-signal.invariant value
 
 pub returns-in-Some-Some : goal.returns-in-Some-Some
 returns-in-Some-Some c =

@@ -13,6 +13,10 @@ use Rattle.gs_tree.proofs.Grown.{shows_of, few_before, first_grown, owners_more,
 use Rattle.gs_tree.proofs.tables.grow.Goals as goal
 use Rattle.gs_tree.proofs.tables.grow.Goals.{At-loop-parent}
 
+-- what a signal's showings weigh
+abbrev edges : Game → ℕ → Signal → List ℕ
+edges g n s = map (edge (left_by g.copies s)) (showings (left_by g.copies s) (round_at g (suc n)))
+
 -- as many showings as the signals so far have children
 long : (c : At-loop-parent) → vec_len c.loop-parent.grown.layer.shown ≡ first_child (game_of c.args.game.now) (length c.args.layers.now) c.loop-parent.parent
 long c = omega (arith, c.loop-parent.grown.layer.shown.ok.0, length-map c.loop-parent.grown.layer.shown.items seen_of, ap (λ (x : List Seen). length x) c.loop-parent.invariant.shown, first_grown (game_of c.args.game.now) (length c.args.layers.now) c.loop-parent.parent)
@@ -37,7 +41,6 @@ loop-parent-preserved c =
     let here : i < length ss = omega (arith, c.requires.counted) in
     let left : c.deref.result.now ≡ left_by g.copies (get_or ss i []) = c.deref.ensures.value ∙ c.in_ok-left.ensures.left in
     let shows : Signal → List Seen = shows_of g n in
-    let edges : Signal → List ℕ = λ s. map (edge (left_by g.copies s)) (showings (left_by g.copies s) r) in
     let more : showings c.deref.result.now (round_of c.args.next.now) ≡ shows (get_or ss i []) = ap (λ x. showings x (round_of c.args.next.now)) left ∙ ap (showings (left_by g.copies (get_or ss i []))) c.requires.round in
     let showing : List Seen = showings c.deref.result.now (round_of c.args.next.now) in
     let old : List ℕ = c.loop-parent.grown.parents.items in
@@ -51,7 +54,7 @@ loop-parent-preserved c =
     let zero : i ≡ 0 + i = omega arith in
     record {
       shown = c.in_ok-push_showings.ensures.shown ∙ joined_more shows [] (shown_in c.loop-parent.grown.layer) (showings c.deref.result.now (round_of c.args.next.now)) ss i [] here c.loop-parent.invariant.shown more;
-      edges = c.in_ok-push_showings.ensures.edges ∙ joined_more edges [] c.loop-parent.grown.layer.edges (map (edge c.deref.result.now) (showings c.deref.result.now (round_of c.args.next.now))) ss i [] here c.loop-parent.invariant.edges (ap (λ x. map (edge x) (showings c.deref.result.now (round_of c.args.next.now))) left ∙ ap (map (edge (left_by g.copies (get_or ss i [])))) more);
+      edges = c.in_ok-push_showings.ensures.edges ∙ joined_more (edges g n) [] c.loop-parent.grown.layer.edges (map (edge c.deref.result.now) (showings c.deref.result.now (round_of c.args.next.now))) ss i [] here c.loop-parent.invariant.edges (ap (λ x. map (edge x) (showings c.deref.result.now (round_of c.args.next.now))) left ∙ ap (map (edge (left_by g.copies (get_or ss i [])))) more);
       firsts = c.in_ok-push_showings.ensures.firsts ∙ c.in_ok-push.ensures.items ∙ ap (λ x. x ++ c.len.result ∷ []) c.loop-parent.invariant.firsts ∙ ap (λ v. map (first_child g n) (range_with_len 0 i) ++ v ∷ []) before ∙ sym (map-range_with_len_more (first_child g n) 0 i i (omega arith));
       parents = c.in_ok-resize.ensures.items ∙ ap (λ k. take c.len-in-loop-parent.result old ++ replicate (c.len-in-loop-parent.result - k) i) old_long
           ∙ filled old c.len-in-loop-parent.result i kids (omega (arith, all, grew, c.loop-parent.invariant.long)) (omega (arith, all, grew, few, c.loop-parent.invariant.long))
@@ -66,15 +69,13 @@ pub returns-clause-layer : goal.returns-clause-layer
 returns-clause-layer c =
     let g : Game = game_of c.args.game.now in
     let n : ℕ = length c.args.layers.now in
-    let r : Round = round_at g (suc n) in
     let i : ℕ = c.loop-parent.parent in
     let ss : List Signal = signals g n in
     let over : length ss ≤ i = omega (arith, c.requires.counted) in
     let end : i ≡ length ss = omega (arith, c.requires.counted) in
-    let edges : Signal → List ℕ = λ s. map (edge (left_by g.copies s)) (showings (left_by g.copies s) r) in
     let last : c.len-2.result ≡ first_child g n i = omega (arith, c.len-2.ensures, long (goal.at.returns-clause-layer c).At-loop-parent) in
     record {
       shown = c.loop-parent.invariant.shown ∙ ap (flat_map (shows_of g n)) (take_all i ss over) ∙ sym (seen_grown g n);
-      edges = c.loop-parent.invariant.edges ∙ ap (flat_map edges) (take_all i ss over) ∙ sym (edges_grown g n);
+      edges = c.loop-parent.invariant.edges ∙ ap (flat_map (edges g n)) (take_all i ss over) ∙ sym (edges_grown g n);
       firsts = c.in_ok-push-2.ensures.items ∙ ap (λ x. x ++ c.len-2.result ∷ []) c.loop-parent.invariant.firsts ∙ ap (λ v. map (first_child g n) (range_with_len 0 i) ++ v ∷ []) last ∙ sym (map-range_with_len_more (first_child g n) 0 i i (omega arith)) ∙ ap (λ k. map (first_child g n) (range_with_len 0 (k + 1))) end;
     }
