@@ -36,6 +36,9 @@ pushed P xs x n long before here k d l = ⊎_elim
     (λ beyond. let e : k ≡ n = omega (arith, beyond, l) in subst (P k) (sym (get_or_push xs x d k (long ∙ sym e))) (subst (λ j. P j x) (sym e) here))
     (cases_lt k n)
 
+pub pushed_to : {X : Type 0} (P : ℕ → X → Type 0) (xs ys : List X) (x : X) (n : ℕ) → ys ≡ xs ++ x ∷ [] → length xs ≡ n → ((k : ℕ) (d : X) → k < n → P k (get_or xs k d)) → P n x → (k : ℕ) (d : X) → k < n + 1 → P k (get_or ys k d)
+pushed_to P xs ys x n put long before here k d l = subst (λ zs. P k (get_or zs k d)) (sym put) (pushed P xs x n long before here k d l)
+
 -- ---- ends
 
 -- an end stands in a round of the game

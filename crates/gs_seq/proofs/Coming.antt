@@ -3,16 +3,17 @@ use Rattle.std.proofs.Common.{◌≡◌, ℕ, suc, ◌+◌, ◌-◌, ◌*◌, �
 use Rattle.std.specs.Prelude.{◌==◌, option_map}
 use Rattle.std.proofs.Math.Nat.{mul-le-mul_right}
 use Rattle.std.proofs.lemmas.Bool.Decides.{Decides-eqb}
+use Rattle.gs_filter.specs.Filter.{Filter}
 use Rattle.gs_game.specs.Seen.{step_of}
 use Rattle.gs_game.specs.declared.positions.Point.{Point as StoredPoint}
 use Rattle.gs_game.specs.declared.positions.Step.{Step as StoredStep}
-use Rattle.gs_model.specs.Classes.{ClassLists, IsClass, class_count, class_of}
+use Rattle.gs_model.specs.Classes.{ClassLists, IsClass, class_count, class_of, first_member}
 use Rattle.gs_model.specs.Frame.{Frame, ancestor, end_count, last_step, move_count, player_at, point_count, round_of}
-use Rattle.gs_model.specs.FrameFacts.{IsWalked}
+use Rattle.gs_model.specs.FrameFacts.{InRange, IsWalked}
 use Rattle.gs_model.specs.Plans.{lift, number_before}
 use Rattle.gs_model.specs.Positions.{Step, Target, at_end, at_point}
 use Rattle.gs_seq.specs.Slots.{plan_of, slot_count, slot_of, slots_at, slots_before}
-use Rattle.gs_seq.specs.Sources.{IsSource}
+use Rattle.gs_seq.specs.Sources.{IsSource, IsWeightAbove, slot_above}
 use Rattle.gs_seq.specs.declared.flows.Source.{Source}
 use Rattle.gs_seq.proofs.Points.{Reads}
 use Rattle.gs_seq.proofs.SlotLaws.{slots_le, slots_more}
@@ -81,3 +82,14 @@ pub end_facts : (f : Frame) (lists : ClassLists) (player z : ℕ) (u : Step) (s 
     → SourceFacts f lists (at_end z) (slot_count f lists player) u s
 end_facts f lists player z u s w l h =
     let before = w.earlier_end z u l h.made in facts_by f lists player (at_end z) (point_count f) u s h (w.some_round u.point before) before (w.past_end_own z u l h.made) (w.chosen_end z u l h.made)
+
+-- the weight of a source's step, at the class above, is the plan's number before the position
+pub number_above : (f : Frame) → InRange f → (c : Filter) → f.parents ≡ c.parents → (player : ℕ) (to : Target) (room : ℕ) (u : Step) (s : Source) → IsSource f c.lists player to u s → SourceFacts f c.lists to room u s
+    → (total round class : ℕ) → round ≡ round_of f to → (weights : List ℕ) (weight : ℕ) → IsWeightAbove c s round class weights weight
+    → weight ≡ number_before f (lift f c.lists (plan_of f c.lists total weights)) (last_step f player to) (round_of f to) (first_member c.lists (round_of f to) class)
+number_above f r c e player to room u s h facts total round class here weights weight t =
+    t.3
+    ∙ number_at f c.lists total weights u (last_step f player to) (round_of f to) (first_member c.lists (round_of f to) class) t.0 (slot_above s t.0) h.made
+    (t.2 f r e ∙ ap (λ k. class_of c.lists s.round (ancestor f k s.round (first_member c.lists k class))) here
+    ∙ ap (λ k. class_of c.lists k (ancestor f (round_of f to) k (first_member c.lists (round_of f to) class))) h.round)
+    (facts.slot t.0)

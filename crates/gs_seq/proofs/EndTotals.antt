@@ -46,6 +46,9 @@ range_more v b n =
 pub from_zero : (n : ℕ) → n ≡ 0 + n
 from_zero n = omega arith
 
+pub range_put : (v : ℕ → ℤ) (b n : ℕ) (sum part : ℤ) → sum ≡ sum_z v (range_with_len b n) → part ≡ v (b + n) → sum +ℤ part ≡ sum_z v (range_with_len b (n + 1))
+range_put v b n sum part h e = ap (λ z. z +ℤ part) h ∙ ap (λ z. sum_z v (range_with_len b n) +ℤ z) e ∙ sym (range_more v b n)
+
 -- the size of a sum over a range
 abs_range : (v : ℕ → ℤ) (bound : ℕ → ℕ) (b n : ℕ) → ((m : ℕ) → b ≤ m → m < b + n → unsigned_abs (v m) ≤ bound m) → unsigned_abs (sum_z v (range_with_len b n)) ≤ sum_by bound (range_with_len b n)
 abs_range v bound b zero h = omega (arith, ints, abs_is (pos 0))
@@ -61,6 +64,16 @@ equal_sum m b (suc n) = omega (arith, sum_by-cons (λ (_ : ℕ). m) b (range_wit
 -- what two plans pay at an end is below 2^114
 abbrev pub end_room : ℕ
 end_room = 36864 * 2 ^ 98
+
+-- so a class's part fits 128 bits
+pub term_fits : (n m : ℕ) (v w : ℤ) → n ≡ m → v ≡ w → unsigned_abs (pos m *ℤ w) ≤ end_room → n * unsigned_abs v < 2 ^ 127
+term_fits n m v w e h size = omega (arith, size, unsigned_abs-mul (pos m) w, abs_is (pos m), ap (λ z. n * unsigned_abs z) h, ap (λ k. k * unsigned_abs w) e)
+
+-- a product is the part of the next class
+pub term_is : (f : Frame) (lists : ClassLists) (x y : Plan) (z k n : ℕ) (w p : ℤ) → n ≡ class_number f lists 1 x z (k + 1) → w ≡ end_sum f lists 1 y z (k + 1) → p ≡ pos n *ℤ w → p ≡ class_term f lists x y z (1 + k)
+term_is f lists x y z k n w p e h is =
+    let more : k + 1 ≡ 1 + k = omega arith in
+    is ∙ ap (λ v. pos n *ℤ v) h ∙ ap (λ m. pos m *ℤ end_sum f lists 1 y z (k + 1)) e ∙ ap (class_term f lists x y z) more
 
 product_room : (n a t u w : ℕ) → n ≤ t → a ≤ (36864 * u) * w → n * a ≤ (t * (36864 * u)) * w
 product_room n a t u w l m =

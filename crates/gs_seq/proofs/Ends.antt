@@ -5,6 +5,7 @@ use Rattle.std.proofs.lemmas.Bool.Decides.{Decides-eqb}
 use Rattle.std.proofs.lemmas.List.{get_or-map, length-map}
 use Rattle.gs_game.specs.Seen.{end_of, step_of}
 use Rattle.gs_game.specs.declared.positions.End.{End as StoredEnd}
+use Rattle.gs_game.specs.declared.positions.EndKind.TheVariants as kinds
 use Rattle.gs_game.specs.declared.valid.ValidGame.{ValidGame}
 use Rattle.gs_model.specs.Classes.{ClassLists, IsClass, IsClasses, class_of, first_member}
 use Rattle.gs_model.specs.Frame.{Frame, ancestor, end_at, end_count, last_step, round_of}
@@ -17,6 +18,10 @@ use Rattle.gs_model.proofs.PlanLaws.{numbers_within}
 use Rattle.gs_model.proofs.Tables.{is_table}
 use Rattle.gs_seq.specs.Games.{frame_in}
 use Rattle.gs_seq.proofs.SlotLaws.{not_eq}
+
+-- what is read where no end stands
+abbrev pub no_end : StoredEnd
+no_end = record { round = 0; kind = kinds.Folded1; put = 0; one = None; two = None }
 
 -- the ends of the program
 pub length-ends : (g : ValidGame) (es : List StoredEnd) → map end_of es ≡ (frame_in g).ends → length es ≡ end_count (frame_in g)

@@ -1,5 +1,5 @@
 -- Sums of weights side by side, and the first place where they do not add up.
-use Rattle.std.proofs.Common.{◌≡◌, ℕ, ◌+◌, ◌-◌, ◌*◌, ◌<◌, ◌≤◌, List, length, take, drop, get_or, sum, sum_by, refl, sym, ap, ◌∙◌, subst, arith, length-drop, true, false, ⊎_elim}
+use Rattle.std.proofs.Common.{◌≡◌, ℕ, ◌+◌, ◌-◌, ◌*◌, ◌<◌, ◌≤◌, ◌^◌, List, length, take, drop, get_or, sum, sum_by, refl, sym, ap, ◌∙◌, subst, arith, length-drop, true, false, ⊎_elim}
 use Rattle.std.specs.Prelude.{◌==◌}
 use Rattle.std.proofs.Math.Nat.{mul-le-mul_right}
 use Rattle.std.proofs.lemmas.Bool.Decides.{Decides-eqb}
@@ -8,14 +8,19 @@ use Rattle.std.proofs.lemmas.Bool.{cases_eq}
 use Rattle.std.proofs.lemmas.List.{get_or-drop, get_or-take, length-take}
 use Rattle.std.proofs.lemmas.List.FromFn.{fill_by_all}
 use Rattle.std.proofs.lemmas.List.Sums.{sum-map}
+use Rattle.gs_filter.specs.Filter.{Filter, IsSound}
+use Rattle.gs_game.specs.declared.positions.Point.{Point as StoredPoint}
+use Rattle.gs_game.specs.declared.valid.ValidGame.{ValidGame}
 use Rattle.gs_model.specs.Classes.{ClassLists, IsClass, class_count}
 use Rattle.gs_model.specs.Frame.{Frame, choices_at, move_count, player_at, point_count, round_of}
 use Rattle.gs_model.specs.Plans.{Plan}
 use Rattle.gs_model.specs.Positions.{at_point}
 use Rattle.gs_model.proofs.FirstBest.{sum-same_range}
 use Rattle.gs_seq.specs.Faults.{FlowsAt, FlowsBefore}
+use Rattle.gs_seq.specs.Games.{frame_in}
 use Rattle.gs_seq.specs.Slots.{plan_of, slot_count, slots_at, slots_before}
-use Rattle.gs_seq.proofs.SlotLaws.{not_eq, slots_le, slots_more}
+use Rattle.gs_seq.proofs.Points.{Reads}
+use Rattle.gs_seq.proofs.SlotLaws.{not_eq, slots_few, slots_le, slots_more}
 
 -- some weights side by side
 pub slice_sum : (ws : List ℕ) (a n : ℕ) → a + n ≤ length ws → sum (take n (drop a ws)) ≡ sum_by (λ m. get_or ws (a + m) 0) (range_with_len 0 n)
@@ -61,3 +66,20 @@ slots_none f lists player q other =
     let test : (player_at f q == player) ≡ false = not_eq (player_at f q) player other in
     let here : slots_at f lists player q ≡ 0 = rw test refl in
     omega (arith, slots_more f lists player q, here)
+
+-- where the weights of a class of an own point stand among the player's weights
+pub record RowAt (f : Frame) (lists : ClassLists) (player q before first moves : ℕ) : Type 0 where
+  pub below : before < class_count lists (round_of f (at_point q))
+  pub many : moves ≡ move_count f q
+  pub starts : first ≡ slots_before f lists player q
+  pub room : first + before * moves + moves ≤ slot_count f lists player
+  pub few : slot_count f lists player < 2 ^ 60
+
+pub row_at : (g : ValidGame) (c : Filter) → c.parents ≡ (frame_in g).parents → IsSound c → (player q before first moves count : ℕ) (p : StoredPoint) → Reads (frame_in g) q p → player_at (frame_in g) q ≡ player
+    → q < point_count (frame_in g) → first ≡ slots_before (frame_in g) c.lists player q → moves ≡ length p.moves.items → count ≡ class_count c.lists p.round → before < count
+    → RowAt (frame_in g) c.lists player q before first moves
+row_at g c e s player q before first moves count p r own lq at long all less =
+    let f = frame_in g in
+    let below : before < class_count c.lists (round_of f (at_point q)) = omega (arith, less, all, ap (class_count c.lists) r.round) in
+    let many : moves ≡ move_count f q = omega (arith, long, r.moves) in
+    record { below = below; many = many; starts = at; room = row_room f c.lists player q before first moves own many at lq below; few = slots_few g c e s player (point_count f) (omega arith) }

@@ -26,6 +26,7 @@ pub mod Choices
 pub mod Firsts
 pub mod Kept
 pub mod SomeDeal
+pub mod Signed
 pub mod Singles
 pub mod Stopped
 pub mod Turns

@@ -60,6 +60,9 @@ point_reads g ps q p e l is =
     from_own f q p (ap point_of is ∙ sym (get_or-map point_of ps q p out (omega (arith, length-points g ps e)))
     ∙ ap (λ (xs : List OwnPoint). get_or xs q out) e ∙ get_or-map own_point f.points q (record { player = 0; round = 1; one = None; two = None; moves = [] }) out l)
 
+pub place_reads : (g : ValidGame) (ps : List StoredPoint) (q : ℕ) (p : StoredPoint) → map point_of ps ≡ map own_point (frame_in g).points → q < point_count (frame_in g) → p ≡ get_or ps q p → Reads (frame_in g) q (get_or ps q p)
+place_reads g ps q p e l is = subst (Reads (frame_in g) q) is (point_reads g ps q p e l is)
+
 -- players 1 and 2 choose
 pub players : (g : ValidGame) (q : ℕ) → q < point_count (frame_in g) → (player_at (frame_in g) q ≡ 1) ⊎ (player_at (frame_in g) q ≡ 2)
 unfolding player_at

@@ -95,6 +95,10 @@ module _ (g h : ValidGame) (round : ℕ) (some : 0 < round) (top : round ≤ rou
   less : round < last_round (frame_in h)
   less = omega (arith, last_round_of (game_of h.game), later)
 
+  -- the round is one of the stopped game
+  pub in_stopped : (0 < round) × (round ≤ last_round (frame_in h))
+  in_stopped = (some, omega (arith, less))
+
   pub some_on : 0 < ways
   some_on = some_ways (game_of g.game) round g.accepted
 

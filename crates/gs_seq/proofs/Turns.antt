@@ -1,16 +1,23 @@
 -- A walk over a row, pair by pair: where it stands, and what is known of the pair there.
-use Rattle.std.proofs.Common.{◌≡◌, ℕ, zero, suc, ◌+◌, ◌-◌, ◌*◌, ◌<◌, ◌≤◌, List, [], ◌∷◌, length, get_or, drop, sym, ap, ◌∙◌, subst, arith}
-use Rattle.std.specs.Prelude.{unsigned_abs}
-use Rattle.std.proofs.lemmas.List.{length-drop}
+use Rattle.std.proofs.Common.{◌≡◌, ℕ, zero, suc, ◌+◌, ◌-◌, ◌*◌, ◌<◌, ◌≤◌, List, [], ◌∷◌, length, get_or, drop, take, sym, ap, ◌∙◌, subst, arith}
+use Rattle.std.specs.Prelude.{ℤ, pos, ◌+ℤ◌, unsigned_abs}
+use Rattle.std.proofs.lemmas.List.{length-drop, take_all}
+use Rattle.gs_game.specs.declared.valid.ValidGame.{ValidGame}
 use Rattle.gs_model.specs.Classes.{ClassLists, IsClass, IsClasses}
 use Rattle.gs_model.specs.Frame.{Frame, end_at, end_count, round_of}
 use Rattle.gs_model.specs.FrameFacts.{InRange, IsWalked}
 use Rattle.gs_model.specs.Positions.{at_end}
+use Rattle.gs_model.specs.Sums.{sum_z}
+use Rattle.gs_model.proofs.Sparse.{sum_z-more}
 use Rattle.gs_model.proofs.Tables.{is_table}
+use Rattle.gs_seq.specs.Abstracts.{frame_of, lists_of}
+use Rattle.gs_seq.specs.Games.{frame_in}
 use Rattle.gs_seq.specs.Payoffs.{pair_pays}
 use Rattle.gs_seq.specs.Rows.{IsRow}
+use Rattle.gs_seq.specs.declared.form.Abstract.{Abstract}
 use Rattle.gs_seq.specs.declared.pair.Pair.{Pair}
 use Rattle.gs_seq.proofs.EndSums.{pays_few, signed_few, weight_few}
+use Rattle.gs_seq.proofs.Forms.{given}
 use Rattle.gs_seq.proofs.RowFacts.{row_class}
 use Rattle.gs_seq.proofs.Sizes.{AreModest}
 
@@ -72,3 +79,23 @@ known f r lists k player w few z l c row h left rest p t =
       signed = signed_few f r lists k player w few z l c row h (passed row left) p t.inside;
       pays = pays_few f r lists k player w few z l c row h (passed row left) p t.inside;
     })
+
+-- where the walk over a row of a game in sequence form stands, and what is known of the pair there
+pub pair_in : (a : Abstract) (g : ValidGame) → frame_in g ≡ frame_of a → IsClasses (frame_of a).parents (lists_of a) → (player z c : ℕ) → 0 < player → player ≤ 2 → z < end_count (frame_of a) → (row left rest : List Pair) (p : Pair)
+    → IsRow (frame_of a) (lists_of a) (round_of (frame_of a) (at_end z)) c row → left ≡ drop (passed row left) row → left ≡ p ∷ rest → IsTurn row left rest p × IsKnown (frame_of a) (lists_of a) player z p
+pair_in a g same classes player z c some two l row left rest p h on first =
+    let t = turn row left rest p on first in
+    let k = given g (frame_of a) (lists_of a) same classes in
+    (t, known (frame_of a) k.in_range (lists_of a) k.classes player (k.walked player some two) k.modest z l c row h left rest p t)
+
+-- sums over the pairs that are passed: none, one more, all
+pub sum_begun : (v : Pair → ℤ) (row left : List Pair) → left ≡ row → pos 0 ≡ sum_z v (take (passed row left) row)
+sum_begun v row left same = ap (λ n. sum_z v (take n row)) (sym (none_passed row left same))
+
+pub sum_turned : (v : Pair → ℤ) (row left rest : List Pair) (p : Pair) → IsTurn row left rest p → (sum part : ℤ) → sum ≡ sum_z v (take (passed row left) row) → part ≡ v p → sum +ℤ part ≡ sum_z v (take (passed row rest) row)
+sum_turned v row left rest p t sum part h e =
+    let i = passed row left in
+    ap (λ z. z +ℤ part) h ∙ ap (λ z. sum_z v (take i row) +ℤ z) (e ∙ ap v (sym (t.read p))) ∙ sym (sum_z-more v row i p t.inside) ∙ ap (λ n. sum_z v (take n row)) (sym t.next)
+
+pub sum_ended : (v : Pair → ℤ) (row left : List Pair) → left ≡ [] → (sum : ℤ) → sum ≡ sum_z v (take (passed row left) row) → sum ≡ sum_z v row
+sum_ended v row left none sum h = h ∙ ap (sum_z v) (take_all (passed row left) row (all_passed row left none))

@@ -153,6 +153,13 @@ impl<'a> Abstract<'a> {
         self.lossless.classes()
     }
 
+    /// How many ends the game has.
+    pub(crate) fn end_total(&self) -> u32
+        ensures { result ≡ end_count (frame_of self.now) }
+    {
+        self.game().ends().len() as u32
+    }
+
     /// How many sequences a player has, the empty one counted.
     pub fn sequences(&self, player: u8) -> u32
         requires some { 0 < player }

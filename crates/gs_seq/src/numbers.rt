@@ -1,8 +1,9 @@
 //! The numbers of plans at ends, and sums of signed numbers.
 
-ghost use Rattle.std.specs.Prelude.{◌≡◌, ◌+◌, ◌-◌, ◌*◌, ◌<◌, ◌≤◌, ◌^◌, ℕ, length, pos, slice_index, unsigned_abs, ◌+ℤ◌, ◌*ℤ◌};
+ghost use Rattle.std.specs.Prelude.{◌≡◌, ◌+◌, ◌-◌, ◌*◌, ◌<◌, ◌≤◌, ◌^◌, ℕ, length, option_map, pos, slice_index, unsigned_abs, ◌+ℤ◌, ◌*ℤ◌};
+ghost use Rattle.gs_game.specs.Seen.{step_of};
 ghost use Rattle.gs_model.specs.Classes.{ClassLists, IsClass};
-ghost use Rattle.gs_model.specs.Frame.{end_count, move_count, player_at, point_count, round_of};
+ghost use Rattle.gs_model.specs.Frame.{end_count, last_step, move_count, player_at, point_count, round_of};
 ghost use Rattle.gs_model.specs.Pairs.{class_number};
 ghost use Rattle.gs_model.specs.Positions.{at_end, at_point};
 ghost use Rattle.gs_seq.specs.Games.{frame_in};
@@ -46,6 +47,15 @@ pub(crate) fn point_source(game: &ValidGame, offsets: &[u32], point: u32) -> Opt
 }
 
 /// A player's last step before an end.
+fn end_step(game: &ValidGame, player: u8, end: u32) -> Option<Step>
+    requires { end < end_count (frame_in game.now) }
+    ensures { option_map step_of result ≡ last_step (frame_in game.now) player (at_end end) }
+{
+    let end = &game.ends()[end as usize];
+    if player == 1 { end.one } else { end.two }
+}
+
+/// What is kept of a player's last step before an end.
 pub(crate) fn end_source(game: &ValidGame, offsets: &[u32], player: u8, end: u32) -> Option<Source>
     requires some { 0 < player }
     requires two { player ≤ 2 }
@@ -53,12 +63,11 @@ pub(crate) fn end_source(game: &ValidGame, offsets: &[u32], player: u8, end: u32
     requires long { length offsets.now ≡ point_count (frame_in game.now) }
     ensures { (lists : ClassLists) → AreOffsets (frame_in game.now) lists offsets.now → MatchSource (frame_in game.now) lists player (at_end end) result }
 {
-    let end = &game.ends()[end as usize];
-    let step = (if player == 1 { end.one } else { end.two })?;
+    let step = end_step(game, player, end)?;
     Some(source_from(game, offsets, step))
 }
 
-/// A player's last step before an end, with no list of offsets: the slots before it are counted.
+/// What is kept of a player's last step before an end, with no list of offsets: the slots before it are counted.
 pub fn source_at_end(game: &ValidGame, classes: &Classes, player: u8, end: u32) -> Option<Source>
     requires parents { classes.now.parents ≡ (frame_in game.now).parents }
     requires some { 0 < player }
@@ -66,8 +75,7 @@ pub fn source_at_end(game: &ValidGame, classes: &Classes, player: u8, end: u32) 
     requires end { end < end_count (frame_in game.now) }
     ensures { MatchSource (frame_in game.now) classes.now.lists player (at_end end) result }
 {
-    let end = &game.ends()[end as usize];
-    let step = (if player == 1 { end.one } else { end.two })?;
+    let step = end_step(game, player, end)?;
     let before = &game.points()[step.point as usize];
     Some(Source {
         round: before.round,

@@ -207,9 +207,9 @@ impl<'a> Abstract<'a> {
         requires numbers { (z : ℕ) → z < end_count (frame_of self.now) → end_classes (frame_of self.now) (lists_of self.now) z ≤ length numbers.old }
         ensures { result ≡ raw_payoff (frame_of self.now) (lifted (frame_of self.now) (lists_of self.now) x.now) (lifted (frame_of self.now) (lists_of self.now) y.now) }
     {
-        let ends = self.game().ends().len() as u32;
+        let _game = self.game();
         let mut sum = 0i128;
-        for end in 0..ends {
+        for end in 0..self.end_total() {
             sum = plus(sum, self.payoff_read(x, y, end, sums, numbers));
         }
         sum

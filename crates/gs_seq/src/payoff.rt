@@ -47,9 +47,9 @@ impl<'a> Abstract<'a> {
         requires y { IsPlanOf (frame_of self.now) (lists_of self.now) 2 y.now }
         ensures { result ≡ raw_payoff (frame_of self.now) (lifted (frame_of self.now) (lists_of self.now) x.now) (lifted (frame_of self.now) (lists_of self.now) y.now) }
     {
-        let ends = self.game().ends().len() as u32;
+        let _game = self.game();
         let mut sum = 0i128;
-        for end in 0..ends {
+        for end in 0..self.end_total() {
             sum = plus(sum, self.payoff_at(x, y, end));
         }
         sum

@@ -7,7 +7,7 @@ use Rattle.std.proofs.lemmas.List.Sums.{count_by-le-length}
 use Rattle.gs_lossless.specs.Amounts.{AreAmounts}
 use Rattle.gs_lossless.specs.declared.parts.Part.{Part}
 use Rattle.gs_lossless.specs.declared.sides.Side.TheVariants.{Deals}
-use Rattle.gs_lossless.proofs.Descent.{count_last, last_is, list_long, playable}
+use Rattle.gs_lossless.proofs.Descent.{count_last, list_long, playable}
 use Rattle.gs_lossless.proofs.Settled.{if_ok}
 use Rattle.gs_model.specs.Classes.{class_of, list_of}
 use Rattle.gs_model.specs.Frame.{at_round, last_round, signal_count, signals_in}
@@ -15,16 +15,21 @@ use Rattle.gs_model.specs.Game.{round_count}
 use Rattle.gs_tree.specs.Trees.{rules_of}
 use Rattle.gs_seq.specs.Games.{frame_in}
 use Rattle.gs_seq.specs.Rows.{IsRow, gathered}
-use Rattle.gs_seq.proofs.Stopped.{later, row_fits, row_is, same_signals, ways_few}
+use Rattle.gs_seq.proofs.Stopped.{in_stopped, row_fits, row_is, same_signals, ways_few}
 use Rattle.gs_seq.proofs.before.row_by.Goals as goal
+use Rattle.gs_seq.proofs.before.row_by.Goals.{After-deref, After-rounds-rounds}
+
+top : (c : After-rounds-rounds) → c.args.round ≤ round_count (rules_of c.args.signals.now)
+top c = omega (arith, c.requires.before_last)
+
+-- the sums of the first member
+amounts : (c : After-deref) → AreAmounts (frame_in c.args.stopped.now.game.now) c.args.seen.now.lists Deals c.args.round c.first-first.result (reverse c.deref.result.now)
+amounts c =
+    subst (λ xs. AreAmounts (frame_in c.args.stopped.now.game.now) c.args.seen.now.lists Deals c.args.round c.first-first.result (reverse xs)) (sym c.deref.ensures.value)
+    (c.in_ok-sums.ensures c.args.seen.now.lists c.requires.keys)
 
 pub side_sums-requires-clause-side : goal.side_sums-requires-clause-side
-side_sums-requires-clause-side c =
-    let g = c.args.signals.now.game.now in
-    let h = c.args.stopped.now.game.now in
-    let round = c.args.round in
-    let top : round ≤ round_count (rules_of c.args.signals.now) = omega (arith, c.requires.before_last) in
-    (c.requires.some, omega (arith, later g h round c.requires.some top c.requires.stops, last_is (rules_of c.args.stopped.now)))
+side_sums-requires-clause-side c = in_stopped c.args.signals.now.game.now c.args.stopped.now.game.now c.args.round c.requires.some (omega (arith, c.requires.before_last)) c.requires.stops
 
 pub side_sums-requires-clause-all : goal.side_sums-requires-clause-all
 side_sums-requires-clause-all c =
@@ -34,53 +39,39 @@ side_sums-requires-clause-all c =
 
 pub side_sums-requires-clause-in_range : goal.side_sums-requires-clause-in_range
 side_sums-requires-clause-in_range c =
-    let g = c.args.signals.now.game.now in
-    let h = c.args.stopped.now.game.now in
-    let round = c.args.round in
-    let top : round ≤ round_count (rules_of c.args.signals.now) = omega (arith, c.requires.before_last) in
-    let same = ap length (same_signals g h round c.requires.some top c.requires.stops) in
-    let long = list_long (rules_of c.args.signals.now) c.args.classes.now c.requires.parents c.rounds-rounds.ensures.sound round c.requires.some top in
-    omega (arith, c.first-first.ensures.within, long, same)
+    let few = top (goal.at.side_sums-requires-clause-in_range c).After-rounds-rounds in
+    let same = ap length (same_signals c.args.signals.now.game.now c.args.stopped.now.game.now c.args.round c.requires.some few c.requires.stops) in
+    omega (arith, c.first-first.ensures.within, list_long (rules_of c.args.signals.now) c.args.classes.now c.requires.parents c.rounds-rounds.ensures.sound c.args.round c.requires.some few, same)
 
 pub overflow_mul-from : goal.overflow_mul-from
 overflow_mul-from c =
     let g = c.args.signals.now.game.now in
-    let h = c.args.stopped.now.game.now in
     let round = c.args.round in
-    let top : round ≤ round_count (rules_of c.args.signals.now) = omega (arith, c.requires.before_last) in
-    let few = ways_few g h round c.requires.some top c.requires.stops in
-    let long = list_long (rules_of c.args.signals.now) c.args.classes.now c.requires.parents c.rounds-rounds.ensures.sound round c.requires.some top in
+    let within = top (goal.at.overflow_mul-from c).After-rounds-rounds in
+    let few = ways_few g c.args.stopped.now.game.now round c.requires.some within c.requires.stops in
+    let long = list_long (rules_of c.args.signals.now) c.args.classes.now c.requires.parents c.rounds-rounds.ensures.sound round c.requires.some within in
     let most = count_by-le-length (λ x. x == c.args.class) (list_of c.args.classes.now.lists round) in
-    let size : c.from.result ≤ 200000 = omega (arith, c.from.ensures, c.size.ensures, most, long, g.limits.signals_in round top) in
+    let size : c.from.result ≤ 200000 = omega (arith, c.from.ensures, c.size.ensures, most, long, g.limits.signals_in round within) in
     omega (arith, mul-le-mul_right c.args.ways size, few, c.requires.ways)
 
 pub row_of-requires : goal.row_of-requires
 row_of-requires c =
-    let g = c.args.signals.now.game.now in
-    let h = c.args.stopped.now.game.now in
-    let round = c.args.round in
-    let top : round ≤ round_count (rules_of c.args.signals.now) = omega (arith, c.requires.before_last) in
-    let first = c.first-first.result in
+    let at = goal.at.row_of-requires c in
     let sums = c.deref.result.now in
-    let others = c.args.seen.now.lists in
-    let amounts = subst (λ xs. AreAmounts (frame_in h) others Deals round first (reverse xs)) (sym c.deref.ensures.value) (c.in_ok-sums.ensures others c.requires.keys) in
-    let fits = row_fits g h round c.requires.some top c.requires.stops c.requires.before_last c.args.classes.now c.requires.parents c.rounds-rounds.ensures.sound c.requires.lossless others c.requires.same
-    c.args.class first c.from.result (c.from.ensures ∙ c.size.ensures) sums amounts c.first-first.ensures.within c.first-first.ensures.member in
+    let fits = row_fits c.args.signals.now.game.now c.args.stopped.now.game.now c.args.round c.requires.some (top at.After-rounds-rounds) c.requires.stops c.requires.before_last c.args.classes.now c.requires.parents
+    c.rounds-rounds.ensures.sound c.requires.lossless c.args.seen.now.lists c.requires.same c.args.class c.first-first.result c.from.result (c.from.ensures ∙ c.size.ensures) sums (amounts at.After-deref) c.first-first.ensures.within
+    c.first-first.ensures.member in
     omega (arith, fits, ap (λ n. (c.from.result * n) * sum_by (λ (p : Part). p.weight) sums) c.requires.ways)
 
 pub returns : goal.returns
 returns c =
-    let g = c.args.signals.now.game.now in
-    let h = c.args.stopped.now.game.now in
-    let round = c.args.round in
-    let top : round ≤ round_count (rules_of c.args.signals.now) = omega (arith, c.requires.before_last) in
-    let first = c.first-first.result in
-    let sums = c.deref.result.now in
-    let others = c.args.seen.now.lists in
+    let at = goal.at.returns c in
+    let f = frame_in c.args.signals.now.game.now in
     let lists = c.args.classes.now.lists in
-    let amounts = subst (λ xs. AreAmounts (frame_in h) others Deals round first (reverse xs)) (sym c.deref.ensures.value) (c.in_ok-sums.ensures others c.requires.keys) in
-    let row = row_is g h round c.requires.some top c.requires.stops c.requires.before_last c.args.classes.now c.requires.parents c.rounds-rounds.ensures.sound c.requires.lossless others c.requires.same
-    c.args.class first c.from.result (c.from.ensures ∙ c.size.ensures) sums amounts c.first-first.ensures.within c.first-first.ensures.member in
-    let here = subst (λ n. IsRow (frame_in g) lists round c.args.class (gathered (c.from.result * n) (reverse sums))) (sym c.requires.ways) row in
-    if_ok c.row_of.result (λ v. v.items ≡ gathered (c.from.result * c.args.ways) (reverse sums)) (λ v. IsRow (frame_in g) lists round c.args.class v.items)
-    (λ v e. subst (IsRow (frame_in g) lists round c.args.class) (sym e) here) c.row_of.ensures
+    let sums = c.deref.result.now in
+    let row = row_is c.args.signals.now.game.now c.args.stopped.now.game.now c.args.round c.requires.some (top at.After-rounds-rounds) c.requires.stops c.requires.before_last c.args.classes.now c.requires.parents
+    c.rounds-rounds.ensures.sound c.requires.lossless c.args.seen.now.lists c.requires.same c.args.class c.first-first.result c.from.result (c.from.ensures ∙ c.size.ensures) sums (amounts at.After-deref) c.first-first.ensures.within
+    c.first-first.ensures.member in
+    let here = subst (λ n. IsRow f lists c.args.round c.args.class (gathered (c.from.result * n) (reverse sums))) (sym c.requires.ways) row in
+    if_ok c.row_of.result (λ v. v.items ≡ gathered (c.from.result * c.args.ways) (reverse sums)) (λ v. IsRow f lists c.args.round c.args.class v.items)
+    (λ v e. subst (IsRow f lists c.args.round c.args.class) (sym e) here) c.row_of.ensures

@@ -1,10 +1,10 @@
-use Rattle.std.proofs.Common.{◌≡◌, ◌+◌, ◌-◌, ◌∙◌, ℕ, Vec, Global, ap, get_or, sym, subst, arith}
+use Rattle.std.proofs.Common.{◌≡◌, ◌+◌, ◌-◌, ◌∙◌, ℕ, Vec, Global, ap, get_or, sym, arith}
 use Rattle.gs_filter.specs.Filter.{Filter}
 use Rattle.gs_model.specs.Classes.{class_count}
 use Rattle.gs_seq.specs.Games.{frame_in}
 use Rattle.gs_seq.specs.Rows.{IsRow, below_class}
 use Rattle.gs_seq.specs.declared.pair.Pair.{Pair}
-use Rattle.gs_seq.proofs.CellLaws.{pushed}
+use Rattle.gs_seq.proofs.CellLaws.{pushed_to}
 use Rattle.gs_seq.proofs.earlier.rows_above.Goals as goal
 
 pub row_above-requires-clause-below : goal.row_above-requires-clause-below
@@ -20,12 +20,10 @@ row_above-requires-clause-below c =
 
 pub loop-before-preserved : goal.loop-before-preserved
 loop-before-preserved c =
-    let f = frame_in c.args.lossless.now.signals.now.game.now in
-    let lists = c.args.lossless.now.classes.now.lists in
-    let i = c.loop-before.invariant in
+    let s = c.args.lossless.now in
     let above = c.loop-before.above in
     record {
-      long = omega (arith, c.in_ok-push.ensures.len, i.long);
-      row = λ k d l. subst (λ vs. IsRow f lists c.args.round (k + 1) (get_or vs k d).items) (sym c.in_ok-push.ensures.items)
-          (pushed (λ j (v : Vec Pair Global). IsRow f lists c.args.round (j + 1) v.items) above.items c.in_ok-row.row c.loop-before.before (sym above.ok.0 ∙ i.long) i.row c.in_ok-row.ensures k d l);
+      long = omega (arith, c.in_ok-push.ensures.len, c.loop-before.invariant.long);
+      row = pushed_to (λ j (v : Vec Pair Global). IsRow (frame_in s.signals.now.game.now) s.classes.now.lists c.args.round (j + 1) v.items) above.items _ c.in_ok-row.row c.loop-before.before c.in_ok-push.ensures.items
+          (sym above.ok.0 ∙ c.loop-before.invariant.long) c.loop-before.invariant.row c.in_ok-row.ensures;
     }

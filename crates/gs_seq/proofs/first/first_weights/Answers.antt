@@ -1,8 +1,7 @@
-use Rattle.std.proofs.Common.{◌≡◌, ◌+◌, ◌<◌, ℕ, length, ap, sym, ◌∙◌, subst, arith, Vec, vec_len}
+use Rattle.std.proofs.Common.{◌≡◌, ◌+◌, ◌<◌, ℕ, get_or, length, ap, sym, ◌∙◌, subst, arith, Vec, vec_len}
 use Rattle.std.specs.declared.alloc.Global.{Global}
 use Rattle.std.proofs.lemmas.List.{with_items_is}
 use Rattle.gs_game.specs.Games.{game_of}
-use Rattle.gs_game.specs.declared.positions.Point.{Point}
 use Rattle.gs_model.specs.Frame.{player_at, point_count}
 use Rattle.gs_model.proofs.Ranges.{in_range}
 use Rattle.gs_seq.specs.Firsts.{Agree, AreFirstBefore, IsClear}
@@ -11,36 +10,35 @@ use Rattle.gs_seq.specs.Slots.{slots_before}
 use Rattle.gs_seq.proofs.Firsts.{firsts_more, firsts_same}
 use Rattle.gs_seq.proofs.Leaks.{slots_none}
 use Rattle.gs_seq.proofs.Choices.{some_move}
-use Rattle.gs_seq.proofs.Points.{playable, point_reads, walked_at}
+use Rattle.gs_seq.proofs.Points.{place_reads, playable, walked_at}
 use Rattle.gs_seq.proofs.SlotLaws.{over}
 use Rattle.gs_seq.proofs.first.first_weights.Goals as goal
-use Rattle.gs_seq.proofs.first.first_weights.Goals.{then-points-point, else-points-point}
+use Rattle.gs_seq.proofs.first.first_weights.Goals.{After-index-points-point, In-loop-point, then-points-point, else-points-point}
+
+inside : (c : In-loop-point) → c.loop-point.point < point_count (frame_in c.args.game.now)
+inside c = omega (arith, c.loop-point-test.true, c.point_total-point-end.ensures)
+
+-- who chooses at the point
+whose : (c : After-index-points-point) → (get_or c.points.result.now c.loop-point.point c.index-points-point.result).player ≡ player_at (frame_in c.args.game.now) c.loop-point.point
+whose c = (place_reads c.args.game.now c.points.result.now c.loop-point.point c.index-points-point.result c.points.ensures (inside (goal.at.After-index-points-point c).In-loop-point) c.index-points-point.is).player
 
 pub put_first-requires-clause-own : goal.put_first-requires-clause-own
-put_first-requires-clause-own c =
-    let g = c.args.game.now in
-    let f = frame_in g in
-    let q = c.loop-point.point in
-    let lists = c.args.classes.now.lists in
-    let inside : q < point_count f = omega (arith, c.loop-point-test.true, c.point_total-point-end.ensures) in
-    let r = point_reads g c.points.result.now q c.index-points-point.result c.points.ensures inside c.index-points-point.is in
-    let whose = sym (ap (λ (p : Point). p.player) c.index-points-point.is) ∙ r.player in
-    sym whose ∙ c.if-points-point.true
+put_first-requires-clause-own c = sym (whose (goal.at.put_first-requires-clause-own c).After-index-points-point) ∙ c.if-points-point.true
 
 pub loop-point-preserved : goal.loop-point-preserved
 loop-point-preserved c =
+    let at = goal.at.loop-point-preserved c in
     let g = c.args.game.now in
     let f = frame_in g in
     let q = c.loop-point.point in
     let lists = c.args.classes.now.lists in
-    let inside : q < point_count f = omega (arith, c.loop-point-test.true, c.point_total-point-end.ensures) in
-    let r = point_reads g c.points.result.now q c.index-points-point.result c.points.ensures inside c.index-points-point.is in
-    let whose = sym (ap (λ (p : Point). p.player) c.index-points-point.is) ∙ r.player in
+    let within = inside at.In-loop-point in
+    let chooser = whose at.After-index-points-point in
     let i = c.loop-point.invariant in
     elim c.if-points-point.branch [
       | then-points-point w ↦
           let p = c.args.player in
-          let own = sym whose ∙ w.if-points-point.true in
+          let own = sym chooser ∙ w.if-points-point.true in
           let xs = c.loop-point.weights.items in
           let ys = w.put_first.new.weights in
           let wide : c.loop-point.weights.len ≡ length ys = omega (arith, c.loop-point.weights.ok.0, w.put_first.auto.weights, ap length w.deref_mut.ensures.value) in
@@ -49,13 +47,13 @@ loop-point-preserved c =
           record {
             long = ap (λ (v : Vec ℕ Global). vec_len v) w.weights-is ∙ i.long;
             firsts = subst (λ zs. AreFirstBefore f lists p zs (q + 1)) (sym same)
-                (firsts_more f (in_range (game_of g.game) (playable g)) lists (over f c.args.classes.now c.requires.parents c.rounds-rounds.ensures.sound) p (walked_at g p q inside own) (some_move g) q xs ys inside i.firsts agree
+                (firsts_more f (in_range (game_of g.game) (playable g)) lists (over f c.args.classes.now c.requires.parents c.rounds-rounds.ensures.sound) p (walked_at g p q within own) (some_move g) q xs ys within i.firsts agree
                 w.put_first.ensures.here);
             clear = subst (λ zs. IsClear (slots_before f lists p (q + 1)) zs) (sym same) w.put_first.ensures.clear;
           }
       | else-points-point w ↦
           let p = c.args.player in
-          let other = λ (e : player_at f q ≡ p). w.if-points-point.false (whose ∙ e) in
+          let other = λ (e : player_at f q ≡ p). w.if-points-point.false (chooser ∙ e) in
           let same : c.if-points-point.weights.items ≡ c.loop-point.weights.items = ap (λ (v : Vec ℕ Global). v.items) w.weights-is in
           record {
             long = ap (λ (v : Vec ℕ Global). vec_len v) w.weights-is ∙ i.long;

@@ -1,73 +1,53 @@
-use Rattle.std.proofs.Common.{◌≡◌, ◌+◌, ap, sym, ◌∙◌, arith}
-use Rattle.gs_game.specs.declared.positions.Point.{Point}
+use Rattle.std.proofs.Common.{◌≡◌, ◌+◌, ◌<◌, get_or, sym, ◌∙◌, arith}
 use Rattle.gs_model.specs.Frame.{player_at, point_count}
 use Rattle.gs_seq.specs.Games.{frame_in}
 use Rattle.gs_seq.specs.Slots.{plan_of}
 use Rattle.gs_seq.proofs.Leaks.{flows_more, slots_none}
-use Rattle.gs_seq.proofs.Points.{point_reads}
+use Rattle.gs_seq.proofs.Points.{place_reads}
 use Rattle.gs_seq.proofs.SlotLaws.{slots_le, slots_more}
 use Rattle.gs_seq.proofs.flows.first_leak.Goals as goal
+use Rattle.gs_seq.proofs.flows.first_leak.Goals.{After-index-points-point, In-loop-point}
+
+inside : (c : In-loop-point) → c.loop-point.point < point_count (frame_in c.args.game.now)
+inside c = omega (arith, c.loop-point-test.true, c.point_total-point-end.ensures)
+
+-- who chooses at the point
+whose : (c : After-index-points-point) → (get_or c.points.result.now c.loop-point.point c.index-points-point.result).player ≡ player_at (frame_in c.args.game.now) c.loop-point.point
+whose c = (place_reads c.args.game.now c.points.result.now c.loop-point.point c.index-points-point.result c.points.ensures (inside (goal.at.After-index-points-point c).In-loop-point) c.index-points-point.is).player
 
 pub loop-point-preserved-then-points-point : goal.loop-point-preserved-then-points-point
 loop-point-preserved-then-points-point c =
     let f = frame_in c.args.game.now in
     let lists = c.args.classes.now.lists in
     let q = c.loop-point.point in
-    let x = plan_of f lists c.args.total c.args.weights.now in
-    let r = point_reads c.args.game.now c.points.result.now q c.index-points-point.result c.points.ensures (omega (arith, c.loop-point-test.true, c.point_total-point-end.ensures)) c.index-points-point.is in
-    let whose = sym (ap (λ (p : Point). p.player) c.index-points-point.is) ∙ r.player in
-    let other = λ (e : player_at f q ≡ c.args.player). c.if-points-point.true (whose ∙ e) in
+    let other = λ (e : player_at f q ≡ c.args.player). c.if-points-point.true (whose (goal.at.loop-point-preserved-then-points-point c).After-index-points-point ∙ e) in
     record {
       first_is = c.loop-point.invariant.first_is ∙ sym (slots_none f lists c.args.player q other);
-      flows = flows_more f lists c.args.player x q c.loop-point.invariant.flows (λ own k h. absurd (other own));
+      flows = flows_more f lists c.args.player (plan_of f lists c.args.total c.args.weights.now) q c.loop-point.invariant.flows (λ own k h. absurd (other own));
     }
 
 pub first_leak_at-requires-clause-own : goal.first_leak_at-requires-clause-own
-first_leak_at-requires-clause-own c =
-    let q = c.loop-point.point in
-    let r = point_reads c.args.game.now c.points.result.now q c.index-points-point.result c.points.ensures (omega (arith, c.loop-point-test.true, c.point_total-point-end.ensures)) c.index-points-point.is in
-    let whose = sym (ap (λ (p : Point). p.player) c.index-points-point.is) ∙ r.player in
-    sym whose ∙ c.if-points-point.false
+first_leak_at-requires-clause-own c = sym (whose (goal.at.first_leak_at-requires-clause-own c).After-index-points-point) ∙ c.if-points-point.false
 
 pub returns-in-Some : goal.returns-in-Some
 returns-in-Some c =
-    let f = frame_in c.args.game.now in
-    let lists = c.args.classes.now.lists in
-    let q = c.loop-point.point in
-    let x = plan_of f lists c.args.total c.args.weights.now in
+    let at = goal.at.returns-in-Some c in
     let h = c.in-Some.ensures in
-    let r = point_reads c.args.game.now c.points.result.now q c.index-points-point.result c.points.ensures (omega (arith, c.loop-point-test.true, c.point_total-point-end.ensures)) c.index-points-point.is in
-    let whose = sym (ap (λ (p : Point). p.player) c.index-points-point.is) ∙ r.player in
-    record {
-      point_in = omega (arith, c.loop-point-test.true, c.point_total-point-end.ensures);
-      own = sym whose ∙ c.if-points-point.false;
-      class_in = h.0;
-      points = c.loop-point.invariant.flows;
-      classes = h.1;
-      here = h.2;
-    }
+    record { point_in = inside at.In-loop-point; own = sym (whose at.After-index-points-point) ∙ c.if-points-point.false; class_in = h.0; points = c.loop-point.invariant.flows; classes = h.1; here = h.2 }
 
 pub overflow_add-first : goal.overflow_add-first
 overflow_add-first c =
     let f = frame_in c.args.game.now in
     let lists = c.args.classes.now.lists in
     let q = c.loop-point.point in
-    omega (
-      arith,
-      c.loop-point.invariant.first_is,
-      c.slots_at-first.ensures,
-      slots_more f lists c.args.player q,
-      slots_le f lists c.args.player (q + 1) (point_count f) (omega (arith, c.loop-point-test.true, c.point_total-point-end.ensures)),
-      c.requires.long,
-    )
+    let up = slots_le f lists c.args.player (q + 1) (point_count f) (omega (arith, inside (goal.at.overflow_add-first c).In-loop-point)) in
+    omega (arith, c.loop-point.invariant.first_is, c.slots_at-first.ensures, slots_more f lists c.args.player q, up, c.requires.long)
 
 pub loop-point-preserved : goal.loop-point-preserved
 loop-point-preserved c =
     let f = frame_in c.args.game.now in
     let lists = c.args.classes.now.lists in
-    let q = c.loop-point.point in
-    let x = plan_of f lists c.args.total c.args.weights.now in
     record {
-      first_is = omega (arith, c.loop-point.invariant.first_is, c.slots_at-first.ensures, slots_more f lists c.args.player q);
-      flows = flows_more f lists c.args.player x q c.loop-point.invariant.flows (λ own. c.in_default.ensures);
+      first_is = omega (arith, c.loop-point.invariant.first_is, c.slots_at-first.ensures, slots_more f lists c.args.player c.loop-point.point);
+      flows = flows_more f lists c.args.player (plan_of f lists c.args.total c.args.weights.now) c.loop-point.point c.loop-point.invariant.flows (λ own. c.in_default.ensures);
     }

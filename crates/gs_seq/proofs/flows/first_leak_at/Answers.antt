@@ -1,59 +1,71 @@
 use Rattle.std.proofs.Common.{◌≡◌, ◌+◌, ◌<◌, sum_by, ap, sym, ◌∙◌, subst, arith, ⊎_elim}
 use Rattle.std.proofs.lemmas.Bool.{cases_eq}
 use Rattle.gs_model.specs.Classes.{class_count, first_member}
-use Rattle.gs_model.specs.Frame.{choices_at, last_step, move_count, point_count, round_of}
+use Rattle.gs_model.specs.Frame.{choices_at, last_step, point_count, round_of}
+use Rattle.gs_model.specs.FrameFacts.{IsWalked}
 use Rattle.gs_model.specs.Plans.{lift, number_before}
 use Rattle.gs_model.specs.Positions.{at_point}
 use Rattle.gs_seq.specs.Faults.{FlowsAt}
 use Rattle.gs_seq.specs.Games.{frame_in}
 use Rattle.gs_seq.specs.Slots.{plan_of, slots_before}
 use Rattle.gs_seq.specs.Sources.{MatchSource}
-use Rattle.gs_seq.proofs.Leaks.{class_sum, row_room}
-use Rattle.gs_seq.proofs.Points.{point_reads, walked_at}
-use Rattle.gs_seq.proofs.SlotLaws.{over, slots_few, slots_le}
+use Rattle.gs_seq.proofs.Leaks.{RowAt, class_sum, row_at}
+use Rattle.gs_seq.proofs.Points.{Reads, point_reads, walked_at}
+use Rattle.gs_seq.proofs.SlotLaws.{over, slots_le}
 use Rattle.gs_seq.proofs.flows.first_leak_at.Goals as goal
+use Rattle.gs_seq.proofs.flows.first_leak_at.Goals.{After-len-moves, After-from, In-loop-before}
 
-pub classes-before-end-requires-clause-some : goal.classes-before-end-requires-clause-some
-classes-before-end-requires-clause-some c =
+-- what the point says
+reads : (c : After-len-moves) → Reads (frame_in c.args.game.now) c.args.point c.index-points-point.result
+reads c = point_reads c.args.game.now c.points.result.now c.args.point c.index-points-point.result c.points.ensures c.requires.in_range c.index-points-point.is
+
+-- where the weights of the class stand
+row : (c : In-loop-before) → RowAt (frame_in c.args.game.now) c.args.classes.now.lists c.args.player c.args.point c.loop-before.before c.args.first c.len-moves.result
+row c =
+    row_at c.args.game.now c.args.classes.now c.requires.parents c.rounds-rounds.ensures.sound c.args.player c.args.point c.loop-before.before c.args.first c.len-moves.result c.classes-before-end.result
+    c.index-points-point.result (reads (goal.at.In-loop-before c).After-len-moves) c.requires.own c.requires.in_range c.requires.first (omega (arith, c.len-moves.ensures)) c.classes-before-end.ensures c.loop-before-test.true
+
+-- the two numbers that are compared are the sum of the moves' weights, and what comes to the class
+record AreSums (c : After-from) : Type 0 where
+  pub sum : c.total_from.result
+      ≡ sum_by (λ m. (plan_of (frame_in c.args.game.now) c.args.classes.now.lists c.args.total c.args.weights.now).number c.args.point (c.loop-before.before + 1) m) (choices_at (frame_in c.args.game.now) c.args.point)
+  pub came : c.from.result
+      ≡ number_before (frame_in c.args.game.now) (lift (frame_in c.args.game.now) c.args.classes.now.lists (plan_of (frame_in c.args.game.now) c.args.classes.now.lists c.args.total c.args.weights.now))
+      (last_step (frame_in c.args.game.now) c.args.player (at_point c.args.point)) (round_of (frame_in c.args.game.now) (at_point c.args.point))
+      (first_member c.args.classes.now.lists (round_of (frame_in c.args.game.now) (at_point c.args.point)) (c.loop-before.before + 1))
+
+sums : (c : After-from) → AreSums c
+sums c =
     let f = frame_in c.args.game.now in
     let q = c.args.point in
     let lists = c.args.classes.now.lists in
-    let r = point_reads c.args.game.now c.points.result.now q c.index-points-point.result c.points.ensures c.requires.in_range c.index-points-point.is in
-    let w = walked_at c.args.game.now c.args.player q c.requires.in_range c.requires.own in
-    omega (arith, r.round, w.some_round q c.requires.in_range)
+    let r = row (goal.at.After-from c).In-loop-before in
+    record {
+      sum = c.total_from.ensures
+          ∙ class_sum f lists c.args.player q c.loop-before.before c.args.first c.len-moves.result c.args.total c.args.weights.now c.requires.own r.many c.requires.first (omega (arith, r.room, c.requires.long));
+      came = c.from.ensures ∙ c.coming-came.ensures
+          ∙ ap (λ p. number_before f (lift f lists (plan_of f lists c.args.total c.args.weights.now)) (last_step f p (at_point q)) (round_of f (at_point q)) (first_member lists (round_of f (at_point q)) (c.loop-before.before + 1)))
+          c.requires.own;
+    }
+
+pub classes-before-end-requires-clause-some : goal.classes-before-end-requires-clause-some
+classes-before-end-requires-clause-some c =
+    let w : IsWalked (frame_in c.args.game.now) c.args.player = walked_at c.args.game.now c.args.player c.args.point c.requires.in_range c.requires.own in
+    omega (arith, (reads (goal.at.classes-before-end-requires-clause-some c).After-len-moves).round, w.some_round c.args.point c.requires.in_range)
 
 pub classes-before-end-requires-clause-top : goal.classes-before-end-requires-clause-top
 classes-before-end-requires-clause-top c =
     let f = frame_in c.args.game.now in
     let q = c.args.point in
-    let lists = c.args.classes.now.lists in
-    let r = point_reads c.args.game.now c.points.result.now q c.index-points-point.result c.points.ensures c.requires.in_range c.index-points-point.is in
+    let r = reads (goal.at.classes-before-end-requires-clause-top c).After-len-moves in
     let w = walked_at c.args.game.now c.args.player q c.requires.in_range c.requires.own in
     omega (arith, r.round, w.point_in q c.requires.in_range, (over f c.args.classes.now c.requires.parents c.rounds-rounds.ensures.sound).rounds)
 
 pub overflow_mul-slot : goal.overflow_mul-slot
-overflow_mul-slot c =
-    let f = frame_in c.args.game.now in
-    let q = c.args.point in
-    let lists = c.args.classes.now.lists in
-    let r = point_reads c.args.game.now c.points.result.now q c.index-points-point.result c.points.ensures c.requires.in_range c.index-points-point.is in
-    let many : c.len-moves.result ≡ move_count f q = omega (arith, c.len-moves.ensures, r.moves) in
-    let below : c.loop-before.before < class_count lists (round_of f (at_point q)) = omega (arith, c.loop-before-test.true, c.classes-before-end.ensures, ap (class_count lists) r.round) in
-    let room = row_room f lists c.args.player q c.loop-before.before c.args.first c.len-moves.result c.requires.own many c.requires.first c.requires.in_range below in
-    let few = slots_few c.args.game.now c.args.classes.now c.requires.parents c.rounds-rounds.ensures.sound c.args.player (point_count f) (omega arith) in
-    omega (arith, room, few)
+overflow_mul-slot c = let r = row (goal.at.overflow_mul-slot c).In-loop-before in omega (arith, r.room, r.few)
 
 pub overflow_add-slot : goal.overflow_add-slot
-overflow_add-slot c =
-    let f = frame_in c.args.game.now in
-    let q = c.args.point in
-    let lists = c.args.classes.now.lists in
-    let r = point_reads c.args.game.now c.points.result.now q c.index-points-point.result c.points.ensures c.requires.in_range c.index-points-point.is in
-    let many : c.len-moves.result ≡ move_count f q = omega (arith, c.len-moves.ensures, r.moves) in
-    let below : c.loop-before.before < class_count lists (round_of f (at_point q)) = omega (arith, c.loop-before-test.true, c.classes-before-end.ensures, ap (class_count lists) r.round) in
-    let room = row_room f lists c.args.player q c.loop-before.before c.args.first c.len-moves.result c.requires.own many c.requires.first c.requires.in_range below in
-    let few = slots_few c.args.game.now c.args.classes.now c.requires.parents c.rounds-rounds.ensures.sound c.args.player (point_count f) (omega arith) in
-    omega (arith, room, few)
+overflow_add-slot c = let r = row (goal.at.overflow_add-slot c).In-loop-before in omega (arith, r.room, r.few)
 
 pub coming-came-requires-clause-source : goal.coming-came-requires-clause-source
 coming-came-requires-clause-source c =
@@ -61,72 +73,35 @@ coming-came-requires-clause-source c =
     subst (λ p. MatchSource f c.args.classes.now.lists p (at_point c.args.point) c.source_of-source.result) (sym c.requires.own) c.source_of-source.ensures
 
 pub coming-came-requires-clause-class : goal.coming-came-requires-clause-class
-coming-came-requires-clause-class c =
-    let f = frame_in c.args.game.now in
-    let q = c.args.point in
-    let lists = c.args.classes.now.lists in
-    let r = point_reads c.args.game.now c.points.result.now q c.index-points-point.result c.points.ensures c.requires.in_range c.index-points-point.is in
-    let many : c.len-moves.result ≡ move_count f q = omega (arith, c.len-moves.ensures, r.moves) in
-    let below : c.loop-before.before < class_count lists (round_of f (at_point q)) = omega (arith, c.loop-before-test.true, c.classes-before-end.ensures, ap (class_count lists) r.round) in
-    let room = row_room f lists c.args.player q c.loop-before.before c.args.first c.len-moves.result c.requires.own many c.requires.first c.requires.in_range below in
-    (omega arith, omega (arith, below))
+coming-came-requires-clause-class c = let r = row (goal.at.coming-came-requires-clause-class c).In-loop-before in (omega arith, omega (arith, r.below))
 
 pub coming-came-requires-clause-long : goal.coming-came-requires-clause-long
 coming-came-requires-clause-long c =
     let f = frame_in c.args.game.now in
     let q = c.args.point in
     let lists = c.args.classes.now.lists in
-    let r = point_reads c.args.game.now c.points.result.now q c.index-points-point.result c.points.ensures c.requires.in_range c.index-points-point.is in
     omega (arith, ap (λ p. slots_before f lists p q) c.requires.own, slots_le f lists c.args.player q (point_count f) (omega (arith, c.requires.in_range)), c.requires.long)
 
 pub total_from-requires : goal.total_from-requires
-total_from-requires c =
-    let f = frame_in c.args.game.now in
-    let q = c.args.point in
-    let lists = c.args.classes.now.lists in
-    let r = point_reads c.args.game.now c.points.result.now q c.index-points-point.result c.points.ensures c.requires.in_range c.index-points-point.is in
-    let many : c.len-moves.result ≡ move_count f q = omega (arith, c.len-moves.ensures, r.moves) in
-    let below : c.loop-before.before < class_count lists (round_of f (at_point q)) = omega (arith, c.loop-before-test.true, c.classes-before-end.ensures, ap (class_count lists) r.round) in
-    let room = row_room f lists c.args.player q c.loop-before.before c.args.first c.len-moves.result c.requires.own many c.requires.first c.requires.in_range below in
-    omega (arith, room, c.requires.long)
+total_from-requires c = let r = row (goal.at.total_from-requires c).In-loop-before in omega (arith, r.room, c.requires.long)
 
 pub returns-then-total_from-from : goal.returns-then-total_from-from
 returns-then-total_from-from c =
-    let f = frame_in c.args.game.now in
-    let q = c.args.point in
-    let lists = c.args.classes.now.lists in
-    let r = point_reads c.args.game.now c.points.result.now q c.index-points-point.result c.points.ensures c.requires.in_range c.index-points-point.is in
-    let many : c.len-moves.result ≡ move_count f q = omega (arith, c.len-moves.ensures, r.moves) in
-    let below : c.loop-before.before < class_count lists (round_of f (at_point q)) = omega (arith, c.loop-before-test.true, c.classes-before-end.ensures, ap (class_count lists) r.round) in
-    let room = row_room f lists c.args.player q c.loop-before.before c.args.first c.len-moves.result c.requires.own many c.requires.first c.requires.in_range below in
-    let all = class_sum f lists c.args.player q c.loop-before.before c.args.first c.len-moves.result c.args.total c.args.weights.now c.requires.own many c.requires.first (omega (arith, room, c.requires.long)) in
-    let sum_is : c.total_from.result ≡ sum_by (λ m. (plan_of f lists c.args.total c.args.weights.now).number q (c.loop-before.before + 1) m) (choices_at f q) = c.total_from.ensures ∙ all in
-    let came_is : c.from.result ≡ number_before f (lift f lists (plan_of f lists c.args.total c.args.weights.now)) (last_step f c.args.player (at_point q)) (round_of f (at_point q)) (first_member lists (round_of f (at_point q)) (c.loop-before.before + 1)) =
-    c.from.ensures ∙ c.coming-came.ensures ∙ ap (λ p. number_before f (lift f lists (plan_of f lists c.args.total c.args.weights.now)) (last_step f p (at_point q)) (round_of f (at_point q)) (first_member lists (round_of f (at_point q)) (c.loop-before.before + 1))) c.requires.own in
-    ((omega arith, omega (arith, below)), (λ k some l. c.loop-before.invariant k some (omega (arith, l))), λ e. c.if-total_from-from.true (sum_is ∙ e ∙ sym came_is))
+    let r = row (goal.at.returns-then-total_from-from c).In-loop-before in
+    let s = sums (goal.at.returns-then-total_from-from c).After-from in
+    ((omega arith, omega (arith, r.below)), (λ k some l. c.loop-before.invariant k some (omega (arith, l))), λ e. c.if-total_from-from.true (s.sum ∙ e ∙ sym s.came))
 
 pub loop-before-preserved : goal.loop-before-preserved
 loop-before-preserved c =
     let f = frame_in c.args.game.now in
-    let q = c.args.point in
     let lists = c.args.classes.now.lists in
-    let r = point_reads c.args.game.now c.points.result.now q c.index-points-point.result c.points.ensures c.requires.in_range c.index-points-point.is in
-    let many : c.len-moves.result ≡ move_count f q = omega (arith, c.len-moves.ensures, r.moves) in
-    let below : c.loop-before.before < class_count lists (round_of f (at_point q)) = omega (arith, c.loop-before-test.true, c.classes-before-end.ensures, ap (class_count lists) r.round) in
-    let room = row_room f lists c.args.player q c.loop-before.before c.args.first c.len-moves.result c.requires.own many c.requires.first c.requires.in_range below in
-    let all = class_sum f lists c.args.player q c.loop-before.before c.args.first c.len-moves.result c.args.total c.args.weights.now c.requires.own many c.requires.first (omega (arith, room, c.requires.long)) in
-    let sum_is : c.total_from.result ≡ sum_by (λ m. (plan_of f lists c.args.total c.args.weights.now).number q (c.loop-before.before + 1) m) (choices_at f q) = c.total_from.ensures ∙ all in
-    let came_is : c.from.result ≡ number_before f (lift f lists (plan_of f lists c.args.total c.args.weights.now)) (last_step f c.args.player (at_point q)) (round_of f (at_point q)) (first_member lists (round_of f (at_point q)) (c.loop-before.before + 1)) =
-    c.from.ensures ∙ c.coming-came.ensures ∙ ap (λ p. number_before f (lift f lists (plan_of f lists c.args.total c.args.weights.now)) (last_step f p (at_point q)) (round_of f (at_point q)) (first_member lists (round_of f (at_point q)) (c.loop-before.before + 1))) c.requires.own in
+    let s = sums (goal.at.loop-before-preserved c).After-from in
     λ k some l. ⊎_elim
-    (λ here. subst (FlowsAt f lists c.args.player (plan_of f lists c.args.total c.args.weights.now) q) (sym here) (sym sum_is ∙ c.if-total_from-from.false ∙ came_is))
+    (λ here. subst (FlowsAt f lists c.args.player (plan_of f lists c.args.total c.args.weights.now) c.args.point) (sym here) (sym s.sum ∙ c.if-total_from-from.false ∙ s.came))
     (λ other. c.loop-before.invariant k some (omega (arith, l, other)))
     (cases_eq k (c.loop-before.before + 1))
 
 pub returns : goal.returns
 returns c =
-    let f = frame_in c.args.game.now in
-    let q = c.args.point in
-    let lists = c.args.classes.now.lists in
-    let r = point_reads c.args.game.now c.points.result.now q c.index-points-point.result c.points.ensures c.requires.in_range c.index-points-point.is in
-    λ k h. c.loop-before.invariant k h.0 (omega (arith, h.1, c.loop-before-test.false, c.classes-before-end.ensures, ap (class_count lists) r.round))
+    let r = reads (goal.at.returns c).After-len-moves in
+    λ k h. c.loop-before.invariant k h.0 (omega (arith, h.1, c.loop-before-test.false, c.classes-before-end.ensures, ap (class_count c.args.classes.now.lists) r.round))

@@ -1,16 +1,12 @@
-use Rattle.std.proofs.Common.{◌-◌, ◌*◌, ap, arith}
+use Rattle.std.proofs.Common.{◌+◌, ◌-◌, ◌*◌, ◌<◌, ◌^◌, ap, arith}
 use Rattle.gs_seq.proofs.flows.weight_above.Goals as goal
+use Rattle.gs_seq.proofs.flows.weight_above.Goals.{After-from}
+
+few : (c : After-from) → c.args.step.first + ((c.from.result - 1) * c.args.step.moves + c.args.step.choice) < 2 ^ 60
+few c = omega (arith, c.requires.few c.class_above-above.result c.class_above-above.ensures.class, ap (λ k. (k - 1) * c.args.step.moves) c.from.ensures)
 
 pub overflow_mul-slot : goal.overflow_mul-slot
-overflow_mul-slot c =
-    let above = c.class_above-above.result in
-    let class = c.class_above-above.ensures.class in
-    let shift = ap (λ k. (k - 1) * c.args.step.moves) c.from.ensures in
-    omega (arith, c.requires.few above class, shift)
+overflow_mul-slot c = omega (arith, few (goal.at.overflow_mul-slot c).After-from)
 
 pub overflow_add-slot : goal.overflow_add-slot
-overflow_add-slot c =
-    let above = c.class_above-above.result in
-    let class = c.class_above-above.ensures.class in
-    let shift = ap (λ k. (k - 1) * c.args.step.moves) c.from.ensures in
-    omega (arith, c.requires.few above class, shift)
+overflow_add-slot c = omega (arith, few (goal.at.overflow_add-slot c).After-from)

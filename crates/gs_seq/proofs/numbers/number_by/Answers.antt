@@ -1,97 +1,69 @@
-use Rattle.std.proofs.Common.{◌≡◌, ◌+◌, ◌-◌, ◌*◌, length, get_or, ap, sym, ◌∙◌, subst, arith, None}
+use Rattle.std.proofs.Common.{◌≡◌, length, get_or, ap, sym, subst, arith, Some}
 use Rattle.gs_game.specs.Games.{game_of}
-use Rattle.gs_game.specs.declared.positions.End.{End}
-use Rattle.gs_game.specs.declared.positions.EndKind.TheVariants as kinds
-use Rattle.gs_model.specs.Classes.{IsClass, class_of, first_member}
-use Rattle.gs_model.specs.Frame.{ancestor, last_step, point_count, round_of}
+use Rattle.gs_model.specs.Classes.{IsClass}
+use Rattle.gs_model.specs.Frame.{point_count, round_of}
 use Rattle.gs_model.specs.Positions.{at_end}
 use Rattle.gs_model.proofs.Ranges.{in_range}
 use Rattle.gs_seq.specs.Games.{frame_in}
 use Rattle.gs_seq.specs.Plans.{class_plan}
-use Rattle.gs_seq.specs.Sources.{MatchSource}
-use Rattle.gs_seq.proofs.Coming.{end_facts, number_at}
-use Rattle.gs_seq.proofs.Ends.{end_reads, end_round, number_few}
+use Rattle.gs_seq.specs.Slots.{slot_count}
+use Rattle.gs_seq.specs.Sources.{IsWeightAbove, MatchSource}
+use Rattle.gs_seq.proofs.Coming.{SourceFacts, end_facts, number_above}
+use Rattle.gs_seq.proofs.Ends.{end_reads, end_round, no_end, number_few}
 use Rattle.gs_seq.proofs.Points.{playable, walked}
 use Rattle.gs_seq.proofs.SlotLaws.{over, slots_few}
 use Rattle.gs_seq.proofs.numbers.number_by.Goals as goal
+use Rattle.gs_seq.proofs.numbers.number_by.Goals.{After-ends, In-Some}
 
-abbrev none : End
-none = record { round = 0; kind = kinds.Folded1; put = 0; one = None; two = None }
+-- the step before the end
+source : (c : In-Some) → MatchSource (frame_in c.args.game.now) c.args.classes.now.lists c.args.plan.now.player (at_end c.args.end) (Some c.in-Some.step)
+source c = subst (MatchSource (frame_in c.args.game.now) c.args.classes.now.lists c.args.plan.now.player (at_end c.args.end)) c.in-Some.is c.requires.source
+
+facts : (c : In-Some)
+    → SourceFacts (frame_in c.args.game.now) c.args.classes.now.lists (at_end c.args.end) (slot_count (frame_in c.args.game.now) c.args.classes.now.lists c.args.plan.now.player) (source c).0 c.in-Some.step
+facts c =
+    let p = c.args.plan.now.player in
+    let h = source c in
+    end_facts (frame_in c.args.game.now) c.args.classes.now.lists p c.args.end h.0 c.in-Some.step (walked c.args.game.now p c.requires.some c.requires.two) c.requires.end h.1
+
+-- the round that is read is the end's
+here : (c : After-ends) → (get_or c.ends.result.now c.args.end no_end).round ≡ round_of (frame_in c.args.game.now) (at_end c.args.end)
+here c = end_round (frame_in c.args.game.now) c.args.end _ (end_reads c.args.game.now c.ends.result.now c.args.end no_end c.ends.ensures c.requires.end)
 
 pub weight_above-requires-clause-some : goal.weight_above-requires-clause-some
-weight_above-requires-clause-some c =
-    let f = frame_in c.args.game.now in
-    let z = c.args.end in
-    let lists = c.args.classes.now.lists in
-    let p = c.args.plan.now.player in
-    let h = subst (MatchSource f lists p (at_end z)) c.in-Some.is c.requires.source in
-    (end_facts f lists p z h.0 c.in-Some.step (walked c.args.game.now p c.requires.some c.requires.two) c.requires.end h.1).some
+weight_above-requires-clause-some c = (facts (goal.at.weight_above-requires-clause-some c).In-Some).some
 
 pub weight_above-requires-clause-earlier : goal.weight_above-requires-clause-earlier
 weight_above-requires-clause-earlier c =
-    let f = frame_in c.args.game.now in
-    let z = c.args.end in
-    let lists = c.args.classes.now.lists in
-    let p = c.args.plan.now.player in
-    let h = subst (MatchSource f lists p (at_end z)) c.in-Some.is c.requires.source in
-    let s = end_facts f lists p z h.0 c.in-Some.step (walked c.args.game.now p c.requires.some c.requires.two) c.requires.end h.1 in
-    let here = end_round f z _ (end_reads c.args.game.now c.ends.result.now z none c.ends.ensures c.requires.end) in
-    omega (arith, s.earlier, here)
+    let at = goal.at.weight_above-requires-clause-earlier c in omega (arith, (facts at.In-Some).earlier, here at.After-ends)
 
 pub weight_above-requires-clause-top : goal.weight_above-requires-clause-top
 weight_above-requires-clause-top c =
-    let f = frame_in c.args.game.now in
-    let z = c.args.end in
     let w = walked c.args.game.now c.args.plan.now.player c.requires.some c.requires.two in
-    let here = end_round f z _ (end_reads c.args.game.now c.ends.result.now z none c.ends.ensures c.requires.end) in
-    omega (arith, here, w.end_in z c.requires.end, (over f c.args.classes.now c.requires.parents c.rounds-rounds.ensures.sound).rounds)
+    omega (arith, here (goal.at.weight_above-requires-clause-top c).After-ends, w.end_in c.args.end c.requires.end, (over (frame_in c.args.game.now) c.args.classes.now c.requires.parents c.rounds-rounds.ensures.sound).rounds)
 
 pub weight_above-requires-clause-class : goal.weight_above-requires-clause-class
-weight_above-requires-clause-class c =
-    let f = frame_in c.args.game.now in
-    let z = c.args.end in
-    let here = end_round f z _ (end_reads c.args.game.now c.ends.result.now z none c.ends.ensures c.requires.end) in
-    subst (λ k. IsClass c.args.classes.now.lists k c.args.class) (sym here) c.requires.class
+weight_above-requires-clause-class c = subst (λ k. IsClass c.args.classes.now.lists k c.args.class) (sym (here (goal.at.weight_above-requires-clause-class c).After-ends)) c.requires.class
 
 pub weight_above-requires-clause-within : goal.weight_above-requires-clause-within
 weight_above-requires-clause-within c =
-    let f = frame_in c.args.game.now in
-    let z = c.args.end in
-    let lists = c.args.classes.now.lists in
-    let p = c.args.plan.now.player in
-    let h = subst (MatchSource f lists p (at_end z)) c.in-Some.is c.requires.source in
-    let s = end_facts f lists p z h.0 c.in-Some.step (walked c.args.game.now p c.requires.some c.requires.two) c.requires.end h.1 in
     let long : length c.deref.result.now ≡ length c.args.plan.now.weights.items = ap length c.deref.ensures.value in
-    λ above k. omega (arith, s.within above k, c.requires.plan.plan.long, long)
+    λ above k. omega (arith, (facts (goal.at.weight_above-requires-clause-within c).In-Some).within above k, c.requires.plan.plan.long, long)
 
 pub weight_above-requires-clause-few : goal.weight_above-requires-clause-few
 weight_above-requires-clause-few c =
-    let f = frame_in c.args.game.now in
-    let z = c.args.end in
-    let lists = c.args.classes.now.lists in
-    let p = c.args.plan.now.player in
-    let h = subst (MatchSource f lists p (at_end z)) c.in-Some.is c.requires.source in
-    let s = end_facts f lists p z h.0 c.in-Some.step (walked c.args.game.now p c.requires.some c.requires.two) c.requires.end h.1 in
-    let few = slots_few c.args.game.now c.args.classes.now c.requires.parents c.rounds-rounds.ensures.sound p (point_count f) (omega arith) in
-    λ above k. omega (arith, s.within above k, few)
+    let few = slots_few c.args.game.now c.args.classes.now c.requires.parents c.rounds-rounds.ensures.sound c.args.plan.now.player (point_count (frame_in c.args.game.now)) (omega arith) in
+    λ above k. omega (arith, (facts (goal.at.weight_above-requires-clause-few c).In-Some).within above k, few)
 
 pub returns-in-Some-clause-value : goal.returns-in-Some-clause-value
 returns-in-Some-clause-value c =
-    let f = frame_in c.args.game.now in
-    let z = c.args.end in
-    let lists = c.args.classes.now.lists in
-    let p = c.args.plan.now.player in
-    let h = subst (MatchSource f lists p (at_end z)) c.in-Some.is c.requires.source in
-    let s = end_facts f lists p z h.0 c.in-Some.step (walked c.args.game.now p c.requires.some c.requires.two) c.requires.end h.1 in
-    let here = end_round f z _ (end_reads c.args.game.now c.ends.result.now z none c.ends.ensures c.requires.end) in
-    let t = c.weight_above.ensures in
-    let a = t.2 f (in_range (game_of c.args.game.now.game) (playable c.args.game.now)) (sym c.requires.parents) in
-    t.3 ∙ ap (λ ws. get_or ws (c.in-Some.step.first + ((t.0 - 1) * c.in-Some.step.moves + c.in-Some.step.choice)) 0) c.deref.ensures.value
-    ∙ number_at f lists c.args.plan.now.total c.args.plan.now.weights.items h.0 (last_step f p (at_end z)) (round_of f (at_end z)) (first_member lists (round_of f (at_end z)) c.args.class) t.0
-    (c.in-Some.step.first + ((t.0 - 1) * c.in-Some.step.moves + c.in-Some.step.choice)) h.1.made
-    (a ∙ ap (λ k. class_of lists c.in-Some.step.round (ancestor f k c.in-Some.step.round (first_member lists k c.args.class))) here
-    ∙ ap (λ k. class_of lists k (ancestor f (round_of f (at_end z)) k (first_member lists (round_of f (at_end z)) c.args.class))) h.1.round)
-    (s.slot t.0)
+    let at = goal.at.returns-in-Some-clause-value c in
+    let g = c.args.game.now in
+    let plan = c.args.plan.now in
+    let h = source at.In-Some in
+    let t = subst (λ ws. IsWeightAbove c.args.classes.now c.in-Some.step (get_or c.ends.result.now c.args.end no_end).round c.args.class ws c.weight_above.result) c.deref.ensures.value c.weight_above.ensures in
+    number_above (frame_in g) (in_range (game_of g.game) (playable g)) c.args.classes.now (sym c.requires.parents) plan.player (at_end c.args.end) _ h.0 c.in-Some.step h.1 (facts at.In-Some) plan.total _ c.args.class
+    (here at.After-ends) plan.weights.items c.weight_above.result t
 
 pub returns-in-Some-clause-within : goal.returns-in-Some-clause-within
 returns-in-Some-clause-within c =

@@ -8,62 +8,70 @@ use Rattle.gs_model.specs.Frame.{last_round}
 use Rattle.gs_tree.specs.Trees.{rules_of}
 use Rattle.gs_tree.specs.Walk.{last_count}
 use Rattle.gs_tree.specs.declared.signals.Signals.{Signals}
-use Rattle.gs_seq.specs.Abstracts.{frame_of}
-use Rattle.gs_seq.specs.Rows.{IsRow}
+use Rattle.gs_seq.specs.Abstracts.{frame_of, lists_of}
+use Rattle.gs_seq.specs.Rows.{IsRow, IsSingleIn}
 use Rattle.gs_seq.specs.Singles.{IsSlight, deal_pair}
 use Rattle.gs_seq.specs.declared.pair.Pair.{Pair}
 use Rattle.gs_seq.proofs.Singles.{count_is, made_row, slight}
 use Rattle.gs_seq.proofs.SlotLaws.{greatest_few, over}
 use Rattle.gs_seq.proofs.form.Abstract.pairs.Goals as goal
+use Rattle.gs_seq.proofs.form.Abstract.pairs.Goals.{After-deals_of, After-rounds-rounds, After-signals}
+
+-- what holds of the classes, and of a round with no rows
+sound : (c : After-rounds-rounds) → IsSound c.args.self.now.lossless.now.classes.now
+sound c = subst IsSound c.classes.ensures.held c.rounds-rounds.ensures.sound
+
+parents : (c : After-rounds-rounds) → c.args.self.now.lossless.now.classes.now.parents ≡ (frame_of c.args.self.now).parents
+parents c = subst (λ (x : Filter). x.parents ≡ (frame_of c.args.self.now).parents) c.classes.ensures.held c.classes.ensures.parents
+
+record IsLast (c : After-signals) : Type 0 where
+  pub last : c.args.round ≡ last_round (frame_of c.args.self.now)
+  pub single : IsSingleIn (lists_of c.args.self.now) (last_round (frame_of c.args.self.now))
+
+is_last : (c : After-signals) → IsLast c
+is_last c =
+    let a = c.args.self.now in
+    let less : length a.rows.items < c.args.round = omega (arith, c.if-from-len.false, c.from.ensures, c.len.ensures, a.rows.ok.0) in
+    let last : c.args.round ≡ last_round (frame_of a) = omega (arith, less, c.requires.top, a.paired.fewest) in
+    record { last = last; single = a.paired.single (omega (arith, less, last)) }
+
+-- the deals of the class's signal
+made_of : (c : After-deals_of) → c.deals_of.result ≡ filter (λ (d : Deal). d.one == c.args.one - 1) (deals (game_of c.args.self.now.lossless.now.signals.now.game.now.game))
+made_of c = c.deals_of.ensures ∙ ap (λ (x : Signals). filter (λ (d : Deal). d.one == c.args.one - 1) (deals (game_of x.game.now.game))) c.signals.ensures.held
 
 pub deals_of-requires : goal.deals_of-requires
 deals_of-requires c =
-    let a = c.args.self.now in
-    let g = a.lossless.now.signals.now.game.now in
-    let cls = a.lossless.now.classes.now in
-    let f = frame_of a in
-    let sound = subst IsSound c.classes.ensures.held c.rounds-rounds.ensures.sound in
-    let e = subst (λ (x : Filter). x.parents ≡ f.parents) c.classes.ensures.held c.classes.ensures.parents in
-    let less : length a.rows.items < c.args.round = omega (arith, c.if-from-len.false, c.from.ensures, c.len.ensures, a.rows.ok.0) in
-    let last : c.args.round ≡ last_round f = omega (arith, less, c.requires.top, a.paired.fewest) in
-    let single = a.paired.single (omega (arith, less, last)) in
-    let k = over f cls e sound in
-    let some : 0 < last_round f = omega (arith, c.requires.some, last) in
+    let at = goal.at.deals_of-requires c in
+    let g = c.args.self.now.lossless.now.signals.now.game.now in
+    let cls = c.args.self.now.lossless.now.classes.now in
+    let f = frame_of c.args.self.now in
+    let l = is_last at.After-signals in
+    let e = parents at.After-rounds-rounds in
+    let s = sound at.After-rounds-rounds in
+    let k = over f cls e s in
+    let some : 0 < last_round f = omega (arith, c.requires.some, l.last) in
     let most = greatest_few (list_of cls.lists (last_round f)) (k.numbered (last_round f) some (omega arith)) in
-    let class : c.args.one ≤ class_count cls.lists (last_round f) = omega (arith, c.requires.class.1, ap (class_count cls.lists) last) in
+    let class : c.args.one ≤ class_count cls.lists (last_round f) = omega (arith, c.requires.class.1, ap (class_count cls.lists) l.last) in
     let same = ap (λ (x : Signals). last_count (rules_of x)) c.signals.ensures.held in
-    omega (arith, most, class, k.lengths (last_round f) some (omega arith), count_is g cls e sound single, same, c.requires.class.0)
+    omega (arith, most, class, k.lengths (last_round f) some (omega arith), count_is g cls e s l.single, same, c.requires.class.0)
 
 pub made-requires : goal.made-requires
 made-requires c =
-    let a = c.args.self.now in
-    let g = a.lossless.now.signals.now.game.now in
-    let cls = a.lossless.now.classes.now in
-    let f = frame_of a in
-    let sound = subst IsSound c.classes.ensures.held c.rounds-rounds.ensures.sound in
-    let e = subst (λ (x : Filter). x.parents ≡ f.parents) c.classes.ensures.held c.classes.ensures.parents in
-    let less : length a.rows.items < c.args.round = omega (arith, c.if-from-len.false, c.from.ensures, c.len.ensures, a.rows.ok.0) in
-    let last : c.args.round ≡ last_round f = omega (arith, less, c.requires.top, a.paired.fewest) in
-    let single = a.paired.single (omega (arith, less, last)) in
-    let s = c.args.one - 1 in
-    let made : c.deals_of.result ≡ filter (λ (d : Deal). d.one == s) (deals (game_of g.game)) =
-    c.deals_of.ensures ∙ ap (λ (x : Signals). filter (λ (d : Deal). d.one == s) (deals (game_of x.game.now.game))) c.signals.ensures.held in
-    subst (All IsSlight) (sym made) (slight g cls e sound single s)
+    let at = goal.at.made-requires c in
+    let lossless = c.args.self.now.lossless.now in
+    subst (All IsSlight) (sym (made_of at.After-deals_of))
+    (slight lossless.signals.now.game.now lossless.classes.now (parents at.After-rounds-rounds) (sound at.After-rounds-rounds) (is_last at.After-signals).single (c.args.one - 1))
 
 pub returns : goal.returns
 returns c =
-    let a = c.args.self.now in
-    let g = a.lossless.now.signals.now.game.now in
-    let cls = a.lossless.now.classes.now in
-    let f = frame_of a in
-    let sound = subst IsSound c.classes.ensures.held c.rounds-rounds.ensures.sound in
-    let e = subst (λ (x : Filter). x.parents ≡ f.parents) c.classes.ensures.held c.classes.ensures.parents in
-    let less : length a.rows.items < c.args.round = omega (arith, c.if-from-len.false, c.from.ensures, c.len.ensures, a.rows.ok.0) in
-    let last : c.args.round ≡ last_round f = omega (arith, less, c.requires.top, a.paired.fewest) in
-    let single = a.paired.single (omega (arith, less, last)) in
-    let s = c.args.one - 1 in
-    let made : c.deals_of.result ≡ filter (λ (d : Deal). d.one == s) (deals (game_of g.game)) =
-    c.deals_of.ensures ∙ ap (λ (x : Signals). filter (λ (d : Deal). d.one == s) (deals (game_of x.game.now.game))) c.signals.ensures.held in
-    let row : IsRow f cls.lists (last_round f) c.args.one (map deal_pair (filter (λ (d : Deal). d.one == s) (deals (game_of g.game)))) = made_row g cls e sound single c.args.one s (omega (arith, c.requires.class.0)) in
-    let P : List Pair → Type 0 = IsRow f cls.lists c.args.round c.args.one in
-    subst P (sym (c.made.ensures ∙ ap (map deal_pair) made)) (subst (λ r. IsRow f cls.lists r c.args.one (map deal_pair (filter (λ (d : Deal). d.one == s) (deals (game_of g.game))))) (sym last) row)
+    let at = goal.at.returns c in
+    let lossless = c.args.self.now.lossless.now in
+    let g = lossless.signals.now.game.now in
+    let f = frame_of c.args.self.now in
+    let one = c.args.one in
+    let l = is_last at.After-signals in
+    let row : IsRow f lossless.classes.now.lists (last_round f) one (map deal_pair (filter (λ (d : Deal). d.one == one - 1) (deals (game_of g.game)))) =
+    made_row g lossless.classes.now (parents at.After-rounds-rounds) (sound at.After-rounds-rounds) l.single one (one - 1) (omega (arith, c.requires.class.0)) in
+    let P : List Pair → Type 0 = IsRow f lossless.classes.now.lists c.args.round one in
+    subst P (sym (c.made.ensures ∙ ap (map deal_pair) (made_of at.After-deals_of)))
+    (subst (λ r. IsRow f lossless.classes.now.lists r one (map deal_pair (filter (λ (d : Deal). d.one == one - 1) (deals (game_of g.game))))) (sym l.last) row)

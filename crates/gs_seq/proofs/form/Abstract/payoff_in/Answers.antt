@@ -1,4 +1,4 @@
-use Rattle.std.proofs.Common.{rules, ◌≡◌, ◌+◌, length, ap, sym, ◌∙◌, arith, FitsSigned, of_z, to_z, to_z-of_z}
+use Rattle.std.proofs.Common.{rules, ◌≡◌, ◌+◌, ap, ◌∙◌, arith, of_z, to_z}
 use Rattle.std.specs.Int.{w128}
 use Rattle.std.specs.List.{range_with_len}
 use Rattle.std.specs.Prelude.{unsigned_abs, ◌+ℤ◌}
@@ -7,47 +7,45 @@ use Rattle.gs_model.specs.Sums.{sum_z}
 use Rattle.gs_seq.specs.Abstracts.{frame_of, lists_of}
 use Rattle.gs_seq.specs.Payoffs.{payoff_at}
 use Rattle.gs_seq.specs.Plans.{class_plan}
-use Rattle.gs_seq.proofs.EndTotals.{ends_few, from_zero, payoff_is, range_more}
-use Rattle.gs_seq.proofs.Ends.{length-ends}
-use Rattle.gs_seq.proofs.Forms.{given}
+use Rattle.gs_seq.proofs.EndTotals.{ends_few, from_zero, payoff_is, range_put}
+use Rattle.gs_seq.proofs.Forms.{AreGiven, given}
+use Rattle.gs_seq.proofs.Signed.{read_back}
 use Rattle.gs_seq.proofs.form.Abstract.payoff_in.Goals as goal
+use Rattle.gs_seq.proofs.form.Abstract.payoff_in.Goals.{After-game-game, After-payoff_read}
 
-pub overflow_cast-ends : goal.overflow_cast-ends
-overflow_cast-ends c =
-    let g = given c.game.result.now (frame_of c.args.self.now) (lists_of c.args.self.now) c.game.ensures.held c.game.ensures.classes in
-    omega (arith, length-ends c.game.result.now c.ends.result.now c.ends.ensures, ap end_count c.game.ensures.held, g.modest.ends)
+-- what the laws ask of the frame and classes
+held : (c : After-game-game) → AreGiven (frame_of c.args.self.now) (lists_of c.args.self.now)
+held c = given c.game-game.result.now (frame_of c.args.self.now) (lists_of c.args.self.now) c.game-game.ensures.held c.game-game.ensures.classes
+
+-- the sum with the end's part
+sum_is : (c : After-payoff_read)
+    → to_z w128 c.loop-end.sum-bits +ℤ to_z w128 (of_z w128 c.payoff_read.result)
+    ≡ sum_z (payoff_at (frame_of c.args.self.now) (lists_of c.args.self.now) (class_plan (frame_of c.args.self.now) (lists_of c.args.self.now) c.args.x.now) (class_plan (frame_of c.args.self.now) (lists_of c.args.self.now) c.args.y.now))
+    (range_with_len 0 (c.loop-end.end + 1))
+sum_is c =
+    let f = frame_of c.args.self.now in
+    let ls = lists_of c.args.self.now in
+    let v = payoff_at f ls (class_plan f ls c.args.x.now) (class_plan f ls c.args.y.now) in
+    range_put v 0 c.loop-end.end _ _ c.loop-end.invariant (read_back c.payoff_read.result _ (search rules) (c.payoff_read.ensures ∙ ap v (from_zero c.loop-end.end)))
+
+pub payoff_read-requires-clause-sums : goal.payoff_read-requires-clause-sums
+payoff_read-requires-clause-sums c = omega (arith, c.requires.sums c.loop-end.end (omega (arith, c.end_total-end-end.ensures, c.loop-end-test.true)), c.loop-end.auto.sums)
+
+pub payoff_read-requires-clause-numbers : goal.payoff_read-requires-clause-numbers
+payoff_read-requires-clause-numbers c = omega (arith, c.requires.numbers c.loop-end.end (omega (arith, c.end_total-end-end.ensures, c.loop-end-test.true)), c.loop-end.auto.numbers)
 
 pub plus-sum-requires : goal.plus-sum-requires
 plus-sum-requires c =
+    let at = goal.at.plus-sum-requires c in
     let f = frame_of c.args.self.now in
     let ls = lists_of c.args.self.now in
-    let x = class_plan f ls c.args.x.now in
-    let y = class_plan f ls c.args.y.now in
-    let n = c.loop-end.end in
-    let g = given c.game.result.now f ls c.game.ensures.held c.game.ensures.classes in
-    let count : length c.ends.result.now ≡ end_count f = length-ends c.game.result.now c.ends.result.now c.ends.ensures ∙ ap end_count c.game.ensures.held in
-    let fits : FitsSigned w128 c.payoff_read.result = search rules in
-    let turn : to_z w128 c.loop-end.sum-bits +ℤ to_z w128 (of_z w128 c.payoff_read.result) ≡ sum_z (payoff_at f ls x y) (range_with_len 0 (n + 1)) =
-    ap (λ v. v +ℤ to_z w128 (of_z w128 c.payoff_read.result)) c.loop-end.invariant
-    ∙ ap (λ v. sum_z (payoff_at f ls x y) (range_with_len 0 n) +ℤ v) (to_z-of_z {w = w128} {z = c.payoff_read.result} fits ∙ c.payoff_read.ensures ∙ ap (payoff_at f ls x y) (from_zero n))
-    ∙ sym (range_more (payoff_at f ls x y) 0 n) in
-    let size = ends_few f g.in_range ls g.classes g.modest (g.walked 1 (omega arith) (omega arith)) (g.walked 2 (omega arith) (omega arith)) x y c.requires.x.plan.plan c.requires.y.plan.plan (n + 1)
-    (omega (arith, count, c.loop-end-test.true)) in
-    omega (arith, size, ap unsigned_abs turn)
+    let g = held at.After-game-game in
+    let size = ends_few f g.in_range ls g.classes g.modest (g.walked 1 (omega arith) (omega arith)) (g.walked 2 (omega arith) (omega arith)) (class_plan f ls c.args.x.now) (class_plan f ls c.args.y.now) c.requires.x.plan.plan
+    c.requires.y.plan.plan (c.loop-end.end + 1) (omega (arith, c.end_total-end-end.ensures, c.loop-end-test.true)) in
+    omega (arith, size, ap unsigned_abs (sum_is at.After-payoff_read))
 
 pub loop-end-preserved : goal.loop-end-preserved
-loop-end-preserved c =
-    let f = frame_of c.args.self.now in
-    let ls = lists_of c.args.self.now in
-    let x = class_plan f ls c.args.x.now in
-    let y = class_plan f ls c.args.y.now in
-    let n = c.loop-end.end in
-    let fits : FitsSigned w128 c.payoff_read.result = search rules in
-    let fits_plus : FitsSigned w128 c.plus-sum.result = search rules in
-    to_z-of_z {w = w128} {z = c.plus-sum.result} fits_plus ∙ c.plus-sum.ensures
-    ∙ ap (λ v. v +ℤ to_z w128 (of_z w128 c.payoff_read.result)) c.loop-end.invariant
-    ∙ ap (λ v. sum_z (payoff_at f ls x y) (range_with_len 0 n) +ℤ v) (to_z-of_z {w = w128} {z = c.payoff_read.result} fits ∙ c.payoff_read.ensures ∙ ap (payoff_at f ls x y) (from_zero n))
-    ∙ sym (range_more (payoff_at f ls x y) 0 n)
+loop-end-preserved c = read_back c.plus-sum.result _ (search rules) (c.plus-sum.ensures ∙ sum_is (goal.at.loop-end-preserved c).After-payoff_read)
 
 pub returns : goal.returns
 returns c =
@@ -55,21 +53,6 @@ returns c =
     let ls = lists_of c.args.self.now in
     let x = class_plan f ls c.args.x.now in
     let y = class_plan f ls c.args.y.now in
-    let g = given c.game.result.now f ls c.game.ensures.held c.game.ensures.classes in
-    let count : length c.ends.result.now ≡ end_count f = length-ends c.game.result.now c.ends.result.now c.ends.ensures ∙ ap end_count c.game.ensures.held in
-    let all : c.loop-end.end ≡ end_count f = omega (arith, count, c.loop-end-test.false, c.loop-end.auto.end-end) in
+    let g = held (goal.at.returns c).After-game-game in
+    let all : c.loop-end.end ≡ end_count f = omega (arith, c.end_total-end-end.ensures, c.loop-end-test.false, c.loop-end.auto.end-end) in
     c.loop-end.invariant ∙ ap (λ n. sum_z (payoff_at f ls x y) (range_with_len 0 n)) all ∙ payoff_is f ls x y g.in_range (g.walked 1 (omega arith) (omega arith)) g.classes
-
-pub payoff_read-requires-clause-sums : goal.payoff_read-requires-clause-sums
-payoff_read-requires-clause-sums c =
-    let f = frame_of c.args.self.now in
-    let ls = lists_of c.args.self.now in
-    let count : length c.ends.result.now ≡ end_count f = length-ends c.game.result.now c.ends.result.now c.ends.ensures ∙ ap end_count c.game.ensures.held in
-    omega (arith, c.requires.sums c.loop-end.end (omega (arith, count, c.loop-end-test.true)), c.loop-end.auto.sums)
-
-pub payoff_read-requires-clause-numbers : goal.payoff_read-requires-clause-numbers
-payoff_read-requires-clause-numbers c =
-    let f = frame_of c.args.self.now in
-    let ls = lists_of c.args.self.now in
-    let count : length c.ends.result.now ≡ end_count f = length-ends c.game.result.now c.ends.result.now c.ends.ensures ∙ ap end_count c.game.ensures.held in
-    omega (arith, c.requires.numbers c.loop-end.end (omega (arith, count, c.loop-end-test.true)), c.loop-end.auto.numbers)

@@ -1,9 +1,7 @@
-use Rattle.std.proofs.Common.{rules, ◌≡◌, ◌+◌, ◌-◌, ◌*◌, ℕ, List, ap, sym, ◌∙◌, arith, get_or, pos, FitsSigned, of_z, to_z, to_z-of_z}
+use Rattle.std.proofs.Common.{rules, ◌≡◌, ◌+◌, ◌-◌, ℕ, List, ap, ◌∙◌, arith, get_or, pos, FitsSigned, of_z, to_z}
 use Rattle.std.specs.Int.{w128}
 use Rattle.std.specs.List.{range_with_len}
-use Rattle.std.specs.Prelude.{ℤ, unsigned_abs, ◌+ℤ◌, ◌*ℤ◌}
-use Rattle.std.proofs.lemmas.Int.{unsigned_abs-mul}
-use borrow.Author.Differences.{abs_is}
+use Rattle.std.specs.Prelude.{ℤ, unsigned_abs, ◌+ℤ◌}
 use Rattle.gs_model.specs.Classes.{IsClass}
 use Rattle.gs_model.specs.Frame.{round_of}
 use Rattle.gs_model.specs.Pairs.{class_number}
@@ -12,87 +10,75 @@ use Rattle.gs_model.specs.Sums.{sum_z}
 use Rattle.gs_seq.specs.Abstracts.{frame_of, lists_of}
 use Rattle.gs_seq.specs.Payoffs.{end_sum}
 use Rattle.gs_seq.specs.Plans.{class_plan}
-use Rattle.gs_seq.proofs.EndTotals.{class_term, classes_few, range_more, term_few}
-use Rattle.gs_seq.proofs.Forms.{given}
+use Rattle.gs_seq.proofs.EndTotals.{class_term, classes_few, range_put, term_few, term_fits, term_is}
+use Rattle.gs_seq.proofs.Forms.{AreGiven, given}
+use Rattle.gs_seq.proofs.Signed.{read_back}
 use Rattle.gs_seq.proofs.form.Abstract.payoff_read.Goals as goal
-
-more : (n : ℕ) → n + 1 ≡ 1 + n
-more n = omega arith
+use Rattle.gs_seq.proofs.form.Abstract.payoff_read.Goals.{After-game-game, After-number_at_end-number, After-scaled, In-loop-before}
 
 -- what the list has of a class
 read_at : (sums : List ℤ) (n : ℕ) (w : ℤ) → get_or sums (0 + (n + 1 - 1)) (pos 0) ≡ w → get_or sums n (pos 0) ≡ w
 read_at sums n w h = let at : n ≡ 0 + (n + 1 - 1) = omega arith in ap (λ i. get_or sums i (pos 0)) at ∙ h
 
-pub scaled-requires : goal.scaled-requires
-scaled-requires c =
+-- what the laws ask of the frame and classes
+held : (c : After-game-game) → AreGiven (frame_of c.args.self.now) (lists_of c.args.self.now)
+held c = given c.game-game.result.now (frame_of c.args.self.now) (lists_of c.args.self.now) c.game-game.ensures.held c.game-game.ensures.classes
+
+-- the class, its number and what the end pays there
+here : (c : In-loop-before) → IsClass (lists_of c.args.self.now) (round_of (frame_of c.args.self.now) (at_end c.args.end)) (c.loop-before.before + 1)
+here c = (omega arith, omega (arith, c.class_total-before-end.ensures, c.loop-before-test.true))
+
+number_is : (c : After-number_at_end-number)
+    → c.number_at_end-number.result ≡ class_number (frame_of c.args.self.now) (lists_of c.args.self.now) 1 (class_plan (frame_of c.args.self.now) (lists_of c.args.self.now) c.args.x.now) c.args.end (c.loop-before.before + 1)
+number_is c =
     let f = frame_of c.args.self.now in
     let ls = lists_of c.args.self.now in
-    let z = c.args.end in
-    let g = given c.game-game.result.now f ls c.game-game.ensures.held c.game-game.ensures.classes in
-    let w = g.walked 1 (omega arith) (omega arith) in
+    c.number_at_end-number.ensures.value ∙ ap (λ p. class_number f ls p (class_plan f ls c.args.x.now) c.args.end (c.loop-before.before + 1)) c.requires.x.player_is
+
+worth_is : (c : In-loop-before) → FitsSigned w128 (get_or c.end_sums.new.sums c.loop-before.before (pos 0))
+    → to_z w128 (of_z w128 (get_or c.end_sums.new.sums c.loop-before.before (pos 0)))
+    ≡ end_sum (frame_of c.args.self.now) (lists_of c.args.self.now) 1 (class_plan (frame_of c.args.self.now) (lists_of c.args.self.now) c.args.y.now) c.args.end (c.loop-before.before + 1)
+worth_is c fits =
+    let n = c.loop-before.before in
+    let sums = c.end_sums.new.sums in
+    read_back (get_or sums n (pos 0)) _ fits (read_at sums n _ (c.end_sums.ensures.here (n + 1) (here c)))
+
+-- the sum with the class's part
+sum_is : (c : After-scaled) → FitsSigned w128 (get_or c.end_sums.new.sums c.loop-before.before (pos 0))
+    → to_z w128 c.loop-before.sum-bits +ℤ to_z w128 (of_z w128 c.scaled.result)
+    ≡ sum_z (class_term (frame_of c.args.self.now) (lists_of c.args.self.now) (class_plan (frame_of c.args.self.now) (lists_of c.args.self.now) c.args.x.now) (class_plan (frame_of c.args.self.now) (lists_of c.args.self.now) c.args.y.now) c.args.end)
+    (range_with_len 1 (c.loop-before.before + 1))
+sum_is c fits =
+    let at = goal.at.After-scaled c in
+    let f = frame_of c.args.self.now in
+    let ls = lists_of c.args.self.now in
     let x = class_plan f ls c.args.x.now in
     let y = class_plan f ls c.args.y.now in
     let n = c.loop-before.before in
-    let here : IsClass ls (round_of f (at_end z)) (n + 1) = (omega arith, omega (arith, c.class_total-before-end.ensures, c.loop-before-test.true)) in
-    let number : c.number_at_end-number.result ≡ class_number f ls 1 x z (n + 1) = c.number_at_end-number.ensures.value ∙ ap (λ p. class_number f ls p x z (n + 1)) c.requires.x.player_is in
-    let sum = get_or c.end_sums.new.sums n (pos 0) in
-    let read : sum ≡ end_sum f ls 1 y z (n + 1) = read_at c.end_sums.new.sums n (end_sum f ls 1 y z (n + 1)) (c.end_sums.ensures.here (n + 1) here) in
-    let fits : FitsSigned w128 sum = search rules in
-    let worth : to_z w128 (of_z w128 sum) ≡ end_sum f ls 1 y z (n + 1) = to_z-of_z {w = w128} {z = sum} fits ∙ read in
-    let size = term_few f g.in_range ls g.classes g.modest w (g.walked 2 (omega arith) (omega arith)) x y c.requires.x.plan.plan c.requires.y.plan.plan z (n + 1) c.requires.end here in
-    omega (
-      arith,
-      size,
-      unsigned_abs-mul (pos (class_number f ls 1 x z (n + 1))) (end_sum f ls 1 y z (n + 1)),
-      abs_is (pos (class_number f ls 1 x z (n + 1))),
-      ap (λ v. c.number_at_end-number.result * unsigned_abs v) worth,
-      ap (λ k. k * unsigned_abs (end_sum f ls 1 y z (n + 1))) number,
-    )
+    range_put (class_term f ls x y c.args.end) 1 n _ _ c.loop-before.invariant
+    (read_back c.scaled.result _ (search rules) (term_is f ls x y c.args.end n c.number_at_end-number.result _ c.scaled.result (number_is at.After-number_at_end-number) (worth_is at.In-loop-before fits) c.scaled.ensures))
+
+pub scaled-requires : goal.scaled-requires
+scaled-requires c =
+    let at = goal.at.scaled-requires c in
+    let f = frame_of c.args.self.now in
+    let ls = lists_of c.args.self.now in
+    let x = class_plan f ls c.args.x.now in
+    let y = class_plan f ls c.args.y.now in
+    let g = held at.After-game-game in
+    term_fits c.number_at_end-number.result _ _ _ (number_is at.After-number_at_end-number) (worth_is at.In-loop-before (search rules))
+    (term_few f g.in_range ls g.classes g.modest (g.walked 1 (omega arith) (omega arith)) (g.walked 2 (omega arith) (omega arith)) x y c.requires.x.plan.plan c.requires.y.plan.plan c.args.end (c.loop-before.before + 1) c.requires.end
+    (here at.In-loop-before))
 
 pub plus-sum-requires : goal.plus-sum-requires
 plus-sum-requires c =
+    let at = goal.at.plus-sum-requires c in
     let f = frame_of c.args.self.now in
     let ls = lists_of c.args.self.now in
-    let z = c.args.end in
-    let g = given c.game-game.result.now f ls c.game-game.ensures.held c.game-game.ensures.classes in
-    let w = g.walked 1 (omega arith) (omega arith) in
-    let x = class_plan f ls c.args.x.now in
-    let y = class_plan f ls c.args.y.now in
-    let n = c.loop-before.before in
-    let here : IsClass ls (round_of f (at_end z)) (n + 1) = (omega arith, omega (arith, c.class_total-before-end.ensures, c.loop-before-test.true)) in
-    let number : c.number_at_end-number.result ≡ class_number f ls 1 x z (n + 1) = c.number_at_end-number.ensures.value ∙ ap (λ p. class_number f ls p x z (n + 1)) c.requires.x.player_is in
-    let sum = get_or c.end_sums.new.sums n (pos 0) in
-    let read : sum ≡ end_sum f ls 1 y z (n + 1) = read_at c.end_sums.new.sums n (end_sum f ls 1 y z (n + 1)) (c.end_sums.ensures.here (n + 1) here) in
-    let fits_sum : FitsSigned w128 sum = search rules in
-    let worth : to_z w128 (of_z w128 sum) ≡ end_sum f ls 1 y z (n + 1) = to_z-of_z {w = w128} {z = sum} fits_sum ∙ read in
-    let fits : FitsSigned w128 c.scaled.result = search rules in
-    let term : to_z w128 (of_z w128 c.scaled.result) ≡ class_term f ls x y z (n + 1) =
-    to_z-of_z {w = w128} {z = c.scaled.result} fits ∙ c.scaled.ensures ∙ ap (λ v. pos c.number_at_end-number.result *ℤ v) worth ∙ ap (λ k. pos k *ℤ end_sum f ls 1 y z (n + 1)) number in
-    let turn : to_z w128 c.loop-before.sum-bits +ℤ to_z w128 (of_z w128 c.scaled.result) ≡ sum_z (class_term f ls x y z) (range_with_len 1 (n + 1)) =
-    ap (λ v. v +ℤ to_z w128 (of_z w128 c.scaled.result)) c.loop-before.invariant ∙ ap (λ v. sum_z (class_term f ls x y z) (range_with_len 1 n) +ℤ v) (term ∙ ap (class_term f ls x y z) (more n))
-    ∙ sym (range_more (class_term f ls x y z) 1 n) in
-    let size = classes_few f g.in_range ls g.classes g.modest w (g.walked 2 (omega arith) (omega arith)) x y c.requires.x.plan.plan c.requires.y.plan.plan z (n + 1) c.requires.end here.1 in
-    omega (arith, size, ap unsigned_abs turn)
+    let g = held at.After-game-game in
+    let size = classes_few f g.in_range ls g.classes g.modest (g.walked 1 (omega arith) (omega arith)) (g.walked 2 (omega arith) (omega arith)) (class_plan f ls c.args.x.now) (class_plan f ls c.args.y.now) c.requires.x.plan.plan
+    c.requires.y.plan.plan c.args.end (c.loop-before.before + 1) c.requires.end (here at.In-loop-before).1 in
+    omega (arith, size, ap unsigned_abs (sum_is at.After-scaled (search rules)))
 
 pub loop-before-preserved : goal.loop-before-preserved
-loop-before-preserved c =
-    let f = frame_of c.args.self.now in
-    let ls = lists_of c.args.self.now in
-    let z = c.args.end in
-    let x = class_plan f ls c.args.x.now in
-    let y = class_plan f ls c.args.y.now in
-    let n = c.loop-before.before in
-    let here : IsClass ls (round_of f (at_end z)) (n + 1) = (omega arith, omega (arith, c.class_total-before-end.ensures, c.loop-before-test.true)) in
-    let number : c.number_at_end-number.result ≡ class_number f ls 1 x z (n + 1) = c.number_at_end-number.ensures.value ∙ ap (λ p. class_number f ls p x z (n + 1)) c.requires.x.player_is in
-    let sum = get_or c.end_sums.new.sums n (pos 0) in
-    let read : sum ≡ end_sum f ls 1 y z (n + 1) = read_at c.end_sums.new.sums n (end_sum f ls 1 y z (n + 1)) (c.end_sums.ensures.here (n + 1) here) in
-    let fits_sum : FitsSigned w128 sum = search rules in
-    let worth : to_z w128 (of_z w128 sum) ≡ end_sum f ls 1 y z (n + 1) = to_z-of_z {w = w128} {z = sum} fits_sum ∙ read in
-    let fits : FitsSigned w128 c.scaled.result = search rules in
-    let term : to_z w128 (of_z w128 c.scaled.result) ≡ class_term f ls x y z (n + 1) =
-    to_z-of_z {w = w128} {z = c.scaled.result} fits ∙ c.scaled.ensures ∙ ap (λ v. pos c.number_at_end-number.result *ℤ v) worth ∙ ap (λ k. pos k *ℤ end_sum f ls 1 y z (n + 1)) number in
-    let turn : to_z w128 c.loop-before.sum-bits +ℤ to_z w128 (of_z w128 c.scaled.result) ≡ sum_z (class_term f ls x y z) (range_with_len 1 (n + 1)) =
-    ap (λ v. v +ℤ to_z w128 (of_z w128 c.scaled.result)) c.loop-before.invariant ∙ ap (λ v. sum_z (class_term f ls x y z) (range_with_len 1 n) +ℤ v) (term ∙ ap (class_term f ls x y z) (more n))
-    ∙ sym (range_more (class_term f ls x y z) 1 n) in
-    let fits_plus : FitsSigned w128 c.plus-sum.result = search rules in
-    to_z-of_z {w = w128} {z = c.plus-sum.result} fits_plus ∙ c.plus-sum.ensures ∙ turn
+loop-before-preserved c = read_back c.plus-sum.result _ (search rules) (c.plus-sum.ensures ∙ sum_is (goal.at.loop-before-preserved c).After-scaled (search rules))

@@ -14,66 +14,57 @@ use Rattle.gs_seq.specs.declared.stop.SeqStop.{SeqStop}
 use Rattle.gs_seq.specs.declared.stop.SeqStop.TheVariants.{TooManySequences, TooManyCells, Memory}
 use Rattle.gs_seq.proofs.Carried.{carried}
 use Rattle.gs_seq.proofs.form.Abstract.within.Goals as goal
+use Rattle.gs_seq.proofs.form.Abstract.within.Goals.{After-game-game, In_ok-count}
 
 too_long : (most : Limits) (f : Frame) (lists : ClassLists) (e : SeqStop) → IsTooLong most.sequences f lists e → IsStopAt most f lists e
 too_long most f lists (TooManySequences player count) h = h
 too_long most f lists (TooManyCells count) h = ⊎_elim (λ one. absurd one) (λ two. absurd two.1) h
 too_long most f lists Memory h = tt
 
+-- what holds of the game and classes as they are called here holds of those that came in
+moved : (c : After-game-game) (P : Frame → ClassLists → Type 0) → P (frame_in c.game-game.result.now) c.classes-classes.result.now.lists → P (frame_in c.args.lossless.now.signals.now.game.now) c.args.lossless.now.classes.now.lists
+moved c P = carried c.game-game.result.now c.args.lossless.now.signals.now.game.now c.classes-classes.result.now c.args.lossless.now.classes.now P (c.game-game.ensures ∙ ap (λ (x : Signals). x.game.now) c.signals-signals.ensures.held) c.classes-classes.ensures.held
+
+-- how many sequences and cells there are
+few : (c : In_ok-count) → HasSequencesWithin c.args.most.sequences (frame_in c.args.lossless.now.signals.now.game.now) c.args.lossless.now.classes.now.lists
+few c = moved (goal.at.In_ok-count c).After-game-game (HasSequencesWithin c.args.most.sequences) c.in_ok-one.ensures.few
+
+count : (c : In_ok-count) → c.in_ok-count.count ≡ cell_count (frame_in c.args.lossless.now.signals.now.game.now) c.args.lossless.now.classes.now.lists
+count c = moved (goal.at.In_ok-count c).After-game-game (λ f lists. c.in_ok-count.count ≡ cell_count f lists) c.in_ok-count.ensures
+
 pub returns-in_err-one-clause-refused : goal.returns-in_err-one-clause-refused
 returns-in_err-one-clause-refused c =
-    let s = c.args.lossless.now in
-    let game = c.game-game.result.now in
-    let classes = c.classes-classes.result.now in
-    let same : game ≡ s.signals.now.game.now = c.game-game.ensures ∙ ap (λ (x : Signals). x.game.now) c.signals-signals.ensures.held in
-    let long = carried game s.signals.now.game.now classes s.classes.now (λ f lists. IsTooLong c.args.most.sequences f lists c.in_err-one.field-0.0) same c.classes-classes.ensures.held c.in_err-one.ensures.refused in
-    let f = frame_in s.signals.now.game.now in
+    let f = frame_in c.args.lossless.now.signals.now.game.now in
+    let lists = c.args.lossless.now.classes.now.lists in
+    let long = moved (goal.at.returns-in_err-one-clause-refused c).After-game-game (λ f lists. IsTooLong c.args.most.sequences f lists c.in_err-one.field-0.0) c.in_err-one.ensures.refused in
     let e = err_from_is_err_and c.from_residual.result c.from_residual.ensures.1 in
-    subst (λ r. IfErr r (IsStopAt c.args.most f s.classes.now.lists)) (sym e.1) (subst (IsStopAt c.args.most f s.classes.now.lists) (sym e.2) (too_long c.args.most f s.classes.now.lists c.in_err-one.field-0.0 long))
+    subst (λ r. IfErr r (IsStopAt c.args.most f lists)) (sym e.1) (subst (IsStopAt c.args.most f lists) (sym e.2) (too_long c.args.most f lists c.in_err-one.field-0.0 long))
 
 pub cells-requires-clause-rows : goal.cells-requires-clause-rows
 cells-requires-clause-rows c =
     let s = c.args.lossless.now in
     let game = c.game-game.result.now in
     let classes = c.classes-classes.result.now in
-    let same : game ≡ s.signals.now.game.now = c.game-game.ensures ∙ ap (λ (x : Signals). x.game.now) c.signals-signals.ensures.held in
+    let same : s.signals.now.game.now ≡ game = sym (c.game-game.ensures ∙ ap (λ (x : Signals). x.game.now) c.signals-signals.ensures.held) in
     subst (AreRows (frame_in game) classes.lists) (sym c.deref.ensures.value)
-    (carried s.signals.now.game.now game s.classes.now classes (λ f lists. AreRows f lists c.in_ok-rows.rows.items) (sym same) (sym c.classes-classes.ensures.held) c.in_ok-rows.ensures)
+    (carried s.signals.now.game.now game s.classes.now classes (λ f lists. AreRows f lists c.in_ok-rows.rows.items) same (sym c.classes-classes.ensures.held) c.in_ok-rows.ensures)
 
 pub returns-then-count-most-clause-refused : goal.returns-then-count-most-clause-refused
-returns-then-count-most-clause-refused c =
-    let s = c.args.lossless.now in
-    let game = c.game-game.result.now in
-    let classes = c.classes-classes.result.now in
-    let same : game ≡ s.signals.now.game.now = c.game-game.ensures ∙ ap (λ (x : Signals). x.game.now) c.signals-signals.ensures.held in
-    let few = carried game s.signals.now.game.now classes s.classes.now (HasSequencesWithin c.args.most.sequences) same c.classes-classes.ensures.held c.in_ok-one.ensures.few in
-    let count = carried game s.signals.now.game.now classes s.classes.now (λ f lists. c.in_ok-count.count ≡ cell_count f lists) same c.classes-classes.ensures.held c.in_ok-count.ensures in
-    (few, count, c.if-count-most.true)
+returns-then-count-most-clause-refused c = let at = (goal.at.returns-then-count-most-clause-refused c).In_ok-count in (few at, count at, c.if-count-most.true)
 
 pub invariant_of-result : goal.invariant_of-result
 invariant_of-result c =
-    let s = c.args.lossless.now in
-    let game = c.game-game.result.now in
-    let classes = c.classes-classes.result.now in
-    let same : game ≡ s.signals.now.game.now = c.game-game.ensures ∙ ap (λ (x : Signals). x.game.now) c.signals-signals.ensures.held in
-    let few = carried game s.signals.now.game.now classes s.classes.now (HasSequencesWithin c.args.most.sequences) same c.classes-classes.ensures.held c.in_ok-one.ensures.few in
-    let count = carried game s.signals.now.game.now classes s.classes.now (λ f lists. c.in_ok-count.count ≡ cell_count f lists) same c.classes-classes.ensures.held c.in_ok-count.ensures in
+    let at = (goal.at.invariant_of-result c).After-game-game in
+    let sequences = few (goal.at.invariant_of-result c).In_ok-count in
     record {
-      few = record { one = omega (arith, few.one, c.requires); two = omega (arith, few.two, c.requires) };
-      placed = carried game s.signals.now.game.now classes s.classes.now (λ f lists. AreOffsets f lists c.in_ok-offsets.offsets.items) same c.classes-classes.ensures.held c.in_ok-offsets.ensures;
-      ones = carried game s.signals.now.game.now classes s.classes.now (λ f lists. c.in_ok-one.one ≡ slot_count f lists 1) same c.classes-classes.ensures.held c.in_ok-one.ensures.one;
-      twos = carried game s.signals.now.game.now classes s.classes.now (λ f lists. c.in_ok-one.two ≡ slot_count f lists 2) same c.classes-classes.ensures.held c.in_ok-one.ensures.two;
+      few = record { one = omega (arith, sequences.one, c.requires); two = omega (arith, sequences.two, c.requires) };
+      placed = moved at (λ f lists. AreOffsets f lists c.in_ok-offsets.offsets.items) c.in_ok-offsets.ensures;
+      ones = moved at (λ f lists. c.in_ok-one.one ≡ slot_count f lists 1) c.in_ok-one.ensures.one;
+      twos = moved at (λ f lists. c.in_ok-one.two ≡ slot_count f lists 2) c.in_ok-one.ensures.two;
       paired = c.in_ok-rows.ensures;
       ordered = λ b is. (c.in_ok-order.ensures b is).0;
       single = λ b is. c.in_ok-rows.ensures.single (omega (arith, (c.in_ok-order.ensures b is).1, c.len.ensures, c.in_ok-rows.rows.ok.0));
     }
 
 pub returns-clause-small : goal.returns-clause-small
-returns-clause-small c =
-    let s = c.args.lossless.now in
-    let game = c.game-game.result.now in
-    let classes = c.classes-classes.result.now in
-    let same : game ≡ s.signals.now.game.now = c.game-game.ensures ∙ ap (λ (x : Signals). x.game.now) c.signals-signals.ensures.held in
-    let few = carried game s.signals.now.game.now classes s.classes.now (HasSequencesWithin c.args.most.sequences) same c.classes-classes.ensures.held c.in_ok-one.ensures.few in
-    let count = carried game s.signals.now.game.now classes s.classes.now (λ f lists. c.in_ok-count.count ≡ cell_count f lists) same c.classes-classes.ensures.held c.in_ok-count.ensures in
-    record { sequences = few; cells = omega (arith, count, c.if-count-most.false) }
+returns-clause-small c = let at = (goal.at.returns-clause-small c).In_ok-count in record { sequences = few at; cells = omega (arith, count at, c.if-count-most.false) }
