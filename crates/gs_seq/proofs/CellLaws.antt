@@ -12,6 +12,7 @@ use Rattle.gs_game.specs.Games.{game_of}
 use Rattle.gs_game.specs.Seen.{end_of}
 use Rattle.gs_game.specs.declared.positions.End.{End as StoredEnd}
 use Rattle.gs_game.specs.declared.valid.ValidGame.{ValidGame}
+use Rattle.gs_lossless.specs.declared.checking.Lossless.{Lossless}
 use Rattle.gs_model.specs.Classes.{class_count, classes_in}
 use Rattle.gs_model.specs.Deals.{deals}
 use Rattle.gs_model.specs.Frame.{end_count, last_round, round_of}
@@ -19,7 +20,7 @@ use Rattle.gs_model.specs.Positions.{End, at_end}
 use Rattle.gs_model.proofs.Ranges.{deals_weigh}
 use Rattle.gs_seq.specs.Cells.{AreCounts, cell_count, meets, pair_count}
 use Rattle.gs_seq.specs.Games.{frame_in}
-use Rattle.gs_seq.specs.Rows.{AreRows, pairs_of}
+use Rattle.gs_seq.specs.Rows.{AreRows, AreRowsIn, pairs_of}
 use Rattle.gs_seq.specs.declared.pair.Pair.{Pair}
 use Rattle.gs_seq.proofs.ClassRows.{sum_by-map}
 use Rattle.gs_seq.proofs.Ends.{end_reads, end_round, length-ends}
@@ -28,6 +29,10 @@ use Rattle.gs_seq.proofs.Points.{walked}
 use Rattle.gs_seq.proofs.RowRoom.{table}
 use Rattle.gs_seq.proofs.Singles.{made_count}
 use Rattle.gs_seq.proofs.SlotLaws.{class_few, over}
+
+-- the rows of a round of a game with lossless classes
+abbrev pub AreRowsOf : Lossless → ℕ → List (Vec Pair Global) → Type 0
+AreRowsOf s round rows = AreRowsIn (frame_in s.signals.now.game.now) s.classes.now.lists round rows
 
 -- what holds of each item, by place, holds with one more
 pub pushed : {X : Type 0} (P : ℕ → X → Type 0) (xs : List X) (x : X) (n : ℕ) → length xs ≡ n → ((k : ℕ) (d : X) → k < n → P k (get_or xs k d)) → P n x → (k : ℕ) (d : X) → k < n + 1 → P k (get_or (xs ++ x ∷ []) k d)

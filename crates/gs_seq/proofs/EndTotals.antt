@@ -24,6 +24,7 @@ use Rattle.gs_model.proofs.Total.{sum_z-append}
 use Rattle.gs_seq.specs.Payoffs.{end_sum, payoff_at}
 use Rattle.gs_seq.proofs.Ends.{number_few}
 use Rattle.gs_seq.proofs.EndSums.{folded, folded_other, scaled_few, shown, stake_size}
+use Rattle.gs_seq.proofs.Forms.{AreGiven}
 use Rattle.gs_seq.proofs.RowFacts.{beside_weigh, both_weight, class_weight, classes_weigh, pair_few, times_sum}
 use Rattle.gs_seq.proofs.Sizes.{AreModest}
 
@@ -50,14 +51,14 @@ pub range_put : (v : ℕ → ℤ) (b n : ℕ) (sum part : ℤ) → sum ≡ sum_z
 range_put v b n sum part h e = ap (λ z. z +ℤ part) h ∙ ap (λ z. sum_z v (range_with_len b n) +ℤ z) e ∙ sym (range_more v b n)
 
 -- the size of a sum over a range
-abs_range : (v : ℕ → ℤ) (bound : ℕ → ℕ) (b n : ℕ) → ((m : ℕ) → b ≤ m → m < b + n → unsigned_abs (v m) ≤ bound m) → unsigned_abs (sum_z v (range_with_len b n)) ≤ sum_by bound (range_with_len b n)
+pub abs_range : (v : ℕ → ℤ) (bound : ℕ → ℕ) (b n : ℕ) → ((m : ℕ) → b ≤ m → m < b + n → unsigned_abs (v m) ≤ bound m) → unsigned_abs (sum_z v (range_with_len b n)) ≤ sum_by bound (range_with_len b n)
 abs_range v bound b zero h = omega (arith, ints, abs_is (pos 0))
 abs_range v bound b (suc n) h =
     let a = abs_sum (v b) (sum_z v (range_with_len (b + 1) n)) in
     let r = abs_range v bound (b + 1) n (λ m lo hi. h m (omega arith) (omega arith)) in
     omega (arith, a, r, h b (omega arith) (omega arith), sum_by-cons bound b (range_with_len (b + 1) n))
 
-equal_sum : (m b n : ℕ) → sum_by (λ _. m) (range_with_len b n) ≡ n * m
+pub equal_sum : (m b n : ℕ) → sum_by (λ _. m) (range_with_len b n) ≡ n * m
 equal_sum m b zero = omega arith
 equal_sum m b (suc n) = omega (arith, sum_by-cons (λ (_ : ℕ). m) b (range_with_len (b + 1) n), equal_sum m (b + 1) n)
 
@@ -164,3 +165,23 @@ module _ (f : Frame) (r : InRange f) (lists : ClassLists) (k : IsClasses f.paren
         let few_n : n ≤ 8192 = omega (arith, few.ends) in
         let b = mul-le-mul_right end_room few_n in
         omega (arith, a, equal_sum end_room 0 n, b)
+
+-- the same by what the laws ask of a frame and classes, for sums as they are computed
+module _ (f : Frame) (lists : ClassLists) (g : AreGiven f lists) (x y : Plan) (px : IsClassPlan f lists 1 x) (py : IsClassPlan f lists 2 y) where
+  one : IsWalked f 1
+  one = g.walked 1 (omega arith) (omega arith)
+
+  two : IsWalked f 2
+  two = g.walked 2 (omega arith) (omega arith)
+
+  pub term_within : (z c : ℕ) → z < end_count f → IsClass lists (round_of f (at_end z)) c → unsigned_abs (class_term f lists x y z c) ≤ end_room
+  term_within = term_few f g.in_range lists g.classes g.modest one two x y px py
+
+  pub classes_within : (z n : ℕ) → z < end_count f → n ≤ class_count lists (round_of f (at_end z)) → (s : ℤ) → s ≡ sum_z (class_term f lists x y z) (range_with_len 1 n) → unsigned_abs s < 2 ^ 127
+  classes_within z n l top s is = omega (arith, classes_few f g.in_range lists g.classes g.modest one two x y px py z n l top, ap unsigned_abs is)
+
+  pub ends_within : (n : ℕ) → n ≤ end_count f → (s : ℤ) → s ≡ sum_z (payoff_at f lists x y) (range_with_len 0 n) → unsigned_abs s < 2 ^ 127
+  ends_within n l s is = omega (arith, ends_few f g.in_range lists g.classes g.modest one two x y px py n l, ap unsigned_abs is)
+
+  pub ends_are_all : (n : ℕ) → n ≡ end_count f → (s : ℤ) → s ≡ sum_z (payoff_at f lists x y) (range_with_len 0 n) → s ≡ raw_payoff f (lift f lists x) (lift f lists y)
+  ends_are_all n all s is = is ∙ ap (λ k. sum_z (payoff_at f lists x y) (range_with_len 0 k)) all ∙ payoff_is f lists x y g.in_range one g.classes

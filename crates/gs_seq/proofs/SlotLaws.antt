@@ -18,7 +18,7 @@ use Rattle.gs_model.proofs.Ranges.{signal_count_is}
 use Rattle.gs_model.proofs.Sparse.{range_append}
 use Rattle.gs_model.proofs.Walked.{last_round_of}
 use Rattle.gs_seq.specs.Games.{frame_in}
-use Rattle.gs_seq.specs.Slots.{slots_at, slots_before}
+use Rattle.gs_seq.specs.Slots.{slot_count, slots_at, slots_before}
 use Rattle.gs_seq.proofs.Points.{few, moves_total, walked}
 
 -- ---- sums over a range
@@ -73,6 +73,10 @@ slots_more f lists player q = sum_range_more (slots_at f lists player) q
 
 pub slots_le : (f : Frame) (lists : ClassLists) (player m n : ℕ) → m ≤ n → slots_before f lists player m ≤ slots_before f lists player n
 slots_le f lists player m n l = sum_range_le (slots_at f lists player) m n l
+
+-- the slots before an own point are among the player's
+pub slots_own_before : (f : Frame) (lists : ClassLists) (player q : ℕ) → player_at f q ≡ player → q < point_count f → slots_before f lists (player_at f q) q ≤ slot_count f lists player
+slots_own_before f lists player q own l = omega (arith, ap (λ p. slots_before f lists p q) own, slots_le f lists player q (point_count f) (omega arith))
 
 at_few : (b : Bool) (c m : ℕ) → c ≤ 200000 → cond b (c * m) 0 ≤ 200000 * m
 at_few true c m l = mul-le-mul_right m l

@@ -1,5 +1,5 @@
 -- A walk over a row, pair by pair: where it stands, and what is known of the pair there.
-use Rattle.std.proofs.Common.{◌≡◌, ℕ, zero, suc, ◌+◌, ◌-◌, ◌*◌, ◌<◌, ◌≤◌, List, [], ◌∷◌, length, get_or, drop, take, sym, ap, ◌∙◌, subst, arith}
+use Rattle.std.proofs.Common.{◌≡◌, ℕ, zero, suc, ◌+◌, ◌-◌, ◌*◌, ◌<◌, ◌≤◌, ◌^◌, List, [], ◌∷◌, length, get_or, drop, take, sym, ap, ◌∙◌, subst, arith}
 use Rattle.std.specs.Prelude.{ℤ, pos, ◌+ℤ◌, unsigned_abs}
 use Rattle.std.proofs.lemmas.List.{length-drop, take_all}
 use Rattle.gs_game.specs.declared.valid.ValidGame.{ValidGame}
@@ -16,7 +16,7 @@ use Rattle.gs_seq.specs.Payoffs.{pair_pays}
 use Rattle.gs_seq.specs.Rows.{IsRow}
 use Rattle.gs_seq.specs.declared.form.Abstract.{Abstract}
 use Rattle.gs_seq.specs.declared.pair.Pair.{Pair}
-use Rattle.gs_seq.proofs.EndSums.{pays_few, signed_few, weight_few}
+use Rattle.gs_seq.proofs.EndSums.{pays_few, product_few, scaled_few, signed_few, weight_few}
 use Rattle.gs_seq.proofs.Forms.{given}
 use Rattle.gs_seq.proofs.RowFacts.{row_class}
 use Rattle.gs_seq.proofs.Sizes.{AreModest}
@@ -87,6 +87,11 @@ pair_in a g same classes player z c some two l row left rest p h on first =
     let t = turn row left rest p on first in
     let k = given g (frame_of a) (lists_of a) same classes in
     (t, known (frame_of a) k.in_range (lists_of a) k.classes player (k.walked player some two) k.modest z l c row h left rest p t)
+
+-- a number times what the end pays in the pair fits 128 bits
+pub product_fits : (f : Frame) (lists : ClassLists) (player z : ℕ) (p : Pair) → IsKnown f lists player z p → (n t : ℕ) (v : ℤ) → n ≤ t → t ≤ 2 ^ 36 → v ≡ pair_pays player (end_at f z) p → n * unsigned_abs v < 2 ^ 127
+product_fits f lists player z p k n t v l few is =
+    omega (arith, scaled_few n t (unsigned_abs (pair_pays player (end_at f z) p)) p.weight l k.pays, product_few t p.weight few k.weight, ap (λ w. n * unsigned_abs w) is)
 
 -- sums over the pairs that are passed: none, one more, all
 pub sum_begun : (v : Pair → ℤ) (row left : List Pair) → left ≡ row → pos 0 ≡ sum_z v (take (passed row left) row)

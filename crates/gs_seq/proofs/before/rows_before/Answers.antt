@@ -1,4 +1,4 @@
-use Rattle.std.proofs.Common.{◌≡◌, ◌+◌, ◌∙◌, ap, Vec, Global, get_or, length, sym, subst, arith}
+use Rattle.std.proofs.Common.{◌≡◌, ◌+◌, ◌∙◌, ap, Vec, Global, length, sym, arith}
 use Rattle.std.proofs.lemmas.List.{length_push}
 use Rattle.gs_game.specs.declared.valid.ValidGame.{ValidGame}
 use Rattle.gs_lossless.proofs.Descent.{last_is}
@@ -10,34 +10,34 @@ use Rattle.gs_seq.specs.Games.{frame_in}
 use Rattle.gs_seq.specs.Rows.{AreRowsIn}
 use Rattle.gs_seq.specs.declared.pair.Pair.{Pair}
 use Rattle.gs_seq.proofs.Carried.{carried}
-use Rattle.gs_seq.proofs.CellLaws.{pushed}
+use Rattle.gs_seq.proofs.CellLaws.{AreRowsOf, pushed_to}
 use Rattle.gs_seq.proofs.before.rows_before.Goals as goal
+use Rattle.gs_seq.proofs.before.rows_before.Goals.{After-rounds-count}
+
+-- the game that is read is that of the classes
+same : (c : After-rounds-count) → c.signals-signals.result.now.game.now ≡ c.args.lossless.now.signals.now.game.now
+same c = ap (λ (x : Signals). x.game.now) c.signals-signals.ensures.held
 
 pub rows_at-requires-clause-lossless : goal.rows_at-requires-clause-lossless
 rows_at-requires-clause-lossless c =
     let s = c.args.lossless.now in
-    carried s.signals.now.game.now c.signals-signals.result.now.game.now s.classes.now c.classes.result.now IsLossless
-    (sym (ap (λ (x : Signals). x.game.now) c.signals-signals.ensures.held)) (sym c.classes.ensures.held) c.classes.ensures.lossless
+    carried s.signals.now.game.now c.signals-signals.result.now.game.now s.classes.now c.classes.result.now IsLossless (sym (same (goal.at.rows_at-requires-clause-lossless c).After-rounds-count)) (sym c.classes.ensures.held)
+    c.classes.ensures.lossless
 
 pub loop-before-preserved : goal.loop-before-preserved
 loop-before-preserved c =
     let s = c.args.lossless.now in
-    let f = frame_in s.signals.now.game.now in
-    let lists = s.classes.now.lists in
-    let i = c.loop-before.invariant in
     let rows = c.loop-before.rows in
     let x = c.in_ok-at.at in
-    let same : c.signals-signals.result.now.game.now ≡ s.signals.now.game.now = ap (λ (x : Signals). x.game.now) c.signals-signals.ensures.held in
-    let here = carried c.signals-signals.result.now.game.now s.signals.now.game.now c.classes.result.now s.classes.now (λ f lists. AreRowsIn f lists (c.loop-before.before + 1) x.items) same c.classes.ensures.held c.in_ok-at.ensures in
+    let here = carried c.signals-signals.result.now.game.now s.signals.now.game.now c.classes.result.now s.classes.now (λ f lists. AreRowsIn f lists (c.loop-before.before + 1) x.items) (same (goal.at.loop-before-preserved c).After-rounds-count)
+    c.classes.ensures.held c.in_ok-at.ensures in
     record {
-      long = ap length c.in_ok-push.ensures.items ∙ length_push rows.items x ∙ ap (λ n. n + 1) i.long;
-      rows = λ k d l. subst (λ vs. AreRowsIn f lists (k + 1) (get_or vs k d).items) (sym c.in_ok-push.ensures.items)
-          (pushed (λ j (v : Vec (Vec Pair Global) Global). AreRowsIn f lists (j + 1) v.items) rows.items x c.loop-before.before i.long i.rows here k d l);
+      long = ap length c.in_ok-push.ensures.items ∙ length_push rows.items x ∙ ap (λ n. n + 1) c.loop-before.invariant.long;
+      rows = pushed_to (λ j (v : Vec (Vec Pair Global) Global). AreRowsOf s (j + 1) v.items) rows.items _ x c.loop-before.before c.in_ok-push.ensures.items c.loop-before.invariant.long c.loop-before.invariant.rows here;
     }
 
 pub returns-clause-long : goal.returns-clause-long
 returns-clause-long c =
-    let s = c.args.lossless.now in
-    let same : c.signals-signals.result.now.game.now ≡ s.signals.now.game.now = ap (λ (x : Signals). x.game.now) c.signals-signals.ensures.held in
-    let last : c.rounds-count.result ≡ last_round (frame_in s.signals.now.game.now) = c.rounds-count.ensures.value ∙ sym (last_is (rules_of c.signals-signals.result.now)) ∙ ap (λ (x : ValidGame). last_round (frame_in x)) same in
+    let last : c.rounds-count.result ≡ last_round (frame_in c.args.lossless.now.signals.now.game.now) =
+    c.rounds-count.ensures.value ∙ sym (last_is (rules_of c.signals-signals.result.now)) ∙ ap (λ (x : ValidGame). last_round (frame_in x)) (same (goal.at.returns-clause-long c).After-rounds-count) in
     omega (arith, c.loop-before.invariant.long, last, c.rounds-count.ensures.some, c.loop-before-test.false, c.loop-before.auto.before-end)

@@ -3,7 +3,7 @@ use Rattle.std.proofs.Math.Nat.{mul-le-mul_right}
 use Rattle.std.proofs.lemmas.Bool.{cases_eq}
 use Rattle.gs_game.specs.Games.{game_of}
 use Rattle.gs_model.specs.Classes.{class_count, first_member}
-use Rattle.gs_model.specs.Frame.{last_step, move_count, point_count, round_of}
+use Rattle.gs_model.specs.Frame.{last_step, move_count, round_of}
 use Rattle.gs_model.specs.FrameFacts.{IsWalked}
 use Rattle.gs_model.specs.Plans.{lift, number_before}
 use Rattle.gs_model.specs.Positions.{at_point}
@@ -15,7 +15,7 @@ use Rattle.gs_seq.proofs.Choices.{some_move}
 use Rattle.gs_seq.proofs.Firsts.{first_kept, first_put, slots_own}
 use Rattle.gs_seq.proofs.Leaks.{RowAt, row_at}
 use Rattle.gs_seq.proofs.Points.{Reads, playable, point_reads, walked_at}
-use Rattle.gs_seq.proofs.SlotLaws.{over, slots_le}
+use Rattle.gs_seq.proofs.SlotLaws.{over, slots_own_before}
 use Rattle.gs_seq.proofs.first.put_first.Goals as goal
 use Rattle.gs_seq.proofs.first.put_first.Goals.{After-len-moves, In-loop-before}
 
@@ -56,14 +56,11 @@ pub coming-came-requires-clause-source : goal.coming-came-requires-clause-source
 coming-came-requires-clause-source c = c.point_source-source.ensures c.args.classes.now.lists c.requires.offsets
 
 pub coming-came-requires-clause-class : goal.coming-came-requires-clause-class
-coming-came-requires-clause-class c = let r = row (goal.at.coming-came-requires-clause-class c).In-loop-before in (omega arith, omega (arith, r.below))
+coming-came-requires-clause-class c = (omega arith, omega (arith, (row (goal.at.coming-came-requires-clause-class c).In-loop-before).below))
 
 pub coming-came-requires-clause-long : goal.coming-came-requires-clause-long
 coming-came-requires-clause-long c =
-    let f = frame_in c.args.game.now in
-    let q = c.args.point in
-    let lists = c.args.classes.now.lists in
-    omega (arith, c.loop-before.auto.weights, c.requires.long, ap (λ p. slots_before f lists p q) c.requires.own, slots_le f lists c.args.player q (point_count f) (omega (arith, c.requires.in_range)))
+    omega (arith, c.loop-before.auto.weights, c.requires.long, slots_own_before (frame_in c.args.game.now) c.args.classes.now.lists c.args.player c.args.point c.requires.own c.requires.in_range)
 
 pub overflow_mul-weights : goal.overflow_mul-weights
 overflow_mul-weights c = omega (arith, inside (goal.at.overflow_mul-weights c).In-loop-before)

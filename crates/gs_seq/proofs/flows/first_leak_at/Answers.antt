@@ -1,17 +1,17 @@
-use Rattle.std.proofs.Common.{◌≡◌, ◌+◌, ◌<◌, sum_by, ap, sym, ◌∙◌, subst, arith, ⊎_elim}
+use Rattle.std.proofs.Common.{◌≡◌, ◌+◌, sum_by, ap, sym, ◌∙◌, subst, arith, ⊎_elim}
 use Rattle.std.proofs.lemmas.Bool.{cases_eq}
 use Rattle.gs_model.specs.Classes.{class_count, first_member}
-use Rattle.gs_model.specs.Frame.{choices_at, last_step, point_count, round_of}
+use Rattle.gs_model.specs.Frame.{choices_at, last_step, round_of}
 use Rattle.gs_model.specs.FrameFacts.{IsWalked}
 use Rattle.gs_model.specs.Plans.{lift, number_before}
 use Rattle.gs_model.specs.Positions.{at_point}
 use Rattle.gs_seq.specs.Faults.{FlowsAt}
 use Rattle.gs_seq.specs.Games.{frame_in}
-use Rattle.gs_seq.specs.Slots.{plan_of, slots_before}
+use Rattle.gs_seq.specs.Slots.{plan_of}
 use Rattle.gs_seq.specs.Sources.{MatchSource}
 use Rattle.gs_seq.proofs.Leaks.{RowAt, class_sum, row_at}
 use Rattle.gs_seq.proofs.Points.{Reads, point_reads, walked_at}
-use Rattle.gs_seq.proofs.SlotLaws.{over, slots_le}
+use Rattle.gs_seq.proofs.SlotLaws.{over, slots_own_before}
 use Rattle.gs_seq.proofs.flows.first_leak_at.Goals as goal
 use Rattle.gs_seq.proofs.flows.first_leak_at.Goals.{After-len-moves, After-from, In-loop-before}
 
@@ -73,14 +73,10 @@ coming-came-requires-clause-source c =
     subst (λ p. MatchSource f c.args.classes.now.lists p (at_point c.args.point) c.source_of-source.result) (sym c.requires.own) c.source_of-source.ensures
 
 pub coming-came-requires-clause-class : goal.coming-came-requires-clause-class
-coming-came-requires-clause-class c = let r = row (goal.at.coming-came-requires-clause-class c).In-loop-before in (omega arith, omega (arith, r.below))
+coming-came-requires-clause-class c = (omega arith, omega (arith, (row (goal.at.coming-came-requires-clause-class c).In-loop-before).below))
 
 pub coming-came-requires-clause-long : goal.coming-came-requires-clause-long
-coming-came-requires-clause-long c =
-    let f = frame_in c.args.game.now in
-    let q = c.args.point in
-    let lists = c.args.classes.now.lists in
-    omega (arith, ap (λ p. slots_before f lists p q) c.requires.own, slots_le f lists c.args.player q (point_count f) (omega (arith, c.requires.in_range)), c.requires.long)
+coming-came-requires-clause-long c = omega (arith, slots_own_before (frame_in c.args.game.now) c.args.classes.now.lists c.args.player c.args.point c.requires.own c.requires.in_range, c.requires.long)
 
 pub total_from-requires : goal.total_from-requires
 total_from-requires c = let r = row (goal.at.total_from-requires c).In-loop-before in omega (arith, r.room, c.requires.long)

@@ -1,13 +1,12 @@
 use Rattle.std.proofs.Common.{rules, ◌≡◌, ◌+◌, ap, ◌∙◌, arith, of_z, to_z}
 use Rattle.std.specs.Int.{w128}
 use Rattle.std.specs.List.{range_with_len}
-use Rattle.std.specs.Prelude.{unsigned_abs, ◌+ℤ◌}
-use Rattle.gs_model.specs.Frame.{end_count}
+use Rattle.std.specs.Prelude.{◌+ℤ◌}
 use Rattle.gs_model.specs.Sums.{sum_z}
 use Rattle.gs_seq.specs.Abstracts.{frame_of, lists_of}
 use Rattle.gs_seq.specs.Payoffs.{payoff_at}
 use Rattle.gs_seq.specs.Plans.{class_plan}
-use Rattle.gs_seq.proofs.EndTotals.{ends_few, from_zero, payoff_is, range_put}
+use Rattle.gs_seq.proofs.EndTotals.{ends_are_all, ends_within, from_zero, range_put}
 use Rattle.gs_seq.proofs.Forms.{AreGiven, given}
 use Rattle.gs_seq.proofs.Signed.{read_back}
 use Rattle.gs_seq.proofs.form.Abstract.payoff.Goals as goal
@@ -31,22 +30,12 @@ sum_is c =
 pub plus-sum-requires : goal.plus-sum-requires
 plus-sum-requires c =
     let at = goal.at.plus-sum-requires c in
-    let f = frame_of c.args.self.now in
-    let ls = lists_of c.args.self.now in
-    let g = held at.After-game-game in
-    let size = ends_few f g.in_range ls g.classes g.modest (g.walked 1 (omega arith) (omega arith)) (g.walked 2 (omega arith) (omega arith)) (class_plan f ls c.args.x.now) (class_plan f ls c.args.y.now) c.requires.x.plan.plan
-    c.requires.y.plan.plan (c.loop-end.end + 1) (omega (arith, c.end_total-end-end.ensures, c.loop-end-test.true)) in
-    omega (arith, size, ap unsigned_abs (sum_is at.After-payoff_at))
+    ends_within _ _ (held at.After-game-game) _ _ c.requires.x.plan.plan c.requires.y.plan.plan (c.loop-end.end + 1) (omega (arith, c.end_total-end-end.ensures, c.loop-end-test.true)) _ (sum_is at.After-payoff_at)
 
 pub loop-end-preserved : goal.loop-end-preserved
 loop-end-preserved c = read_back c.plus-sum.result _ (search rules) (c.plus-sum.ensures ∙ sum_is (goal.at.loop-end-preserved c).After-payoff_at)
 
 pub returns : goal.returns
 returns c =
-    let f = frame_of c.args.self.now in
-    let ls = lists_of c.args.self.now in
-    let x = class_plan f ls c.args.x.now in
-    let y = class_plan f ls c.args.y.now in
-    let g = held (goal.at.returns c).After-game-game in
-    let all : c.loop-end.end ≡ end_count f = omega (arith, c.end_total-end-end.ensures, c.loop-end-test.false, c.loop-end.auto.end-end) in
-    c.loop-end.invariant ∙ ap (λ n. sum_z (payoff_at f ls x y) (range_with_len 0 n)) all ∙ payoff_is f ls x y g.in_range (g.walked 1 (omega arith) (omega arith)) g.classes
+    ends_are_all _ _ (held (goal.at.returns c).After-game-game) _ _ c.requires.x.plan.plan c.requires.y.plan.plan c.loop-end.end (omega (arith, c.end_total-end-end.ensures, c.loop-end-test.false, c.loop-end.auto.end-end)) _
+    c.loop-end.invariant

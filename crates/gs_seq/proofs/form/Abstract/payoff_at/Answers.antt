@@ -1,7 +1,7 @@
 use Rattle.std.proofs.Common.{rules, ◌≡◌, ◌+◌, get_or, pos, sym, ap, ◌∙◌, subst, arith, FitsSigned, of_z, to_z, length}
 use Rattle.std.specs.Int.{w128}
 use Rattle.std.specs.List.{range_with_len}
-use Rattle.std.specs.Prelude.{ℤ, unsigned_abs, ◌+ℤ◌, ◌*ℤ◌}
+use Rattle.std.specs.Prelude.{ℤ, ◌+ℤ◌, ◌*ℤ◌}
 use Rattle.std.proofs.Math.IntN.{+ℤ_idr}
 use Rattle.std.proofs.lemmas.Int.{ints}
 use borrow.Author.Differences.{product_is}
@@ -15,7 +15,7 @@ use Rattle.gs_seq.specs.Payoffs.{end_sum}
 use Rattle.gs_seq.specs.Plans.{class_plan}
 use Rattle.gs_seq.specs.Slots.{AreOffsets}
 use Rattle.gs_seq.specs.Sources.{MatchSource}
-use Rattle.gs_seq.proofs.EndTotals.{class_term, classes_few, range_more, range_put, term_few, term_fits, term_is}
+use Rattle.gs_seq.proofs.EndTotals.{class_term, classes_within, range_more, range_put, term_fits, term_is, term_within}
 use Rattle.gs_seq.proofs.Ends.{no_end}
 use Rattle.gs_seq.proofs.Forms.{AreGiven, carried, given, round_in_frame}
 use Rattle.gs_seq.proofs.Signed.{read_back}
@@ -101,22 +101,13 @@ worth_by-worth-requires-clause-class c = here (goal.at.worth_by-worth-requires-c
 pub scaled-requires : goal.scaled-requires
 scaled-requires c =
     let at = goal.at.scaled-requires c in
-    let f = frame_of c.args.self.now in
-    let ls = lists_of c.args.self.now in
-    let g = held at.After-game-game in
     term_fits c.number_by-number.result _ _ _ (number_is at.After-number_by-number) (read_back c.worth_by-worth.result _ (search rules) c.worth_by-worth.ensures)
-    (term_few f g.in_range ls g.classes g.modest (g.walked 1 (omega arith) (omega arith)) (g.walked 2 (omega arith) (omega arith)) (class_plan f ls c.args.x.now) (class_plan f ls c.args.y.now) c.requires.x.plan.plan c.requires.y.plan.plan
-    c.args.end (c.loop-before.before + 1) c.requires.end (here at.In-loop-before))
+    (term_within _ _ (held at.After-game-game) _ _ c.requires.x.plan.plan c.requires.y.plan.plan c.args.end (c.loop-before.before + 1) c.requires.end (here at.In-loop-before))
 
 pub plus-sum-requires : goal.plus-sum-requires
 plus-sum-requires c =
     let at = goal.at.plus-sum-requires c in
-    let f = frame_of c.args.self.now in
-    let ls = lists_of c.args.self.now in
-    let g = held at.After-game-game in
-    let size = classes_few f g.in_range ls g.classes g.modest (g.walked 1 (omega arith) (omega arith)) (g.walked 2 (omega arith) (omega arith)) (class_plan f ls c.args.x.now) (class_plan f ls c.args.y.now) c.requires.x.plan.plan
-    c.requires.y.plan.plan c.args.end (c.loop-before.before + 1) c.requires.end (here at.In-loop-before).1 in
-    omega (arith, size, ap unsigned_abs (sum_with at.After-number_by-number c.worth_by-worth.result c.scaled.result (search rules) (search rules) c.worth_by-worth.ensures c.scaled.ensures))
+    classes_within _ _ (held at.After-game-game) _ _ c.requires.x.plan.plan c.requires.y.plan.plan c.args.end (c.loop-before.before + 1) c.requires.end (here at.In-loop-before).1 _ (sum_with at.After-number_by-number c.worth_by-worth.result c.scaled.result (search rules) (search rules) c.worth_by-worth.ensures c.scaled.ensures)
 
 pub loop-before-preserved : goal.loop-before-preserved
 loop-before-preserved c =

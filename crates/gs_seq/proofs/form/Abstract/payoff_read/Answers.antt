@@ -1,7 +1,7 @@
 use Rattle.std.proofs.Common.{rules, ◌≡◌, ◌+◌, ◌-◌, ℕ, List, ap, ◌∙◌, arith, get_or, pos, FitsSigned, of_z, to_z}
 use Rattle.std.specs.Int.{w128}
 use Rattle.std.specs.List.{range_with_len}
-use Rattle.std.specs.Prelude.{ℤ, unsigned_abs, ◌+ℤ◌}
+use Rattle.std.specs.Prelude.{ℤ, ◌+ℤ◌}
 use Rattle.gs_model.specs.Classes.{IsClass}
 use Rattle.gs_model.specs.Frame.{round_of}
 use Rattle.gs_model.specs.Pairs.{class_number}
@@ -10,7 +10,7 @@ use Rattle.gs_model.specs.Sums.{sum_z}
 use Rattle.gs_seq.specs.Abstracts.{frame_of, lists_of}
 use Rattle.gs_seq.specs.Payoffs.{end_sum}
 use Rattle.gs_seq.specs.Plans.{class_plan}
-use Rattle.gs_seq.proofs.EndTotals.{class_term, classes_few, range_put, term_few, term_fits, term_is}
+use Rattle.gs_seq.proofs.EndTotals.{class_term, classes_within, range_put, term_fits, term_is, term_within}
 use Rattle.gs_seq.proofs.Forms.{AreGiven, given}
 use Rattle.gs_seq.proofs.Signed.{read_back}
 use Rattle.gs_seq.proofs.form.Abstract.payoff_read.Goals as goal
@@ -61,24 +61,13 @@ sum_is c fits =
 pub scaled-requires : goal.scaled-requires
 scaled-requires c =
     let at = goal.at.scaled-requires c in
-    let f = frame_of c.args.self.now in
-    let ls = lists_of c.args.self.now in
-    let x = class_plan f ls c.args.x.now in
-    let y = class_plan f ls c.args.y.now in
-    let g = held at.After-game-game in
     term_fits c.number_at_end-number.result _ _ _ (number_is at.After-number_at_end-number) (worth_is at.In-loop-before (search rules))
-    (term_few f g.in_range ls g.classes g.modest (g.walked 1 (omega arith) (omega arith)) (g.walked 2 (omega arith) (omega arith)) x y c.requires.x.plan.plan c.requires.y.plan.plan c.args.end (c.loop-before.before + 1) c.requires.end
-    (here at.In-loop-before))
+    (term_within _ _ (held at.After-game-game) _ _ c.requires.x.plan.plan c.requires.y.plan.plan c.args.end (c.loop-before.before + 1) c.requires.end (here at.In-loop-before))
 
 pub plus-sum-requires : goal.plus-sum-requires
 plus-sum-requires c =
     let at = goal.at.plus-sum-requires c in
-    let f = frame_of c.args.self.now in
-    let ls = lists_of c.args.self.now in
-    let g = held at.After-game-game in
-    let size = classes_few f g.in_range ls g.classes g.modest (g.walked 1 (omega arith) (omega arith)) (g.walked 2 (omega arith) (omega arith)) (class_plan f ls c.args.x.now) (class_plan f ls c.args.y.now) c.requires.x.plan.plan
-    c.requires.y.plan.plan c.args.end (c.loop-before.before + 1) c.requires.end (here at.In-loop-before).1 in
-    omega (arith, size, ap unsigned_abs (sum_is at.After-scaled (search rules)))
+    classes_within _ _ (held at.After-game-game) _ _ c.requires.x.plan.plan c.requires.y.plan.plan c.args.end (c.loop-before.before + 1) c.requires.end (here at.In-loop-before).1 _ (sum_is at.After-scaled (search rules))
 
 pub loop-before-preserved : goal.loop-before-preserved
 loop-before-preserved c = read_back c.plus-sum.result _ (search rules) (c.plus-sum.ensures ∙ sum_is (goal.at.loop-before-preserved c).After-scaled (search rules))

@@ -1,4 +1,4 @@
-use Rattle.std.proofs.Common.{rules, ◌≡◌, ◌≤◌, ◌-◌, ◌*◌, ◌^◌, ℕ, ap, sym, ◌∙◌, arith, List, get_or, take, pos, of_z, to_z}
+use Rattle.std.proofs.Common.{rules, ◌≡◌, ◌≤◌, ◌-◌, ◌^◌, ℕ, ap, ◌∙◌, arith, List, get_or, take, pos, of_z, to_z}
 use Rattle.std.specs.Int.{w128}
 use Rattle.std.specs.Prelude.{unsigned_abs, ◌+ℤ◌, ◌*ℤ◌}
 use Rattle.gs_model.specs.Classes.{IsClass}
@@ -9,10 +9,10 @@ use Rattle.gs_seq.specs.Abstracts.{frame_of, lists_of}
 use Rattle.gs_seq.specs.Payoffs.{AreFew, end_classes, pair_pays}
 use Rattle.gs_seq.specs.declared.form.Abstract.{Abstract}
 use Rattle.gs_seq.specs.declared.pair.Pair.{Pair}
-use Rattle.gs_seq.proofs.EndSums.{class_few_weight, number_term, prefix_small, product_few, row_sum, scaled_few}
+use Rattle.gs_seq.proofs.EndSums.{class_few_weight, number_term, prefix_small, product_few, row_sum}
 use Rattle.gs_seq.proofs.Forms.{AreGiven, given, one_or_two}
 use Rattle.gs_seq.proofs.Signed.{read_back}
-use Rattle.gs_seq.proofs.Turns.{IsKnown, IsTurn, begun, pair_in, passed, sum_begun, sum_ended, sum_turned}
+use Rattle.gs_seq.proofs.Turns.{IsKnown, IsTurn, begun, pair_in, passed, product_fits, sum_begun, sum_ended, sum_turned}
 use Rattle.gs_seq.proofs.form.Abstract.row_paid.Goals as goal
 use Rattle.gs_seq.proofs.form.Abstract.row_paid.Goals.{After-game-game, After-pays, After-scaled, In-Some}
 
@@ -58,22 +58,15 @@ number_of-number-requires-clause-some c = (at_pair (goal.at.number_of-number-req
 pub number_of-number-requires-clause-within : goal.number_of-number-requires-clause-within
 number_of-number-requires-clause-within c = omega (arith, (at_pair (goal.at.number_of-number-requires-clause-within c).In-Some).1.class.1, c.requires.wide)
 
-pub pays-requires-clause-few : goal.pays-requires-clause-few
-pays-requires-clause-few c = (at_pair (goal.at.pays-requires-clause-few c).In-Some).1.weight
-
-pub pays-requires-clause-moderate : goal.pays-requires-clause-moderate
-pays-requires-clause-moderate c = (at_pair (goal.at.pays-requires-clause-moderate c).In-Some).1.signed
+pub pays-requires : goal.pays-requires
+pays-requires c = let k = (at_pair (goal.at.pays-requires c).In-Some).1 in record { few = k.weight; moderate = k.signed }
 
 pub scaled-requires : goal.scaled-requires
 scaled-requires c =
     let at = goal.at.scaled-requires c in
     let k = (at_pair at.In-Some).1 in
-    let pair = c.in-Some.pair in
-    let few = by_class c.args.self.now c.args.end c.args.numbers.now c.requires.few pair.two k.class in
-    let within : c.number_of-number.result ≤ 2 ^ 36 = omega (arith, c.number_of-number.ensures, few) in
-    let small = scaled_few c.number_of-number.result (2 ^ 36) (unsigned_abs (pair_pays c.args.player (end_at (frame_of c.args.self.now) c.args.end) pair)) pair.weight within k.pays in
-    let top = product_few (2 ^ 36) pair.weight (omega arith) k.weight in
-    omega (arith, small, top, ap (λ v. c.number_of-number.result * unsigned_abs v) (pays_is at.After-pays))
+    let few = by_class c.args.self.now c.args.end c.args.numbers.now c.requires.few c.in-Some.pair.two k.class in
+    product_fits _ _ _ _ _ k c.number_of-number.result (2 ^ 36) _ (omega (arith, c.number_of-number.ensures, few)) (omega arith) (pays_is at.After-pays)
 
 pub plus-sum-requires : goal.plus-sum-requires
 plus-sum-requires c =

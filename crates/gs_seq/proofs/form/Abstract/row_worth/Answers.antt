@@ -1,4 +1,4 @@
-use Rattle.std.proofs.Common.{rules, ◌≡◌, ◌*◌, ap, sym, ◌∙◌, arith, subst, List, take, pos, of_z, to_z}
+use Rattle.std.proofs.Common.{rules, ◌≡◌, ap, sym, ◌∙◌, arith, subst, List, take, pos, of_z, to_z}
 use Rattle.std.specs.Int.{w128}
 use Rattle.std.specs.Prelude.{unsigned_abs, ◌+ℤ◌, ◌*ℤ◌}
 use Rattle.gs_model.specs.Classes.{IsClass}
@@ -11,11 +11,11 @@ use Rattle.gs_seq.specs.Payoffs.{pair_pays}
 use Rattle.gs_seq.specs.Plans.{IsPlanOf, class_plan}
 use Rattle.gs_seq.specs.Sources.{MatchSource}
 use Rattle.gs_seq.specs.declared.pair.Pair.{Pair}
-use Rattle.gs_seq.proofs.EndSums.{class_few_weight, pair_term, prefix_few, product_few, row_sum, scaled_few}
+use Rattle.gs_seq.proofs.EndSums.{class_few_weight, pair_term, prefix_few, product_few, row_sum}
 use Rattle.gs_seq.proofs.Ends.{no_end, number_few}
 use Rattle.gs_seq.proofs.Forms.{AreGiven, carried, end_in_frame, given, one_or_two}
 use Rattle.gs_seq.proofs.Signed.{read_back}
-use Rattle.gs_seq.proofs.Turns.{IsKnown, IsTurn, begun, pair_in, passed, sum_begun, sum_ended, sum_turned}
+use Rattle.gs_seq.proofs.Turns.{IsKnown, IsTurn, begun, pair_in, passed, product_fits, sum_begun, sum_ended, sum_turned}
 use Rattle.gs_seq.proofs.form.Abstract.row_worth.Goals as goal
 use Rattle.gs_seq.proofs.form.Abstract.row_worth.Goals.{After-game-game, After-number_by-number, After-pays, After-scaled, In-Some}
 
@@ -82,21 +82,13 @@ pub number_by-number-requires-clause-class : goal.number_by-number-requires-clau
 number_by-number-requires-clause-class c =
     carried (λ f ls. IsClass ls (round_of f (at_end c.args.end)) c.in-Some.pair.two) (sym c.game-game.ensures.held) (sym c.classes-classes.ensures.lists) (at_pair (goal.at.number_by-number-requires-clause-class c).In-Some).1.class
 
-pub pays-requires-clause-few : goal.pays-requires-clause-few
-pays-requires-clause-few c = (at_pair (goal.at.pays-requires-clause-few c).In-Some).1.weight
-
-pub pays-requires-clause-moderate : goal.pays-requires-clause-moderate
-pays-requires-clause-moderate c = (at_pair (goal.at.pays-requires-clause-moderate c).In-Some).1.signed
+pub pays-requires : goal.pays-requires
+pays-requires c = let k = (at_pair (goal.at.pays-requires c).In-Some).1 in record { few = k.weight; moderate = k.signed }
 
 pub scaled-requires : goal.scaled-requires
 scaled-requires c =
     let at = goal.at.scaled-requires c in
-    let k = (at_pair at.In-Some).1 in
-    let q = c.args.other.now in
-    let pair = c.in-Some.pair in
-    let small = scaled_few c.number_by-number.result q.total (unsigned_abs (pair_pays c.args.player (end_at (frame_of c.args.self.now) c.args.end) pair)) pair.weight c.number_by-number.ensures.within k.pays in
-    let top = product_few q.total pair.weight c.requires.other.plan.plan.total_in.1 k.weight in
-    omega (arith, small, top, ap (λ v. c.number_by-number.result * unsigned_abs v) (pays_is at.After-pays))
+    product_fits _ _ _ _ _ (at_pair at.In-Some).1 c.number_by-number.result c.args.other.now.total _ c.number_by-number.ensures.within c.requires.other.plan.plan.total_in.1 (pays_is at.After-pays)
 
 pub plus-sum-requires : goal.plus-sum-requires
 plus-sum-requires c =
