@@ -1,17 +1,14 @@
-use Rattle.gs_best.specs.Judged.{parts}
 use Rattle.std.proofs.Common.{arith}
+use Rattle.gs_best.specs.Judged.{parts}
 use Rattle.gs_best.proofs.Forms.{form_in_range, form_walked}
-use Rattle.gs_seq.specs.Abstracts.{frame_of, lists_of}
-use Rattle.gs_seq.specs.Plans.{lifted}
+use Rattle.gs_seq.specs.Abstracts.{frame_of}
 use Rattle.gs_raw.proofs.Same.{verdict_same}
 use Rattle.gs_raw.proofs.judging.verdict_over.Goals as goal
 
 pub returns : goal.returns
 returns c =
-    let a = c.args.form.now in
-    let f = frame_of a in
-    let lists = lists_of a in
+    let a = c.args.over.now.form.now in
     let h = c.in_ok-raw_one.ensures in
     let v = c.verdict.result in
-    verdict_same f (form_in_range a) (form_walked a 1 (omega arith) (omega arith)) (form_walked a 2 (omega arith) (omega arith)) (lifted f lists c.in_ok-raw_one.raw_one) (lifted f c.args.first.now.lists c.args.one.now) (lifted f lists c.in_ok-raw_one.raw_two)
-    (lifted f c.args.second.now.lists c.args.two.now) (parts v.value) (parts v.gap1) (parts v.gap2) h.same_one h.same_two c.verdict.ensures.verdict
+    verdict_same (frame_of a) (form_in_range a) (form_walked a 1 (omega arith) (omega arith)) (form_walked a 2 (omega arith) (omega arith)) _ _ _ _ (parts v.value) (parts v.gap1) (parts v.gap2) h.same_one h.same_two
+    c.verdict.ensures.verdict
