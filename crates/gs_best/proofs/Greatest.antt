@@ -1,17 +1,17 @@
--- The first greatest of some numbers, one more at a time.
-use Rattle.std.proofs.Common.{◌≡◌, ℕ, ◌+◌, ◌<◌, Bool, true, false, cond, List, get_or, ◌-◌, refl, sym, ap, ◌∙◌, subst, arith, true≢false, ⊎_elim}
-use Rattle.std.specs.Prelude.{◌==◌, ◌||◌, ℤ, pos, ◌+ℤ◌, ◌≤ℤ◌, ◌<ℤ◌, int_lt}
+-- The first greatest and the sum of some numbers, one more at a time; and so for the worths of a point's moves, class by class.
+use Rattle.std.proofs.Common.{◌≡◌, ℕ, ◌+◌, ◌<◌, ◌≤◌, ◌^◌, Bool, true, false, cond, List, get_or, ◌-◌, refl, sym, ap, ◌∙◌, subst, arith, true≢false, ⊎_elim}
+use Rattle.std.specs.Prelude.{◌==◌, ◌||◌, ℤ, pos, ◌+ℤ◌, ◌≤ℤ◌, ◌<ℤ◌, int_lt, unsigned_abs}
 use Rattle.std.proofs.lemmas.Bool.{cases_eq}
 use Rattle.std.proofs.lemmas.Bool.Decides.{Decides-eqb}
 use Rattle.std.proofs.lemmas.Int.{ints}
 use Rattle.std.specs.List.{range_with_len}
 use Rattle.std.proofs.Math.IntN.{+ℤ_idl}
-use Rattle.gs_model.specs.BestAnswers.{Values, class_worth}
-use Rattle.gs_model.specs.Classes.{ClassLists, class_count}
+use Rattle.gs_model.specs.Classes.{ClassLists, IsClass, class_count}
 use Rattle.gs_model.specs.Frame.{Frame, round_of}
 use Rattle.gs_model.specs.Positions.{at_point}
 use Rattle.gs_model.specs.Sums.{sum_z}
-use Rattle.gs_best.specs.Rows.{AreAdded, AreGreatest, AreRaised, AreSums, AreWorths, IsFirstGreatest, raises}
+use Rattle.gs_model.proofs.Sparse.{abs_sum}
+use Rattle.gs_best.specs.Rows.{AreAdded, AreGreatest, AreRaised, AreSums, AreWorths, IsFirstGreatest, Worths, raises}
 use Rattle.gs_best.proofs.Ranges.{sum_more}
 
 less_is : (a b : ℤ) → int_lt a b ≡ true → a <ℤ b
@@ -78,11 +78,11 @@ sum_one W n b h = by (n == 0) refl
         let some : 0 < n = ⊎_elim (λ (z : n ≡ 0). absurd (true≢false (sym ((Decides-eqb n 0).1 z) ∙ e))) (λ (z : n ≡ 0 → ⊥). omega arith) (cases_eq n 0) in
         ap (λ z. z +ℤ W n) (h some) ∙ ap (λ k. sum_z W (range_with_len 0 n) +ℤ W k) (sym at) ∙ sym (sum_more W 0 n)
 
-module _ (f : Frame) (lists : ClassLists) (v : Values) (q n count : ℕ) (all : count ≡ class_count lists (round_of f (at_point q))) (worths : List ℤ) (new : AreWorths f lists v q n worths) where
+module _ (f : Frame) (lists : ClassLists) (worth : Worths) (q n count : ℕ) (all : count ≡ class_count lists (round_of f (at_point q))) (worths : List ℤ) (new : AreWorths f lists worth q n worths) where
   -- one more move, of which the greatest is sought
-  pub greatest_step : (old_best new_best : List ℤ) (old_moves new_moves : List ℕ) → AreRaised count n worths old_best new_best old_moves new_moves → (0 < n → AreGreatest f lists v q n old_best old_moves) → AreGreatest f lists v q (n + 1) new_best new_moves
+  pub greatest_step : (old_best new_best : List ℤ) (old_moves new_moves : List ℕ) → AreRaised count n worths old_best new_best old_moves new_moves → (0 < n → AreGreatest f lists worth q n old_best old_moves) → AreGreatest f lists worth q (n + 1) new_best new_moves
   greatest_step old_best new_best old_moves new_moves r h c lc =
-      let W : ℕ → ℤ = λ m. class_worth f lists v q m c in
+      let W : ℕ → ℤ = λ m. worth q m c in
       let k = c - 1 in
       let l : k < count = omega (arith, lc.0, lc.1, all) in
       let b = get_or old_best k (pos 0) in
@@ -93,10 +93,20 @@ module _ (f : Frame) (lists : ClassLists) (v : Values) (q n count : ℕ) (all : 
       subst (λ x. IsFirstGreatest W (n + 1) x (get_or new_moves k 0)) (sym value)
       (subst (λ x. IsFirstGreatest W (n + 1) (cond (raises n b (W n)) (W n) b) x) (sym place) (greatest_more W n b p (λ some. h some c lc)))
 
+  -- the sum of the worths so far and one more worth is no large number
+  pub sum_fits : (old : List ℤ) (most more : ℕ) → most + more < 2 ^ 127 → AreSums f lists worth q n old → ((c : ℕ) → IsClass lists (round_of f (at_point q)) c → unsigned_abs (sum_z (λ m. worth q m c) (range_with_len 0 n)) ≤ most)
+      → ((c : ℕ) → IsClass lists (round_of f (at_point q)) c → unsigned_abs (worth q n c) ≤ more) → (k : ℕ) → k < count → unsigned_abs (get_or old k (pos 0) +ℤ get_or worths k (pos 0)) < 2 ^ 127
+  sum_fits old most more fits sums a b k l =
+      let class : IsClass lists (round_of f (at_point q)) (k + 1) = (omega arith, omega (arith, l, all)) in
+      let at : k + 1 - 1 ≡ k = omega arith in
+      let sum_is = ap (λ i. get_or old i (pos 0)) (sym at) ∙ sums (k + 1) class in
+      let worth_is = ap (λ i. get_or worths i (pos 0)) (sym at) ∙ new (k + 1) class in
+      omega (arith, fits, a (k + 1) class, b (k + 1) class, ap unsigned_abs sum_is, ap unsigned_abs worth_is, abs_sum (get_or old k (pos 0)) (get_or worths k (pos 0)))
+
   -- one more move that is added
-  pub sum_step : (old new_sums : List ℤ) → AreAdded count n worths old new_sums → (0 < n → AreSums f lists v q n old) → AreSums f lists v q (n + 1) new_sums
+  pub sum_step : (old new_sums : List ℤ) → AreAdded count n worths old new_sums → (0 < n → AreSums f lists worth q n old) → AreSums f lists worth q (n + 1) new_sums
   sum_step old new_sums r h c lc =
-      let W : ℕ → ℤ = λ m. class_worth f lists v q m c in
+      let W : ℕ → ℤ = λ m. worth q m c in
       let k = c - 1 in
       let l : k < count = omega (arith, lc.0, lc.1, all) in
       let b = get_or old k (pos 0) in

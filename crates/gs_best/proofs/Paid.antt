@@ -1,5 +1,5 @@
 -- What the first best plan is paid, of both players.
-use Rattle.std.proofs.Common.{◌≡◌, ℕ, zero, suc, ◌<◌, ◌≤◌, refl, sym, ap, ◌∙◌, subst, arith}
+use Rattle.std.proofs.Common.{◌≡◌, ℕ, zero, suc, ◌<◌, ◌≤◌, refl, ap, ◌∙◌, arith}
 use Rattle.std.specs.Prelude.{ℤ, pos, neg_ℤ, ◌*ℤ◌, ◌≤ℤ◌}
 use Rattle.std.proofs.lemmas.Int.{ints}
 use Rattle.gs_model.specs.BestAnswers.{IsFirstBestPlan, spread, start_sum}
@@ -8,7 +8,7 @@ use Rattle.gs_model.specs.Frame.{Frame}
 use Rattle.gs_model.specs.FrameFacts.{InRange, IsExchanged, IsWalked}
 use Rattle.gs_model.specs.Lossless.{IsLossless}
 use Rattle.gs_model.specs.Payoff.{raw_payoff}
-use Rattle.gs_model.specs.Plans.{IsRawPlan, Plan, lift}
+use Rattle.gs_model.specs.Plans.{Plan, lift}
 use Rattle.gs_model.proofs.BestPaid.{first_best_paid, second_best_paid}
 use Rattle.gs_best.specs.Answers.{IsPaidMost}
 

@@ -12,6 +12,7 @@ use Rattle.gs_model.specs.Positions.{Target, at_end, at_point}
 use Rattle.gs_model.specs.Sums.{sum_z}
 use Rattle.gs_seq.specs.Abstracts.{frame_of, lists_of}
 use Rattle.gs_seq.specs.Plans.{class_plan, lifted}
+use Rattle.gs_best.specs.Rows.{Worths}
 use Rattle.gs_best.specs.Tables.{IsBestFrom, moves_of, table_of}
 use Rattle.gs_best.specs.declared.deviator.Deviator.{Deviator}
 use Rattle.gs_best.proofs.Forms.{form_classes, form_in_range, form_lossless, form_modest, form_walked}
@@ -30,6 +31,10 @@ against d = lifted (frame d) (lists d) d.other.now
 -- values and moves as the table has them
 abbrev pub values_in : Deviator → List ℤ → Values
 values_in d values = table_of (frame d) (lists d) d.player (against d) values
+
+-- and what moves are worth by it
+abbrev pub worths_in : Deviator → List ℤ → Worths
+worths_in d values = class_worth (frame d) (lists d) (values_in d values)
 
 abbrev pub IsKnown : Deviator → List ℤ → List ℕ → ℕ → Type 0
 IsKnown d values picks from = IsBestFrom (frame d) (lists d) d.player (values_in d values) (moves_of (frame d) (lists d) picks) from

@@ -1,6 +1,7 @@
 -- What a move is worth, from the values at its target.
 use Rattle.std.proofs.Common.{◌≡◌, ℕ, ◌+◌, ◌-◌, ◌<◌, ◌≤◌, List, cond, get_or, sym, ap, ◌∙◌, subst, arith}
 use Rattle.std.specs.Prelude.{◌==◌, ℤ, pos}
+use Rattle.gs_model.specs.BestAnswers.{class_worth}
 use Rattle.gs_model.specs.Classes.{ClassLists, IsClass, IsClasses, class_of, first_member}
 use Rattle.gs_model.specs.Frame.{Frame, ancestor, last_round, leads_to, round_of, signal_count, signals_in}
 use Rattle.gs_model.specs.Plans.{Plan}
@@ -23,14 +24,14 @@ module _ (f : Frame) (lists : ClassLists) (p : ℕ) (y : Plan) (values : List �
   abbrev summed : ℕ → List ℤ → ℕ → ℕ → ℕ → ℤ
   summed c row j i start = sum_z (λ r. cond (ancestor f i j r == first_member lists j c) (value_at lists i row start r) (pos 0)) (signals_in f i)
 
-  pub worths_at_point : (next to start : ℕ) → leads_to f q m ≡ at_point next → to ≡ round_of f (at_point next) → start ≡ start_of f lists next → AreSumsBelow f lists from to values start sums → AreWorths f lists (table_of f lists p y values) q m sums
+  pub worths_at_point : (next to start : ℕ) → leads_to f q m ≡ at_point next → to ≡ round_of f (at_point next) → start ≡ start_of f lists next → AreSumsBelow f lists from to values start sums → AreWorths f lists (class_worth f lists (table_of f lists p y values)) q m sums
   worths_at_point next to start leads there at below c lc =
       below c (subst (λ j. IsClass lists j c) (sym here) lc)
       ∙ ap (λ j. summed c values j to start) here ∙ ap (λ i. summed c values (round_of f (at_point q)) i start) there ∙ ap (λ k. summed c values (round_of f (at_point q)) (round_of f (at_point next)) k) at
       ∙ ap (held c) (sym leads)
 
   pub worths_at_end : IsClasses f.parents lists → (z to : ℕ) (row : List ℤ) → leads_to f q m ≡ at_end z → to ≡ round_of f (at_end z) → 0 < to → to ≤ last_round f → IsEndRow f lists p y z row → AreSumsBelow f lists from to row 0 sums
-      → AreWorths f lists (table_of f lists p y values) q m sums
+      → AreWorths f lists (class_worth f lists (table_of f lists p y values)) q m sums
   worths_at_end k z to row leads there some top ends below c lc =
       let j = round_of f (at_point q) in
       let i = round_of f (at_end z) in

@@ -7,6 +7,7 @@ use Rattle.gs_model.specs.Frame.{Frame, choices_at, move_count, player_at, point
 use Rattle.gs_model.specs.Plans.{Plan}
 use Rattle.gs_model.specs.Positions.{at_end, at_point}
 use Rattle.gs_model.specs.Sums.{sum_z}
+use Rattle.gs_best.specs.Rows.{Worths}
 
 -- how many classes the round of a point has
 abbrev pub classes_at : Frame → ClassLists → ℕ → ℕ
@@ -28,6 +29,21 @@ moves_of f lists picks q c = slice_index picks (start_of f lists q + (c - 1))
 -- for each point the place of its first class
 abbrev pub AreStarts : Frame → ClassLists → List ℕ → Type 0
 AreStarts f lists starts = (q : ℕ) → q < point_count f → slice_index starts q ≡ start_of f lists q
+
+-- each class of a player's points has a move of its point
+abbrev pub AreInMoves : Frame → ClassLists → ℕ → (ℕ → ℕ → ℕ) → Type 0
+AreInMoves f lists player move = (q c : ℕ) → q < point_count f → player_at f q ≡ player → IsClass lists (round_of f (at_point q)) c → move q c < move_count f q
+
+-- at the points from one on each own class has what its move is worth, and the other's points add up
+pub record IsFollowedBy (f : Frame) (lists : ClassLists) (player : ℕ) (v : Values) (worth : Worths) (move : ℕ → ℕ → ℕ) (from : ℕ) : Type 0 where
+  pub in_range : (q c : ℕ) → from ≤ q → q < point_count f → player_at f q ≡ player → IsClass lists (round_of f (at_point q)) c → move q c < move_count f q
+  pub reached : (q c : ℕ) → from ≤ q → q < point_count f → player_at f q ≡ player → IsClass lists (round_of f (at_point q)) c → v (at_point q) c ≡ worth q (move q c) c
+  pub at_others : (q c : ℕ) → from ≤ q → q < point_count f → player_at f q ≢ player → IsClass lists (round_of f (at_point q)) c → v (at_point q) c ≡ sum_z (λ m. worth q m c) (choices_at f q)
+
+-- and that move is the first of greatest worth
+pub record AreFirstBy (f : Frame) (lists : ClassLists) (player : ℕ) (v : Values) (worth : Worths) (move : ℕ → ℕ → ℕ) (from : ℕ) : Type 0 where
+  pub none_more : (q m c : ℕ) → from ≤ q → q < point_count f → player_at f q ≡ player → m < move_count f q → IsClass lists (round_of f (at_point q)) c → worth q m c ≤ℤ v (at_point q) c
+  pub none_before : (q m c : ℕ) → from ≤ q → q < point_count f → player_at f q ≡ player → IsClass lists (round_of f (at_point q)) c → m < move q c → worth q m c <ℤ v (at_point q) c
 
 -- best values and first best moves at the points from one on
 pub record IsBestFrom (f : Frame) (lists : ClassLists) (player : ℕ) (v : Values) (move : ℕ → ℕ → ℕ) (from : ℕ) : Type 0 where

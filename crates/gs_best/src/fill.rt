@@ -15,7 +15,7 @@ use crate::reading::{class_total, point_total, round_at, round_total};
 use crate::room::{Scratch, Table, place_points};
 
 /// Copies so many values of a row into a list, from a place on.
-fn copy_values(row: &[i128], start: usize, count: usize, values: &mut [i128])
+pub fn copy_values(row: &[i128], start: usize, count: usize, values: &mut [i128])
     requires row { count ≤ length row.now }
     requires room { start + count ≤ length values.old }
     ensures { IsCopied (pos 0) start count row.now values.old values.new }
@@ -26,7 +26,7 @@ fn copy_values(row: &[i128], start: usize, count: usize, values: &mut [i128])
 }
 
 /// Copies so many moves of a row into a list, from a place on.
-fn copy_moves(row: &[u8], start: usize, count: usize, moves: &mut [u8])
+pub fn copy_moves(row: &[u8], start: usize, count: usize, moves: &mut [u8])
     requires row { count ≤ length row.now }
     requires room { start + count ≤ length moves.old }
     ensures { IsCopied 0 start count row.now moves.old moves.new }

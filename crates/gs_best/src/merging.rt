@@ -1,6 +1,7 @@
 //! The value of a point, from what its moves are worth.
 
-ghost use Rattle.std.specs.Prelude.{◌≡◌, ◌≢◌, ◌==◌, ◌+◌, ◌<◌, ◌≤◌, ◌^◌, ◌+ℤ◌, ℕ, pos, length, get_or, unsigned_abs, if◌then◌else◌};
+ghost use Rattle.std.specs.Prelude.{◌≡◌, ◌≢◌, ◌==◌, ◌+◌, ◌<◌, ◌≤◌, ◌^◌, ◌+ℤ◌, ℕ, pos, length, get_or, slice_index, unsigned_abs, if◌then◌else◌};
+ghost use Rattle.gs_model.specs.BestAnswers.{class_worth};
 ghost use Rattle.gs_model.specs.Classes.{class_count};
 ghost use Rattle.gs_model.specs.Frame.{move_count, player_at, point_count};
 ghost use Rattle.gs_seq.specs.Abstracts.{frame_of, lists_of};
@@ -35,7 +36,9 @@ pub fn raise(worths: &[i128], choice: u8, count: usize, best: &mut [i128], moves
     requires worths { count ≤ length worths.now }
     requires best { count ≤ length best.old }
     requires moves { count ≤ length moves.old }
-    ensures { AreRaised count choice worths.now best.old best.new moves.old moves.new }
+    ensures raised { AreRaised count choice worths.now best.old best.new moves.old moves.new }
+    ensures best_behind { (k : ℕ) → count ≤ k → get_or best.new k (pos 0) ≡ get_or best.old k (pos 0) }
+    ensures moves_behind { (k : ℕ) → count ≤ k → slice_index moves.new k ≡ slice_index moves.old k }
 {
     for class in 0..count {
         if is_raised(choice, best[class], worths[class]) {
@@ -50,7 +53,8 @@ pub fn add(worths: &[i128], choice: u8, count: usize, sums: &mut [i128])
     requires worths { count ≤ length worths.now }
     requires sums { count ≤ length sums.old }
     requires fits { (k : ℕ) → k < count → 0 < choice → unsigned_abs (get_or sums.old k (pos 0) +ℤ get_or worths.now k (pos 0)) < 2 ^ 127 }
-    ensures { AreAdded count choice worths.now sums.old sums.new }
+    ensures added { AreAdded count choice worths.now sums.old sums.new }
+    ensures behind { (k : ℕ) → count ≤ k → get_or sums.new k (pos 0) ≡ get_or sums.old k (pos 0) }
 {
     for class in 0..count {
         sums[class] = added(choice, sums[class], worths[class]);
@@ -65,7 +69,7 @@ fn best_moves(side: &Deviator<'_>, point: u32, table: &Table, scratch: &mut Scra
         IsBestFrom f lists side.now.player (table_of f lists side.now.player (lifted f lists side.now.other.now) table.now.values.items) (moves_of f lists table.now.picks.items) (point + 1) }
     requires room { HasRoom (frame_of side.now.form.now) (lists_of side.now.form.now) scratch.old }
     ensures best { let f = frame_of side.now.form.now in let lists = lists_of side.now.form.now in
-        AreGreatest f lists (table_of f lists side.now.player (lifted f lists side.now.other.now) table.now.values.items) point (move_count f point) scratch.new.best.items scratch.new.moves.items }
+        AreGreatest f lists (class_worth f lists (table_of f lists side.now.player (lifted f lists side.now.other.now) table.now.values.items)) point (move_count f point) scratch.new.best.items scratch.new.moves.items }
     ensures room { HasRoom (frame_of side.now.form.now) (lists_of side.now.form.now) scratch.new }
 {
     let _rounds = round_total(side.form);
@@ -90,7 +94,7 @@ fn sum_moves(side: &Deviator<'_>, point: u32, table: &Table, scratch: &mut Scrat
         IsBestFrom f lists side.now.player (table_of f lists side.now.player (lifted f lists side.now.other.now) table.now.values.items) (moves_of f lists table.now.picks.items) (point + 1) }
     requires room { HasRoom (frame_of side.now.form.now) (lists_of side.now.form.now) scratch.old }
     ensures sums { let f = frame_of side.now.form.now in let lists = lists_of side.now.form.now in
-        AreSums f lists (table_of f lists side.now.player (lifted f lists side.now.other.now) table.now.values.items) point (move_count f point) scratch.new.best.items }
+        AreSums f lists (class_worth f lists (table_of f lists side.now.player (lifted f lists side.now.other.now) table.now.values.items)) point (move_count f point) scratch.new.best.items }
     ensures room { HasRoom (frame_of side.now.form.now) (lists_of side.now.form.now) scratch.new }
 {
     let _rounds = round_total(side.form);
@@ -109,7 +113,7 @@ pub(crate) fn merge_moves(side: &Deviator<'_>, point: u32, table: &Table, scratc
         IsBestFrom f lists side.now.player (table_of f lists side.now.player (lifted f lists side.now.other.now) table.now.values.items) (moves_of f lists table.now.picks.items) (point + 1) }
     requires room { HasRoom (frame_of side.now.form.now) (lists_of side.now.form.now) scratch.old }
     ensures merged { let f = frame_of side.now.form.now in let lists = lists_of side.now.form.now in
-        IsMerged f lists side.now.player (table_of f lists side.now.player (lifted f lists side.now.other.now) table.now.values.items) point scratch.new.best.items scratch.new.moves.items }
+        IsMerged f lists side.now.player (class_worth f lists (table_of f lists side.now.player (lifted f lists side.now.other.now) table.now.values.items)) point scratch.new.best.items scratch.new.moves.items }
     ensures room { HasRoom (frame_of side.now.form.now) (lists_of side.now.form.now) scratch.new }
 {
     if chooser(side.form, point) == side.player {

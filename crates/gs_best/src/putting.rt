@@ -1,4 +1,4 @@
-//! The plan that puts all on the best moves.
+//! The plan that puts all on given moves, and on the best ones.
 
 ghost use Rattle.std.specs.Prelude.{◌≡◌, ◌+◌, ◌<◌, ◌≤◌, ℕ, IfOk, length};
 ghost use Rattle.gs_model.specs.BestAnswers.{IsFirstBestPlan};
@@ -11,34 +11,66 @@ ghost use Rattle.gs_seq.specs.Plans.{IsPlanOf, class_plan, lifted};
 ghost use Rattle.gs_seq.specs.Slots.{slot_count, slots_before};
 ghost use Rattle.gs_best.specs.Answers.{IsFilled};
 ghost use Rattle.gs_best.specs.Puts.{ArePutBefore, IsPutAt};
-ghost use Rattle.gs_best.specs.Tables.{moves_of};
+ghost use Rattle.gs_best.specs.Tables.{AreInMoves, AreStarts, moves_of, start_of};
 
 use crate::deviator::Deviator;
 use crate::reading::{chooser, class_total, point_total, round_at, round_total};
 use crate::room::Table;
-use gs_seq::Plan;
+use gs_seq::{Abstract, Plan};
 use std::alloc::{AllocError, Global};
 
-/// Puts all that comes to each class of an own point on its best move.
-fn put_point(side: &Deviator<'_>, point: u32, table: &Table, weights: &mut [u64])
-    requires point { point < point_count (frame_of side.now.form.now) }
-    requires own { player_at (frame_of side.now.form.now) point ≡ side.now.player }
-    requires filled { let f = frame_of side.now.form.now in let lists = lists_of side.now.form.now in
-        IsFilled f lists side.now.player (lifted f lists side.now.other.now) table.now }
-    requires long { length weights.old ≡ slot_count (frame_of side.now.form.now) (lists_of side.now.form.now) side.now.player }
-    requires clear { IsClear (slots_before (frame_of side.now.form.now) (lists_of side.now.form.now) side.now.player point) weights.old }
-    ensures kept { Agree (slots_before (frame_of side.now.form.now) (lists_of side.now.form.now) side.now.player point) weights.old weights.new }
-    ensures here { let f = frame_of side.now.form.now in let lists = lists_of side.now.form.now in
-        (c : ℕ) → IsClass lists (round_of f (at_point point)) c → IsPutAt f lists side.now.player (moves_of f lists table.now.picks.items) weights.new point c }
-    ensures clear { IsClear (slots_before (frame_of side.now.form.now) (lists_of side.now.form.now) side.now.player (point + 1)) weights.new }
+/// Puts all that comes to each class of an own point on its move.
+fn put_point(
+    form: &Abstract,
+    player: u8,
+    starts: &[u32],
+    picks: &[u8],
+    point: u32,
+    weights: &mut [u64],
+)
+    requires some { 0 < player }
+    requires two { player ≤ 2 }
+    requires point { point < point_count (frame_of form.now) }
+    requires own { player_at (frame_of form.now) point ≡ player }
+    requires starts { point_count (frame_of form.now) ≤ length starts.now }
+    requires places { AreStarts (frame_of form.now) (lists_of form.now) starts.now }
+    requires picks { let f = frame_of form.now in start_of f (lists_of form.now) (point_count f) ≤ length picks.now }
+    requires moves { let f = frame_of form.now in let lists = lists_of form.now in AreInMoves f lists player (moves_of f lists picks.now) }
+    requires long { length weights.old ≡ slot_count (frame_of form.now) (lists_of form.now) player }
+    requires clear { IsClear (slots_before (frame_of form.now) (lists_of form.now) player point) weights.old }
+    ensures kept { Agree (slots_before (frame_of form.now) (lists_of form.now) player point) weights.old weights.new }
+    ensures here { let f = frame_of form.now in let lists = lists_of form.now in
+        (c : ℕ) → IsClass lists (round_of f (at_point point)) c → IsPutAt f lists player (moves_of f lists picks.now) weights.new point c }
+    ensures clear { IsClear (slots_before (frame_of form.now) (lists_of form.now) player (point + 1)) weights.new }
 {
-    let _rounds = round_total(side.form);
-    let start = table.starts[point as usize] as usize;
-    for before in 0..class_total(side.form, round_at(side.form, point)) {
-        let choice = table.picks[start + before as usize];
-        let came = side.form.coming(1, weights, point, before + 1);
-        let slot = side.form.slot(point, before + 1, choice) as usize;
+    let _rounds = round_total(form);
+    let start = starts[point as usize] as usize;
+    for before in 0..class_total(form, round_at(form, point)) {
+        let choice = picks[start + before as usize];
+        let came = form.coming(1, weights, point, before + 1);
+        let slot = form.slot(point, before + 1, choice) as usize;
         weights[slot] = came;
+    }
+}
+
+/// Writes, over weights that are all 0, those of the plan of total 1 that puts all on the moves of a player; where the moves of each point start is
+/// listed.
+pub fn put_moves(form: &Abstract, player: u8, starts: &[u32], picks: &[u8], weights: &mut [u64])
+    requires some { 0 < player }
+    requires two { player ≤ 2 }
+    requires starts { point_count (frame_of form.now) ≤ length starts.now }
+    requires places { AreStarts (frame_of form.now) (lists_of form.now) starts.now }
+    requires picks { let f = frame_of form.now in start_of f (lists_of form.now) (point_count f) ≤ length picks.now }
+    requires moves { let f = frame_of form.now in let lists = lists_of form.now in AreInMoves f lists player (moves_of f lists picks.now) }
+    requires long { length weights.old ≡ slot_count (frame_of form.now) (lists_of form.now) player }
+    requires clear { IsClear 0 weights.old }
+    ensures { let f = frame_of form.now in let lists = lists_of form.now in ArePutBefore f lists player (moves_of f lists picks.now) weights.new (point_count f) }
+{
+    let _rounds = round_total(form);
+    for point in 0..point_total(form) {
+        if chooser(form, point) == player {
+            put_point(form, player, starts, picks, point, weights);
+        }
     }
 }
 
@@ -53,11 +85,13 @@ fn best_weights(alloc: Global, side: &Deviator<'_>, table: &Table) -> Result<Vec
     let _rounds = round_total(side.form);
     let count = side.form.sequences(side.player) - 1;
     let mut weights = vec![in alloc; 0u64; count as usize]?;
-    for point in 0..point_total(side.form) {
-        if chooser(side.form, point) == side.player {
-            put_point(side, point, table, &mut weights);
-        }
-    }
+    put_moves(
+        side.form,
+        side.player,
+        &table.starts,
+        &table.picks,
+        &mut weights,
+    );
     Ok(weights)
 }
 

@@ -1,6 +1,6 @@
 //! Room for the values of best answers.
 
-ghost use Rattle.std.specs.Prelude.{◌≡◌, ◌≤◌, length};
+ghost use Rattle.std.specs.Prelude.{◌≡◌, ◌≤◌, ℕ, length, slice_index};
 ghost use Rattle.gs_model.specs.Frame.{point_count};
 ghost use Rattle.gs_seq.specs.Abstracts.{frame_of, lists_of};
 ghost use Rattle.gs_best.specs.Tables.{AreStarts, start_of};
@@ -36,7 +36,8 @@ pub(crate) struct Scratch {
 /// Writes where the values of each point start.
 pub fn place_points(form: &Abstract, starts: &mut [u32])
     requires { point_count (frame_of form.now) ≤ length starts.old }
-    ensures { AreStarts (frame_of form.now) (lists_of form.now) starts.new }
+    ensures starts { AreStarts (frame_of form.now) (lists_of form.now) starts.new }
+    ensures behind { (i : ℕ) → point_count (frame_of form.now) ≤ i → slice_index starts.new i ≡ slice_index starts.old i }
 {
     let mut start = 0;
     for point in 0..point_total(form) {

@@ -1,4 +1,4 @@
-use Rattle.std.proofs.Common.{◌≡◌, ◌+◌, ◌-◌, ◌∙◌, ap, sym, subst, arith, get_or, length}
+use Rattle.std.proofs.Common.{◌≡◌, ◌+◌, ◌-◌, ◌∙◌, ap, sym, arith, get_or}
 use Rattle.std.specs.Prelude.{pos, ◌*ℤ◌}
 use Rattle.gs_model.specs.BestAnswers.{end_worth}
 use Rattle.gs_model.specs.Classes.{class_count, class_size, first_member}

@@ -2,9 +2,8 @@ use Rattle.std.proofs.Common.{ℕ, List, length, ap, arith}
 use Rattle.std.specs.Prelude.{ℤ}
 use Rattle.gs_model.specs.Frame.{round_of}
 use Rattle.gs_model.specs.Positions.{at_end}
-use Rattle.gs_seq.specs.Abstracts.{frame_of, lists_of}
+use Rattle.gs_seq.specs.Abstracts.{frame_of}
 use Rattle.gs_best.proofs.Forms.{form_walked}
-use Rattle.gs_best.proofs.Rooms.{written_wide}
 use Rattle.gs_best.proofs.judging.plans_pay.Goals as goal
 
 pub payoff_in-requires-clause-sums : goal.payoff_in-requires-clause-sums

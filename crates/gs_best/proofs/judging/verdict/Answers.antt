@@ -17,44 +17,29 @@ use Rattle.gs_best.specs.Sizes.{IsRoomy}
 use Rattle.gs_best.proofs.Forms.{form_classes, form_in_range, form_lossless, form_walked}
 use Rattle.gs_best.proofs.Rooms.{has_room, holds_all, roomy}
 use Rattle.gs_best.proofs.Totals.{paid_small}
+use Rattle.gs_best.proofs.judging.verdict.Goals.{After-plans_pay-paid}
 use Rattle.gs_best.proofs.judging.verdict.Goals as goal
+
+paid_is : (c : After-plans_pay-paid) → let f = frame_of c.args.form.now in let lists = lists_of c.args.form.now in
+    to_z w128 (of_z w128 c.plans_pay-paid.result) ≡ raw_payoff f (lift f lists (class_plan f lists c.args.one.now)) (lift f lists (class_plan f lists c.args.two.now))
+paid_is c = to_z-of_z w128 c.plans_pay-paid.result (record { sfits = c.plans_pay-paid.type_inv }) ∙ c.plans_pay-paid.ensures.paid
 
 pub best_total-requires-clause-holds : goal.best_total-requires-clause-holds
 best_total-requires-clause-holds c =
     let a = c.args.form.now in
-    let f = frame_of a in
-    let lists = lists_of a in
-    let w1 = form_walked a 1 (omega arith) (omega arith) in
-    let t = c.work.inside.table in
-    let s = c.work.inside.scratch in
-    holds_all f lists w1 t s (subst (λ l. IsRoomy l t s) (c.work.view_is ∙ c.requires.room) c.work.invariant)
+    holds_all (frame_of a) (lists_of a) (form_walked a 1 (omega arith) (omega arith)) c.work.inside.table c.work.inside.scratch (subst (λ l. IsRoomy l c.work.inside.table c.work.inside.scratch) (c.work.view_is ∙ c.requires.room) c.work.invariant)
 
 pub best_total-requires-clause-room : goal.best_total-requires-clause-room
-best_total-requires-clause-room c =
-    let a = c.args.form.now in
-    let t = c.work.inside.table in
-    let s = c.work.inside.scratch in
-    has_room (frame_of a) (lists_of a) t s (subst (λ l. IsRoomy l t s) (c.work.view_is ∙ c.requires.room) c.work.invariant)
+best_total-requires-clause-room c = has_room (frame_of c.args.form.now) (lists_of c.args.form.now) c.work.inside.table c.work.inside.scratch (subst (λ l. IsRoomy l c.work.inside.table c.work.inside.scratch) (c.work.view_is ∙ c.requires.room) c.work.invariant)
 
 pub judged-requires-clause-paid : goal.judged-requires-clause-paid
 judged-requires-clause-paid c =
     let a = c.args.form.now in
-    let f = frame_of a in
-    let lists = lists_of a in
-    let w1 = form_walked a 1 (omega arith) (omega arith) in
-    let w2 = form_walked a 2 (omega arith) (omega arith) in
-    let ranged = form_in_range a in
-    let classes = form_classes a c.round_total-rounds.ensures.sound in
-    let lossless = form_lossless a in
-    let ex = exchanged_one (game_of (game_in a).game) in
-    let x = class_plan f lists c.args.one.now in
-    let y = class_plan f lists c.args.two.now in
-    let b1 = c.best_total.result in
-    let b2 = c.best_total-2.result in
-    let h1 = c.best_total.ensures.total in
-    let h2 = c.best_total-2.ensures.total in
-    let paid = to_z-of_z w128 c.plans_pay-paid.result (record { sfits = c.plans_pay-paid.type_inv }) ∙ c.plans_pay-paid.ensures.paid in
-    let small = paid_small f ranged lists classes lossless w1 w2 ex x y c.requires.one.plan.plan c.requires.two.plan.plan b1 b2 h1 h2 c.best_total.ensures.small c.best_total-2.ensures.small in
+    let paid = paid_is (goal.at.judged-requires-clause-paid c).After-plans_pay-paid in
+    let small =
+    paid_small (frame_of a) (form_in_range a) (lists_of a) (form_classes a c.round_total-rounds.ensures.sound) (form_lossless a) (form_walked a 1 (omega arith) (omega arith)) (form_walked a 2 (omega arith) (omega arith)) (exchanged_one (game_of (game_in a).game))
+    (class_plan (frame_of a) (lists_of a) c.args.one.now) (class_plan (frame_of a) (lists_of a) c.args.two.now) c.requires.one.plan.plan c.requires.two.plan.plan c.best_total.result c.best_total-2.result c.best_total.ensures.total c.best_total-2.ensures.total
+    c.best_total.ensures.small c.best_total-2.ensures.small in
     omega (arith, ap unsigned_abs paid, small)
 
 pub invariant_of-work : goal.invariant_of-work
@@ -84,7 +69,7 @@ returns-clause-verdict c =
     let b2 = c.best_total-2.result in
     let h1 = c.best_total.ensures.total in
     let h2 = c.best_total-2.ensures.total in
-    let paid = to_z-of_z w128 c.plans_pay-paid.result (record { sfits = c.plans_pay-paid.type_inv }) ∙ c.plans_pay-paid.ensures.paid in
+    let paid = paid_is (goal.at.returns-clause-verdict c).After-plans_pay-paid in
     let value = parts c.judged.result.value in
     let gap1 = parts c.judged.result.gap1 in
     let gap2 = parts c.judged.result.gap2 in

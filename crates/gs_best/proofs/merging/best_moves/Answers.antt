@@ -7,7 +7,7 @@ use Rattle.gs_best.specs.Rows.{AreGreatest, AreWorths}
 use Rattle.gs_best.specs.Sizes.{IsWide}
 use Rattle.gs_best.proofs.Filled.{written}
 use Rattle.gs_best.proofs.Greatest.{greatest_step}
-use Rattle.gs_best.proofs.Sides.{frame, lists, values_in}
+use Rattle.gs_best.proofs.Sides.{frame, lists, worths_in}
 use Rattle.gs_best.proofs.merging.best_moves.Goals as goal
 
 pub loop-choice-preserved : goal.loop-choice-preserved
@@ -16,7 +16,7 @@ loop-choice-preserved c =
     let f = frame d in
     let q = c.args.point in
     let n = c.loop-choice.choice in
-    let v = values_in d c.args.table.now.values.items in
+    let v = worths_in d c.args.table.now.values.items in
     let s = c.read_worths.new.scratch in
     let all = c.class_total-count.ensures.value ∙ ap (class_count (lists d)) c.round_at.ensures.value in
     let best = c.raise.new.best in
@@ -38,7 +38,7 @@ loop-choice-preserved c =
       so_far = λ some.
           subst (λ l. AreGreatest f (lists d) v q (n + 1) l (take s.moves.len (moves ++ drop (length moves) s.moves.items))) (sym best_is)
           (subst (λ l. AreGreatest f (lists d) v q (n + 1) best l) (sym moves_are)
-          (greatest_step f (lists d) v q n c.class_total-count.result all c.deref.result.now worths c.deref_mut.result.now best c.deref_mut-in-loop-choice.result.now moves c.raise.ensures
+          (greatest_step f (lists d) v q n c.class_total-count.result all c.deref.result.now worths c.deref_mut.result.now best c.deref_mut-in-loop-choice.result.now moves c.raise.ensures.raised
           (λ before. subst (λ l. AreGreatest f (lists d) v q n l c.deref_mut-in-loop-choice.result.now) best_was (subst (λ l. AreGreatest f (lists d) v q n c.loop-choice.scratch.best.items l) moves_were (c.loop-choice.invariant.so_far before)))));
     }
 
@@ -47,7 +47,7 @@ returns-clause-best c =
     let d = c.args.side.now in
     let f = frame d in
     let q = c.args.point in
-    let v = values_in d c.args.table.now.values.items in
+    let v = worths_in d c.args.table.now.values.items in
     let all : c.loop-choice.choice ≡ move_count f q = omega (arith, c.loop-choice-test.false, c.loop-choice.auto.choice-end, c.move_total-choice-end.ensures.value) in
     subst (λ n. AreGreatest f (lists d) v q n c.loop-choice.scratch.best.items c.loop-choice.scratch.moves.items) all
     (c.loop-choice.invariant.so_far (omega (arith, all, c.move_total-choice-end.ensures.some, c.move_total-choice-end.ensures.value)))

@@ -9,10 +9,10 @@ use Rattle.gs_best.proofs.putting.put_point.Given as goal
 
 abbrev pub invariant-loop-before : goal.invariant-loop-before
 invariant-loop-before l =
-    let f = frame_of l.side.form.now in let lists = lists_of l.side.form.now in
-    let first = slots_before f lists l.side.player l.point in
+    let f = frame_of l.form in let lists = lists_of l.form in
+    let first = slots_before f lists l.player l.point in
     record {
       kept : Agree first l.fn.weights l.weights;
-      here : (c : ℕ) → 0 < c → c ≤ l.before → IsPutAt f lists l.side.player (moves_of f lists l.table.picks.items) l.weights l.point c;
+      here : (c : ℕ) → 0 < c → c ≤ l.before → IsPutAt f lists l.player (moves_of f lists l.picks) l.weights l.point c;
       clear : IsClear (first + l.before * move_count f l.point) l.weights;
     }

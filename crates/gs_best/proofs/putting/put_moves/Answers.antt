@@ -8,8 +8,8 @@ use Rattle.gs_best.specs.Puts.{ArePutBefore}
 use Rattle.gs_best.specs.Tables.{moves_of}
 use Rattle.gs_best.proofs.AllOn.{puts_more, puts_same}
 use Rattle.gs_best.proofs.Forms.{form_classes, form_in_range, form_walked}
-use Rattle.gs_totals.proofs.putting.put_all.Goals as goal
-use Rattle.gs_totals.proofs.putting.put_all.Goals.{then-chooser-player, else-chooser-player}
+use Rattle.gs_best.proofs.putting.put_moves.Goals as goal
+use Rattle.gs_best.proofs.putting.put_moves.Goals.{then-chooser-player, else-chooser-player}
 
 pub loop-point-preserved : goal.loop-point-preserved
 loop-point-preserved c =

@@ -4,7 +4,7 @@ use Rattle.gs_seq.specs.Firsts.{IsClear}
 use Rattle.gs_seq.specs.Slots.{slot_count, slots_before}
 use Rattle.gs_best.specs.Puts.{ArePutBefore}
 use Rattle.gs_best.specs.Tables.{moves_of}
-use Rattle.gs_totals.proofs.putting.put_all.Given as goal
+use Rattle.gs_best.proofs.putting.put_moves.Given as goal
 
 abbrev pub invariant-loop-point : goal.invariant-loop-point
 invariant-loop-point l =
