@@ -5,17 +5,17 @@ use Rattle.std.proofs.Math.Nat.{le-div_iff_mul-le}
 use Rattle.std.proofs.lemmas.Int.{ints}
 use borrow.Author.Differences.{abs_is}
 use Rattle.gs_filter.specs.Filter.{IsSound}
-use Rattle.gs_model.specs.BestAnswers.{Values}
-use Rattle.gs_model.specs.Classes.{ClassLists, IsClass, class_count}
-use Rattle.gs_model.specs.Frame.{Frame, move_count, player_at, point_count, round_of}
-use Rattle.gs_model.specs.Plans.{Plan}
+use Rattle.gs_model.specs.Classes.{IsClass}
+use Rattle.gs_model.specs.Frame.{move_count, player_at, point_count, round_of}
 use Rattle.gs_model.specs.Positions.{at_point}
-use Rattle.gs_best.specs.Tables.{start_of}
+use Rattle.gs_best.specs.Rows.{AreWorths}
+use Rattle.gs_best.specs.Tables.{classes_at, start_of}
 use Rattle.gs_best.specs.declared.deviator.Deviator.{Deviator}
+use Rattle.gs_best.proofs.Placed.{IsRow}
 use Rattle.gs_totals.specs.ClassTotals.{total_worth}
 use Rattle.gs_totals.specs.Courses.{StaysBehind, frame_in, lists_in, moves_chosen, totals_added, totals_now}
 use Rattle.gs_totals.specs.Lasting.{AreBehind, IsBehind, IsNotAhead, IsWithinGap}
-use Rattle.gs_totals.specs.Merged.{AreModestFrom, AreWorths}
+use Rattle.gs_totals.specs.Merged.{AreModestFrom}
 use Rattle.gs_totals.specs.declared.course.Course.{Course}
 use Rattle.gs_totals.proofs.Behind.{behind_same}
 use Rattle.gs_totals.proofs.Known.{known_modest, worth_modest}
@@ -76,13 +76,13 @@ once_behind k s q m times lq lm own l c lc ne =
     within_once (nat_lt m (moves_chosen k q c)) gap gain times l some (λ t. let less = here.less t in omega (arith, ints, less, e))
 
 -- a move's rows, class by class
-module _ (k : Course) (q m start count : ℕ) (at : start ≡ start_of (frame_in k) (lists_in k) q) (all : count ≡ class_count (lists_in k) (round_of (frame_in k) (at_point q))) (values worths slopes rises : List ℤ) (values_are : values ≡ k.totals.now.points.items)
-    (slopes_are : slopes ≡ k.steps.now.points.items) (w : AreWorths (frame_in k) (lists_in k) (totals_now k) q m worths) (r : AreWorths (frame_in k) (lists_in k) (totals_added k) q m rises) where
+module _ (k : Course) (q m start count : ℕ) (row : IsRow (classes_at (frame_in k) (lists_in k)) (point_count (frame_in k)) q start count) (values worths slopes rises : List ℤ) (values_are : values ≡ k.totals.now.points.items)
+    (slopes_are : slopes ≡ k.steps.now.points.items) (w : AreWorths (frame_in k) (lists_in k) (total_worth (frame_in k) (lists_in k) (totals_now k)) q m worths) (r : AreWorths (frame_in k) (lists_in k) (total_worth (frame_in k) (lists_in k) (totals_added k)) q m rises) where
   class_at : (i : ℕ) → i < count → IsClass (lists_in k) (round_of (frame_in k) (at_point q)) (i + 1)
-  class_at i l = (omega arith, omega (arith, l, all))
+  class_at i l = (omega arith, omega (arith, l, row.count_is))
 
   place : (i : ℕ) → start + i ≡ start_of (frame_in k) (lists_in k) q + (i + 1 - 1)
-  place i = omega (arith, at)
+  place i = omega (arith, row.start_is)
 
   pick_at : (i : ℕ) → get_or k.picks.now (start + i) 0 ≡ moves_chosen k q (i + 1)
   pick_at i = ap (λ n. get_or k.picks.now n 0) (place i)
@@ -120,7 +120,7 @@ module _ (k : Course) (q m start count : ℕ) (at : start ≡ start_of (frame_in
   all_behind times h c lc ne =
       let i = c - 1 in
       let e : i + 1 ≡ c = omega (arith, lc.0) in
-      let l : i < count = omega (arith, lc.0, lc.1, all) in
+      let l : i < count = omega (arith, lc.0, lc.1, row.count_is) in
       let pick = pick_at i ∙ ap (moves_chosen k q) e in
       let b = h i l (λ x. ne (sym pick ∙ x)) in
       subst (λ p. IsBehind (nat_lt m p) (totals_now k (at_point q) c) (total_worth (frame_in k) (lists_in k) (totals_now k) q m c) (totals_added k (at_point q) c) (total_worth (frame_in k) (lists_in k) (totals_added k) q m c) times) pick

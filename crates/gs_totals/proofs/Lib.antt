@@ -4,12 +4,14 @@ pub mod SumLaws
 pub mod JumpLaws
 pub mod TotalAnswers
 pub mod TotalBounds
-pub mod Greatest
+pub mod Chosen
 pub mod Stepping
 pub mod EndStarts
+pub mod PlacedRows
 pub mod Gathers
 pub mod Itself
 pub mod Known
+mod Lines
 pub mod Behind
 pub mod SmallEnds
 pub mod CourseLaws

@@ -1,6 +1,6 @@
 -- Plans that agree at a player's last step have the same numbers there, and ends are paid the same against them.
-use Rattle.std.proofs.Common.{◌≡◌, ℕ, ◌<◌, List, get_or, refl, sym, ap, ◌∙◌, arith, Option, Some, None}
-use Rattle.std.specs.Prelude.{ℤ, pos, ◌*ℤ◌}
+use Rattle.std.proofs.Common.{◌≡◌, ℕ, ◌<◌, List, sym, ap, ◌∙◌, arith, Some, None}
+use Rattle.std.specs.Prelude.{pos, ◌*ℤ◌}
 use Rattle.gs_model.specs.Classes.{ClassLists, IsClass, IsClasses, class_count, class_of, first_member}
 use Rattle.gs_model.specs.Frame.{Frame, ancestor, end_count, last_step, other_player, payoff_to, round_of}
 use Rattle.gs_model.specs.FrameFacts.{InRange, IsWalked}
@@ -10,7 +10,7 @@ use Rattle.gs_model.specs.Positions.{Step, at_end, at_point}
 use Rattle.gs_model.proofs.Gather.{class_in, member_in}
 use Rattle.gs_model.proofs.Tables.{is_table}
 use Rattle.gs_seq.specs.Payoffs.{end_sum}
-use Rattle.gs_seq.specs.Slots.{plan_of, slot_of}
+use Rattle.gs_seq.specs.Slots.{plan_of}
 use Rattle.gs_best.proofs.Ranges.{sum_same}
 use Rattle.gs_totals.specs.Renewed.{AgreeAt, AreSameAt}
 

@@ -3,7 +3,6 @@ use Rattle.std.proofs.Common.{◌≡◌, ◌≢◌, ℕ, ◌^◌, ◌<◌, ◌�
 use Rattle.std.specs.Prelude.{ℤ, unsigned_abs}
 use Rattle.std.proofs.lemmas.Bool.{cases_eq}
 use Rattle.gs_filter.specs.Filter.{IsSound}
-use Rattle.gs_model.specs.Classes.{IsClass}
 use Rattle.gs_model.specs.Frame.{other_player, player_at, point_count}
 use Rattle.gs_model.specs.FrameFacts.{IsFrom}
 use Rattle.gs_model.specs.Positions.{at_end, at_point}

@@ -1,13 +1,11 @@
 -- What the moves of a point are worth to its classes as wholes, in rows, and what the point gets of them.
 use Rattle.std.specs.Prelude.{ℕ, ◌+◌, ◌-◌, ◌^◌, ◌<◌, ◌≡◌, ◌≢◌, ◌==◌, List, get_or, slice_index, ℤ, pos, unsigned_abs, if◌then◌else◌}
-use Rattle.std.specs.List.{range_with_len}
 use Rattle.gs_model.specs.BestAnswers.{Values}
 use Rattle.gs_model.specs.Classes.{ClassLists, IsClass}
 use Rattle.gs_model.specs.Frame.{Frame, move_count, player_at, round_of}
 use Rattle.gs_model.specs.FrameFacts.{IsFrom, IsInside}
 use Rattle.gs_model.specs.Positions.{Target, at_point}
-use Rattle.gs_model.specs.Sums.{sum_z}
-use Rattle.gs_best.specs.Rows.{IsFirstGreatest}
+use Rattle.gs_best.specs.Rows.{AreSums}
 use Rattle.gs_totals.specs.ClassTotals.{gathered, total_worth}
 
 -- the row of a list from a place on
@@ -18,32 +16,14 @@ row_from values start c = get_or values (start + (c - 1)) (pos 0)
 abbrev pub AreGathered : Frame → ClassLists → ℕ → ℕ → List ℤ → ℕ → List ℤ → Type 0
 AreGathered f lists from to values start sums = (c : ℕ) → IsClass lists to c → get_or sums (c - 1) (pos 0) ≡ gathered f lists from to (row_from values start) c
 
--- what a move is worth to each class of its point's round
-abbrev pub AreWorths : Frame → ClassLists → Values → ℕ → ℕ → List ℤ → Type 0
-AreWorths f lists v q m row = (c : ℕ) → IsClass lists (round_of f (at_point q)) c → get_or row (c - 1) (pos 0) ≡ total_worth f lists v q m c
-
--- of the first n moves of a point the first of greatest worth and that worth, class by class
-abbrev pub AreGreatest : Frame → ClassLists → Values → ℕ → ℕ → List ℤ → List ℕ → Type 0
-AreGreatest f lists v q n best moves =
-    (c : ℕ) → IsClass lists (round_of f (at_point q)) c → IsFirstGreatest (λ m. total_worth f lists v q m c) n (get_or best (c - 1) (pos 0)) (slice_index moves (c - 1))
-
--- the sum of the worths of the first n moves of a point, class by class
-abbrev pub AreSums : Frame → ClassLists → Values → ℕ → ℕ → List ℤ → Type 0
-AreSums f lists v q n sums = (c : ℕ) → IsClass lists (round_of f (at_point q)) c → get_or sums (c - 1) (pos 0) ≡ sum_z (λ m. total_worth f lists v q m c) (range_with_len 0 n)
-
 -- where the chosen move of a class is one of the first n, its worth
 abbrev pub AreChosen : Frame → ClassLists → Values → (ℕ → ℕ → ℕ) → ℕ → ℕ → List ℤ → Type 0
 AreChosen f lists v move q n row = (c : ℕ) → IsClass lists (round_of f (at_point q)) c → move q c < n → get_or row (c - 1) (pos 0) ≡ total_worth f lists v q (move q c) c
 
--- a point's totals and first best moves: by its greatest worth where the player chooses, else by the sum of the worths
-pub record IsMerged (f : Frame) (lists : ClassLists) (player : ℕ) (v : Values) (q : ℕ) (best : List ℤ) (moves : List ℕ) : Type 0 where
-  pub own : player_at f q ≡ player → AreGreatest f lists v q (move_count f q) best moves
-  pub others : player_at f q ≢ player → AreSums f lists v q (move_count f q) best
-
--- and where moves are given
+-- a point's totals where moves are given: by the chosen move's worth where the player chooses, else by the sum of the worths
 pub record IsFollowing (f : Frame) (lists : ClassLists) (player : ℕ) (v : Values) (move : ℕ → ℕ → ℕ) (q : ℕ) (row : List ℤ) : Type 0 where
   pub own : player_at f q ≡ player → AreChosen f lists v move q (move_count f q) row
-  pub others : player_at f q ≢ player → AreSums f lists v q (move_count f q) row
+  pub others : player_at f q ≢ player → AreSums f lists (total_worth f lists v) q (move_count f q) row
 
 -- each of so many numbers is taken from a row where the class has chosen the move
 abbrev pub AreTaken : ℕ → ℕ → ℕ → List ℕ → List ℤ → List ℤ → List ℤ → Type 0

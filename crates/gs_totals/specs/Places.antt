@@ -1,14 +1,13 @@
 -- Class totals kept in lists: rows of a number for each class, one for each end and one for each point, each behind the one before.
-use Rattle.std.specs.Prelude.{ℕ, ◌+◌, ◌-◌, ◌^◌, ◌<◌, ◌≤◌, ◌≡◌, ◌≢◌, List, get_or, slice_index, ℤ, pos, ◌≤ℤ◌, ◌<ℤ◌, sum_by, unsigned_abs}
+use Rattle.std.specs.Prelude.{ℕ, ◌+◌, ◌-◌, ◌^◌, ◌<◌, ◌≡◌, List, get_or, slice_index, ℤ, pos, sum_by, unsigned_abs}
 use Rattle.std.specs.List.{range_with_len}
 use Rattle.gs_model.specs.BestAnswers.{Values}
-use Rattle.gs_model.specs.Classes.{ClassLists, IsClass, class_count}
-use Rattle.gs_model.specs.Frame.{Frame, choices_at, end_count, move_count, player_at, point_count, round_of}
+use Rattle.gs_model.specs.Classes.{ClassLists, IsClass}
+use Rattle.gs_model.specs.Frame.{Frame, end_count, point_count, round_of}
 use Rattle.gs_model.specs.Plans.{Plan}
 use Rattle.gs_model.specs.Positions.{at_end, at_point}
-use Rattle.gs_model.specs.Sums.{sum_z}
 use Rattle.gs_seq.specs.Payoffs.{end_classes, end_sum}
-use Rattle.gs_best.specs.Tables.{start_of}
+use Rattle.gs_best.specs.Tables.{AreFirstBy, IsFollowedBy, start_of}
 use Rattle.gs_totals.specs.ClassTotals.{total_worth}
 use Rattle.gs_totals.specs.Jumps.{line}
 
@@ -30,24 +29,17 @@ totals_of f lists player y values (at_point q) c = get_or values (start_of f lis
 totals_of f lists player y values (at_end z) c = end_sum f lists player y z c
 
 -- at the points from one on each own class follows its move, and the other's points add up
-pub record IsFollowedFrom (f : Frame) (lists : ClassLists) (player : ℕ) (v : Values) (move : ℕ → ℕ → ℕ) (from : ℕ) : Type 0 where
-  pub in_range : (q c : ℕ) → from ≤ q → q < point_count f → player_at f q ≡ player → IsClass lists (round_of f (at_point q)) c → move q c < move_count f q
-  pub reached : (q c : ℕ) → from ≤ q → q < point_count f → player_at f q ≡ player → IsClass lists (round_of f (at_point q)) c → v (at_point q) c ≡ total_worth f lists v q (move q c) c
-  pub at_others : (q c : ℕ) → from ≤ q → q < point_count f → player_at f q ≢ player → IsClass lists (round_of f (at_point q)) c → v (at_point q) c ≡ sum_z (λ m. total_worth f lists v q m c) (choices_at f q)
+abbrev pub IsFollowedFrom : Frame → ClassLists → ℕ → Values → (ℕ → ℕ → ℕ) → ℕ → Type 0
+IsFollowedFrom f lists player v move from = IsFollowedBy f lists player v (total_worth f lists v) move from
 
 -- and that move is the first of greatest worth
-pub record AreFirstFrom (f : Frame) (lists : ClassLists) (player : ℕ) (v : Values) (move : ℕ → ℕ → ℕ) (from : ℕ) : Type 0 where
-  pub none_more : (q m c : ℕ) → from ≤ q → q < point_count f → player_at f q ≡ player → m < move_count f q → IsClass lists (round_of f (at_point q)) c → total_worth f lists v q m c ≤ℤ v (at_point q) c
-  pub none_before : (q m c : ℕ) → from ≤ q → q < point_count f → player_at f q ≡ player → IsClass lists (round_of f (at_point q)) c → m < move q c → total_worth f lists v q m c <ℤ v (at_point q) c
+abbrev pub AreFirstFrom : Frame → ClassLists → ℕ → Values → (ℕ → ℕ → ℕ) → ℕ → Type 0
+AreFirstFrom f lists player v move from = AreFirstBy f lists player v (total_worth f lists v) move from
 
 -- both
 pub record AreBestFrom (f : Frame) (lists : ClassLists) (player : ℕ) (v : Values) (move : ℕ → ℕ → ℕ) (from : ℕ) : Type 0 where
   pub followed : IsFollowedFrom f lists player v move from
   pub greatest : AreFirstFrom f lists player v move from
-
--- each class of a player's points has a move of its point
-abbrev pub AreInMoves : Frame → ClassLists → ℕ → (ℕ → ℕ → ℕ) → Type 0
-AreInMoves f lists player move = (q c : ℕ) → q < point_count f → player_at f q ≡ player → IsClass lists (round_of f (at_point q)) c → move q c < move_count f q
 
 -- the numbers of all ends are below 2^90 in size
 abbrev pub AreSmallRows : Frame → ClassLists → List ℤ → Type 0

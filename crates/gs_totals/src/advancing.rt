@@ -1,50 +1,56 @@
-//! Class totals of points some turns later, as long as no choice changes.
+//! Class totals some turns later, as long as no choice changes.
 
-ghost use Rattle.std.specs.Prelude.{◌≡◌, ◌≤◌, ◌^◌, length};
-ghost use Rattle.gs_model.specs.Frame.{point_count};
+ghost use Rattle.std.specs.Prelude.{◌≡◌, ◌<◌, ◌≤◌, ◌^◌, ℕ, pos, length, get_or, unsigned_abs};
 ghost use Rattle.gs_seq.specs.Abstracts.{frame_of, lists_of};
-ghost use Rattle.gs_best.specs.Tables.{start_of};
-ghost use Rattle.gs_totals.specs.Places.{ArePointLines, AreSmallPoints};
-ghost use Rattle.gs_totals.specs.Room.{HasRows, IsPlaced};
+ghost use Rattle.gs_totals.specs.Jumps.{line};
+ghost use Rattle.gs_totals.specs.Places.{AreEndLines, ArePointLines, AreSmallPoints, AreSmallRows};
+ghost use Rattle.gs_totals.specs.Room.{HasRows};
 
-use crate::ends::advance_row;
-use crate::places::{Places, Totals};
-use gs_best::{class_total, point_total, round_at, round_total};
-use gs_seq::Abstract;
+use crate::places::{Totals, end_room};
+use gs_best::value_total;
+use gs_seq::{Abstract, plus, scaled};
 
-/// Adds to the numbers of all points so many times those of another list.
-fn advance_values(
-    form: &Abstract,
-    places: &Places,
-    values: &mut [i128],
-    slopes: &[i128],
-    times: u32,
-)
-    requires placed { IsPlaced (frame_of form.now) (lists_of form.now) places.now }
-    requires room { start_of (frame_of form.now) (lists_of form.now) (point_count (frame_of form.now)) ≤ length values.old }
-    requires slope_room { start_of (frame_of form.now) (lists_of form.now) (point_count (frame_of form.now)) ≤ length slopes.now }
-    requires small { AreSmallPoints (frame_of form.now) (lists_of form.now) values.old }
-    requires small_slopes { AreSmallPoints (frame_of form.now) (lists_of form.now) slopes.now }
+/// A number to which a step is added so many times.
+fn advanced(sum: i128, step: i128, times: u32) -> i128
+    requires sum { unsigned_abs sum < 2 ^ 90 }
+    requires step { unsigned_abs step < 2 ^ 90 }
     requires few { times ≤ 2 ^ 20 }
-    ensures { ArePointLines (frame_of form.now) (lists_of form.now) values.old slopes.now times values.new }
+    ensures { result ≡ line sum step times }
 {
-    let _rounds = round_total(form);
-    for point in 0..point_total(form) {
-        let start = places.points[point as usize] as usize;
-        let count = class_total(form, round_at(form, point)) as usize;
-        advance_row(values, slopes, start, count, times);
+    plus(sum, scaled(u64::from(times), step))
+}
+
+/// Adds to the first so many numbers so many times those of another list.
+fn advance_first(sums: &mut [i128], steps: &[i128], count: usize, times: u32)
+    requires sums { count ≤ length sums.old }
+    requires steps { count ≤ length steps.now }
+    requires small { (k : ℕ) → k < count → unsigned_abs (get_or sums.old k (pos 0)) < 2 ^ 90 }
+    requires small_steps { (k : ℕ) → k < count → unsigned_abs (get_or steps.now k (pos 0)) < 2 ^ 90 }
+    requires few { times ≤ 2 ^ 20 }
+    ensures { (k : ℕ) → k < count → get_or sums.new k (pos 0) ≡ line (get_or sums.old k (pos 0)) (get_or steps.now k (pos 0)) times }
+{
+    for place in 0..count {
+        sums[place] = advanced(sums[place], steps[place], times);
     }
 }
 
+/// Adds to what ends pay against a plan so many times what they pay against another one.
+pub fn advance(form: &Abstract, totals: &mut Totals, steps: &Totals, times: u32)
+    requires rows { HasRows (frame_of form.now) (lists_of form.now) totals.old }
+    requires step_rows { HasRows (frame_of form.now) (lists_of form.now) steps.now }
+    requires small { AreSmallRows (frame_of form.now) (lists_of form.now) totals.old.ends.items }
+    requires small_steps { AreSmallRows (frame_of form.now) (lists_of form.now) steps.now.ends.items }
+    requires few { times ≤ 2 ^ 20 }
+    ensures rows { HasRows (frame_of form.now) (lists_of form.now) totals.new }
+    ensures lines { AreEndLines (frame_of form.now) (lists_of form.now) totals.old.ends.items steps.now.ends.items times totals.new.ends.items }
+    ensures points { totals.new.points ≡ totals.old.points }
+{
+    let count = end_room(form) as usize;
+    advance_first(&mut totals.ends, &steps.ends, count, times);
+}
+
 /// Adds to the class totals of points so many times what each turn adds to them.
-pub fn advance_points(
-    form: &Abstract,
-    places: &Places,
-    totals: &mut Totals,
-    steps: &Totals,
-    times: u32,
-)
-    requires placed { IsPlaced (frame_of form.now) (lists_of form.now) places.now }
+pub fn advance_points(form: &Abstract, totals: &mut Totals, steps: &Totals, times: u32)
     requires rows { HasRows (frame_of form.now) (lists_of form.now) totals.old }
     requires step_rows { HasRows (frame_of form.now) (lists_of form.now) steps.now }
     requires small { AreSmallPoints (frame_of form.now) (lists_of form.now) totals.old.points.items }
@@ -54,5 +60,6 @@ pub fn advance_points(
     ensures lines { ArePointLines (frame_of form.now) (lists_of form.now) totals.old.points.items steps.now.points.items times totals.new.points.items }
     ensures ends { totals.new.ends ≡ totals.old.ends }
 {
-    advance_values(form, places, &mut totals.points, &steps.points, times);
+    let count = value_total(form) as usize;
+    advance_first(&mut totals.points, &steps.points, count, times);
 }

@@ -1,10 +1,9 @@
 //! Class totals and first best moves at all points, by induction backwards.
 
-ghost use Rattle.std.specs.Prelude.{◌≡◌, ◌+◌, ◌<◌, ◌≤◌, pos, length};
+ghost use Rattle.std.specs.Prelude.{◌≡◌, ◌+◌, ◌<◌, ◌≤◌, length};
 ghost use Rattle.gs_model.specs.Frame.{point_count};
 ghost use Rattle.gs_seq.specs.Abstracts.{frame_of, lists_of};
 ghost use Rattle.gs_seq.specs.Plans.{class_plan};
-ghost use Rattle.gs_best.specs.Rows.{IsCopied};
 ghost use Rattle.gs_best.specs.Sizes.{IsWide};
 ghost use Rattle.gs_best.specs.Tables.{moves_of, start_of};
 ghost use Rattle.gs_totals.specs.ClassTotals.{AreBestTotals};
@@ -13,29 +12,7 @@ ghost use Rattle.gs_totals.specs.Room.{HasRows, HasScratch, IsPlaced};
 
 use crate::merging::merge_moves;
 use crate::places::{Places, Scratch, Totals};
-use gs_best::{Deviator, class_total, point_total, round_at, round_total};
-
-/// Copies so many numbers of a row into a list, from a place on.
-pub(crate) fn copy_values(row: &[i128], start: usize, count: usize, values: &mut [i128])
-    requires row { count ≤ length row.now }
-    requires room { start + count ≤ length values.old }
-    ensures { IsCopied (pos 0) start count row.now values.old values.new }
-{
-    for class in 0..count {
-        values[start + class] = row[class];
-    }
-}
-
-/// Copies so many moves of a row into a list, from a place on.
-fn copy_moves(row: &[u8], start: usize, count: usize, moves: &mut [u8])
-    requires row { count ≤ length row.now }
-    requires room { start + count ≤ length moves.old }
-    ensures { IsCopied 0 start count row.now moves.old moves.new }
-{
-    for class in 0..count {
-        moves[start + class] = row[class];
-    }
-}
+use gs_best::{Deviator, class_total, copy_moves, copy_values, point_total, round_at, round_total};
 
 /// The class totals and first best moves of a point, where those of all later points are known; the last three rows are written anew.
 fn fill_point(

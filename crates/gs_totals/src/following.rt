@@ -5,15 +5,14 @@ ghost use Rattle.gs_model.specs.Frame.{point_count};
 ghost use Rattle.gs_seq.specs.Abstracts.{frame_of, lists_of};
 ghost use Rattle.gs_seq.specs.Plans.{class_plan};
 ghost use Rattle.gs_best.specs.Sizes.{IsWide};
-ghost use Rattle.gs_best.specs.Tables.{moves_of, start_of};
+ghost use Rattle.gs_best.specs.Tables.{AreInMoves, moves_of, start_of};
 ghost use Rattle.gs_totals.specs.ClassTotals.{IsFollowed};
-ghost use Rattle.gs_totals.specs.Places.{AreEndSums, AreInMoves, IsFollowedFrom, totals_of};
+ghost use Rattle.gs_totals.specs.Places.{AreEndSums, IsFollowedFrom, totals_of};
 ghost use Rattle.gs_totals.specs.Room.{HasRows, HasScratch, IsPlaced};
 
-use crate::filling::copy_values;
 use crate::merging::follow_moves;
 use crate::places::{Places, Scratch, Totals};
-use gs_best::{Deviator, class_total, point_total, round_at, round_total};
+use gs_best::{Deviator, class_total, copy_values, point_total, round_at, round_total};
 
 /// The class totals of a point by given moves, where those of all later points are known; the last two rows are written anew.
 fn follow_point(

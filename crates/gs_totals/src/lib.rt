@@ -16,9 +16,9 @@ mod renewing;
 mod rows;
 mod staying;
 
-pub use advancing::advance_points;
+pub use advancing::{advance, advance_points};
 pub use course::Course;
-pub use ends::{advance, read_ends};
+pub use ends::read_ends;
 pub use filling::fill;
 pub use following::follow;
 pub use places::{Places, Scratch, Totals, picks_for};

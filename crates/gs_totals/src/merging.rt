@@ -4,9 +4,11 @@ ghost use Rattle.std.specs.Prelude.{◌+◌, ◌<◌, ◌≤◌, length};
 ghost use Rattle.gs_model.specs.Frame.{move_count, player_at, point_count};
 ghost use Rattle.gs_seq.specs.Abstracts.{frame_of, lists_of};
 ghost use Rattle.gs_seq.specs.Plans.{class_plan};
+ghost use Rattle.gs_best.specs.Rows.{AreGreatest, AreSums, IsMerged};
 ghost use Rattle.gs_best.specs.Sizes.{IsWide};
 ghost use Rattle.gs_best.specs.Tables.{classes_at, moves_of, start_of};
-ghost use Rattle.gs_totals.specs.Merged.{AreChosen, AreGreatest, AreModestFrom, AreSums, AreTaken, IsFollowing, IsMerged};
+ghost use Rattle.gs_totals.specs.ClassTotals.{total_worth};
+ghost use Rattle.gs_totals.specs.Merged.{AreChosen, AreModestFrom, AreTaken, IsFollowing};
 ghost use Rattle.gs_totals.specs.Places.{AreEndSums, totals_of};
 ghost use Rattle.gs_totals.specs.Room.{HasRows, IsPlaced};
 
@@ -49,7 +51,7 @@ fn best_moves(
     requires best { IsWide (frame_of side.now.form.now) (lists_of side.now.form.now) (length best.old) }
     requires moves { IsWide (frame_of side.now.form.now) (lists_of side.now.form.now) (length moves.old) }
     ensures { let f = frame_of side.now.form.now in let lists = lists_of side.now.form.now in
-        AreGreatest f lists (totals_of f lists side.now.player (class_plan f lists side.now.other.now) totals.now.points.items) point (move_count f point) best.new moves.new }
+        AreGreatest f lists (total_worth f lists (totals_of f lists side.now.player (class_plan f lists side.now.other.now) totals.now.points.items)) point (move_count f point) best.new moves.new }
 {
     let _rounds = round_total(side.form);
     let count = class_total(side.form, round_at(side.form, point)) as usize;
@@ -78,7 +80,7 @@ fn sum_moves(
     requires worths { IsWide (frame_of side.now.form.now) (lists_of side.now.form.now) (length worths.old) }
     requires sums { IsWide (frame_of side.now.form.now) (lists_of side.now.form.now) (length sums.old) }
     ensures { let f = frame_of side.now.form.now in let lists = lists_of side.now.form.now in
-        AreSums f lists (totals_of f lists side.now.player (class_plan f lists side.now.other.now) totals.now.points.items) point (move_count f point) sums.new }
+        AreSums f lists (total_worth f lists (totals_of f lists side.now.player (class_plan f lists side.now.other.now) totals.now.points.items)) point (move_count f point) sums.new }
 {
     let _rounds = round_total(side.form);
     let count = class_total(side.form, round_at(side.form, point)) as usize;
@@ -141,7 +143,7 @@ pub(crate) fn merge_moves(
     requires best { IsWide (frame_of side.now.form.now) (lists_of side.now.form.now) (length best.old) }
     requires moves { IsWide (frame_of side.now.form.now) (lists_of side.now.form.now) (length moves.old) }
     ensures { let f = frame_of side.now.form.now in let lists = lists_of side.now.form.now in
-        IsMerged f lists side.now.player (totals_of f lists side.now.player (class_plan f lists side.now.other.now) totals.now.points.items) point best.new moves.new }
+        IsMerged f lists side.now.player (total_worth f lists (totals_of f lists side.now.player (class_plan f lists side.now.other.now) totals.now.points.items)) point best.new moves.new }
 {
     if chooser(side.form, point) == side.player {
         best_moves(side, places, totals, point, worths, best, moves);

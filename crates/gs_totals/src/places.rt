@@ -56,7 +56,7 @@ fn place_ends(form: &Abstract, starts: &mut [u32])
 }
 
 /// How many numbers the rows of all ends have.
-fn end_room(form: &Abstract) -> u32
+pub(crate) fn end_room(form: &Abstract) -> u32
     ensures { result ≡ end_start (frame_of form.now) (lists_of form.now) (end_count (frame_of form.now)) }
 {
     let _rounds = round_total(form);

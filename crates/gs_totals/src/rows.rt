@@ -5,10 +5,11 @@ ghost use Rattle.gs_model.specs.Classes.{class_count};
 ghost use Rattle.gs_model.specs.Frame.{last_round, move_count, point_count};
 ghost use Rattle.gs_seq.specs.Abstracts.{frame_of, lists_of};
 ghost use Rattle.gs_seq.specs.Plans.{class_plan};
-ghost use Rattle.gs_best.specs.Rows.{AreModest};
+ghost use Rattle.gs_best.specs.Rows.{AreModest, AreWorths};
 ghost use Rattle.gs_best.specs.Sizes.{IsWide};
 ghost use Rattle.gs_best.specs.Tables.{classes_at};
-ghost use Rattle.gs_totals.specs.Merged.{AreGathered, AreModestFrom, AreWorths};
+ghost use Rattle.gs_totals.specs.ClassTotals.{total_worth};
+ghost use Rattle.gs_totals.specs.Merged.{AreGathered, AreModestFrom};
 ghost use Rattle.gs_totals.specs.Places.{AreEndSums, totals_of};
 ghost use Rattle.gs_totals.specs.Room.{HasRows, IsPlaced};
 
@@ -92,7 +93,7 @@ pub(crate) fn read_worths<'a>(
         AreModestFrom f lists (totals_of f lists side.now.player (class_plan f lists side.now.other.now) totals.now.points.items) (point + 1) }
     requires wide { IsWide (frame_of side.now.form.now) (lists_of side.now.form.now) (length worths.old) }
     ensures worths { let f = frame_of side.now.form.now in let lists = lists_of side.now.form.now in
-        AreWorths f lists (totals_of f lists side.now.player (class_plan f lists side.now.other.now) totals.now.points.items) point choice result.now }
+        AreWorths f lists (total_worth f lists (totals_of f lists side.now.player (class_plan f lists side.now.other.now) totals.now.points.items)) point choice result.now }
     ensures long { classes_at (frame_of side.now.form.now) (lists_of side.now.form.now) point ≤ length result.now }
 {
     let _rounds = round_total(side.form);

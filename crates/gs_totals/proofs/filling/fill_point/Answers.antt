@@ -1,17 +1,21 @@
 use Rattle.std.proofs.Common.{◌≡◌, ◌+◌, ◌-◌, List, length, get_or, drop, sym, ap, ◌∙◌, subst, arith}
 use Rattle.std.specs.Prelude.{ℤ, pos}
-use Rattle.std.proofs.lemmas.List.{get_or_read}
 use Rattle.gs_model.specs.Classes.{class_count}
 use Rattle.gs_model.specs.Frame.{point_count}
 use Rattle.gs_best.specs.Rows.{IsCopied}
-use Rattle.gs_best.specs.Tables.{moves_of, start_of}
+use Rattle.gs_best.specs.Tables.{classes_at, moves_of, start_of}
 use Rattle.gs_best.proofs.Filled.{written}
+use Rattle.gs_best.proofs.Placed.{IsRow, row_later}
 use Rattle.gs_best.proofs.Sides.{frame, lists, side_walked}
-use Rattle.gs_best.proofs.Starts.{starts_le, starts_more}
 use Rattle.gs_totals.specs.Places.{AreBestFrom}
 use Rattle.gs_totals.proofs.Known.{facing, known_modest, totals_in}
+use Rattle.gs_totals.proofs.PlacedRows.{point_row}
 use Rattle.gs_totals.proofs.Stepping.{best_back}
+use Rattle.gs_totals.proofs.filling.fill_point.Goals.{After-class_total-count}
 use Rattle.gs_totals.proofs.filling.fill_point.Goals as goal
+
+row : (c : After-class_total-count) → IsRow (classes_at (frame c.args.side.now) (lists c.args.side.now)) (point_count (frame c.args.side.now)) c.args.point c.index.result.now c.class_total-count.result
+row c = point_row (frame c.args.side.now) (lists c.args.side.now) c.args.places.now c.requires.placed c.args.point _ _ c.requires.point c.index.ensures (c.class_total-count.ensures.value ∙ ap (class_count (lists c.args.side.now)) c.round_at.ensures.value)
 
 pub merge_moves-requires-clause-modest : goal.merge_moves-requires-clause-modest
 merge_moves-requires-clause-modest c =
@@ -20,32 +24,17 @@ merge_moves-requires-clause-modest c =
 
 pub copy_values-requires-clause-room : goal.copy_values-requires-clause-room
 copy_values-requires-clause-room c =
-    let d = c.args.side.now in
-    let f = frame d in
-    let q = c.args.point in
-    let placed = c.requires.placed in
-    let start : c.index.result.now ≡ start_of f (lists d) q = get_or_read c.args.places.now.points.items q _ (omega (arith, c.requires.point, placed.many_points)) c.index.ensures 0 ∙ placed.points q c.requires.point in
-    let all = c.class_total-count.ensures.value ∙ ap (class_count (lists d)) c.round_at.ensures.value in
-    omega (arith, start, all, starts_more f (lists d) q, starts_le f (lists d) (q + 1) (point_count f) (omega (arith, c.requires.point)), c.requires.rows.points, ap (λ (l : List ℤ). length l) c.deref_mut.ensures.value)
+    omega (arith, (row (goal.at.copy_values-requires-clause-room c).After-class_total-count).within, c.requires.rows.points, ap (λ (l : List ℤ). length l) c.deref_mut.ensures.value)
 
 pub copy_moves-requires-clause-room : goal.copy_moves-requires-clause-room
-copy_moves-requires-clause-room c =
-    let d = c.args.side.now in
-    let f = frame d in
-    let q = c.args.point in
-    let placed = c.requires.placed in
-    let start : c.index.result.now ≡ start_of f (lists d) q = get_or_read c.args.places.now.points.items q _ (omega (arith, c.requires.point, placed.many_points)) c.index.ensures 0 ∙ placed.points q c.requires.point in
-    let all = c.class_total-count.ensures.value ∙ ap (class_count (lists d)) c.round_at.ensures.value in
-    omega (arith, start, all, starts_more f (lists d) q, starts_le f (lists d) (q + 1) (point_count f) (omega (arith, c.requires.point)), c.requires.picks)
+copy_moves-requires-clause-room c = omega (arith, (row (goal.at.copy_moves-requires-clause-room c).After-class_total-count).within, c.requires.picks)
 
 pub returns-clause-known : goal.returns-clause-known
 returns-clause-known c =
     let d = c.args.side.now in
     let f = frame d in
     let q = c.args.point in
-    let placed = c.requires.placed in
-    let start : c.index.result.now ≡ start_of f (lists d) q = get_or_read c.args.places.now.points.items q _ (omega (arith, c.requires.point, placed.many_points)) c.index.ensures 0 ∙ placed.points q c.requires.point in
-    let all = c.class_total-count.ensures.value ∙ ap (class_count (lists d)) c.round_at.ensures.value in
+    let row = row (goal.at.returns-clause-known c).After-class_total-count in
     let old = c.args.totals.now.points in
     let values = c.copy_values.new.values in
     let picks = c.args.picks.now in
@@ -57,8 +46,8 @@ returns-clause-known c =
     let moved = c.copy_moves.ensures in
     let starts = c.index.result.now in
     subst (λ l. AreBestFrom f (lists d) d.player (totals_in d l) (moves_of f (lists d) new_picks) q) (sym values_are)
-    (best_back f (lists d) d.player (side_walked d) (facing d) old.items values q starts c.class_total-count.result c.requires.point start all best copied (moves_of f (lists d) picks) (moves_of f (lists d) new_picks)
-    (λ p e lo le. moved.behind (start_of f (lists d) p + (e - 1)) (omega (arith, start, all, starts_more f (lists d) q, starts_le f (lists d) (q + 1) p lo)))
+    (best_back f (lists d) d.player (side_walked d) (facing d) old.items values q starts c.class_total-count.result c.requires.point row.start_is row.count_is best copied (moves_of f (lists d) picks) (moves_of f (lists d) new_picks)
+    (λ p e lo le. moved.behind (start_of f (lists d) p + (e - 1)) (omega (arith, row_later (classes_at f (lists d)) q starts c.class_total-count.result p row.start_is row.count_is (omega (arith, lo)))))
     moves
-    (λ e le. let at : start_of f (lists d) q + (e - 1) ≡ starts + (e - 1) = omega (arith, start) in ap (λ i. get_or new_picks i 0) at ∙ moved.here (e - 1) (omega (arith, le.0, le.1, all)))
+    (λ e le. let at : start_of f (lists d) q + (e - 1) ≡ starts + (e - 1) = omega (arith, row.start_is) in ap (λ i. get_or new_picks i 0) at ∙ moved.here (e - 1) (omega (arith, le.0, le.1, row.count_is)))
     c.merge_moves.ensures c.requires.known)

@@ -1,17 +1,21 @@
-use Rattle.std.proofs.Common.{◌≡◌, ◌+◌, List, length, drop, refl, sym, ap, ◌∙◌, subst, arith}
+use Rattle.std.proofs.Common.{◌+◌, List, length, drop, refl, sym, ap, ◌∙◌, subst, arith}
 use Rattle.std.specs.Prelude.{ℤ, pos}
-use Rattle.std.proofs.lemmas.List.{get_or_read}
 use Rattle.gs_model.specs.Classes.{class_count}
 use Rattle.gs_model.specs.Frame.{point_count}
 use Rattle.gs_best.specs.Rows.{IsCopied}
-use Rattle.gs_best.specs.Tables.{moves_of, start_of}
+use Rattle.gs_best.specs.Tables.{classes_at, moves_of}
 use Rattle.gs_best.proofs.Filled.{written}
+use Rattle.gs_best.proofs.Placed.{IsRow}
 use Rattle.gs_best.proofs.Sides.{frame, lists, side_walked}
-use Rattle.gs_best.proofs.Starts.{starts_le, starts_more}
 use Rattle.gs_totals.specs.Places.{IsFollowedFrom}
 use Rattle.gs_totals.proofs.Known.{facing, known_modest, totals_in}
+use Rattle.gs_totals.proofs.PlacedRows.{point_row}
 use Rattle.gs_totals.proofs.Stepping.{following_back}
+use Rattle.gs_totals.proofs.following.follow_point.Goals.{After-class_total-count}
 use Rattle.gs_totals.proofs.following.follow_point.Goals as goal
+
+row : (c : After-class_total-count) → IsRow (classes_at (frame c.args.side.now) (lists c.args.side.now)) (point_count (frame c.args.side.now)) c.args.point c.index.result.now c.class_total-count.result
+row c = point_row (frame c.args.side.now) (lists c.args.side.now) c.args.places.now c.requires.placed c.args.point _ _ c.requires.point c.index.ensures (c.class_total-count.ensures.value ∙ ap (class_count (lists c.args.side.now)) c.round_at.ensures.value)
 
 pub follow_moves-requires-clause-modest : goal.follow_moves-requires-clause-modest
 follow_moves-requires-clause-modest c =
@@ -20,22 +24,14 @@ follow_moves-requires-clause-modest c =
 
 pub copy_values-requires-clause-room : goal.copy_values-requires-clause-room
 copy_values-requires-clause-room c =
-    let d = c.args.side.now in
-    let f = frame d in
-    let q = c.args.point in
-    let placed = c.requires.placed in
-    let start : c.index.result.now ≡ start_of f (lists d) q = get_or_read c.args.places.now.points.items q _ (omega (arith, c.requires.point, placed.many_points)) c.index.ensures 0 ∙ placed.points q c.requires.point in
-    let all = c.class_total-count.ensures.value ∙ ap (class_count (lists d)) c.round_at.ensures.value in
-    omega (arith, start, all, starts_more f (lists d) q, starts_le f (lists d) (q + 1) (point_count f) (omega (arith, c.requires.point)), c.requires.rows.points, ap (λ (l : List ℤ). length l) c.deref_mut.ensures.value)
+    omega (arith, (row (goal.at.copy_values-requires-clause-room c).After-class_total-count).within, c.requires.rows.points, ap (λ (l : List ℤ). length l) c.deref_mut.ensures.value)
 
 pub returns-clause-known : goal.returns-clause-known
 returns-clause-known c =
     let d = c.args.side.now in
     let f = frame d in
     let q = c.args.point in
-    let placed = c.requires.placed in
-    let start : c.index.result.now ≡ start_of f (lists d) q = get_or_read c.args.places.now.points.items q _ (omega (arith, c.requires.point, placed.many_points)) c.index.ensures 0 ∙ placed.points q c.requires.point in
-    let all = c.class_total-count.ensures.value ∙ ap (class_count (lists d)) c.round_at.ensures.value in
+    let r = row (goal.at.returns-clause-known c).After-class_total-count in
     let old = c.args.totals.now.points in
     let values = c.copy_values.new.values in
     let row = c.follow_moves.new.row in
@@ -43,5 +39,5 @@ returns-clause-known c =
     let values_are = written old.len values (drop (length values) old.items) (omega (arith, c.copy_values.auto.values, ap (λ (l : List ℤ). length l) c.deref_mut.ensures.value, old.ok.0)) in
     let copied : IsCopied (pos 0) c.index.result.now c.class_total-count.result row old.items values = subst (λ l. IsCopied (pos 0) c.index.result.now c.class_total-count.result row l values) c.deref_mut.ensures.value c.copy_values.ensures in
     subst (λ l. IsFollowedFrom f (lists d) d.player (totals_in d l) move q) (sym values_are)
-    (following_back f (lists d) d.player (side_walked d) (facing d) old.items values q c.index.result.now c.class_total-count.result c.requires.point start all row copied move move (λ p e lo le. refl) (λ own e le. c.requires.moves q e c.requires.point own le)
+    (following_back f (lists d) d.player (side_walked d) (facing d) old.items values q c.index.result.now c.class_total-count.result c.requires.point r.start_is r.count_is row copied move move (λ p e lo le. refl) (λ own e le. c.requires.moves q e c.requires.point own le)
     c.follow_moves.ensures c.requires.known)

@@ -1,4 +1,4 @@
-use Rattle.std.proofs.Common.{◌≡◌, ℕ, ◌+◌, ◌-◌, ◌≤◌, get_or, refl, sym, ap, ◌∙◌, subst, arith}
+use Rattle.std.proofs.Common.{◌≡◌, ℕ, ◌+◌, ◌-◌, get_or, refl, sym, ap, ◌∙◌, subst, arith}
 use Rattle.gs_model.specs.Classes.{IsClass, class_count}
 use Rattle.gs_model.specs.Frame.{round_of}
 use Rattle.gs_model.specs.Positions.{at_point}

@@ -1,4 +1,4 @@
-use Rattle.std.proofs.Common.{◌≤◌, arith}
+use Rattle.std.proofs.Common.{arith}
 use Rattle.gs_seq.specs.Abstracts.{frame_of, lists_of}
 use Rattle.gs_best.proofs.Forms.{form_classes, form_in_range}
 use Rattle.gs_totals.proofs.Itself.{row_gathers}
