@@ -1,5 +1,6 @@
 -- The plan that puts all on the moves of best totals is a plan.
 use Rattle.std.proofs.Common.{◌≡◌, ℕ, List, length, refl, sym, ap, ◌∙◌, subst, Vec}
+use Rattle.std.specs.Prelude.{ℤ}
 use Rattle.std.specs.declared.alloc.Global.{Global}
 use Rattle.gs_model.specs.BestAnswers.{IsFirstBestPlan, Values}
 use Rattle.gs_model.specs.Classes.{ClassLists, IsClasses}
@@ -13,7 +14,7 @@ use Rattle.gs_best.specs.Puts.{ArePutBefore}
 use Rattle.gs_best.specs.Tables.{moves_of}
 use Rattle.gs_best.proofs.AllOn.{put_is_plan}
 use Rattle.gs_totals.specs.ClassTotals.{AreBestTotals}
-use Rattle.gs_totals.specs.Places.{totals_of}
+use Rattle.gs_totals.specs.Places.{AreEndSums, totals_of}
 use Rattle.gs_totals.proofs.TotalAnswers.{chosen_is_best}
 use Rattle.gs_play.specs.Seats.{HasAnswered}
 use Rattle.gs_play.specs.declared.seats.Seat.{Seat}
@@ -29,6 +30,10 @@ put_plan f r lists k lossless player w y v move weights best puts long = put_is_
 -- answers with the same weights are the same plan
 pub same_plan : (f : Frame) (lists : ClassLists) (one two : ℕ) (xs ys : List ℕ) → one ≡ 1 → two ≡ 1 → xs ≡ ys → plan_of f lists one xs ≡ plan_of f lists two ys
 same_plan f lists one two xs ys e1 e2 same = ap (λ t. plan_of f lists t xs) (e1 ∙ sym e2) ∙ ap (plan_of f lists two) same
+
+-- so ends pay the other player the same against both
+pub paid_same : (f : Frame) (lists : ClassLists) (player : ℕ) (ends : List ℤ) (one two : ℕ) (xs ys : List ℕ) → one ≡ 1 → two ≡ 1 → xs ≡ ys → AreEndSums f lists player (plan_of f lists two ys) ends → AreEndSums f lists player (plan_of f lists one xs) ends
+paid_same f lists player ends one two xs ys e1 e2 same paid = subst (λ y. AreEndSums f lists player y ends) (sym (same_plan f lists one two xs ys e1 e2 same)) paid
 
 -- a player's answer after some turns, by his best totals then
 pub known_on : (f : Frame) (lists : ClassLists) (player : ℕ) (z : Plan) (old new : Seat) → new.picks ≡ old.picks → new.answer ≡ old.answer → AreBestTotals f lists player z (totals_of f lists player z new.totals.points.items) (moves_of f lists old.picks.items)

@@ -10,11 +10,11 @@ ghost use Rattle.gs_seq.specs.Abstracts.{frame_of, lists_of};
 ghost use Rattle.gs_seq.specs.Plans.{IsPlanOf, class_plan};
 ghost use Rattle.gs_seq.specs.Slots.{plan_of, slot_count};
 ghost use Rattle.gs_best.specs.Puts.{ArePutBefore};
-ghost use Rattle.gs_best.specs.Tables.{moves_of, start_of};
+ghost use Rattle.gs_best.specs.Tables.{AreInMoves, moves_of, start_of};
 ghost use Rattle.gs_totals.specs.ClassTotals.{AreBestTotals};
 ghost use Rattle.gs_totals.specs.Jumps.{AreBeforeChange};
 ghost use Rattle.gs_totals.specs.KeptSums.{AreAlike, plus_times};
-ghost use Rattle.gs_totals.specs.Places.{AreEndLines, AreEndSums, AreInMoves, ArePointLines, AreSmallPoints, AreSmallRows, totals_of};
+ghost use Rattle.gs_totals.specs.Places.{AreEndLines, AreEndSums, ArePointLines, AreSmallPoints, AreSmallRows, totals_of};
 ghost use Rattle.gs_totals.specs.Room.{HasRows, HasScratch, IsPlaced};
 ghost use Rattle.gs_play.specs.Seats.{HasAnswered, HasRises, HasRoom, IsSeat};
 ghost use Rattle.gs_play.specs.Staying.{AnswerStays};
@@ -384,15 +384,7 @@ pub(crate) fn stays(
 }
 
 /// Adds to a player's totals so many times what each turn adds: to what ends pay, and where his choices last longer to the totals of points as well.
-fn advance_totals(
-    form: &Abstract,
-    places: &Places,
-    totals: &mut Totals,
-    steps: &Totals,
-    times: u32,
-    lasts: u32,
-)
-    requires placed { IsPlaced (frame_of form.now) (lists_of form.now) places.now }
+fn advance_totals(form: &Abstract, totals: &mut Totals, steps: &Totals, times: u32, lasts: u32)
     requires rows { HasRows (frame_of form.now) (lists_of form.now) totals.old }
     requires step_rows { HasRows (frame_of form.now) (lists_of form.now) steps.now }
     requires small { AreSmallRows (frame_of form.now) (lists_of form.now) totals.old.ends.items }
@@ -404,9 +396,9 @@ fn advance_totals(
     ensures lines { AreEndLines (frame_of form.now) (lists_of form.now) totals.old.ends.items steps.now.ends.items times totals.new.ends.items }
     ensures points { times < lasts → ArePointLines (frame_of form.now) (lists_of form.now) totals.old.points.items steps.now.points.items times totals.new.points.items }
 {
-    advance(form, places, totals, steps, times);
+    advance(form, totals, steps, times);
     if times < lasts {
-        advance_points(form, places, totals, steps, times);
+        advance_points(form, totals, steps, times);
     }
 }
 
@@ -415,7 +407,6 @@ fn advance_totals(
 pub(crate) fn move_on(
     form: &Abstract,
     player: u8,
-    places: &Places,
     seat: &mut Seat,
     steps: &Totals,
     times: u32,
@@ -423,7 +414,6 @@ pub(crate) fn move_on(
 )
     requires some { 0 < player }
     requires two { player ≤ 2 }
-    requires placed { IsPlaced (frame_of form.now) (lists_of form.now) places.now }
     requires room { HasRoom (frame_of form.now) (lists_of form.now) player seat.old }
     requires plan { IsPlanOf (frame_of form.now) (lists_of form.now) player seat.old.plan }
     requires total { seat.old.plan.total + times ≤ 2 ^ 36 }
@@ -445,7 +435,7 @@ pub(crate) fn move_on(
     ensures lasting { IsTrue seat.new.is_answered → times < lasts }
     ensures points { times < lasts → ArePointLines (frame_of form.now) (lists_of form.now) seat.old.totals.points.items steps.now.points.items times seat.new.totals.points.items }
 {
-    advance_totals(form, places, &mut seat.totals, steps, times, lasts);
+    advance_totals(form, &mut seat.totals, steps, times, lasts);
     add_times(form, player, &mut seat.plan, &seat.answer, times);
     seat.is_answered = times < lasts;
 }

@@ -1,4 +1,4 @@
-use Rattle.std.proofs.Common.{◌≡◌, ℕ, ◌≤◌, List, length, drop, sym, ap, ◌∙◌, subst, arith, Vec}
+use Rattle.std.proofs.Common.{◌≡◌, ℕ, ◌≤◌, ◌++◌, List, length, take, drop, sym, ap, ◌∙◌, subst, arith, Vec}
 use Rattle.std.specs.Prelude.{ℤ}
 use Rattle.std.specs.declared.alloc.Global.{Global}
 use Rattle.gs_model.specs.Frame.{point_count}
@@ -12,7 +12,20 @@ use Rattle.gs_best.proofs.Forms.{form_classes, form_in_range, form_lossless, for
 use Rattle.gs_totals.specs.ClassTotals.{AreBestTotals}
 use Rattle.gs_totals.specs.Places.{AreEndSums, totals_of}
 use Rattle.gs_play.proofs.Answering.{put_plan}
+use Rattle.gs_play.proofs.seats.answer_anew.Goals.{After-find, After-swap}
 use Rattle.gs_play.proofs.seats.answer_anew.Goals as goal
+
+-- the moves as they were written, and the answer's weights after both lists changed places
+picks_are : (c : After-find) → let old = c.args.seat.now.picks in take old.len (c.find.new.picks ++ drop (length c.find.new.picks) old.items) ≡ c.find.new.picks
+picks_are c =
+    let old = c.args.seat.now.picks in
+    written old.len c.find.new.picks (drop (length c.find.new.picks) old.items) (omega (arith, c.find.auto.picks, ap (λ (l : List ℕ). length l) c.deref_mut.ensures.value, old.ok.0))
+
+answer_is : (c : After-swap) → c.swap.new.y.items ≡ c.find.new.weights
+answer_is c =
+    let was = c.args.seat.now.next in
+    let weights = c.find.new.weights in
+    ap (λ (v : Vec ℕ Global). v.items) c.swap.ensures.y_after ∙ written was.len weights (drop (length weights) was.items) (omega (arith, c.find.auto.weights, ap (λ (l : List ℕ). length l) c.deref_mut-2.ensures.value, was.ok.0))
 
 pub find-requires-clause-long : goal.find-requires-clause-long
 find-requires-clause-long c = ap (λ (l : List ℕ). length l) c.deref_mut-2.ensures.value ∙ c.requires.seat.room.next
@@ -24,17 +37,12 @@ returns-clause-answered c =
     let lists = lists_of a in
     let player = c.args.player in
     let y = class_plan f lists c.args.other.now in
-    let old = c.args.seat.now.picks in
-    let was = c.args.seat.now.next in
     let picks = c.find.new.picks in
-    let weights = c.find.new.weights in
-    let picks_are = written old.len picks (drop (length picks) old.items) (omega (arith, c.find.auto.picks, ap (λ (l : List ℕ). length l) c.deref_mut.ensures.value, old.ok.0)) in
-    let weights_are = written was.len weights (drop (length weights) was.items) (omega (arith, c.find.auto.weights, ap (λ (l : List ℕ). length l) c.deref_mut-2.ensures.value, was.ok.0)) in
-    let answer_is : c.swap.new.y.items ≡ weights = ap (λ (v : Vec ℕ Global). v.items) c.swap.ensures.y_after ∙ weights_are in
+    let at = goal.at.returns-clause-answered c in
     record {
-      best = subst (λ l. AreBestTotals f lists player y (totals_of f lists player y c.find.new.totals.points.items) (moves_of f lists l)) (sym picks_are) c.find.ensures.best;
-      puts = subst (λ l. ArePutBefore f lists player (moves_of f lists l) c.swap.new.y.items (point_count f)) (sym picks_are)
-          (subst (λ l. ArePutBefore f lists player (moves_of f lists picks) l (point_count f)) (sym answer_is) c.find.ensures.puts);
+      best = subst (λ l. AreBestTotals f lists player y (totals_of f lists player y c.find.new.totals.points.items) (moves_of f lists l)) (sym (picks_are at.After-find)) c.find.ensures.best;
+      puts = subst (λ l. ArePutBefore f lists player (moves_of f lists l) c.swap.new.y.items (point_count f)) (sym (picks_are at.After-find))
+          (subst (λ l. ArePutBefore f lists player (moves_of f lists picks) l (point_count f)) (sym (answer_is at.After-swap)) c.find.ensures.puts);
     }
 
 pub returns-clause-seat : goal.returns-clause-seat
@@ -45,13 +53,9 @@ returns-clause-seat c =
     let player = c.args.player in
     let y = class_plan f lists c.args.other.now in
     let room = c.requires.seat.room in
-    let old = c.args.seat.now.picks in
-    let was = c.args.seat.now.next in
     let picks = c.find.new.picks in
     let weights = c.find.new.weights in
-    let picks_are = written old.len picks (drop (length picks) old.items) (omega (arith, c.find.auto.picks, ap (λ (l : List ℕ). length l) c.deref_mut.ensures.value, old.ok.0)) in
-    let weights_are = written was.len weights (drop (length weights) was.items) (omega (arith, c.find.auto.weights, ap (λ (l : List ℕ). length l) c.deref_mut-2.ensures.value, was.ok.0)) in
-    let answer_is : c.swap.new.y.items ≡ weights = ap (λ (v : Vec ℕ Global). v.items) c.swap.ensures.y_after ∙ weights_are in
+    let at = goal.at.returns-clause-seat c in
     let long : length weights ≡ slot_count f lists player = c.find.auto.weights ∙ ap (λ (l : List ℕ). length l) c.deref_mut-2.ensures.value ∙ room.next in
     let plan = put_plan f (form_in_range a) lists (form_classes a c.round_total-rounds.ensures.sound) (form_lossless a) player (form_walked a player c.requires.some c.requires.two) y (totals_of f lists player y c.find.new.totals.points.items) (moves_of f lists picks) weights
     c.find.ensures.best c.find.ensures.puts long in
@@ -59,12 +63,12 @@ returns-clause-seat c =
       room = record {
         answer = record {
           player_is = room.answer.player_is;
-          plan = subst (λ t. IsPlan f lists player t c.swap.new.y.items) (sym room.one) (subst (IsPlan f lists player 1) (sym answer_is) plan);
+          plan = subst (λ t. IsPlan f lists player t c.swap.new.y.items) (sym room.one) (subst (IsPlan f lists player 1) (sym (answer_is at.After-swap)) plan);
         };
         one = room.one;
         next = ap (λ (v : Vec ℕ Global). length v.items) c.swap.ensures.x_after ∙ room.answer.plan.long;
         rows = c.find.ensures.rows;
-        picks = subst (λ l. start_of f lists (point_count f) ≤ length l) (sym picks_are) (omega (arith, room.picks, c.find.auto.picks, ap (λ (l : List ℕ). length l) c.deref_mut.ensures.value));
+        picks = subst (λ l. start_of f lists (point_count f) ≤ length l) (sym (picks_are at.After-find)) (omega (arith, room.picks, c.find.auto.picks, ap (λ (l : List ℕ). length l) c.deref_mut.ensures.value));
       };
       paid = subst (λ (l : Vec ℤ Global). AreEndSums f lists player y l.items) (sym c.find.ensures.paid) c.requires.seat.paid;
     }

@@ -11,7 +11,7 @@ use Rattle.gs_totals.specs.KeptSums.{AreAlike, plus_times}
 use Rattle.gs_totals.specs.Places.{AreEndSums, totals_of}
 use Rattle.gs_totals.proofs.SmallEnds.{small_ends, small_points}
 use Rattle.gs_play.specs.Seats.{HasAnswered}
-use Rattle.gs_play.proofs.Answering.{known_on, same_plan}
+use Rattle.gs_play.proofs.Answering.{known_on, paid_same}
 use Rattle.gs_play.specs.Staying.{AnswerStays}
 use Rattle.gs_play.proofs.Jumps.{jump}
 use Rattle.gs_play.proofs.Turned.{best_on, least_of, paid_on, stays_less}
@@ -48,40 +48,16 @@ answer-same_two-requires-clause-known c =
     λ t. subst (λ (p : Plan). HasAnswered f lists 2 (class_plan f lists p) c.args.two.now) (sym c.answer-same_one.ensures.plan) (c.requires.playing.known_two t)
 
 pub renew-requires-clause-kept : goal.renew-requires-clause-kept
-renew-requires-clause-kept c =
-    let f = frame_of c.args.form.now in
-    let lists = lists_of c.args.form.now in
-    let old = c.args.two.now.answer in
-    let new = c.answer-same_two.new.seat in
-    λ t. subst (λ y. AreEndSums f lists 1 y c.args.desk.now.steps_one.ends.items)
-    (sym (same_plan f lists new.answer.total old.total new.answer.weights.items old.weights.items c.answer-same_two.ensures.seat.room.one c.requires.playing.seat_two.room.one (c.answer-same_two.ensures.same t))) c.requires.steps.to_one
+renew-requires-clause-kept c = λ t. paid_same (frame_of c.args.form.now) (lists_of c.args.form.now) 1 _ _ _ _ _ c.answer-same_two.ensures.seat.room.one c.requires.playing.seat_two.room.one (c.answer-same_two.ensures.same t) c.requires.steps.to_one
 
 pub renew-requires-clause-paid : goal.renew-requires-clause-paid
-renew-requires-clause-paid c =
-    let f = frame_of c.args.form.now in
-    let lists = lists_of c.args.form.now in
-    let old = c.args.two.now.answer in
-    let new = c.answer-same_two.new.seat in
-    λ e. subst (λ y. AreEndSums f lists 1 y c.args.desk.now.steps_one.ends.items)
-    (sym (same_plan f lists new.answer.total old.total new.next.items old.weights.items c.answer-same_two.ensures.seat.room.one c.requires.playing.seat_two.room.one (c.answer-same_two.ensures.next e))) c.requires.steps.to_one
+renew-requires-clause-paid c = λ t. paid_same (frame_of c.args.form.now) (lists_of c.args.form.now) 1 _ _ _ _ _ c.answer-same_two.ensures.seat.room.one c.requires.playing.seat_two.room.one (c.answer-same_two.ensures.next t) c.requires.steps.to_one
 
 pub renew-requires-2-clause-kept : goal.renew-requires-2-clause-kept
-renew-requires-2-clause-kept c =
-    let f = frame_of c.args.form.now in
-    let lists = lists_of c.args.form.now in
-    let old = c.args.one.now.answer in
-    let new = c.answer-same_one.new.seat in
-    λ t. subst (λ y. AreEndSums f lists 2 y c.args.desk.now.steps_two.ends.items)
-    (sym (same_plan f lists new.answer.total old.total new.answer.weights.items old.weights.items c.answer-same_one.ensures.seat.room.one c.requires.playing.seat_one.room.one (c.answer-same_one.ensures.same t))) c.requires.steps.to_two
+renew-requires-2-clause-kept c = λ t. paid_same (frame_of c.args.form.now) (lists_of c.args.form.now) 2 _ _ _ _ _ c.answer-same_one.ensures.seat.room.one c.requires.playing.seat_one.room.one (c.answer-same_one.ensures.same t) c.requires.steps.to_two
 
 pub renew-requires-2-clause-paid : goal.renew-requires-2-clause-paid
-renew-requires-2-clause-paid c =
-    let f = frame_of c.args.form.now in
-    let lists = lists_of c.args.form.now in
-    let old = c.args.one.now.answer in
-    let new = c.answer-same_one.new.seat in
-    λ e. subst (λ y. AreEndSums f lists 2 y c.args.desk.now.steps_two.ends.items)
-    (sym (same_plan f lists new.answer.total old.total new.next.items old.weights.items c.answer-same_one.ensures.seat.room.one c.requires.playing.seat_one.room.one (c.answer-same_one.ensures.next e))) c.requires.steps.to_two
+renew-requires-2-clause-paid c = λ t. paid_same (frame_of c.args.form.now) (lists_of c.args.form.now) 2 _ _ _ _ _ c.answer-same_one.ensures.seat.room.one c.requires.playing.seat_one.room.one (c.answer-same_one.ensures.next t) c.requires.steps.to_two
 
 pub move_on-requires-clause-small_points : goal.move_on-requires-clause-small_points
 move_on-requires-clause-small_points c =
