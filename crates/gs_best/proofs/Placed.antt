@@ -22,6 +22,10 @@ row_read width n q start count starts l many all read e =
     let at : start ≡ row_start width q = get_or_read starts q start (omega (arith, l, many)) read 0 ∙ all q l in
     record { start_is = at; count_is = e; within = omega (arith, at, e, sum_range_more width q, prefix_le width (q + 1) n (omega (arith, l))) }
 
+-- the next row starts where it ends
+pub row_next : (width : ℕ → ℕ) (q start count : ℕ) → start ≡ row_start width q → count ≡ width q → start + count ≡ row_start width (q + 1)
+row_next width q start count at e = omega (arith, at, e, sum_range_more width q)
+
 -- a later row starts behind
 pub row_later : (width : ℕ → ℕ) (q start count later : ℕ) → start ≡ row_start width q → count ≡ width q → q < later → start + count ≤ row_start width later
 row_later width q start count later at e l = omega (arith, at, e, sum_range_more width q, prefix_le width (q + 1) later (omega (arith, l)))

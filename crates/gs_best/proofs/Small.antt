@@ -1,6 +1,6 @@
 -- Best values are small: by the ends below a position and the weight of the deals.
 use Rattle.std.proofs.Common.{◌≡◌, ℕ, zero, suc, ◌+◌, ◌*◌, ◌^◌, ◌<◌, ◌≤◌, Bool, true, false, cond, List, [], ◌∷◌, get_or, refl, sym, ap, subst, arith, sum_by, Option, Some, None, ⊎_elim}
-use Rattle.std.specs.Prelude.{◌==◌, ℤ, pos, ◌*ℤ◌, All, unsigned_abs}
+use Rattle.std.specs.Prelude.{◌==◌, ℤ, pos, ◌*ℤ◌, unsigned_abs}
 use Rattle.std.specs.List.{range_with_len}
 use Rattle.std.proofs.Math.Nat.{mul-add, mul_assoc, mul_comm, mul-le-mul_left, mul-le-mul_right}
 use Rattle.std.proofs.lemmas.Bool.{cases_eq}
@@ -22,22 +22,14 @@ use Rattle.gs_model.proofs.Gather.{class_in, firsts_from}
 use Rattle.gs_model.proofs.Known.{Tabled}
 use Rattle.gs_model.proofs.PlanLaws.{numbers_within}
 use Rattle.gs_model.proofs.RawBound.{All-range}
-use Rattle.gs_model.proofs.Sparse.{abs_sum}
 use Rattle.gs_model.proofs.Tables.{is_table}
 use Rattle.gs_best.specs.Tables.{IsBestFrom}
+use Rattle.gs_seq.proofs.RowFacts.{abs_all}
 use Rattle.gs_best.proofs.Below.{below_end, below_le, below_point, ends_below, prefix_le}
 use Rattle.gs_best.proofs.Chips.{IsModest, product_le}
 use Rattle.gs_best.proofs.Weights.{own_le, own_weight, weight_alike, weight_all, weight_below}
 
 -- ---- sums
-
--- the size of a sum of members whose sizes are known
-pub abs_all : {X : Type 0} (v : X → ℤ) (bound : X → ℕ) (xs : List X) → All (λ x. unsigned_abs (v x) ≤ bound x) xs → unsigned_abs (sum_z v xs) ≤ sum_by bound xs
-abs_all v bound [] h = omega (arith, ints, abs_is (pos 0))
-abs_all v bound (x ∷ xs) h =
-    let a = abs_sum (v x) (sum_z v xs) in
-    let r = abs_all v bound xs (λ k d l. h (suc k) d (omega arith)) in
-    omega (arith, a, r, h 0 x (omega arith), sum_by-cons bound x xs)
 
 scaled_sum : {X : Type 0} (u : ℕ) (a : X → ℕ) (xs : List X) → sum_by (λ x. u * a x) xs ≡ u * sum_by a xs
 scaled_sum u a [] = omega arith

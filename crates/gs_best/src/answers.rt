@@ -8,11 +8,10 @@ ghost use Rattle.gs_seq.specs.Plans.{IsPlanOf, class_plan, lifted};
 ghost use Rattle.gs_best.specs.Answers.{AreChoices, IsPaidMost, NoneGainsMore};
 
 use crate::deviator::Deviator;
-use crate::fill::fill;
+use crate::fill::filled;
 use crate::listing::own_moves;
 use crate::putting::put_all;
 use crate::reading::round_total;
-use crate::work::room_for;
 use gs_seq::{Abstract, Plan};
 use std::alloc::{AllocError, Global};
 
@@ -33,8 +32,7 @@ pub fn best(alloc: Global, form: &Abstract, player: u8, other: &Plan) -> Result<
         player,
         other,
     };
-    let (mut table, mut scratch) = room_for(alloc, form)?;
-    fill(&side, &mut table, &mut scratch);
+    let table = filled(alloc, &side)?;
     put_all(alloc, &side, &table)
 }
 
@@ -56,7 +54,6 @@ pub fn choices(
         player,
         other,
     };
-    let (mut table, mut scratch) = room_for(alloc, form)?;
-    fill(&side, &mut table, &mut scratch);
+    let table = filled(alloc, &side)?;
     own_moves(alloc, &side, &table)
 }

@@ -1,6 +1,6 @@
 //! Best values at all points, by induction backwards.
 
-ghost use Rattle.std.specs.Prelude.{◌≡◌, ◌+◌, ◌<◌, ◌≤◌, length, pos};
+ghost use Rattle.std.specs.Prelude.{◌≡◌, ◌+◌, ◌<◌, ◌≤◌, IfOk, length, pos};
 ghost use Rattle.gs_model.specs.Frame.{point_count};
 ghost use Rattle.gs_seq.specs.Abstracts.{frame_of, lists_of};
 ghost use Rattle.gs_seq.specs.Plans.{lifted};
@@ -13,6 +13,8 @@ use crate::deviator::Deviator;
 use crate::merging::merge_moves;
 use crate::reading::{class_total, point_total, round_at, round_total};
 use crate::room::{Scratch, Table, place_points};
+use crate::work::room_for;
+use std::alloc::{AllocError, Global};
 
 /// Copies so many values of a row into a list, from a place on.
 pub fn copy_values(row: &[i128], start: usize, count: usize, values: &mut [i128])
@@ -70,4 +72,14 @@ pub(crate) fn fill(side: &Deviator<'_>, table: &mut Table, scratch: &mut Scratch
         point -= 1;
         fill_point(side, point, table, scratch);
     }
+}
+
+/// The table of a player's best values and first best moves against the other's plan.
+pub(crate) fn filled(alloc: Global, side: &Deviator<'_>) -> Result<Table, AllocError>
+    ensures { let f = frame_of side.now.form.now in let lists = lists_of side.now.form.now in
+        IfOk result (IsFilled f lists side.now.player (lifted f lists side.now.other.now)) }
+{
+    let (mut table, mut scratch) = room_for(alloc, side.form)?;
+    fill(side, &mut table, &mut scratch);
+    Ok(table)
 }

@@ -30,8 +30,6 @@ copy_moves-requires-clause-room c =
 pub returns-clause-known : goal.returns-clause-known
 returns-clause-known c =
     let d = c.args.side.now in
-    let f = frame d in
-    let q = c.args.point in
     let row = row (goal.at.returns-clause-known c).After-class_total-count in
     let old = c.args.table.now.values in
     let was = c.args.table.now.picks in
@@ -40,13 +38,13 @@ returns-clause-known c =
     let values_are = written old.len values (drop (length values) old.items) (omega (arith, c.copy_values.auto.values, ap (λ (l : List ℤ). length l) c.deref_mut.ensures.value, old.ok.0)) in
     let picks_are = written was.len picks (drop (length picks) was.items) (omega (arith, c.copy_moves.auto.moves, ap (λ (l : List ℕ). length l) c.deref_mut-2.ensures.value, was.ok.0)) in
     let merged =
-    subst (λ l. IsMerged f (lists d) d.player (worths_in d l) q c.deref.result.now c.deref-2.result.now) (sym c.deref_mut.ensures.value)
-    (subst (λ l. IsMerged f (lists d) d.player (worths_in d old.items) q l c.deref-2.result.now) (sym c.deref.ensures.value)
-    (subst (λ l. IsMerged f (lists d) d.player (worths_in d old.items) q c.merge_moves.new.scratch.best.items l) (sym c.deref-2.ensures.value) c.merge_moves.ensures.merged)) in
+    subst (λ l. IsMerged (frame d) (lists d) d.player (worths_in d l) c.args.point c.deref.result.now c.deref-2.result.now) (sym c.deref_mut.ensures.value)
+    (subst (λ l. IsMerged (frame d) (lists d) d.player (worths_in d old.items) c.args.point l c.deref-2.result.now) (sym c.deref.ensures.value)
+    (subst (λ l. IsMerged (frame d) (lists d) d.player (worths_in d old.items) c.args.point c.merge_moves.new.scratch.best.items l) (sym c.deref-2.ensures.value) c.merge_moves.ensures.merged)) in
     let known =
-    subst (λ l. IsBestFrom f (lists d) d.player (values_in d l) (moves_of f (lists d) c.deref_mut-2.result.now) (q + 1)) (sym c.deref_mut.ensures.value)
-    (subst (λ l. IsBestFrom f (lists d) d.player (values_in d old.items) (moves_of f (lists d) l) (q + 1)) (sym c.deref_mut-2.ensures.value) c.requires.known) in
-    subst (λ l. IsBestFrom f (lists d) d.player (values_in d l) (moves_of f (lists d) (take was.len (picks ++ drop (length picks) was.items))) q) (sym values_are)
-    (subst (λ l. IsBestFrom f (lists d) d.player (values_in d values) (moves_of f (lists d) l) q) (sym picks_are)
-    (step_back f (lists d) (classes d c.round_total-rounds.ensures.sound) d.player (side_walked d) (against d) c.deref_mut.result.now values c.deref_mut-2.result.now picks q c.index.result.now c.class_total-count.result c.requires.point row.start_is row.count_is
+    subst (λ l. IsBestFrom (frame d) (lists d) d.player (values_in d l) (moves_of (frame d) (lists d) c.deref_mut-2.result.now) (c.args.point + 1)) (sym c.deref_mut.ensures.value)
+    (subst (λ l. IsBestFrom (frame d) (lists d) d.player (values_in d old.items) (moves_of (frame d) (lists d) l) (c.args.point + 1)) (sym c.deref_mut-2.ensures.value) c.requires.known) in
+    subst (λ l. IsBestFrom (frame d) (lists d) d.player (values_in d l) (moves_of (frame d) (lists d) (take was.len (picks ++ drop (length picks) was.items))) c.args.point) (sym values_are)
+    (subst (λ l. IsBestFrom (frame d) (lists d) d.player (values_in d values) (moves_of (frame d) (lists d) l) c.args.point) (sym picks_are)
+    (step_back (frame d) (lists d) (classes d c.round_total-rounds.ensures.sound) d.player (side_walked d) (against d) c.deref_mut.result.now values c.deref_mut-2.result.now picks c.args.point c.index.result.now c.class_total-count.result c.requires.point row.start_is row.count_is
     c.deref.result.now c.deref-2.result.now c.copy_values.ensures c.copy_moves.ensures merged known))

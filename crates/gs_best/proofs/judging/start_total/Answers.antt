@@ -9,6 +9,7 @@ use Rattle.gs_model.specs.Frame.{end_count, point_count, round_of, signals_in}
 use Rattle.gs_model.specs.FrameFacts.{IsInside}
 use Rattle.gs_model.specs.Positions.{at_end, at_point}
 use Rattle.gs_model.specs.Sums.{sum_z}
+use Rattle.gs_best.specs.Answers.{IsBestTotal}
 use Rattle.gs_best.specs.Rows.{value_at}
 use Rattle.gs_best.specs.Tables.{classes_at, moves_of, start_of}
 use Rattle.gs_best.proofs.Backwards.{from_best}
@@ -65,6 +66,16 @@ total_at_end c is reads =
     let sum = ap (λ l. sum_z (value_at (lists d) c.end_round.result l 0) (signals_in (frame d) c.end_round.result)) reads in
     to_z-of_z w128 c.round_sum-in-End.result (record { sfits = c.round_sum-in-End.type_inv }) ∙ c.round_sum-in-End.ensures ∙ sum
     ∙ starts_at_end (frame d) (lists d) d.player (against d) c.args.table.now.values.items (classes d c.round_total-rounds.ensures.sound) c.in-End.end c.end_round.result c.read_end.new.row is c.end_round.ensures.value c.end_round.ensures.some c.end_round.ensures.top c.read_end.ensures
+
+-- so it is the best total
+is_best : (c : Start) (total : ℤ) → total ≡ start_sum (frame c.args.side.now) (spread (frame c.args.side.now) (lists c.args.side.now) (values_in c.args.side.now c.args.table.now.values.items))
+    → IsBestTotal (frame c.args.side.now) (lists c.args.side.now) c.args.side.now.player (against c.args.side.now) total
+is_best c total is = record {
+  values = values_in c.args.side.now c.args.table.now.values.items;
+  move = moves_of (frame c.args.side.now) (lists c.args.side.now) c.args.table.now.picks.items;
+  best = c.requires.filled.best;
+  total_is = is;
+}
 
 pub index-requires : goal.index-requires
 index-requires c = omega (arith, point_inside (goal.at.index-requires c).In-Point, c.requires.filled.holds.starts, c.args.table.now.starts.ok.0)
@@ -124,14 +135,8 @@ round_sum-requires-in-End-clause-modest c =
 
 pub returns-in-Point-clause-total : goal.returns-in-Point-clause-total
 returns-in-Point-clause-total c =
-    let d = c.args.side.now in
     let at = goal.at.returns-in-Point-clause-total c in
-    record {
-      values = values_in d c.args.table.now.values.items;
-      move = moves_of (frame d) (lists d) c.args.table.now.picks.items;
-      best = c.requires.filled.best;
-      total_is = total_at_point at.After-round_sum (at_that_point at.In-Point) (row at.After-round_at (point_inside at.In-Point)).start_is;
-    }
+    is_best at.Start _ (total_at_point at.After-round_sum (at_that_point at.In-Point) (row at.After-round_at (point_inside at.In-Point)).start_is)
 
 pub returns-in-Point-clause-small : goal.returns-in-Point-clause-small
 returns-in-Point-clause-small c =
@@ -140,15 +145,7 @@ returns-in-Point-clause-small c =
     omega (arith, ap unsigned_abs total, known_start c.args.side.now c.round_total-rounds.ensures.sound c.args.table.now.values.items c.args.table.now.picks.items 0 (known at.Start) refl)
 
 pub returns-in-End-clause-total : goal.returns-in-End-clause-total
-returns-in-End-clause-total c =
-    let d = c.args.side.now in
-    let at = goal.at.returns-in-End-clause-total c in
-    record {
-      values = values_in d c.args.table.now.values.items;
-      move = moves_of (frame d) (lists d) c.args.table.now.picks.items;
-      best = c.requires.filled.best;
-      total_is = total_at_end at.After-round_sum-in-End (at_that_end at.In-End) (paid at.After-deref-in-End);
-    }
+returns-in-End-clause-total c = let at = goal.at.returns-in-End-clause-total c in is_best at.Start _ (total_at_end at.After-round_sum-in-End (at_that_end at.In-End) (paid at.After-deref-in-End))
 
 pub returns-in-End-clause-small : goal.returns-in-End-clause-small
 returns-in-End-clause-small c =

@@ -16,9 +16,9 @@ loop-point-preserved c =
     let a = c.args.form.now in
     let f = frame_of a in
     let lists = lists_of a in
+    let move = moves_of f lists c.args.picks.now in
     let q = c.loop-point.point in
     let p = c.args.player in
-    let move = moves_of f lists c.args.picks.now in
     let inside : q < point_count f = omega (arith, c.loop-point-test.true, c.point_total-point-end.ensures) in
     let i = c.loop-point.invariant in
     elim c.if-chooser-player.branch [
