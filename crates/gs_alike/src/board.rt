@@ -1,11 +1,7 @@
 //! Boards: the signals of the last round that show the same public cards.
 
-ghost use Rattle.std.specs.Prelude.{◌≡◌, ◌<◌, ◌^◌, true, IfOk, length, map};
-ghost use Rattle.std.specs.List.{All};
-ghost use Rattle.std.specs.List.Sorted.{IsNonDecreasingBy, IsPermutation};
-ghost use Rattle.gs_tree.specs.Plain.{IsPlain};
-ghost use Rattle.gs_tree.specs.Trees.{rules_of};
-ghost use Rattle.gs_tree.specs.Walk.{last_count};
+ghost use Rattle.std.specs.{Prelude.{◌≡◌, ◌<◌, ◌^◌, true, IfOk, length, map}, List.{All}, List.Sorted.{IsNonDecreasingBy, IsPermutation}};
+ghost use Rattle.gs_tree.specs.{Plain.{IsPlain}, Trees.{rules_of}, Walk.{last_count}};
 ghost use Rattle.gs_alike.specs.Boards.{IsBoard, PaysOnce, ranked, seat_of, signals_on};
 
 use gs_tree::Signals;

@@ -1,7 +1,6 @@
 //! Kinds of boards: those with the same hands. A hand is a number, equal where the levels and the keys are.
 
-ghost use Rattle.std.specs.Prelude.{◌≡◌, ◌<◌, ◌⊎◌, IfOk, OnOk, length};
-ghost use Rattle.std.specs.List.{All};
+ghost use Rattle.std.specs.{Prelude.{◌≡◌, ◌<◌, ◌⊎◌, IfOk, OnOk, length}, List.{All}};
 ghost use Rattle.gs_alike.specs.Hands.{AreHands, HasMore, IsKindOf, KeepsKinds};
 
 use crate::board::Board;

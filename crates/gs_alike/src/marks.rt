@@ -1,9 +1,7 @@
 //! A mark for each signal of the last round: one that sees the same deals.
 
-ghost use Rattle.std.specs.Prelude.{◌≡◌, ◌<◌, ◌⊎◌, ℕ, IfSome, length, slice_index};
-ghost use Rattle.std.specs.List.{All};
-ghost use Rattle.gs_alike.specs.Boards.{signals_in};
-ghost use Rattle.gs_alike.specs.Hands.{IsMark};
+ghost use Rattle.std.specs.{Prelude.{◌≡◌, ◌<◌, ◌⊎◌, ℕ, IfSome, length, slice_index}, List.{All}};
+ghost use Rattle.gs_alike.specs.{Boards.{signals_in}, Hands.{IsMark}};
 
 use crate::board::Seat;
 use crate::kinds::KEYS;

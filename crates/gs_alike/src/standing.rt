@@ -1,13 +1,8 @@
 //! A signal for each signal of the last round that stands for it.
 
-ghost use Rattle.std.specs.Prelude.{◌≡◌, ◌<◌, ℕ, EachIndex, IfOk, IsTrue, length, slice_index};
-ghost use Rattle.std.specs.List.{All};
-ghost use Rattle.gs_tree.specs.Plain.{IsPlain};
-ghost use Rattle.gs_tree.specs.Trees.{rules_of};
-ghost use Rattle.gs_tree.specs.Walk.{last_count};
-ghost use Rattle.gs_alike.specs.Alike.{AreStandIns};
-ghost use Rattle.gs_alike.specs.Boards.{IsBoard};
-ghost use Rattle.gs_alike.specs.Firsts.{AreMarks};
+ghost use Rattle.std.specs.{Prelude.{◌≡◌, ◌<◌, ℕ, EachIndex, IfOk, IsTrue, length, slice_index}, List.{All}};
+ghost use Rattle.gs_tree.specs.{Plain.{IsPlain}, Trees.{rules_of}, Walk.{last_count}};
+ghost use Rattle.gs_alike.specs.{Alike.{AreStandIns}, Boards.{IsBoard}, Firsts.{AreMarks}};
 
 use crate::board::{Board, boards_of};
 use crate::firsts::{NONE, first_items};

@@ -2,8 +2,7 @@
 
 ghost use Rattle.std.specs.Prelude.{◌≡◌, ℕ, List, IsTrue};
 ghost use Rattle.gs_model.specs.Betting.{Bet, HasPlayers};
-ghost use Rattle.gs_bet.specs.Grammar.{is_tree, tree_text, BeginsTree};
-ghost use Rattle.gs_bet.specs.Cuts.{Cut, IsCut, cut_text};
+ghost use Rattle.gs_bet.specs.{Grammar.{is_tree, tree_text, BeginsTree}, Cuts.{Cut, IsCut, cut_text}};
 
 /// Each text is the text of one tree.
 pub fn one_tree()

@@ -2,9 +2,7 @@
 
 ghost use Rattle.std.specs.Prelude.{◌≡◌, ◌≤◌, IfOk, OnOk};
 ghost use Rattle.gs_model.specs.Betting.{act};
-ghost use Rattle.gs_bet.specs.MoveLists.{push_move};
-ghost use Rattle.gs_bet.specs.TreeView.{plain, plain_moves};
-ghost use Rattle.gs_bet.specs.Limit.{facing, behind_check, limit_bet};
+ghost use Rattle.gs_bet.specs.{MoveLists.{push_move}, TreeView.{plain, plain_moves}, Limit.{facing, behind_check, limit_bet}};
 
 use crate::shape::{Act, BetTree, Move, Tree};
 use std::alloc::{AllocError, Global};

@@ -1,9 +1,7 @@
 //! The last-round signals of a game in the order of boards and strengths.
 
 ghost use Rattle.std.specs.Prelude.{◌≡◌, ◌<◌, IfOk, MatchBool, length};
-ghost use Rattle.gs_tree.specs.Plain.{IsPlain};
-ghost use Rattle.gs_tree.specs.Trees.{rules_of};
-ghost use Rattle.gs_tree.specs.Walk.{last_count};
+ghost use Rattle.gs_tree.specs.{Plain.{IsPlain}, Trees.{rules_of}, Walk.{last_count}};
 ghost use Rattle.gs_boards.specs.Boards.{ArePlaces};
 
 use crate::pays::Pays;

@@ -1,13 +1,8 @@
 //! Last-round signals on their boards.
 
-ghost use Rattle.std.specs.Prelude.{◌≡◌, ◌<◌, ◌^◌, All, IfOk, map};
-ghost use Rattle.std.specs.List.{range_with_len};
-ghost use Rattle.std.specs.List.Sorted.{IsPermutation};
-ghost use Rattle.gs_tree.specs.Trees.{rules_of};
-ghost use Rattle.gs_tree.specs.Walk.{last_count};
-ghost use Rattle.gs_boards.specs.Boards.{IsPlace};
-ghost use Rattle.gs_boards.specs.Places.{AreInOrder};
-ghost use Rattle.gs_boards.specs.declared.place.Place.{Place as Placed};
+ghost use Rattle.std.specs.{Prelude.{◌≡◌, ◌<◌, ◌^◌, All, IfOk, map}, List.{range_with_len}, List.Sorted.{IsPermutation}};
+ghost use Rattle.gs_tree.specs.{Trees.{rules_of}, Walk.{last_count}};
+ghost use Rattle.gs_boards.specs.{Boards.{IsPlace}, Places.{AreInOrder}, declared.place.Place.{Place as Placed}};
 
 use gs_rank::category;
 use gs_tree::Signals;

@@ -1,9 +1,7 @@
 //! Walks over the places of the boards, up and down.
 
 ghost use Rattle.std.specs.Prelude.{◌≡◌, ◌+◌, ◌<◌, ◌≤◌, ◌^◌, ◌+ℤ◌, ℕ, All, drop, get_or, length, pos, slice_index_or, take, unsigned_abs};
-ghost use Rattle.gs_boards.specs.Places.{AreApart, AreInOrder};
-ghost use Rattle.gs_boards.specs.Runs.{paid_by};
-ghost use Rattle.gs_boards.specs.declared.place.Place.{Place as Placed};
+ghost use Rattle.gs_boards.specs.{Places.{AreApart, AreInOrder}, Runs.{paid_by}, declared.place.Place.{Place as Placed}};
 
 use crate::pays::Pays;
 use crate::place::Place;

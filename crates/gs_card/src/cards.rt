@@ -1,5 +1,4 @@
-ghost use Rattle.std.specs.Prelude.{◌≡◌};
-ghost use Rattle.std.specs.Iterator.{YieldsFirst, item_count};
+ghost use Rattle.std.specs.{Prelude.{◌≡◌}, Iterator.{YieldsFirst, item_count}};
 
 use std::marker::Model;
 
@@ -41,8 +40,7 @@ pub struct Cards {
 }
 
 impl Model for Cards {
-    ghost use Rattle.std.specs.Prelude.{ℕ, List, ◌-◌};
-    ghost use Rattle.std.specs.List.{range_with_len};
+    ghost use Rattle.std.specs.{Prelude.{ℕ, List, ◌-◌}, List.{range_with_len}};
 
     ghost Value = { List ℕ };
 

@@ -1,13 +1,8 @@
 ghost use Rattle.std.specs.Prelude.{◌≡◌, ◌<◌, ◌≤◌, ◌*◌, ◌||◌, ◌&&◌, ◌∷◌, [], IfOk, IfErr, IfSome, IfNone, MatchResult, IsTrue, ◌↔◌, ℕ, length, slice_index, nat_lt, ◌==◌, true, false, Some, position, All};
-ghost use Rattle.std.specs.List.{list_all, range_with_len};
-ghost use Rattle.std.specs.Char.{is_ascii_alphanumeric, is_ascii_digit};
-ghost use Rattle.gs_model.specs.Cards.{groups};
-ghost use Rattle.gs_model.specs.Outcome.{rank_of, suit_of};
-ghost use Rattle.gs_card.specs.Decks.{DeckValue, IsDeck, IsTextOf, kinds, repeats, counts_of, deck_of, card_text};
-ghost use Rattle.gs_card.specs.Groups.{IsGroup};
-ghost use Rattle.gs_card.specs.Kinds.{HasLetters};
-ghost use Rattle.gs_card.specs.DeckFaults.{fault_of};
-ghost use Rattle.gs_card.specs.declared.faults.DeckFault.TheVariants.{Memory};
+ghost use Rattle.std.specs.{List.{list_all, range_with_len}, Char.{is_ascii_alphanumeric, is_ascii_digit}};
+ghost use Rattle.gs_model.specs.{Cards.{groups}, Outcome.{rank_of, suit_of}};
+ghost use Rattle.gs_card.specs.{Decks.{DeckValue, IsDeck, IsTextOf, kinds, repeats, counts_of, deck_of, card_text}, Groups.{IsGroup}};
+ghost use Rattle.gs_card.specs.{Kinds.{HasLetters}, DeckFaults.{fault_of}, declared.faults.DeckFault.TheVariants.{Memory}};
 
 use crate::cards::{Card, Cards};
 use crate::faults::DeckFault;

@@ -1,5 +1,4 @@
-ghost use Rattle.std.specs.Prelude.{◌≡◌, ◌≤◌, ◌++◌, All, IfOk, OnOk, length, map, vec_len};
-ghost use Rattle.std.specs.List.Sorted.{IsNonDecreasing};
+ghost use Rattle.std.specs.{Prelude.{◌≡◌, ◌≤◌, ◌++◌, All, IfOk, OnOk, length, map, vec_len}, List.Sorted.{IsNonDecreasing}};
 ghost use Rattle.gs_model.specs.Cards.{groups, groups_above};
 
 use crate::cards::Card;
@@ -13,8 +12,7 @@ pub struct Group {
 }
 
 impl Model for Group {
-    ghost use Rattle.std.specs.Prelude.{ℕ, List};
-    ghost use Rattle.std.specs.List.Sorted.{IsNonDecreasing};
+    ghost use Rattle.std.specs.{Prelude.{ℕ, List}, List.Sorted.{IsNonDecreasing}};
 
     ghost Value = { List ℕ };
 

@@ -1,9 +1,7 @@
 //! The search for members of one class whose parents are of two.
 
 ghost use Rattle.std.specs.Prelude.{◌≡◌, map, MatchOption};
-ghost use Rattle.gs_filter.specs.Rows.{rows};
-ghost use Rattle.gs_filter.specs.Tallies.{tallies_of, AreReady};
-ghost use Rattle.gs_filter.specs.Filter.{AreParents};
+ghost use Rattle.gs_filter.specs.{Rows.{rows}, Tallies.{tallies_of, AreReady}, Filter.{AreParents}};
 ghost use Rattle.gs_filter.specs.Faults.{Agree, AllNumbered, AllTogether, AreTogether, AreFirstApartIn, IsApart};
 
 use crate::fault::ClassFault;

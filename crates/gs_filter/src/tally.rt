@@ -2,10 +2,7 @@
 
 ghost use Rattle.std.specs.Prelude.{◌≡◌, ◌<◌, ◌≤◌, ◌^◌, ℕ, length, map, IfOk, OnOk, IfErr};
 ghost use Rattle.gs_model.specs.Numbering.{IsNumbered};
-ghost use Rattle.gs_filter.specs.Rows.{rows};
-ghost use Rattle.gs_filter.specs.Tallies.{tallies_of, IsStopOf};
-ghost use Rattle.gs_filter.specs.Filter.{AreShort};
-ghost use Rattle.gs_filter.specs.Faults.{AllNumbered, IsUnseen};
+ghost use Rattle.gs_filter.specs.{Rows.{rows}, Tallies.{tallies_of, IsStopOf}, Filter.{AreShort}, Faults.{AllNumbered, IsUnseen}};
 
 use crate::fault::ClassFault;
 use crate::rows::of_round;

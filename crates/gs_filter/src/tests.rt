@@ -1,8 +1,7 @@
 //! What no clause says: that calls succeed, and worked values by hand.
 
 ghost use Rattle.std.specs.Prelude.{◌<◌, ◌≤◌, length};
-ghost use Rattle.gs_filter.specs.Rows.{rows};
-ghost use Rattle.gs_filter.specs.Filter.{AreParents};
+ghost use Rattle.gs_filter.specs.{Rows.{rows}, Filter.{AreParents}};
 
 use super::*;
 use std::alloc::{AllocError, Global};

@@ -1,7 +1,6 @@
 //! Greatest common divisors and least common multiples.
 
-ghost use Rattle.std.specs.Prelude.{◌≡◌, ◌<◌, ◌≤◌, ◌^◌, MatchResult};
-ghost use Rattle.std.specs.Int.{IsGcd};
+ghost use Rattle.std.specs.{Prelude.{◌≡◌, ◌<◌, ◌≤◌, ◌^◌, MatchResult}, Int.{IsGcd}};
 ghost use Rattle.gs_frac.specs.Gcd.{gcd_of, IsLcm};
 
 /// The greatest common divisor, 0 for two zeros, by Euclid's method.

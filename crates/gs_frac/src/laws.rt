@@ -1,9 +1,7 @@
 //! Laws of fractions.
 
-ghost use Rattle.std.specs.Prelude.{◌≡◌, ◌*ℤ◌, ℕ, ℤ, IsTrue};
-ghost use Rattle.std.specs.Int.{IsGcd};
-ghost use Rattle.gs_frac.specs.Gcd.{gcd_of};
-ghost use Rattle.gs_frac.specs.Texts.{is_fraction};
+ghost use Rattle.std.specs.{Prelude.{◌≡◌, ◌*ℤ◌, ℕ, ℤ, IsTrue}, Int.{IsGcd}};
+ghost use Rattle.gs_frac.specs.{Gcd.{gcd_of}, Texts.{is_fraction}};
 
 /// Euclid's method gives the greatest common divisor, of numbers of any size.
 pub fn gcd_is_greatest()

@@ -2,10 +2,7 @@
 
 ghost use Rattle.std.specs.Prelude.{◌≡◌, ◌≤◌, ◌<◌, ◌+◌, ◌-◌, ◌*◌, ◌^◌, ℕ, None, MatchResult, All, length, min};
 ghost use Rattle.gs_bet.specs.TreeView.{plain};
-ghost use Rattle.gs_game.specs.Answers.{Answers};
-ghost use Rattle.gs_game.specs.Counts.{ends_in, ends_of};
-ghost use Rattle.gs_game.specs.Games.{game_of, plain_trees};
-ghost use Rattle.gs_game.specs.Money.{most_in};
+ghost use Rattle.gs_game.specs.{Answers.{Answers}, Counts.{ends_in, ends_of}, Games.{game_of, plain_trees}, Money.{most_in}};
 ghost use Rattle.gs_game.specs.Refusals.{betting_refusal, greatest, lines_refusal, no_even_from, put_refusal, uneven_from};
 
 use crate::faults::GameFault;

@@ -2,9 +2,7 @@
 
 ghost use Rattle.std.specs.Prelude.{◌≡◌, ◌≤◌, ◌*◌, ◌↔◌, EachIndex, IsTrue, None, MatchResult, All, length, slice_index, sum, sum_by};
 ghost use Rattle.gs_card.specs.Rankings.{ranking_of};
-ghost use Rattle.gs_game.specs.Answers.{Answers};
-ghost use Rattle.gs_game.specs.Games.{HasFewCards, game_of};
-ghost use Rattle.gs_game.specs.Refusals.{card_refusal, ranks};
+ghost use Rattle.gs_game.specs.{Answers.{Answers}, Games.{HasFewCards, game_of}, Refusals.{card_refusal, ranks}};
 
 use crate::faults::GameFault;
 use crate::game::{Game, Round};

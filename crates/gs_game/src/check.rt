@@ -3,9 +3,7 @@
 ghost use Rattle.std.specs.Prelude.{◌≡◌, ◌≤◌, All, None, IfOk, IfErr};
 ghost use Rattle.gs_card.specs.Rankings.{ranking_of};
 ghost use Rattle.gs_model.specs.Outcome.{IsBonus};
-ghost use Rattle.gs_game.specs.Answers.{Answers};
-ghost use Rattle.gs_game.specs.Games.{HasFewCards, game_of};
-ghost use Rattle.gs_game.specs.Refusals.{first_refusal};
+ghost use Rattle.gs_game.specs.{Answers.{Answers}, Games.{HasFewCards, game_of}, Refusals.{first_refusal}};
 
 use crate::betting::check_betting;
 use crate::cards::check_cards;

@@ -1,12 +1,8 @@
 //! Writing the text of a line.
 
-ghost use Rattle.std.specs.Prelude.{◌≡◌, ℕ, Some, MatchOption, OnOk, true};
-ghost use Rattle.std.specs.String.{string_bytes};
-ghost use Rattle.gs_bet.specs.Grammar.{are_sound, is_sound};
-ghost use Rattle.gs_bet.specs.TreeView.{plain, plain_moves};
-ghost use Rattle.gs_bet.specs.declared.shape.Act.{out-Act};
-ghost use Rattle.gs_game.specs.Counts.{ends_in, ends_of, move_ends, move_points, points_in, points_of};
-ghost use Rattle.gs_game.specs.Games.{plain_trees};
+ghost use Rattle.std.specs.{Prelude.{◌≡◌, ℕ, Some, MatchOption, OnOk, true}, String.{string_bytes}};
+ghost use Rattle.gs_bet.specs.{Grammar.{are_sound, is_sound}, TreeView.{plain, plain_moves}, declared.shape.Act.{out-Act}};
+ghost use Rattle.gs_game.specs.{Counts.{ends_in, ends_of, move_ends, move_points, points_in, points_of}, Games.{plain_trees}};
 ghost use Rattle.gs_game.specs.Lines.{IsAmong, IsPast, MovesFollow, RoundsFollow, TreeFollows, lines_from, move_lines, text_at, tree_lines};
 ghost use Rattle.gs_game.specs.Seen.{target_of};
 
@@ -109,9 +105,7 @@ fn push_act(
 impl ValidGame {
     ghost use Rattle.std.specs.Prelude.{IfOk, length};
     ghost use Rattle.gs_model.specs.Frame.{trees_of};
-    ghost use Rattle.gs_game.specs.Games.{game_of};
-    ghost use Rattle.gs_game.specs.Lines.{lines};
-    ghost use Rattle.gs_game.specs.Valid.{walk_of};
+    ghost use Rattle.gs_game.specs.{Games.{game_of}, Lines.{lines}, Valid.{walk_of}};
 
     /// The text of the line to a point or end.
     pub fn line_text(&self, alloc: Global, at: Target) -> Result<String, AllocError>

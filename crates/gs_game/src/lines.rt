@@ -1,12 +1,9 @@
 //! The texts of lines.
 
 ghost use Rattle.std.specs.Prelude.{◌≡◌, ◌<◌, ◌≤◌, ◌+◌, ◌^◌, [], None, option_map};
-ghost use Rattle.gs_bet.specs.TreeView.{plain, plain_moves};
-ghost use Rattle.gs_bet.specs.declared.shape.Act.{out-Act};
-ghost use Rattle.gs_game.specs.Counts.{ends_in, ends_of, points_in, points_of};
-ghost use Rattle.gs_game.specs.Games.{plain_trees};
-ghost use Rattle.gs_game.specs.Lines.{MovesFollow, RoundsFollow, TreeFollows, follow, follow_from, follow_moves};
-ghost use Rattle.gs_game.specs.Refusals.{no_even_from};
+ghost use Rattle.gs_bet.specs.{TreeView.{plain, plain_moves}, declared.shape.Act.{out-Act}};
+ghost use Rattle.gs_game.specs.{Counts.{ends_in, ends_of, points_in, points_of}, Games.{plain_trees}};
+ghost use Rattle.gs_game.specs.{Lines.{MovesFollow, RoundsFollow, TreeFollows, follow, follow_from, follow_moves}, Refusals.{no_even_from}};
 ghost use Rattle.gs_game.specs.Seen.{target_of};
 
 use crate::game::Round;
@@ -143,10 +140,8 @@ fn follow_act(
 
 impl ValidGame {
     ghost use Rattle.std.specs.Prelude.{IfSome, Some};
-    ghost use Rattle.gs_model.specs.Frame.{trees_of};
-    ghost use Rattle.gs_model.specs.Positions.{Target as Position};
-    ghost use Rattle.gs_game.specs.Games.{game_of};
-    ghost use Rattle.gs_game.specs.Lines.{lines, text_at};
+    ghost use Rattle.gs_model.specs.{Frame.{trees_of}, Positions.{Target as Position}};
+    ghost use Rattle.gs_game.specs.{Games.{game_of}, Lines.{lines, text_at}};
 
     /// The point or end whose line has this text: none where it is no line's text.
     pub fn line_of(&self, text: &str) -> Option<Target>

@@ -2,9 +2,7 @@
 
 ghost use Rattle.std.specs.Prelude.{◌≡◌, ◌<◌, ◌+◌, ◌^◌, ◌==◌, ℕ, option_map, if◌then◌else◌};
 ghost use Rattle.gs_model.specs.Walk.{after_move, fold_end, show_end, walk_start};
-ghost use Rattle.gs_game.specs.Money.{one_after, two_after};
-ghost use Rattle.gs_game.specs.Seen.{end_of, step_of};
-ghost use Rattle.gs_game.specs.Walks.{place_of};
+ghost use Rattle.gs_game.specs.{Money.{one_after, two_after}, Seen.{end_of, step_of}, Walks.{place_of}};
 
 use crate::positions::{End, EndKind, Step};
 

@@ -1,10 +1,8 @@
 //! The game that stops after some rounds.
 
 ghost use Rattle.std.specs.Prelude.{◌≡◌, ◌≤◌, ◌++◌, ◌∷◌, [], All, IfOk, OnOk, map};
-ghost use Rattle.gs_game.specs.Games.{HasFewCards, round_of};
-ghost use Rattle.gs_game.specs.GoingOn.{unbet};
+ghost use Rattle.gs_game.specs.{Games.{HasFewCards, round_of}, GoingOn.{unbet}, Sequences.{seen_sizes}};
 ghost use Rattle.gs_model.specs.Game.{Round as RoundRules};
-ghost use Rattle.gs_game.specs.Sequences.{seen_sizes};
 
 use crate::faults::GameFault;
 use crate::game::{Game, Round};
@@ -53,9 +51,7 @@ fn stopped_rounds(alloc: Global, rounds: &[Round]) -> Result<Vec<Round>, AllocEr
 
 impl ValidGame {
     ghost use Rattle.std.specs.Prelude.{◌≡◌, ◌≢◌, ◌≤◌, IfOk, IfSome, MatchOption, None};
-    ghost use Rattle.gs_game.specs.Games.{game_of};
-    ghost use Rattle.gs_game.specs.GoingOn.{StopsAfter, stopped_game};
-    ghost use Rattle.gs_game.specs.Refusals.{first_refusal};
+    ghost use Rattle.gs_game.specs.{Games.{game_of}, GoingOn.{StopsAfter, stopped_game}, Refusals.{first_refusal}};
     ghost use Rattle.gs_model.specs.Game.{round_count};
 
     /// The game that stops after a round: its deals are the pairs of signals of that round. Hands are ranked by the own card there. None where

@@ -1,12 +1,8 @@
 //! Valid games.
 
 ghost use Rattle.std.specs.Prelude.{◌≡◌, ◌≤◌, None, length};
-ghost use Rattle.gs_model.specs.Deals.{deals as deals_of};
-ghost use Rattle.gs_model.specs.Frame.{frame_of, total_weight};
-ghost use Rattle.gs_game.specs.Games.{game_of};
-ghost use Rattle.gs_game.specs.Limits.{IsDealable, IsWithinLimits};
-ghost use Rattle.gs_game.specs.Refusals.{first_refusal};
-ghost use Rattle.gs_game.specs.Valid.{IsWalkOf};
+ghost use Rattle.gs_model.specs.{Deals.{deals as deals_of}, Frame.{frame_of, total_weight}};
+ghost use Rattle.gs_game.specs.{Games.{game_of}, Limits.{IsDealable, IsWithinLimits}, Refusals.{first_refusal}, Valid.{IsWalkOf}};
 
 use crate::game::Game;
 use crate::positions::{End, Point, Target};
@@ -32,8 +28,7 @@ pub struct ValidGame {
 impl ValidGame {
     ghost use Rattle.std.specs.Prelude.{map};
     ghost use Rattle.gs_model.specs.Walk.{root, walk_start};
-    ghost use Rattle.gs_game.specs.Seen.{end_of, own_point, point_of, target_of};
-    ghost use Rattle.gs_game.specs.Valid.{walk_of};
+    ghost use Rattle.gs_game.specs.{Seen.{end_of, own_point, point_of, target_of}, Valid.{walk_of}};
 
     /// The game's description.
     pub fn game(&self) -> &Game

@@ -1,12 +1,9 @@
 //! The walk of the betting trees, which numbers points and ends.
 
 ghost use Rattle.std.specs.Prelude.{◌≡◌, ◌<◌, ◌^◌, ◌++◌, ◌∷◌, [], IfOk, length};
-ghost use Rattle.gs_model.specs.Walk.{walk_rounds, walk_tree};
+ghost use Rattle.gs_model.specs.{Walk.{walk_rounds, walk_tree}, Positions.{at_end}};
 ghost use Rattle.gs_bet.specs.TreeView.{plain, plain_act};
-ghost use Rattle.gs_model.specs.Positions.{at_end};
-ghost use Rattle.gs_game.specs.Games.{plain_trees};
-ghost use Rattle.gs_game.specs.Seen.{target_of};
-ghost use Rattle.gs_game.specs.Walks.{Grows, IsWalkable, RoundsWalkable, place_of};
+ghost use Rattle.gs_game.specs.{Games.{plain_trees}, Seen.{target_of}, Walks.{Grows, IsWalkable, RoundsWalkable, place_of}};
 
 use crate::game::Round;
 use crate::place::Place;

@@ -1,10 +1,8 @@
 //! Sources and a sink in memory. Two of them fail where a list says so.
 
-ghost use Rattle.std.specs.Prelude.{◌≡◌, ◌≤◌, ◌<◌, ◌+◌, ◌-◌, length, take, drop, Some, IfOk, min, [], ◌∷◌, ◌++◌};
-ghost use Rattle.std.specs.Io.{ReadsAtMost};
+ghost use Rattle.std.specs.{Prelude.{◌≡◌, ◌≤◌, ◌<◌, ◌+◌, ◌-◌, length, take, drop, Some, IfOk, min, [], ◌∷◌, ◌++◌}, Io.{ReadsAtMost}};
 ghost use Rattle.std.specs.Io.KnownBytes.{ReadConsumes, WriteAppends};
-ghost use Rattle.gs_io.specs.Causes.{HasCause};
-ghost use Rattle.gs_io.specs.Memory.{Reading, Writing, TakesNext, GivesNext};
+ghost use Rattle.gs_io.specs.{Causes.{HasCause}, Memory.{Reading, Writing, TakesNext, GivesNext}};
 
 use crate::{Failed, Sink, Source, count_fault};
 use std::alloc::{AllocError, Global};

@@ -1,8 +1,7 @@
 //! Lossless classes, and the check for them.
 
 ghost use Rattle.std.specs.Prelude.{◌≡◌, ◌<◌, ◌≤◌, IfOk, IfErr, IsTrue};
-ghost use Rattle.gs_model.specs.Frame.{frame_of, last_round};
-ghost use Rattle.gs_model.specs.Lossless.{IsLossless};
+ghost use Rattle.gs_model.specs.{Frame.{frame_of, last_round}, Lossless.{IsLossless}};
 ghost use Rattle.gs_filter.specs.Filter.{single_classes};
 ghost use Rattle.gs_tree.specs.Trees.{rules_of};
 ghost use Rattle.gs_lossless.specs.Stops.{IsUnlike, IsUnlikeIn, MatchUnlike};

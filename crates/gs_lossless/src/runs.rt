@@ -1,11 +1,8 @@
 //! The signals of a later round that descend from a signal: a run of places.
 
 ghost use Rattle.std.specs.Prelude.{◌≡◌, ◌+◌, ◌<◌, ◌≤◌, length};
-ghost use Rattle.gs_model.specs.Frame.{at_round, frame_of};
-ghost use Rattle.gs_model.specs.Game.{round_count};
-ghost use Rattle.gs_model.specs.Signals.{first_child, parents, signals as signals_in};
-ghost use Rattle.gs_tree.specs.Trees.{rules_of};
-ghost use Rattle.gs_tree.specs.Walk.{last_count};
+ghost use Rattle.gs_model.specs.{Frame.{at_round, frame_of}, Game.{round_count}, Signals.{first_child, parents, signals as signals_in}};
+ghost use Rattle.gs_tree.specs.{Trees.{rules_of}, Walk.{last_count}};
 ghost use Rattle.gs_lossless.specs.Amounts.{IsRun, IsRunIn};
 
 use gs_tree::Signals;

@@ -1,11 +1,9 @@
 //! The first signal of a round that differs from the first member of its class.
 
 ghost use Rattle.std.specs.Prelude.{◌≡◌, ◌≤◌, IfOk, length};
-ghost use Rattle.gs_model.specs.Frame.{frame_of};
-ghost use Rattle.gs_model.specs.Signals.{signals as signals_in};
+ghost use Rattle.gs_model.specs.{Frame.{frame_of}, Signals.{signals as signals_in}};
 ghost use Rattle.gs_tree.specs.Trees.{rules_of};
-ghost use Rattle.gs_lossless.specs.Amounts.{HasSide};
-ghost use Rattle.gs_lossless.specs.Scans.{IsFirstApart};
+ghost use Rattle.gs_lossless.specs.{Amounts.{HasSide}, Scans.{IsFirstApart}};
 
 use crate::keys::side_keys;
 use crate::parts::{Part, are_same};

@@ -1,14 +1,9 @@
 //! What is compared of a signal: the sums of its deals, or of its children.
 
-ghost use Rattle.std.specs.Prelude.{◌≡◌, ◌+◌, ◌++◌, ◌<◌, ◌≤◌, All, IfOk, OnOk, length, map, reverse};
-ghost use Rattle.std.specs.List.{range_with_len};
-ghost use Rattle.gs_model.specs.Classes.{ClassLists};
-ghost use Rattle.gs_model.specs.Deals.{Deal as Dealt, deals as all_deals};
-ghost use Rattle.gs_model.specs.Frame.{frame_of};
-ghost use Rattle.gs_model.specs.Game.{round_count};
+ghost use Rattle.std.specs.{Prelude.{◌≡◌, ◌+◌, ◌++◌, ◌<◌, ◌≤◌, All, IfOk, OnOk, length, map, reverse}, List.{range_with_len}};
+ghost use Rattle.gs_model.specs.{Classes.{ClassLists}, Deals.{Deal as Dealt, deals as all_deals}, Frame.{frame_of}, Game.{round_count}};
 ghost use Rattle.gs_model.specs.Signals.{child_count, first_child, signals as signals_in};
-ghost use Rattle.gs_tree.specs.Trees.{rules_of};
-ghost use Rattle.gs_tree.specs.Walk.{last_count};
+ghost use Rattle.gs_tree.specs.{Trees.{rules_of}, Walk.{last_count}};
 ghost use Rattle.gs_lossless.specs.Amounts.{AreAmounts, HasSide, child_part, deal_part, deal_parts as parts_between, key_count, keys_of};
 
 use crate::parts::{Part, sums_of};

@@ -4,12 +4,9 @@
 
 ghost use Rattle.std.specs.Prelude.{◌≡◌, ◌<◌, ◌≤◌, IfOk, IfSome, MatchOption, length};
 ghost use Rattle.gs_filter.specs.Rows.{rows};
-ghost use Rattle.gs_model.specs.Classes.{IsClasses, list_of};
-ghost use Rattle.gs_model.specs.Frame.{frame_of, signal_count};
+ghost use Rattle.gs_model.specs.{Classes.{IsClasses, list_of}, Frame.{frame_of, signal_count}};
 ghost use Rattle.gs_tree.specs.Trees.{rules_of};
-ghost use Rattle.gs_lossless.specs.Amounts.{HasSide};
-ghost use Rattle.gs_lossless.specs.Scans.{IsFirstApart};
-ghost use Rattle.gs_lossless.specs.Stopped.{stopped_lists as lists_after};
+ghost use Rattle.gs_lossless.specs.{Amounts.{HasSide}, Scans.{IsFirstApart}, Stopped.{stopped_lists as lists_after}};
 ghost use Rattle.gs_lossless.specs.declared.sides.Side.TheVariants.{Deals};
 
 use crate::scan::first_apart;

@@ -3,10 +3,7 @@
 ghost use Rattle.std.specs.Prelude.{◌≡◌, ◌<◌, ◌≤◌, ◌^◌, ℕ, Some, map, IfOk, IfErr, IsPermutation, List, length, get_or};
 ghost use Rattle.std.specs.List.Sorted.{IsNonDecreasing};
 ghost use Rattle.gs_model.specs.Matching.{IsPerfect};
-ghost use Rattle.gs_match.specs.Rows.{rows};
-ghost use Rattle.gs_match.specs.Adjacency.{AreEdgesInRange};
-ghost use Rattle.gs_match.specs.Search.{IsMatching, holder, lefts};
-ghost use Rattle.gs_match.specs.Refusal.{IsRefusalOf, NoneExists};
+ghost use Rattle.gs_match.specs.{Rows.{rows}, Adjacency.{AreEdgesInRange}, Search.{IsMatching, holder, lefts}, Refusal.{IsRefusalOf, NoneExists}};
 
 use crate::adjacency::adjacency;
 use crate::augment::augment;

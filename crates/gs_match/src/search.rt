@@ -1,9 +1,7 @@
 //! The search for an augmenting path from a left node.
 
 ghost use Rattle.std.specs.Prelude.{◌≡◌, ℕ, ◌<◌, IfOk, length};
-ghost use Rattle.gs_match.specs.Rows.{rows};
-ghost use Rattle.gs_match.specs.Adjacency.{AreRowsIn};
-ghost use Rattle.gs_match.specs.Search.{visit, IsMatching, IsTree, Extends, IsRowEnd, IsFound};
+ghost use Rattle.gs_match.specs.{Rows.{rows}, Adjacency.{AreRowsIn}, Search.{visit, IsMatching, IsTree, Extends, IsRowEnd, IsFound}};
 
 use std::alloc::{AllocError, Global};
 

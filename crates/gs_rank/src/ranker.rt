@@ -1,7 +1,6 @@
 //! The ranks and suits of a deck's kinds, read once.
 
-ghost use Rattle.std.specs.Prelude.{◌≡◌, ◌<◌, All, IfOk, length, map};
-ghost use Rattle.std.specs.List.{range_with_len};
+ghost use Rattle.std.specs.{Prelude.{◌≡◌, ◌<◌, All, IfOk, length, map}, List.{range_with_len}};
 ghost use Rattle.gs_card.specs.Decks.{kinds};
 ghost use Rattle.gs_model.specs.Outcome.{rank_of, suit_of};
 

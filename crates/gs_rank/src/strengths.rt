@@ -1,9 +1,6 @@
-ghost use Rattle.std.specs.Prelude.{◌≡◌, ◌<◌, ◌+◌, ◌*◌, ◌++◌, ◌≤◌, length, slice_index, ◌∷◌, [], max, min, ◌==◌, ◌&&◌, All};
-ghost use Rattle.std.specs.List.{list_any};
-ghost use Rattle.gs_model.specs.Game.{High, Pair, Three};
-ghost use Rattle.gs_model.specs.Outcome.{rank_of, suit_of, strength, three_ranks, three_strength};
-ghost use Rattle.gs_card.specs.Decks.{kinds};
-ghost use Rattle.gs_card.specs.Rankings.{ranking_of};
+ghost use Rattle.std.specs.{Prelude.{◌≡◌, ◌<◌, ◌+◌, ◌*◌, ◌++◌, ◌≤◌, length, slice_index, ◌∷◌, [], max, min, ◌==◌, ◌&&◌, All}, List.{list_any}};
+ghost use Rattle.gs_model.specs.{Game.{High, Pair, Three}, Outcome.{rank_of, suit_of, strength, three_ranks, three_strength}};
+ghost use Rattle.gs_card.specs.{Decks.{kinds}, Rankings.{ranking_of}};
 ghost use Rattle.gs_rank.specs.Hands.{IsHand, IsStrength};
 
 use crate::ranker::Ranker;

@@ -2,13 +2,9 @@
 
 ghost use Rattle.std.specs.Prelude.{◌≡◌, ◌≤◌, ◌<◌, All, ◌^◌, IfOk, IfSome, length, replicate, slice_set};
 ghost use Rattle.gs_card.specs.Decks.{kinds};
-ghost use Rattle.gs_game.specs.Games.{game_of};
-ghost use Rattle.gs_game.specs.Limits.{IsWithinLimits};
-ghost use Rattle.gs_model.specs.Game.{round_count};
-ghost use Rattle.gs_model.specs.Signals.{public_cards, signal_at};
-ghost use Rattle.gs_tree.specs.Boards.{AreBoards, code_behind, first_beside, linked, seen_last};
-ghost use Rattle.gs_tree.specs.Kept.{AreHands};
-ghost use Rattle.gs_tree.specs.Walk.{last_count};
+ghost use Rattle.gs_game.specs.{Games.{game_of}, Limits.{IsWithinLimits}};
+ghost use Rattle.gs_model.specs.{Game.{round_count}, Signals.{public_cards, signal_at}};
+ghost use Rattle.gs_tree.specs.{Boards.{AreBoards, code_behind, first_beside, linked, seen_last}, Kept.{AreHands}, Walk.{last_count}};
 
 use crate::kept::{Hands, part};
 use gs_card::Card;

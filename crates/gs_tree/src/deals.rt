@@ -26,8 +26,7 @@ impl<'s> Model for Deals<'s> {
 
     ghost Value = { List Dealt };
 
-    ghost use Rattle.gs_tree.specs.Trees.{rules_of};
-    ghost use Rattle.gs_tree.specs.Walk.{deals_between, last_count, number_of, IsOnWalk};
+    ghost use Rattle.gs_tree.specs.{Trees.{rules_of}, Walk.{deals_between, last_count, number_of, IsOnWalk}};
 
     ghost view = { λ d. deals_between (rules_of d.signals.now) (number_of (rules_of d.signals.now) d.one d.two) (d.end * last_count (rules_of d.signals.now)) };
 
@@ -36,8 +35,7 @@ impl<'s> Model for Deals<'s> {
 
 impl<'s> Deals<'s> {
     ghost use Rattle.std.specs.Prelude.{◌≡◌, ◌*◌, ◌≤◌};
-    ghost use Rattle.gs_tree.specs.Trees.{rules_of};
-    ghost use Rattle.gs_tree.specs.Walk.{deals_between, last_count};
+    ghost use Rattle.gs_tree.specs.{Trees.{rules_of}, Walk.{deals_between, last_count}};
 
     // The deals in which player 1 has one of the signals from one on, up to another.
     pub(crate) fn rows(signals: &'s Signals<'s>, from: u32, end: u32) -> Deals<'s>

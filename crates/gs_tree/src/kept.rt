@@ -1,15 +1,9 @@
 //! What is kept of the last round's signals to weigh deals: their ways and their cards.
 
 ghost use Rattle.std.specs.Prelude.{◌≡◌, ◌≤◌, ◌<◌, ◌+◌, ◌*◌, ◌++◌, ◌∷◌, ℕ, [], suc, All, IfOk, OnOk, drop, flat_map, length, map, slice_index, take};
-ghost use Rattle.gs_game.specs.Games.{game_of, round_of};
-ghost use Rattle.gs_game.specs.Limits.{IsDealable, IsWithinLimits};
-ghost use Rattle.gs_model.specs.Deals.{path_weight};
-ghost use Rattle.gs_model.specs.Game.{round_count};
-ghost use Rattle.gs_model.specs.Signals.{signal_at, signals};
-ghost use Rattle.gs_tree.specs.Kept.{AreHands};
-ghost use Rattle.gs_tree.specs.Layers.{last_seen};
-ghost use Rattle.gs_tree.specs.Shown.{cards_on, seen_on, shown_by};
-ghost use Rattle.gs_tree.specs.Tables.{AreTables};
+ghost use Rattle.gs_game.specs.{Games.{game_of, round_of}, Limits.{IsDealable, IsWithinLimits}};
+ghost use Rattle.gs_model.specs.{Deals.{path_weight}, Game.{round_count}, Signals.{signal_at, signals}};
+ghost use Rattle.gs_tree.specs.{Kept.{AreHands}, Layers.{last_seen}, Shown.{cards_on, seen_on, shown_by}, Tables.{AreTables}};
 
 use crate::layer::Side;
 use crate::tables::Tables;

@@ -2,12 +2,9 @@
 
 ghost use Rattle.std.specs.Prelude.{◌≡◌, ◌≤◌, ◌<◌, ◌++◌, ◌*◌, ◌-◌, slice_set, slice_index, All, IfOk, OnOk, vec_len, map, length};
 ghost use Rattle.gs_card.specs.Decks.{kinds};
-ghost use Rattle.gs_tree.specs.Shown.{cards_of, seen_of};
-ghost use Rattle.gs_model.specs.Cards.{left_after};
-ghost use Rattle.gs_model.specs.Cards.{groups, groups_above, groups_with, ways};
+ghost use Rattle.gs_tree.specs.{Shown.{cards_of, seen_of}, Layers.{showing}};
+ghost use Rattle.gs_model.specs.{Cards.{left_after}, Cards.{groups, groups_above, groups_with, ways}, Signals.{showings, edge}};
 ghost use Rattle.gs_game.specs.Games.{round_of};
-ghost use Rattle.gs_model.specs.Signals.{showings, edge};
-ghost use Rattle.gs_tree.specs.Layers.{showing};
 
 use crate::few::FewCards;
 use crate::ways::Ways;

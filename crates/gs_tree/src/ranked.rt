@@ -2,15 +2,10 @@
 
 ghost use Rattle.std.specs.Prelude.{◌≡◌, ◌<◌, All, IfOk, IsTrue, map};
 ghost use Rattle.gs_card.specs.Rankings.{ranking_of};
-ghost use Rattle.gs_game.specs.Games.{game_of};
-ghost use Rattle.gs_game.specs.Limits.{IsDealable, IsWithinLimits};
-ghost use Rattle.gs_model.specs.Game.{round_count};
-ghost use Rattle.gs_model.specs.Signals.{signal_at, signals};
-ghost use Rattle.gs_model.specs.ViewTree.{signal_strength};
+ghost use Rattle.gs_game.specs.{Games.{game_of}, Limits.{IsDealable, IsWithinLimits}};
+ghost use Rattle.gs_model.specs.{Game.{round_count}, Signals.{signal_at, signals}, ViewTree.{signal_strength}};
 ghost use Rattle.gs_rank.specs.Hands.{IsStrength};
-ghost use Rattle.gs_tree.specs.Kept.{AreHands};
-ghost use Rattle.gs_tree.specs.Plain.{IsPlain};
-ghost use Rattle.gs_tree.specs.Walk.{last_count};
+ghost use Rattle.gs_tree.specs.{Kept.{AreHands}, Plain.{IsPlain}, Walk.{last_count}};
 
 use crate::kept::{Hands, part};
 use gs_game::{Game, are_single};

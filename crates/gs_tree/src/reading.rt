@@ -1,13 +1,10 @@
 //! Reading the texts of signals: what follows a text's beginning. Nothing takes memory.
 
-ghost use Rattle.std.specs.Prelude.{◌≡◌, ◌<◌, ◌≤◌, ◌∷◌, [], All, length};
-ghost use Rattle.std.specs.Bool.{Decides};
+ghost use Rattle.std.specs.{Prelude.{◌≡◌, ◌<◌, ◌≤◌, ◌∷◌, [], All, length}, Bool.{Decides}};
 ghost use Rattle.gs_card.specs.Decks.{card_text, kinds};
 ghost use Rattle.gs_game.specs.Games.{game_of};
 ghost use Rattle.gs_model.specs.Signals.{signal_at, signals};
-ghost use Rattle.gs_tree.specs.Shown.{cards_of, seen_of};
-ghost use Rattle.gs_tree.specs.Tables.{AreTables};
-ghost use Rattle.gs_tree.specs.Texts.{IsRest, group_text, seen_text, signal_text};
+ghost use Rattle.gs_tree.specs.{Shown.{cards_of, seen_of}, Tables.{AreTables}, Texts.{IsRest, group_text, seen_text, signal_text}};
 
 use crate::layer::{Layer, Shown};
 use gs_card::{Card, Deck};

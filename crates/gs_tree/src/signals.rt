@@ -1,17 +1,11 @@
 //! The raw signals of a game, round by round.
 
-ghost use Rattle.std.specs.Prelude.{◌≡◌, ◌==◌, if◌then◌else◌, All, IsTrue, map, length};
-ghost use Rattle.std.specs.List.{range_with_len};
-ghost use Rattle.gs_model.specs.Game.{round_count};
+ghost use Rattle.std.specs.{Prelude.{◌≡◌, ◌==◌, if◌then◌else◌, All, IsTrue, map, length}, List.{range_with_len}};
+ghost use Rattle.gs_model.specs.{Game.{round_count}, Signals.{parents as parents_in, signals}, ViewTree.{signal_strength}};
 ghost use Rattle.gs_card.specs.Rankings.{ranking_of};
 ghost use Rattle.gs_rank.specs.Hands.{IsStrength};
-ghost use Rattle.gs_model.specs.Signals.{parents as parents_in, signals};
-ghost use Rattle.gs_model.specs.ViewTree.{signal_strength};
 ghost use Rattle.gs_game.specs.Games.{game_of};
-ghost use Rattle.gs_tree.specs.Boards.{AreBoards};
-ghost use Rattle.gs_tree.specs.Kept.{AreHands};
-ghost use Rattle.gs_tree.specs.Plain.{IsPlain};
-ghost use Rattle.gs_tree.specs.Tables.{AreTables};
+ghost use Rattle.gs_tree.specs.{Boards.{AreBoards}, Kept.{AreHands}, Plain.{IsPlain}, Tables.{AreTables}};
 
 use crate::boards::{Boards, link_boards};
 use crate::deal::Deal;
@@ -63,13 +57,10 @@ impl<'g> Signals<'g> {
     ghost use Rattle.std.specs.List.{range_with_len};
     ghost use Rattle.gs_model.specs.Game.{round_count};
     ghost use Rattle.gs_model.specs.Signals.{signals, parents as parents_in, signal_at, child_count, first_child, last_edge, left_by, own_cards, public_cards};
-    ghost use Rattle.gs_model.specs.ViewTree.{signal_strength};
-    ghost use Rattle.gs_tree.specs.Boards.{AreBoards};
-    ghost use Rattle.gs_tree.specs.Trees.{rules_of, deck_of};
-    ghost use Rattle.gs_card.specs.Decks.{IsDeck};
-    ghost use Rattle.gs_model.specs.Deals.{Deal as Dealt, deals, own_ways, path_weight};
-    ghost use Rattle.gs_tree.specs.Walk.{deal_at, last_count, shows_same, IsNextPair, IsRowStart};
+    ghost use Rattle.gs_model.specs.{ViewTree.{signal_strength}, Deals.{Deal as Dealt, deals, own_ways, path_weight}};
+    ghost use Rattle.gs_tree.specs.{Boards.{AreBoards}, Trees.{rules_of, deck_of}, Walk.{deal_at, last_count, shows_same, IsNextPair, IsRowStart}};
     ghost use Rattle.gs_tree.specs.Texts.{signal_text};
+    ghost use Rattle.gs_card.specs.Decks.{IsDeck};
 
     /// The signals of a valid game.
     pub fn of(alloc: Global, game: &'g ValidGame) -> Result<Signals<'g>, AllocError>

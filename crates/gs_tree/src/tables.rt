@@ -1,16 +1,11 @@
 //! The tables of all signals of a game.
 
 ghost use Rattle.std.specs.Prelude.{◌≡◌, ◌≤◌, ◌<◌, ◌+◌, ℕ, suc, [], ◌++◌, ◌^◌, ◌*◌, ◌/◌, ◌==◌, count_by, All, IfOk, OnOk, length, map, string_bytes};
-ghost use Rattle.gs_game.specs.Games.{game_of, round_of};
-ghost use Rattle.gs_model.specs.Game.{round_at, round_count};
-ghost use Rattle.gs_model.specs.Signals.{signals, signal_at, left_by};
-ghost use Rattle.gs_model.specs.Signals.{parents as parents_in, own_cards, public_cards};
-ghost use Rattle.gs_game.specs.Limits.{IsDealable, IsWithinLimits};
+ghost use Rattle.gs_game.specs.{Games.{game_of, round_of}, Limits.{IsDealable, IsWithinLimits}};
+ghost use Rattle.gs_model.specs.{Game.{round_at, round_count}, Signals.{signals, signal_at, left_by}};
+ghost use Rattle.gs_model.specs.{Signals.{parents as parents_in, own_cards, public_cards}, Cards.{ways, left_after}, Deals.{path_weight}};
 ghost use Rattle.gs_card.specs.Decks.{kinds};
-ghost use Rattle.gs_model.specs.Cards.{ways, left_after};
-ghost use Rattle.gs_model.specs.Deals.{path_weight};
-ghost use Rattle.gs_tree.specs.Texts.{signal_text};
-ghost use Rattle.gs_tree.specs.Tables.{AreTables, IsLayer};
+ghost use Rattle.gs_tree.specs.{Texts.{signal_text}, Tables.{AreTables, IsLayer}};
 
 use crate::layer::{Layer, left_without, push_showings};
 use crate::texts::push_seen;

@@ -2,8 +2,7 @@
 
 ghost use Rattle.std.specs.Prelude.{◌≡◌, ◌<◌, ◌++◌, All, OnOk, string_bytes};
 ghost use Rattle.gs_card.specs.Decks.{card_text, kinds};
-ghost use Rattle.gs_tree.specs.Shown.{cards_of, seen_of};
-ghost use Rattle.gs_tree.specs.Texts.{group_text, seen_text};
+ghost use Rattle.gs_tree.specs.{Shown.{cards_of, seen_of}, Texts.{group_text, seen_text}};
 
 use crate::layer::Shown;
 use gs_card::{Card, Deck};
