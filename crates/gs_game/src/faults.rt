@@ -34,10 +34,10 @@ pub enum GameFault {
     Memory,
 }
 
-impl<E: Into<AllocError> + Drop> From<E> for GameFault {
+impl From<AllocError> for GameFault {
     ghost from_gives = { λ _ e. e ≡ Memory };
 
-    fn from(_e: E) -> GameFault {
+    fn from(_e: AllocError) -> GameFault {
         GameFault::Memory
     }
 }
