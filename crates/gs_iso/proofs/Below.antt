@@ -19,10 +19,10 @@ use Rattle.gs_model.proofs.Order.{sorts_equal}
 use Rattle.gs_model.proofs.Ranges.{length-flat_map_map, length-parents}
 use Rattle.gs_model.proofs.Signatures.{Matched-map, Matched-unmap}
 use Rattle.gs_numbers.specs.Numbers.{IsKeyClasses}
+use Rattle.gs_numbers.proofs.FirstSeen.{classes_like}
 use Rattle.gs_iso.specs.Numbers.{AreMarks, IsNumbering, child_part, class_key, marks_under}
 use Rattle.gs_iso.specs.Orders.{mark_lt}
 use Rattle.gs_iso.proofs.Exact.{mark_order, mark_ranks, pairs}
-use Rattle.gs_iso.proofs.Rounds.{classes_like}
 use Rattle.gs_model.proofs.Extends.{before_last, parents_below}
 
 -- ---- isomorphism before the last round

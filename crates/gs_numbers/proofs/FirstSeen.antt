@@ -22,6 +22,16 @@ slice_get-last : {X : Type 0} (xs : List X) (x : X) → slice_get (xs ++ x ∷ [
 slice_get-last [] x = refl
 slice_get-last (y ∷ ys) x = slice_get-last ys x
 
+-- classes of a relation are classes of one that says the same
+pub classes_like : (R S : ℕ → ℕ → Type 0) (xs : List ℕ) → ((i j : ℕ) → i < length xs → j < length xs → R i j ↔ S i j) → IsClassesOf R xs → IsClassesOf S xs
+classes_like R S xs both h = record {
+  numbered = h.numbered;
+  same = λ i j li lj.
+      let a = h.same i j li lj in
+      let b = both i j li lj in
+      (λ e. b.0 (a.0 e), λ s. a.1 (b.1 s));
+}
+
 module _ {K : Type 0} (eq : K → K → Bool) (exact : (x y : K) → Decides (eq x y) (x ≡ y)) (key : ℕ → K) where
   -- the keys that were seen, and the classes of the items so far
   pub record AreFirstSeen (keys : List K) (classes : List ℕ) : Type 0 where

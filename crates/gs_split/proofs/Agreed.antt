@@ -1,5 +1,5 @@
 -- Sums of one signal and of another, and the numbers that they get.
-use Rattle.std.proofs.Common.{◌≡◌, ◌↔◌, ℕ, ℤ, pos, ◌-◌, ◌<◌, Bool, true, false, true≢false, not, cond, List, [], length, get_or, refl, sym, ap, ◌∙◌, subst, arith, reverse}
+use Rattle.std.proofs.Common.{◌≡◌, ◌↔◌, ℕ, ℤ, pos, ◌-◌, ◌<◌, Bool, true, false, true≢false, cond, List, [], length, get_or, refl, sym, ap, ◌∙◌, subst, arith, reverse}
 use Rattle.std.specs.Prelude.{◌==◌}
 use Rattle.std.specs.Bool.{Decides}
 use Rattle.std.specs.Ordering.{int_eq}
@@ -14,10 +14,6 @@ use Rattle.gs_lossless.specs.declared.sides.Side.TheVariants.{Deals, Children}
 use Rattle.gs_lossless.proofs.Scanned.{reverse_one}
 use Rattle.gs_lossless.proofs.Settled.{agree_if_same, same_if_agree}
 use Rattle.gs_split.specs.Turns.{AreClassSums, AreSettled, AreSideFirsts, AreSideNumbers, AreTurnNumbers, HaveSameSums, IsSettled, key_eq}
-
-turned : (b : Bool) → (b ≡ true → ⊥) → not b ≡ true
-turned true h = absurd (h refl)
-turned false h = refl
 
 module _ (f : Frame) (lists : ClassLists) (round : ℕ) where
   -- members of a settled class agree with its first member
@@ -44,13 +40,14 @@ module _ (f : Frame) (lists : ClassLists) (round : ℕ) where
             (λ g. reverse_one a b (same_if_agree f lists side round i j (reverse a) (reverse b) x y g)),
           )
 
-  -- sums are made where the class of a signal is not settled
-  pub sums_made : (side : Side) (settled : List Bool) (s : ℕ) (b : Bool) (sums : List Part) → b ≡ get_or settled (class_of lists round s - 1) false
-      → (not b ≡ false → sums ≡ []) → (not b ≡ true → AreAmounts f lists side round s (reverse sums)) → AreClassSums f lists side round settled s sums
-  sums_made side settled s b sums is none made = record {
-    none = λ one. none (ap not (is ∙ one));
-    made = λ no. made (turned b (λ t. no (sym is ∙ t)));
-  }
+  -- none where the class of a signal is settled
+  pub sums_none : (side : Side) (settled : List Bool) (s : ℕ) (sums : List Part) → IsSettled lists round settled s → sums ≡ [] → AreClassSums f lists side round settled s sums
+  sums_none side settled s sums is none = record { none = λ _. none; made = λ other. absurd (other is) }
+
+  -- and else its own
+  pub sums_made : (side : Side) (settled : List Bool) (s : ℕ) (sums : List Part) → get_or settled (class_of lists round s - 1) false ≡ false → AreAmounts f lists side round s (reverse sums)
+      → AreClassSums f lists side round settled s sums
+  sums_made side settled s sums apart made = record { none = λ is. absurd (true≢false (sym is ∙ apart)); made = λ _. made }
 
   -- the sums of a signal are those of one that stands for it
   pub sums_again : (side : Side) (firsts : List ℕ) (settled : List Bool) (s : ℕ) (sums : List Part) → AreSideFirsts f lists side round firsts → s < length firsts

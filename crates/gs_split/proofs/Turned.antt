@@ -8,7 +8,6 @@ use Rattle.std.proofs.lemmas.List.Elements.{All-from_recursion}
 use Rattle.gs_model.specs.Classes.{ClassLists, IsClasses, IsFilter, class_of, list_of}
 use Rattle.gs_model.specs.Frame.{Frame, ancestor, ancestor_up, frame_of, last_round, parents_of, signal_count}
 use Rattle.gs_model.specs.Game.{Game, round_at, round_count}
-use Rattle.gs_model.specs.Numbering.{IsClassesOf}
 use Rattle.gs_model.specs.RefinementTurn.{IsTurn}
 use Rattle.gs_model.specs.Signals.{children, parents}
 use Rattle.gs_model.proofs.Ranges.{in_range, parents_at}
@@ -18,18 +17,9 @@ use Rattle.gs_tree.specs.Trees.{rules_of}
 use Rattle.gs_tree.specs.declared.signals.Signals.{Signals}
 use Rattle.gs_lossless.proofs.Descent.{playable}
 use Rattle.gs_numbers.specs.Numbers.{IsKeyClasses}
+use Rattle.gs_numbers.proofs.FirstSeen.{classes_like}
 use Rattle.gs_split.specs.Turns.{AreExact, AreParted, AreTurnNumbers, HaveNumbers, IsRoundParted, StayInRound, classes_above, turn_key}
 use Rattle.gs_split.proofs.Agreed.{triples}
-
--- classes of a relation are classes of one that says the same
-classes_like : (R S : ℕ → ℕ → Type 0) (xs : List ℕ) → ((i j : ℕ) → i < length xs → j < length xs → R i j ↔ S i j) → IsClassesOf R xs → IsClassesOf S xs
-classes_like R S xs both h = record {
-  numbered = h.numbered;
-  same = λ i j li lj.
-      let a = h.same i j li lj in
-      let b = both i j li lj in
-      (λ e. b.0 (a.0 e), λ s. a.1 (b.1 s));
-}
 
 -- ---- parents
 

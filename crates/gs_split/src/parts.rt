@@ -1,16 +1,15 @@
-//! What a turn looks at in a round: the sums of the last round, and the children before it.
+//! What a turn looks at on one side: the sums of the last round, or the children before it.
 
-ghost use Rattle.std.specs.Prelude.{◌≡◌, ◌<◌, ◌≤◌, [], true, false, IfOk, length, reverse};
+ghost use Rattle.std.specs.Prelude.{◌≡◌, ◌<◌, ◌≤◌, IfOk, length};
 ghost use Rattle.gs_model.specs.Classes.{ClassLists, list_of};
-ghost use Rattle.gs_model.specs.Frame.{frame_of, last_round};
-ghost use Rattle.gs_model.specs.Signals.{signals as signals_in};
+ghost use Rattle.gs_model.specs.Frame.{frame_of};
 ghost use Rattle.gs_tree.specs.Trees.{rules_of};
-ghost use Rattle.gs_lossless.specs.Amounts.{AreAmounts, HasSide, key_count, keys_of};
-ghost use Rattle.gs_split.specs.Turns.{AreSettled, AreSideFirsts, AreSideNumbers, AreTurnNumbers};
+ghost use Rattle.gs_lossless.specs.Amounts.{HasSide, key_count, keys_of};
+ghost use Rattle.gs_split.specs.Turns.{AreSettled, AreSideFirsts, AreSideNumbers};
 
 use gs_alike::Boards;
 use gs_filter::Classes;
-use gs_lossless::{Part, Side, side_keys, side_sums};
+use gs_lossless::{Side, side_keys, side_sums};
 use gs_numbers::number_of_list;
 use gs_tree::Signals;
 use indexmap::IndexSet;
@@ -65,33 +64,9 @@ fn settled_classes(
     Ok(settled)
 }
 
-/// The sums of a signal on one side, or none where they are not wanted.
-fn wanted_sums(
-    alloc: Global,
-    signals: &Signals,
-    side: Side,
-    round: u8,
-    keys: &[u32],
-    signal: u32,
-    wanted: bool,
-) -> Result<Vec<Part>, AllocError>
-    requires side { HasSide (frame_of (rules_of signals.now)) side round }
-    requires all { length keys.now ≡ key_count (rules_of signals.now) side round }
-    requires in_range { signal < length (signals_in (rules_of signals.now) round) }
-    ensures none { wanted ≡ false → IfOk result (λ v. v.items ≡ []) }
-    ensures made { wanted ≡ true → IfOk result (λ v. (lists : ClassLists) → keys.now ≡ keys_of (frame_of (rules_of signals.now)) lists side round
-        → AreAmounts (frame_of (rules_of signals.now)) lists side round signal (reverse v.items)) }
-{
-    if wanted {
-        side_sums(alloc, signals, side, round, keys, signal)
-    } else {
-        Ok(Vec::new(alloc))
-    }
-}
-
 /// For each signal of a round a number: within a class equal exactly where the signals agree on one side. Sums are made only of signals that none before
 /// them stands for, and none in a class that a turn cannot part.
-fn side_numbers(
+pub(crate) fn side_numbers(
     alloc: Global,
     signals: &Signals,
     boards: &Boards<'_>,
@@ -118,32 +93,14 @@ fn side_numbers(
             numbers.push(number)?;
             continue;
         }
-        let wanted = !settled[classes.class_of(round, signal) as usize - 1];
-        let sums = wanted_sums(alloc, signals, side, round, &keys, signal, wanted)?;
+        let class = classes.class_of(round, signal);
+        let sums = if settled[class as usize - 1] {
+            Vec::new(alloc)
+        } else {
+            side_sums(alloc, signals, side, round, &keys, signal)?
+        };
         let number = number_of_list(alloc, &mut seen, &sums)?;
         numbers.push(number)?;
     }
     Ok(numbers)
-}
-
-/// For each signal of a round a number: within a class equal exactly where the signals have, in the last round, the same sums, and before it the
-/// same children.
-pub(crate) fn turn_numbers(
-    alloc: Global,
-    signals: &Signals,
-    boards: &Boards<'_>,
-    classes: &Classes,
-    round: u8,
-) -> Result<Vec<u32>, AllocError>
-    requires boards { boards.now.signals.now ≡ signals.now }
-    requires parents { classes.now.parents ≡ (frame_of (rules_of signals.now)).parents }
-    requires some { 0 < round }
-    requires top { round ≤ last_round (frame_of (rules_of signals.now)) }
-    ensures { IfOk result (λ v. AreTurnNumbers (frame_of (rules_of signals.now)) classes.now.lists round v.items) }
-{
-    if round < signals.rounds() {
-        side_numbers(alloc, signals, boards, classes, Side::Children, round)
-    } else {
-        side_numbers(alloc, signals, boards, classes, Side::Deals, round)
-    }
 }

@@ -9,14 +9,15 @@ ghost use Rattle.gs_tree.specs.Trees.{rules_of};
 ghost use Rattle.gs_split.specs.Turns.{AreExact, AreKnown, AreTurnNumbers, HaveSameSums};
 
 use crate::parting::parted;
-use crate::parts::turn_numbers;
+use crate::parts::side_numbers;
 use gs_alike::Boards;
 use gs_filter::Classes;
+use gs_lossless::Side;
 use gs_tree::Signals;
 use std::alloc::{AllocError, Global};
 
-/// For each signal of a round a number: within a class equal exactly where the signals have the same sums. Where those are known to be the same, all
-/// numbers are.
+/// For each signal of a round a number: within a class equal exactly where the signals have, in the last round, the same sums, and before it the same
+/// children. Where those are known to be the same, all numbers are.
 fn round_numbers(
     alloc: Global,
     signals: &Signals,
@@ -35,8 +36,10 @@ fn round_numbers(
 {
     if known {
         vec![in alloc; 0; signals.count(round) as usize]
+    } else if round < signals.rounds() {
+        side_numbers(alloc, signals, boards, classes, Side::Children, round)
     } else {
-        turn_numbers(alloc, signals, boards, classes, round)
+        side_numbers(alloc, signals, boards, classes, Side::Deals, round)
     }
 }
 

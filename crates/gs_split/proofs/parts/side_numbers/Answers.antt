@@ -1,18 +1,18 @@
-use Rattle.std.proofs.Common.{◌≡◌, ◌-◌, ◌<◌, ◌∙◌, ℕ, List, false, ap, arith, get_or, length, subst, sym}
+use Rattle.std.proofs.Common.{◌≡◌, ◌-◌, ◌<◌, ◌∙◌, ℕ, List, false, ap, arith, get_or, length, reverse, subst, sym, Vec, Global}
 use Rattle.std.proofs.lemmas.List.{get_or_read}
 use Rattle.gs_model.specs.Classes.{class_of}
 use Rattle.gs_model.specs.Frame.{frame_of, signal_count}
 use Rattle.gs_numbers.proofs.Numbered.{numbered_again, numbered_more, numbers_are}
 use Rattle.gs_tree.specs.Trees.{rules_of}
-use Rattle.gs_lossless.specs.Amounts.{Agree, key_count}
+use Rattle.gs_lossless.specs.Amounts.{Agree, AreAmounts, key_count}
 use Rattle.gs_lossless.specs.declared.parts.Part.{Part}
 use Rattle.gs_lossless.proofs.Descent.{keys_long, playable}
 use Rattle.gs_lossless.proofs.Merge.{part_decides}
 use Rattle.gs_lossless.proofs.Scanned.{side_classes, side_signals, side_top}
 use Rattle.gs_split.specs.Turns.{AreClassSums, AreSettled, AreSideFirsts, part_eq}
-use Rattle.gs_split.proofs.Agreed.{sums_again, sums_law, sums_made}
+use Rattle.gs_split.proofs.Agreed.{sums_again, sums_law, sums_made, sums_none}
 use Rattle.gs_split.proofs.parts.side_numbers.Goals as goal
-use Rattle.gs_split.proofs.parts.side_numbers.Goals.{In_ok-firsts, In_ok-keys, In_ok-settled}
+use Rattle.gs_split.proofs.parts.side_numbers.Goals.{In_ok-firsts, In_ok-keys, In_ok-settled, Joined-index, else-index+in_ok-sums, then-index}
 
 pub count-count-requires-clause-in_range : goal.count-count-requires-clause-in_range
 count-count-requires-clause-in_range c = side_top (rules_of c.args.signals.now) c.args.side c.args.round c.requires.side
@@ -40,13 +40,13 @@ pub index-first-requires : goal.index-first-requires
 index-first-requires c =
     omega (arith, (stands (goal.at.index-first-requires c).In_ok-firsts).long, side_signals (rules_of c.args.signals.now) c.args.side c.args.round c.requires.side, c.count-count.ensures.value, c.loop-signal-test.true)
 
-pub class_of-requires-clause-within : goal.class_of-requires-clause-within
-class_of-requires-clause-within c =
+pub class_of-class-requires-clause-within : goal.class_of-class-requires-clause-within
+class_of-class-requires-clause-within c =
     let n = side_classes (rules_of c.args.signals.now) c.args.classes.now c.requires.parents c.rounds-rounds.ensures.sound c.args.side c.args.round c.requires.side in
     omega (arith, n, c.count-count.ensures.value, c.loop-signal-test.true)
 
-pub wanted_sums-requires-clause-all : goal.wanted_sums-requires-clause-all
-wanted_sums-requires-clause-all c = many (goal.at.wanted_sums-requires-clause-all c).In_ok-keys c.deref-in-loop-signal.result.now c.deref-in-loop-signal.ensures.value
+pub side_sums-requires-clause-all : goal.side_sums-requires-clause-all
+side_sums-requires-clause-all c = many (goal.at.side_sums-requires-clause-all c).In_ok-keys c.deref-else-index.result.now c.deref-else-index.ensures.value
 
 -- what a signal's sums are
 abbrev sign : In_ok-settled → ℕ → List Part → Type 0
@@ -62,19 +62,27 @@ loop-signal-preserved-then-first-signal c =
     numbered_again part_eq part_decides s _ _ _ _ c.index-first.result.now _ c.loop-signal.invariant c.if-first-signal.true c.index-number.ensures
     (λ a h. sums_again (frame_of (rules_of c.args.signals.now)) c.args.classes.now.lists c.args.round c.args.side _ c.in_ok-settled.settled.items signal a firsts here (subst (λ i. s i a) first h)) c.in_ok-push.ensures.items
 
+made : (c : Joined-index) → sign (goal.at.Joined-index c).In_ok-settled c.loop-signal.signal c.if-index.sums.items
+made c =
+    let f = frame_of (rules_of c.args.signals.now) in
+    let lists = c.args.classes.now.lists in
+    let settled = c.in_ok-settled.settled.items in
+    let signal = c.loop-signal.signal in
+    let class : c.class_of-class.result ≡ class_of lists c.args.round signal = c.class_of-class.ensures.value in
+    let lc : c.class_of-class.result - 1 < length settled = omega (arith, c.in_ok-settled.ensures.long, c.class_of-class.ensures.class.0, c.class_of-class.ensures.class.1) in
+    let is = get_or_read settled (c.class_of-class.result - 1) c.index.result.now lc c.index.ensures false ∙ ap (λ k. get_or settled (k - 1) false) class in
+    elim c.if-index.branch [
+      | then-index w ↦ sums_none f lists c.args.round c.args.side settled signal _ (sym is ∙ w.if-index.true) (ap (λ (v : Vec Part Global). v.items) w.sums-is ∙ w.new-sums.ensures.items)
+      | else-index+in_ok-sums w ↦ sums_made f lists c.args.round c.args.side settled signal _ (sym is ∙ w.if-index.false)
+          (subst (λ (v : Vec Part Global). AreAmounts f lists c.args.side c.args.round signal (reverse v.items)) (sym w.sums-is) (w.in_ok-sums.ensures lists (w.deref-else-index.ensures.value ∙ c.in_ok-keys.ensures)))
+    ]
+
 pub loop-signal-preserved : goal.loop-signal-preserved
 loop-signal-preserved c =
     let s = sign (goal.at.loop-signal-preserved c).In_ok-settled in
-    let lists = c.args.classes.now.lists in
-    let settled = c.in_ok-settled.settled.items in
-    let sums = c.in_ok-sums.sums.items in
     let n = c.in_ok-number.ensures in
-    let class : c.class_of.result ≡ class_of lists c.args.round c.loop-signal.signal = c.class_of.ensures.value in
-    let lc : c.class_of.result - 1 < length settled = omega (arith, c.in_ok-settled.ensures.long, c.class_of.ensures.class.0, c.class_of.ensures.class.1) in
-    let is = get_or_read settled (c.class_of.result - 1) c.index.result.now lc c.index.ensures false ∙ ap (λ k. get_or settled (k - 1) false) class in
-    let made : s c.loop-signal.signal sums = sums_made (frame_of (rules_of c.args.signals.now)) lists c.args.round c.args.side settled c.loop-signal.signal c.index.result.now sums is c.in_ok-sums.ensures.none
-    (λ t. c.in_ok-sums.ensures.made t lists (c.deref-in-loop-signal.ensures.value ∙ c.in_ok-keys.ensures)) in
-    numbered_more part_eq part_decides s _ _ _ _ _ _ _ c.loop-signal.invariant (subst (s c.loop-signal.signal) (sym c.deref-in-loop-signal-2.ensures.value) made) n.kept n.number n.few n.unique c.in_ok-push-2.ensures.items
+    let sums = subst (s c.loop-signal.signal) (sym c.deref-in-loop-signal.ensures.value) (made (goal.at.loop-signal-preserved c).Joined-index) in
+    numbered_more part_eq part_decides s _ _ _ _ _ _ _ c.loop-signal.invariant sums n.kept n.number n.few n.unique c.in_ok-push-2.ensures.items
 
 pub returns : goal.returns
 returns c =
