@@ -27,7 +27,7 @@ use Rattle.gs_best.proofs.Chips.{IsModest}
 use Rattle.gs_best.proofs.Forms.{form_in_range, form_modest, form_walked}
 use Rattle.gs_frac.specs.declared.value.Fraction.{Fraction}
 use Rattle.gs_game.specs.Games.{game_of}
-use Rattle.gs_seq.specs.Abstracts.{frame_of}
+use Rattle.gs_seq.specs.Abstracts.{frame_of, lists_of}
 use Rattle.gs_seq.specs.Plans.{IsPlanOf, class_plan, lifted}
 use Rattle.gs_seq.specs.declared.form.Abstract.{Abstract}
 use Rattle.gs_seq.specs.declared.plan.Plan.{Plan as StoredPlan}
@@ -165,6 +165,15 @@ single_at a lists e round s some top ls =
     let member = single_member f round some top (s + 1) here in
     let is : first_member (single_classes f.parents) round (s + 1) ≡ s = omega (arith, member.1) in
     (subst (λ ls. IsClass ls round (s + 1)) (sym e) here, ap (λ ls. first_member ls round (s + 1)) e ∙ is)
+
+-- so is a signal of an end's round, and there are few
+pub single_end : (a : Abstract) → lists_of a ≡ single_classes (frame_of a).parents → (z s : ℕ) → z < end_count (frame_of a) → s < signal_count (frame_of a) (round_of (frame_of a) (at_end z))
+    → IsClass (lists_of a) (round_of (frame_of a) (at_end z)) (s + 1) × (first_member (lists_of a) (round_of (frame_of a) (at_end z)) (s + 1) ≡ s) × (s < 200000)
+single_end a e z s l ls =
+    let w = form_walked a 1 (omega arith) (omega arith) in
+    let round = round_of (frame_of a) (at_end z) in
+    let h = single_at a (lists_of a) e round s (w.end_round z l) (w.end_in z l) ls in
+    (h.0, h.1, omega (arith, ls, signal_few a round (w.end_round z l) (w.end_in z l)))
 
 -- what the deals of a signal pay is small beside what they weigh
 pub small_of : (a : Abstract) (lists : ClassLists) → lists ≡ single_classes (frame_of a).parents → (one two : StoredPlan) → IsPlanOf (frame_of a) lists 1 one → IsPlanOf (frame_of a) lists 2 two → (z s : ℕ) → z < end_count (frame_of a)

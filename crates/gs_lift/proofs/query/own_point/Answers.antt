@@ -1,4 +1,4 @@
-use Rattle.std.proofs.Common.{◌≡◌, ◌<◌, get_or, length, sym, ◌∙◌, arith}
+use Rattle.std.proofs.Common.{◌≡◌, ◌<◌, get_or, sym, ◌∙◌, arith}
 use Rattle.gs_model.specs.Frame.{player_at, point_count}
 use Rattle.gs_seq.specs.Games.{frame_in}
 use Rattle.gs_seq.proofs.Points.{length-points, place_reads}

@@ -1,122 +1,112 @@
-use Rattle.std.proofs.Common.{◌≡◌, ◌+◌, ◌*◌, ◌^◌, ◌<◌, List, length, get_or, take, refl, sym, ap, subst, ◌∙◌, arith, rules, pos, ◌+ℤ◌, ◌*ℤ◌, unsigned_abs, FitsSigned, of_z, to_z, to_z-of_z}
+use Rattle.std.proofs.Common.{◌≡◌, ◌+◌, ◌*◌, ◌^◌, ◌<◌, List, length, get_or, take, refl, ap, ◌∙◌, arith, rules, pos, ◌*ℤ◌, unsigned_abs, FitsSigned, of_z, to_z, to_z-of_z}
 use Rattle.std.specs.Int.{w64}
 use Rattle.std.proofs.lemmas.Nat.{mul-add-lt}
-use Rattle.std.proofs.lemmas.List.{take_all}
 use Rattle.std.proofs.Math.Nat.{mul_comm}
 use Rattle.gs_model.specs.Frame.{end_at}
 use Rattle.gs_model.specs.Sums.{sum_z}
-use Rattle.gs_model.proofs.Sparse.{abs_sum, sum_z-more}
+use Rattle.gs_model.proofs.Sparse.{abs_sum}
 use Rattle.gs_best.specs.Forms.{game_in}
 use Rattle.gs_seq.specs.Abstracts.{frame_of, lists_of}
 use Rattle.gs_seq.specs.Payoffs.{pair_pays}
 use Rattle.gs_seq.specs.declared.pair.Pair.{Pair}
 use Rattle.gs_seq.proofs.Sizes.{modest}
-use Rattle.gs_seq.proofs.Turns.{all_passed, begun, known as known_at, none_passed, passed, turn}
-use Rattle.gs_solve.specs.Parts.{AreAdded, cell_at, class_adds, end_sequence}
+use Rattle.gs_seq.proofs.Turns.{IsKnown, IsTurn, begun, known, none_passed, passed, sum_ended, sum_turned, turn}
+use Rattle.gs_solve.specs.Laws.{IsForm}
+use Rattle.gs_solve.specs.Parts.{cell_at, class_adds, end_sequence}
 use Rattle.gs_solve.specs.Programs.{unit}
 use Rattle.gs_solve.specs.Sequences.{form_sizes}
 use Rattle.gs_solve.proofs.AddedCells.{added_none, added_same, added_then, added_within}
 use Rattle.gs_solve.proofs.Cells.{pair_adds, prefix_small, row_adds}
 use Rattle.gs_solve.proofs.EndSteps.{form_is}
 use Rattle.gs_solve.proofs.payoffs.add_row.Goals as goal
+use Rattle.gs_solve.proofs.payoffs.add_row.Goals.{After-pays, After-round_total-rounds, After-second_sequence, In-Some}
+
+form : (c : After-round_total-rounds) → IsForm (frame_of c.args.form.now) (lists_of c.args.form.now)
+form c = form_is c.args.form.now c.round_total-rounds.ensures.sound
+
+-- where the walk stands, and what is known of the pair there
+at_pair : (c : In-Some) → IsTurn {X = Pair} c.args.row c.loop-pair.pair-iterator c.next.new.self c.in-Some.pair × IsKnown (frame_of c.args.form.now) (lists_of c.args.form.now) 1 c.args.end c.in-Some.pair
+at_pair c =
+    let u = form (goal.at.In-Some c).After-round_total-rounds in
+    let t = turn {X = Pair} c.args.row c.loop-pair.pair-iterator c.next.new.self c.in-Some.pair c.loop-pair.invariant.on c.in-Some.ensures.steps in (
+      t,
+      known (frame_of c.args.form.now) u.in_range (lists_of c.args.form.now) u.classes 1 u.one (modest (game_in c.args.form.now)) c.args.end c.requires.end c.args.class c.args.row c.requires.row c.loop-pair.pair-iterator
+          c.next.new.self c.in-Some.pair t,
+    )
+
+-- the place is one of the list, and this is what the end pays
+inside : (c : After-second_sequence) → c.first_sequence.result * c.args.twos + c.second_sequence.result < length c.loop-pair.sums
+inside c =
+    let n = form_sizes (frame_of c.args.form.now) (lists_of c.args.form.now) in
+    let l : c.second_sequence.result < c.args.twos = omega (arith, c.second_sequence.ensures.within, c.requires.twos) in
+    omega (arith, mul-add-lt c.first_sequence.result c.args.twos c.second_sequence.result n.ones c.first_sequence.ensures.within l, c.requires.long, c.loop-pair.auto.sums, mul_comm c.args.twos n.ones)
+
+pays_is : (c : After-pays) → to_z w64 (of_z w64 c.pays.result) ≡ pair_pays 1 (end_at (frame_of c.args.form.now) c.args.end) c.in-Some.pair
+pays_is c =
+    let fits : FitsSigned w64 c.pays.result = search rules in to_z-of_z {w = w64} {z = c.pays.result} fits ∙ c.pays.ensures ∙ ap (λ e. pair_pays 1 e c.in-Some.pair) c.end_by-at.ensures
 
 pub loop-pair-init : goal.loop-pair-init
 loop-pair-init c =
-    let a = c.args.form.now in let f = frame_of a in let ls = lists_of a in let z = c.args.end in
+    let v = pair_adds (frame_of c.args.form.now) (lists_of c.args.form.now) c.args.end c.args.class in
     let row : List Pair = c.args.row in
     let left : List Pair = c.into_iter-pair-iterator.result in
     let begins : left ≡ row = cc in
-    record {
-      on = begun row left begins;
-      added = added_none (λ k. sum_z (pair_adds f ls z c.args.class k) (take (passed row left) row)) c.args.sums.now (λ k. ap (λ n. sum_z (pair_adds f ls z c.args.class k) (take n row)) (none_passed row left begins));
-    }
+    record { on = begun row left begins; added = added_none (λ k. sum_z (v k) (take (passed row left) row)) c.args.sums.now (λ k. ap (λ n. sum_z (v k) (take n row)) (none_passed row left begins)) }
 
 pub second_sequence-requires-clause-class : goal.second_sequence-requires-clause-class
-second_sequence-requires-clause-class c =
-    let a = c.args.form.now in let f = frame_of a in let ls = lists_of a in let z = c.args.end in
-    let u = form_is a c.round_total-rounds.ensures.sound in
-    let row : List Pair = c.args.row in
-    let t = turn row c.loop-pair.pair-iterator c.next.new.self c.in-Some.pair c.loop-pair.invariant.on c.in-Some.ensures.steps in
-    let known = known_at f u.in_range ls u.classes 1 u.one (modest (game_in a)) z c.requires.end c.args.class row c.requires.row c.loop-pair.pair-iterator c.next.new.self c.in-Some.pair t in
-    known.class
+second_sequence-requires-clause-class c = (at_pair (goal.at.second_sequence-requires-clause-class c).In-Some).1.class
 
-pub pays-requires-clause-few : goal.pays-requires-clause-few
-pays-requires-clause-few c =
-    let a = c.args.form.now in let f = frame_of a in let ls = lists_of a in let z = c.args.end in
-    let u = form_is a c.round_total-rounds.ensures.sound in
-    let row : List Pair = c.args.row in
-    let t = turn row c.loop-pair.pair-iterator c.next.new.self c.in-Some.pair c.loop-pair.invariant.on c.in-Some.ensures.steps in
-    let known = known_at f u.in_range ls u.classes 1 u.one (modest (game_in a)) z c.requires.end c.args.class row c.requires.row c.loop-pair.pair-iterator c.next.new.self c.in-Some.pair t in
-    known.weight
-
-pub pays-requires-clause-moderate : goal.pays-requires-clause-moderate
-pays-requires-clause-moderate c =
-    let a = c.args.form.now in let f = frame_of a in let ls = lists_of a in let z = c.args.end in
-    let u = form_is a c.round_total-rounds.ensures.sound in
-    let row : List Pair = c.args.row in
-    let t = turn row c.loop-pair.pair-iterator c.next.new.self c.in-Some.pair c.loop-pair.invariant.on c.in-Some.ensures.steps in
-    let known = known_at f u.in_range ls u.classes 1 u.one (modest (game_in a)) z c.requires.end c.args.class row c.requires.row c.loop-pair.pair-iterator c.next.new.self c.in-Some.pair t in
-    known.signed
+pub pays-requires : goal.pays-requires
+pays-requires c = let k = (at_pair (goal.at.pays-requires c).In-Some).1 in record { few = k.weight; moderate = k.signed }
 
 pub add-requires-clause-inside : goal.add-requires-clause-inside
-add-requires-clause-inside c =
-    let n = form_sizes (frame_of c.args.form.now) (lists_of c.args.form.now) in
-    let l : c.second_sequence.result < c.args.twos = omega (arith, c.second_sequence.ensures.within, c.requires.twos) in
-    let m = mul-add-lt c.first_sequence.result c.args.twos c.second_sequence.result n.ones c.first_sequence.ensures.within l in
-    omega (arith, m, c.requires.long, c.loop-pair.auto.sums, mul_comm c.args.twos n.ones)
+add-requires-clause-inside c = omega (arith, inside (goal.at.add-requires-clause-inside c).After-second_sequence)
 
 pub add-requires-clause-fits : goal.add-requires-clause-fits
 add-requires-clause-fits c =
-    let a = c.args.form.now in let f = frame_of a in let ls = lists_of a in let z = c.args.end in
-    let u = form_is a c.round_total-rounds.ensures.sound in
+    let at = goal.at.add-requires-clause-fits c in
+    let f = frame_of c.args.form.now in
+    let ls = lists_of c.args.form.now in
+    let z = c.args.end in
+    let u = form at.After-round_total-rounds in
+    let k = (at_pair at.In-Some).1 in
     let row : List Pair = c.args.row in
-    let t = turn row c.loop-pair.pair-iterator c.next.new.self c.in-Some.pair c.loop-pair.invariant.on c.in-Some.ensures.steps in
-    let known = known_at f u.in_range ls u.classes 1 u.one (modest (game_in a)) z c.requires.end c.args.class row c.requires.row c.loop-pair.pair-iterator c.next.new.self c.in-Some.pair t in
     let i = passed row c.loop-pair.pair-iterator in
-    let pair = c.in-Some.pair in
     let place = c.first_sequence.result * c.args.twos + c.second_sequence.result in
-    let fits : FitsSigned w64 c.pays.result = search rules in
-    let pays : to_z w64 (of_z w64 c.pays.result) ≡ pair_pays 1 (end_at f z) pair = to_z-of_z {w = w64} {z = c.pays.result} fits ∙ c.pays.ensures ∙ ap (λ e. pair_pays 1 e pair) c.end_by-at.ensures in
-    let n = form_sizes f ls in
     let within = added_within (λ k. sum_z (pair_adds f ls z c.args.class k) (take i row)) c.args.sums.now c.loop-pair.sums (2 ^ 61) (2 ^ 42) (2 ^ 61 + 2 ^ 42) c.loop-pair.invariant.added c.requires.within
-    (λ k. prefix_small f u.in_range ls u.classes u.one (modest (game_in a)) z c.requires.end c.args.class row c.requires.row k i) (omega arith) in
-    let l : c.second_sequence.result < c.args.twos = omega (arith, c.second_sequence.ensures.within, c.requires.twos) in
-    let m = mul-add-lt c.first_sequence.result c.args.twos c.second_sequence.result n.ones c.first_sequence.ensures.within l in
-    let inside : place < length c.loop-pair.sums = omega (arith, m, c.requires.long, c.loop-pair.auto.sums, mul_comm c.args.twos n.ones) in
-    let here = within place inside in
+    (λ k. prefix_small f u.in_range ls u.classes u.one (modest (game_in c.args.form.now)) z c.requires.end c.args.class row c.requires.row k i) (omega arith) in
+    let here = within place (inside at.After-second_sequence) in
     let both = abs_sum (get_or c.loop-pair.sums place (pos 0)) (to_z w64 (of_z w64 c.pays.result)) in
-    omega (arith, here, both, ap unsigned_abs pays, known.pays, known.weight)
+    omega (arith, here, both, ap unsigned_abs (pays_is at.After-pays), k.pays, k.weight)
 
 pub loop-pair-preserved : goal.loop-pair-preserved
 loop-pair-preserved c =
-    let a = c.args.form.now in let f = frame_of a in let ls = lists_of a in let z = c.args.end in
-    let u = form_is a c.round_total-rounds.ensures.sound in
+    let at = goal.at.loop-pair-preserved c in
+    let f = frame_of c.args.form.now in
+    let ls = lists_of c.args.form.now in
+    let z = c.args.end in
     let row : List Pair = c.args.row in
-    let t = turn row c.loop-pair.pair-iterator c.next.new.self c.in-Some.pair c.loop-pair.invariant.on c.in-Some.ensures.steps in
-    let known = known_at f u.in_range ls u.classes 1 u.one (modest (game_in a)) z c.requires.end c.args.class row c.requires.row c.loop-pair.pair-iterator c.next.new.self c.in-Some.pair t in
-    let i = passed row c.loop-pair.pair-iterator in
+    let t = (at_pair at.In-Some).0 in
     let pair = c.in-Some.pair in
+    let v = pair_adds f ls z c.args.class in
+    let i = passed row c.loop-pair.pair-iterator in
     let place = c.first_sequence.result * c.args.twos + c.second_sequence.result in
-    let fits : FitsSigned w64 c.pays.result = search rules in
-    let pays : to_z w64 (of_z w64 c.pays.result) ≡ pair_pays 1 (end_at f z) pair = to_z-of_z {w = w64} {z = c.pays.result} fits ∙ c.pays.ensures ∙ ap (λ e. pair_pays 1 e pair) c.end_by-at.ensures in
     let cell : place ≡ cell_at f ls z c.args.class pair.two = ap (λ x. x * c.args.twos + c.second_sequence.result) c.first_sequence.ensures.value
     ∙ ap (λ w. end_sequence f ls 1 z c.args.class * w + c.second_sequence.result) c.requires.twos
     ∙ ap (λ x. end_sequence f ls 1 z c.args.class * (form_sizes f ls).twos + x) c.second_sequence.ensures.value in
-    let after = passed row c.next.new.self in
     record {
       on = t.on;
-      added = added_then (λ k. sum_z (pair_adds f ls z c.args.class k) (take i row)) (λ k. unit place k *ℤ to_z w64 (of_z w64 c.pays.result)) (λ k. sum_z (pair_adds f ls z c.args.class k) (take after row))
-          c.args.sums.now c.loop-pair.sums c.add.new.sums c.loop-pair.invariant.added c.add.ensures
-          (λ k. ap (λ v. sum_z (pair_adds f ls z c.args.class k) (take i row) +ℤ v) (ap (λ x. unit x k *ℤ to_z w64 (of_z w64 c.pays.result)) cell ∙ ap (λ v. unit (cell_at f ls z c.args.class pair.two) k *ℤ v) pays ∙ ap (pair_adds f ls z c.args.class k) (sym (t.read pair)))
-          ∙ sym (sum_z-more (pair_adds f ls z c.args.class k) row i pair t.inside) ∙ ap (λ n. sum_z (pair_adds f ls z c.args.class k) (take n row)) (sym t.next));
+      added = added_then (λ k. sum_z (v k) (take i row)) (λ k. unit place k *ℤ to_z w64 (of_z w64 c.pays.result)) (λ k. sum_z (v k) (take (passed row c.next.new.self) row)) c.args.sums.now c.loop-pair.sums c.add.new.sums
+          c.loop-pair.invariant.added c.add.ensures
+          (λ k. sum_turned (v k) row c.loop-pair.pair-iterator c.next.new.self pair t _ _ refl (ap (λ x. unit x k *ℤ to_z w64 (of_z w64 c.pays.result)) cell ∙ ap (λ w. unit (cell_at f ls z c.args.class pair.two) k *ℤ w) (pays_is at.After-pays)));
     }
 
 pub returns : goal.returns
 returns c =
-    let a = c.args.form.now in let f = frame_of a in let ls = lists_of a in let z = c.args.end in
-    let u = form_is a c.round_total-rounds.ensures.sound in
+    let f = frame_of c.args.form.now in
+    let ls = lists_of c.args.form.now in
+    let u = form (goal.at.returns c).After-round_total-rounds in
     let row : List Pair = c.args.row in
-    let i = passed row c.loop-pair.pair-iterator in
-    let all = take_all i row (all_passed row c.loop-pair.pair-iterator c.in-None.ensures.steps.0) in
-    added_same (λ k. sum_z (pair_adds f ls z c.args.class k) (take i row)) (class_adds f ls z c.args.class) c.args.sums.now c.loop-pair.sums c.loop-pair.invariant.added
-    (λ k. ap (sum_z (pair_adds f ls z c.args.class k)) all ∙ row_adds f u.in_range ls u.classes u.one (modest (game_in a)) z c.requires.end c.args.class row c.requires.row k)
+    let v = pair_adds f ls c.args.end c.args.class in
+    added_same (λ k. sum_z (v k) (take (passed row c.loop-pair.pair-iterator) row)) (class_adds f ls c.args.end c.args.class) c.args.sums.now c.loop-pair.sums c.loop-pair.invariant.added
+    (λ k. sum_ended (v k) row c.loop-pair.pair-iterator c.in-None.ensures.steps.0 _ refl ∙ row_adds f u.in_range ls u.classes u.one (modest (game_in c.args.form.now)) c.args.end c.requires.end c.args.class row c.requires.row k)
