@@ -12,6 +12,7 @@ use Rattle.gs_seq.specs.Abstracts.{frame_of, lists_of}
 use Rattle.gs_seq.specs.Plans.{class_plan, lifted}
 use Rattle.gs_best.proofs.Shares.{end_share, some_member}
 use Rattle.gs_best.proofs.Forms.{form_classes, form_in_range, form_lossless, form_walked}
+use Rattle.gs_best.proofs.Sides.{frame, lists}
 use Rattle.gs_best.proofs.ends.end_value.Goals as goal
 
 pub over-requires : goal.over-requires
@@ -26,11 +27,9 @@ pub returns : goal.returns
 returns c =
     let d = c.args.side.now in
     let a = d.form.now in
-    let f = frame_of a in
-    let lists = lists_of a in
     let held : c.classes.result.now ≡ a.lossless.now.classes.now = c.classes.ensures.held ∙ ap (λ (l : Lossless). l.classes.now) c.lossless.ensures in
-    let worth = end_worth f d.player (lifted f lists d.other.now) c.args.end (first_member lists (round_of f (at_end c.args.end)) c.args.class) in
-    let share = end_share f (form_in_range a) lists (form_classes a c.round_total-rounds.ensures.sound) (form_lossless a) d.player (form_walked a d.player d.some d.two) (class_plan f lists d.other.now) c.args.end c.args.class c.requires.end c.requires.class in
-    let size = c.size-members.ensures ∙ ap (λ (k : Filter). class_size k.lists c.end_round.result c.args.class) held ∙ ap (λ j. class_size lists j c.args.class) c.end_round.ensures.value in
+    let worth = end_worth (frame d) d.player (lifted (frame d) (lists d) d.other.now) c.args.end (first_member (lists d) (round_of (frame d) (at_end c.args.end)) c.args.class) in
+    let share = end_share (frame d) (form_in_range a) (lists d) (form_classes a c.round_total-rounds.ensures.sound) (form_lossless a) d.player (form_walked a d.player d.some d.two) (class_plan (frame d) (lists d) d.other.now) c.args.end c.args.class c.requires.end c.requires.class in
+    let size = c.size-members.ensures ∙ ap (λ (k : Filter). class_size k.lists c.end_round.result c.args.class) held ∙ ap (λ j. class_size (lists d) j c.args.class) c.end_round.ensures.value in
     to_z-of_z w128 c.over.result (record { sfits = c.over.type_inv })
     ∙ c.over.ensures worth (to_z-of_z w128 c.end_sum-together.result (record { sfits = c.end_sum-together.type_inv }) ∙ c.end_sum-together.ensures ∙ share ∙ ap (λ n. worth *ℤ pos n) (sym size))
