@@ -7,18 +7,24 @@ use Rattle.std.proofs.lemmas.Bool.{cases_eq}
 use Rattle.std.proofs.lemmas.Bool.Decides.{Decides-eqb}
 use Rattle.std.proofs.lemmas.Int.{ints}
 use borrow.Author.Differences.{abs_is}
-use Rattle.gs_model.specs.Classes.{ClassLists, IsClass}
+use Rattle.gs_model.specs.Classes.{ClassLists, IsClass, class_count}
 use Rattle.gs_model.specs.Frame.{Frame}
 use Rattle.gs_model.specs.Sums.{sum_z}
 use Rattle.gs_seq.proofs.SlotLaws.{not_eq}
 use Rattle.gs_best.specs.Rows.{AreModest}
-use Rattle.gs_best.proofs.Ranges.{range_abs, sum_more}
-use Rattle.gs_totals.specs.ClassTotals.{class_above}
+use Rattle.gs_best.proofs.Ranges.{range_abs, sum_more, sum_same}
+use Rattle.gs_totals.specs.ClassTotals.{class_above, gathered}
 use Rattle.gs_totals.specs.Merged.{row_from}
 
 -- what the first classes of a round hold below a class
 abbrev pub gathered_to : Frame → ClassLists → ℕ → ℕ → List ℤ → ℕ → ℕ → ℕ → ℤ
 gathered_to f lists from to values start c n = sum_z (λ k. cond (class_above f lists from to k == c) (row_from values start k) (pos 0)) (range_with_len 1 n)
+
+-- what is gathered hangs on the classes of the round alone
+pub gathered_same : (f : Frame) (lists : ClassLists) (from to : ℕ) (v w : ℕ → ℤ) (c : ℕ) → ((k : ℕ) → IsClass lists from k → v k ≡ w k) → gathered f lists from to v c ≡ gathered f lists from to w c
+gathered_same f lists from to v w c h =
+    sum_same (λ k. cond (class_above f lists from to k == c) (v k) (pos 0)) (λ k. cond (class_above f lists from to k == c) (w k) (pos 0)) 1 (class_count lists from)
+    (λ k lo hi. ap (λ x. cond (class_above f lists from to k == c) x (pos 0)) (h k (omega arith, omega arith)))
 
 pub tested_small : (b : Bool) (x : ℤ) (most : ℕ) → unsigned_abs x ≤ most → unsigned_abs (cond b x (pos 0)) ≤ most
 tested_small true x most h = h

@@ -1,4 +1,5 @@
 pub mod WorthTotals
+pub mod Last
 pub mod TotalsBest
 pub mod SumLaws
 pub mod JumpLaws

@@ -1,17 +1,17 @@
 -- What a move is worth, from the row at its target.
-use Rattle.std.proofs.Common.{◌≡◌, ℕ, ◌+◌, ◌-◌, ◌<◌, List, cond, get_or, refl, sym, ap, ◌∙◌, subst, arith}
-use Rattle.std.specs.Prelude.{◌==◌, ℤ, pos}
+use Rattle.std.proofs.Common.{◌≡◌, ℕ, ◌+◌, ◌-◌, ◌<◌, List, get_or, refl, sym, ap, ◌∙◌, subst}
+use Rattle.std.specs.Prelude.{ℤ, pos}
 use Rattle.gs_model.specs.BestAnswers.{Values}
-use Rattle.gs_model.specs.Classes.{ClassLists, IsClass, class_count}
+use Rattle.gs_model.specs.Classes.{ClassLists, IsClass}
 use Rattle.gs_model.specs.Frame.{Frame, end_count, leads_to, round_of}
 use Rattle.gs_model.specs.Plans.{Plan}
 use Rattle.gs_model.specs.Positions.{Target, at_end, at_point}
 use Rattle.gs_best.specs.Rows.{AreWorths}
 use Rattle.gs_best.specs.Tables.{start_of}
-use Rattle.gs_best.proofs.Ranges.{sum_same}
-use Rattle.gs_totals.specs.ClassTotals.{class_above, gathered, total_worth}
+use Rattle.gs_totals.specs.ClassTotals.{gathered, total_worth}
 use Rattle.gs_totals.specs.Merged.{AreGathered, row_from}
 use Rattle.gs_totals.specs.Places.{AreEndSums, end_start, totals_of}
+use Rattle.gs_totals.proofs.Gathers.{gathered_same}
 
 module _ (f : Frame) (lists : ClassLists) (player : ℕ) (y : Plan) (values : List ℤ) (q m to : ℕ) (sums : List ℤ) (here : to ≡ round_of f (at_point q)) where
   abbrev v : Values
@@ -28,8 +28,7 @@ module _ (f : Frame) (lists : ClassLists) (player : ℕ) (y : Plan) (values : Li
       below c (subst (λ j. IsClass lists j c) (sym here) lc)
       ∙ ap (λ j. gathered f lists from j (row_from row start) c) here
       ∙ ap (λ i. gathered f lists i j (row_from row start) c) there
-      ∙ sum_same (λ k. cond (class_above f lists i j k == c) (row_from row start k) (pos 0)) (λ k. cond (class_above f lists i j k == c) (v t k) (pos 0)) 1 (class_count lists i)
-      (λ k lo hi. ap (λ x. cond (class_above f lists i j k == c) x (pos 0)) (same k (omega arith, omega arith)))
+      ∙ gathered_same f lists i j (row_from row start) (v t) c same
       ∙ held t leads c
 
   pub worths_at_point : (next from start : ℕ) → leads_to f q m ≡ at_point next → from ≡ round_of f (at_point next) → start ≡ start_of f lists next → AreGathered f lists from to values start sums → AreWorths f lists (total_worth f lists v) q m sums

@@ -1,19 +1,19 @@
 -- One step of the induction backwards: the class totals of a point from those of all later points.
-use Rattle.std.proofs.Common.{◌≡◌, ℕ, ◌+◌, ◌-◌, ◌<◌, ◌≤◌, List, cond, get_or, refl, ap, arith}
-use Rattle.std.specs.Prelude.{◌==◌, ℤ, pos}
+use Rattle.std.proofs.Common.{◌≡◌, ℕ, ◌+◌, ◌-◌, ◌<◌, ◌≤◌, List, get_or, refl, arith}
+use Rattle.std.specs.Prelude.{ℤ, pos}
 use Rattle.gs_model.specs.BestAnswers.{Values}
-use Rattle.gs_model.specs.Classes.{ClassLists, IsClass, class_count}
+use Rattle.gs_model.specs.Classes.{ClassLists, IsClass}
 use Rattle.gs_model.specs.Frame.{Frame, leads_to, move_count, player_at, point_count, round_of}
 use Rattle.gs_model.specs.FrameFacts.{IsFrom, IsWalked}
 use Rattle.gs_model.specs.Plans.{Plan}
 use Rattle.gs_model.specs.Positions.{Target, at_end, at_point}
 use Rattle.gs_best.specs.Rows.{IsCopied, IsMerged}
 use Rattle.gs_best.specs.Tables.{classes_at, start_of}
-use Rattle.gs_best.proofs.Ranges.{sum_same}
 use Rattle.gs_best.proofs.Stepping.{best_back as best_back_by, copied_here, followed_back, kept_later, later_on}
-use Rattle.gs_totals.specs.ClassTotals.{AreBestTotals, IsFollowed, class_above, total_worth}
+use Rattle.gs_totals.specs.ClassTotals.{AreBestTotals, IsFollowed, total_worth}
 use Rattle.gs_totals.specs.Merged.{IsFollowing}
 use Rattle.gs_totals.specs.Places.{AreBestFrom, IsFollowedFrom, totals_of}
+use Rattle.gs_totals.proofs.Gathers.{gathered_same}
 
 -- no point is known yet
 pub none_followed : (f : Frame) (lists : ClassLists) (player : ℕ) (v : Values) (move : ℕ → ℕ → ℕ) (from : ℕ) → point_count f ≤ from → IsFollowedFrom f lists player v move from
@@ -65,11 +65,7 @@ module _ (f : Frame) (lists : ClassLists) (player : ℕ) (w : IsWalked f player)
   same_value (at_end z) c lo lc = refl
 
   same_worth : (p m c : ℕ) → q ≤ p → p < point_count f → m < move_count f p → total_worth f lists (totals_of f lists player y new_values) p m c ≡ total_worth f lists (totals_of f lists player y values) p m c
-  same_worth p m c lo lp lm =
-      let t = leads_to f p m in
-      let above = class_above f lists (round_of f t) (round_of f (at_point p)) in
-      sum_same (λ k. cond (above k == c) (totals_of f lists player y new_values t k) (pos 0)) (λ k. cond (above k == c) (totals_of f lists player y values t k) (pos 0)) 1 (class_count lists (round_of f t))
-      (λ k a b. ap (λ x. cond (above k == c) x (pos 0)) (same_value t k (later_on q p lo t (w.later p m lp lm)) (omega arith, omega arith)))
+  same_worth p m c lo lp lm = gathered_same f lists (round_of f (leads_to f p m)) (round_of f (at_point p)) _ _ c (λ k lk. same_value (leads_to f p m) k (later_on q p lo (leads_to f p m) (w.later p m lp lm)) lk)
 
   -- by given moves
   pub following_back : (player_at f q ≡ player → (c : ℕ) → IsClass lists (round_of f (at_point q)) c → move' q c < move_count f q) → IsFollowing f lists player (totals_of f lists player y values) move' q row

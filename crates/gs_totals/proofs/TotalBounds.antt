@@ -40,6 +40,7 @@ use Rattle.gs_totals.specs.Places.{IsFollowedFrom}
 use Rattle.gs_best.proofs.Below.{range_add}
 use Rattle.gs_best.proofs.Ranges.{sum_same}
 use Rattle.gs_best.proofs.Shares.{first_class}
+use Rattle.gs_totals.proofs.Last.{IsLast, all_last, next_last}
 
 -- ---- sums
 
@@ -105,18 +106,6 @@ flow_sum n B N T (x ∷ xs) h =
     )
 
 -- ---- positions
-
-abbrev IsLast : Frame → ℕ → Target → Type 0
-IsLast f n (at_point q) = point_count f ≤ q + n
-IsLast f n (at_end z) = Unit {0}
-
-next_last : (f : Frame) (n q : ℕ) (g : Target) → point_count f ≤ q + suc n → IsFrom (q + 1) g → IsLast f n g
-next_last f n q (at_point p) l from = omega arith
-next_last f n q (at_end z) l from = tt
-
-all_last : (f : Frame) (g : Target) → IsLast f (point_count f) g
-all_last f (at_point q) = omega arith
-all_last f (at_end z) = tt
 
 module _ (f : Frame) (r : InRange f) (lists : ClassLists) (k : IsClasses f.parents lists) where
   abbrev own_class : ℕ → Deal → ℕ

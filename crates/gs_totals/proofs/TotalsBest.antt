@@ -9,7 +9,7 @@ use borrow.Author.Differences.{up, down, product_is, le_out, lt_out}
 use Rattle.gs_model.specs.BestAnswers.{IsBestValues, Values, class_worth, end_worth}
 use Rattle.gs_model.specs.Classes.{ClassLists, IsClass, IsClasses, class_size, first_member}
 use Rattle.gs_model.specs.Frame.{Frame, choices_at, end_count, leads_to, move_count, player_at, point_count, round_of}
-use Rattle.gs_model.specs.FrameFacts.{InRange, IsFrom, IsInside, IsWalked}
+use Rattle.gs_model.specs.FrameFacts.{InRange, IsInside, IsWalked}
 use Rattle.gs_model.specs.Lossless.{IsLossless}
 use Rattle.gs_model.specs.Plans.{Plan, lift}
 use Rattle.gs_model.specs.Positions.{Target, at_end, at_point}
@@ -18,6 +18,7 @@ use Rattle.gs_model.proofs.Total.{sum_z-mul}
 use Rattle.gs_totals.specs.ClassTotals.{AreFirstGreatest, AreTimesSizes, IsFollowed, total_worth}
 use Rattle.gs_best.proofs.Ranges.{sum_same}
 use Rattle.gs_best.proofs.Shares.{end_share, some_member}
+use Rattle.gs_totals.proofs.Last.{IsLast, all_last, next_last}
 use Rattle.gs_totals.proofs.WorthTotals.{worth_total}
 
 -- ---- division by a size
@@ -57,19 +58,6 @@ times_lt_back n a b l =
     omega (arith, ints, back)
 
 -- ---- values from totals, backwards
-
--- a position is an end, or one of the last n points
-abbrev IsLast : Frame → ℕ → Target → Type 0
-IsLast f n (at_point q) = point_count f ≤ q + n
-IsLast f n (at_end z) = Unit {0}
-
-next_last : (f : Frame) (n q : ℕ) (g : Target) → point_count f ≤ q + suc n → IsFrom (q + 1) g → IsLast f n g
-next_last f n q (at_point p) l from = omega arith
-next_last f n q (at_end z) l from = tt
-
-all_last : (f : Frame) (g : Target) → IsLast f (point_count f) g
-all_last f (at_point q) = omega arith
-all_last f (at_end z) = tt
 
 module _ (f : Frame) (r : InRange f) (lists : ClassLists) (k : IsClasses f.parents lists) (lossless : IsLossless f lists) (player : ℕ) (w : IsWalked f player) (y : Plan) (V : Values) (move : ℕ → ℕ → ℕ)
     (h : IsFollowed f lists player y V move) where

@@ -32,8 +32,6 @@ copy_moves-requires-clause-room c = omega (arith, (row (goal.at.copy_moves-requi
 pub returns-clause-known : goal.returns-clause-known
 returns-clause-known c =
     let d = c.args.side.now in
-    let f = frame d in
-    let q = c.args.point in
     let row = row (goal.at.returns-clause-known c).After-class_total-count in
     let old = c.args.totals.now.points in
     let values = c.copy_values.new.values in
@@ -45,9 +43,9 @@ returns-clause-known c =
     let copied : IsCopied (pos 0) c.index.result.now c.class_total-count.result best old.items values = subst (λ l. IsCopied (pos 0) c.index.result.now c.class_total-count.result best l values) c.deref_mut.ensures.value c.copy_values.ensures in
     let moved = c.copy_moves.ensures in
     let starts = c.index.result.now in
-    subst (λ l. AreBestFrom f (lists d) d.player (totals_in d l) (moves_of f (lists d) new_picks) q) (sym values_are)
-    (best_back f (lists d) d.player (side_walked d) (facing d) old.items values q starts c.class_total-count.result c.requires.point row.start_is row.count_is best copied (moves_of f (lists d) picks) (moves_of f (lists d) new_picks)
-    (λ p e lo le. moved.behind (start_of f (lists d) p + (e - 1)) (omega (arith, row_later (classes_at f (lists d)) q starts c.class_total-count.result p row.start_is row.count_is (omega (arith, lo)))))
+    subst (λ l. AreBestFrom (frame d) (lists d) d.player (totals_in d l) (moves_of (frame d) (lists d) new_picks) c.args.point) (sym values_are)
+    (best_back (frame d) (lists d) d.player (side_walked d) (facing d) old.items values c.args.point starts c.class_total-count.result c.requires.point row.start_is row.count_is best copied (moves_of (frame d) (lists d) picks) (moves_of (frame d) (lists d) new_picks)
+    (λ p e lo le. moved.behind (start_of (frame d) (lists d) p + (e - 1)) (omega (arith, row_later (classes_at (frame d) (lists d)) c.args.point starts c.class_total-count.result p row.start_is row.count_is (omega (arith, lo)))))
     moves
-    (λ e le. let at : start_of f (lists d) q + (e - 1) ≡ starts + (e - 1) = omega (arith, row.start_is) in ap (λ i. get_or new_picks i 0) at ∙ moved.here (e - 1) (omega (arith, le.0, le.1, row.count_is)))
+    (λ e le. let at : start_of (frame d) (lists d) c.args.point + (e - 1) ≡ starts + (e - 1) = omega (arith, row.start_is) in ap (λ i. get_or new_picks i 0) at ∙ moved.here (e - 1) (omega (arith, le.0, le.1, row.count_is)))
     c.merge_moves.ensures c.requires.known)

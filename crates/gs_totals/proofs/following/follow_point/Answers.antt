@@ -29,15 +29,12 @@ copy_values-requires-clause-room c =
 pub returns-clause-known : goal.returns-clause-known
 returns-clause-known c =
     let d = c.args.side.now in
-    let f = frame d in
-    let q = c.args.point in
     let r = row (goal.at.returns-clause-known c).After-class_total-count in
-    let old = c.args.totals.now.points in
     let values = c.copy_values.new.values in
-    let row = c.follow_moves.new.row in
-    let move = moves_of f (lists d) c.args.picks.now in
+    let old = c.args.totals.now.points in
+    let move = moves_of (frame d) (lists d) c.args.picks.now in
     let values_are = written old.len values (drop (length values) old.items) (omega (arith, c.copy_values.auto.values, ap (λ (l : List ℤ). length l) c.deref_mut.ensures.value, old.ok.0)) in
-    let copied : IsCopied (pos 0) c.index.result.now c.class_total-count.result row old.items values = subst (λ l. IsCopied (pos 0) c.index.result.now c.class_total-count.result row l values) c.deref_mut.ensures.value c.copy_values.ensures in
-    subst (λ l. IsFollowedFrom f (lists d) d.player (totals_in d l) move q) (sym values_are)
-    (following_back f (lists d) d.player (side_walked d) (facing d) old.items values q c.index.result.now c.class_total-count.result c.requires.point r.start_is r.count_is row copied move move (λ p e lo le. refl) (λ own e le. c.requires.moves q e c.requires.point own le)
+    let copied : IsCopied (pos 0) c.index.result.now c.class_total-count.result c.follow_moves.new.row old.items values = subst (λ l. IsCopied (pos 0) c.index.result.now c.class_total-count.result c.follow_moves.new.row l values) c.deref_mut.ensures.value c.copy_values.ensures in
+    subst (λ l. IsFollowedFrom (frame d) (lists d) d.player (totals_in d l) move c.args.point) (sym values_are)
+    (following_back (frame d) (lists d) d.player (side_walked d) (facing d) old.items values c.args.point c.index.result.now c.class_total-count.result c.requires.point r.start_is r.count_is c.follow_moves.new.row copied move move (λ p e lo le. refl) (λ own e le. c.requires.moves c.args.point e c.requires.point own le)
     c.follow_moves.ensures c.requires.known)

@@ -1,19 +1,20 @@
-use Rattle.std.proofs.Common.{◌+◌, ap, ◌∙◌, arith}
+use Rattle.std.proofs.Common.{◌≡◌, ◌+◌, ap, ◌∙◌, arith}
 use Rattle.gs_model.specs.Classes.{class_count}
 use Rattle.gs_seq.specs.Abstracts.{frame_of, lists_of}
-use Rattle.gs_totals.proofs.EndStarts.{end_starts_few, end_starts_more}
+use Rattle.gs_seq.specs.Payoffs.{end_classes}
+use Rattle.gs_best.proofs.Placed.{row_next}
+use Rattle.gs_totals.specs.Places.{end_start}
+use Rattle.gs_totals.proofs.EndStarts.{end_starts_few}
+use Rattle.gs_totals.proofs.places.end_room.Goals.{After-class_total-total}
 use Rattle.gs_totals.proofs.places.end_room.Goals as goal
+
+next : (c : After-class_total-total) → c.loop-end.total + c.class_total-total.result ≡ end_start (frame_of c.args.form.now) (lists_of c.args.form.now) (c.loop-end.end + 1)
+next c = row_next (end_classes (frame_of c.args.form.now) (lists_of c.args.form.now)) c.loop-end.end _ _ c.loop-end.invariant (c.class_total-total.ensures.value ∙ ap (class_count (lists_of c.args.form.now)) c.end_round.ensures.value)
 
 pub overflow_add-total : goal.overflow_add-total
 overflow_add-total c =
-    let a = c.args.form.now in
-    let z = c.loop-end.end in
-    let classes = c.class_total-total.ensures.value ∙ ap (class_count (lists_of a)) c.end_round.ensures.value in
-    let few = end_starts_few a c.round_total-rounds.ensures.sound (z + 1) (omega (arith, c.loop-end-test.true, c.end_total-end-end.ensures)) in
-    record { fits = omega (arith, c.loop-end.invariant, classes, end_starts_more (frame_of a) (lists_of a) z, few) }
+    let few = end_starts_few c.args.form.now c.round_total-rounds.ensures.sound (c.loop-end.end + 1) (omega (arith, c.loop-end-test.true, c.end_total-end-end.ensures)) in
+    record { fits = omega (arith, next (goal.at.overflow_add-total c).After-class_total-total, few) }
 
 pub loop-end-preserved : goal.loop-end-preserved
-loop-end-preserved c =
-    let a = c.args.form.now in
-    let classes = c.class_total-total.ensures.value ∙ ap (class_count (lists_of a)) c.end_round.ensures.value in
-    omega (arith, c.loop-end.invariant, classes, end_starts_more (frame_of a) (lists_of a) c.loop-end.end)
+loop-end-preserved c = next (goal.at.loop-end-preserved c).After-class_total-total
