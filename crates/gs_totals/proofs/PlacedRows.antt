@@ -1,5 +1,5 @@
 -- The rows of a point and of an end, where places are known, and what ends pay, one end more.
-use Rattle.std.proofs.Common.{◌≡◌, ℕ, ◌+◌, ◌-◌, ◌<◌, List, get_or, sym, ap, ◌∙◌, subst, arith, ⊎_elim}
+use Rattle.std.proofs.Common.{◌≡◌, ℕ, ◌+◌, ◌-◌, ◌<◌, ◌++◌, List, drop, get_or, length, take, sym, ap, ◌∙◌, subst, arith, ⊎_elim}
 use Rattle.std.specs.Prelude.{ℤ, pos}
 use Rattle.std.proofs.lemmas.Bool.{cases_eq}
 use Rattle.gs_model.specs.Classes.{ClassLists, IsClass}
@@ -8,8 +8,9 @@ use Rattle.gs_model.specs.Plans.{Plan}
 use Rattle.gs_model.specs.Positions.{at_end}
 use Rattle.gs_seq.specs.Payoffs.{end_classes, end_sum}
 use Rattle.gs_best.specs.Tables.{classes_at}
+use Rattle.gs_best.proofs.Filled.{written}
 use Rattle.gs_best.proofs.Placed.{IsRow, row_read}
-use Rattle.gs_totals.specs.Places.{end_start}
+use Rattle.gs_totals.specs.Places.{AreEndSums, end_start}
 use Rattle.gs_totals.specs.Room.{IsPlaced}
 use Rattle.gs_totals.specs.declared.places.Places.{Places}
 use Rattle.gs_totals.proofs.EndStarts.{end_before}
@@ -20,6 +21,10 @@ module _ (f : Frame) (lists : ClassLists) (p : Places) (placed : IsPlaced f list
 
   pub end_row : (z start count : ℕ) → z < end_count f → start ≡ get_or p.ends.items z start → count ≡ end_classes f lists z → IsRow (end_classes f lists) (end_count f) z start count
   end_row z start count l read all = row_read (end_classes f lists) (end_count f) z start count p.ends.items l placed.many_ends placed.ends read all
+
+-- what all ends pay, written through a slice of a list
+pub paid_written : (f : Frame) (lists : ClassLists) (player : ℕ) (y : Plan) (long : ℕ) (old new : List ℤ) → length new ≡ long → AreEndSums f lists player y new → AreEndSums f lists player y (take long (new ++ drop (length new) old))
+paid_written f lists player y long old new full paid = subst (AreEndSums f lists player y) (sym (written long new (drop (length new) old) full)) paid
 
 -- the row of one end more was written
 pub paid_more : (f : Frame) (lists : ClassLists) (player : ℕ) (y : Plan) (z start : ℕ) → start ≡ end_start f lists z → (old new : List ℤ) → ((k : ℕ) → IsClass lists (round_of f (at_end z)) k → get_or new (start + (k - 1)) (pos 0) ≡ end_sum f lists player y z k)

@@ -9,11 +9,10 @@ use Rattle.gs_totals.proofs.filling.fill_all.Goals as goal
 pub returns-clause-best : goal.returns-clause-best
 returns-clause-best c =
     let d = c.args.side.now in
-    let f = frame d in
     let values = c.loop-point.totals.points.items in
-    let move = moves_of f (lists d) c.loop-point.picks in
+    let move = moves_of (frame d) (lists d) c.loop-point.picks in
     let none : c.loop-point.point ≡ 0 = omega (arith, c.loop-point-test.false) in
-    all_best f (lists d) d.player (facing d) values move (subst (AreBestFrom f (lists d) d.player (totals_in d values) move) none c.loop-point.invariant.known)
+    all_best (frame d) (lists d) d.player (facing d) values move (subst (AreBestFrom (frame d) (lists d) d.player (totals_in d values) move) none c.loop-point.invariant.known)
 
 pub fill_point-requires-clause-known : goal.fill_point-requires-clause-known
 fill_point-requires-clause-known c =

@@ -9,11 +9,9 @@ use Rattle.gs_totals.proofs.following.follow_all.Goals as goal
 pub returns-clause-followed : goal.returns-clause-followed
 returns-clause-followed c =
     let d = c.args.side.now in
-    let f = frame d in
     let values = c.loop-point.totals.points.items in
-    let move = moves_of f (lists d) c.args.picks.now in
     let none : c.loop-point.point ≡ 0 = omega (arith, c.loop-point-test.false) in
-    all_followed f (lists d) d.player (facing d) values move (subst (IsFollowedFrom f (lists d) d.player (totals_in d values) move) none c.loop-point.invariant.known)
+    all_followed (frame d) (lists d) d.player (facing d) values (moves_of (frame d) (lists d) c.args.picks.now) (subst (IsFollowedFrom (frame d) (lists d) d.player (totals_in d values) (moves_of (frame d) (lists d) c.args.picks.now)) none c.loop-point.invariant.known)
 
 pub follow_point-requires-clause-known : goal.follow_point-requires-clause-known
 follow_point-requires-clause-known c =
