@@ -32,17 +32,15 @@ find-requires-clause-long c = ap (λ (l : List ℕ). length l) c.deref_mut-2.ens
 
 pub returns-clause-answered : goal.returns-clause-answered
 returns-clause-answered c =
-    let a = c.args.form.now in
-    let f = frame_of a in
-    let lists = lists_of a in
-    let player = c.args.player in
+    let f = frame_of c.args.form.now in
+    let lists = lists_of c.args.form.now in
     let y = class_plan f lists c.args.other.now in
     let picks = c.find.new.picks in
     let at = goal.at.returns-clause-answered c in
     record {
-      best = subst (λ l. AreBestTotals f lists player y (totals_of f lists player y c.find.new.totals.points.items) (moves_of f lists l)) (sym (picks_are at.After-find)) c.find.ensures.best;
-      puts = subst (λ l. ArePutBefore f lists player (moves_of f lists l) c.swap.new.y.items (point_count f)) (sym (picks_are at.After-find))
-          (subst (λ l. ArePutBefore f lists player (moves_of f lists picks) l (point_count f)) (sym (answer_is at.After-swap)) c.find.ensures.puts);
+      best = subst (λ l. AreBestTotals f lists c.args.player y (totals_of f lists c.args.player y c.find.new.totals.points.items) (moves_of f lists l)) (sym (picks_are at.After-find)) c.find.ensures.best;
+      puts = subst (λ l. ArePutBefore f lists c.args.player (moves_of f lists l) c.swap.new.y.items (point_count f)) (sym (picks_are at.After-find))
+          (subst (λ l. ArePutBefore f lists c.args.player (moves_of f lists picks) l (point_count f)) (sym (answer_is at.After-swap)) c.find.ensures.puts);
     }
 
 pub returns-clause-seat : goal.returns-clause-seat
@@ -50,9 +48,9 @@ returns-clause-seat c =
     let a = c.args.form.now in
     let f = frame_of a in
     let lists = lists_of a in
+    let room = c.requires.seat.room in
     let player = c.args.player in
     let y = class_plan f lists c.args.other.now in
-    let room = c.requires.seat.room in
     let picks = c.find.new.picks in
     let weights = c.find.new.weights in
     let at = goal.at.returns-clause-seat c in

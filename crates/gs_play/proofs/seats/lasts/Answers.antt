@@ -12,7 +12,6 @@ pub invariant_of-course : goal.invariant_of-course
 invariant_of-course c =
     let f = frame_of c.args.form.now in
     let lists = lists_of c.args.form.now in
-    let player = c.args.player in
     let y = class_plan f lists c.args.other.now in
     let b = class_plan f lists c.args.more.now in
     record {
@@ -26,15 +25,14 @@ invariant_of-course c =
       paid = c.requires.seat.paid;
       step_paid = c.requires.rises.paid;
       many = subst (λ (l : List ℕ). start_of f lists (point_count f) ≤ length l) (sym c.deref.ensures.value) c.requires.seat.room.picks;
-      best = subst (λ (l : List ℕ). AreBestTotals f lists player y (totals_of f lists player y c.args.seat.now.totals.points.items) (moves_of f lists l)) (sym c.deref.ensures.value) c.requires.answered.best;
-      rise = subst (λ (l : List ℕ). IsFollowed f lists player b (totals_of f lists player b c.args.steps.now.points.items) (moves_of f lists l)) (sym c.deref.ensures.value) c.requires.rises.followed;
+      best = subst (λ (l : List ℕ). AreBestTotals f lists c.args.player y (totals_of f lists c.args.player y c.args.seat.now.totals.points.items) (moves_of f lists l)) (sym c.deref.ensures.value) c.requires.answered.best;
+      rise = subst (λ (l : List ℕ). IsFollowed f lists c.args.player b (totals_of f lists c.args.player b c.args.steps.now.points.items) (moves_of f lists l)) (sym c.deref.ensures.value) c.requires.rises.followed;
     }
 
 pub returns-clause-lasts : goal.returns-clause-lasts
 returns-clause-lasts c =
     let f = frame_of c.args.form.now in
     let lists = lists_of c.args.form.now in
-    let player = c.args.player in
     let y = class_plan f lists c.args.other.now in
     let b = class_plan f lists c.args.more.now in
-    subst (λ (l : List ℕ). AreBeforeChange f lists player (totals_of f lists player y c.args.seat.now.totals.points.items) (totals_of f lists player b c.args.steps.now.points.items) (moves_of f lists l) c.lasting.result) c.deref.ensures.value c.lasting.ensures.lasts
+    subst (λ (l : List ℕ). AreBeforeChange f lists c.args.player (totals_of f lists c.args.player y c.args.seat.now.totals.points.items) (totals_of f lists c.args.player b c.args.steps.now.points.items) (moves_of f lists l) c.lasting.result) c.deref.ensures.value c.lasting.ensures.lasts

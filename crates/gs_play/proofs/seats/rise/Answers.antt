@@ -12,9 +12,8 @@ pub returns-clause-rises : goal.returns-clause-rises
 returns-clause-rises c =
     let f = frame_of c.args.form.now in
     let lists = lists_of c.args.form.now in
-    let player = c.args.player in
     let b = class_plan f lists c.args.more.now in
     record {
-      paid = subst (λ (l : Vec ℤ Global). AreEndSums f lists player b l.items) (sym c.follow.ensures.paid) c.requires.paid;
-      followed = subst (λ (l : List ℕ). IsFollowed f lists player b (totals_of f lists player b c.follow.new.totals.points.items) (moves_of f lists l)) c.deref.ensures.value c.follow.ensures.followed;
+      paid = subst (λ (l : Vec ℤ Global). AreEndSums f lists c.args.player b l.items) (sym c.follow.ensures.paid) c.requires.paid;
+      followed = subst (λ (l : List ℕ). IsFollowed f lists c.args.player b (totals_of f lists c.args.player b c.follow.new.totals.points.items) (moves_of f lists l)) c.deref.ensures.value c.follow.ensures.followed;
     }
