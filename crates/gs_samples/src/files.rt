@@ -26,15 +26,30 @@ pub const LOSSY: &str =
 pub const ONE_RANK: &str =
     "{\"classes\":[[1,1]],\"game\":{\"ante\":1,\"copies\":\"11\",\"ranking\":\"high\",\"ranks\":\"A\",\"rounds\":[{\"private\":1,\"public\":0,\"tree\":\"1[k:2[k:=,b1:1[f:!,c1:=]],b1:2[f:!,c1:=]]\"}],\"suits\":\"sh\",\"version\":1},\"gap1\":\"0/1\",\"gap2\":\"0/1\",\"player1\":{\"total\":1,\"weights\":[1,0,0,1]},\"player2\":{\"total\":1,\"weights\":[0,1,0,1]},\"value\":\"0/1\",\"version\":1}\n";
 
-/// The text with one part of it replaced by another where it first stands; none where it has no such part.
-pub fn replaced(
+/// A file with one part of it changed, and what is then said of it, by a row: the part, what is put where it first stands, and what is said, with `|`
+/// between two and `~` for the end of a line. None where the row has no three parts, or the file no such part.
+pub fn changed(
     alloc: Global,
-    text: &str,
-    old: &str,
-    new: &str,
-) -> Result<Option<String>, AllocError> {
-    let Some((front, back)) = text.split_once(old) else {
+    file: &str,
+    row: &str,
+) -> Result<Option<(String, String)>, AllocError> {
+    let lines = with_line_ends(alloc, row)?;
+    let Some((old, others)) = lines.split_once('|') else {
         return Ok(None);
     };
-    Ok(Some(format!(in alloc; "{front}{new}{back}")?))
+    let (Some((new, said)), Some((front, back))) = (others.split_once('|'), file.split_once(old))
+    else {
+        return Ok(None);
+    };
+    let text = format!(in alloc; "{front}{new}{back}")?;
+    Ok(Some((text, String::from_str(alloc, said)?)))
+}
+
+/// The text with the ends of its lines, for which `~` stands.
+fn with_line_ends(alloc: Global, text: &str) -> Result<String, AllocError> {
+    let mut lines = String::new(alloc);
+    for letter in text.chars() {
+        lines.push(if letter == '~' { '\n' } else { letter })?;
+    }
+    Ok(lines)
 }

@@ -1,4 +1,4 @@
-//! Games by the texts of their game files.
+//! Games by lines of words.
 
 ghost use Rattle.std.specs.Prelude.{◌≤◌, ◌<◌, All, OnOk, IfOk};
 ghost use Rattle.gs_card.specs.Rankings.{ranking_of};
@@ -10,33 +10,26 @@ use gs_card::{Deck, DeckFault, Ranking};
 use gs_game::{Game, GameFault, Round, ValidGame};
 use std::alloc::{AllocError, Global};
 
-/// The betting of Kuhn's game: a check or a bet of 1, and no raise.
-pub const KUHN: &str = "1[k:2[k:=,b1:1[f:!,c1:=]],b1:2[f:!,c1:=]]";
+/// Kuhn's game of three cards.
+pub const KUHN: &str = "JQK, s, high, 1 0 kuhn";
 
-/// Betting that is over at once: a check, and the cards decide.
-pub const NO_BETS: &str = "1[k:=]";
-
-/// A round: how many private cards each player gets, how many public cards are shown, and the text of the betting tree.
-pub type Part<'a> = (u8, u8, &'a str);
-
-/// A game in the words of a game file.
-#[derive(Clone, Copy, Debug)]
-pub struct Sample<'a> {
-    pub ranks: &'a str,
-    pub suits: &'a str,
-    /// How many copies of each card there are, a digit for each; one of each where it is empty.
-    pub copies: &'a str,
-    pub ranking: Ranking,
-    /// The bonus of the lowest category and that of each category above it, from 1 to 9.
-    pub bonus: (u8, u8),
-    /// Chips, from 1 to 4096.
-    pub ante: u16,
-    pub rounds: &'a [Part<'a>],
+/// The text of a betting tree, where a word names it: Kuhn's, a check or a bet of 1 with no raise; a check alone; eight and sixteen moves, each of which
+/// ends the round. Any other word is the text.
+fn tree_of(word: &str) -> &str {
+    match word {
+        "kuhn" => "1[k:2[k:=,b1:1[f:!,c1:=]],b1:2[f:!,c1:=]]",
+        "check" => "1[k:=]",
+        "eight" => "1[a:=,b:=,c:=,d:=,e:=,f:=,g:=,h:=]",
+        "sixteen" => "1[a:=,b:=,c:=,d:=,e:=,f:=,g:=,h:=,i:=,j:=,k:=,l:=,m:=,n:=,o:=,p:=]",
+        _ => word,
+    }
 }
 
-/// Why a sample is no game.
+/// Why a line is no game.
 #[derive(Debug, Drop)]
 pub enum SampleFault {
+    /// A part of the line is missing, or a word is not one of those that may stand there.
+    Line,
     Deck(DeckFault),
     Tree(TreeFault),
     /// A bonus, the ante or a round's number of cards is out of the range of game files.
@@ -51,58 +44,43 @@ impl From<AllocError> for SampleFault {
     }
 }
 
-impl<'a> Sample<'a> {
-    /// The game of one copy of each card, an ante of 1 and bonuses of 1.
-    pub const fn plain(
-        ranks: &'a str,
-        suits: &'a str,
-        ranking: Ranking,
-        rounds: &'a [Part<'a>],
-    ) -> Sample<'a> {
-        Sample {
-            ranks,
-            suits,
-            copies: "",
-            ranking,
-            bonus: (1, 1),
-            ante: 1,
-            rounds,
-        }
-    }
+/// A number of a line.
+fn number_in(word: &str) -> Result<u8, SampleFault> {
+    word.parse::<u8>().map_err(|_| SampleFault::Line)
+}
 
-    /// The same game with these copies of its cards.
-    pub const fn with_copies(self, copies: &'a str) -> Sample<'a> {
-        Sample { copies, ..self }
-    }
-
-    /// The same game with this bonus for the lowest category and that for the categories above it.
-    pub const fn with_bonus(self, lowest: u8, above: u8) -> Sample<'a> {
-        Sample {
-            bonus: (lowest, above),
-            ..self
-        }
+/// The ranking of a word.
+fn ranking_in(word: &str) -> Result<Ranking, SampleFault> {
+    match word {
+        "high" => Ok(Ranking::High),
+        "pair" => Ok(Ranking::Pair),
+        "three" => Ok(Ranking::Three),
+        _ => Err(SampleFault::Line),
     }
 }
 
-/// The bonus of each category of a ranking: one for the lowest, another for all above it.
-fn bonuses(alloc: Global, ranking: Ranking, lowest: u8, above: u8) -> Result<Vec<u8>, AllocError>
-    requires some_lowest { 0 < lowest }
-    requires few_lowest { lowest ≤ 9 }
-    requires some_above { 0 < above }
-    requires few_above { above ≤ 9 }
+/// The bonus of each category of a ranking: of two words the first for the lowest, the second for all above it.
+fn bonuses(alloc: Global, ranking: Ranking, words: &str) -> Result<Vec<u8>, SampleFault>
     ensures { IfOk result (λ v. IsBonus (ranking_of ranking) v.items) }
 {
+    let (first, second) = words.split_once(' ').ok_or(SampleFault::Line)?;
+    let (lowest, above) = (number_in(first)?, number_in(second)?);
+    if lowest < 1 || 9 < lowest || above < 1 || 9 < above {
+        return Err(SampleFault::Range);
+    }
     let mut all = vec![in alloc; above; ranking.categories() as usize]?;
     all[0] = lowest;
     Ok(all)
 }
 
-/// The round of a part.
-fn round_of(alloc: Global, part: Part<'_>) -> Result<Round, SampleFault>
+/// The round of three words: how many private cards each player gets, how many public cards are shown, and the betting tree.
+fn round_of(alloc: Global, words: &str) -> Result<Round, SampleFault>
     ensures { IfOk result HasFewCards }
 {
-    let (private, public, text) = part;
-    let tree = parse_tree(alloc, text).map_err(SampleFault::Tree)?;
+    let (cards, tree) = words.rsplit_once(' ').ok_or(SampleFault::Line)?;
+    let (first, second) = cards.split_once(' ').ok_or(SampleFault::Line)?;
+    let (private, public) = (number_in(first)?, number_in(second)?);
+    let tree = parse_tree(alloc, tree_of(tree)).map_err(SampleFault::Tree)?;
     if private > 2 || public > 3 {
         return Err(SampleFault::Range);
     }
@@ -123,34 +101,41 @@ fn push_round(rounds: &mut Vec<Round>, round: Round) -> Result<(), AllocError>
     Ok(())
 }
 
-/// The rounds of these parts.
-fn rounds_of(alloc: Global, parts: &[Part<'_>]) -> Result<Vec<Round>, SampleFault>
+/// The rounds of these parts of a line.
+fn rounds_of(alloc: Global, parts: &[&str]) -> Result<Vec<Round>, SampleFault>
     ensures { IfOk result (λ v. All HasFewCards v.items) }
 {
     let mut rounds = Vec::new(alloc);
     for part in parts {
-        let round = round_of(alloc, *part)?;
+        let round = round_of(alloc, part)?;
         push_round(&mut rounds, round)?;
     }
     Ok(rounds)
 }
 
-/// The game of a sample, checked, or the first thing that is wrong with it.
-pub fn game_of(alloc: Global, sample: &Sample<'_>) -> Result<ValidGame, SampleFault> {
-    let deck = Deck::new(alloc, sample.ranks, sample.suits, sample.copies).map_err(
-        SampleFault::Deck,
-    )?;
-    let (lowest, above) = sample.bonus;
-    let in_range = 0 < lowest && lowest <= 9 && 0 < above && above <= 9;
-    if !in_range || sample.ante < 1 || 4096 < sample.ante {
+/// The game of a line, checked, or the first thing that is wrong with it. The line's parts, with a comma and a space between two: the ranks; the suits,
+/// and behind them how many copies of each card there are where it is not one of each; the ranking, and behind it the bonus of the lowest category, that
+/// of those above it and the ante where these are not all 1; and each round.
+pub fn game_of(alloc: Global, line: &str) -> Result<ValidGame, SampleFault> {
+    let parts: Vec<&str> = line.split(", ").collect(alloc)?;
+    if parts.len() < 3 {
+        return Err(SampleFault::Line);
+    }
+    let (suits, copies) = parts[1].split_once(' ').unwrap_or((parts[1], ""));
+    let deck = Deck::new(alloc, parts[0], suits, copies).map_err(SampleFault::Deck)?;
+    let (ranking, stakes) = parts[2].split_once(' ').unwrap_or((parts[2], "1 1 1"));
+    let (bonus, ante) = stakes.rsplit_once(' ').ok_or(SampleFault::Line)?;
+    let ranking = ranking_in(ranking)?;
+    let ante = ante.parse::<u16>().map_err(|_| SampleFault::Line)?;
+    if ante < 1 || 4096 < ante {
         return Err(SampleFault::Range);
     }
     let game = Game {
         deck,
-        ranking: sample.ranking,
-        bonus: bonuses(alloc, sample.ranking, lowest, above)?,
-        ante: sample.ante,
-        rounds: rounds_of(alloc, sample.rounds)?,
+        ranking,
+        bonus: bonuses(alloc, ranking, bonus)?,
+        ante,
+        rounds: rounds_of(alloc, &parts[3..])?,
     };
     game.check(alloc).map_err(SampleFault::Game)
 }

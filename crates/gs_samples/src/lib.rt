@@ -4,11 +4,12 @@
 #![tactic(auto)]
 
 mod classes;
+pub mod decks;
 mod files;
 mod games;
 mod numbers;
 
-pub use classes::classes_of;
-pub use files::{ALWAYS_BETS, KUHN_FILE, KUHN_FILE_2, LOSSY, ONE_RANK, SOLVED, replaced};
-pub use games::{KUHN, NO_BETS, Part, Sample, SampleFault, game_of};
-pub use numbers::{classes_in, moves_in, weights_in};
+pub use classes::{classes_of, signal_text};
+pub use files::{ALWAYS_BETS, KUHN_FILE, KUHN_FILE_2, LOSSY, ONE_RANK, SOLVED, changed};
+pub use games::{KUHN, SampleFault, game_of};
+pub use numbers::numbers_in;

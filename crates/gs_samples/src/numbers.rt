@@ -1,34 +1,16 @@
-//! Numbers in a text, with a space between two; words that are no numbers are passed over.
+//! Numbers in a text.
 
 use std::alloc::{AllocError, Global};
+use std::str::FromStr;
 
-/// The weights of a text.
-pub fn weights_in(alloc: Global, text: &str) -> Result<Vec<u64>, AllocError> {
+/// The numbers of a text with a space between two; words that are no numbers are passed over.
+pub fn numbers_in<T: FromStr + Drop>(alloc: Global, text: &str) -> Result<Vec<T>, AllocError>
+where
+    T::Err: Drop,
+{
     let mut all = Vec::new(alloc);
     for word in text.split(' ') {
-        if let Ok(number) = word.parse::<u64>() {
-            all.push(number)?;
-        }
-    }
-    Ok(all)
-}
-
-/// The class of each signal, in a text.
-pub fn classes_in(alloc: Global, text: &str) -> Result<Vec<u32>, AllocError> {
-    let mut all = Vec::new(alloc);
-    for word in text.split(' ') {
-        if let Ok(number) = word.parse::<u32>() {
-            all.push(number)?;
-        }
-    }
-    Ok(all)
-}
-
-/// The places of moves in a text.
-pub fn moves_in(alloc: Global, text: &str) -> Result<Vec<u8>, AllocError> {
-    let mut all = Vec::new(alloc);
-    for word in text.split(' ') {
-        if let Ok(number) = word.parse::<u8>() {
+        if let Ok(number) = word.parse::<T>() {
             all.push(number)?;
         }
     }
