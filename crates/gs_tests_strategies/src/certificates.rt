@@ -1,55 +1,52 @@
 //! Certificates of small games and the check of certificates near them, as a separate program has them, and texts that break one rule each.
 
-ghost use Rattle.std.specs.Prelude.{◌≡◌, ◌≤◌, ◌<◌, length};
+ghost use Rattle.std.specs.Prelude.{◌≤◌, ◌<◌};
 ghost use Rattle.gs_seq.specs.Abstracts.{frame_of, lists_of};
 ghost use Rattle.gs_seq.specs.Plans.{IsPlanOf};
 
-use crate::rows::{game_in, plan_in, row_classes};
+use crate::rows::{over_form, plan_in};
 use gs_certificate::{certificate_text, check_certificate, make_certificate, read_certificate};
-use gs_game::ValidGame;
-use gs_lossless::check;
 use gs_seq::{Abstract, Plan};
-use gs_tree::Signals;
 use std::alloc::{AllocError, Global};
 use std::test::Fail;
 
-// Games, parted by `%`. Of each the first line has the game: ranks, suits, ranking, the trees of one or two rounds; the classes of both rounds; total and weights of player 1 and of player 2.
-// The line `M` is the text of the certificate of best values, and each line `C` has what the check says of another certificate, and its text.
+// Games, parted by `%`. Of each the first line has the game, its classes and two plans. Each other line has what the check says of a certificate, and its
+// text: it holds, or what is wrong; or it is the one that is made, with the best values.
 const GAMES: &str = "\
-JQK|s|h|1[k:2[k:=,b1:1[f:!,c1:=]],b1:2[f:!,c1:=]]||1 2 3||2|1 1 1 1 2 0 1 0 1 0 2 0|2|1 1 1 1 2 0 2 0 2 0 2 0
-M|{\"player1\":{\"bound\":\"7/6\",\"values\":[\"4\",\"4\",\"6\",\"-4\",\"1\",\"6\",\"-1\",\"2\",\"4\",\"4\",\"4\",\"4\"]},\"player2\":{\"bound\":\"13/12\",\"values\":[\"2\",\"5\",\"6\",\"3\",\"3\",\"2\",\"3\",\"3\",\"2\",\"-1\",\"2\",\"4\"]},\"version\":1}
-C|Length { player: 2, want: 12 }|{\"player1\":{\"bound\":\"7/6\",\"values\":[\"4\",\"4\",\"6\",\"-4\",\"1\",\"6\",\"-1\",\"2\",\"4\",\"4\",\"4\",\"4\"]},\"player2\":{\"bound\":\"13/12\",\"values\":[\"2\",\"5\",\"6\",\"3\",\"3\",\"2\",\"3\",\"3\",\"2\",\"-1\",\"2\",\"4\",\"0\"]},\"version\":1}
-C|Length { player: 1, want: 12 }|{\"player1\":{\"bound\":\"7/6\",\"values\":[\"4\",\"4\",\"6\",\"-4\",\"1\",\"6\",\"-1\",\"2\",\"4\",\"4\",\"4\"]},\"player2\":{\"bound\":\"13/12\",\"values\":[\"2\",\"5\",\"6\",\"3\",\"3\",\"2\",\"3\",\"3\",\"2\",\"-1\",\"2\",\"4\"]},\"version\":1}
-C|Low { player: 1, point: 1, class: 3 }|{\"player1\":{\"bound\":\"7/6\",\"values\":[\"4\",\"4\",\"6\",\"-4\",\"1\",\"6\",\"-1\",\"2\",\"5\",\"4\",\"4\",\"4\"]},\"player2\":{\"bound\":\"13/12\",\"values\":[\"2\",\"5\",\"6\",\"3\",\"3\",\"2\",\"3\",\"3\",\"2\",\"-1\",\"2\",\"4\"]},\"version\":1}
-C|Bound { player: 2, found: Fraction { num: 7, den: 6 } }|{\"player1\":{\"bound\":\"7/6\",\"values\":[\"4\",\"4\",\"6\",\"-4\",\"1\",\"6\",\"-1\",\"2\",\"4\",\"4\",\"4\",\"4\"]},\"player2\":{\"bound\":\"13/12\",\"values\":[\"2\",\"6\",\"6\",\"3\",\"3\",\"2\",\"3\",\"3\",\"2\",\"-1\",\"2\",\"4\"]},\"version\":1}
-C|Low { player: 2, point: 1, class: 1 }|{\"player1\":{\"bound\":\"7/6\",\"values\":[\"4\",\"4\",\"6\",\"-4\",\"1\",\"6\",\"-1\",\"2\",\"4\",\"4\",\"4\",\"4\"]},\"player2\":{\"bound\":\"13/12\",\"values\":[\"2\",\"5\",\"6\",\"3\",\"3\",\"2\",\"4\",\"3\",\"2\",\"-1\",\"2\",\"4\"]},\"version\":1}
-C|Low { player: 1, point: 0, class: 1 }|{\"player1\":{\"bound\":\"7/6\",\"values\":[\"3\",\"4\",\"6\",\"-4\",\"1\",\"6\",\"-1\",\"2\",\"4\",\"4\",\"4\",\"4\"]},\"player2\":{\"bound\":\"13/12\",\"values\":[\"2\",\"5\",\"6\",\"3\",\"3\",\"2\",\"3\",\"3\",\"2\",\"-1\",\"2\",\"4\"]},\"version\":1}
-C|Bound { player: 1, found: Fraction { num: 5, den: 4 } }|{\"player1\":{\"bound\":\"7/6\",\"values\":[\"5\",\"4\",\"6\",\"-4\",\"1\",\"6\",\"-1\",\"2\",\"4\",\"4\",\"4\",\"4\"]},\"player2\":{\"bound\":\"13/12\",\"values\":[\"2\",\"5\",\"6\",\"3\",\"3\",\"2\",\"3\",\"3\",\"2\",\"-1\",\"2\",\"4\"]},\"version\":1}
-C|holds|{\"player1\":{\"bound\":\"5/4\",\"values\":[\"5\",\"4\",\"6\",\"-4\",\"1\",\"6\",\"-1\",\"2\",\"4\",\"4\",\"4\",\"4\"]},\"player2\":{\"bound\":\"13/12\",\"values\":[\"2\",\"5\",\"6\",\"3\",\"3\",\"2\",\"3\",\"3\",\"2\",\"-1\",\"2\",\"4\"]},\"version\":1}%JA|sh|h|1[k:=,b1:2[f:!,c1:=]]|=|1 1 2 2|1 2 2 1 2 2 3 3 4 3 3 4|3|0 3 3 0|3|0 3 3 0
-M|{\"player1\":{\"bound\":\"7/6\",\"values\":[\"12\",\"30\",\"12\",\"30\"]},\"player2\":{\"bound\":\"1/3\",\"values\":[\"-12\",\"24\",\"0\",\"24\"]},\"version\":1}
-C|Length { player: 1, want: 4 }|{\"player1\":{\"bound\":\"7/6\",\"values\":[\"12\",\"30\",\"12\"]},\"player2\":{\"bound\":\"1/3\",\"values\":[\"-12\",\"24\",\"0\",\"24\"]},\"version\":1}
-C|Low { player: 1, point: 1, class: 1 }|{\"player1\":{\"bound\":\"7/6\",\"values\":[\"12\",\"30\",\"11\",\"30\"]},\"player2\":{\"bound\":\"1/3\",\"values\":[\"-12\",\"24\",\"0\",\"24\"]},\"version\":1}
-C|Length { player: 2, want: 4 }|{\"player1\":{\"bound\":\"7/6\",\"values\":[\"12\",\"30\",\"12\",\"30\"]},\"player2\":{\"bound\":\"1/3\",\"values\":[\"-12\",\"24\",\"0\",\"24\",\"0\"]},\"version\":1}
-C|Bound { player: 2, found: Fraction { num: 1, den: 3 } }|{\"player1\":{\"bound\":\"7/6\",\"values\":[\"12\",\"30\",\"12\",\"30\"]},\"player2\":{\"bound\":\"5/6\",\"values\":[\"-12\",\"24\",\"0\",\"24\"]},\"version\":1}
-C|Low { player: 2, point: 1, class: 2 }|{\"player1\":{\"bound\":\"7/6\",\"values\":[\"12\",\"30\",\"12\",\"30\"]},\"player2\":{\"bound\":\"1/3\",\"values\":[\"-12\",\"24\",\"0\",\"23\"]},\"version\":1}%JQ|sh|p|=|1[k:=,b1:2[f:!,c1:=]]|1 1 1 1|1 2 2 1 2 2 2 2 1 2 2 1|2|2 0 2 0|3|1 2 0 3
-M|{\"player1\":{\"bound\":\"1/3\",\"values\":[\"12\",\"-3\",\"12\",\"-3\"]},\"player2\":{\"bound\":\"0/1\",\"values\":[\"4\",\"-2\",\"0\",\"0\"]},\"version\":1}
-C|Bound { player: 1, found: Fraction { num: 1, den: 3 } }|{\"player1\":{\"bound\":\"10/21\",\"values\":[\"12\",\"-3\",\"12\",\"-3\"]},\"player2\":{\"bound\":\"0/1\",\"values\":[\"4\",\"-2\",\"0\",\"0\"]},\"version\":1}
-C|Length { player: 2, want: 4 }|{\"player1\":{\"bound\":\"1/3\",\"values\":[\"12\",\"-3\",\"12\",\"-3\"]},\"player2\":{\"bound\":\"0/1\",\"values\":[\"4\",\"-2\",\"0\"]},\"version\":1}
-C|Low { player: 2, point: 0, class: 1 }|{\"player1\":{\"bound\":\"1/3\",\"values\":[\"12\",\"-3\",\"12\",\"-3\"]},\"player2\":{\"bound\":\"0/1\",\"values\":[\"3\",\"-2\",\"0\",\"0\"]},\"version\":1}
-C|Low { player: 1, point: 0, class: 1 }|{\"player1\":{\"bound\":\"1/3\",\"values\":[\"11\",\"-3\",\"12\",\"-3\"]},\"player2\":{\"bound\":\"0/1\",\"values\":[\"3\",\"-2\",\"0\",\"0\"]},\"version\":1}
-C|Bound { player: 2, found: Fraction { num: 0, den: 1 } }|{\"player1\":{\"bound\":\"1/3\",\"values\":[\"12\",\"-3\",\"12\",\"-3\"]},\"player2\":{\"bound\":\"1/7\",\"values\":[\"4\",\"-2\",\"0\",\"0\"]},\"version\":1}%JQ|sh|h|1[k:=,f:!]|2[k:=,f:!]|1 1 2 2|1 2 2 1 2 2 3 3 4 3 3 4|12|12 0 0 12|7|3 4 7 0 0 7 6 1
-M|{\"player1\":{\"bound\":\"23/42\",\"values\":[\"4\",\"42\",\"14\",\"-5\",\"14\",\"14\"]},\"player2\":{\"bound\":\"5/6\",\"values\":[\"48\",\"72\",\"0\",\"0\",\"12\",\"24\"]},\"version\":1}
-C|Bound { player: 2, found: Fraction { num: 5, den: 6 } }|{\"player1\":{\"bound\":\"23/42\",\"values\":[\"4\",\"42\",\"14\",\"-5\",\"14\",\"14\"]},\"player2\":{\"bound\":\"4/3\",\"values\":[\"48\",\"72\",\"0\",\"0\",\"12\",\"24\"]},\"version\":1}
-C|Low { player: 2, point: 0, class: 1 }|{\"player1\":{\"bound\":\"23/42\",\"values\":[\"4\",\"42\",\"14\",\"-5\",\"14\",\"14\"]},\"player2\":{\"bound\":\"5/6\",\"values\":[\"48\",\"72\",\"1\",\"0\",\"12\",\"24\"]},\"version\":1}
-C|Low { player: 1, point: 1, class: 2 }|{\"player1\":{\"bound\":\"23/42\",\"values\":[\"4\",\"42\",\"14\",\"-6\",\"14\",\"14\"]},\"player2\":{\"bound\":\"5/6\",\"values\":[\"48\",\"72\",\"0\",\"0\",\"12\",\"24\"]},\"version\":1}
-C|Length { player: 1, want: 6 }|{\"player1\":{\"bound\":\"23/42\",\"values\":[\"4\",\"42\",\"14\",\"-5\",\"14\",\"14\",\"0\"]},\"player2\":{\"bound\":\"5/6\",\"values\":[\"48\",\"72\",\"0\",\"0\",\"12\",\"24\"]},\"version\":1}
-C|Length { player: 2, want: 6 }|{\"player1\":{\"bound\":\"23/42\",\"values\":[\"4\",\"42\",\"14\",\"-5\",\"14\",\"14\"]},\"player2\":{\"bound\":\"5/6\",\"values\":[\"48\",\"72\",\"0\",\"0\",\"12\"]},\"version\":1}%QKA|sh|h|2[k:=,b1:1[f:!,c1:=]]|=|1 1 2 2 3 3|1 2 2 3 3 1 2 2 3 3 4 4 5 6 6 4 4 5 6 6 7 7 8 8 9 7 7 8 8 9|6|6 0 2 4 2 4|6|1 5 1 5 1 5
-M|{\"player1\":{\"bound\":\"1/6\",\"values\":[\"-116\",\"0\",\"176\",\"-100\",\"0\",\"160\"]},\"player2\":{\"bound\":\"1/5\",\"values\":[\"-72\",\"8\",\"136\",\"-72\",\"8\",\"136\"]},\"version\":1}
-C|Length { player: 2, want: 6 }|{\"player1\":{\"bound\":\"1/6\",\"values\":[\"-116\",\"0\",\"176\",\"-100\",\"0\",\"160\"]},\"player2\":{\"bound\":\"1/5\",\"values\":[\"-72\",\"8\",\"136\",\"-72\",\"8\",\"136\",\"0\"]},\"version\":1}
-C|Low { player: 1, point: 0, class: 2 }|{\"player1\":{\"bound\":\"1/6\",\"values\":[\"-116\",\"-1\",\"176\",\"-100\",\"0\",\"160\"]},\"player2\":{\"bound\":\"1/5\",\"values\":[\"-72\",\"8\",\"136\",\"-72\",\"8\",\"136\"]},\"version\":1}
-C|Bound { player: 1, found: Fraction { num: 61, den: 360 } }|{\"player1\":{\"bound\":\"1/6\",\"values\":[\"-116\",\"1\",\"176\",\"-100\",\"0\",\"160\"]},\"player2\":{\"bound\":\"1/5\",\"values\":[\"-72\",\"8\",\"136\",\"-72\",\"8\",\"136\"]},\"version\":1}
-C|Length { player: 1, want: 6 }|{\"player1\":{\"bound\":\"1/6\",\"values\":[\"-116\",\"0\",\"176\",\"-100\",\"0\",\"160\",\"0\"]},\"player2\":{\"bound\":\"1/5\",\"values\":[\"-72\",\"8\",\"136\",\"-72\",\"8\",\"136\"]},\"version\":1}
-C|Low { player: 1, point: 0, class: 2 }|{\"player1\":{\"bound\":\"1/6\",\"values\":[\"-116\",\"-1\",\"176\",\"-100\",\"0\",\"160\"]},\"player2\":{\"bound\":\"1/5\",\"values\":[\"-72\",\"7\",\"136\",\"-72\",\"8\",\"136\"]},\"version\":1}
+JQK, s, high, 1 0 kuhn|1 2 3|2|1 1 1 1 2 0 1 0 1 0 2 0|2|1 1 1 1 2 0 2 0 2 0 2 0
+made|{\"player1\":{\"bound\":\"7/6\",\"values\":[\"4\",\"4\",\"6\",\"-4\",\"1\",\"6\",\"-1\",\"2\",\"4\",\"4\",\"4\",\"4\"]},\"player2\":{\"bound\":\"13/12\",\"values\":[\"2\",\"5\",\"6\",\"3\",\"3\",\"2\",\"3\",\"3\",\"2\",\"-1\",\"2\",\"4\"]},\"version\":1}
+Length { player: 2, want: 12 }|{\"player1\":{\"bound\":\"7/6\",\"values\":[\"4\",\"4\",\"6\",\"-4\",\"1\",\"6\",\"-1\",\"2\",\"4\",\"4\",\"4\",\"4\"]},\"player2\":{\"bound\":\"13/12\",\"values\":[\"2\",\"5\",\"6\",\"3\",\"3\",\"2\",\"3\",\"3\",\"2\",\"-1\",\"2\",\"4\",\"0\"]},\"version\":1}
+Length { player: 1, want: 12 }|{\"player1\":{\"bound\":\"7/6\",\"values\":[\"4\",\"4\",\"6\",\"-4\",\"1\",\"6\",\"-1\",\"2\",\"4\",\"4\",\"4\"]},\"player2\":{\"bound\":\"13/12\",\"values\":[\"2\",\"5\",\"6\",\"3\",\"3\",\"2\",\"3\",\"3\",\"2\",\"-1\",\"2\",\"4\"]},\"version\":1}
+Low { player: 1, point: 1, class: 3 }|{\"player1\":{\"bound\":\"7/6\",\"values\":[\"4\",\"4\",\"6\",\"-4\",\"1\",\"6\",\"-1\",\"2\",\"5\",\"4\",\"4\",\"4\"]},\"player2\":{\"bound\":\"13/12\",\"values\":[\"2\",\"5\",\"6\",\"3\",\"3\",\"2\",\"3\",\"3\",\"2\",\"-1\",\"2\",\"4\"]},\"version\":1}
+Bound { player: 2, found: Fraction { num: 7, den: 6 } }|{\"player1\":{\"bound\":\"7/6\",\"values\":[\"4\",\"4\",\"6\",\"-4\",\"1\",\"6\",\"-1\",\"2\",\"4\",\"4\",\"4\",\"4\"]},\"player2\":{\"bound\":\"13/12\",\"values\":[\"2\",\"6\",\"6\",\"3\",\"3\",\"2\",\"3\",\"3\",\"2\",\"-1\",\"2\",\"4\"]},\"version\":1}
+Low { player: 2, point: 1, class: 1 }|{\"player1\":{\"bound\":\"7/6\",\"values\":[\"4\",\"4\",\"6\",\"-4\",\"1\",\"6\",\"-1\",\"2\",\"4\",\"4\",\"4\",\"4\"]},\"player2\":{\"bound\":\"13/12\",\"values\":[\"2\",\"5\",\"6\",\"3\",\"3\",\"2\",\"4\",\"3\",\"2\",\"-1\",\"2\",\"4\"]},\"version\":1}
+Low { player: 1, point: 0, class: 1 }|{\"player1\":{\"bound\":\"7/6\",\"values\":[\"3\",\"4\",\"6\",\"-4\",\"1\",\"6\",\"-1\",\"2\",\"4\",\"4\",\"4\",\"4\"]},\"player2\":{\"bound\":\"13/12\",\"values\":[\"2\",\"5\",\"6\",\"3\",\"3\",\"2\",\"3\",\"3\",\"2\",\"-1\",\"2\",\"4\"]},\"version\":1}
+Bound { player: 1, found: Fraction { num: 5, den: 4 } }|{\"player1\":{\"bound\":\"7/6\",\"values\":[\"5\",\"4\",\"6\",\"-4\",\"1\",\"6\",\"-1\",\"2\",\"4\",\"4\",\"4\",\"4\"]},\"player2\":{\"bound\":\"13/12\",\"values\":[\"2\",\"5\",\"6\",\"3\",\"3\",\"2\",\"3\",\"3\",\"2\",\"-1\",\"2\",\"4\"]},\"version\":1}
+holds|{\"player1\":{\"bound\":\"5/4\",\"values\":[\"5\",\"4\",\"6\",\"-4\",\"1\",\"6\",\"-1\",\"2\",\"4\",\"4\",\"4\",\"4\"]},\"player2\":{\"bound\":\"13/12\",\"values\":[\"2\",\"5\",\"6\",\"3\",\"3\",\"2\",\"3\",\"3\",\"2\",\"-1\",\"2\",\"4\"]},\"version\":1}%JA, sh, high, 1 0 1[k:=,b1:2[f:!,c1:=]], 0 1 =|1 1 2 2/1 2 2 1 2 2 3 3 4 3 3 4|3|0 3 3 0|3|0 3 3 0
+made|{\"player1\":{\"bound\":\"7/6\",\"values\":[\"12\",\"30\",\"12\",\"30\"]},\"player2\":{\"bound\":\"1/3\",\"values\":[\"-12\",\"24\",\"0\",\"24\"]},\"version\":1}
+Length { player: 1, want: 4 }|{\"player1\":{\"bound\":\"7/6\",\"values\":[\"12\",\"30\",\"12\"]},\"player2\":{\"bound\":\"1/3\",\"values\":[\"-12\",\"24\",\"0\",\"24\"]},\"version\":1}
+Low { player: 1, point: 1, class: 1 }|{\"player1\":{\"bound\":\"7/6\",\"values\":[\"12\",\"30\",\"11\",\"30\"]},\"player2\":{\"bound\":\"1/3\",\"values\":[\"-12\",\"24\",\"0\",\"24\"]},\"version\":1}
+Length { player: 2, want: 4 }|{\"player1\":{\"bound\":\"7/6\",\"values\":[\"12\",\"30\",\"12\",\"30\"]},\"player2\":{\"bound\":\"1/3\",\"values\":[\"-12\",\"24\",\"0\",\"24\",\"0\"]},\"version\":1}
+Bound { player: 2, found: Fraction { num: 1, den: 3 } }|{\"player1\":{\"bound\":\"7/6\",\"values\":[\"12\",\"30\",\"12\",\"30\"]},\"player2\":{\"bound\":\"5/6\",\"values\":[\"-12\",\"24\",\"0\",\"24\"]},\"version\":1}
+Low { player: 2, point: 1, class: 2 }|{\"player1\":{\"bound\":\"7/6\",\"values\":[\"12\",\"30\",\"12\",\"30\"]},\"player2\":{\"bound\":\"1/3\",\"values\":[\"-12\",\"24\",\"0\",\"23\"]},\"version\":1}%JQ, sh, pair, 1 0 =, 0 1 1[k:=,b1:2[f:!,c1:=]]|1 1 1 1/1 2 2 1 2 2 2 2 1 2 2 1|2|2 0 2 0|3|1 2 0 3
+made|{\"player1\":{\"bound\":\"1/3\",\"values\":[\"12\",\"-3\",\"12\",\"-3\"]},\"player2\":{\"bound\":\"0/1\",\"values\":[\"4\",\"-2\",\"0\",\"0\"]},\"version\":1}
+Bound { player: 1, found: Fraction { num: 1, den: 3 } }|{\"player1\":{\"bound\":\"10/21\",\"values\":[\"12\",\"-3\",\"12\",\"-3\"]},\"player2\":{\"bound\":\"0/1\",\"values\":[\"4\",\"-2\",\"0\",\"0\"]},\"version\":1}
+Length { player: 2, want: 4 }|{\"player1\":{\"bound\":\"1/3\",\"values\":[\"12\",\"-3\",\"12\",\"-3\"]},\"player2\":{\"bound\":\"0/1\",\"values\":[\"4\",\"-2\",\"0\"]},\"version\":1}
+Low { player: 2, point: 0, class: 1 }|{\"player1\":{\"bound\":\"1/3\",\"values\":[\"12\",\"-3\",\"12\",\"-3\"]},\"player2\":{\"bound\":\"0/1\",\"values\":[\"3\",\"-2\",\"0\",\"0\"]},\"version\":1}
+Low { player: 1, point: 0, class: 1 }|{\"player1\":{\"bound\":\"1/3\",\"values\":[\"11\",\"-3\",\"12\",\"-3\"]},\"player2\":{\"bound\":\"0/1\",\"values\":[\"3\",\"-2\",\"0\",\"0\"]},\"version\":1}
+Bound { player: 2, found: Fraction { num: 0, den: 1 } }|{\"player1\":{\"bound\":\"1/3\",\"values\":[\"12\",\"-3\",\"12\",\"-3\"]},\"player2\":{\"bound\":\"1/7\",\"values\":[\"4\",\"-2\",\"0\",\"0\"]},\"version\":1}%JQ, sh, high, 1 0 1[k:=,f:!], 0 1 2[k:=,f:!]|1 1 2 2/1 2 2 1 2 2 3 3 4 3 3 4|12|12 0 0 12|7|3 4 7 0 0 7 6 1
+made|{\"player1\":{\"bound\":\"23/42\",\"values\":[\"4\",\"42\",\"14\",\"-5\",\"14\",\"14\"]},\"player2\":{\"bound\":\"5/6\",\"values\":[\"48\",\"72\",\"0\",\"0\",\"12\",\"24\"]},\"version\":1}
+Bound { player: 2, found: Fraction { num: 5, den: 6 } }|{\"player1\":{\"bound\":\"23/42\",\"values\":[\"4\",\"42\",\"14\",\"-5\",\"14\",\"14\"]},\"player2\":{\"bound\":\"4/3\",\"values\":[\"48\",\"72\",\"0\",\"0\",\"12\",\"24\"]},\"version\":1}
+Low { player: 2, point: 0, class: 1 }|{\"player1\":{\"bound\":\"23/42\",\"values\":[\"4\",\"42\",\"14\",\"-5\",\"14\",\"14\"]},\"player2\":{\"bound\":\"5/6\",\"values\":[\"48\",\"72\",\"1\",\"0\",\"12\",\"24\"]},\"version\":1}
+Low { player: 1, point: 1, class: 2 }|{\"player1\":{\"bound\":\"23/42\",\"values\":[\"4\",\"42\",\"14\",\"-6\",\"14\",\"14\"]},\"player2\":{\"bound\":\"5/6\",\"values\":[\"48\",\"72\",\"0\",\"0\",\"12\",\"24\"]},\"version\":1}
+Length { player: 1, want: 6 }|{\"player1\":{\"bound\":\"23/42\",\"values\":[\"4\",\"42\",\"14\",\"-5\",\"14\",\"14\",\"0\"]},\"player2\":{\"bound\":\"5/6\",\"values\":[\"48\",\"72\",\"0\",\"0\",\"12\",\"24\"]},\"version\":1}
+Length { player: 2, want: 6 }|{\"player1\":{\"bound\":\"23/42\",\"values\":[\"4\",\"42\",\"14\",\"-5\",\"14\",\"14\"]},\"player2\":{\"bound\":\"5/6\",\"values\":[\"48\",\"72\",\"0\",\"0\",\"12\"]},\"version\":1}%QKA, sh, high, 1 0 2[k:=,b1:1[f:!,c1:=]], 0 1 =|1 1 2 2 3 3/1 2 2 3 3 1 2 2 3 3 4 4 5 6 6 4 4 5 6 6 7 7 8 8 9 7 7 8 8 9|6|6 0 2 4 2 4|6|1 5 1 5 1 5
+made|{\"player1\":{\"bound\":\"1/6\",\"values\":[\"-116\",\"0\",\"176\",\"-100\",\"0\",\"160\"]},\"player2\":{\"bound\":\"1/5\",\"values\":[\"-72\",\"8\",\"136\",\"-72\",\"8\",\"136\"]},\"version\":1}
+Length { player: 2, want: 6 }|{\"player1\":{\"bound\":\"1/6\",\"values\":[\"-116\",\"0\",\"176\",\"-100\",\"0\",\"160\"]},\"player2\":{\"bound\":\"1/5\",\"values\":[\"-72\",\"8\",\"136\",\"-72\",\"8\",\"136\",\"0\"]},\"version\":1}
+Low { player: 1, point: 0, class: 2 }|{\"player1\":{\"bound\":\"1/6\",\"values\":[\"-116\",\"-1\",\"176\",\"-100\",\"0\",\"160\"]},\"player2\":{\"bound\":\"1/5\",\"values\":[\"-72\",\"8\",\"136\",\"-72\",\"8\",\"136\"]},\"version\":1}
+Bound { player: 1, found: Fraction { num: 61, den: 360 } }|{\"player1\":{\"bound\":\"1/6\",\"values\":[\"-116\",\"1\",\"176\",\"-100\",\"0\",\"160\"]},\"player2\":{\"bound\":\"1/5\",\"values\":[\"-72\",\"8\",\"136\",\"-72\",\"8\",\"136\"]},\"version\":1}
+Length { player: 1, want: 6 }|{\"player1\":{\"bound\":\"1/6\",\"values\":[\"-116\",\"0\",\"176\",\"-100\",\"0\",\"160\",\"0\"]},\"player2\":{\"bound\":\"1/5\",\"values\":[\"-72\",\"8\",\"136\",\"-72\",\"8\",\"136\"]},\"version\":1}
+Low { player: 1, point: 0, class: 2 }|{\"player1\":{\"bound\":\"1/6\",\"values\":[\"-116\",\"-1\",\"176\",\"-100\",\"0\",\"160\"]},\"player2\":{\"bound\":\"1/5\",\"values\":[\"-72\",\"7\",\"136\",\"-72\",\"8\",\"136\"]},\"version\":1}
 ";
 
 // Texts, and what reading them answers.
@@ -179,12 +176,13 @@ const TEXTS: [(&str, &str); 33] = [
     ),
 ];
 
-/// What the check says of a certificate's text.
-fn checked_text(
+/// What is said of a certificate's text, where this one is made.
+fn told(
     alloc: Global,
     form: &Abstract<'_>,
     one: &Plan,
     two: &Plan,
+    made: &[u8],
     text: &str,
 ) -> Result<String, AllocError>
     requires one { IsPlanOf (frame_of form.now) (lists_of form.now) 1 one.now }
@@ -193,6 +191,7 @@ fn checked_text(
     let line = format!(in alloc; "{text}\n")?;
     match read_certificate(alloc, line.as_bytes()) {
         Ok(certificate) => match check_certificate(form, one, two, &certificate) {
+            None if line.as_bytes() == made => String::from_str(alloc, "made"),
             None => String::from_str(alloc, "holds"),
             Some(fault) => format!(in alloc; "{fault:?}"),
         },
@@ -200,57 +199,26 @@ fn checked_text(
     }
 }
 
-/// Whether the rest of a game's lines are as they should be.
-fn lines_hold(
+/// The first line that says something else of its certificate, if there is one.
+fn wrong_line(
     alloc: Global,
     form: &Abstract<'_>,
     row: &[&str],
     lines: &[&str],
-) -> Result<bool, Fail>
-    requires { 11 ≤ length row.now }
-{
-    let one = plan_in(alloc, form, 1, row[7], row[8])?;
-    let two = plan_in(alloc, form, 2, row[9], row[10])?;
-    match (one, two) {
-        (Some(one), Some(two)) => {
-            for line in lines {
-                let words: Vec<&str> = line.split('|').collect(alloc)?;
-                if words.len() == 2 {
-                    let made = make_certificate(alloc, form, &one, &two)?;
-                    let text = certificate_text(alloc, &made)?;
-                    let want = format!(in alloc; "{}\n", words[1])?;
-                    if text.as_slice() != want.as_bytes()
-                        || checked_text(alloc, form, &one, &two, words[1])?.as_str() != "holds"
-                    {
-                        return Ok(false);
-                    }
-                } else if words.len() == 3 {
-                    if checked_text(alloc, form, &one, &two, words[2])?.as_str() != words[1] {
-                        return Ok(false);
-                    }
-                } else {
-                    return Ok(false);
-                }
-            }
-            Ok(true)
+) -> Result<Option<String>, Fail> {
+    if row.len() != 4 {
+        return Err("a row with no plans".into());
+    }
+    let one = plan_in(alloc, form, 1, row[0], row[1])?;
+    let two = plan_in(alloc, form, 2, row[2], row[3])?;
+    let made = certificate_text(alloc, &make_certificate(alloc, form, &one, &two)?)?;
+    for line in lines {
+        let (said, text) = line.split_once('|').ok_or("a line with no certificate")?;
+        if told(alloc, form, &one, &two, &made, text)?.as_str() != said {
+            return Ok(Some(String::from_str(alloc, line)?));
         }
-        _ => Ok(false),
     }
-}
-
-/// Whether the lines of a game are as they should be.
-fn game_holds(alloc: Global, game: &ValidGame, row: &[&str], lines: &[&str]) -> Result<bool, Fail>
-    requires { 11 ≤ length row.now }
-{
-    let signals = Signals::of(alloc, game)?;
-    let classes = row_classes(alloc, &signals, row)?;
-    match check(alloc, &signals, &classes) {
-        Ok(lossless) => match Abstract::of(alloc, &lossless) {
-            Ok(form) => lines_hold(alloc, &form, row, lines),
-            Err(_) => Ok(false),
-        },
-        Err(_) => Ok(false),
-    }
+    Ok(None)
 }
 
 #[test]
@@ -260,13 +228,12 @@ fn certificates_of_small_games(rt: HostRuntime) -> Result<(), Fail> {
         let lines: Vec<&str> = block.lines().collect(alloc)?;
         assert!(rt; lines.len() >= 7);
         let row: Vec<&str> = lines[0].split('|').collect(alloc)?;
-        assert!(rt; row.len() == 11);
-        let game = game_in(alloc, &row)?;
-        assert!(rt;
-            game_holds(alloc, &game, &row, &lines[1..])?,
-            "{}",
-            lines[0]
-        );
+        assert!(rt; row.len() == 6);
+        let (plans, others) = (&row[2..], &lines[1..]);
+        let wrong = over_form(alloc, row[0], row[1], |form| {
+            wrong_line(alloc, form, plans, others)
+        })?;
+        assert_eq!(rt; wrong, None, "{}", lines[0]);
     }
     Ok(())
 }

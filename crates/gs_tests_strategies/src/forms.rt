@@ -2,10 +2,8 @@
 
 ghost use Rattle.std.specs.Prelude.{◌≡◌, ◌≤◌, ◌<◌};
 
-use gs_card::Ranking;
-use gs_game::ValidGame;
 use gs_lossless::check;
-use gs_samples::{KUHN, Part, Sample, classes_of, game_of};
+use gs_samples::{classes_of, game_of};
 use gs_seq::{Abstract, Pair, SeqStop};
 use gs_tree::Signals;
 use std::alloc::Global;
@@ -39,115 +37,83 @@ fn answers(form: &Abstract<'_>, queries: &[Query]) -> bool {
     true
 }
 
-/// How the sequence form of a game ends: that its answers are these, or why it has none.
+/// How the sequence form of a game over classes ends: that it has so many sequences of both players and its answers are these, or why there is none.
 fn outcome(
     alloc: Global,
-    game: &ValidGame,
-    lists: &[&[u32]],
+    game: &str,
+    classes: &str,
     sequences: (u32, u32),
     queries: &[Query],
 ) -> Result<Result<bool, SeqStop>, Fail> {
-    let signals = Signals::of(alloc, game)?;
-    let classes = classes_of(alloc, &signals, lists)?;
-    match check(alloc, &signals, &classes) {
-        Ok(lossless) => match Abstract::of(alloc, &lossless) {
-            Ok(form) => {
-                let counts = (form.sequences(1), form.sequences(2));
-                Ok(Ok(counts == sequences && answers(&form, queries)))
-            }
-            Err(stop) => Ok(Err(stop)),
-        },
-        Err(_) => Ok(Ok(false)),
+    let game = game_of(alloc, game)?;
+    let signals = Signals::of(alloc, &game)?;
+    let classes = classes_of(alloc, &signals, classes)?;
+    let lossless = check(alloc, &signals, &classes)?;
+    match Abstract::of(alloc, &lossless) {
+        Ok(form) => {
+            let counts = (form.sequences(1), form.sequences(2));
+            Ok(Ok(counts == sequences && answers(&form, queries)))
+        }
+        Err(stop) => Ok(Err(stop)),
     }
 }
 
-const EIGHT: &str = "1[a:=,b:=,c:=,d:=,e:=,f:=,g:=,h:=]";
-
-const SIXTEEN: &str = "1[a:=,b:=,c:=,d:=,e:=,f:=,g:=,h:=,i:=,j:=,k:=,l:=,m:=,n:=,o:=,p:=]";
-
-const BY_RANK: &[&[u32]] = &[
-    &[1, 1, 2, 2, 3, 3],
-    &[
-        1, 2, 2, 3, 3, 1, 2, 2, 3, 3, 4, 4, 5, 6, 6, 4, 4, 5, 6, 6, 7, 7, 8, 8, 9, 7, 7, 8, 8, 9,
-    ],
+const OF_KUHN: &[Query] = &[
+    (1, 1, 0, Some((2, 1, -1))),
+    (1, 1, 2, Some((3, 1, -1))),
+    (1, 1, 3, None),
+    (1, 2, 0, Some((1, 1, 1))),
+    (1, 2, 1, Some((3, 1, -1))),
+    (1, 3, 1, Some((2, 1, 1))),
+    (1, 3, 2, None),
 ];
 
-/// A game and classes, how many sequences both players have, pairs of classes, and whether there is a form.
-struct Case {
-    ranks: &'static str,
-    suits: &'static str,
-    ranking: Ranking,
-    rounds: &'static [Part<'static>],
-    lists: &'static [&'static [u32]],
-    sequences: (u32, u32),
-    queries: &'static [Query],
-    said: Result<bool, SeqStop>,
-}
+const OF_LEDUC: &[Query] = &[
+    (1, 1, 0, Some((1, 8, 0))),
+    (1, 1, 1, Some((2, 16, 0))),
+    (1, 3, 3, None),
+    (2, 1, 0, Some((4, 4, 8))),
+    (2, 1, 4, Some((7, 4, 8))),
+    (2, 1, 7, None),
+    (2, 2, 0, Some((2, 4, 0))),
+    (2, 2, 2, Some((5, 4, -8))),
+    (2, 2, 5, Some((8, 8, -8))),
+    (2, 2, 8, None),
+];
 
-const CASES: [Case; 3] = [
-    Case {
-        ranks: "JQK",
-        suits: "s",
-        ranking: Ranking::High,
-        rounds: &[(1, 0, KUHN)],
-        lists: &[],
-        sequences: (13, 13),
-        queries: &[
-            (1, 1, 0, Some((2, 1, -1))),
-            (1, 1, 2, Some((3, 1, -1))),
-            (1, 1, 3, None),
-            (1, 2, 0, Some((1, 1, 1))),
-            (1, 2, 1, Some((3, 1, -1))),
-            (1, 3, 1, Some((2, 1, 1))),
-            (1, 3, 2, None),
-        ],
-        said: Ok(true),
-    },
-    Case {
-        ranks: "JQK",
-        suits: "sh",
-        ranking: Ranking::Pair,
-        rounds: &[(1, 0, "1[k:2[k:=]]"), (0, 1, KUHN)],
-        lists: BY_RANK,
-        sequences: (40, 40),
-        queries: &[
-            (1, 1, 0, Some((1, 8, 0))),
-            (1, 1, 1, Some((2, 16, 0))),
-            (1, 3, 3, None),
-            (2, 1, 0, Some((4, 4, 8))),
-            (2, 1, 4, Some((7, 4, 8))),
-            (2, 1, 7, None),
-            (2, 2, 0, Some((2, 4, 0))),
-            (2, 2, 2, Some((5, 4, -8))),
-            (2, 2, 5, Some((8, 8, -8))),
-            (2, 2, 8, None),
-        ],
-        said: Ok(true),
-    },
-    Case {
-        ranks: "9TJQKA",
-        suits: "shdc",
-        ranking: Ranking::High,
-        rounds: &[(1, 0, EIGHT), (0, 0, EIGHT), (0, 0, EIGHT), (0, 0, SIXTEEN)],
-        lists: &[],
-        sequences: (0, 0),
-        queries: &[],
-        said: Err(SeqStop::TooManyCells { count: 4_521_984 }),
-    },
+/// Games and classes, how many sequences both players have, pairs of classes, and whether there is a form.
+const CASES: [(&str, &str, (u32, u32), &[Query], Result<bool, SeqStop>); 3] = [
+    (
+        "JQK, s, high 1 2 1, 1 0 kuhn",
+        "",
+        (13, 13),
+        OF_KUHN,
+        Ok(true),
+    ),
+    (
+        "JQK, sh, pair 1 2 1, 1 0 1[k:2[k:=]], 0 1 kuhn",
+        "ranks",
+        (40, 40),
+        OF_LEDUC,
+        Ok(true),
+    ),
+    (
+        "9TJQKA, shdc, high 1 2 1, 1 0 eight, 0 0 eight, 0 0 eight, 0 0 sixteen",
+        "",
+        (0, 0),
+        &[],
+        Err(SeqStop::TooManyCells { count: 4_521_984 }),
+    ),
 ];
 
 #[test]
 fn forms_of_whole_games(rt: HostRuntime) -> Result<(), Fail> {
     let alloc = rt.alloc();
-    for case in &CASES {
-        let sample = Sample::plain(case.ranks, case.suits, case.ranking, case.rounds).with_bonus(
-            1, 2,
-        );
-        let game = game_of(alloc, &sample)?;
-        assert!(rt;
-            outcome(alloc, &game, case.lists, case.sequences, case.queries)? == case.said,
-            "{}",
-            case.ranks
+    for (game, classes, sequences, queries, said) in CASES {
+        assert_eq!(rt;
+            outcome(alloc, game, classes, sequences, queries)?,
+            said,
+            "{game}"
         );
     }
     Ok(())

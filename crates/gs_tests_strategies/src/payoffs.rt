@@ -2,14 +2,27 @@
 
 ghost use Rattle.std.specs.Prelude.{◌<◌, ◌≤◌};
 
-use gs_card::Ranking;
-use gs_game::ValidGame;
-use gs_lossless::check;
-use gs_samples::{KUHN, Part, Sample, classes_of, game_of};
+use crate::rows::over_form;
+use gs_samples::{KUHN, classes_of, game_of};
 use gs_seq::{Abstract, PlanFault, plan_fault};
 use gs_tree::Signals;
 use std::alloc::{AllocError, Global};
 use std::test::Fail;
+
+/// A game of two rounds, in which hands above the lowest category win double.
+const TWO_ROUNDS: &str = "JQK, sh, pair 1 2 1, 1 0 1[k:2[k:=]], 0 1 kuhn";
+
+const FIRSTS: &[u64] = &[1, 0, 1, 0, 1, 0, 1, 0, 1, 0, 1, 0];
+
+const FIRSTS_OF_TWO: &[u64] = &[
+    1, 1, 1, 1, 0, 1, 0, 1, 0, 1, 0, 1, 0, 1, 0, 1, 0, 1, 0, 1, 0, 1, 0, 1, 0, 1, 0, 1, 0, 1, 0, 1,
+    0, 1, 0, 1, 0, 1, 0,
+];
+
+const BETS_OF_TWO: &[u64] = &[
+    1, 1, 1, 0, 1, 0, 1, 0, 1, 0, 1, 0, 1, 0, 1, 0, 1, 0, 1, 0, 1, 0, 0, 0, 0, 0, 0, 0, 0, 0, 0, 0,
+    0, 0, 0, 0, 0, 0, 0,
+];
 
 /// A total and weights.
 type Stored<'a> = (u64, &'a [u64]);
@@ -43,91 +56,75 @@ fn paid(
     }
 }
 
-/// Whether both players' first plans have these weights, and two stored plans pay so much.
-fn holds(
-    alloc: Global,
-    game: &ValidGame,
-    lists: &[&[u32]],
-    firsts: &[u64],
-    x: Stored<'_>,
-    y: Stored<'_>,
-    want: i128,
-) -> Result<bool, Fail> {
-    let signals = Signals::of(alloc, game)?;
-    let classes = classes_of(alloc, &signals, lists)?;
-    match check(alloc, &signals, &classes) {
-        Ok(lossless) => match Abstract::of(alloc, &lossless) {
-            Ok(form) => {
-                let both = is_first(alloc, &form, 1, firsts)? && is_first(alloc, &form, 2, firsts)?;
-                Ok(both && paid(alloc, &form, x, y)? == Some(want))
-            }
-            Err(_) => Ok(false),
-        },
-        Err(_) => Ok(false),
+/// Games and classes, and the weights of both players' first plans.
+const FIRST_PLANS: [(&str, &str, &[u64]); 2] = [
+    (KUHN, "", FIRSTS),
+    (TWO_ROUNDS, "ranks", FIRSTS_OF_TWO),
+];
+
+#[test]
+fn first_plans_make_first_moves(rt: HostRuntime) -> Result<(), Fail> {
+    let alloc = rt.alloc();
+    for (game, classes, want) in FIRST_PLANS {
+        let both = over_form(alloc, game, classes, |form| {
+            Ok(is_first(alloc, form, 1, want)? && is_first(alloc, form, 2, want)?)
+        })?;
+        assert!(rt; both, "{game}");
     }
+    Ok(())
 }
 
-const FIRSTS: &[u64] = &[1, 0, 1, 0, 1, 0, 1, 0, 1, 0, 1, 0];
-
-/// Plans of player 1 and of player 2 in Kuhn's game, and what they pay.
-const PAID: [(Stored<'static>, Stored<'static>, i128); 4] = [
-    ((1, FIRSTS), (1, FIRSTS), 0),
+/// Games and classes, total and weights of a plan of player 1 and of one of player 2, and what they pay.
+const PAID: [(&str, &str, Stored<'static>, Stored<'static>, i128); 6] = [
+    (KUHN, "", (1, FIRSTS), (1, FIRSTS), 0),
     (
+        KUHN,
+        "",
         (2, &[1, 1, 1, 1, 2, 0, 1, 0, 1, 0, 2, 0]),
         (2, &[1, 1, 1, 1, 2, 0, 2, 0, 2, 0, 2, 0]),
         2,
     ),
     (
+        KUHN,
+        "",
         (3, &[3, 0, 3, 0, 3, 0, 3, 0, 2, 1, 0, 3]),
         (3, &[2, 1, 3, 0, 0, 3, 3, 0, 2, 1, 0, 3]),
         -3,
     ),
-    ((1, &[0, 1, 0, 1, 0, 1, 0, 0, 0, 0, 0, 0]), (1, FIRSTS), 6),
+    (
+        KUHN,
+        "",
+        (1, &[0, 1, 0, 1, 0, 1, 0, 0, 0, 0, 0, 0]),
+        (1, FIRSTS),
+        6,
+    ),
+    (
+        TWO_ROUNDS,
+        "ranks",
+        (1, FIRSTS_OF_TWO),
+        (1, FIRSTS_OF_TWO),
+        0,
+    ),
+    (
+        TWO_ROUNDS,
+        "ranks",
+        (1, BETS_OF_TWO),
+        (1, FIRSTS_OF_TWO),
+        120,
+    ),
 ];
 
 #[test]
 fn stored_plans_pay(rt: HostRuntime) -> Result<(), Fail> {
     let alloc = rt.alloc();
-    let rounds: &[Part] = &[(1, 0, KUHN)];
-    let game = game_of(alloc, &Sample::plain("JQK", "s", Ranking::High, rounds))?;
-    for (x, y, want) in PAID {
-        assert!(rt; holds(alloc, &game, &[], FIRSTS, x, y, want)?);
-    }
-    Ok(())
-}
-
-const BY_RANK: &[&[u32]] = &[
-    &[1, 1, 2, 2, 3, 3],
-    &[
-        1, 2, 2, 3, 3, 1, 2, 2, 3, 3, 4, 4, 5, 6, 6, 4, 4, 5, 6, 6, 7, 7, 8, 8, 9, 7, 7, 8, 8, 9,
-    ],
-];
-
-const FIRSTS_OF_TWO: &[u64] = &[
-    1, 1, 1, 1, 0, 1, 0, 1, 0, 1, 0, 1, 0, 1, 0, 1, 0, 1, 0, 1, 0, 1, 0, 1, 0, 1, 0, 1, 0, 1, 0, 1,
-    0, 1, 0, 1, 0, 1, 0,
-];
-
-const BETS_OF_TWO: &[u64] = &[
-    1, 1, 1, 0, 1, 0, 1, 0, 1, 0, 1, 0, 1, 0, 1, 0, 1, 0, 1, 0, 1, 0, 0, 0, 0, 0, 0, 0, 0, 0, 0, 0,
-    0, 0, 0, 0, 0, 0, 0,
-];
-
-/// Plans of player 1 in a game of two rounds, and what they pay against the first moves.
-const PAID_OF_TWO: [(Stored<'static>, i128); 2] = [
-    ((1, FIRSTS_OF_TWO), 0),
-    ((1, BETS_OF_TWO), 120),
-];
-
-#[test]
-fn plans_of_two_rounds_pay(rt: HostRuntime) -> Result<(), Fail> {
-    let alloc = rt.alloc();
-    let rounds: &[Part] = &[(1, 0, "1[k:2[k:=]]"), (0, 1, KUHN)];
-    let sample = Sample::plain("JQK", "sh", Ranking::Pair, rounds).with_bonus(1, 2);
-    let game = game_of(alloc, &sample)?;
-    let other = (1, FIRSTS_OF_TWO);
-    for (x, want) in PAID_OF_TWO {
-        assert!(rt; holds(alloc, &game, BY_RANK, FIRSTS_OF_TWO, x, other, want)?);
+    for (game, classes, one, two, want) in PAID {
+        let found = over_form(
+            alloc,
+            game,
+            classes,
+            |form| Ok(paid(alloc, form, one, two)?),
+        )?;
+        assert_eq!(rt; found, Some(want), "{game}");
     }
     Ok(())
 }
@@ -165,15 +162,15 @@ const FAULTS: [(u8, u64, &[u64], Option<PlanFault>); 9] = [
 #[test]
 fn weights_that_are_no_plan(rt: HostRuntime) -> Result<(), Fail> {
     let alloc = rt.alloc();
-    let rounds: &[Part] = &[(1, 0, KUHN)];
-    let game = game_of(alloc, &Sample::plain("JQK", "s", Ranking::High, rounds))?;
+    let game = game_of(alloc, KUHN)?;
     let signals = Signals::of(alloc, &game)?;
-    let classes = classes_of(alloc, &signals, &[&[1, 2, 3]])?;
+    let classes = classes_of(alloc, &signals, "1 2 3")?;
     for (player, total, weights, want) in FAULTS {
         assert!(rt; player == 1 || player == 2);
         assert_eq!(rt;
             plan_fault(signals.game(), &classes, player, total, weights),
-            want
+            want,
+            "{player} {total} {weights:?}"
         );
     }
     Ok(())

@@ -4,12 +4,11 @@ ghost use Rattle.std.specs.Prelude.{◌≡◌, ◌<◌, ◌≤◌, IfOk, IfSome}
 ghost use Rattle.gs_seq.specs.Games.{frame_in};
 ghost use Rattle.gs_seq.specs.Plans.{IsPlanOf};
 
-use gs_card::Ranking;
 use gs_filter::Classes;
 use gs_frac::Verdict;
 use gs_game::ValidGame;
 use gs_raw::{hand_value, raw_cells, raw_verdict};
-use gs_samples::{KUHN, Part, Sample, classes_of, game_of};
+use gs_samples::{KUHN, classes_of, game_of};
 use gs_seq::{Plan, plan_fault};
 use gs_tree::Signals;
 use std::alloc::{AllocError, Global};
@@ -41,7 +40,7 @@ fn plan_of(
 }
 
 /// A strategy's classes, and the total and weights of a player.
-type Side<'a> = (&'a [u32], u64, &'a [u64]);
+type Side<'a> = (&'a str, u64, &'a [u64]);
 
 /// A verdict as a text.
 fn text_of(alloc: Global, verdict: &Verdict) -> Result<String, AllocError> {
@@ -57,8 +56,8 @@ fn told(
     two: Side<'_>,
 ) -> Result<String, Fail> {
     let game = signals.game();
-    let first = classes_of(alloc, signals, &[one.0])?;
-    let second = classes_of(alloc, signals, &[two.0])?;
+    let first = classes_of(alloc, signals, one.0)?;
+    let second = classes_of(alloc, signals, two.0)?;
     let Some(x) = plan_of(alloc, game, &first, 1, one.1, one.2)? else {
         return Ok(String::new(alloc));
     };
@@ -79,30 +78,35 @@ fn told(
     }
 }
 
-const ALONE: &[u32] = &[1, 2, 3];
+const LOSSY: &str = "1 1 2";
 
-const LOSSY: &[u32] = &[1, 1, 2];
+/// Both sides, and their verdict and hand values.
+const CASES: [(Side<'static>, Side<'static>, &str); 2] = [
+    (
+        (LOSSY, 1, &[1, 0, 1, 0, 1, 0, 1, 0]),
+        (LOSSY, 1, &[1, 0, 1, 0, 1, 0, 0, 1]),
+        "0/1 1/6 1/1 -1/1 0/1 1/1",
+    ),
+    (
+        ("1 2 3", 2, &[1, 1, 1, 1, 2, 0, 1, 0, 1, 0, 2, 0]),
+        ("1 2 3", 1, &[1, 0, 1, 0, 1, 0, 1, 0, 1, 0, 1, 0]),
+        "1/2 1/2 19/12 0/1 1/2 1/1",
+    ),
+];
 
 #[test]
 fn verdicts_on_raw_signals(rt: HostRuntime) -> Result<(), Fail> {
     let alloc = rt.alloc();
-    let rounds: &[Part] = &[(1, 0, KUHN)];
-    let game = game_of(alloc, &Sample::plain("JQK", "s", Ranking::High, rounds))?;
+    let game = game_of(alloc, KUHN)?;
     let signals = Signals::of(alloc, &game)?;
     assert_eq!(rt; raw_cells(alloc, &game, &signals)?, 30);
-    let lossy = told(
-        alloc,
-        &signals,
-        (LOSSY, 1, &[1, 0, 1, 0, 1, 0, 1, 0]),
-        (LOSSY, 1, &[1, 0, 1, 0, 1, 0, 0, 1]),
-    )?;
-    assert_eq!(rt; lossy.as_str(), "0/1 1/6 1/1 -1/1 0/1 1/1");
-    let against = told(
-        alloc,
-        &signals,
-        (ALONE, 2, &[1, 1, 1, 1, 2, 0, 1, 0, 1, 0, 2, 0]),
-        (ALONE, 1, &[1, 0, 1, 0, 1, 0, 1, 0, 1, 0, 1, 0]),
-    )?;
-    assert_eq!(rt; against.as_str(), "1/2 1/2 19/12 0/1 1/2 1/1");
+    for (one, two, said) in CASES {
+        assert_eq!(rt;
+            told(alloc, &signals, one, two)?.as_str(),
+            said,
+            "at {}",
+            one.0
+        );
+    }
     Ok(())
 }
