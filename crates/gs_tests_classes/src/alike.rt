@@ -5,10 +5,12 @@ ghost use Rattle.std.specs.Prelude.{◌≡◌, IfOk, length};
 ghost use Rattle.gs_tree.specs.Trees.{rules_of};
 ghost use Rattle.gs_tree.specs.Walk.{last_count};
 
-use crate::decks::{KUHN, LEDUC, LEDUC_OF_COPIES, RHODE_OF_BONUSES, RHODE_TJQK, TWO_OWN_CARDS};
 use gs_alike::stand_ins;
 use gs_game::ValidGame;
-use gs_samples::{Sample, game_of};
+use gs_samples::decks::{
+    KUHN, LEDUC, LEDUC_OF_COPIES, RHODE_OF_BONUSES, RHODE_TJQK, TWO_OWN_CARDS,
+};
+use gs_samples::game_of;
 use gs_tree::Signals;
 use std::alloc::{AllocError, Global};
 use std::test::Fail;
@@ -81,58 +83,22 @@ fn counts(alloc: Global, game: &ValidGame) -> Result<(Option<u32>, Option<u32>),
     Ok((one, two))
 }
 
-/// A game, and how many of its signals stand for themselves: with one key for all, and with two keys by turns.
-struct Case {
-    sample: Sample<'static>,
-    one_key: u32,
-    two_keys: u32,
-}
-
-const CASES: [Case; 6] = [
-    Case {
-        sample: TWO_OWN_CARDS,
-        one_key: 12,
-        two_keys: 12,
-    },
-    Case {
-        sample: LEDUC_OF_COPIES,
-        one_key: 9,
-        two_keys: 9,
-    },
-    Case {
-        sample: LEDUC,
-        one_key: 3,
-        two_keys: 10,
-    },
-    Case {
-        sample: KUHN,
-        one_key: 3,
-        two_keys: 3,
-    },
-    Case {
-        sample: RHODE_TJQK,
-        one_key: 28,
-        two_keys: 322,
-    },
-    Case {
-        sample: RHODE_OF_BONUSES,
-        one_key: 72,
-        two_keys: 222,
-    },
+/// Games, and how many of their signals stand for themselves: with one key for all, and with two keys by turns.
+const CASES: [(&str, u32, u32); 6] = [
+    (TWO_OWN_CARDS, 12, 12),
+    (LEDUC_OF_COPIES, 9, 9),
+    (LEDUC, 3, 10),
+    (KUHN, 3, 3),
+    (RHODE_TJQK, 28, 322),
+    (RHODE_OF_BONUSES, 72, 222),
 ];
 
 #[test]
 fn stand_ins_see_the_same(rt: HostRuntime) -> Result<(), Fail> {
     let alloc = rt.alloc();
-    for case in &CASES {
-        let game = game_of(alloc, &case.sample)?;
-        assert_eq!(rt;
-            counts(alloc, &game)?,
-            (Some(case.one_key), Some(case.two_keys)),
-            "{} {}",
-            case.sample.ranks,
-            case.sample.suits
-        );
+    for (line, one, two) in CASES {
+        let game = game_of(alloc, line)?;
+        assert_eq!(rt; counts(alloc, &game)?, (Some(one), Some(two)), "{line}");
     }
     Ok(())
 }

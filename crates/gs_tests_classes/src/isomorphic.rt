@@ -1,9 +1,8 @@
 //! Classes of whole games, as a separate program found them by the definitions, and pairings in Leduc's game.
 
-use crate::decks::{KUHN, KUHN_OF_TWO_SUITS, LEDUC, ONE_RANK, RHODE_JQ, TWO_OWN_CARDS};
-use gs_game::ValidGame;
 use gs_iso::{pairing, shrink};
-use gs_samples::{Sample, game_of};
+use gs_samples::decks::{KUHN, KUHN_OF_TWO_SUITS, LEDUC, RHODE_JQ, TWO_JACKS, TWO_OWN_CARDS};
+use gs_samples::game_of;
 use gs_tree::Signals;
 use std::alloc::Global;
 use std::test::Fail;
@@ -30,52 +29,36 @@ fn first_place(
 }
 
 /// The classes of a game as one text.
-fn class_lists(alloc: Global, game: &ValidGame) -> Result<String, Fail> {
-    let signals = Signals::of(alloc, game)?;
+fn shrunk(alloc: Global, line: &str) -> Result<String, Fail> {
+    let game = game_of(alloc, line)?;
+    let signals = Signals::of(alloc, &game)?;
     let classes = shrink(alloc, &signals)?;
-    let text = format!(in alloc; "{:?}", classes.lists())?;
-    Ok(text)
+    Ok(format!(in alloc; "{:?}", classes.lists())?)
 }
 
-/// A game, and the numbers of its signal classes.
-struct Case {
-    sample: Sample<'static>,
-    classes: &'static str,
-}
-
-const CASES: [Case; 6] = [
-    Case {
-        sample: KUHN,
-        classes: "[[1, 2, 3]]",
-    },
-    Case {
-        sample: KUHN_OF_TWO_SUITS,
-        classes: "[[1, 1, 2, 2, 3, 3]]",
-    },
-    Case {
-        sample: LEDUC,
-        classes: "[[1, 1, 2, 2, 3, 3], [1, 2, 2, 2, 2, 1, 2, 2, 2, 2, 3, 3, 4, 5, 5, 3, 3, 4, 5, 5, 6, 6, 6, 6, 7, 6, 6, 6, 6, 7]]",
-    },
-    Case {
-        sample: ONE_RANK,
-        classes: "[[1, 1, 1]]",
-    },
-    Case {
-        sample: RHODE_JQ,
-        classes: "[[1, 1, 2, 2], [1, 2, 2, 1, 2, 2, 3, 3, 4, 3, 3, 4], [1, 1, 2, 3, 2, 3, 1, 1, 2, 3, 2, 3, 4, 5, 4, 5, 6, 6, 4, 5, 4, 5, 6, 6]]",
-    },
-    Case {
-        sample: TWO_OWN_CARDS,
-        classes: "[[1, 2, 3, 4, 5], [1, 2, 3, 4, 5, 6, 7, 8, 8, 9, 10, 11]]",
-    },
+/// Games, and the numbers of their signal classes.
+const CASES: [(&str, &str); 6] = [
+    (KUHN, "[[1, 2, 3]]"),
+    (KUHN_OF_TWO_SUITS, "[[1, 1, 2, 2, 3, 3]]"),
+    (
+        LEDUC,
+        "[[1, 1, 2, 2, 3, 3], [1, 2, 2, 2, 2, 1, 2, 2, 2, 2, 3, 3, 4, 5, 5, 3, 3, 4, 5, 5, 6, 6, 6, 6, 7, 6, 6, 6, 6, 7]]",
+    ),
+    (TWO_JACKS, "[[1, 1, 1]]"),
+    (
+        RHODE_JQ,
+        "[[1, 1, 2, 2], [1, 2, 2, 1, 2, 2, 3, 3, 4, 3, 3, 4], [1, 1, 2, 3, 2, 3, 1, 1, 2, 3, 2, 3, 4, 5, 4, 5, 6, 6, 4, 5, 4, 5, 6, 6]]",
+    ),
+    (
+        TWO_OWN_CARDS,
+        "[[1, 2, 3, 4, 5], [1, 2, 3, 4, 5, 6, 7, 8, 8, 9, 10, 11]]",
+    ),
 ];
 
 #[test]
 fn classes_of_games(rt: HostRuntime) -> Result<(), Fail> {
-    let alloc = rt.alloc();
-    for case in &CASES {
-        let game = game_of(alloc, &case.sample)?;
-        assert_eq!(rt; class_lists(alloc, &game)?.as_str(), case.classes);
+    for (line, classes) in CASES {
+        assert_eq!(rt; shrunk(rt.alloc(), line)?.as_str(), classes, "{line}");
     }
     Ok(())
 }
@@ -83,7 +66,7 @@ fn classes_of_games(rt: HostRuntime) -> Result<(), Fail> {
 #[test]
 fn pairings_in_leduc(rt: HostRuntime) -> Result<(), Fail> {
     let alloc = rt.alloc();
-    let game = game_of(alloc, &LEDUC)?;
+    let game = game_of(alloc, LEDUC)?;
     let signals = Signals::of(alloc, &game)?;
     // Js/+Qs and Js/+Ks
     assert_eq!(rt; first_place(alloc, &signals, 2, 1, 3)?, Some(0));

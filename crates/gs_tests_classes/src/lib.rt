@@ -5,8 +5,6 @@
 #[cfg(test)]
 mod alike;
 #[cfg(test)]
-mod decks;
-#[cfg(test)]
 mod isomorphic;
 #[cfg(test)]
 mod lossless;
