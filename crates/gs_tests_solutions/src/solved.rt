@@ -2,9 +2,8 @@
 
 ghost use Rattle.std.specs.Prelude.{◌≡◌, ◌≤◌, ◌<◌};
 
-use gs_card::Ranking;
 use gs_lossless::check;
-use gs_samples::{KUHN, Part, Sample, classes_of, game_of};
+use gs_samples::{KUHN, classes_of, game_of};
 use gs_seq::Abstract;
 use gs_simplex::trace;
 use gs_solve::{program, solve};
@@ -12,6 +11,9 @@ use gs_tree::Signals;
 use std::alloc::Global;
 use std::fmt::Write;
 use std::test::Fail;
+
+/// Two cards of one rank.
+const ONE_RANK: &str = "A, sh, high, 1 0 kuhn";
 
 /// The path of a game's program: the aim's value at its opening, and the pivots.
 fn path_text(alloc: Global, form: &Abstract<'_>) -> Result<String, Fail> {
@@ -48,47 +50,37 @@ fn text_of(alloc: Global, form: &Abstract<'_>) -> Result<String, Fail> {
 }
 
 /// What a game over classes is solved to.
-fn solved(
-    alloc: Global,
-    ranks: &str,
-    suits: &str,
-    tree: &str,
-    lists: &[&[u32]],
-) -> Result<String, Fail> {
-    let rounds: &[Part] = &[(1, 0, tree)];
-    let game = game_of(alloc, &Sample::plain(ranks, suits, Ranking::High, rounds))?;
+fn solved(alloc: Global, game: &str, classes: &str) -> Result<String, Fail> {
+    let game = game_of(alloc, game)?;
     let signals = Signals::of(alloc, &game)?;
-    let classes = classes_of(alloc, &signals, lists)?;
-    match check(alloc, &signals, &classes) {
-        Err(_) => Ok(String::from_str(alloc, "unlike")?),
-        Ok(lossless) => match Abstract::of(alloc, &lossless) {
-            Err(_) => Ok(String::from_str(alloc, "too large")?),
-            Ok(form) => text_of(alloc, &form),
-        },
+    let classes = classes_of(alloc, &signals, classes)?;
+    let lossless = check(alloc, &signals, &classes)?;
+    text_of(alloc, &Abstract::of(alloc, &lossless)?)
+}
+
+/// Games and classes, and what they are solved to.
+const SOLVED: [(&str, &str, &str); 3] = [
+    (
+        KUHN,
+        "1 2 3",
+        "-6/1 3-31 5-33 7-5 11-27 13-24 25-12 5-3 26-22 3-5 3 [3, 0, 3, 0, 3, 0, 3, 0, 2, 1, 0, 3] 3 [2, 1, 3, 0, 0, 3, 3, 0, 2, 1, 0, 3]",
+    ),
+    (
+        ONE_RANK,
+        "1 1",
+        "-2/1 3-13 5-4 1 [1, 0, 0, 1] 1 [0, 1, 0, 1]",
+    ),
+    (
+        ONE_RANK,
+        "",
+        "-2/1 3-23 5-21 7-6 9-8 1 [1, 0, 1, 0, 0, 1, 0, 1] 1 [0, 1, 0, 1, 0, 1, 0, 1]",
+    ),
+];
+
+#[test]
+fn games_are_solved(rt: HostRuntime) -> Result<(), Fail> {
+    for (game, classes, want) in SOLVED {
+        assert_eq!(rt; solved(rt.alloc(), game, classes)?.as_str(), want, "{game}");
     }
-}
-
-#[test]
-fn kuhn_poker(rt: HostRuntime) -> Result<(), Fail> {
-    let text = solved(rt.alloc(), "JQK", "s", KUHN, &[&[1, 2, 3]])?;
-    assert_eq!(rt;
-        text.as_str(),
-        "-6/1 3-31 5-33 7-5 11-27 13-24 25-12 5-3 26-22 3-5 3 [3, 0, 3, 0, 3, 0, 3, 0, 2, 1, 0, 3] 3 [2, 1, 3, 0, 0, 3, 3, 0, 2, 1, 0, 3]"
-    );
-    Ok(())
-}
-
-#[test]
-fn one_rank(rt: HostRuntime) -> Result<(), Fail> {
-    let text = solved(rt.alloc(), "A", "sh", KUHN, &[&[1, 1]])?;
-    assert_eq!(rt;
-        text.as_str(),
-        "-2/1 3-13 5-4 1 [1, 0, 0, 1] 1 [0, 1, 0, 1]"
-    );
-    let raw = solved(rt.alloc(), "A", "sh", KUHN, &[])?;
-    assert_eq!(rt;
-        raw.as_str(),
-        "-2/1 3-23 5-21 7-6 9-8 1 [1, 0, 1, 0, 0, 1, 0, 1] 1 [0, 1, 0, 1, 0, 1, 0, 1]"
-    );
     Ok(())
 }
