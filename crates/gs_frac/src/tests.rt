@@ -3,6 +3,37 @@
 use super::*;
 use std::test::Fail;
 
+/// Texts that are no fraction.
+const NO_FRACTIONS: &[&str] = &[
+    "",
+    "1",
+    "/1",
+    "1/",
+    "-/1",
+    "-0/1",
+    "-0/0",
+    "+1/2",
+    " 1/2",
+    "1 /2",
+    "1/2\n",
+    "01/2",
+    "1/02",
+    "00/1",
+    "1/-2",
+    "1/2/3",
+    "\u{661}/2",
+];
+
+/// Texts with a number that is too wide.
+const TOO_WIDE: &[&str] = &[
+    "170141183460469231731687303715884105728/1",
+    "2/170141183460469231731687303715884105728",
+    "100000000000000000000000000000000000000000000000000000000000/0",
+];
+
+/// Fractions that can be reduced, or are over 0.
+const NOT_REDUCED: &[&str] = &["26/24", "-2/4", "0/2", "1/0", "0/0"];
+
 #[test]
 fn worked_values(rt: HostRuntime) -> Result<(), Fail> {
     for text in [
@@ -19,43 +50,14 @@ fn worked_values(rt: HostRuntime) -> Result<(), Fail> {
             text
         );
     }
-    for (text, fault) in [
-        ("", FracFault::NotFraction),
-        ("1", FracFault::NotFraction),
-        ("/1", FracFault::NotFraction),
-        ("1/", FracFault::NotFraction),
-        ("-/1", FracFault::NotFraction),
-        ("-0/1", FracFault::NotFraction),
-        ("-0/0", FracFault::NotFraction),
-        ("+1/2", FracFault::NotFraction),
-        (" 1/2", FracFault::NotFraction),
-        ("1 /2", FracFault::NotFraction),
-        ("1/2\n", FracFault::NotFraction),
-        ("01/2", FracFault::NotFraction),
-        ("1/02", FracFault::NotFraction),
-        ("00/1", FracFault::NotFraction),
-        ("1/-2", FracFault::NotFraction),
-        ("1/2/3", FracFault::NotFraction),
-        ("\u{661}/2", FracFault::NotFraction),
-        (
-            "170141183460469231731687303715884105728/1",
-            FracFault::TooWide,
-        ),
-        (
-            "2/170141183460469231731687303715884105728",
-            FracFault::TooWide,
-        ),
-        (
-            "100000000000000000000000000000000000000000000000000000000000/0",
-            FracFault::TooWide,
-        ),
-        ("26/24", FracFault::NotReduced),
-        ("-2/4", FracFault::NotReduced),
-        ("0/2", FracFault::NotReduced),
-        ("1/0", FracFault::NotReduced),
-        ("0/0", FracFault::NotReduced),
+    for (fault, texts) in [
+        (FracFault::NotFraction, NO_FRACTIONS),
+        (FracFault::TooWide, TOO_WIDE),
+        (FracFault::NotReduced, NOT_REDUCED),
     ] {
-        assert_eq!(rt; Fraction::parse(text), Err(fault), "at {text:?}");
+        for text in texts {
+            assert_eq!(rt; Fraction::parse(text), Err(fault), "at {text:?}");
+        }
     }
     assert_eq!(rt; Fraction::new(26, 24), Fraction::parse("13/12")?);
     assert_eq!(rt; Fraction::new(-26, 24), Fraction::parse("-13/12")?);
