@@ -206,36 +206,74 @@ fn meets(alloc: Global, p: &Program, opening: &[(u32, u32)]) -> Result<bool, All
 
 mod cases;
 
-use cases::{CASES, KUHN, KUHN_PATH, KUHN_TRACE, TRACES};
+use cases::{CASES, KUHN, KUHN_END, KUHN_PATH, TRACES};
 
-/// A program row by row, its opening and what `run` answers, as text.
-struct Case {
-    name: &'static str,
-    free: &'static [u32],
-    numbers: &'static [i64],
-    aim: &'static [i64],
-    opening: &'static [(u32, u32)],
-    limit: u32,
-    answer: &'static str,
+/// A program and its opening.
+struct Opened {
+    program: Program,
+    opening: Vec<(u32, u32)>,
 }
 
-fn program(alloc: Global, case: &Case) -> Result<Program, AllocError> {
-    let mut free = Vec::new(alloc);
-    for column in 0..case.aim.len() {
-        free.push(case.free.iter().any(|f| *f as usize == column + 1))?;
+// The numbers of a text with a space between two.
+fn numbers_in(alloc: Global, text: &str) -> Result<Vec<i64>, AllocError> {
+    let mut all = Vec::new(alloc);
+    for word in text.split(' ') {
+        if let Ok(number) = word.parse::<i64>() {
+            all.push(number)?;
+        }
+    }
+    Ok(all)
+}
+
+// The pairs of a text, one number after the other.
+fn pairs_in(alloc: Global, text: &str) -> Result<Vec<(u32, u32)>, Fail> {
+    let mut pairs = Vec::new(alloc);
+    for pair in numbers_in(alloc, text)?.chunks_exact(2) {
+        if let [row, column] = pair {
+            pairs.push((u32::try_from(*row)?, u32::try_from(*column)?))?;
+        }
+    }
+    Ok(pairs)
+}
+
+// The program of its free columns, its numbers row by row and its aim.
+fn program_of(
+    alloc: Global,
+    free: &[i64],
+    all: &[i64],
+    aim: Vec<i64>,
+) -> Result<Program, AllocError> {
+    let mut frees = Vec::new(alloc);
+    for column in 0..aim.len() {
+        frees.push(free.iter().any(|f| usize::try_from(*f) == Ok(column + 1)))?;
     }
     let mut numbers = Vec::new(alloc);
-    for row in case.numbers.chunks_exact(case.aim.len().saturating_add(1)) {
+    for row in all.chunks_exact(aim.len().saturating_add(1)) {
         numbers.push(Vec::from_slice(alloc, row)?)?;
     }
     let rows = u32::try_from(numbers.len()).unwrap_or(0);
-    let cols = u32::try_from(case.aim.len()).unwrap_or(0);
+    let cols = u32::try_from(aim.len()).unwrap_or(0);
     Ok(Program {
         rows,
         cols,
-        free,
+        free: frees,
         numbers,
-        aim: Vec::from_slice(alloc, case.aim)?,
+        aim,
+    })
+}
+
+// The program and the opening of a text.
+fn read_opened(alloc: Global, text: &str) -> Result<Opened, Fail> {
+    let parts: Vec<&str> = text.split('|').collect(alloc)?;
+    if parts.len() != 4 {
+        return Err("a program of other parts".into());
+    }
+    let free = numbers_in(alloc, parts[0])?;
+    let numbers = numbers_in(alloc, parts[1])?;
+    let aim = numbers_in(alloc, parts[2])?;
+    Ok(Opened {
+        program: program_of(alloc, &free, &numbers, aim)?,
+        opening: pairs_in(alloc, parts[3])?,
     })
 }
 
@@ -271,23 +309,22 @@ fn text_of(alloc: Global, answer: &Result<Best, Stop>) -> Result<String, AllocEr
     Ok(text)
 }
 
-#[test]
-fn programs_with_known_paths(rt: HostRuntime) -> Result<(), Fail> {
-    let alloc = rt.alloc();
-    for case in &CASES {
-        let p = program(alloc, case)?;
-        assert!(rt; is_small(&p));
-        let ok = meets(alloc, &p, case.opening)?;
-        assert!(rt; ok, "{}", case.name);
-        assert!(rt; case.limit < 100_000);
-        let text = text_of(alloc, &run(alloc, &p, case.opening, case.limit))?;
-        assert_eq!(rt; text.as_str(), case.answer, "{}", case.name);
-        if let Err(stop) = trace(alloc, &p, case.opening, case.limit) {
-            let text = format!(in alloc; "{stop:?}")?;
-            assert_eq!(rt; text.as_str(), case.answer, "{}", case.name);
+// What is said of a program with an opening from which `run` may not be called.
+const NO_OPENING: &str = "no opening";
+
+// What `run` answers.
+fn answer(
+    alloc: Global,
+    p: &Program,
+    opening: &[(u32, u32)],
+    limit: u32,
+) -> Result<String, AllocError> {
+    if is_small(p) && limit < 100_000 {
+        if meets(alloc, p, opening)? {
+            return text_of(alloc, &run(alloc, p, opening, limit));
         }
     }
-    Ok(())
+    String::from_str(alloc, NO_OPENING)
 }
 
 // A path as text: the aim's value, the pivots, the bases, and the aim's value at the end.
@@ -312,42 +349,45 @@ fn path_text(alloc: Global, p: &PathTrace) -> Result<String, AllocError> {
     Ok(text)
 }
 
-#[test]
-fn paths_that_are_shown(rt: HostRuntime) -> Result<(), Fail> {
-    let alloc = rt.alloc();
-    for case in &TRACES {
-        let p = program(alloc, case)?;
-        assert!(rt; is_small(&p));
-        let ok = meets(alloc, &p, case.opening)?;
-        assert!(rt; ok, "{}", case.name);
-        assert!(rt; case.limit < 100_000);
-        match trace(alloc, &p, case.opening, case.limit) {
-            Ok(path) => {
-                let text = path_text(alloc, &path)?;
-                assert_eq!(rt; text.as_str(), case.answer, "{}", case.name);
-            }
-            Err(stop) => panic!(rt; "{stop:?}"),
+// What `trace` answers, and whether it is a path.
+fn shown(
+    alloc: Global,
+    p: &Program,
+    opening: &[(u32, u32)],
+    limit: u32,
+) -> Result<(bool, String), AllocError> {
+    if is_small(p) && limit < 100_000 {
+        if meets(alloc, p, opening)? {
+            return match trace(alloc, p, opening, limit) {
+                Ok(path) => Ok((true, path_text(alloc, &path)?)),
+                Err(stop) => Ok((false, format!(in alloc; "{stop:?}")?)),
+            };
         }
+    }
+    Ok((false, String::from_str(alloc, NO_OPENING)?))
+}
+
+#[test]
+fn programs_with_known_paths(rt: HostRuntime) -> Result<(), Fail> {
+    let alloc = rt.alloc();
+    for (name, text, limit, want) in CASES {
+        let Opened { program, opening } = read_opened(alloc, text)?;
+        let found = answer(alloc, &program, &opening, limit)?;
+        assert_eq!(rt; found.as_str(), want, "{name}");
+        let (is_path, path) = shown(alloc, &program, &opening, limit)?;
+        assert!(rt; is_path || path.as_str() == want, "{name}");
     }
     Ok(())
 }
 
 #[test]
-fn the_path_of_kuhns_game_shown(rt: HostRuntime) -> Result<(), Fail> {
+fn paths_that_are_shown(rt: HostRuntime) -> Result<(), Fail> {
     let alloc = rt.alloc();
-    let p = program(alloc, &KUHN)?;
-    assert!(rt; is_small(&p));
-    let ok = meets(alloc, &p, KUHN.opening)?;
-    assert!(rt; ok);
-    match trace(alloc, &p, KUHN.opening, 9) {
-        Ok(path) => {
-            let text = path_text(alloc, &path)?;
-            assert_eq!(rt; text.as_str(), KUHN_TRACE);
-        }
-        Err(stop) => panic!(rt; "{stop:?}"),
+    for (name, text, limit, want) in TRACES {
+        let Opened { program, opening } = read_opened(alloc, text)?;
+        let (_, path) = shown(alloc, &program, &opening, limit)?;
+        assert_eq!(rt; path.as_str(), want, "{name}");
     }
-    let short = trace(alloc, &p, KUHN.opening, 8);
-    assert!(rt; matches!(short, Err(Stop::Pivots)));
     Ok(())
 }
 
@@ -367,22 +407,23 @@ static IN_TURN: [u32; 6] = [0, 1, 2, 3, 4, 5];
 #[test]
 fn the_path_of_kuhns_game(rt: HostRuntime) -> Result<(), Fail> {
     let alloc = rt.alloc();
-    let p = program(alloc, &KUHN)?;
-    assert!(rt; is_small(&p));
-    let mut basis = Vec::from_slice(alloc, KUHN.opening)?;
+    let Opened {
+        program,
+        opening: mut basis,
+    } = read_opened(alloc, KUHN)?;
     for made in 0..10u32 {
-        let ok = meets(alloc, &p, &basis)?;
-        assert_eq!(rt; ok, IN_TURN.contains(&made), "after {made} pivots");
-        if ok {
-            let text = text_of(alloc, &run(alloc, &p, &basis, 9 - made))?;
+        let text = answer(alloc, &program, &basis, 9 - made)?;
+        if !IN_TURN.contains(&made) {
+            assert_eq!(rt; text.as_str(), NO_OPENING, "after {made} pivots");
+        } else {
             assert_eq!(rt;
                 text.as_str().split_once(' ').map(|t| t.1),
-                KUHN.answer.split_once(' ').map(|t| t.1),
+                KUHN_END.split_once(' ').map(|t| t.1),
                 "after {made} pivots"
             );
             if made < 9 {
-                let short = run(alloc, &p, &basis, 8 - made);
-                assert!(rt; matches!(short, Err(Stop::Pivots)), "after {made} pivots");
+                let short = answer(alloc, &program, &basis, 8 - made)?;
+                assert_eq!(rt; short.as_str(), "Pivots", "after {made} pivots");
             }
         }
         if let Some((entering, leaving)) = KUHN_PATH.get(made as usize) {
@@ -455,12 +496,8 @@ mod leduc;
 #[test]
 fn leducs_program(rt: HostRuntime) -> Result<(), Fail> {
     let alloc = rt.alloc();
-    let p = leduc::program(alloc)?;
-    let opening = leduc::opening(alloc)?;
-    assert!(rt; is_small(&p));
-    let ok = meets(alloc, &p, &opening)?;
-    assert!(rt; ok);
-    let text = text_of(alloc, &run(alloc, &p, &opening, 8192))?;
+    let opening = pairs_in(alloc, leduc::OPENING)?;
+    let text = answer(alloc, &leduc::program(alloc)?, &opening, 8192)?;
     assert_eq!(rt;
         text.as_str(),
         "Wide { step: 1686, row: 50, col: 15, number: -4838826802217196096 }"
