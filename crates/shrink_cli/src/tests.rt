@@ -16,6 +16,9 @@ mod strategies;
 /// Pieces of 7 bytes, for all three ends.
 const SEVENS: (u32, u32, u32) = (7, 7, 7);
 
+/// No call fails.
+const NONE: (u32, u32, u32) = (0, 0, 0);
+
 /// Kuhn's game: three ranks and one suit. A tilde stands for the end of a line, here and below.
 const KUHN: &str =
     "version = 1~ranks = \"JQK\"~suits = \"s\"~ranking = \"high\"~ante = 1~~[[round]]~private = 1~public = 0~bet = 1~cap = 1~";
@@ -126,18 +129,19 @@ struct Outcome {
 /// for none, and the most bytes that a call of each gives or takes.
 fn run_over(
     alloc: Global,
-    words: &[String],
+    words: &str,
     input: &[u8],
     fails: (u32, u32, u32),
     pieces: (u32, u32, u32),
 ) -> Result<Outcome, AllocError>
     requires { (1 ≤ pieces.0) × (1 ≤ pieces.1) × (1 ≤ pieces.2) }
 {
+    let words = words_in(alloc, words)?;
     let bytes = Vec::from_slice(alloc, input)?;
     let mut source = MemSource::new(bytes, pieces.0, Vec::from_slice(alloc, &[fails.0])?);
     let mut out = MemSink::new(alloc, 10_000, pieces.1, Vec::from_slice(alloc, &[fails.1])?)?;
     let mut err = MemSink::new(alloc, 1000, pieces.2, Vec::from_slice(alloc, &[fails.2])?)?;
-    let status = run(alloc, words, &mut source, &mut out, &mut err);
+    let status = run(alloc, &words, &mut source, &mut out, &mut err);
     Ok(Outcome { status, out, err })
 }
 
@@ -150,18 +154,15 @@ fn text_of(alloc: Global, row: &str) -> Result<String, AllocError> {
     Ok(text)
 }
 
-/// Kuhn's file with one text in place of another, or the whole file where the first is `-`.
-fn input_of(alloc: Global, old: &str, new: &str) -> Result<String, AllocError> {
-    let mut row = String::new(alloc);
-    match KUHN.split_once(old) {
+/// A file with one text in place of another, where it stands first; or the whole file where the first text is `-`.
+fn changed(alloc: Global, file: &str, old: &str, new: &str) -> Result<String, AllocError> {
+    match file.split_once(old) {
         Some((before, after)) if old != "-" => {
-            row.push_str(before)?;
-            row.push_str(new)?;
-            row.push_str(after)?;
+            let row = format!(in alloc; "{before}{new}{after}")?;
+            text_of(alloc, row.as_str())
         }
-        _ => row.push_str(new)?,
+        _ => text_of(alloc, new),
     }
-    text_of(alloc, row.as_str())
 }
 
 fn words_in(alloc: Global, row: &str) -> Result<Vec<String>, AllocError> {
@@ -181,48 +182,43 @@ fn numbers_in(alloc: Global, row: &str) -> Result<Vec<u32>, AllocError> {
     Ok(numbers)
 }
 
-#[test]
-fn each_status_with_its_texts(rt: HostRuntime) -> Result<(), Fail> {
-    let alloc = rt.alloc();
-    for row in RUNS.lines() {
-        let mut parts = row.split('|');
-        let words = words_in(alloc, parts.next().ok_or("words")?)?;
-        let old = parts.next().ok_or("old")?;
-        let input = input_of(alloc, old, parts.next().ok_or("new")?)?;
-        let numbers = numbers_in(alloc, parts.next().ok_or("numbers")?)?;
-        assert_eq!(rt; numbers.len(), 4, "{row}");
-        assert!(rt; 1 <= numbers[1], "{row}");
-        let fails = (numbers[0], numbers[2], numbers[3]);
-        let end = run_over(alloc, &words, input.as_bytes(), fails, (16, numbers[1], 9))?;
-        let code = parts.next().ok_or("code")?.parse::<u8>()?;
-        let out = text_of(alloc, parts.next().ok_or("out")?)?;
-        let err = text_of(alloc, parts.next().ok_or("err")?)?;
-        assert_eq!(rt; end.status.code(), code, "{row}");
-        assert_eq!(rt; end.out.given(), out.as_bytes(), "{row}");
-        assert_eq!(rt; end.err.given(), err.as_bytes(), "{row}");
+/// What a run says: its code, what went out and what was told, with `|` between two.
+fn said(alloc: Global, end: &Outcome) -> Result<Vec<u8>, AllocError> {
+    let code = format!(in alloc; "{}|", end.status.code())?;
+    let mut text = Vec::from_slice(alloc, code.as_bytes())?;
+    text.extend_from_slice(end.out.given())?;
+    text.push(b'|')?;
+    text.extend_from_slice(end.err.given())?;
+    Ok(text)
+}
+
+/// What the run of a row says, and what it is to say.
+fn answer(alloc: Global, row: &str) -> Result<(Vec<u8>, String), Fail> {
+    let parts: Vec<&str> = row.splitn(5, '|').collect(alloc)?;
+    if parts.len() != 5 {
+        return Err("a row of other parts".into());
     }
-    Ok(())
+    let numbers = numbers_in(alloc, parts[3])?;
+    if numbers.len() != 4 || numbers[1] < 1 {
+        return Err("a row of other numbers".into());
+    }
+    let input = changed(alloc, KUHN, parts[1], parts[2])?;
+    let fails = (numbers[0], numbers[2], numbers[3]);
+    let end = run_over(
+        alloc,
+        parts[0],
+        input.as_bytes(),
+        fails,
+        (16, numbers[1], 9),
+    )?;
+    Ok((said(alloc, &end)?, text_of(alloc, parts[4])?))
 }
 
 #[test]
-fn each_command_over_strategies(rt: HostRuntime) -> Result<(), Fail> {
-    let alloc = rt.alloc();
-    for row in STRATEGY_RUNS.lines() {
-        let mut parts = row.split('|');
-        let words = words_in(alloc, parts.next().ok_or("words")?)?;
-        let old = parts.next().ok_or("old")?;
-        let input = input_of(alloc, old, parts.next().ok_or("new")?)?;
-        let numbers = numbers_in(alloc, parts.next().ok_or("numbers")?)?;
-        assert_eq!(rt; numbers.len(), 4, "{row}");
-        assert!(rt; 1 <= numbers[1], "{row}");
-        let fails = (numbers[0], numbers[2], numbers[3]);
-        let end = run_over(alloc, &words, input.as_bytes(), fails, (16, numbers[1], 9))?;
-        let code = parts.next().ok_or("code")?.parse::<u8>()?;
-        let out = text_of(alloc, parts.next().ok_or("out")?)?;
-        let err = text_of(alloc, parts.next().ok_or("err")?)?;
-        assert_eq!(rt; end.status.code(), code, "{row}");
-        assert_eq!(rt; end.out.given(), out.as_bytes(), "{row}");
-        assert_eq!(rt; end.err.given(), err.as_bytes(), "{row}");
+fn each_status_with_its_texts(rt: HostRuntime) -> Result<(), Fail> {
+    for row in RUNS.lines().chain(STRATEGY_RUNS.lines()) {
+        let (text, wanted) = answer(rt.alloc(), row)?;
+        assert_eq!(rt; text.as_slice(), wanted.as_bytes(), "{row}");
     }
     Ok(())
 }
@@ -230,58 +226,47 @@ fn each_command_over_strategies(rt: HostRuntime) -> Result<(), Fail> {
 #[test]
 fn a_file_that_is_cut_or_marked_is_no_game(rt: HostRuntime) -> Result<(), Fail> {
     let alloc = rt.alloc();
-    let words = words_in(alloc, "shrink")?;
     let file = text_of(alloc, KUHN)?;
     // the last byte ends the last line, which means the same without it
     for length in 0..file.len().saturating_sub(1) {
         let end = run_over(
             alloc,
-            &words,
+            "shrink",
             &file.as_bytes()[..length],
-            (0, 0, 0),
+            NONE,
             (16, 9, 9),
         )?;
-        assert_eq!(rt; end.status, Status::BadGame, "{length}");
-        assert!(rt; end.out.given().is_empty(), "{length}");
+        assert!(rt; said(alloc, &end)?.starts_with(b"7||"), "{length}");
     }
     // a byte that begins no letter behind the file
     let mut marked = Vec::from_slice(alloc, file.as_bytes())?;
     marked.push(0xff)?;
-    let end = run_over(alloc, &words, &marked, (0, 0, 0), (16, 9, 9))?;
-    assert_eq!(rt; end.status, Status::BadGame);
-    assert!(rt; end.out.given().is_empty());
-    assert_eq!(rt; end.err.given(), b"bad game: not UTF-8\n".as_slice());
+    let end = run_over(alloc, "shrink", &marked, NONE, (16, 9, 9))?;
+    assert_eq!(rt;
+        said(alloc, &end)?.as_slice(),
+        b"7||bad game: not UTF-8\n".as_slice()
+    );
     Ok(())
 }
+
+/// A comment of the longest length, one of one byte more, and a byte that begins no letter; and what is said of each.
+const LONG: [(usize, u8, &str); 3] = [
+    (16_777_216, b'#', "7||bad game: missing key version\n"),
+    (16_777_217, b'#', "6||input longer than 16777216 bytes\n"),
+    (1, 0xff, "7||bad game: not UTF-8\n"),
+];
 
 #[test]
 fn long_inputs_and_bytes_that_are_no_text(rt: HostRuntime) -> Result<(), Fail> {
     let alloc = rt.alloc();
     let words = words_in(alloc, "shrink")?;
-    // a comment of the longest length, one of one byte more, and a byte that begins no letter
-    let rows = [
-        (
-            16_777_216,
-            b'#',
-            Status::BadGame,
-            "bad game: missing key version\n",
-        ),
-        (
-            16_777_217,
-            b'#',
-            Status::TooLong,
-            "input longer than 16777216 bytes\n",
-        ),
-        (1, 0xff, Status::BadGame, "bad game: not UTF-8\n"),
-    ];
-    for (length, byte, status, line) in rows {
+    for (length, byte, wanted) in LONG {
         let mut source = SureSource::new(vec![in alloc; byte; length]?);
         let mut out = MemSink::new(alloc, 9, 9, Vec::new(alloc))?;
         let mut err = MemSink::new(alloc, 99, 9, Vec::new(alloc))?;
-        let end = run(alloc, &words, &mut source, &mut out, &mut err);
-        assert_eq!(rt; end, status, "{length}");
-        assert_eq!(rt; out.given(), b"".as_slice(), "{length}");
-        assert_eq!(rt; err.given(), line.as_bytes(), "{length}");
+        let status = run(alloc, &words, &mut source, &mut out, &mut err);
+        let text = said(alloc, &Outcome { status, out, err })?;
+        assert_eq!(rt; text.as_slice(), wanted.as_bytes(), "{length}");
     }
     Ok(())
 }

@@ -1,7 +1,7 @@
 //! Strategy files and certificates that break one rule each, through the whole program: each refusal once, by its whole line. The expected lines are
 //! those of an implementation that was written from the rules alone.
 
-use super::{SEVENS, run_over, text_of, words_in};
+use super::{NONE, SEVENS, changed, run_over, text_of};
 use std::alloc::{AllocError, Global};
 use std::test::Fail;
 
@@ -101,38 +101,38 @@ const DUELS: &str = "\
 ";
 
 /// What a run over memory writes, to one of its ends.
-fn said(alloc: Global, words: &str, input: &[u8]) -> Result<Vec<u8>, AllocError> {
-    let words = words_in(alloc, words)?;
-    let end = run_over(alloc, &words, input, (0, 0, 0), SEVENS)?;
+fn written(alloc: Global, words: &str, input: &[u8]) -> Result<Vec<u8>, AllocError> {
+    let end = run_over(alloc, words, input, NONE, SEVENS)?;
     let mut text = Vec::from_slice(alloc, end.out.given())?;
     text.extend_from_slice(end.err.given())?;
     Ok(text)
 }
 
-/// A file with one text in place of another, where it stands first; or the whole file where the first text is `-`.
-fn changed(alloc: Global, file: &str, old: &str, new: &str) -> Result<String, AllocError> {
-    let mut row = String::new(alloc);
-    match file.split_once(old) {
-        Some((before, after)) if old != "-" => {
-            row.push_str(before)?;
-            row.push_str(new)?;
-            row.push_str(after)?;
+/// What a command says of the changed files of a row, one behind the other, and what it is to say.
+fn refusal(alloc: Global, words: &str, file: &str, row: &str) -> Result<(Vec<u8>, String), Fail> {
+    let (changes, line) = row.rsplit_once('|').ok_or("line")?;
+    let parts: Vec<&str> = changes.split('|').collect(alloc)?;
+    let mut input = String::new(alloc);
+    for change in parts.chunks_exact(2) {
+        if let [old, new] = change {
+            input.push_str(changed(alloc, file, old, new)?.as_str())?;
         }
-        _ => row.push_str(new)?,
     }
-    text_of(alloc, row.as_str())
+    let text = written(alloc, words, input.as_bytes())?;
+    Ok((text, text_of(alloc, line)?))
 }
 
 #[test]
-fn each_refusal_of_a_strategy_file(rt: HostRuntime) -> Result<(), Fail> {
-    let alloc = rt.alloc();
-    for row in STRATEGIES.lines() {
-        let mut parts = row.split('|');
-        let old = parts.next().ok_or("old")?;
-        let file = changed(alloc, KUHN, old, parts.next().ok_or("new")?)?;
-        let line = text_of(alloc, parts.next().ok_or("line")?)?;
-        let told = said(alloc, "evaluate", file.as_bytes())?;
-        assert_eq!(rt; told.as_slice(), line.as_bytes(), "{row}");
+fn each_refusal_by_its_line(rt: HostRuntime) -> Result<(), Fail> {
+    for (words, file, rows) in [
+        ("evaluate", KUHN, STRATEGIES),
+        ("verify", CERTIFIED, CERTIFICATES),
+        ("duel", KUHN, DUELS),
+    ] {
+        for row in rows.lines() {
+            let (text, wanted) = refusal(rt.alloc(), words, file, row)?;
+            assert_eq!(rt; text.as_slice(), wanted.as_bytes(), "{row}");
+        }
     }
     Ok(())
 }
@@ -141,44 +141,13 @@ fn each_refusal_of_a_strategy_file(rt: HostRuntime) -> Result<(), Fail> {
 fn bytes_that_are_no_json(rt: HostRuntime) -> Result<(), Fail> {
     let alloc = rt.alloc();
     let deep = vec![in alloc; b'['; 200]?;
-    let brackets = said(alloc, "evaluate", &deep)?;
-    assert_eq!(rt; brackets.as_slice(), b"bad strategy: not JSON\n".as_slice());
     // a byte that begins no letter behind the file
     let file = text_of(alloc, KUHN)?;
     let mut marked = Vec::from_slice(alloc, file.as_bytes())?;
     marked.push(0xff)?;
-    let behind = said(alloc, "evaluate", &marked)?;
-    assert_eq!(rt; behind.as_slice(), b"bad strategy: not JSON\n".as_slice());
-    Ok(())
-}
-
-#[test]
-fn each_refusal_of_a_certificate(rt: HostRuntime) -> Result<(), Fail> {
-    let alloc = rt.alloc();
-    for row in CERTIFICATES.lines() {
-        let mut parts = row.split('|');
-        let old = parts.next().ok_or("old")?;
-        let lines = changed(alloc, CERTIFIED, old, parts.next().ok_or("new")?)?;
-        let line = text_of(alloc, parts.next().ok_or("line")?)?;
-        let told = said(alloc, "verify", lines.as_bytes())?;
-        assert_eq!(rt; told.as_slice(), line.as_bytes(), "{row}");
-    }
-    Ok(())
-}
-
-#[test]
-fn the_first_file_of_a_duel_is_refused_first(rt: HostRuntime) -> Result<(), Fail> {
-    let alloc = rt.alloc();
-    for row in DUELS.lines() {
-        let mut parts = row.split('|');
-        let old = parts.next().ok_or("old")?;
-        let mut files = changed(alloc, KUHN, old, parts.next().ok_or("new")?)?;
-        let old = parts.next().ok_or("second old")?;
-        let second = changed(alloc, KUHN, old, parts.next().ok_or("second new")?)?;
-        files.push_str(second.as_str())?;
-        let line = text_of(alloc, parts.next().ok_or("line")?)?;
-        let told = said(alloc, "duel", files.as_bytes())?;
-        assert_eq!(rt; told.as_slice(), line.as_bytes(), "{row}");
+    for bytes in [deep.as_slice(), marked.as_slice()] {
+        let text = written(alloc, "evaluate", bytes)?;
+        assert_eq!(rt; text.as_slice(), b"bad strategy: not JSON\n".as_slice());
     }
     Ok(())
 }
