@@ -1,12 +1,12 @@
 -- The first class of a point whose number is less than what a move is worth.
-use Rattle.std.proofs.Common.{◌≡◌, ◌≢◌, ℕ, ◌+◌, ◌<◌, ◌≤◌, sym, subst, arith, ⊎_elim}
+use Rattle.std.proofs.Common.{◌≡◌, ◌≢◌, ℕ, ◌+◌, ◌<◌, ◌≤◌, Bool, true, false, sym, subst, arith, ⊎_elim}
 use Rattle.std.specs.Prelude.{◌≤ℤ◌, ◌<ℤ◌}
 use Rattle.std.proofs.lemmas.Bool.{cases_eq}
 use Rattle.gs_model.specs.BestAnswers.{Values, class_worth}
 use Rattle.gs_model.specs.Classes.{ClassLists, IsClass, class_count}
 use Rattle.gs_model.specs.Frame.{Frame, leads_to, move_count, player_at, round_of}
 use Rattle.gs_model.specs.Positions.{Target, at_point}
-use Rattle.gs_certificate.specs.Numbers.{AreHighAt, IsFirstLowAt}
+use Rattle.gs_certificate.specs.Numbers.{AreHighAt, IsFirstLowAt, Tells}
 use Rattle.gs_certificate.specs.Spots.{IsFirstBelow}
 use Rattle.gs_certificate.specs.Worths.{target_worth}
 
@@ -15,14 +15,18 @@ module _ (f : Frame) (lists : ClassLists) (v : Values) (q : ℕ) where
   abbrev pub AreAbove : Target → ℕ → Type 0
   AreAbove t n = (c : ℕ) → IsClass lists (round_of f (at_point q)) c → c ≤ n → target_worth f lists v q t c ≤ℤ v (at_point q) c
 
-  pub one_above : (t : Target) (n : ℕ) → AreAbove t n → target_worth f lists v q t (n + 1) ≤ℤ v (at_point q) (n + 1) → AreAbove t (n + 1)
-  one_above t n h here c lc le = ⊎_elim
-      (λ (same : c ≡ n + 1). subst (λ k. target_worth f lists v q t k ≤ℤ v (at_point q) k) (sym same) here)
+  -- the answer of a test of the next class
+  abbrev IsTold : Target → ℕ → Bool → Type 0
+  IsTold t n says = Tells says (v (at_point q) (n + 1) <ℤ target_worth f lists v q t (n + 1)) (target_worth f lists v q t (n + 1) ≤ℤ v (at_point q) (n + 1))
+
+  pub one_above : (t : Target) (n : ℕ) {says : Bool} → AreAbove t n → says ≡ false → IsTold t n says → AreAbove t (n + 1)
+  one_above t n h e told c lc le = ⊎_elim
+      (λ (same : c ≡ n + 1). subst (λ k. target_worth f lists v q t k ≤ℤ v (at_point q) k) (sym same) (subst (IsTold t n) e told))
       (λ (other : c ≢ n + 1). h c lc (omega arith))
       (cases_eq c (n + 1))
 
-  pub found_below : (t : Target) (n count : ℕ) → n < count → AreAbove t n → v (at_point q) (n + 1) <ℤ target_worth f lists v q t (n + 1) → IsFirstBelow f lists v q t count n
-  found_below t n count l h low = record { within = omega arith; before = h; below = λ lt. low }
+  pub found_below : (t : Target) (n count : ℕ) {says : Bool} → n < count → AreAbove t n → says ≡ true → IsTold t n says → IsFirstBelow f lists v q t count n
+  found_below t n count l h e told = record { within = omega arith; before = h; below = λ lt. subst (IsTold t n) e told }
 
   pub none_below : (t : Target) (n count : ℕ) → n ≡ count → AreAbove t n → IsFirstBelow f lists v q t count count
   none_below t n count e h = record { within = omega arith; before = subst (AreAbove t) e h; below = λ lt. absurd (omega arith) }

@@ -1,16 +1,20 @@
 -- What ends pay, kept end by end.
-use Rattle.std.proofs.Common.{◌≡◌, ◌≢◌, ℕ, ◌+◌, ◌-◌, ◌<◌, ◌≤◌, List, [], ◌∷◌, ◌++◌, length, get_or, sym, ap, subst, ◌∙◌, arith, ⊎_elim}
+use Rattle.std.proofs.Common.{◌≡◌, ◌≢◌, ℕ, ◌+◌, ◌-◌, ◌<◌, ◌≤◌, List, [], ◌∷◌, ◌++◌, length, get_or, refl, sym, ap, subst, ◌∙◌, arith, ⊎_elim}
 use Rattle.std.specs.Prelude.{ℤ, pos}
 use Rattle.std.proofs.lemmas.Bool.{cases_eq}
 use Rattle.std.proofs.lemmas.List.{get_or-append-add, get_or_append_left, get_or_push, length_push}
 use Rattle.std.proofs.Math.ListN.{length-append}
+use Rattle.gs_filter.specs.Filter.{IsSound}
 use Rattle.gs_model.specs.Classes.{ClassLists, IsClass}
 use Rattle.gs_model.specs.Frame.{Frame, round_of}
 use Rattle.gs_model.specs.Plans.{IsClassPlan, Plan}
 use Rattle.gs_model.specs.Positions.{at_end}
 use Rattle.gs_seq.specs.Payoffs.{end_classes, end_sum}
 use Rattle.gs_seq.specs.Plans.{class_plan}
+use Rattle.gs_seq.proofs.Forms.{AreGiven, given}
+use Rattle.gs_best.specs.Forms.{game_in}
 use Rattle.gs_best.specs.declared.deviator.Deviator.{Deviator}
+use Rattle.gs_best.proofs.Forms.{form_classes}
 use Rattle.gs_best.proofs.Sides.{frame, lists}
 use Rattle.gs_certificate.specs.Paid.{AreKept}
 
@@ -49,3 +53,7 @@ pub other_plan : (d : Deviator) → d.player ≡ 1 → IsClassPlan (frame d) (li
 other_plan d e =
     let two : 3 - d.player ≡ 2 = omega (arith, e) in
     subst (λ p. IsClassPlan (frame d) (lists d) p (class_plan (frame d) (lists d) d.other.now)) two d.plan.plan.plan
+
+-- what the laws ask of the game and its classes
+pub side_given : (d : Deviator) → IsSound d.form.now.lossless.now.classes.now → AreGiven (frame d) (lists d)
+side_given d sound = given (game_in d.form.now) (frame d) (lists d) refl (form_classes d.form.now sound)

@@ -1,69 +1,28 @@
 -- The text of a certificate, part by part: plain texts stand as they are between their quotes.
-use Rattle.std.proofs.Common.{◌≡◌, ◌≢◌, ℕ, zero, suc, ◌+◌, ◌-◌, ◌*◌, ◌<◌, ◌≤◌, ◌^◌, ◌&&◌, ◌==◌, Bool, true, false, List, [], ◌∷◌, ◌++◌, map, length, get_or, take, drop, All, IsTrue, ℤ, pos, negsuc, decimal, Some, inl, inr, refl, sym, ap, ap₂, ◌∙◌, subst, append_assoc, arith}
-use Rattle.std.specs.Prelude.{codes, nat_lt, unsigned_abs}
+use Rattle.std.proofs.Common.{◌≡◌, ◌≢◌, ℕ, zero, suc, ◌+◌, ◌-◌, ◌*◌, ◌<◌, ◌≤◌, ◌^◌, ◌&&◌, ◌==◌, Bool, true, false, List, [], ◌∷◌, ◌++◌, map, length, get_or, take, drop, All, IsTrue, ℤ, decimal, Some, inl, inr, refl, sym, ap, ap₂, ◌∙◌, subst, append_assoc, arith}
+use Rattle.std.specs.Prelude.{codes, unsigned_abs}
 use Rattle.std.specs.Fmt.{signed_decimal}
 use Rattle.std.specs.Char.{digit_value, is_ascii_digit}
 use Rattle.std.specs.Str.{all_ascii_digits}
 use Rattle.std.specs.Str.Parse.{digits_value}
-use Rattle.std.proofs.lemmas.Bool.{and_parts, cases_Bool, le-leb, ne_eqb, le-ltb, lt-ltb, eqb-true, ltb-true, false≢true}
+use Rattle.std.proofs.lemmas.Bool.{and_parts, cases_Bool, le-leb, ne_eqb, le-ltb, lt-ltb, eqb-true, false≢true}
 use Rattle.std.proofs.lemmas.Int.{fits_signed_from_abs, to_z-of_z}
 use mir.Syntax.{w128}
 use mir.Val.{of_z, to_z}
 use Rattle.json.specs.Print.{escape, escape_byte, quoted}
-use Rattle.json.proofs.Printed.Strings.{escape_byte_plain}
 use Rattle.std.proofs.lemmas.Fmt.{decimal_digit}
 use Rattle.std.proofs.lemmas.Int.Digits.{digits_value_more}
 use Rattle.std.proofs.lemmas.List.{get_or-take, length-take-le, take-append-drop, take_more}
 use Rattle.std.proofs.lemmas.List.Elements.{All-head, All-tail}
 use Rattle.serde_json.specs.Written.{comma_if, compact_text, items_text}
 use Rattle.serde_json.specs.View.{items_of}
-use Rattle.gs_frac.specs.Gcd.{gcd_of}
-use Rattle.gs_frac.specs.Texts.{fraction_text, is_fraction, is_numeral, limit, number_of, signed}
-use Rattle.gs_frac.proofs.Numerals.{decimal_of_value, digit_in, digits_of_decimal}
+use Rattle.gs_frac.specs.Texts.{fraction_text, is_fraction, is_numeral, number_of, signed}
+use Rattle.gs_frac.proofs.Numerals.{decimal_of_value}
 use Rattle.gs_certificate.specs.Reading.{number_at}
 use Rattle.gs_certificate.specs.Straight.{AreDigits, StandsFor, opened}
 use Rattle.gs_certificate.specs.Texts.{Side, Stated, certificate_data, certificate_text, number_data, side_data}
+use Rattle.gs_certificate.proofs.Plain.{escaped, fraction_plain, signed_plain}
 use Rattle.gs_certificate.proofs.Small.{by_parts}
-
--- ---- plain bytes: digits, the minus sign, the bar
-
-abbrev Plain : List ℕ → Type 0
-Plain [] = Unit {0}
-Plain (x ∷ xs) = (45 ≤ x) × (x ≤ 57) × Plain xs
-
-escaped : (xs : List ℕ) → Plain xs → escape xs ≡ xs
-escaped [] h = refl
-escaped (x ∷ xs) h =
-    let one : escape_byte x ≡ x ∷ [] = escape_byte_plain x (λ e. omega (arith, h.0, h.1, e)) (λ e. omega (arith, h.0, h.1, e)) (omega (arith, h.0)) in
-    let rest : escape xs ≡ xs = escaped xs h.2 in
-    rw (one, rest) refl
-
-joined : (xs ys : List ℕ) → Plain xs → Plain ys → Plain (xs ++ ys)
-joined [] ys h k = k
-joined (x ∷ xs) ys h k = (h.0, h.1, joined xs ys h.2 k)
-
-from_digits : (xs : List ℕ) → ((i : ℕ) → i < length xs → (48 ≤ get_or xs i 0) × (get_or xs i 0 ≤ 57)) → Plain xs
-from_digits [] h = tt
-from_digits (x ∷ xs) h =
-    let first = h 0 (omega arith) in
-    (omega (arith, first.0), first.1, from_digits xs (λ i l. h (suc i) (omega arith)))
-
-decimal_plain : (n : ℕ) → n < 2 ^ 128 → Plain (decimal n)
-decimal_plain n few = from_digits (decimal n) (λ i l. digit_in (decimal n) i (digits_of_decimal n (omega arith)) l)
-
-signed_plain : (z : ℤ) → unsigned_abs z < 2 ^ 127 → Plain (signed_decimal z)
-signed_plain (pos n) h = decimal_plain n (omega arith)
-signed_plain (negsuc n) h = (omega arith, omega arith, decimal_plain (suc n) (omega arith))
-
-fraction_plain : (num den : ℤ) → IsTrue (is_fraction num den) → Plain (fraction_text num den)
-unfolding limit
-fraction_plain num (pos d) h =
-    let a = and_parts (nat_lt 0 d && nat_lt d limit) (nat_lt (unsigned_abs num) limit && gcd_of (unsigned_abs num) d == 1) h in
-    let b = and_parts (nat_lt 0 d) (nat_lt d limit) a.0 in
-    let c = and_parts (nat_lt (unsigned_abs num) limit) (gcd_of (unsigned_abs num) d == 1) a.1 in
-    let low = ltb-true d limit b.1 in
-    joined (signed_decimal num) (47 ∷ decimal d) (signed_plain num (ltb-true (unsigned_abs num) limit c.0)) (omega arith, omega arith, decimal_plain d (omega arith))
-fraction_plain num (negsuc d) h = absurd (false≢true h)
 
 -- ---- one number
 

@@ -1,5 +1,5 @@
 -- A number beside an equal share, and nothing is divided.
-use Rattle.std.proofs.Common.{◌≡◌, ℕ, ◌*◌, ◌<◌, ◌≤◌, ◌^◌, Bool, not, inl, inr, sym, subst, ◌∙◌, arith}
+use Rattle.std.proofs.Common.{◌≡◌, ℕ, ◌*◌, ◌<◌, ◌≤◌, ◌^◌, Bool, true, false, not, inl, inr, sym, subst, ◌∙◌, arith}
 use Rattle.std.specs.Prelude.{ℤ, pos, ◌+ℤ◌, ◌*ℤ◌, ◌≤ℤ◌, ◌<ℤ◌, T}
 use Rattle.std.specs.Int.Signed.{lt_z, lt_z_no, lt_z_yes}
 use Rattle.std.proofs.Math.IntN.{*ℤ_comm}
@@ -25,18 +25,27 @@ not_less n number worth some h = by_lt_z number worth
     omega (arith, ints, m, a, one, h, some)))
     (λ le. le)
 
+-- what a comparison tells, also of other forms of the two numbers
+less_tells : (a b : ℤ) → Tells (lt_z a b) (a <ℤ b) (b ≤ℤ a)
+less_tells a b = elim (cases_Bool (lt_z a b)) [
+  | inl e ↦ subst (λ t. Tells t (a <ℤ b) (b ≤ℤ a)) (sym e) (lt_z_yes (subst T (sym e) tt))
+  | inr e ↦ subst (λ t. Tells t (a <ℤ b) (b ≤ℤ a)) (sym e) (lt_z_no (subst Q (sym e) tt))
+]
+
+tells_so : {A B C D : Type 0} (t : Bool) → (A → B) → (C → D) → Tells t A C → Tells t B D
+tells_so true f g h = f h
+tells_so false f g h = g h
+
+pub tells_same : (t : Bool) (a b x y : ℤ) → a ≡ x → b ≡ y → Tells t (a <ℤ b) (b ≤ℤ a) → Tells t (x <ℤ y) (y ≤ℤ x)
+tells_same t a b x y e h told = subst (λ z. Tells t (x <ℤ z) (z ≤ℤ x)) h (subst (λ z. Tells t (z <ℤ b) (b ≤ℤ z)) e told)
+
+pub compared : (a b x y : ℤ) → a ≡ x → b ≡ y → Tells (lt_z a b) (x <ℤ y) (y ≤ℤ x)
+compared a b x y e h = tells_same (lt_z a b) a b x y e h (less_tells a b)
+
 -- so many times a number beside so many equal shares
 pub share_tells : (n : ℕ) (number worth product together : ℤ) → 0 < n → product ≡ pos n *ℤ number → together ≡ worth *ℤ pos n → Tells (lt_z product together) (number <ℤ worth) (worth ≤ℤ number)
 share_tells n number worth product together some is share =
-    let all : together ≡ pos n *ℤ worth = share ∙ *ℤ_comm worth (pos n) in
-    elim (cases_Bool (lt_z product together)) [
-      | inl e ↦
-          let lt : product <ℤ together = lt_z_yes (subst T (sym e) tt) in
-          subst (λ b. Tells b (number <ℤ worth) (worth ≤ℤ number)) (sym e) (less n number worth (subst (λ z. (pos n *ℤ number) <ℤ z) all (subst (λ z. z <ℤ together) is lt)))
-      | inr e ↦
-          let le : together ≤ℤ product = lt_z_no (subst Q (sym e) tt) in
-          subst (λ b. Tells b (number <ℤ worth) (worth ≤ℤ number)) (sym e) (not_less n number worth some (subst (λ z. z ≤ℤ (pos n *ℤ number)) all (subst (λ z. together ≤ℤ z) is le)))
-    ]
+    tells_so (lt_z product together) (less n number worth) (not_less n number worth some) (compared product together _ _ is (share ∙ *ℤ_comm worth (pos n)))
 
 pub times_small : (n a : ℕ) → n < 2 ^ 32 → a < 2 ^ 90 → n * a < 2 ^ 127
 times_small n a few small = let m = mul-le-mul_right a (let l : n ≤ 2 ^ 32 = omega (arith, few) in l) in omega (arith, m, small)

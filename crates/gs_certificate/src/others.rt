@@ -1,6 +1,6 @@
 //! The points of the other player: a number is to be at least the sum of what all moves are worth.
 
-ghost use Rattle.std.specs.Prelude.{◌≡◌, ◌≢◌, ◌<◌, ◌≤◌, ◌≤ℤ◌, ◌<ℤ◌, IfSome, MatchOption};
+ghost use Rattle.std.specs.Prelude.{◌≡◌, ◌≢◌, IfSome, MatchOption};
 ghost use Rattle.gs_model.specs.BestAnswers.{class_worth};
 ghost use Rattle.gs_model.specs.Classes.{IsClass};
 ghost use Rattle.gs_model.specs.Frame.{choices_at, move_count, player_at};
@@ -8,7 +8,7 @@ ghost use Rattle.gs_model.specs.Sums.{sum_z};
 ghost use Rattle.gs_seq.specs.Abstracts.{frame_of, lists_of};
 ghost use Rattle.gs_seq.specs.Plans.{class_plan, lifted};
 ghost use Rattle.gs_best.specs.Tables.{table_of};
-ghost use Rattle.gs_certificate.specs.Numbers.{AreHighAt, AreNumbers, IsFirstLowAt, IsHighForSum, IsLowForSum, Tells};
+ghost use Rattle.gs_certificate.specs.Numbers.{AreHighAt, AreNumbers, IsFirstLowAt};
 ghost use Rattle.gs_certificate.specs.Paid.{ArePaid};
 ghost use Rattle.gs_certificate.specs.Spots.{AreWays, IsSpot};
 
@@ -44,26 +44,6 @@ fn moves_sum(
     sum
 }
 
-/// Whether the number is at least the sum of the worths.
-fn is_high(
-    side: &Deviator<'_>,
-    values: &[i128],
-    ends: Option<&EndSums>,
-    spot: Spot,
-    ways: &[Way],
-    class: u32,
-) -> bool
-    requires ends { let f = frame_of side.now.form.now in let lists = lists_of side.now.form.now in IfSome ends (λ kept. ArePaid f lists side.now.player (class_plan f lists side.now.other.now) kept.now) }
-    requires numbers { AreNumbers (frame_of side.now.form.now) (lists_of side.now.form.now) values.now }
-    requires spot { IsSpot (frame_of side.now.form.now) (lists_of side.now.form.now) spot }
-    requires ways { AreWays (frame_of side.now.form.now) (lists_of side.now.form.now) spot.point (move_count (frame_of side.now.form.now) spot.point) ways.now }
-    requires class { IsClass (lists_of side.now.form.now) spot.round class }
-    ensures { let f = frame_of side.now.form.now in let lists = lists_of side.now.form.now in let v = table_of f lists side.now.player (lifted f lists side.now.other.now) values.now in
-        Tells result (IsHighForSum f lists v spot.point class) (IsLowForSum f lists v spot.point class) }
-{
-    moves_sum(side, values, ends, spot, ways, class) <= number_at(side, values, spot, class)
-}
-
 /// The first class of a point of the other player where the number is too low.
 pub(crate) fn others_low_at(
     side: &Deviator<'_>,
@@ -81,8 +61,10 @@ pub(crate) fn others_low_at(
     let _rounds = round_total(side.form);
     let ways = ways_at(side, spot);
     for before in 0..class_total(side.form, spot.round) {
-        if !is_high(side, values, ends, spot, &ways, before + 1) {
-            return Some(before + 1);
+        let class = before + 1;
+        let least = moves_sum(side, values, ends, spot, &ways, class);
+        if number_at(side, values, spot, class) < least {
+            return Some(class);
         }
     }
     None

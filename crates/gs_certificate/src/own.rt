@@ -4,86 +4,24 @@ ghost use Rattle.std.specs.Prelude.{◌≡◌, ◌<◌, ◌≤◌, ◌≤ℤ◌,
 ghost use Rattle.gs_game.specs.Seen.{target_of};
 ghost use Rattle.gs_model.specs.BestAnswers.{end_worth};
 ghost use Rattle.gs_model.specs.Classes.{IsClass, class_count, first_member};
-ghost use Rattle.gs_model.specs.Frame.{end_count, last_round, player_at, point_count, round_of};
+ghost use Rattle.gs_model.specs.Frame.{end_count, player_at, round_of};
 ghost use Rattle.gs_model.specs.Positions.{at_end, at_point};
 ghost use Rattle.gs_seq.specs.Abstracts.{frame_of, lists_of};
 ghost use Rattle.gs_seq.specs.Plans.{class_plan, lifted};
-ghost use Rattle.gs_best.specs.Tables.{start_of, table_of};
+ghost use Rattle.gs_best.specs.Tables.{table_of};
 ghost use Rattle.gs_certificate.specs.Numbers.{AreHighAt, AreNumbers, IsFirstLowAt, Tells};
 ghost use Rattle.gs_certificate.specs.Paid.{ArePaid};
 ghost use Rattle.gs_certificate.specs.Spots.{IsFirstBelow, IsSpot, IsWay};
+ghost use Rattle.gs_certificate.specs.Worths.{target_worth};
 
 use crate::spot::{Spot, Way};
 use crate::spots::way_at;
-use crate::sums::end_below;
-use crate::tables::{EndSums, paid_at};
-use crate::worths::{number_at, numbers_below};
+use crate::sums::paid_together;
+use crate::tables::EndSums;
+use crate::worths::{number_at, worth};
 use gs_best::{Deviator, class_total, move_total, round_total};
 use gs_game::Target;
 use gs_seq::scaled;
-
-/// Of the first so many classes of a point the first whose number is less than what a move to another point is worth; their count if there is none.
-fn first_below_point(
-    side: &Deviator<'_>,
-    values: &[i128],
-    spot: Spot,
-    next: u32,
-    to: u8,
-    place: u32,
-    count: u32,
-) -> u32
-    requires numbers { AreNumbers (frame_of side.now.form.now) (lists_of side.now.form.now) values.now }
-    requires spot { IsSpot (frame_of side.now.form.now) (lists_of side.now.form.now) spot }
-    requires next { next < point_count (frame_of side.now.form.now) }
-    requires to { to ≡ round_of (frame_of side.now.form.now) (at_point next) }
-    requires place { place ≡ start_of (frame_of side.now.form.now) (lists_of side.now.form.now) next }
-    requires onward { spot.round ≤ to }
-    requires top { to ≤ last_round (frame_of side.now.form.now) }
-    requires count { count ≤ class_count (lists_of side.now.form.now) spot.round }
-    ensures { let f = frame_of side.now.form.now in let lists = lists_of side.now.form.now in
-        IsFirstBelow f lists (table_of f lists side.now.player (lifted f lists side.now.other.now) values.now) spot.point (at_point next) count result }
-{
-    let _rounds = round_total(side.form);
-    for before in 0..count {
-        let class = before + 1;
-        let worth = numbers_below(side, values, next, to, place, spot.round, class);
-        if number_at(side, values, spot, class) < worth {
-            return before;
-        }
-    }
-    count
-}
-
-/// Of the first so many classes of a point the first whose number is less than what a move to an end is worth; their count if there is none.
-fn first_below_end(
-    side: &Deviator<'_>,
-    values: &[i128],
-    ends: Option<&EndSums>,
-    spot: Spot,
-    end: u32,
-    to: u8,
-    count: u32,
-) -> u32
-    requires ends { let f = frame_of side.now.form.now in let lists = lists_of side.now.form.now in IfSome ends (λ kept. ArePaid f lists side.now.player (class_plan f lists side.now.other.now) kept.now) }
-    requires numbers { AreNumbers (frame_of side.now.form.now) (lists_of side.now.form.now) values.now }
-    requires spot { IsSpot (frame_of side.now.form.now) (lists_of side.now.form.now) spot }
-    requires end { end < end_count (frame_of side.now.form.now) }
-    requires to { to ≡ round_of (frame_of side.now.form.now) (at_end end) }
-    requires onward { spot.round ≤ to }
-    requires count { count ≤ class_count (lists_of side.now.form.now) spot.round }
-    ensures { let f = frame_of side.now.form.now in let lists = lists_of side.now.form.now in
-        IsFirstBelow f lists (table_of f lists side.now.player (lifted f lists side.now.other.now) values.now) spot.point (at_end end) count result }
-{
-    let _rounds = round_total(side.form);
-    for before in 0..count {
-        let class = before + 1;
-        let worth = end_below(side, ends, end, to, spot.round, class);
-        if number_at(side, values, spot, class) < worth {
-            return before;
-        }
-    }
-    count
-}
 
 /// Whether a number is less than what an end is worth to a class of its round, from what all members gain together: nothing is divided.
 fn is_below_end(
@@ -102,40 +40,36 @@ fn is_below_end(
     ensures { let f = frame_of side.now.form.now in let lists = lists_of side.now.form.now in let worth = end_worth f side.now.player (lifted f lists side.now.other.now) end (first_member lists (round_of f (at_end end)) class) in
         Tells result (number <ℤ worth) (worth ≤ℤ number) }
 {
-    let _rounds = round_total(side.form);
-    let together = paid_at(side, ends, end, class);
-    let members = side.form.lossless().classes().size(round, class);
+    let (together, members) = paid_together(side, ends, end, round, class);
     scaled(u64::from(members), number) < together
 }
 
-/// Of the first so many classes of a point the first whose number is less than what a move to an end of the point's own round is worth; their count if
-/// there is none.
-fn first_below_own(
+/// Whether the number of a class of a point is less than what a move is worth. Of an end of the point's own round nothing is divided.
+fn is_below(
     side: &Deviator<'_>,
     values: &[i128],
     ends: Option<&EndSums>,
     spot: Spot,
-    end: u32,
-    count: u32,
-) -> u32
+    way: Way,
+    class: u32,
+) -> bool
     requires ends { let f = frame_of side.now.form.now in let lists = lists_of side.now.form.now in IfSome ends (λ kept. ArePaid f lists side.now.player (class_plan f lists side.now.other.now) kept.now) }
     requires numbers { AreNumbers (frame_of side.now.form.now) (lists_of side.now.form.now) values.now }
     requires spot { IsSpot (frame_of side.now.form.now) (lists_of side.now.form.now) spot }
-    requires end { end < end_count (frame_of side.now.form.now) }
-    requires round { spot.round ≡ round_of (frame_of side.now.form.now) (at_end end) }
-    requires count { count ≤ class_count (lists_of side.now.form.now) spot.round }
+    requires way { IsWay (frame_of side.now.form.now) (lists_of side.now.form.now) spot.point way }
+    requires class { IsClass (lists_of side.now.form.now) spot.round class }
     ensures { let f = frame_of side.now.form.now in let lists = lists_of side.now.form.now in
-        IsFirstBelow f lists (table_of f lists side.now.player (lifted f lists side.now.other.now) values.now) spot.point (at_end end) count result }
+        let v = table_of f lists side.now.player (lifted f lists side.now.other.now) values.now in let number = v (at_point spot.point) class in let worth = target_worth f lists v spot.point (target_of way.to) class in
+        Tells result (number <ℤ worth) (worth ≤ℤ number) }
 {
     let _rounds = round_total(side.form);
-    for before in 0..count {
-        let class = before + 1;
-        let number = number_at(side, values, spot, class);
-        if is_below_end(side, ends, number, end, spot.round, class) {
-            return before;
+    let number = number_at(side, values, spot, class);
+    if let Target::End(end) = way.to {
+        if spot.round == way.round {
+            return is_below_end(side, ends, number, end, spot.round, class);
         }
     }
-    count
+    number < worth(side, values, ends, spot, way, class)
 }
 
 /// Of the first so many classes of a point the first whose number is less than what a move is worth; their count if there is none.
@@ -155,17 +89,12 @@ fn first_below(
     ensures { let f = frame_of side.now.form.now in let lists = lists_of side.now.form.now in
         IsFirstBelow f lists (table_of f lists side.now.player (lifted f lists side.now.other.now) values.now) spot.point (target_of way.to) count result }
 {
-    match way.to {
-        Target::Point(next) => {
-            first_below_point(side, values, spot, next, way.round, way.place, count)
-        }
-        Target::End(end) => {
-            if spot.round == way.round {
-                return first_below_own(side, values, ends, spot, end, count);
-            }
-            first_below_end(side, values, ends, spot, end, way.round, count)
+    for before in 0..count {
+        if is_below(side, values, ends, spot, way, before + 1) {
+            return before;
         }
     }
+    count
 }
 
 /// The first class of an own point where the number is too low.

@@ -1,28 +1,32 @@
-use Rattle.std.proofs.Common.{◌≡◌, ◌+◌, ◌-◌, ◌<◌, ◌≤◌, ◌∷◌, [], ◌++◌, length, take, get_or, sym, ap, ◌∙◌, subst, arith}
+use Rattle.std.proofs.Common.{◌≡◌, ℕ, ◌+◌, ◌-◌, ◌<◌, ◌≤◌, ◌∷◌, [], ◌++◌, length, take, get_or, sym, ap, ◌∙◌, subst, arith}
 use Rattle.std.specs.Prelude.{pos}
 use Rattle.std.proofs.lemmas.List.{get_or-take, length-take-le}
 use Rattle.gs_model.specs.Classes.{class_count}
 use Rattle.gs_model.specs.Frame.{end_count, round_of}
 use Rattle.gs_model.specs.Positions.{at_end}
 use Rattle.gs_seq.specs.Plans.{class_plan}
+use Rattle.gs_best.specs.Sizes.{IsWide}
 use Rattle.gs_best.proofs.Sides.{frame, lists, side_walked}
 use Rattle.gs_certificate.specs.Paid.{AreKept}
 use Rattle.gs_certificate.proofs.Kept.{kept_more, none_kept}
+use Rattle.gs_certificate.proofs.tables.sums_in.Goals.{In-loop-end}
 use Rattle.gs_certificate.proofs.tables.sums_in.Goals as goal
 
-pub end_sums-requires-clause-wide : goal.end_sums-requires-clause-wide
-end_sums-requires-clause-wide c =
+-- the end of a turn is one of the game's, and what is wide has room for the classes of its round
+inside : (c : In-loop-end) → c.loop-end.end < end_count (frame c.args.side.now)
+inside c = omega (arith, c.loop-end-test.true, c.end_total-ends.ensures)
+
+fitting : (c : In-loop-end) (n : ℕ) → IsWide (frame c.args.side.now) (lists c.args.side.now) n → class_count (lists c.args.side.now) (round_of (frame c.args.side.now) (at_end c.loop-end.end)) ≤ n
+fitting c n wide =
     let d = c.args.side.now in
     let z = c.loop-end.end in
-    let lz : z < end_count (frame d) = omega (arith, c.loop-end-test.true, c.end_total-ends.ensures) in
-    omega (arith, c.requires.wide (round_of (frame d) (at_end z)) ((side_walked d).end_round z lz) ((side_walked d).end_in z lz), c.loop-end.auto.numbers)
+    wide (round_of (frame d) (at_end z)) ((side_walked d).end_round z (inside c)) ((side_walked d).end_in z (inside c))
+
+pub end_sums-requires-clause-wide : goal.end_sums-requires-clause-wide
+end_sums-requires-clause-wide c = omega (arith, fitting (goal.at.end_sums-requires-clause-wide c).In-loop-end _ c.requires.wide, c.loop-end.auto.numbers)
 
 pub end_sums-requires-clause-room : goal.end_sums-requires-clause-room
-end_sums-requires-clause-room c =
-    let d = c.args.side.now in
-    let z = c.loop-end.end in
-    let lz : z < end_count (frame d) = omega (arith, c.loop-end-test.true, c.end_total-ends.ensures) in
-    omega (arith, c.requires.row (round_of (frame d) (at_end z)) ((side_walked d).end_round z lz) ((side_walked d).end_in z lz), c.loop-end.auto.row)
+end_sums-requires-clause-room c = omega (arith, fitting (goal.at.end_sums-requires-clause-room c).In-loop-end _ c.requires.row, c.loop-end.auto.row)
 
 pub loop-end-init : goal.loop-end-init
 loop-end-init c =
@@ -40,9 +44,8 @@ loop-end-preserved c =
     let sums = c.loop-end.sums.items in
     let n = c.class_total-count.result in
     let paid = c.end_sums.new.sums in
-    let lz : z < end_count f = omega (arith, c.loop-end-test.true, c.end_total-ends.ensures) in
     let count : n ≡ class_count ls (round_of f (at_end z)) = c.class_total-count.ensures.value ∙ ap (class_count ls) c.end_round.ensures.value in
-    let wide : n ≤ length paid = omega (arith, count, c.requires.row (round_of f (at_end z)) ((side_walked d).end_round z lz) ((side_walked d).end_in z lz), c.loop-end.auto.row, c.end_sums.auto.sums) in
+    let wide : n ≤ length paid = omega (arith, count, fitting (goal.at.loop-end-preserved c).In-loop-end _ c.requires.row, c.loop-end.auto.row, c.end_sums.auto.sums) in
     let long = length-take-le n paid wide ∙ count in
     let more = kept_more f ls d.player y z starts sums (take n paid) c.loop-end.invariant long
     (λ k lk. get_or-take n paid (k - 1) (pos 0) (omega (arith, lk.0, lk.1, count)) ∙ (let at : k - 1 ≡ 0 + (k - 1) = omega arith in ap (λ i. get_or paid i (pos 0)) at) ∙ c.end_sums.ensures.here k lk) in
