@@ -8,12 +8,13 @@ ghost use Rattle.gs_model.specs.Frame.{end_count, player_at, round_of};
 ghost use Rattle.gs_model.specs.Positions.{at_end, at_point};
 ghost use Rattle.gs_seq.specs.Abstracts.{frame_of, lists_of};
 ghost use Rattle.gs_seq.specs.Plans.{class_plan, lifted};
-ghost use Rattle.gs_best.specs.Tables.{table_of};
-ghost use Rattle.gs_certificate.specs.Numbers.{AreHighAt, AreNumbers, IsFirstLowAt, Tells};
+ghost use Rattle.gs_certificate.specs.Claims.{IsClaim, frame_in, lists_in, table_in};
+ghost use Rattle.gs_certificate.specs.Numbers.{AreHighAt, IsFirstLowAt, Tells};
 ghost use Rattle.gs_certificate.specs.Paid.{ArePaid};
 ghost use Rattle.gs_certificate.specs.Spots.{IsFirstBelow, IsSpot, IsWay};
 ghost use Rattle.gs_certificate.specs.Worths.{target_worth};
 
+use crate::claim::Claim;
 use crate::spot::{Spot, Way};
 use crate::spots::way_at;
 use crate::sums::paid_together;
@@ -45,52 +46,36 @@ fn is_below_end(
 }
 
 /// Whether the number of a class of a point is less than what a move is worth. Of an end of the point's own round nothing is divided.
-fn is_below(
-    side: &Deviator<'_>,
-    values: &[i128],
-    ends: Option<&EndSums>,
-    spot: Spot,
-    way: Way,
-    class: u32,
-) -> bool
-    requires ends { let f = frame_of side.now.form.now in let lists = lists_of side.now.form.now in IfSome ends (λ kept. ArePaid f lists side.now.player (class_plan f lists side.now.other.now) kept.now) }
-    requires numbers { AreNumbers (frame_of side.now.form.now) (lists_of side.now.form.now) values.now }
-    requires spot { IsSpot (frame_of side.now.form.now) (lists_of side.now.form.now) spot }
-    requires way { IsWay (frame_of side.now.form.now) (lists_of side.now.form.now) spot.point way }
-    requires class { IsClass (lists_of side.now.form.now) spot.round class }
-    ensures { let f = frame_of side.now.form.now in let lists = lists_of side.now.form.now in
-        let v = table_of f lists side.now.player (lifted f lists side.now.other.now) values.now in let number = v (at_point spot.point) class in let worth = target_worth f lists v spot.point (target_of way.to) class in
+fn is_below(claim: &Claim<'_>, spot: Spot, way: Way, class: u32) -> bool
+    requires claim { IsClaim claim.now }
+    requires spot { IsSpot (frame_in claim.now) (lists_in claim.now) spot }
+    requires way { IsWay (frame_in claim.now) (lists_in claim.now) spot.point way }
+    requires class { IsClass (lists_in claim.now) spot.round class }
+    ensures { let f = frame_in claim.now in let lists = lists_in claim.now in
+        let v = table_in claim.now in let number = v (at_point spot.point) class in let worth = target_worth f lists v spot.point (target_of way.to) class in
         Tells result (number <ℤ worth) (worth ≤ℤ number) }
 {
-    let _rounds = round_total(side.form);
-    let number = number_at(side, values, spot, class);
+    let _rounds = round_total(claim.side.form);
+    let number = number_at(claim.side, claim.values, spot, class);
     if let Target::End(end) = way.to {
         if spot.round == way.round {
-            return is_below_end(side, ends, number, end, spot.round, class);
+            return is_below_end(claim.side, claim.ends, number, end, spot.round, class);
         }
     }
-    number < worth(side, values, ends, spot, way, class)
+    number < worth(claim, spot, way, class)
 }
 
 /// Of the first so many classes of a point the first whose number is less than what a move is worth; their count if there is none.
-fn first_below(
-    side: &Deviator<'_>,
-    values: &[i128],
-    ends: Option<&EndSums>,
-    spot: Spot,
-    way: Way,
-    count: u32,
-) -> u32
-    requires ends { let f = frame_of side.now.form.now in let lists = lists_of side.now.form.now in IfSome ends (λ kept. ArePaid f lists side.now.player (class_plan f lists side.now.other.now) kept.now) }
-    requires numbers { AreNumbers (frame_of side.now.form.now) (lists_of side.now.form.now) values.now }
-    requires spot { IsSpot (frame_of side.now.form.now) (lists_of side.now.form.now) spot }
-    requires way { IsWay (frame_of side.now.form.now) (lists_of side.now.form.now) spot.point way }
-    requires count { count ≤ class_count (lists_of side.now.form.now) spot.round }
-    ensures { let f = frame_of side.now.form.now in let lists = lists_of side.now.form.now in
-        IsFirstBelow f lists (table_of f lists side.now.player (lifted f lists side.now.other.now) values.now) spot.point (target_of way.to) count result }
+fn first_below(claim: &Claim<'_>, spot: Spot, way: Way, count: u32) -> u32
+    requires claim { IsClaim claim.now }
+    requires spot { IsSpot (frame_in claim.now) (lists_in claim.now) spot }
+    requires way { IsWay (frame_in claim.now) (lists_in claim.now) spot.point way }
+    requires count { count ≤ class_count (lists_in claim.now) spot.round }
+    ensures { let f = frame_in claim.now in let lists = lists_in claim.now in
+        IsFirstBelow f lists (table_in claim.now) spot.point (target_of way.to) count result }
 {
     for before in 0..count {
-        if is_below(side, values, ends, spot, way, before + 1) {
+        if is_below(claim, spot, way, before + 1) {
             return before;
         }
     }
@@ -98,25 +83,19 @@ fn first_below(
 }
 
 /// The first class of an own point where the number is too low.
-pub(crate) fn own_low_at(
-    side: &Deviator<'_>,
-    values: &[i128],
-    ends: Option<&EndSums>,
-    spot: Spot,
-) -> Option<u32>
-    requires ends { let f = frame_of side.now.form.now in let lists = lists_of side.now.form.now in IfSome ends (λ kept. ArePaid f lists side.now.player (class_plan f lists side.now.other.now) kept.now) }
-    requires numbers { AreNumbers (frame_of side.now.form.now) (lists_of side.now.form.now) values.now }
-    requires spot { IsSpot (frame_of side.now.form.now) (lists_of side.now.form.now) spot }
-    requires own { player_at (frame_of side.now.form.now) spot.point ≡ side.now.player }
-    ensures { let f = frame_of side.now.form.now in let lists = lists_of side.now.form.now in let v = table_of f lists side.now.player (lifted f lists side.now.other.now) values.now in
-        MatchOption result (AreHighAt f lists side.now.player v spot.point) (IsFirstLowAt f lists side.now.player v spot.point) }
+pub(crate) fn own_low_at(claim: &Claim<'_>, spot: Spot) -> Option<u32>
+    requires claim { IsClaim claim.now }
+    requires spot { IsSpot (frame_in claim.now) (lists_in claim.now) spot }
+    requires own { player_at (frame_in claim.now) spot.point ≡ claim.now.side.now.player }
+    ensures { let f = frame_in claim.now in let lists = lists_in claim.now in let v = table_in claim.now in
+        MatchOption result (AreHighAt f lists claim.now.side.now.player v spot.point) (IsFirstLowAt f lists claim.now.side.now.player v spot.point) }
 {
-    let _rounds = round_total(side.form);
-    let count = class_total(side.form, spot.round);
+    let _rounds = round_total(claim.side.form);
+    let count = class_total(claim.side.form, spot.round);
     let mut low = count;
-    for choice in 0..move_total(side.form, spot.point) {
-        let way = way_at(side, spot, choice);
-        low = first_below(side, values, ends, spot, way, low);
+    for choice in 0..move_total(claim.side.form, spot.point) {
+        let way = way_at(claim.side, spot, choice);
+        low = first_below(claim, spot, way, low);
     }
     if low < count { Some(low + 1) } else { None }
 }

@@ -1,0 +1,27 @@
+-- What holds of a player's numbers that are checked. Of private functions.
+use Rattle.std.specs.Prelude.{IfSome}
+use Rattle.gs_model.specs.BestAnswers.{Values}
+use Rattle.gs_model.specs.Classes.{ClassLists}
+use Rattle.gs_model.specs.Frame.{Frame}
+use Rattle.gs_seq.specs.Abstracts.{frame_of, lists_of}
+use Rattle.gs_seq.specs.Plans.{class_plan, lifted}
+use Rattle.gs_best.specs.Tables.{table_of}
+use Rattle.gs_certificate.specs.Numbers.{AreNumbers}
+use Rattle.gs_certificate.specs.Paid.{ArePaid}
+use Rattle.gs_certificate.specs.declared.claim.Claim.{Claim}
+
+-- the game and its classes
+abbrev pub frame_in : Claim → Frame
+frame_in c = frame_of c.side.now.form.now
+
+abbrev pub lists_in : Claim → ClassLists
+lists_in c = lists_of c.side.now.form.now
+
+-- the table of the numbers
+abbrev pub table_in : Claim → Values
+table_in c = table_of (frame_in c) (lists_in c) c.side.now.player (lifted (frame_in c) (lists_in c) c.side.now.other.now) c.values.now
+
+-- so many numbers, and small, and what is kept is what ends pay
+pub record IsClaim (c : Claim) : Type 0 where
+  pub numbers : AreNumbers (frame_in c) (lists_in c) c.values.now
+  pub ends : IfSome c.ends (λ kept. ArePaid (frame_in c) (lists_in c) c.side.now.player (class_plan (frame_in c) (lists_in c) c.side.now.other.now) kept.now)
