@@ -1,0 +1,20 @@
+-- The items of an array as a list, and what a loop over them has read.
+use Rattle.std.proofs.Common.{◌≡◌, List, [], ◌∷◌, ◌++◌, map, Option, Some, option_map, refl, ap}
+use Rattle.std.specs.Prelude.{option_and_then}
+use Rattle.serde_json.specs.Data.{Data}
+use Rattle.serde_json.specs.Find.{as_array}
+use Rattle.serde_json.specs.View.{view, items_view}
+use Rattle.serde_json.specs.declared.value.Value.{Value}
+use Rattle.gs_json.specs.Lines.{list_of}
+
+-- what was read before, and what is still read
+abbrev pub behind : {B : Type 0} → List B → Option (List B) → Option (List B)
+behind front read = option_map (λ rest. front ++ rest) read
+
+-- the items of an array as a list of what they are seen as
+listed : (vs : List Value) → list_of (items_view vs) ≡ map view vs
+listed [] = refl
+listed (v ∷ vs) = ap (λ ds. view v ∷ ds) (listed vs)
+
+pub list_is : {B : Type 0} (each : List Data → Option B) (d : Data) (vs : List Value) → as_array d ≡ Some (items_view vs) → option_and_then (λ ds. each (list_of ds)) (as_array d) ≡ each (map view vs)
+list_is each d vs e = rw (e, listed vs) refl
