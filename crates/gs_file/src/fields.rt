@@ -1,12 +1,8 @@
 //! The values of a table, each by its key and its type.
 
-ghost use Rattle.std.specs.Prelude.{◌≡◌, string_bytes, option_map};
-ghost use Rattle.std.specs.List.{list_all};
-ghost use Rattle.std.specs.BTreeMap.{keys};
-ghost use Rattle.toml.specs.Data.{get_member};
-ghost use Rattle.toml.specs.View.{view, table_view, array_view};
-ghost use Rattle.gs_file.specs.Answers.{Gives};
-ghost use Rattle.gs_file.specs.Keys.{key_in, is_among, has_only, top as top_place};
+ghost use Rattle.std.specs.{Prelude.{◌≡◌, string_bytes, option_map}, List.{list_all}, BTreeMap.{keys}};
+ghost use Rattle.toml.specs.{Data.{get_member}, View.{view, table_view, array_view}};
+ghost use Rattle.gs_file.specs.{Answers.{Gives}, Keys.{key_in, is_among, has_only, top as top_place}};
 ghost use Rattle.gs_file.specs.Tables.{required, only, whole_number, text, text_or_empty, table_in, array_in};
 
 use crate::fault::{FileFault, Key, Place};

@@ -2,9 +2,7 @@
 
 ghost use Rattle.std.specs.Prelude.{◌≡◌};
 ghost use Rattle.toml.specs.View.{table_view};
-ghost use Rattle.gs_file.specs.Answers.{Gives};
-ghost use Rattle.gs_file.specs.Reading.{text_at, parsed_at, game_at, read_at};
-ghost use Rattle.gs_file.specs.Views.{valid_view};
+ghost use Rattle.gs_file.specs.{Answers.{Gives}, Reading.{text_at, parsed_at, game_at, read_at}, Views.{valid_view}};
 
 use crate::build::{checked, deck_of, rounds_built};
 use crate::fault::FileFault;

@@ -2,8 +2,7 @@
 
 ghost use Rattle.std.specs.Prelude.{◌≡◌, map};
 ghost use Rattle.toml.specs.View.{view, table_view};
-ghost use Rattle.gs_file.specs.Answers.{Gives};
-ghost use Rattle.gs_file.specs.Tables.{each, table_in, whole_number, tables_in, whole_numbers_in};
+ghost use Rattle.gs_file.specs.{Answers.{Gives}, Tables.{each, table_in, whole_number, tables_in, whole_numbers_in}};
 
 use crate::fault::{FileFault, Place};
 use crate::fields::{array_of, table_of, whole_number_of};

@@ -2,9 +2,7 @@
 
 ghost use Rattle.std.specs.Prelude.{◌≡◌, option_map};
 ghost use Rattle.toml.specs.View.{view, table_view};
-ghost use Rattle.gs_file.specs.Answers.{Gives};
-ghost use Rattle.gs_file.specs.Keys.{top_keys};
-ghost use Rattle.gs_file.specs.Tables.{only};
+ghost use Rattle.gs_file.specs.{Answers.{Gives}, Keys.{top_keys}, Tables.{only}};
 ghost use Rattle.gs_file.specs.Reading.{version_of, version_at, copies_value, bonus_value, values_at, bonus_numbers, typed_at};
 ghost use Rattle.gs_file.specs.Views.{values_view, top_view};
 

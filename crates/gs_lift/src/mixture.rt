@@ -1,11 +1,9 @@
 //! Mixtures.
 
 ghost use Rattle.std.specs.Prelude.{◌≡◌, ◌<◌, ◌≤◌, length, vec_capacity};
-ghost use Rattle.gs_model.specs.Frame.{player_at, point_count, round_of, signal_count};
-ghost use Rattle.gs_model.specs.Positions.{at_point};
+ghost use Rattle.gs_model.specs.{Frame.{player_at, point_count, round_of, signal_count}, Positions.{at_point}};
 ghost use Rattle.gs_lift.specs.Mixtures.{IsMixture};
-ghost use Rattle.gs_seq.specs.Abstracts.{frame_of, lists_of};
-ghost use Rattle.gs_seq.specs.Plans.{IsPlanOf, lifted};
+ghost use Rattle.gs_seq.specs.{Abstracts.{frame_of, lists_of}, Plans.{IsPlanOf, lifted}};
 
 use crate::shares::{share, total_weight};
 use crate::spot::Spot;

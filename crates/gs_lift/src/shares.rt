@@ -1,12 +1,10 @@
 //! What a plan over classes says at a raw signal: the weights of its moves, and their shares.
 
 ghost use Rattle.std.specs.Prelude.{◌≡◌, ◌<◌, ◌^◌};
-ghost use Rattle.gs_model.specs.Classes.{IsClass, class_of};
-ghost use Rattle.gs_model.specs.Frame.{move_count, player_at, point_count, round_of, signal_count};
+ghost use Rattle.gs_model.specs.{Classes.{IsClass, class_of}, Frame.{move_count, player_at, point_count, round_of, signal_count}};
 ghost use Rattle.gs_model.specs.Positions.{at_point};
 ghost use Rattle.gs_lift.specs.Mixtures.{IsShareOf, total_number};
-ghost use Rattle.gs_seq.specs.Abstracts.{frame_of, lists_of};
-ghost use Rattle.gs_seq.specs.Plans.{IsPlanOf, lifted};
+ghost use Rattle.gs_seq.specs.{Abstracts.{frame_of, lists_of}, Plans.{IsPlanOf, lifted}};
 
 use crate::spot::Spot;
 use gs_frac::Fraction;

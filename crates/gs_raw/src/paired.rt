@@ -2,13 +2,9 @@
 
 ghost use Rattle.std.specs.Prelude.{◌≡◌, ◌-◌, ◌*◌, ◌<◌, ◌≤◌, ◌^◌, IfOk, unsigned_abs};
 ghost use Rattle.gs_filter.specs.Filter.{single_classes};
-ghost use Rattle.gs_model.specs.Frame.{end_count, round_of, signal_count};
-ghost use Rattle.gs_model.specs.Payoff.{hand_payoff};
-ghost use Rattle.gs_model.specs.Positions.{at_end};
-ghost use Rattle.gs_seq.specs.Abstracts.{frame_of, lists_of};
-ghost use Rattle.gs_seq.specs.Plans.{IsPlanOf, lifted};
-ghost use Rattle.gs_raw.specs.Answers.{AreHandValuesOf, IsHandValueOf};
-ghost use Rattle.gs_raw.specs.Hands.{hand_pays_at, signal_pays, signal_weighs, signals_pay};
+ghost use Rattle.gs_model.specs.{Frame.{end_count, round_of, signal_count}, Payoff.{hand_payoff}, Positions.{at_end}};
+ghost use Rattle.gs_seq.specs.{Abstracts.{frame_of, lists_of}, Plans.{IsPlanOf, lifted}};
+ghost use Rattle.gs_raw.specs.{Answers.{AreHandValuesOf, IsHandValueOf}, Hands.{hand_pays_at, signal_pays, signal_weighs, signals_pay}};
 
 use crate::hands::{hand_weight, paid_over};
 use gs_best::{Deviator, end_round, end_value, run_below, signal_total};

@@ -1,18 +1,11 @@
 //! The rows of rounds before the last, by the games that stop after them: after a round all pairs of signals go on in as many ways.
 
-ghost use Rattle.std.specs.Prelude.{◌≡◌, ◌+◌, ◌-◌, ◌<◌, ◌≤◌, ℕ, IfOk, get_or, length, Vec};
-ghost use Rattle.std.specs.declared.alloc.Global.{Global};
+ghost use Rattle.std.specs.{Prelude.{◌≡◌, ◌+◌, ◌-◌, ◌<◌, ◌≤◌, ℕ, IfOk, get_or, length, Vec}, declared.alloc.Global.{Global}};
 ghost use Rattle.gs_game.specs.GoingOn.{StopsAfter, ways_on as ways_after};
-ghost use Rattle.gs_model.specs.Classes.{IsClass, list_of};
-ghost use Rattle.gs_model.specs.Frame.{last_round};
-ghost use Rattle.gs_model.specs.Game.{round_count};
-ghost use Rattle.gs_model.specs.Lossless.{IsLossless};
+ghost use Rattle.gs_model.specs.{Classes.{IsClass, list_of}, Frame.{last_round}, Game.{round_count}, Lossless.{IsLossless}};
 ghost use Rattle.gs_tree.specs.Trees.{rules_of};
-ghost use Rattle.gs_lossless.specs.Amounts.{keys_of};
-ghost use Rattle.gs_lossless.specs.declared.sides.Side.TheVariants as sides;
-ghost use Rattle.gs_seq.specs.Games.{frame_in};
-ghost use Rattle.gs_seq.specs.Rows.{AreRowsIn, IsRow};
-ghost use Rattle.gs_seq.specs.declared.pair.Pair.{Pair as Paired};
+ghost use Rattle.gs_lossless.specs.{Amounts.{keys_of}, declared.sides.Side.TheVariants as sides};
+ghost use Rattle.gs_seq.specs.{Games.{frame_in}, Rows.{AreRowsIn, IsRow}, declared.pair.Pair.{Pair as Paired}};
 
 use crate::pair::Pair;
 use crate::rows::{row_of, rows_in};

@@ -1,12 +1,9 @@
 //! The rows of a round from those of the next round: what the classes below two classes weigh together.
 
 ghost use Rattle.std.specs.Prelude.{◌≡◌, ◌+◌, ◌-◌, ◌<◌, ◌≤◌, ◌++◌, ℕ, All, IfOk, OnOk, [], filter, flat_map, get_or, length, map, Vec};
-ghost use Rattle.std.specs.List.{range_with_len};
-ghost use Rattle.std.specs.declared.alloc.Global.{Global};
-ghost use Rattle.gs_model.specs.Classes.{IsClass, class_count};
-ghost use Rattle.gs_model.specs.Frame.{last_round};
-ghost use Rattle.gs_seq.specs.Games.{frame_in};
-ghost use Rattle.gs_seq.specs.Rows.{AreBelow, AreRowsIn, HasPairsBelow, IsRow, below_class, part_up, row_at};
+ghost use Rattle.std.specs.{List.{range_with_len}, declared.alloc.Global.{Global}};
+ghost use Rattle.gs_model.specs.{Classes.{IsClass, class_count}, Frame.{last_round}};
+ghost use Rattle.gs_seq.specs.{Games.{frame_in}, Rows.{AreBelow, AreRowsIn, HasPairsBelow, IsRow, below_class, part_up, row_at}};
 
 use crate::pair::Pair;
 use crate::rows::row_of;

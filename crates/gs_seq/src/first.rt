@@ -1,11 +1,8 @@
 //! The plan that takes the first move everywhere.
 
 ghost use Rattle.std.specs.Prelude.{◌≡◌, ◌+◌, ◌<◌, ◌≤◌, ◌^◌, ℕ, IfOk, length};
-ghost use Rattle.gs_model.specs.Classes.{IsClass};
-ghost use Rattle.gs_model.specs.Frame.{player_at, point_count, round_of};
-ghost use Rattle.gs_model.specs.Positions.{at_point};
-ghost use Rattle.gs_seq.specs.Firsts.{Agree, AreFirstBefore, IsClear, IsFirstAt};
-ghost use Rattle.gs_seq.specs.Games.{frame_in};
+ghost use Rattle.gs_model.specs.{Classes.{IsClass}, Frame.{player_at, point_count, round_of}, Positions.{at_point}};
+ghost use Rattle.gs_seq.specs.{Firsts.{Agree, AreFirstBefore, IsClear, IsFirstAt}, Games.{frame_in}};
 ghost use Rattle.gs_seq.specs.Slots.{AreOffsets, slot_count as slots_in, slots_before};
 
 use crate::flows::coming;
@@ -75,9 +72,7 @@ fn first_weights(
 
 impl<'a> Abstract<'a> {
     ghost use Rattle.gs_model.specs.Play.{IsFirstMoves};
-    ghost use Rattle.gs_seq.specs.Abstracts.{frame_of, lists_of};
-    ghost use Rattle.gs_seq.specs.Firsts.{IsComing};
-    ghost use Rattle.gs_seq.specs.Plans.{IsPlanOf, class_plan};
+    ghost use Rattle.gs_seq.specs.{Abstracts.{frame_of, lists_of}, Firsts.{IsComing}, Plans.{IsPlanOf, class_plan}};
 
     /// A player's plan of total 1 that takes the first move everywhere.
     pub fn first_plan(&self, alloc: Global, player: u8) -> Result<Plan, AllocError>

@@ -2,12 +2,9 @@
 
 ghost use Rattle.std.specs.Prelude.{ℕ, ◌≡◌, ◌+◌, ◌*◌, ◌<◌, ◌≤◌, ◌^◌, MatchOption, drop, length, sum, take};
 ghost use Rattle.gs_model.specs.Classes.{IsClass, class_of, first_member};
-ghost use Rattle.gs_model.specs.Frame.{ancestor, last_round, last_step, player_at, point_count, round_of};
-ghost use Rattle.gs_model.specs.Plans.{lift, number_before};
+ghost use Rattle.gs_model.specs.{Frame.{ancestor, last_round, last_step, player_at, point_count, round_of}, Plans.{lift, number_before}};
 ghost use Rattle.gs_model.specs.Positions.{at_point};
-ghost use Rattle.gs_seq.specs.Faults.{IsFaultOf};
-ghost use Rattle.gs_seq.specs.Games.{frame_in};
-ghost use Rattle.gs_seq.specs.Slots.{IsPlan, plan_of, slot_count as slots_in, slots_before};
+ghost use Rattle.gs_seq.specs.{Faults.{IsFaultOf}, Games.{frame_in}, Slots.{IsPlan, plan_of, slot_count as slots_in, slots_before}};
 ghost use Rattle.gs_seq.specs.Sources.{FirstLeakAt, FirstLeakIn, IsClassAbove, IsWeightAbove, MatchSource, slot_above};
 
 use crate::fault::PlanFault;

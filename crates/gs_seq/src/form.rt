@@ -3,10 +3,7 @@
 ghost use Rattle.std.specs.Prelude.{◌≡◌, ◌<◌, ◌≤◌, ◌^◌, IfOk, Some};
 ghost use Rattle.gs_boards.specs.declared.board_order.BoardOrder.{BoardOrder as Along};
 ghost use Rattle.gs_model.specs.Frame.{last_round};
-ghost use Rattle.gs_seq.specs.Games.{frame_in};
-ghost use Rattle.gs_seq.specs.Rows.{AreRows, IsSingleIn};
-ghost use Rattle.gs_seq.specs.Singles.{HasSumsOf};
-ghost use Rattle.gs_seq.specs.Slots.{AreOffsets, slot_count as slots_in};
+ghost use Rattle.gs_seq.specs.{Games.{frame_in}, Rows.{AreRows, IsSingleIn}, Singles.{HasSumsOf}, Slots.{AreOffsets, slot_count as slots_in}};
 ghost use Rattle.gs_seq.specs.Stops.{HasSequencesWithin};
 ghost use Rattle.gs_tree.specs.Trees.{rules_of};
 
@@ -74,19 +71,12 @@ fn order_of<'a>(
 
 impl<'a> Abstract<'a> {
     ghost use Rattle.std.specs.Prelude.{◌+◌, ℕ, IfOk, IfErr, IfSome, MatchOption, length};
-    ghost use Rattle.gs_model.specs.Classes.{IsClass, IsClasses};
-    ghost use Rattle.gs_model.specs.Frame.{end_count, last_round, move_count, player_at, point_count, round_of};
-    ghost use Rattle.gs_model.specs.Pairs.{class_number};
-    ghost use Rattle.gs_model.specs.Positions.{at_end, at_point};
-    ghost use Rattle.gs_seq.specs.Abstracts.{frame_of, lists_of};
-    ghost use Rattle.gs_seq.specs.Cells.{IsPairAfter, MeetsNoneAfter};
-    ghost use Rattle.gs_seq.specs.Faults.{IsFaultOf};
-    ghost use Rattle.gs_seq.specs.Plans.{IsPlanOf, class_plan};
-    ghost use Rattle.gs_seq.specs.Rows.{IsRow, IsSingleIn};
-    ghost use Rattle.gs_seq.specs.Singles.{HasSumsOf};
+    ghost use Rattle.gs_model.specs.{Classes.{IsClass, IsClasses}, Frame.{end_count, last_round, move_count, player_at, point_count, round_of}};
+    ghost use Rattle.gs_model.specs.{Pairs.{class_number}, Positions.{at_end, at_point}};
+    ghost use Rattle.gs_seq.specs.{Abstracts.{frame_of, lists_of}, Cells.{IsPairAfter, MeetsNoneAfter}, Faults.{IsFaultOf}};
+    ghost use Rattle.gs_seq.specs.{Plans.{IsPlanOf, class_plan}, Rows.{IsRow, IsSingleIn}, Singles.{HasSumsOf}};
+    ghost use Rattle.gs_seq.specs.{Slots.{IsPlan, sequence_count, slot_of}, Stops.{IsSmall, IsStopAt, IsStopOf, IsWithin}};
     ghost use Rattle.gs_tree.specs.Trees.{rules_of};
-    ghost use Rattle.gs_seq.specs.Slots.{IsPlan, sequence_count, slot_of};
-    ghost use Rattle.gs_seq.specs.Stops.{IsSmall, IsStopAt, IsStopOf, IsWithin};
 
     /// The sequence form of a game with lossless classes, or the first limit that it passes.
     pub fn of(alloc: Global, lossless: &'a Lossless<'a>) -> Result<Abstract<'a>, SeqStop>

@@ -1,7 +1,6 @@
 //! Laws of the sums by pairs of classes, and of plans.
 
-ghost use Rattle.gs_seq.specs.Exchange.{PairsAreExchanged};
-ghost use Rattle.gs_seq.specs.Laws.{PlansHaveNoFault};
+ghost use Rattle.gs_seq.specs.{Exchange.{PairsAreExchanged}, Laws.{PlansHaveNoFault}};
 
 /// Exchanging the players keeps the weight of a pair of classes and negates its signed weight: player 2 reads the same sums as player 1.
 pub fn pairs_are_exchanged()

@@ -2,14 +2,9 @@
 
 ghost use Rattle.std.specs.Prelude.{◌≡◌, ◌+◌, ◌-◌, ◌*◌, ◌<◌, ◌≤◌, ◌^◌, ℕ, length, option_map, pos, slice_index, unsigned_abs, ◌+ℤ◌, ◌*ℤ◌};
 ghost use Rattle.gs_game.specs.Seen.{step_of};
-ghost use Rattle.gs_model.specs.Classes.{ClassLists, IsClass};
-ghost use Rattle.gs_model.specs.Frame.{end_count, last_step, move_count, player_at, point_count, round_of};
-ghost use Rattle.gs_model.specs.Pairs.{class_number};
-ghost use Rattle.gs_model.specs.Positions.{at_end, at_point};
-ghost use Rattle.gs_seq.specs.Games.{frame_in};
-ghost use Rattle.gs_seq.specs.Plans.{IsPlanOf, class_plan};
-ghost use Rattle.gs_seq.specs.Slots.{AreOffsets};
-ghost use Rattle.gs_seq.specs.Sources.{MatchSource};
+ghost use Rattle.gs_model.specs.{Classes.{ClassLists, IsClass}, Frame.{end_count, last_step, move_count, player_at, point_count, round_of}};
+ghost use Rattle.gs_model.specs.{Pairs.{class_number}, Positions.{at_end, at_point}};
+ghost use Rattle.gs_seq.specs.{Games.{frame_in}, Plans.{IsPlanOf, class_plan}, Slots.{AreOffsets}, Sources.{MatchSource}};
 
 use crate::flows::{Source, weight_above};
 use crate::plan::Plan;

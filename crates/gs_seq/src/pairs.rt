@@ -1,7 +1,6 @@
 //! The pairs of a class, one after another.
 
-ghost use Rattle.std.specs.Iterator.{YieldsFirst, item_count};
-ghost use Rattle.std.specs.Prelude.{◌≡◌, ◌≤◌, All, MatchOption};
+ghost use Rattle.std.specs.{Iterator.{YieldsFirst, item_count}, Prelude.{◌≡◌, ◌≤◌, All, MatchOption}};
 ghost use Rattle.gs_seq.specs.Singles.{IsFirstAfter, IsSlight, deal_pair};
 
 use crate::pair::Pair;
@@ -22,8 +21,7 @@ pub struct Pairs<'s> {
 
 impl<'s> Model for Pairs<'s> {
     ghost use Rattle.std.specs.Prelude.{List, All, map, ◌++◌};
-    ghost use Rattle.gs_seq.specs.Singles.{IsSlight, deal_pair, deals_left};
-    ghost use Rattle.gs_seq.specs.declared.pair.Pair.{Pair as Paired};
+    ghost use Rattle.gs_seq.specs.{Singles.{IsSlight, deal_pair, deals_left}, declared.pair.Pair.{Pair as Paired}};
 
     ghost Value = { List Paired };
 

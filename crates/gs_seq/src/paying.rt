@@ -4,8 +4,7 @@ ghost use Rattle.std.specs.Prelude.{◌≡◌, ◌-◌, ◌<◌, ◌≤◌, ◌*
 ghost use Rattle.gs_boards.specs.Boards.{paid};
 ghost use Rattle.gs_game.specs.Seen.{end_of};
 ghost use Rattle.gs_model.specs.Deals.{Deal as Dealt};
-ghost use Rattle.gs_seq.specs.Payoffs.{pair_pays};
-ghost use Rattle.gs_seq.specs.Singles.{deal_pair};
+ghost use Rattle.gs_seq.specs.{Payoffs.{pair_pays}, Singles.{deal_pair}};
 
 use crate::form::Abstract;
 use crate::numbers::{plus, scaled};
@@ -39,15 +38,10 @@ fn pays_at(player: u8, end: End) -> Pays
 
 impl<'a> Abstract<'a> {
     ghost use Rattle.std.specs.Prelude.{◌+◌, ℕ, get_or};
-    ghost use Rattle.gs_model.specs.Classes.{IsClass};
-    ghost use Rattle.gs_model.specs.Frame.{end_at, end_count, last_round, other_player, round_of};
-    ghost use Rattle.gs_model.specs.Payoff.{raw_payoff};
+    ghost use Rattle.gs_model.specs.{Classes.{IsClass}, Frame.{end_at, end_count, last_round, other_player, round_of}, Payoff.{raw_payoff}};
     ghost use Rattle.gs_model.specs.Positions.{at_end};
-    ghost use Rattle.gs_seq.specs.Abstracts.{frame_of, lists_of};
-    ghost use Rattle.gs_seq.specs.Payoffs.{AreFew, AreNumbersAt, end_classes, end_sum, number_sum, payoff_at};
-    ghost use Rattle.gs_seq.specs.Plans.{IsPlanOf, class_plan, lifted};
-    ghost use Rattle.gs_seq.specs.Rows.{IsRow, IsSingleIn};
-    ghost use Rattle.gs_seq.specs.Singles.{HasSumsOf};
+    ghost use Rattle.gs_seq.specs.{Abstracts.{frame_of, lists_of}, Payoffs.{AreFew, AreNumbersAt, end_classes, end_sum, number_sum, payoff_at}};
+    ghost use Rattle.gs_seq.specs.{Plans.{IsPlanOf, class_plan, lifted}, Rows.{IsRow, IsSingleIn}, Singles.{HasSumsOf}};
     ghost use Rattle.gs_tree.specs.Trees.{rules_of};
 
     /// An end of the game.

@@ -29,14 +29,8 @@ pub(crate) fn pays(player: u8, end: End, pair: Pair) -> i128
 }
 
 impl<'a> Abstract<'a> {
-    ghost use Rattle.gs_model.specs.Classes.{IsClass};
-    ghost use Rattle.gs_model.specs.Frame.{end_count, other_player, round_of};
-    ghost use Rattle.gs_model.specs.Payoff.{raw_payoff};
-    ghost use Rattle.gs_model.specs.Positions.{at_end};
-    ghost use Rattle.gs_seq.specs.Abstracts.{frame_of, lists_of};
-    ghost use Rattle.gs_seq.specs.Payoffs.{end_sum, payoff_at};
-    ghost use Rattle.gs_seq.specs.Plans.{IsPlanOf, class_plan, lifted};
-    ghost use Rattle.gs_seq.specs.Rows.{IsRow};
+    ghost use Rattle.gs_model.specs.{Classes.{IsClass}, Frame.{end_count, other_player, round_of}, Payoff.{raw_payoff}, Positions.{at_end}};
+    ghost use Rattle.gs_seq.specs.{Abstracts.{frame_of, lists_of}, Payoffs.{end_sum, payoff_at}, Plans.{IsPlanOf, class_plan, lifted}, Rows.{IsRow}};
     ghost use Rattle.gs_seq.specs.Sources.{MatchSource};
 
     /// What a plan of player 1 and a plan of player 2 pay player 1, in chips times the weight of all deals and both totals.

@@ -2,8 +2,7 @@
 
 ghost use Rattle.std.specs.Prelude.{◌≡◌, ◌<◌, ◌≤◌, IsTrue, length};
 ghost use Rattle.gs_model.specs.Frame.{last_round};
-ghost use Rattle.gs_seq.specs.Games.{frame_in};
-ghost use Rattle.gs_seq.specs.Rows.{IsSingleIn};
+ghost use Rattle.gs_seq.specs.{Games.{frame_in}, Rows.{IsSingleIn}};
 
 use gs_filter::Classes;
 use gs_game::are_single;

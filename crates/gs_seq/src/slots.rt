@@ -2,8 +2,7 @@
 
 ghost use Rattle.std.specs.Prelude.{◌≡◌, ◌+◌, ◌<◌, ◌≤◌, ◌^◌, IfOk, OnOk, IfErr};
 ghost use Rattle.gs_model.specs.Frame.{player_at, point_count};
-ghost use Rattle.gs_seq.specs.Games.{frame_in};
-ghost use Rattle.gs_seq.specs.Slots.{AreOffsets, sequence_count, slot_count as slots_in, slots_at as slots_here, slots_before};
+ghost use Rattle.gs_seq.specs.{Games.{frame_in}, Slots.{AreOffsets, sequence_count, slot_count as slots_in, slots_at as slots_here, slots_before}};
 ghost use Rattle.gs_seq.specs.Stops.{HasOver, HasSequencesWithin, IsTooLong};
 
 use crate::stop::SeqStop;

@@ -2,10 +2,8 @@
 
 ghost use Rattle.std.specs.Prelude.{◌≡◌, ◌≢◌, MatchOption, ℕ, ◌+◌, ◌-◌, ◌*◌, ◌<◌, ◌≤◌, ◌^◌, ◌⊎◌, ◌↔◌, IsTrue, ℤ, pos, ◌*ℤ◌, ◌<ℤ◌, ◌≤ℤ◌, unsigned_abs, length, slice_index_or, MatchBool};
 ghost use Rattle.std.specs.Option.{ForSome};
-ghost use Rattle.gs_rows.specs.Rows.{IsNarrow};
-ghost use Rattle.gs_rows.specs.Program.{IsShaped, IsPairList, IsFree};
-ghost use Rattle.gs_simplex.specs.Numbers.{at, cell, AllNarrow};
-ghost use Rattle.gs_simplex.specs.Table.{table_rows, IsTable};
+ghost use Rattle.gs_rows.specs.{Rows.{IsNarrow}, Program.{IsShaped, IsPairList, IsFree}};
+ghost use Rattle.gs_simplex.specs.{Numbers.{at, cell, AllNarrow}, Table.{table_rows, IsTable}};
 ghost use Rattle.gs_simplex.specs.Choice.{IsEntering, Before, NotAfter, IsNarrowRatio, IsRatioAt, IsBetter, IsLeaving};
 
 use gs_rows::Program;

@@ -1,8 +1,6 @@
 // Exact quotients without division. A quotient is guessed by an inverse modulo 2^64, and counts only where its product with the divisor is the number.
 
-ghost use Rattle.std.specs.Prelude.{◌≡◌, ◌*ℤ◌};
-ghost use Rattle.std.specs.Int.{IsGcd};
-ghost use Rattle.std.specs.Option.{ForSome};
+ghost use Rattle.std.specs.{Prelude.{◌≡◌, ◌*ℤ◌}, Int.{IsGcd}, Option.{ForSome}};
 
 /// A divisor with what guesses quotients by it.
 #[derive(Clone, Copy)]

@@ -20,8 +20,7 @@ mod tracing;
 
 ghost use Rattle.std.specs.Prelude.{ℕ, ◌<◌, ◌^◌};
 ghost use Rattle.gs_rows.specs.Program.{IsShaped, IsOpening};
-ghost use Rattle.gs_simplex.specs.Answer.{IsAnswer};
-ghost use Rattle.gs_simplex.specs.Trace.{IsTraceAnswer};
+ghost use Rattle.gs_simplex.specs.{Answer.{IsAnswer}, Trace.{IsTraceAnswer}};
 
 pub use answer::{Best, PathTrace, Stop, Turn};
 use best::best;

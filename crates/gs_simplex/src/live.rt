@@ -2,8 +2,7 @@
 
 ghost use Rattle.std.specs.Prelude.{◌≡◌, ◌≢◌, ℕ, ◌+◌, ◌<◌, ◌≤◌, ◌^◌, ◌⊎◌, ◌↔◌, IsTrue, IfOk, length, slice_index, vec_len};
 ghost use Rattle.gs_rows.specs.Program.{IsPairList, IsListed, RowListed, ColListed};
-ghost use Rattle.gs_simplex.specs.Live.{HasPlaces, IsLiveRow, ArePlaces, IsFound, IsSupport};
-ghost use Rattle.gs_simplex.specs.Numbers.{at, AllNarrow};
+ghost use Rattle.gs_simplex.specs.{Live.{HasPlaces, IsLiveRow, ArePlaces, IsFound, IsSupport}, Numbers.{at, AllNarrow}};
 
 use crate::best::mark_rows;
 use crate::choice::pair_at;

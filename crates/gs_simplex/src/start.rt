@@ -2,9 +2,7 @@
 
 ghost use Rattle.std.specs.Prelude.{◌≡◌, ℕ, ◌+◌, ◌-◌, ◌*◌, ◌^◌, ◌<◌, ◌≤◌, ◌++◌, [], ◌∷◌, ◌⊎◌, ℤ, pos, ◌*ℤ◌, length, OnOk, IfOk, slice_index_or};
 ghost use Rattle.gs_rows.specs.Program.{IsShaped, IsRowsOf};
-ghost use Rattle.gs_simplex.specs.Numbers.{at, cell, AllNarrow, IsDivided};
-ghost use Rattle.gs_simplex.specs.Table.{table_rows, table_aim, IsTable};
-ghost use Rattle.gs_simplex.specs.State.{HasRoom, IsRaw, IsStart};
+ghost use Rattle.gs_simplex.specs.{Numbers.{at, cell, AllNarrow, IsDivided}, Table.{table_rows, table_aim, IsTable}, State.{HasRoom, IsRaw, IsStart}};
 
 use crate::live::Live;
 use crate::row::divide_row;

@@ -1,10 +1,8 @@
 // All rows in one piece of memory, and the pivot that clears a column in each but one.
 
 ghost use Rattle.std.specs.Prelude.{◌≡◌, ◌≢◌, MatchOption, ℕ, ◌+◌, ◌-◌, ◌*◌, ◌<◌, ◌≤◌, ◌^◌, ◌⊎◌, ℤ, pos, neg_ℤ, ◌+ℤ◌, ◌-ℤ◌, ◌*ℤ◌, ◌<ℤ◌, unsigned_abs, length};
-ghost use Rattle.gs_rows.specs.Rows.{IsNarrow, IsPrimitive};
-ghost use Rattle.gs_rows.specs.Program.{IsPairList, IsRowsOf};
-ghost use Rattle.gs_simplex.specs.Live.{IsSupport, IsLive};
-ghost use Rattle.gs_simplex.specs.Table.{table_rows, table_aim, IsTable, IsPrimitiveTable, IsTableAfter, IsWideAfter};
+ghost use Rattle.gs_rows.specs.{Rows.{IsNarrow, IsPrimitive}, Program.{IsPairList, IsRowsOf}};
+ghost use Rattle.gs_simplex.specs.{Live.{IsSupport, IsLive}, Table.{table_rows, table_aim, IsTable, IsPrimitiveTable, IsTableAfter, IsWideAfter}};
 ghost use Rattle.gs_simplex.specs.Numbers.{at, cell, AllNarrow, AllAtMost, IsReduced, IsReducedTo, IsTurned, IsCleared, IsClearedTo, IsRowPrimitive};
 
 use crate::live::{Live, fill};

@@ -2,10 +2,7 @@
 
 ghost use Rattle.std.specs.Prelude.{MatchResult, IfOk, OnOk, ℕ, ◌+◌, ◌<◌, ◌^◌, ℤ, pos, ◌<ℤ◌, List, length};
 ghost use Rattle.gs_rows.specs.Program.{IsPairList};
-ghost use Rattle.gs_simplex.specs.Table.{table_aim, IsTable};
-ghost use Rattle.gs_simplex.specs.State.{IsEnd, IsTurnAt};
-ghost use Rattle.gs_simplex.specs.Answer.{IsStop};
-ghost use Rattle.gs_simplex.specs.Values.{IsRowIndex};
+ghost use Rattle.gs_simplex.specs.{Table.{table_aim, IsTable}, State.{IsEnd, IsTurnAt}, Answer.{IsStop}, Values.{IsRowIndex}};
 ghost use Rattle.gs_simplex.specs.Trace.{IsAimValue, IsBasis, IsBasisAt, IsLog, CanFollow};
 
 use crate::answer::{Stop, Turn};

@@ -2,8 +2,7 @@
 //! differ by strength and key.
 
 ghost use Rattle.std.specs.Prelude.{◌≡◌, IfOk, length};
-ghost use Rattle.gs_tree.specs.Trees.{rules_of};
-ghost use Rattle.gs_tree.specs.Walk.{last_count};
+ghost use Rattle.gs_tree.specs.{Trees.{rules_of}, Walk.{last_count}};
 
 use gs_alike::stand_ins;
 use gs_game::ValidGame;

@@ -1,8 +1,7 @@
 //! What last-round signals are paid in their deals, against sums that a separate program took deal by deal.
 
 ghost use Rattle.std.specs.Prelude.{◌≡◌, IfOk, length};
-ghost use Rattle.gs_tree.specs.Trees.{rules_of};
-ghost use Rattle.gs_tree.specs.Walk.{last_count};
+ghost use Rattle.gs_tree.specs.{Trees.{rules_of}, Walk.{last_count}};
 
 use gs_boards::{BoardOrder, Pays};
 use gs_samples::game_of;

@@ -1,8 +1,7 @@
 //! Certificates of small games and the check of certificates near them, as a separate program has them, and texts that break one rule each.
 
 ghost use Rattle.std.specs.Prelude.{◌≤◌, ◌<◌};
-ghost use Rattle.gs_seq.specs.Abstracts.{frame_of, lists_of};
-ghost use Rattle.gs_seq.specs.Plans.{IsPlanOf};
+ghost use Rattle.gs_seq.specs.{Abstracts.{frame_of, lists_of}, Plans.{IsPlanOf}};
 
 use crate::rows::{over_form, plan_in};
 use gs_certificate::{certificate_text, check_certificate, make_certificate, read_certificate};

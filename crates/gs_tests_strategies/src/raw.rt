@@ -1,8 +1,7 @@
 //! Verdicts of worked strategies on Kuhn's game, by hand, over raw signals.
 
 ghost use Rattle.std.specs.Prelude.{◌≡◌, ◌<◌, ◌≤◌, IfOk, IfSome};
-ghost use Rattle.gs_seq.specs.Games.{frame_in};
-ghost use Rattle.gs_seq.specs.Plans.{IsPlanOf};
+ghost use Rattle.gs_seq.specs.{Games.{frame_in}, Plans.{IsPlanOf}};
 
 use gs_filter::Classes;
 use gs_frac::Verdict;

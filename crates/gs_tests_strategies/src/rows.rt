@@ -1,8 +1,7 @@
 //! The sequence form of a game over classes of its signals, and plans in it by their texts.
 
 ghost use Rattle.std.specs.Prelude.{◌≤◌, ◌<◌, IfOk};
-ghost use Rattle.gs_seq.specs.Abstracts.{frame_of, lists_of};
-ghost use Rattle.gs_seq.specs.Plans.{IsPlanOf};
+ghost use Rattle.gs_seq.specs.{Abstracts.{frame_of, lists_of}, Plans.{IsPlanOf}};
 
 use gs_lossless::check;
 use gs_samples::{classes_of, game_of, numbers_in};

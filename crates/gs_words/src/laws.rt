@@ -1,12 +1,8 @@
 //! A law of plain words.
 
 ghost use Rattle.std.specs.Prelude.{◌≡◌, [], ◌∷◌, List, Some, true, codes, IsTrue, IsSome};
-ghost use Rattle.gs_words.specs.Commands.{command_word};
-ghost use Rattle.gs_words.specs.Plain.{Given, are_plain, given_for, option_words};
-ghost use Rattle.gs_words.specs.Requests.{request_of, task_for};
-ghost use Rattle.gs_words.specs.Tasks.{Check};
-ghost use Rattle.gs_words.specs.declared.names.CommandName.{CommandName};
-ghost use Rattle.gs_words.specs.declared.request.Grouping.TheVariants.{Single};
+ghost use Rattle.gs_words.specs.{Commands.{command_word}, Plain.{Given, are_plain, given_for, option_words}, Requests.{request_of, task_for}};
+ghost use Rattle.gs_words.specs.{Tasks.{Check}, declared.names.CommandName.{CommandName}, declared.request.Grouping.TheVariants.{Single}};
 
 /// Plain words are never refused, and ask for what their options say. Plain words are a command and
 /// then options of it in any order, each once and each that is required; an option is `--name` and a

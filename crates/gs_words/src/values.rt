@@ -1,7 +1,6 @@
 //! The values of options.
 
-ghost use Rattle.std.specs.Prelude.{◌≡◌, ◌≤◌, IfSome};
-ghost use Rattle.std.specs.Str.{all_ascii_digits};
+ghost use Rattle.std.specs.{Prelude.{◌≡◌, ◌≤◌, IfSome}, Str.{all_ascii_digits}};
 ghost use Rattle.gs_words.specs.Values.{grouping_of, is_numeral, kind_of, number_in};
 
 use crate::request::Grouping;
