@@ -7,3 +7,4 @@ pub mod Pairs
 pub mod Paired
 pub mod Alike
 pub mod Light
+pub mod Becoming

@@ -85,26 +85,25 @@ fn sign_leaves(signature: &mut Vec<u64>, signals: &Signals, signal: u32) -> Resu
 }
 
 /// For each signal of the last round a number: equal exactly where the signals are isomorphic. The leaves of a signal are looked at only where no
-/// earlier one sees the same deals.
+/// earlier one sees the same deals. The numbers take the places of the stand-ins, signal by signal.
 pub(crate) fn leaf_numbers(alloc: Global, signals: &Signals) -> Result<Vec<u32>, AllocError>
     ensures { IfOk result (λ v. IsNumbering (rules_of signals.now) (round_count (rules_of signals.now)) v.items) }
 {
     let count = signals.count(signals.rounds());
     let keys = vec![in alloc; 0; count as usize]?;
-    let firsts = stand_ins(alloc, signals, &keys)?;
+    let mut numbers = stand_ins(alloc, signals, &keys)?;
     let mut seen = IndexSet::new(alloc);
     let mut signature = Vec::new(alloc);
-    let mut numbers = Vec::with_capacity(alloc, count as usize)?;
     for signal in 0..count {
-        let first = firsts[signal as usize];
+        let first = numbers[signal as usize];
         if first < signal {
             let number = numbers[first as usize];
-            numbers.push(number)?;
+            numbers[signal as usize] = number;
             continue;
         }
         sign_leaves(&mut signature, signals, signal)?;
         let number = number_of_list(alloc, &mut seen, &signature)?;
-        numbers.push(number)?;
+        numbers[signal as usize] = number;
     }
     Ok(numbers)
 }

@@ -123,6 +123,18 @@ module _ {X : Type 0} (eq : X → X → Bool) (exact : (x y : X) → Decides (eq
       pub distinct : IsDistinct (same_parts eq) keys
       pub leads : LeadToKeys sign keys numbers
 
+    pub numbered_none : (keys : List (Vec X Global)) (numbers : List ℕ) → keys ≡ [] → numbers ≡ [] → AreNumbered keys numbers 0
+    unfolding IsDistinct
+    numbered_none keys numbers none empty =
+        let few = ap length none in
+        let long = ap length empty in
+        record {
+          few = omega (arith, few);
+          long = long;
+          distinct = subst (IsDistinct (same_parts eq)) (sym none) tt;
+          leads = λ i l. absurd (omega (arith, l, long));
+        }
+
     -- the next item has the number of its list
     pub numbered_more : (keys more : List (Vec X Global)) (numbers pushed : List ℕ) (parts : List X) (item n : ℕ) → AreNumbered keys numbers item → sign item parts → StayIn keys more → IsNumberOf eq more parts n
         → length more ≤ length keys + 1 → IsDistinct (same_parts eq) more → pushed ≡ numbers ++ n ∷ [] → AreNumbered more pushed (item + 1)
