@@ -55,9 +55,8 @@ slot-slot-requires-clause-choice c = let at = (goal.at.slot-slot-requires-clause
 
 pub loop-before-preserved : goal.loop-before-preserved
 loop-before-preserved c =
-    let a = c.args.form.now in
-    let f = frame_of a in
-    let lists = lists_of a in
+    let f = frame_of c.args.form.now in
+    let lists = lists_of c.args.form.now in
     let q = c.args.point in
     let p = c.args.player in
     let before = c.loop-before.before in
@@ -69,9 +68,9 @@ loop-before-preserved c =
     let came = c.coming-came.result in
     let slot = c.slot-slot.result in
     let many = move_count f q in
-    let ranged = form_in_range a in
-    let sound = form_classes a c.round_total-rounds.ensures.sound in
-    let w = form_walked a p c.requires.some c.requires.two in
+    let ranged = form_in_range c.args.form.now in
+    let sound = form_classes c.args.form.now c.round_total-rounds.ensures.sound in
+    let w = form_walked c.args.form.now p c.requires.some c.requires.two in
     let whose = ap (λ p. slots_before f lists p q) c.requires.own in
     let at : slot ≡ slot_of f lists q (before + 1) (move q (before + 1)) = c.slot-slot.ensures.value ∙ ap (slot_of f lists q (before + 1)) (pick here) in
     let one : before + 1 - 1 ≡ before = omega arith in

@@ -32,12 +32,10 @@ add_weights-requires-clause-fits c =
 
 pub returns-clause-sum : goal.returns-clause-sum
 returns-clause-sum c =
-    let a = c.args.form.now in
-    let f = frame_of a in
-    let lists = lists_of a in
-    let player = c.args.player in
-    let k = form_classes a c.round_total-rounds.ensures.sound in
-    let w = form_walked a player c.requires.some c.requires.two in
+    let f = frame_of c.args.form.now in
+    let lists = lists_of c.args.form.now in
+    let k = form_classes c.args.form.now c.round_total-rounds.ensures.sound in
+    let w = form_walked c.args.form.now c.args.player c.requires.some c.requires.two in
     let sum = c.args.sum.now in
     let more = c.args.more.now in
     let times = c.args.times in
@@ -47,6 +45,6 @@ returns-clause-sum c =
     let added : AreAdded sum.weights.items more.weights.items times new =
     subst (λ (zs : List ℕ). AreAdded zs more.weights.items times new) c.deref_mut.ensures.value (subst (λ (zs : List ℕ). AreAdded c.deref_mut.result.now zs times new) c.deref.ensures.value c.add_weights.ensures) in
     let t : c.from.result ≡ times = c.from.ensures in
-    subst (λ n. AreAlike f lists player (plan_of f lists (sum.total + n) (with_items sum.weights new).items) (plus_times (plan_of f lists sum.total sum.weights.items) times (plan_of f lists more.total more.weights.items))) (sym t)
-    (subst (λ (zs : List ℕ). AreAlike f lists player (plan_of f lists (sum.total + times) zs) (plus_times (plan_of f lists sum.total sum.weights.items) times (plan_of f lists more.total more.weights.items))) (sym same)
-    (added_alike f (form_in_range a) lists k player w sum.total more.total times sum.weights.items more.weights.items new c.requires.one c.requires.sum.plan.long added))
+    subst (λ n. AreAlike f lists c.args.player (plan_of f lists (sum.total + n) (with_items sum.weights new).items) (plus_times (plan_of f lists sum.total sum.weights.items) times (plan_of f lists more.total more.weights.items))) (sym t)
+    (subst (λ (zs : List ℕ). AreAlike f lists c.args.player (plan_of f lists (sum.total + times) zs) (plus_times (plan_of f lists sum.total sum.weights.items) times (plan_of f lists more.total more.weights.items))) (sym same)
+    (added_alike f (form_in_range c.args.form.now) lists k c.args.player w sum.total more.total times sum.weights.items more.weights.items new c.requires.one c.requires.sum.plan.long added))

@@ -45,9 +45,8 @@ returns-clause-answered c =
 
 pub returns-clause-seat : goal.returns-clause-seat
 returns-clause-seat c =
-    let a = c.args.form.now in
-    let f = frame_of a in
-    let lists = lists_of a in
+    let f = frame_of c.args.form.now in
+    let lists = lists_of c.args.form.now in
     let room = c.requires.seat.room in
     let player = c.args.player in
     let y = class_plan f lists c.args.other.now in
@@ -55,7 +54,7 @@ returns-clause-seat c =
     let weights = c.find.new.weights in
     let at = goal.at.returns-clause-seat c in
     let long : length weights ≡ slot_count f lists player = c.find.auto.weights ∙ ap (λ (l : List ℕ). length l) c.deref_mut-2.ensures.value ∙ room.next in
-    let plan = put_plan f (form_in_range a) lists (form_classes a c.round_total-rounds.ensures.sound) (form_lossless a) player (form_walked a player c.requires.some c.requires.two) y (totals_of f lists player y c.find.new.totals.points.items) (moves_of f lists picks) weights
+    let plan = put_plan f (form_in_range c.args.form.now) lists (form_classes c.args.form.now c.round_total-rounds.ensures.sound) (form_lossless c.args.form.now) player (form_walked c.args.form.now player c.requires.some c.requires.two) y (totals_of f lists player y c.find.new.totals.points.items) (moves_of f lists picks) weights
     c.find.ensures.best c.find.ensures.puts long in
     record {
       room = record {

@@ -33,6 +33,4 @@ pub returns-clause-lasts : goal.returns-clause-lasts
 returns-clause-lasts c =
     let f = frame_of c.args.form.now in
     let lists = lists_of c.args.form.now in
-    let y = class_plan f lists c.args.other.now in
-    let b = class_plan f lists c.args.more.now in
-    subst (λ (l : List ℕ). AreBeforeChange f lists c.args.player (totals_of f lists c.args.player y c.args.seat.now.totals.points.items) (totals_of f lists c.args.player b c.args.steps.now.points.items) (moves_of f lists l) c.lasting.result) c.deref.ensures.value c.lasting.ensures.lasts
+    subst (λ (l : List ℕ). AreBeforeChange f lists c.args.player (totals_of f lists c.args.player (class_plan f lists c.args.other.now) c.args.seat.now.totals.points.items) (totals_of f lists c.args.player (class_plan f lists c.args.more.now) c.args.steps.now.points.items) (moves_of f lists l) c.lasting.result) c.deref.ensures.value c.lasting.ensures.lasts
