@@ -1,5 +1,5 @@
 -- The text of each fault of a game file. Source: this project's printed texts.
-use Rattle.std.specs.Prelude.{ℕ, ◌==◌, List, [], ◌++◌, codes, Result, Err, if◌then◌else◌}
+use Rattle.std.specs.Prelude.{ℕ, ◌==◌, List, [], ◌++◌, codes, Err, if◌then◌else◌}
 use Rattle.std.specs.Fmt.{decimal, signed_decimal}
 use Rattle.gs_bet.specs.declared.fault.TreeFault.{TreeFault}
 use Rattle.gs_bet.specs.declared.fault.TreeFault.TheVariants as tree

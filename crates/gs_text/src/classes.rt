@@ -2,12 +2,8 @@
 
 ghost use Rattle.std.specs.Prelude.{◌≡◌, ◌≤◌, ◌<◌, ◌-◌, ◌++◌, ◌^◌, [], ◌∷◌, All, IfOk, OnOk, length, map, flat_map, codes, string_bytes, vec_len, slice_index, slice_set, slice_index_or};
 ghost use Rattle.std.specs.List.{zip, range_with_len};
-ghost use Rattle.gs_model.specs.Classes.{list_of};
-ghost use Rattle.gs_model.specs.Numbering.{greatest};
-ghost use Rattle.gs_model.specs.Game.{round_count};
-ghost use Rattle.gs_model.specs.Signals.{parents, signal_at, signals as signals_in};
-ghost use Rattle.gs_tree.specs.Texts.{signal_text};
-ghost use Rattle.gs_tree.specs.Trees.{rules_of, deck_of};
+ghost use Rattle.gs_model.specs.{Classes.{list_of}, Numbering.{greatest}, Game.{round_count}, Signals.{parents, signal_at, signals as signals_in}};
+ghost use Rattle.gs_tree.specs.{Texts.{signal_text}, Trees.{rules_of, deck_of}};
 ghost use Rattle.gs_text.specs.ClassText.{begin_line, open_line, round_line, round_text, AreListsOf, signal_texts as texts_of_signals, class_text as text_of_classes};
 
 use gs_filter::Classes;
@@ -100,24 +96,6 @@ fn parents_in<'a>(signals: &'a Signals, round: u8) -> &'a [u32]
     &signals.parents()[usize::from(round) - 1]
 }
 
-// Adds a member of a round after the first to the line of its class, by the text of its parent.
-fn push_member_below(
-    line: &mut String,
-    signals: &Signals,
-    round: u8,
-    signal: u32,
-    parent: &str,
-) -> Result<(), AllocError>
-    requires later { 1 < round }
-    requires last { round ≤ round_count (rules_of signals.now) }
-    requires in_range { signal < length (signals_in (rules_of signals.now) round) }
-    requires parent { parent.now ≡ signal_text (deck_of signals.now) (signal_at (rules_of signals.now) (round - 1) (slice_index (parents (rules_of signals.now) round) signal)) }
-    ensures { OnOk result (string_bytes line.new ≡ string_bytes line.old ++ (codes " " ++ signal_text (deck_of signals.now) (signal_at (rules_of signals.now) round signal))) }
-{
-    line.push_str(" ")?;
-    signals.push_text_below(line, round, signal, parent)
-}
-
 // The line of each class of a round after the first, without its end, by the texts of the round before: no text of the round itself is kept.
 fn lines_below(
     alloc: Global,
@@ -141,7 +119,8 @@ fn lines_below(
         let owner = parents[index] as usize;
         let parent = above[owner].as_str();
         let line = &mut lines[*class as usize - 1];
-        push_member_below(line, signals, round, index as u32, parent)?;
+        line.push_str(" ")?;
+        signals.push_text_below(line, round, index as u32, parent)?;
     }
     Ok(lines)
 }

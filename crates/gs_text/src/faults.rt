@@ -1,10 +1,7 @@
 //! The texts of what is wrong with a game file.
 
-ghost use Rattle.std.specs.Prelude.{◌≡◌, ◌≢◌, ◌++◌, IfOk, OnOk, codes, string_bytes, Err};
-ghost use Rattle.std.specs.Fmt.{decimal};
-ghost use Rattle.gs_file.specs.Faults.{Fault, bad_version, game as broken_rule};
-ghost use Rattle.gs_file.specs.Answers.{FailsByRules};
-ghost use Rattle.gs_file.specs.Reading.{FileGame};
+ghost use Rattle.std.specs.{Prelude.{◌≡◌, ◌≢◌, ◌++◌, IfOk, OnOk, codes, string_bytes, Err}, Fmt.{decimal}};
+ghost use Rattle.gs_file.specs.{Faults.{Fault, bad_version, game as broken_rule}, Answers.{FailsByRules}, Reading.{FileGame}};
 ghost use Rattle.gs_file.specs.declared.fault.FileFault.TheVariants as file;
 ghost use Rattle.gs_game.specs.Refusals.{Refusal, not_enough_cards, ranking_cards};
 ghost use Rattle.gs_text.specs.FaultText.{IsFault, deck_text as text_of_deck, fault_text, in_round as text_in_round, place_text as text_of_place, round_tree_text as text_of_round_tree, rule_text as text_of_rule, tree_text as text_of_tree};
@@ -117,12 +114,10 @@ fn cards_text(alloc: Global, need: u32, have: u32) -> Result<Vec<u8>, AllocError
 }
 
 // What is wrong, and a number behind it.
-fn counted_text(alloc: Global, wrong: &str, number: u128) -> Result<Vec<u8>, AllocError>
+pub(crate) fn counted_text(alloc: Global, wrong: &str, number: u128) -> Result<Vec<u8>, AllocError>
     ensures { IfOk result (λ v. v.items ≡ wrong.now ++ decimal number) }
 {
-    let mut text = String::from_str(alloc, wrong)?;
-    write!(text, "{number}")?;
-    Ok(text.into_bytes())
+    Ok(format!(in alloc; "{wrong}{number}")?.into_bytes())
 }
 
 // The rule that a game breaks.

@@ -1,23 +1,20 @@
 //! The texts of what is wrong with a strategy file.
 
-ghost use Rattle.std.specs.Prelude.{◌≡◌, ◌≢◌, ◌++◌, ℕ, IfOk, codes};
-ghost use Rattle.std.specs.Fmt.{decimal};
+ghost use Rattle.std.specs.{Prelude.{◌≡◌, ◌≢◌, ◌++◌, ℕ, IfOk, codes}, Fmt.{decimal}};
 ghost use Rattle.gs_file.specs.Faults.{Fault as GameRule};
+ghost use Rattle.gs_file.specs.declared.fault.FileFault.TheVariants as file;
 ghost use Rattle.gs_filter.specs.FaultText.{fault_text as class_fault_text};
 ghost use Rattle.gs_frac.specs.FaultText.{fault_text as fraction_fault_text};
 ghost use Rattle.gs_strategy.specs.Faults.{Fault, IsFault as IsStoreFault};
-ghost use Rattle.gs_text.specs.FaultText.{IsFault, fault_text};
-ghost use Rattle.gs_text.specs.StoreText.{part_text as text_of_part, plan_text as text_of_plan, store_text as text_of_store};
-ghost use Rattle.gs_file.specs.declared.fault.FileFault.TheVariants as file;
+ghost use Rattle.gs_text.specs.{FaultText.{IsFault, fault_text}, StoreText.{part_text as text_of_part, plan_text as text_of_plan, store_text as text_of_store}};
 
-use crate::faults::file_fault_text;
+use crate::faults::{counted_text, file_fault_text};
 use gs_file::FileFault;
 use gs_filter::ClassFault;
 use gs_frac::FracFault;
 use gs_seq::PlanFault;
 use gs_strategy::{Part, StoreFault};
 use std::alloc::{AllocError, Global};
-use std::fmt::Write;
 
 /// The name of a part.
 fn part_text(part: Part) -> &'static str
@@ -33,15 +30,6 @@ fn part_text(part: Part) -> &'static str
         Part::Gap1 => "gap1",
         Part::Gap2 => "gap2",
     }
-}
-
-/// What is wrong, and a number behind it.
-fn numbered(alloc: Global, wrong: &str, number: u64) -> Result<Vec<u8>, AllocError>
-    ensures { IfOk result (λ v. v.items ≡ wrong.now ++ decimal number) }
-{
-    let mut text = String::from_str(alloc, wrong)?;
-    write!(text, "{number}")?;
-    Ok(text.into_bytes())
 }
 
 /// A part of a wrong shape.
@@ -78,9 +66,7 @@ fn classes_text(alloc: Global, fault: &ClassFault) -> Result<Vec<u8>, AllocError
 fn flow_text(alloc: Global, player: u8, point: u32, class: u32) -> Result<Vec<u8>, AllocError>
     ensures { IfOk result (λ v. v.items ≡ codes "player " ++ decimal player ++ codes " flow at point " ++ decimal point ++ codes " class " ++ decimal class) }
 {
-    let mut text = format!(in alloc; "player {player}")?;
-    write!(text, " flow at point {point}")?;
-    write!(text, " class {class}")?;
+    let text = format!(in alloc; "player {player} flow at point {point} class {class}")?;
     Ok(text.into_bytes())
 }
 
@@ -88,9 +74,7 @@ fn flow_text(alloc: Global, player: u8, point: u32, class: u32) -> Result<Vec<u8
 fn player_text(alloc: Global, player: u8, wrong: &str) -> Result<Vec<u8>, AllocError>
     ensures { IfOk result (λ v. v.items ≡ codes "player " ++ decimal player ++ wrong.now) }
 {
-    let mut text = format!(in alloc; "player {player}")?;
-    text.push_str(wrong)?;
-    Ok(text.into_bytes())
+    Ok(format!(in alloc; "player {player}{wrong}")?.into_bytes())
 }
 
 /// Weights that are no plan.
@@ -123,12 +107,14 @@ pub fn store_fault_text(alloc: Global, fault: &StoreFault) -> Result<Vec<u8>, Al
     match fault {
         StoreFault::NotJson => Ok(String::from_str(alloc, "not JSON")?.into_bytes()),
         StoreFault::Shape(part) => shape_text(alloc, *part),
-        StoreFault::Version(number) => numbered(alloc, "version ", *number),
+        StoreFault::Version(number) => counted_text(alloc, "version ", u128::from(*number)),
         StoreFault::Game(fault) => game_text(alloc, fault),
         StoreFault::Classes(fault) => classes_text(alloc, fault),
         StoreFault::Plan { player, fault } => plan_text(alloc, *player, *fault),
         StoreFault::Fraction { part, fault } => fraction_fault(alloc, *part, fault),
-        StoreFault::NotCanonical { at } => numbered(alloc, "not canonical at ", *at),
+        StoreFault::NotCanonical { at } => {
+            counted_text(alloc, "not canonical at ", u128::from(*at))
+        }
         StoreFault::Memory => Ok(String::from_str(alloc, "out of memory")?.into_bytes()),
     }
 }

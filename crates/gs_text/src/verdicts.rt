@@ -9,27 +9,11 @@ use gs_lift::Mixture;
 use std::alloc::{AllocError, Global};
 use std::fmt::Write;
 
-/// Adds a space, a fraction and the end of the line.
-fn push_number(text: &mut String, alloc: Global, number: &Fraction) -> Result<(), AllocError>
-    ensures { OnOk result (string_bytes text.new ≡ string_bytes text.old ++ number_line [] (parts_of number.now)) }
-{
-    text.push_str(" ")?;
-    let written = number.to_text(alloc)?;
-    text.push_str(written.as_str())?;
-    text.push_str("\n")
-}
-
 /// Adds a name and a fraction as a line.
-fn push_line(
-    text: &mut String,
-    alloc: Global,
-    name: &str,
-    number: &Fraction,
-) -> Result<(), AllocError>
+fn push_line(text: &mut String, name: &str, number: &Fraction) -> Result<(), AllocError>
     ensures { OnOk result (string_bytes text.new ≡ string_bytes text.old ++ number_line name.now (parts_of number.now)) }
 {
-    text.push_str(name)?;
-    push_number(text, alloc, number)
+    writeln!(text, "{name} {number}")
 }
 
 /// The value and the gaps of both players, a line each.
@@ -37,9 +21,9 @@ pub fn verdict_text(alloc: Global, verdict: &Verdict) -> Result<Vec<u8>, AllocEr
     ensures { IfOk result (λ text. text.items ≡ text_of_verdict (numbers_of verdict.now)) }
 {
     let mut text = String::new(alloc);
-    push_line(&mut text, alloc, "value", &verdict.value)?;
-    push_line(&mut text, alloc, "gap1", &verdict.gap1)?;
-    push_line(&mut text, alloc, "gap2", &verdict.gap2)?;
+    push_line(&mut text, "value", &verdict.value)?;
+    push_line(&mut text, "gap1", &verdict.gap1)?;
+    push_line(&mut text, "gap2", &verdict.gap2)?;
     Ok(text.into_bytes())
 }
 
@@ -50,8 +34,8 @@ pub fn mix_text(alloc: Global, mixture: &Mixture, gap: &Fraction) -> Result<Vec<
     let mut text = String::new(alloc);
     for (letter, share) in mixture.pairs() {
         text.push(char::from(*letter))?;
-        push_number(&mut text, alloc, share)?;
+        writeln!(text, " {share}")?;
     }
-    push_line(&mut text, alloc, "gap", gap)?;
+    push_line(&mut text, "gap", gap)?;
     Ok(text.into_bytes())
 }

@@ -1,6 +1,6 @@
-use Rattle.std.proofs.Common.{◌≡◌, ◌-◌, ◌<◌, ℕ, List, [], get_or, length, string_bytes, take, sym, ap, ◌∙◌, arith}
+use Rattle.std.proofs.Common.{◌≡◌, ◌-◌, ◌<◌, ℕ, List, [], get_or, length, string_bytes, take, sym, ap, ◌∙◌, arith, ◌++◌, codes}
 use Rattle.std.specs.List.{zip}
-use Rattle.std.proofs.lemmas.List.{get_or-map, length-map}
+use Rattle.std.proofs.lemmas.List.{append_assoc, get_or-map, length-map}
 use Rattle.gs_card.specs.Decks.{DeckValue}
 use Rattle.gs_model.specs.Game.{Game}
 use Rattle.gs_model.specs.Signals.{parents, signal_at, signals}
@@ -34,8 +34,8 @@ bounds-above-owner c =
       length-map (signals g (c.args.round - 1)) (signal_text (deck_of s)),
     )
 
-pub push_member_below-requires-clause-parent : goal.push_member_below-requires-clause-parent
-push_member_below-requires-clause-parent c =
+pub push_text_below-requires-clause-parent : goal.push_text_below-requires-clause-parent
+push_text_below-requires-clause-parent c =
     let s = c.args.signals.now in
     let g : Game = rules_of s in
     let d : DeckValue = deck_of s in
@@ -68,6 +68,7 @@ loop-index-preserved c =
     let d : DeckValue = deck_of s in
     let shown : List ℕ = signal_text d (signal_at g c.args.round i) in
     let here : i < length (signals g c.args.round) = omega (arith, c.requires.lengths, c.loop-index-test.true) in
-    lines-told c.args.count (signal_texts d g c.args.round) c.args.classes.now i c.loop-index.lines.items c.index_mut-line.result.now c.push_member_below.new.line shown c.loop-index-test.true
+    let grown = c.in_ok-push_text_below.ensures ∙ ap (λ line. line ++ shown) c.in_ok-push_str.ensures.bytes ∙ append_assoc (string_bytes c.index_mut-line.result.now) (codes " ") shown in
+    lines-told c.args.count (signal_texts d g c.args.round) c.args.classes.now i c.loop-index.lines.items c.index_mut-line.result.now c.push_text_below.new.text shown c.loop-index-test.true
     (length-map (signals g c.args.round) (signal_text d) ∙ sym c.requires.lengths)
-    (c.requires.numbers i 0 c.loop-index-test.true) c.loop-index.invariant (get_or-map (signal_text d) (signals g c.args.round) i [] shown here) c.index_mut-line.ensures.value c.in_ok-push_member_below.ensures
+    (c.requires.numbers i 0 c.loop-index-test.true) c.loop-index.invariant (get_or-map (signal_text d) (signals g c.args.round) i [] shown here) c.index_mut-line.ensures.value grown
