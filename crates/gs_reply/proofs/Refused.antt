@@ -1,4 +1,4 @@
--- A fault of the program is the one that reading meets first.
+-- A fault of the program is the one that reading meets first; answers that tell a refusal, and answers of which more is said.
 use Rattle.std.proofs.Common.{◌≢◌, Result, Ok, Err, refl}
 use Rattle.gs_file.specs.Answers.{Fails}
 use Rattle.gs_file.specs.Faults.{Fault}
@@ -9,7 +9,7 @@ use Rattle.gs_game.specs.declared.faults.GameFault.{GameFault}
 use Rattle.gs_game.specs.declared.faults.GameFault.TheVariants as rules
 use Rattle.gs_file.specs.Answers.{FailsByRules}
 use Rattle.gs_reply.specs.Refusals.{Refusal, Bad_game}
-use Rattle.gs_reply.specs.Replies.{Answers, OfReading, Reply, Refuses, Tells}
+use Rattle.gs_reply.specs.Replies.{Answers, OfReading, Reply, Prints, Refuses, Tells}
 use Rattle.gs_reply.specs.declared.answers.Answer.{Answer}
 use Rattle.gs_reply.specs.declared.answers.Answer.TheVariants as answer
 
@@ -40,6 +40,11 @@ no_fault (fault.Deck why) g told h = cc
 no_fault (fault.TreeText round why) g told h = cc
 no_fault (fault.Game why) g told h = by_rules why g h
 no_fault fault.Memory g told h = told refl
+
+-- what follows of each reply follows of each answer
+pub answers_more : (P Q : Reply → Type 0) → ((r : Reply) → P r → Q r) → (a : Answer) → Answers P a → Answers Q a
+answers_more P Q more (answer.Prints text) h = more (Prints text.items) h
+answers_more P Q more (answer.Refuses kind line) h = (h.0, more (Refuses h.0) h.1, h.2)
 
 -- an answer that tells a refusal answers so, where the refusal is said
 pub tells_answer : (says : Reply → Type 0) (a : Answer) (why : Refusal) → says (Refuses why) → Tells a why → Answers says a

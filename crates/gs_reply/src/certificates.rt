@@ -1,8 +1,7 @@
 //! Refusals of certificates.
 
 ghost use Rattle.std.specs.Prelude.{◌≡◌, IfOk};
-ghost use Rattle.gs_reply.specs.Refusals.{Bad_certificate};
-ghost use Rattle.gs_reply.specs.Replies.{Tells};
+ghost use Rattle.gs_reply.specs.{Refusals.{Bad_certificate}, Replies.{Tells}};
 
 use crate::answers::{Answer, Cause};
 use std::alloc::{AllocError, Global};

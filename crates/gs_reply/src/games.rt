@@ -1,10 +1,8 @@
 //! Refusals of game files, and of two games where one is wanted.
 
 ghost use Rattle.std.specs.Prelude.{◌≡◌, ◌≢◌, IfOk};
-ghost use Rattle.gs_file.specs.Faults.{Fault};
-ghost use Rattle.gs_file.specs.declared.fault.FileFault.TheVariants.{Memory};
-ghost use Rattle.gs_reply.specs.Refusals.{Bad_game, Other_game};
-ghost use Rattle.gs_reply.specs.Replies.{Tells};
+ghost use Rattle.gs_file.specs.{Faults.{Fault}, declared.fault.FileFault.TheVariants.{Memory}};
+ghost use Rattle.gs_reply.specs.{Refusals.{Bad_game, Other_game}, Replies.{Tells}};
 ghost use Rattle.gs_text.specs.FaultText.{IsFault};
 
 use crate::answers::{Answer, Cause};

@@ -1,8 +1,7 @@
 //! Refusals of stated numbers.
 
 ghost use Rattle.std.specs.Prelude.{◌≡◌, IfOk};
-ghost use Rattle.gs_reply.specs.Refusals.{Wrong_number};
-ghost use Rattle.gs_reply.specs.Replies.{Tells};
+ghost use Rattle.gs_reply.specs.{Refusals.{Wrong_number}, Replies.{Tells}};
 
 use crate::answers::{Answer, Cause};
 use gs_frac::Fraction;

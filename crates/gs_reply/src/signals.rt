@@ -1,12 +1,9 @@
 //! Refusals of classes.
 
 ghost use Rattle.std.specs.Prelude.{◌≡◌, ◌<◌, ◌≤◌, IfOk, length};
-ghost use Rattle.gs_model.specs.Game.{round_count};
-ghost use Rattle.gs_model.specs.Signals.{signal_at, signals as signals_in};
-ghost use Rattle.gs_reply.specs.Refusals.{Unlike_pair};
-ghost use Rattle.gs_reply.specs.Replies.{Tells};
-ghost use Rattle.gs_tree.specs.Texts.{signal_text};
-ghost use Rattle.gs_tree.specs.Trees.{deck_of, rules_of};
+ghost use Rattle.gs_model.specs.{Game.{round_count}, Signals.{signal_at, signals as signals_in}};
+ghost use Rattle.gs_reply.specs.{Refusals.{Unlike_pair}, Replies.{Tells}};
+ghost use Rattle.gs_tree.specs.{Texts.{signal_text}, Trees.{deck_of, rules_of}};
 
 use crate::answers::{Answer, Cause};
 use gs_tree::Signals;

@@ -1,9 +1,7 @@
 //! Refusals of games that are too large, and of solutions whose numbers or paths are.
 
-ghost use Rattle.std.specs.Prelude.{◌≡◌, ◌++◌, IfOk, codes};
-ghost use Rattle.std.specs.Fmt.{decimal};
-ghost use Rattle.gs_reply.specs.Refusals.{Overflows, At_step, At_total, Many_pivots, Too_large, Sequences, Cells, Table_numbers, Raw_cells};
-ghost use Rattle.gs_reply.specs.Replies.{Tells};
+ghost use Rattle.std.specs.{Prelude.{◌≡◌, ◌++◌, IfOk, codes}, Fmt.{decimal}};
+ghost use Rattle.gs_reply.specs.{Refusals.{Overflows, At_step, At_total, Many_pivots, Too_large, Sequences, Cells, Table_numbers, Raw_cells}, Replies.{Tells}};
 
 use crate::answers::{Answer, Cause};
 use std::alloc::{AllocError, Global};
@@ -50,18 +48,6 @@ pub fn many_pivots(alloc: Global) -> Result<Answer, AllocError>
     Ok(Answer::Refuses { cause, line })
 }
 
-/// The refusal of a game in which a player has too many sequences.
-pub fn many_sequences(alloc: Global, player: u8, count: u64) -> Result<Answer, AllocError>
-    ensures { IfOk result (λ a. Tells a (Too_large (Sequences player count))) }
-{
-    let mut line = format!(in alloc; "too large: sequences of player {player}")?;
-    write!(line, ": {count}\n")?;
-    Ok(Answer::Refuses {
-        cause: Cause::TooLarge,
-        line: line.into_bytes(),
-    })
-}
-
 // What there is too much of, and how much.
 fn too_many(alloc: Global, what: &str, count: u64) -> Result<Vec<u8>, AllocError>
     ensures { IfOk result (λ line. line.items ≡ codes "too large: " ++ what.now ++ decimal count ++ codes "\n") }
@@ -70,6 +56,16 @@ fn too_many(alloc: Global, what: &str, count: u64) -> Result<Vec<u8>, AllocError
     line.push_str(what)?;
     write!(line, "{count}\n")?;
     Ok(line.into_bytes())
+}
+
+/// The refusal of a game in which a player has too many sequences.
+pub fn many_sequences(alloc: Global, player: u8, count: u64) -> Result<Answer, AllocError>
+    ensures { IfOk result (λ a. Tells a (Too_large (Sequences player count))) }
+{
+    let what = format!(in alloc; "sequences of player {player}: ")?;
+    let line = too_many(alloc, &what, count)?;
+    let cause = Cause::TooLarge;
+    Ok(Answer::Refuses { cause, line })
 }
 
 /// The refusal of a game with too many pairs of classes over its ends.

@@ -1,8 +1,7 @@
 //! Refusals of strategy files.
 
-ghost use Rattle.std.specs.Prelude.{◌≡◌, IfOk};
-ghost use Rattle.gs_reply.specs.Refusals.{Bad_strategy, which_text};
-ghost use Rattle.gs_reply.specs.Replies.{Tells};
+ghost use Rattle.std.specs.Prelude.{IfOk};
+ghost use Rattle.gs_reply.specs.{Refusals.{Bad_strategy}, Replies.{Tells}};
 ghost use Rattle.gs_strategy.specs.Faults.{Fault, IsFault};
 
 use crate::answers::{Answer, Cause};
@@ -18,25 +17,17 @@ pub enum Which {
     Second,
 }
 
-// The words in front of a file's fault.
-fn word_of(which: Which) -> &'static str
-    ensures { result.now ≡ which_text which }
-{
-    match which {
-        Which::Only => "",
-        Which::First => "first: ",
-        Which::Second => "second: ",
-    }
-}
-
 /// The refusal of a file that holds no strategy.
 pub fn bad_strategy(alloc: Global, which: Which, fault: &StoreFault) -> Result<Answer, AllocError>
     requires { (why : Fault) × IsFault fault.now why }
     ensures { IfOk result (λ a. (why : Fault) → IsFault fault.now why → Tells a (Bad_strategy which why)) }
 {
-    let mut line = String::from_str(alloc, "bad strategy: ")?;
-    line.push_str(word_of(which))?;
-    let mut line = line.into_bytes();
+    let opening = match which {
+        Which::Only => "bad strategy: ",
+        Which::First => "bad strategy: first: ",
+        Which::Second => "bad strategy: second: ",
+    };
+    let mut line = String::from_str(alloc, opening)?.into_bytes();
     let text = store_fault_text(alloc, fault)?;
     line.extend_from_slice(&text)?;
     line.push(b'\n')?;
