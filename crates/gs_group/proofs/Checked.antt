@@ -16,12 +16,8 @@ use Rattle.gs_text.specs.ClassText.{AreListsOf}
 use Rattle.gs_tree.specs.Texts.{signal_text}
 use Rattle.gs_words.specs.declared.request.Grouping.{Grouping}
 use Rattle.gs_words.specs.declared.request.Grouping.TheVariants.{Isomorphism, Coarsest, Single}
-use Rattle.gs_group.specs.Checking.{ChecksGame, IsChecked, IsGrouping}
+use Rattle.gs_group.specs.Checking.{IsChecked, IsGrouping, IsUnlikePair}
 use Rattle.gs_group.specs.Shrinking.{told}
-use Rattle.gs_reply.specs.Refusals.{Unlike_pair}
-use Rattle.gs_reply.specs.Replies.{Answers, Tells}
-use Rattle.gs_reply.specs.declared.answers.Answer.{Answer}
-use Rattle.gs_reply.specs.declared.answers.Answer.TheVariants as answer
 
 -- classes over the parents of a game's signals have a number for each signal
 pub lists_of : (g : Game) (parents : List (List ℕ)) (lists : ClassLists) → parents ≡ all_parents g → IsClasses parents lists → AreListsOf g lists
@@ -55,28 +51,28 @@ always_lossless grouping g lists one are = ⊎_elim
     subst (IsLossless (frame_of g)) (sym h) (singles (frame_of g) (single_are_classes (frame_of g).parents)))
     one
 
-told_so : (grouping : Grouping) (summary : Bool) (v : FileGame) (lists : ClassLists) (round first second : ℕ) (a : Answer) → IsGrouping grouping (rules_of v) lists
+-- an unlike pair of a grouping's classes, by texts of the two signals
+unlike_so : (grouping : Grouping) (v : FileGame) (lists : ClassLists) (round first second : ℕ) (one two : List ℕ) → IsGrouping grouping (rules_of v) lists
     → (lists ≡ single_classes (frame_of (rules_of v)).parents → ⊥) → (IsLossless (frame_of (rules_of v)) lists → ⊥) → IsFirstUnlike (frame_of (rules_of v)) lists round first second
-    → Tells a (Unlike_pair round (signal_text v.deck (signal_at (rules_of v) round first)) (signal_text v.deck (signal_at (rules_of v) round second))) → Answers (ChecksGame grouping summary v) a
-told_so grouping summary v lists round first second (answer.Prints text) are single lossless unlike t = absurd t
-told_so Isomorphism summary v lists round first second (answer.Refuses kind line) are single lossless unlike t = (
-  Unlike_pair round (signal_text v.deck (signal_at (rules_of v) round first)) (signal_text v.deck (signal_at (rules_of v) round second)),
-  (refl, record { classes = lists; are = are; first = first; second = second; unlike = unlike; not_lossless = lossless; first_text = refl; second_text = refl }),
-  t,
-)
-told_so Coarsest summary v lists round first second (answer.Refuses kind line) are single lossless unlike t = absurd (lossless are.2.lossless)
-told_so Single summary v lists round first second (answer.Refuses kind line) are single lossless unlike t = absurd (single are)
+    → one ≡ signal_text v.deck (signal_at (rules_of v) round first) → two ≡ signal_text v.deck (signal_at (rules_of v) round second) → (grouping ≡ Isomorphism) × IsUnlikePair v round one two
+unlike_so Isomorphism v lists round first second one two are single lossless unlike is_one is_two =
+    (refl, record { classes = lists; are = are; first = first; second = second; unlike = unlike; not_lossless = lossless; first_text = is_one; second_text = is_two })
+unlike_so Coarsest v lists round first second one two are single lossless unlike is_one is_two = absurd (lossless are.2.lossless)
+unlike_so Single v lists round first second one two are single lossless unlike is_one is_two = absurd (single are)
 
-pub unlike_answers : (grouping : Grouping) (summary : Bool) (v : FileGame) (g : Game) (d : DeckValue) (lists : ClassLists) (parents : List (List ℕ)) (round named first second : ℕ) (a : Answer) → g ≡ rules_of v → d ≡ v.deck
+-- the first unlike pair of a grouping's classes, as it is said of the game that they are of
+pub is_unlike : (grouping : Grouping) (v : FileGame) (g : Game) (d : DeckValue) (lists : ClassLists) (parents : List (List ℕ)) (round named first second : ℕ) → g ≡ rules_of v → d ≡ v.deck
     → IsGrouping grouping g lists → parents ≡ (frame_of g).parents → (lists ≡ single_classes parents → ⊥) → (IsLossless (frame_of g) lists → ⊥) → IsFirstUnlike (frame_of g) lists round named second → first ≡ first_member lists round (class_of lists round second)
-    → Tells a (Unlike_pair round (signal_text d (signal_at g round first)) (signal_text d (signal_at g round second))) → Answers (ChecksGame grouping summary v) a
-unlike_answers grouping summary v g d lists parents round named first second a of_game of_deck are of_parents single lossless unlike is_first t =
+    → (grouping ≡ Isomorphism) × IsUnlikePair v round (signal_text d (signal_at g round first)) (signal_text d (signal_at g round second))
+is_unlike grouping v g d lists parents round named first second of_game of_deck are of_parents single lossless unlike is_first =
     let same : named ≡ first = unlike.member ∙ sym is_first in
     let here : IsFirstUnlike (frame_of g) lists round first second = subst (λ n. IsFirstUnlike (frame_of g) lists round n second) same unlike in
-    told_so grouping summary v lists round first second a
+    let written : (n : ℕ) → signal_text d (signal_at g round n) ≡ signal_text v.deck (signal_at (rules_of v) round n) =
+    (λ n. ap (λ (x : DeckValue). signal_text x (signal_at g round n)) of_deck ∙ ap (λ (x : Game). signal_text v.deck (signal_at x round n)) of_game) in
+    unlike_so grouping v lists round first second (signal_text d (signal_at g round first)) (signal_text d (signal_at g round second))
     (subst (λ (x : Game). IsGrouping grouping x lists) of_game are)
     (λ e. single (e ∙ ap single_classes (sym (of_parents ∙ ap (λ x. (frame_of x).parents) of_game))))
     (λ h. lossless (subst (λ (x : Game). IsLossless (frame_of x) lists) (sym of_game) h))
     (subst (λ (x : Game). IsFirstUnlike (frame_of x) lists round first second) of_game here)
-    (subst (λ (x : DeckValue). Tells a (Unlike_pair round (signal_text x (signal_at (rules_of v) round first)) (signal_text x (signal_at (rules_of v) round second)))) of_deck
-    (subst (λ (x : Game). Tells a (Unlike_pair round (signal_text d (signal_at x round first)) (signal_text d (signal_at x round second)))) of_game t))
+    (written first)
+    (written second)

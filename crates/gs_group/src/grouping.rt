@@ -4,8 +4,7 @@ ghost use Rattle.std.specs.Prelude.{◌≡◌, IfErr, IfOk};
 ghost use Rattle.gs_filter.specs.Filter.{single_classes};
 ghost use Rattle.gs_group.specs.Checking.{IsGrouping};
 ghost use Rattle.gs_lossless.specs.Stops.{IsUnlike, IsUnlikeIn};
-ghost use Rattle.gs_model.specs.Frame.{frame_of};
-ghost use Rattle.gs_model.specs.Lossless.{IsLossless};
+ghost use Rattle.gs_model.specs.{Frame.{frame_of}, Lossless.{IsLossless}};
 ghost use Rattle.gs_tree.specs.Trees.{rules_of};
 ghost use Rattle.gs_words.specs.declared.request.Grouping.TheVariants.{Coarsest};
 
