@@ -1,1 +1,1 @@
-mod Checked
+pub mod Checked

@@ -1,15 +1,13 @@
--- Answers of which more is said than of those that they were made from, and answers that tell a refusal.
-use Rattle.gs_reply.specs.Refusals.{Refusal}
-use Rattle.gs_reply.specs.Replies.{Answers, Reply, Prints, Refuses, Tells}
+-- Answers that tell a number of a path that is too large.
+use Rattle.std.proofs.Common.{ℕ, ℤ, FitsSigned, subst, to_z, of_z, to_z-of_z}
+use Rattle.std.specs.Int.{w128}
+use Rattle.gs_reply.specs.Refusals.{Overflows, At_step}
+use Rattle.gs_reply.specs.Replies.{Answers, Reply, Refuses, Tells}
 use Rattle.gs_reply.specs.declared.answers.Answer.{Answer}
-use Rattle.gs_reply.specs.declared.answers.Answer.TheVariants as answer
+use Rattle.gs_reply.proofs.Refused.{tells_answer}
 
--- what follows of each reply follows of each answer
-pub answers_more : (P Q : Reply → Type 0) → ((r : Reply) → P r → Q r) → (a : Answer) → Answers P a → Answers Q a
-answers_more P Q more (answer.Prints text) h = more (Prints text.items) h
-answers_more P Q more (answer.Refuses kind line) h = (h.0, more (Refuses h.0) h.1, h.2)
-
--- an answer that tells a refusal which is one that is said
-pub answers_refusal : (P : Reply → Type 0) (why : Refusal) (a : Answer) → P (Refuses why) → Tells a why → Answers P a
-answers_refusal P why (answer.Prints text) h t = absurd t
-answers_refusal P why (answer.Refuses kind line) h t = (why, h, t)
+-- the number that fits is the one that is told
+pub overflow_answers : (P : Reply → Type 0) (step row col : ℕ) (number : ℤ) (a : Answer) → FitsSigned w128 number → P (Refuses (Overflows (At_step step row col number))) → Tells a (Overflows (At_step step row col (to_z w128 (of_z w128 number))))
+    → Answers P a
+overflow_answers P step row col number a fits says t =
+    tells_answer P a (Overflows (At_step step row col number)) says (subst (λ (z : ℤ). Tells a (Overflows (At_step step row col z))) (to_z-of_z {w = w128} {z = number} fits) t)

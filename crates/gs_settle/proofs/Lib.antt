@@ -4,4 +4,3 @@ pub mod Said
 pub mod SolvedGaps
 pub mod Told
 pub mod TurnLines
-pub mod Unlike

@@ -18,7 +18,7 @@ use Rattle.gs_words.specs.declared.request.Grouping.{Grouping}
 use Rattle.gs_settle.specs.Settling.{OfForm, OfGrouping, SaysLarge, SaysUnlike, game_in}
 use Rattle.gs_settle.specs.Tasks.{Says}
 use Rattle.gs_settle.specs.declared.tasks.Task.{Task}
-use Rattle.gs_settle.proofs.Answering.{answers_more}
+use Rattle.gs_reply.proofs.Refused.{answers_more}
 
 -- of a game in sequence form it is said of the lossless classes
 pub form_said : (task : Task) (form : Abstract) (l : Lossless) (a : Answer) → form.lossless.now ≡ l → IsSmall (frame_in form) (lists_of form) → Answers (Says task (game_in form) (lists_of form)) a

@@ -12,10 +12,7 @@ mod writing;
 
 ghost use Rattle.std.specs.Prelude.{◌≤◌, IfOk};
 ghost use Rattle.gs_reply.specs.Replies.{Answers};
-ghost use Rattle.gs_settle.specs.Paths.{ShowsPath};
-ghost use Rattle.gs_settle.specs.Playing.{Plays};
-ghost use Rattle.gs_settle.specs.Settling.{Settles};
-ghost use Rattle.gs_settle.specs.Solving.{Solves};
+ghost use Rattle.gs_settle.specs.{Paths.{ShowsPath}, Playing.{Plays}, Settling.{Settles}, Solving.{Solves}};
 
 use gs_reply::Answer;
 use gs_words::Grouping;

@@ -3,14 +3,11 @@
 ghost use Rattle.std.specs.Prelude.{◌≡◌, IfOk};
 ghost use Rattle.gs_filter.specs.Filter.{IsSound};
 ghost use Rattle.gs_reply.specs.Replies.{Answers};
-ghost use Rattle.gs_rows.specs.Program.{Listing};
-ghost use Rattle.gs_rows.specs.declared.Program.{Program};
+ghost use Rattle.gs_rows.specs.{Program.{Listing}, declared.Program.{Program}};
 ghost use Rattle.gs_seq.specs.Abstracts.{frame_of, lists_of};
-ghost use Rattle.gs_settle.specs.Paths.{ShowsPath};
-ghost use Rattle.gs_settle.specs.Settling.{game_in};
+ghost use Rattle.gs_settle.specs.{Paths.{ShowsPath}, Settling.{game_in}};
 ghost use Rattle.gs_simplex.specs.Answer.{IsStop};
-ghost use Rattle.gs_solve.specs.Solutions.{IsGamePath, IsProgramStop, most_pivots};
-ghost use Rattle.gs_solve.specs.Stops.{IsMet};
+ghost use Rattle.gs_solve.specs.{Solutions.{IsGamePath, IsProgramStop, most_pivots}, Stops.{IsMet}};
 
 use crate::lines::path_text;
 use gs_reply::{Answer, many_pivots, many_table_numbers, overflow_at_step};

@@ -2,10 +2,8 @@
 
 ghost use Rattle.std.specs.Prelude.{◌≤◌, IfOk};
 ghost use Rattle.gs_reply.specs.Replies.{Answers};
-ghost use Rattle.gs_seq.specs.Abstracts.{frame_of, lists_of};
-ghost use Rattle.gs_seq.specs.Stops.{IsSmall};
-ghost use Rattle.gs_settle.specs.Playing.{Plays};
-ghost use Rattle.gs_settle.specs.Settling.{game_in};
+ghost use Rattle.gs_seq.specs.{Abstracts.{frame_of, lists_of}, Stops.{IsSmall}};
+ghost use Rattle.gs_settle.specs.{Playing.{Plays}, Settling.{game_in}};
 
 use crate::writing::text_of;
 use gs_play::play;

@@ -5,14 +5,10 @@ ghost use Rattle.gs_file.specs.Views.{valid_view};
 ghost use Rattle.gs_filter.specs.Filter.{single_classes};
 ghost use Rattle.gs_group.specs.Checking.{IsGrouping};
 ghost use Rattle.gs_lossless.specs.Stops.{IsUnlike, IsUnlikeIn};
-ghost use Rattle.gs_model.specs.Frame.{frame_of};
-ghost use Rattle.gs_model.specs.Lossless.{IsLossless};
+ghost use Rattle.gs_model.specs.{Frame.{frame_of}, Lossless.{IsLossless}};
 ghost use Rattle.gs_reply.specs.Replies.{Answers};
-ghost use Rattle.gs_seq.specs.Abstracts.{frame_of as frame_by, lists_of};
-ghost use Rattle.gs_seq.specs.Games.{frame_in};
-ghost use Rattle.gs_seq.specs.Stops.{IsSmall, IsStopOf};
-ghost use Rattle.gs_settle.specs.Settling.{OfForm, OfGrouping, SaysLarge, SaysUnlike, Settles, game_in};
-ghost use Rattle.gs_settle.specs.Tasks.{IsFew, Says};
+ghost use Rattle.gs_seq.specs.{Abstracts.{frame_of as frame_by, lists_of}, Games.{frame_in}, Stops.{IsSmall, IsStopOf}};
+ghost use Rattle.gs_settle.specs.{Settling.{OfForm, OfGrouping, SaysLarge, SaysUnlike, Settles, game_in}, Tasks.{IsFew, Says}};
 ghost use Rattle.gs_tree.specs.Trees.{rules_of};
 
 use crate::paths::shown;

@@ -3,10 +3,8 @@
 ghost use Rattle.std.specs.Prelude.{◌≡◌, ◌≢◌, IfOk};
 ghost use Rattle.gs_model.specs.Classes.{ClassLists};
 ghost use Rattle.gs_reply.specs.Replies.{Answers};
-ghost use Rattle.gs_seq.specs.Abstracts.{frame_of, lists_of};
-ghost use Rattle.gs_seq.specs.Stops.{IsSmall};
-ghost use Rattle.gs_settle.specs.Settling.{game_in};
-ghost use Rattle.gs_settle.specs.Solving.{Solves};
+ghost use Rattle.gs_seq.specs.{Abstracts.{frame_of, lists_of}, Stops.{IsSmall}};
+ghost use Rattle.gs_settle.specs.{Settling.{game_in}, Solving.{Solves}};
 ghost use Rattle.gs_solve.specs.Solutions.{IsSolveStop};
 
 use crate::writing::text_of;

@@ -1,11 +1,8 @@
 //! The text of a strategy.
 
 ghost use Rattle.std.specs.Prelude.{IfOk};
-ghost use Rattle.gs_seq.specs.Abstracts.{frame_of, lists_of};
-ghost use Rattle.gs_seq.specs.Plans.{IsPlanOf};
-ghost use Rattle.gs_seq.specs.Stops.{IsSmall};
-ghost use Rattle.gs_settle.specs.Settling.{game_in};
-ghost use Rattle.gs_settle.specs.Texts.{IsTextOf};
+ghost use Rattle.gs_seq.specs.{Abstracts.{frame_of, lists_of}, Plans.{IsPlanOf}, Stops.{IsSmall}};
+ghost use Rattle.gs_settle.specs.{Settling.{game_in}, Texts.{IsTextOf}};
 
 use gs_best::{Work, verdict};
 use gs_seq::{Abstract, Plan};
