@@ -6,11 +6,10 @@ use Rattle.gs_raw.specs.Cells.{raw_cell_count}
 use Rattle.gs_raw.specs.declared.stop.RawStop.{RawStop}
 use Rattle.gs_raw.specs.declared.stop.RawStop.TheVariants.{TooManyCells}
 use Rattle.gs_reply.specs.Refusals.{Bad_strategy, Raw_cells, Too_large}
-use Rattle.gs_reply.specs.Replies.{Answers, Reply, Prints, Refuses, Tells}
+use Rattle.gs_reply.specs.Replies.{Answers, Reply, Refuses, Tells}
 use Rattle.gs_reply.specs.declared.answers.Answer.{Answer}
-use Rattle.gs_reply.specs.declared.answers.Answer.TheVariants as answer
 use Rattle.gs_reply.specs.declared.strategies.Which.{Which}
-use Rattle.gs_reply.proofs.Refused.{tells_answer}
+use Rattle.gs_reply.proofs.Refused.{answers_more, tells_answer}
 use Rattle.gs_strategy.specs.Checks.{Reads}
 use Rattle.gs_strategy.specs.Confirmed.{frame_of}
 use Rattle.gs_strategy.specs.Faults.{FailsSo, Fault, IsFault}
@@ -19,19 +18,14 @@ use Rattle.gs_strategy.specs.declared.fault.StoreFault.{StoreFault}
 use Rattle.gs_strategy.specs.declared.fault.StoreFault.TheVariants as fault
 use Rattle.gs_compare.specs.Commands.{OfFile, OnRawCards}
 
--- what is said more weakly is answered too
-pub weaker : (P Q : Reply → Type 0) → ((r : Reply) → P r → Q r) → (a : Answer) → Answers P a → Answers Q a
-weaker P Q h (answer.Prints text) p = h (Prints text.items) p
-weaker P Q h (answer.Refuses kind line) p = (p.0, h (Refuses p.0) p.1, p.2)
-
 -- ---- the files
 
 -- what is said of a strategy is said of the file that holds it
 pub held : (which : Which) (says : Strategy → Reply → Type 0) (bytes : List ℕ) (s : Strategy) (a : Answer) → Reads bytes (Ok s) → Answers (says s) a → Answers (OfFile which says bytes) a
-held which says bytes s a reads = weaker (says s) (OfFile which says bytes) (λ r p. record { read = Ok s; reads = reads; said = p }) a
+held which says bytes s a reads = answers_more (says s) (OfFile which says bytes) (λ r p. record { read = Ok s; reads = reads; said = p }) a
 
 -- a fault that is no want of memory is the first one that reading meets
-pub met : (bytes : List ℕ) (told : StoreFault) → told ≢ fault.Memory → FailsSo told (Reads bytes) → (why : Fault) × IsFault told why × Reads bytes (Err why)
+met : (bytes : List ℕ) (told : StoreFault) → told ≢ fault.Memory → FailsSo told (Reads bytes) → (why : Fault) × IsFault told why × Reads bytes (Err why)
 met bytes fault.NotJson ne h = h
 met bytes (fault.Shape part) ne h = h
 met bytes (fault.Version number) ne h = h
@@ -41,6 +35,12 @@ met bytes (fault.Plan player why) ne h = h
 met bytes (fault.Fraction part why) ne h = h
 met bytes (fault.NotCanonical at) ne h = h
 met bytes fault.Memory ne h = absurd (ne refl)
+
+-- some first fault it is
+pub named : (bytes : List ℕ) (told : StoreFault) → told ≢ fault.Memory → FailsSo told (Reads bytes) → (why : Fault) × IsFault told why
+named bytes told ne h =
+    let m = met bytes told ne h in
+    (m.0, m.1)
 
 -- and the file is refused for it
 pub refused : (which : Which) (says : Strategy → Reply → Type 0) (bytes : List ℕ) (told : StoreFault) (a : Answer) → told ≢ fault.Memory → FailsSo told (Reads bytes) → ((why : Fault) → IsFault told why → Tells a (Bad_strategy which why))

@@ -2,8 +2,7 @@
 
 ghost use Rattle.std.specs.Prelude.{◌≡◌, IfOk};
 ghost use Rattle.gs_compare.specs.Commands.{Duels, Judges, OfFile, SaysDuel};
-ghost use Rattle.gs_reply.specs.Replies.{Answers};
-ghost use Rattle.gs_reply.specs.declared.strategies.Which.TheVariants.{Second};
+ghost use Rattle.gs_reply.specs.{Replies.{Answers}, declared.strategies.Which.TheVariants.{Second}};
 ghost use Rattle.gs_strategy.specs.Views.{stored_view};
 
 use crate::judging::{dueled, judged};

@@ -1,22 +1,16 @@
-use Rattle.std.proofs.Common.{◌≢◌, rules}
+use Rattle.std.proofs.Common.{rules}
 use Rattle.std.proofs.lemmas.Result.{IfOk-weaker}
 use Rattle.gs_reply.specs.declared.strategies.Which.TheVariants.{Only}
 use Rattle.gs_strategy.specs.Views.{stored_view}
-use Rattle.gs_strategy.specs.declared.fault.StoreFault.TheVariants.{Memory}
 use Rattle.gs_compare.specs.Commands.{SaysJudged}
-use Rattle.gs_compare.proofs.Replies.{held, met, refused}
+use Rattle.gs_compare.proofs.Replies.{held, named, refused}
 use Rattle.gs_compare.proofs.commands.judge_answer.Goals as goal
 
 pub returns-in-Ok : goal.returns-in-Ok
 returns-in-Ok c = IfOk-weaker c.judged.result _ _ (λ a. held Only SaysJudged c.args.bytes.now (stored_view c.in-Ok.stored) a c.in-Ok.ensures.exact) c.judged.ensures
 
 pub bad_strategy-requires : goal.bad_strategy-requires
-bad_strategy-requires c =
-    let told : c.in-Err.fault ≢ Memory = search rules in
-    let m = met c.args.bytes.now c.in-Err.fault told c.in-Err.ensures.exact in
-    (m.0, m.1)
+bad_strategy-requires c = named c.args.bytes.now c.in-Err.fault (search rules) c.in-Err.ensures.exact
 
 pub returns-in-Err : goal.returns-in-Err
-returns-in-Err c =
-    let told : c.in-Err.fault ≢ Memory = search rules in
-    IfOk-weaker c.bad_strategy.result _ _ (λ a. refused Only SaysJudged c.args.bytes.now c.in-Err.fault a told c.in-Err.ensures.exact) c.bad_strategy.ensures
+returns-in-Err c = IfOk-weaker c.bad_strategy.result _ _ (λ a. refused Only SaysJudged c.args.bytes.now c.in-Err.fault a (search rules) c.in-Err.ensures.exact) c.bad_strategy.ensures
