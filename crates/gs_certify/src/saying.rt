@@ -2,10 +2,9 @@
 
 ghost use Rattle.std.specs.Prelude.{◌≡◌, IfOk};
 ghost use Rattle.gs_model.specs.Lossless.{IsLossless};
-ghost use Rattle.gs_seq.specs.Stops.{IsSmall};
 ghost use Rattle.gs_strategy.specs.{Confirmed.{frame_of}, Views.{stored_view}};
 ghost use Rattle.gs_reply.specs.Replies.{Answers};
-ghost use Rattle.gs_confirm.specs.{Commands.{OfConfirmed}, Held.{Holds}};
+ghost use Rattle.gs_confirm.specs.{Commands.{OfConfirmed}, Held.{Holds, IsFormOf}};
 ghost use Rattle.gs_certify.specs.{Certificates.{SaysCertified}, Tasks.{IsModest, says_of}};
 
 use crate::certifying::certified_text;
@@ -30,9 +29,7 @@ fn certified(alloc: Global, stored: &Stored, form: &Abstract) -> Result<Answer, 
 
 // The certificate of a strategy whose numbers are those of its plans.
 fn confirmed(alloc: Global, stored: &Stored, form: &Abstract) -> Result<Answer, AllocError>
-    requires held { Holds form.now.lossless.now stored.now }
-    requires lossless { IsLossless (frame_of (stored_view stored.now)) stored.now.classes.lists }
-    requires small { IsSmall (frame_of (stored_view stored.now)) stored.now.classes.lists }
+    requires { IsFormOf stored.now form.now }
     ensures { IfOk result (Answers (OfConfirmed SaysCertified (stored_view stored.now))) }
 {
     match wrong_of(alloc, stored, form)? {
@@ -48,9 +45,7 @@ fn of_form(
     stored: &Stored,
     form: &Abstract,
 ) -> Result<Answer, AllocError>
-    requires held { Holds form.now.lossless.now stored.now }
-    requires lossless { IsLossless (frame_of (stored_view stored.now)) stored.now.classes.lists }
-    requires small { IsSmall (frame_of (stored_view stored.now)) stored.now.classes.lists }
+    requires form { IsFormOf stored.now form.now }
     requires modest { IsModest task.now }
     ensures { IfOk result (Answers (says_of task.now (stored_view stored.now))) }
 {

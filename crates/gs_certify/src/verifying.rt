@@ -4,12 +4,9 @@ ghost use Rattle.std.specs.Prelude.{◌≡◌, ◌++◌, IfOk, OnOk, string_byte
 ghost use Rattle.gs_certificate.specs.Checks.{AreSmall};
 ghost use Rattle.gs_certificate.specs.FaultTexts.{cert_fault_text as text_of_fault, cert_text_fault_text as text_of_text_fault};
 ghost use Rattle.gs_certificate.specs.Views.{certificate_view};
-ghost use Rattle.gs_confirm.specs.Held.{Holds};
-ghost use Rattle.gs_model.specs.Lossless.{IsLossless};
+ghost use Rattle.gs_confirm.specs.Held.{IsFormOf};
 ghost use Rattle.gs_reply.specs.Refusals.{Bad_certificate};
 ghost use Rattle.gs_reply.specs.Replies.{Answers, Tells};
-ghost use Rattle.gs_seq.specs.Stops.{IsSmall};
-ghost use Rattle.gs_strategy.specs.Confirmed.{frame_of};
 ghost use Rattle.gs_strategy.specs.Views.{parts_of, stored_view};
 ghost use Rattle.gs_certify.specs.Verifying.{SaysChecked, bounds_text as text_of_bounds, number_line};
 
@@ -71,9 +68,7 @@ pub(crate) fn checked(
     form: &Abstract,
     c: &Certificate,
 ) -> Result<Answer, AllocError>
-    requires held { Holds form.now.lossless.now stored.now }
-    requires lossless { IsLossless (frame_of (stored_view stored.now)) stored.now.classes.lists }
-    requires small { IsSmall (frame_of (stored_view stored.now)) stored.now.classes.lists }
+    requires form { IsFormOf stored.now form.now }
     requires modest { AreSmall c.now }
     ensures { IfOk result (Answers (SaysChecked (stored_view stored.now) c.now)) }
 {

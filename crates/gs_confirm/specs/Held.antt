@@ -1,9 +1,20 @@
 -- A game in sequence form is that of a strategy that was read. Of private functions.
 use Rattle.std.specs.Prelude.{◌≡◌}
 use Rattle.gs_lossless.specs.declared.checking.Lossless.{Lossless}
+use Rattle.gs_model.specs.Lossless.{IsLossless}
+use Rattle.gs_seq.specs.Stops.{IsSmall}
+use Rattle.gs_seq.specs.declared.form.Abstract.{Abstract}
+use Rattle.gs_strategy.specs.Confirmed.{frame_of}
+use Rattle.gs_strategy.specs.Views.{stored_view}
 use Rattle.gs_strategy.specs.declared.stored.Stored.{Stored}
 
 -- the signals are those of the strategy's game, and the classes are its classes
 pub record Holds (l : Lossless) (s : Stored) : Type 0 where
   pub game : l.signals.now.game.now ≡ s.game
   pub classes : l.classes.now ≡ s.classes
+
+-- the game in sequence form is that of a strategy with lossless classes whose game is small
+pub record IsFormOf (s : Stored) (a : Abstract) : Type 0 where
+  pub held : Holds a.lossless.now s
+  pub lossless : IsLossless (frame_of (stored_view s)) s.classes.lists
+  pub small : IsSmall (frame_of (stored_view s)) s.classes.lists

@@ -6,7 +6,7 @@ ghost use Rattle.gs_tree.specs.Trees.{rules_of};
 ghost use Rattle.gs_seq.specs.Stops.{IsSmall};
 ghost use Rattle.gs_strategy.specs.{Confirmed.{IsConfirmed, frame_of}, Views.{stored_view}};
 ghost use Rattle.gs_reply.specs.Replies.{Answers};
-ghost use Rattle.gs_confirm.specs.{Held.{Holds}, Troubles.{SaysLarge, SaysUnlike, SaysWrong}};
+ghost use Rattle.gs_confirm.specs.{Held.{Holds, IsFormOf}, Troubles.{SaysLarge, SaysUnlike, SaysWrong}};
 
 use crate::numbers::first_wrong;
 use gs_best::{Work, verdict};
@@ -49,8 +49,7 @@ pub fn form_of<'a>(
 ) -> Result<Result<Abstract<'a>, Answer>, AllocError>
     requires held { Holds lossless.now stored.now }
     requires lossless { IsLossless (frame_of (stored_view stored.now)) stored.now.classes.lists }
-    ensures held { IfOk result (λ found. IfOk found (λ form. Holds form.lossless.now stored.now)) }
-    ensures small { IfOk result (λ found. IfOk found (λ _. IsSmall (frame_of (stored_view stored.now)) stored.now.classes.lists)) }
+    ensures form { IfOk result (λ found. IfOk found (IsFormOf stored.now)) }
     ensures large { IfOk result (λ found. IfErr found (Answers (SaysLarge (stored_view stored.now)))) }
 {
     match Abstract::of(alloc, lossless) {
@@ -69,9 +68,7 @@ pub fn wrong_of(
     stored: &Stored,
     form: &Abstract,
 ) -> Result<Option<Answer>, AllocError>
-    requires held { Holds form.now.lossless.now stored.now }
-    requires lossless { IsLossless (frame_of (stored_view stored.now)) stored.now.classes.lists }
-    requires small { IsSmall (frame_of (stored_view stored.now)) stored.now.classes.lists }
+    requires { IsFormOf stored.now form.now }
     ensures { IfOk result (λ found. MatchOption found (IsConfirmed (stored_view stored.now)) (Answers (SaysWrong (stored_view stored.now)))) }
 {
     let mut work = Work::new(alloc, form)?;

@@ -2,10 +2,9 @@
 
 ghost use Rattle.std.specs.Prelude.{◌≡◌, IfOk};
 ghost use Rattle.gs_model.specs.Lossless.{IsLossless};
-ghost use Rattle.gs_seq.specs.Stops.{IsSmall};
 ghost use Rattle.gs_strategy.specs.{Confirmed.{frame_of}, Views.{stored_view}};
 ghost use Rattle.gs_reply.specs.Replies.{Answers};
-ghost use Rattle.gs_confirm.specs.{Asking.{says_of}, Commands.{OfConfirmed}, Held.{Holds}};
+ghost use Rattle.gs_confirm.specs.{Asking.{says_of}, Commands.{OfConfirmed}, Held.{Holds, IsFormOf}};
 
 use crate::asking::Ask;
 use crate::checks::{form_of, lossless_of, wrong_of};
@@ -24,9 +23,7 @@ fn of_form(
     stored: &Stored,
     form: &Abstract,
 ) -> Result<Answer, AllocError>
-    requires held { Holds form.now.lossless.now stored.now }
-    requires lossless { IsLossless (frame_of (stored_view stored.now)) stored.now.classes.lists }
-    requires small { IsSmall (frame_of (stored_view stored.now)) stored.now.classes.lists }
+    requires { IsFormOf stored.now form.now }
     ensures { IfOk result (Answers (OfConfirmed (says_of ask.now) (stored_view stored.now))) }
 {
     match wrong_of(alloc, stored, form)? {

@@ -28,10 +28,10 @@ returns-in-Err c =
     let two = lifted f ls s.two in
     let fault = subst (λ (r : Result ℤ CertFault). MatchResult r (λ _. IsSound f ls one two k) (IsFault f ls one two k)) c.in-Err.is c.in_ok-fault.ensures.exact in
     IfOk-weaker c.unsound.result _ _ (λ a t. tells_answer (SaysChecked (stored_view s) k) a (Bad_certificate (cert_fault_text why)) (record {
-      lossless = c.requires.lossless;
-      small = c.requires.small;
+      lossless = c.requires.form.lossless;
+      small = c.requires.form.small;
       why = why;
-      fault = moved (λ f n. IsFault f n (lifted f n s.one) (lifted f n s.two) k why) l s c.requires.held fault;
+      fault = moved (λ f n. IsFault f n (lifted f n s.one) (lifted f n s.two) k why) l s c.requires.form.held fault;
       told = refl;
     }) t) c.unsound.ensures
 
@@ -48,15 +48,15 @@ returns-in_ok-bounds_text-in-Ok c =
     let sound = subst (λ (r : Result ℤ CertFault). MatchResult r (λ _. IsSound f ls one two k) (IsFault f ls one two k)) c.in-Ok.is c.in_ok-fault.ensures.exact in
     let bounds = IfOk-at_ok (λ (paid : ℤ). BoundsAll f one two k) c.in-Ok.is c.in_ok-fault.ensures.bounds in
     record {
-      lossless = c.requires.lossless;
-      small = c.requires.small;
+      lossless = c.requires.form.lossless;
+      small = c.requires.form.small;
       holds = record {
         small = c.requires.modest;
-        sound = moved (λ f n. IsSound f n (lifted f n s.one) (lifted f n s.two) k) l s c.requires.held sound;
-        bounds = moved (λ f n. BoundsAll f (lifted f n s.one) (lifted f n s.two) k) l s c.requires.held bounds;
+        sound = moved (λ f n. IsSound f n (lifted f n s.one) (lifted f n s.two) k) l s c.requires.form.held sound;
+        bounds = moved (λ f n. BoundsAll f (lifted f n s.one) (lifted f n s.two) k) l s c.requires.form.held bounds;
       };
       value = parts_of v;
       fraction = v.reduced;
-      value_is = moved (λ f n. IsValue f (lifted f n s.one) (lifted f n s.two) (parts v).0 (parts v).1) l s c.requires.held c.value_of-value.ensures;
+      value_is = moved (λ f n. IsValue f (lifted f n s.one) (lifted f n s.two) (parts v).0 (parts v).1) l s c.requires.form.held c.value_of-value.ensures;
       printed = c.in_ok-bounds_text-in-Ok.ensures;
     }
