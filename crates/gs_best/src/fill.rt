@@ -2,12 +2,8 @@
 
 ghost use Rattle.std.specs.Prelude.{◌≡◌, ◌+◌, ◌<◌, ◌≤◌, IfOk, length, pos};
 ghost use Rattle.gs_model.specs.Frame.{point_count};
-ghost use Rattle.gs_seq.specs.Abstracts.{frame_of, lists_of};
-ghost use Rattle.gs_seq.specs.Plans.{lifted};
-ghost use Rattle.gs_best.specs.Answers.{IsFilled};
-ghost use Rattle.gs_best.specs.Rows.{IsCopied};
-ghost use Rattle.gs_best.specs.Sizes.{HasRoom, HoldsAll, IsLaidOut};
-ghost use Rattle.gs_best.specs.Tables.{IsBestFrom, moves_of, table_of};
+ghost use Rattle.gs_seq.specs.{Abstracts.{frame_of, lists_of}, Plans.{lifted}};
+ghost use Rattle.gs_best.specs.{Answers.{IsFilled}, Rows.{IsCopied}, Sizes.{HasRoom, HoldsAll, IsLaidOut}, Tables.{IsBestFrom, moves_of, table_of}};
 
 use crate::deviator::Deviator;
 use crate::merging::merge_moves;

@@ -1,18 +1,9 @@
 //! The verdict on two plans.
 
-ghost use Rattle.std.specs.Prelude.{◌≡◌, ◌+◌, ◌<◌, ◌≤◌, ◌^◌, length, unsigned_abs};
-ghost use Rattle.std.specs.List.{range_with_len};
-ghost use Rattle.gs_model.specs.Classes.{class_count};
-ghost use Rattle.gs_model.specs.Frame.{last_round, signals_in};
-ghost use Rattle.gs_model.specs.Payoff.{raw_payoff};
-ghost use Rattle.gs_model.specs.Sums.{sum_z};
-ghost use Rattle.gs_model.specs.Verdict.{IsVerdict};
-ghost use Rattle.gs_seq.specs.Abstracts.{frame_of, lists_of};
-ghost use Rattle.gs_seq.specs.Plans.{IsPlanOf, lifted};
-ghost use Rattle.gs_best.specs.Answers.{IsBestTotal, IsFilled};
-ghost use Rattle.gs_best.specs.Judged.{parts};
-ghost use Rattle.gs_best.specs.Rows.{AreModest, value_at};
-ghost use Rattle.gs_best.specs.Sizes.{HasRoom, HoldsAll, sizes_of};
+ghost use Rattle.std.specs.{Prelude.{◌≡◌, ◌+◌, ◌<◌, ◌≤◌, ◌^◌, length, unsigned_abs}, List.{range_with_len}};
+ghost use Rattle.gs_model.specs.{Classes.{class_count}, Frame.{last_round, signals_in}, Payoff.{raw_payoff}, Sums.{sum_z}, Verdict.{IsVerdict}};
+ghost use Rattle.gs_seq.specs.{Abstracts.{frame_of, lists_of}, Plans.{IsPlanOf, lifted}};
+ghost use Rattle.gs_best.specs.{Answers.{IsBestTotal, IsFilled}, Judged.{parts}, Rows.{AreModest, value_at}, Sizes.{HasRoom, HoldsAll, sizes_of}};
 
 use crate::deviator::Deviator;
 use crate::ends::read_end;

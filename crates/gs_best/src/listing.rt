@@ -1,8 +1,7 @@
 //! The best moves of a player, listed.
 
 ghost use Rattle.std.specs.Prelude.{◌≡◌, ◌+◌, ◌≤◌, ◌++◌, IfOk, drop, length, take};
-ghost use Rattle.gs_seq.specs.Abstracts.{frame_of, lists_of};
-ghost use Rattle.gs_seq.specs.Plans.{lifted};
+ghost use Rattle.gs_seq.specs.{Abstracts.{frame_of, lists_of}, Plans.{lifted}};
 ghost use Rattle.gs_best.specs.Answers.{AreChoices, IsFilled};
 
 use crate::deviator::Deviator;

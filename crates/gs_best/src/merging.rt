@@ -1,13 +1,9 @@
 //! The value of a point, from what its moves are worth.
 
 ghost use Rattle.std.specs.Prelude.{◌≡◌, ◌≢◌, ◌==◌, ◌+◌, ◌<◌, ◌≤◌, ◌^◌, ◌+ℤ◌, ℕ, pos, length, get_or, slice_index, unsigned_abs, if◌then◌else◌};
-ghost use Rattle.gs_model.specs.BestAnswers.{class_worth};
-ghost use Rattle.gs_model.specs.Classes.{class_count};
-ghost use Rattle.gs_model.specs.Frame.{move_count, player_at, point_count};
-ghost use Rattle.gs_seq.specs.Abstracts.{frame_of, lists_of};
-ghost use Rattle.gs_seq.specs.Plans.{lifted};
-ghost use Rattle.gs_best.specs.Rows.{AreAdded, AreGreatest, AreRaised, AreSums, IsMerged, raises};
-ghost use Rattle.gs_best.specs.Sizes.{HasRoom, IsLaidOut};
+ghost use Rattle.gs_model.specs.{BestAnswers.{class_worth}, Classes.{class_count}, Frame.{move_count, player_at, point_count}};
+ghost use Rattle.gs_seq.specs.{Abstracts.{frame_of, lists_of}, Plans.{lifted}};
+ghost use Rattle.gs_best.specs.{Rows.{AreAdded, AreGreatest, AreRaised, AreSums, IsMerged, raises}, Sizes.{HasRoom, IsLaidOut}};
 ghost use Rattle.gs_best.specs.Tables.{IsBestFrom, classes_at, moves_of, table_of};
 
 use crate::deviator::Deviator;

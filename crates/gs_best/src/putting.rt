@@ -1,17 +1,10 @@
 //! The plan that puts all on given moves, and on the best ones.
 
 ghost use Rattle.std.specs.Prelude.{◌≡◌, ◌+◌, ◌<◌, ◌≤◌, ℕ, IfOk, length};
-ghost use Rattle.gs_model.specs.BestAnswers.{IsFirstBestPlan};
-ghost use Rattle.gs_model.specs.Classes.{IsClass};
-ghost use Rattle.gs_model.specs.Frame.{player_at, point_count, round_of};
-ghost use Rattle.gs_model.specs.Positions.{at_point};
-ghost use Rattle.gs_seq.specs.Abstracts.{frame_of, lists_of};
-ghost use Rattle.gs_seq.specs.Firsts.{Agree, IsClear};
-ghost use Rattle.gs_seq.specs.Plans.{IsPlanOf, class_plan, lifted};
+ghost use Rattle.gs_model.specs.{BestAnswers.{IsFirstBestPlan}, Classes.{IsClass}, Frame.{player_at, point_count, round_of}, Positions.{at_point}};
+ghost use Rattle.gs_seq.specs.{Abstracts.{frame_of, lists_of}, Firsts.{Agree, IsClear}, Plans.{IsPlanOf, class_plan, lifted}};
 ghost use Rattle.gs_seq.specs.Slots.{slot_count, slots_before};
-ghost use Rattle.gs_best.specs.Answers.{IsFilled};
-ghost use Rattle.gs_best.specs.Puts.{ArePutBefore, IsPutAt};
-ghost use Rattle.gs_best.specs.Tables.{AreInMoves, AreStarts, moves_of, start_of};
+ghost use Rattle.gs_best.specs.{Answers.{IsFilled}, Puts.{ArePutBefore, IsPutAt}, Tables.{AreInMoves, AreStarts, moves_of, start_of}};
 
 use crate::deviator::Deviator;
 use crate::reading::{chooser, class_total, point_total, round_at, round_total};

@@ -1,9 +1,7 @@
 //! The texts of what is wrong with a certificate.
 
-ghost use Rattle.std.specs.Prelude.{◌≡◌, ◌++◌, IfOk, codes};
-ghost use Rattle.std.specs.Fmt.{decimal};
-ghost use Rattle.gs_frac.specs.FaultText.{fault_text as fraction_fault_text};
-ghost use Rattle.gs_frac.specs.Texts.{fraction_text};
+ghost use Rattle.std.specs.{Prelude.{◌≡◌, ◌++◌, IfOk, codes}, Fmt.{decimal}};
+ghost use Rattle.gs_frac.specs.{FaultText.{fault_text as fraction_fault_text}, Texts.{fraction_text}};
 ghost use Rattle.gs_certificate.specs.FaultTexts.{cert_fault_text as text_of_fault, cert_text_fault_text as text_of_text_fault};
 
 use crate::fault::CertFault;

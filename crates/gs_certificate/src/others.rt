@@ -1,13 +1,8 @@
 //! The points of the other player: a number is to be at least the sum of what all moves are worth.
 
 ghost use Rattle.std.specs.Prelude.{◌≡◌, ◌≢◌, MatchOption};
-ghost use Rattle.gs_model.specs.BestAnswers.{class_worth};
-ghost use Rattle.gs_model.specs.Classes.{IsClass};
-ghost use Rattle.gs_model.specs.Frame.{choices_at, move_count, player_at};
-ghost use Rattle.gs_model.specs.Sums.{sum_z};
-ghost use Rattle.gs_certificate.specs.Claims.{IsClaim, frame_in, lists_in, table_in};
-ghost use Rattle.gs_certificate.specs.Numbers.{AreHighAt, IsFirstLowAt};
-ghost use Rattle.gs_certificate.specs.Spots.{AreWays, IsSpot};
+ghost use Rattle.gs_model.specs.{BestAnswers.{class_worth}, Classes.{IsClass}, Frame.{choices_at, move_count, player_at}, Sums.{sum_z}};
+ghost use Rattle.gs_certificate.specs.{Claims.{IsClaim, frame_in, lists_in, table_in}, Numbers.{AreHighAt, IsFirstLowAt}, Spots.{AreWays, IsSpot}};
 
 use crate::claim::Claim;
 use crate::spot::{Spot, Way};

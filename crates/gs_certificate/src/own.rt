@@ -2,17 +2,11 @@
 
 ghost use Rattle.std.specs.Prelude.{◌≡◌, ◌<◌, ◌≤◌, ◌≤ℤ◌, ◌<ℤ◌, ◌^◌, IfSome, MatchOption, unsigned_abs};
 ghost use Rattle.gs_game.specs.Seen.{target_of};
-ghost use Rattle.gs_model.specs.BestAnswers.{end_worth};
-ghost use Rattle.gs_model.specs.Classes.{IsClass, class_count, first_member};
-ghost use Rattle.gs_model.specs.Frame.{end_count, player_at, round_of};
+ghost use Rattle.gs_model.specs.{BestAnswers.{end_worth}, Classes.{IsClass, class_count, first_member}, Frame.{end_count, player_at, round_of}};
 ghost use Rattle.gs_model.specs.Positions.{at_end, at_point};
-ghost use Rattle.gs_seq.specs.Abstracts.{frame_of, lists_of};
-ghost use Rattle.gs_seq.specs.Plans.{class_plan, lifted};
-ghost use Rattle.gs_certificate.specs.Claims.{IsClaim, frame_in, lists_in, table_in};
-ghost use Rattle.gs_certificate.specs.Numbers.{AreHighAt, IsFirstLowAt, Tells};
-ghost use Rattle.gs_certificate.specs.Paid.{ArePaid};
-ghost use Rattle.gs_certificate.specs.Spots.{IsFirstBelow, IsSpot, IsWay};
-ghost use Rattle.gs_certificate.specs.Worths.{target_worth};
+ghost use Rattle.gs_seq.specs.{Abstracts.{frame_of, lists_of}, Plans.{class_plan, lifted}};
+ghost use Rattle.gs_certificate.specs.{Claims.{IsClaim, frame_in, lists_in, table_in}, Numbers.{AreHighAt, IsFirstLowAt, Tells}, Paid.{ArePaid}};
+ghost use Rattle.gs_certificate.specs.{Spots.{IsFirstBelow, IsSpot, IsWay}, Worths.{target_worth}};
 
 use crate::claim::Claim;
 use crate::spot::{Spot, Way};

@@ -2,13 +2,10 @@
 //!
 //! What is found is right. Bytes that are no certificate's text are left to the checks in their order, and so is the text of no numbers.
 
-ghost use Rattle.std.specs.Prelude.{◌≡◌, ◌≢◌, ◌++◌, ◌<◌, ◌≤◌, ◌^◌, All, IfOk, IfSome, get_or, length, true, unsigned_abs};
-ghost use Rattle.std.specs.Fmt.{signed_decimal};
+ghost use Rattle.std.specs.{Prelude.{◌≡◌, ◌≢◌, ◌++◌, ◌<◌, ◌≤◌, ◌^◌, All, IfOk, IfSome, get_or, length, true, unsigned_abs}, Fmt.{signed_decimal}};
 ghost use Rattle.gs_frac.specs.Texts.{fraction_text, number_of};
 ghost use Rattle.serde_json.specs.Written.{compact_text};
-ghost use Rattle.gs_certificate.specs.Checks.{AreSmall};
-ghost use Rattle.gs_certificate.specs.Straight.{AreDigits, StandsFor};
-ghost use Rattle.gs_certificate.specs.Texts.{certificate_text as text_of, side_data};
+ghost use Rattle.gs_certificate.specs.{Checks.{AreSmall}, Straight.{AreDigits, StandsFor}, Texts.{certificate_text as text_of, side_data}};
 ghost use Rattle.gs_certificate.specs.Views.{certificate_view, fraction_parts};
 
 use crate::certificate::Certificate;

@@ -1,13 +1,8 @@
 //! What ends pay a player, end by end and class by class. Both the check of a certificate and the payoff read it.
 
 ghost use Rattle.std.specs.Prelude.{◌≡◌, ◌<◌, ◌≤◌, IfOk, IfSome, length};
-ghost use Rattle.gs_model.specs.Classes.{IsClass};
-ghost use Rattle.gs_model.specs.Frame.{end_count, round_of};
-ghost use Rattle.gs_model.specs.Payoff.{raw_payoff};
-ghost use Rattle.gs_model.specs.Positions.{at_end};
-ghost use Rattle.gs_seq.specs.Abstracts.{frame_of, lists_of};
-ghost use Rattle.gs_seq.specs.Payoffs.{end_sum, payoff_at};
-ghost use Rattle.gs_seq.specs.Plans.{IsPlanOf, class_plan, lifted};
+ghost use Rattle.gs_model.specs.{Classes.{IsClass}, Frame.{end_count, round_of}, Payoff.{raw_payoff}, Positions.{at_end}};
+ghost use Rattle.gs_seq.specs.{Abstracts.{frame_of, lists_of}, Payoffs.{end_sum, payoff_at}, Plans.{IsPlanOf, class_plan, lifted}};
 ghost use Rattle.gs_best.specs.Sizes.{IsWide};
 ghost use Rattle.gs_certificate.specs.Paid.{ArePaid};
 

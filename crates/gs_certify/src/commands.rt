@@ -3,8 +3,7 @@
 ghost use Rattle.std.specs.Prelude.{◌≡◌, IfOk};
 ghost use Rattle.gs_reply.specs.Replies.{Answers};
 ghost use Rattle.gs_strategy.specs.Views.{stored_view};
-ghost use Rattle.gs_certify.specs.Certificates.{Certifies};
-ghost use Rattle.gs_certify.specs.Verifying.{SaysVerified, Verifies};
+ghost use Rattle.gs_certify.specs.{Certificates.{Certifies}, Verifying.{SaysVerified, Verifies}};
 
 use crate::saying::of_strategy;
 use crate::task::Task;

@@ -3,11 +3,8 @@
 ghost use Rattle.std.specs.Prelude.{◌≡◌, ℕ, List};
 ghost use Rattle.gs_file.specs.declared.version.Version.TheVariants.{Two};
 ghost use Rattle.gs_reply.specs.Replies.{Reply, Prints};
-ghost use Rattle.gs_strategy.specs.Confirmed.{IsConfirmed};
-ghost use Rattle.gs_strategy.specs.Laws.{IsStrategy};
-ghost use Rattle.gs_strategy.specs.Values.{Strategy};
-ghost use Rattle.gs_certify.specs.Certificates.{IsCertified};
-ghost use Rattle.gs_certify.specs.Verifying.{Verifies};
+ghost use Rattle.gs_strategy.specs.{Confirmed.{IsConfirmed}, Laws.{IsStrategy}, Values.{Strategy}};
+ghost use Rattle.gs_certify.specs.{Certificates.{IsCertified}, Verifying.{Verifies}};
 
 /// The two lines that `certify` prints are verified: `verify` can say nothing of them but three lines.
 pub fn printed_lines_are_verified()

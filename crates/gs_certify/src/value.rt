@@ -1,11 +1,9 @@
 //! The value of two plans.
 
 ghost use Rattle.std.specs.Prelude.{◌≡◌, ◌*◌, ◌<◌, ◌≤◌, ◌^◌, pos};
-ghost use Rattle.gs_model.specs.Payoff.{raw_payoff};
-ghost use Rattle.gs_model.specs.Verdict.{IsValue};
+ghost use Rattle.gs_model.specs.{Payoff.{raw_payoff}, Verdict.{IsValue}};
 ghost use Rattle.gs_best.specs.Judged.{parts};
-ghost use Rattle.gs_seq.specs.Abstracts.{frame_of, lists_of};
-ghost use Rattle.gs_seq.specs.Plans.{IsPlanOf, lifted};
+ghost use Rattle.gs_seq.specs.{Abstracts.{frame_of, lists_of}, Plans.{IsPlanOf, lifted}};
 
 use gs_best::{deal_weight, fraction, round_total};
 use gs_frac::Fraction;

@@ -1,12 +1,10 @@
 //! A certificate beside the plans of a strategy.
 
 ghost use Rattle.std.specs.Prelude.{◌≡◌, ◌++◌, IfOk, OnOk, string_bytes};
-ghost use Rattle.gs_certificate.specs.Checks.{AreSmall};
-ghost use Rattle.gs_certificate.specs.FaultTexts.{cert_fault_text as text_of_fault, cert_text_fault_text as text_of_text_fault};
+ghost use Rattle.gs_certificate.specs.{Checks.{AreSmall}, FaultTexts.{cert_fault_text as text_of_fault, cert_text_fault_text as text_of_text_fault}};
 ghost use Rattle.gs_certificate.specs.Views.{certificate_view};
 ghost use Rattle.gs_confirm.specs.Held.{IsFormOf};
-ghost use Rattle.gs_reply.specs.Refusals.{Bad_certificate};
-ghost use Rattle.gs_reply.specs.Replies.{Answers, Tells};
+ghost use Rattle.gs_reply.specs.{Refusals.{Bad_certificate}, Replies.{Answers, Tells}};
 ghost use Rattle.gs_strategy.specs.Views.{parts_of, stored_view};
 ghost use Rattle.gs_certify.specs.Verifying.{SaysChecked, bounds_text as text_of_bounds, number_line};
 

@@ -1,4 +1,4 @@
--- A game in sequence form is that of a strategy that was read. Of private functions.
+-- A game in sequence form is that of a strategy that was read.
 use Rattle.std.specs.Prelude.{◌≡◌}
 use Rattle.gs_lossless.specs.declared.checking.Lossless.{Lossless}
 use Rattle.gs_model.specs.Lossless.{IsLossless}

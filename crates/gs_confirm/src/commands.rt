@@ -1,8 +1,7 @@
 //! The commands that read a strategy file.
 
 ghost use Rattle.std.specs.Prelude.{◌≡◌, ◌<◌, ◌≤◌, IfOk};
-ghost use Rattle.gs_confirm.specs.Asking.{says_of};
-ghost use Rattle.gs_confirm.specs.Commands.{Evaluates, OfConfirmed, OfStrategy, Queries, Upgrades};
+ghost use Rattle.gs_confirm.specs.{Asking.{says_of}, Commands.{Evaluates, OfConfirmed, OfStrategy, Queries, Upgrades}};
 ghost use Rattle.gs_reply.specs.Replies.{Answers};
 
 use crate::asking::{Ask, Query};

@@ -1,10 +1,7 @@
 //! What is said of a strategy that is confirmed.
 
 ghost use Rattle.std.specs.Prelude.{◌≡◌, ◌<◌, ◌≤◌, ◌==◌, IfOk, if◌then◌else◌};
-ghost use Rattle.gs_confirm.specs.Asking.{says_of};
-ghost use Rattle.gs_confirm.specs.Commands.{SaysQueried, SaysUpgraded};
-ghost use Rattle.gs_confirm.specs.Held.{Holds};
-ghost use Rattle.gs_confirm.specs.Queries.{IsToldAt};
+ghost use Rattle.gs_confirm.specs.{Asking.{says_of}, Commands.{SaysQueried, SaysUpgraded}, Held.{Holds}, Queries.{IsToldAt}};
 ghost use Rattle.gs_lift.specs.Queries.{IsSpot, signals_of};
 ghost use Rattle.gs_reply.specs.Replies.{Answers};
 ghost use Rattle.gs_strategy.specs.Views.{stored_view};

@@ -1,13 +1,10 @@
 //! The numbers of signals before the last round, by their children's.
 
-ghost use Rattle.std.specs.Prelude.{ℕ, ◌≡◌, ◌<◌, ◌≤◌, ◌+◌, IfOk, IsTrue, List, OnOk, length, map};
-ghost use Rattle.std.specs.List.{range_with_len};
-ghost use Rattle.gs_model.specs.Game.{round_count};
-ghost use Rattle.gs_model.specs.Signals.{child_count, first_child, last_edge, signal_at, signals as signals_in};
+ghost use Rattle.std.specs.{Prelude.{ℕ, ◌≡◌, ◌<◌, ◌≤◌, ◌+◌, IfOk, IsTrue, List, OnOk, length, map}, List.{range_with_len}};
+ghost use Rattle.gs_model.specs.{Game.{round_count}, Signals.{child_count, first_child, last_edge, signal_at, signals as signals_in}};
 ghost use Rattle.gs_model.specs.Signatures.{IsSignature};
 ghost use Rattle.gs_tree.specs.Trees.{rules_of};
-ghost use Rattle.gs_iso.specs.Numbers.{AreMarks, IsNumbering, child_part, marks_under};
-ghost use Rattle.gs_iso.specs.Orders.{mark_lt};
+ghost use Rattle.gs_iso.specs.{Numbers.{AreMarks, IsNumbering, child_part, marks_under}, Orders.{mark_lt}};
 
 use crate::parts::Child;
 use gs_numbers::{number_of, number_of_list};

@@ -1,13 +1,9 @@
 //! The signatures of last-round signals.
 
 ghost use Rattle.std.specs.Prelude.{◌≡◌, ◌<◌, ◌^◌, All, IfOk, OnOk, map, unsigned_abs};
-ghost use Rattle.gs_model.specs.Game.{round_count};
-ghost use Rattle.gs_model.specs.Signals.{signal_at};
-ghost use Rattle.gs_model.specs.ViewTree.{leaves};
-ghost use Rattle.gs_tree.specs.Trees.{rules_of};
-ghost use Rattle.gs_tree.specs.Walk.{last_count};
-ghost use Rattle.gs_iso.specs.Orders.{leaf_mark, leaf_of};
-ghost use Rattle.gs_iso.specs.Numbers.{IsLeafSignature, IsNumbering};
+ghost use Rattle.gs_model.specs.{Game.{round_count}, Signals.{signal_at}, ViewTree.{leaves}};
+ghost use Rattle.gs_tree.specs.{Trees.{rules_of}, Walk.{last_count}};
+ghost use Rattle.gs_iso.specs.{Orders.{leaf_mark, leaf_of}, Numbers.{IsLeafSignature, IsNumbering}};
 
 use crate::parts::Leaf;
 use gs_alike::stand_ins;

@@ -1,10 +1,8 @@
 //! Bijections between the children of two signals.
 
 ghost use Rattle.std.specs.Prelude.{◌<◌, ◌≤◌, IfOk, length};
-ghost use Rattle.gs_model.specs.Game.{round_count};
-ghost use Rattle.gs_model.specs.Signals.{signal_at, signals as signals_in};
-ghost use Rattle.gs_tree.specs.Trees.{rules_of};
-ghost use Rattle.gs_tree.specs.Walk.{last_count};
+ghost use Rattle.gs_model.specs.{Game.{round_count}, Signals.{signal_at, signals as signals_in}};
+ghost use Rattle.gs_tree.specs.{Trees.{rules_of}, Walk.{last_count}};
 ghost use Rattle.gs_iso.specs.Pairings.{IsPaired};
 
 use crate::children::children_under;

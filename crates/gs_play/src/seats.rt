@@ -2,22 +2,13 @@
 
 ghost use Rattle.std.specs.Prelude.{◌≡◌, ◌↔◌, IsTrue, false, ◌+◌, ◌<◌, ◌≤◌, ◌^◌, IfOk, length};
 ghost use Rattle.gs_filter.specs.Filter.{IsSound};
-ghost use Rattle.gs_model.specs.Classes.{IsClass};
-ghost use Rattle.gs_model.specs.Frame.{end_count, other_player, point_count, round_of};
-ghost use Rattle.gs_model.specs.Play.{IsFirstMoves};
-ghost use Rattle.gs_model.specs.Positions.{at_end};
-ghost use Rattle.gs_seq.specs.Abstracts.{frame_of, lists_of};
-ghost use Rattle.gs_seq.specs.Plans.{IsPlanOf, class_plan};
-ghost use Rattle.gs_seq.specs.Slots.{plan_of, slot_count};
-ghost use Rattle.gs_best.specs.Puts.{ArePutBefore};
-ghost use Rattle.gs_best.specs.Tables.{AreInMoves, moves_of, start_of};
-ghost use Rattle.gs_totals.specs.ClassTotals.{AreBestTotals};
-ghost use Rattle.gs_totals.specs.Jumps.{AreBeforeChange};
-ghost use Rattle.gs_totals.specs.KeptSums.{AreAlike, plus_times};
+ghost use Rattle.gs_model.specs.{Classes.{IsClass}, Frame.{end_count, other_player, point_count, round_of}, Play.{IsFirstMoves}, Positions.{at_end}};
+ghost use Rattle.gs_seq.specs.{Abstracts.{frame_of, lists_of}, Plans.{IsPlanOf, class_plan}, Slots.{plan_of, slot_count}};
+ghost use Rattle.gs_best.specs.{Puts.{ArePutBefore}, Tables.{AreInMoves, moves_of, start_of}};
+ghost use Rattle.gs_totals.specs.{ClassTotals.{AreBestTotals}, Jumps.{AreBeforeChange}, KeptSums.{AreAlike, plus_times}};
 ghost use Rattle.gs_totals.specs.Places.{AreEndLines, AreEndSums, ArePointLines, AreSmallPoints, AreSmallRows, totals_of};
 ghost use Rattle.gs_totals.specs.Room.{HasRows, HasScratch, IsPlaced};
-ghost use Rattle.gs_play.specs.Seats.{HasAnswered, HasRises, HasRoom, IsSeat};
-ghost use Rattle.gs_play.specs.Staying.{AnswerStays};
+ghost use Rattle.gs_play.specs.{Seats.{HasAnswered, HasRises, HasRoom, IsSeat}, Staying.{AnswerStays}};
 
 use crate::adding::add_times;
 use gs_best::{Deviator, round_total};

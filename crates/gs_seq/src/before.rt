@@ -4,7 +4,8 @@ ghost use Rattle.std.specs.{Prelude.{◌≡◌, ◌+◌, ◌-◌, ◌<◌, ◌�
 ghost use Rattle.gs_game.specs.GoingOn.{StopsAfter, ways_on as ways_after};
 ghost use Rattle.gs_model.specs.{Classes.{IsClass, list_of}, Frame.{last_round}, Game.{round_count}, Lossless.{IsLossless}};
 ghost use Rattle.gs_tree.specs.Trees.{rules_of};
-ghost use Rattle.gs_lossless.specs.{Amounts.{keys_of}, declared.sides.Side.TheVariants as sides};
+ghost use Rattle.gs_lossless.specs.Amounts.{keys_of};
+ghost use Rattle.gs_lossless.specs.declared.sides.Side.TheVariants as sides;
 ghost use Rattle.gs_seq.specs.{Games.{frame_in}, Rows.{AreRowsIn, IsRow}, declared.pair.Pair.{Pair as Paired}};
 
 use crate::pair::Pair;

@@ -1,8 +1,7 @@
 //! What a turn looks at on one side: the sums of the last round, or the children before it.
 
 ghost use Rattle.std.specs.Prelude.{◌≡◌, ◌<◌, ◌≤◌, IfOk, length};
-ghost use Rattle.gs_model.specs.Classes.{ClassLists, list_of};
-ghost use Rattle.gs_model.specs.Frame.{frame_of};
+ghost use Rattle.gs_model.specs.{Classes.{ClassLists, list_of}, Frame.{frame_of}};
 ghost use Rattle.gs_tree.specs.Trees.{rules_of};
 ghost use Rattle.gs_lossless.specs.Amounts.{HasSide, key_count, keys_of};
 ghost use Rattle.gs_split.specs.Turns.{AreSettled, AreSideFirsts, AreSideNumbers};

@@ -1,11 +1,9 @@
 //! A proposal for the exact turns: classes parted by mixed sums, which part no more than a turn.
 
-ghost use Rattle.std.specs.Prelude.{◌≡◌, ◌+◌, ◌*◌, ◌/◌, ◌<◌, ◌^◌, ℕ, pos, [], All, IfOk, IfSome, get_or, length, map};
-ghost use Rattle.std.specs.Int.{int_rem_euclid};
+ghost use Rattle.std.specs.{Prelude.{◌≡◌, ◌+◌, ◌*◌, ◌/◌, ◌<◌, ◌^◌, ℕ, pos, [], All, IfOk, IfSome, get_or, length, map}, Int.{int_rem_euclid}};
 ghost use Rattle.gs_model.specs.Frame.{frame_of, last_round};
 ghost use Rattle.gs_filter.specs.Rows.{rows};
-ghost use Rattle.gs_tree.specs.Trees.{rules_of};
-ghost use Rattle.gs_tree.specs.Walk.{last_count};
+ghost use Rattle.gs_tree.specs.{Trees.{rules_of}, Walk.{last_count}};
 ghost use Rattle.gs_split.specs.Proposal.{AreFair, AreFairFrom, IsProposal, child_number, deal_number, mixed as mixed_of};
 
 use crate::parting::parted;

@@ -1,10 +1,7 @@
 //! Turns until nothing is parted.
 
 ghost use Rattle.std.specs.Prelude.{◌≡◌, ◌<◌, ◌^◌, IfOk, sum_by};
-ghost use Rattle.gs_model.specs.Classes.{IsClasses};
-ghost use Rattle.gs_model.specs.Frame.{frame_of};
-ghost use Rattle.gs_model.specs.Numbering.{greatest};
-ghost use Rattle.gs_model.specs.Refinement.{IsCoarsestLossless};
+ghost use Rattle.gs_model.specs.{Classes.{IsClasses}, Frame.{frame_of}, Numbering.{greatest}, Refinement.{IsCoarsestLossless}};
 ghost use Rattle.gs_tree.specs.Trees.{rules_of};
 
 use crate::proposal::proposal;

@@ -1,8 +1,7 @@
 //! The class that a class descends from.
 
 ghost use Rattle.std.specs.Prelude.{◌≡◌, ◌<◌, ◌≤◌};
-ghost use Rattle.gs_model.specs.Classes.{IsClass};
-ghost use Rattle.gs_model.specs.Frame.{last_round};
+ghost use Rattle.gs_model.specs.{Classes.{IsClass}, Frame.{last_round}};
 ghost use Rattle.gs_seq.specs.Abstracts.{frame_of, lists_of};
 ghost use Rattle.gs_totals.specs.ClassTotals.{class_above as class_of_round};
 

@@ -2,9 +2,7 @@
 
 ghost use Rattle.std.specs.Prelude.{◌≡◌, ◌<◌, ◌≤◌, ◌^◌, ℕ, pos, length, get_or, unsigned_abs};
 ghost use Rattle.gs_seq.specs.Abstracts.{frame_of, lists_of};
-ghost use Rattle.gs_totals.specs.Jumps.{line};
-ghost use Rattle.gs_totals.specs.Places.{AreEndLines, ArePointLines, AreSmallPoints, AreSmallRows};
-ghost use Rattle.gs_totals.specs.Room.{HasRows};
+ghost use Rattle.gs_totals.specs.{Jumps.{line}, Places.{AreEndLines, ArePointLines, AreSmallPoints, AreSmallRows}, Room.{HasRows}};
 
 use crate::places::{Totals, end_room};
 use gs_best::value_total;

@@ -2,12 +2,9 @@
 
 ghost use Rattle.std.specs.Prelude.{◌-◌, ◌<◌, ◌≤◌, length};
 ghost use Rattle.gs_model.specs.Frame.{point_count};
-ghost use Rattle.gs_seq.specs.Abstracts.{frame_of, lists_of};
-ghost use Rattle.gs_seq.specs.Plans.{IsPlanOf, class_plan};
+ghost use Rattle.gs_seq.specs.{Abstracts.{frame_of, lists_of}, Plans.{IsPlanOf, class_plan}};
 ghost use Rattle.gs_best.specs.Tables.{moves_of, start_of};
-ghost use Rattle.gs_totals.specs.ClassTotals.{AreBestTotals, IsFollowed};
-ghost use Rattle.gs_totals.specs.Places.{AreEndSums, totals_of};
-ghost use Rattle.gs_totals.specs.Room.{HasRows, IsPlaced};
+ghost use Rattle.gs_totals.specs.{ClassTotals.{AreBestTotals, IsFollowed}, Places.{AreEndSums, totals_of}, Room.{HasRows, IsPlaced}};
 
 use crate::places::{Places, Totals};
 use gs_seq::{Abstract, Plan};

@@ -2,11 +2,9 @@
 
 ghost use Rattle.std.specs.Prelude.{◌≤◌, length};
 ghost use Rattle.gs_model.specs.Frame.{end_count};
-ghost use Rattle.gs_seq.specs.Abstracts.{frame_of, lists_of};
-ghost use Rattle.gs_seq.specs.Plans.{class_plan};
+ghost use Rattle.gs_seq.specs.{Abstracts.{frame_of, lists_of}, Plans.{class_plan}};
 ghost use Rattle.gs_best.specs.Sizes.{IsWide};
-ghost use Rattle.gs_totals.specs.Places.{AreEndSums, end_start};
-ghost use Rattle.gs_totals.specs.Room.{HasRows, HasScratch, IsPlaced};
+ghost use Rattle.gs_totals.specs.{Places.{AreEndSums, end_start}, Room.{HasRows, HasScratch, IsPlaced}};
 
 use crate::paying::read_end;
 use crate::places::{Places, Scratch, Totals};

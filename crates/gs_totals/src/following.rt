@@ -2,13 +2,9 @@
 
 ghost use Rattle.std.specs.Prelude.{ℕ, ◌≡◌, ◌+◌, ◌<◌, ◌≤◌, length};
 ghost use Rattle.gs_model.specs.Frame.{point_count};
-ghost use Rattle.gs_seq.specs.Abstracts.{frame_of, lists_of};
-ghost use Rattle.gs_seq.specs.Plans.{class_plan};
-ghost use Rattle.gs_best.specs.Sizes.{IsWide};
-ghost use Rattle.gs_best.specs.Tables.{AreInMoves, moves_of, start_of};
-ghost use Rattle.gs_totals.specs.ClassTotals.{IsFollowed};
-ghost use Rattle.gs_totals.specs.Places.{AreEndSums, IsFollowedFrom, totals_of};
-ghost use Rattle.gs_totals.specs.Room.{HasRows, HasScratch, IsPlaced};
+ghost use Rattle.gs_seq.specs.{Abstracts.{frame_of, lists_of}, Plans.{class_plan}};
+ghost use Rattle.gs_best.specs.{Sizes.{IsWide}, Tables.{AreInMoves, moves_of, start_of}};
+ghost use Rattle.gs_totals.specs.{ClassTotals.{IsFollowed}, Places.{AreEndSums, IsFollowedFrom, totals_of}, Room.{HasRows, HasScratch, IsPlaced}};
 
 use crate::merging::follow_moves;
 use crate::places::{Places, Scratch, Totals};

@@ -2,15 +2,10 @@
 
 ghost use Rattle.std.specs.Prelude.{◌+◌, ◌<◌, ◌≤◌, length};
 ghost use Rattle.gs_model.specs.Frame.{move_count, player_at, point_count};
-ghost use Rattle.gs_seq.specs.Abstracts.{frame_of, lists_of};
-ghost use Rattle.gs_seq.specs.Plans.{class_plan};
-ghost use Rattle.gs_best.specs.Rows.{AreGreatest, AreSums, IsMerged};
-ghost use Rattle.gs_best.specs.Sizes.{IsWide};
-ghost use Rattle.gs_best.specs.Tables.{classes_at, moves_of, start_of};
-ghost use Rattle.gs_totals.specs.ClassTotals.{total_worth};
-ghost use Rattle.gs_totals.specs.Merged.{AreChosen, AreModestFrom, AreTaken, IsFollowing};
-ghost use Rattle.gs_totals.specs.Places.{AreEndSums, totals_of};
-ghost use Rattle.gs_totals.specs.Room.{HasRows, IsPlaced};
+ghost use Rattle.gs_seq.specs.{Abstracts.{frame_of, lists_of}, Plans.{class_plan}};
+ghost use Rattle.gs_best.specs.{Rows.{AreGreatest, AreSums, IsMerged}, Sizes.{IsWide}, Tables.{classes_at, moves_of, start_of}};
+ghost use Rattle.gs_totals.specs.{ClassTotals.{total_worth}, Merged.{AreChosen, AreModestFrom, AreTaken, IsFollowing}};
+ghost use Rattle.gs_totals.specs.{Places.{AreEndSums, totals_of}, Room.{HasRows, IsPlaced}};
 
 use crate::places::{Places, Totals};
 use crate::rows::read_worths;

@@ -2,12 +2,8 @@
 
 ghost use Rattle.std.specs.Prelude.{◌≡◌, ◌-◌, ◌+◌, ◌<◌, ◌≤◌, ℕ, length, pos, get_or};
 ghost use Rattle.gs_game.specs.Seen.{end_of};
-ghost use Rattle.gs_model.specs.Classes.{IsClass};
-ghost use Rattle.gs_model.specs.Frame.{end_at, end_count, round_of};
-ghost use Rattle.gs_model.specs.Positions.{at_end};
-ghost use Rattle.gs_seq.specs.Abstracts.{frame_of, lists_of};
-ghost use Rattle.gs_seq.specs.Payoffs.{end_classes, end_sum};
-ghost use Rattle.gs_seq.specs.Plans.{class_plan};
+ghost use Rattle.gs_model.specs.{Classes.{IsClass}, Frame.{end_at, end_count, round_of}, Positions.{at_end}};
+ghost use Rattle.gs_seq.specs.{Abstracts.{frame_of, lists_of}, Payoffs.{end_classes, end_sum}, Plans.{class_plan}};
 ghost use Rattle.gs_best.specs.Sizes.{IsWide};
 
 use gs_best::{Deviator, game};

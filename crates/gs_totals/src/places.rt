@@ -4,8 +4,7 @@ ghost use Rattle.std.specs.Prelude.{◌≡◌, ◌≤◌, IfOk, length};
 ghost use Rattle.gs_model.specs.Frame.{end_count, point_count};
 ghost use Rattle.gs_seq.specs.Abstracts.{frame_of, lists_of};
 ghost use Rattle.gs_best.specs.Tables.{start_of};
-ghost use Rattle.gs_totals.specs.Places.{AreEndStarts, end_start};
-ghost use Rattle.gs_totals.specs.Room.{HasRows, HasScratch, IsPlaced};
+ghost use Rattle.gs_totals.specs.{Places.{AreEndStarts, end_start}, Room.{HasRows, HasScratch, IsPlaced}};
 
 use gs_best::{
     class_total, end_round, end_total, place_points, point_total, round_total, value_total, widest,

@@ -2,17 +2,11 @@
 
 ghost use Rattle.std.specs.Prelude.{◌≡◌, ◌↔◌, ◌+◌, ◌-◌, ◌<◌, ◌≤◌, ℕ, IsTrue, length, pos, get_or, option_map};
 ghost use Rattle.gs_game.specs.Seen.{step_of};
-ghost use Rattle.gs_model.specs.Classes.{IsClass};
-ghost use Rattle.gs_model.specs.Frame.{end_count, last_step, move_count, other_player, player_at, point_count, round_of};
+ghost use Rattle.gs_model.specs.{Classes.{IsClass}, Frame.{end_count, last_step, move_count, other_player, player_at, point_count, round_of}};
 ghost use Rattle.gs_model.specs.Positions.{at_end};
-ghost use Rattle.gs_seq.specs.Abstracts.{frame_of, lists_of};
-ghost use Rattle.gs_seq.specs.Payoffs.{end_classes, end_sum};
-ghost use Rattle.gs_seq.specs.Plans.{class_plan};
-ghost use Rattle.gs_seq.specs.Slots.{plan_of, slot_count};
+ghost use Rattle.gs_seq.specs.{Abstracts.{frame_of, lists_of}, Payoffs.{end_classes, end_sum}, Plans.{class_plan}, Slots.{plan_of, slot_count}};
 ghost use Rattle.gs_best.specs.Sizes.{IsWide};
-ghost use Rattle.gs_totals.specs.Places.{AreEndSums, end_start};
-ghost use Rattle.gs_totals.specs.Renewed.{AgreeAt, AreSameAt};
-ghost use Rattle.gs_totals.specs.Room.{HasRows, HasScratch, IsPlaced};
+ghost use Rattle.gs_totals.specs.{Places.{AreEndSums, end_start}, Renewed.{AgreeAt, AreSameAt}, Room.{HasRows, HasScratch, IsPlaced}};
 
 use crate::paying::{end_in, read_end};
 use crate::places::{Places, Scratch, Totals};

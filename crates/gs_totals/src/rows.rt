@@ -1,16 +1,10 @@
 //! What a move is worth to classes as wholes.
 
 ghost use Rattle.std.specs.Prelude.{◌≡◌, ◌+◌, ◌<◌, ◌≤◌, ℕ, pos, length, get_or};
-ghost use Rattle.gs_model.specs.Classes.{class_count};
-ghost use Rattle.gs_model.specs.Frame.{last_round, move_count, point_count};
-ghost use Rattle.gs_seq.specs.Abstracts.{frame_of, lists_of};
-ghost use Rattle.gs_seq.specs.Plans.{class_plan};
-ghost use Rattle.gs_best.specs.Rows.{AreModest, AreWorths};
-ghost use Rattle.gs_best.specs.Sizes.{IsWide};
-ghost use Rattle.gs_best.specs.Tables.{classes_at};
-ghost use Rattle.gs_totals.specs.ClassTotals.{total_worth};
-ghost use Rattle.gs_totals.specs.Merged.{AreGathered, AreModestFrom};
-ghost use Rattle.gs_totals.specs.Places.{AreEndSums, totals_of};
+ghost use Rattle.gs_model.specs.{Classes.{class_count}, Frame.{last_round, move_count, point_count}};
+ghost use Rattle.gs_seq.specs.{Abstracts.{frame_of, lists_of}, Plans.{class_plan}};
+ghost use Rattle.gs_best.specs.{Rows.{AreModest, AreWorths}, Sizes.{IsWide}, Tables.{classes_at}};
+ghost use Rattle.gs_totals.specs.{ClassTotals.{total_worth}, Merged.{AreGathered, AreModestFrom}, Places.{AreEndSums, totals_of}};
 ghost use Rattle.gs_totals.specs.Room.{HasRows, IsPlaced};
 
 use crate::above::class_above;

@@ -4,7 +4,8 @@ ghost use Rattle.std.specs.Prelude.{◌≡◌, List, [], ◌∷◌, ◌++◌, If
 ghost use Rattle.clap.specs.Words.{rule_of};
 ghost use Rattle.gs_words.specs.Commands.{classes, required, summary};
 ghost use Rattle.gs_words.specs.Program.{Is, app_for, bare, program as whole, rule_for, with_commands, with_options};
-ghost use Rattle.gs_words.specs.{declared.names.CommandName.{CommandName}, declared.names.CommandName.TheVariants as name};
+ghost use Rattle.gs_words.specs.declared.names.CommandName.{CommandName};
+ghost use Rattle.gs_words.specs.declared.names.CommandName.TheVariants as name;
 
 use crate::names::{COMMANDS, CommandName};
 use clap::{Arg, ArgAction, Command};

@@ -3,7 +3,8 @@
 ghost use Rattle.std.specs.Prelude.{◌≡◌, ◌≤◌, codes, IfOk, IfSome, map, string_bytes, option_map, option_and_then};
 ghost use Rattle.clap.specs.Words.{first_of, rows_of, found_of, subcommand_rows_of};
 ghost use Rattle.gs_words.specs.Requests.{grouping_in, is_set as is_true, make_of, play_with, query_with, task_for, task_in, IsStopFor, ReadsWords, TakesWords};
-ghost use Rattle.gs_words.specs.{Tasks.{task_of, IsInRange}, Values.{number_in}, declared.names.CommandName.TheVariants as command};
+ghost use Rattle.gs_words.specs.{Tasks.{task_of, IsInRange}, Values.{number_in}};
+ghost use Rattle.gs_words.specs.declared.names.CommandName.TheVariants as command;
 
 use crate::command::program;
 use crate::names::{CommandName, command_named};
