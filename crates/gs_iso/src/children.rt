@@ -1,7 +1,7 @@
 //! The numbers of signals before the last round, by their children's.
 
-ghost use Rattle.std.specs.{Prelude.{ℕ, ◌≡◌, ◌<◌, ◌≤◌, ◌+◌, IfOk, IsTrue, List, OnOk, length, map}, List.{range_with_len}};
-ghost use Rattle.gs_model.specs.{Game.{round_count}, Signals.{child_count, first_child, last_edge, signal_at, signals as signals_in}};
+ghost use Rattle.std.specs.{Prelude.{ℕ, ◌≡◌, ◌<◌, ◌≤◌, ◌+◌, IfOk, List, OnOk, length, map}, List.{range_with_len}};
+ghost use Rattle.gs_model.specs.{Game.{round_count}, Signals.{child_count, first_child, signals as signals_in}};
 ghost use Rattle.gs_model.specs.Signatures.{IsSignature};
 ghost use Rattle.gs_tree.specs.Trees.{rules_of};
 ghost use Rattle.gs_iso.specs.{Numbers.{AreMarks, IsNumbering, child_part, marks_under}, Orders.{mark_lt}};
@@ -36,21 +36,6 @@ pub(crate) fn children_under(
         })?;
     }
     Ok(children)
-}
-
-/// Whether the edge to each signal of a round weighs 1.
-fn are_light(signals: &Signals, round: u8) -> bool
-    requires some { 0 < round }
-    requires last { round ≤ round_count (rules_of signals.now) }
-    ensures { IsTrue result → (i : ℕ) → i < length (signals_in (rules_of signals.now) round)
-        → last_edge (rules_of signals.now).copies (signal_at (rules_of signals.now) round i) ≡ 1 }
-{
-    for signal in 0..signals.count(round) {
-        if signals.edge(round, signal) != 1 {
-            return false;
-        }
-    }
-    true
 }
 
 /// For each signal of a round a mark: equal exactly where both the edges to the signals and their numbers are.
@@ -138,7 +123,7 @@ pub(crate) fn child_numbers(
     requires numbers { IsNumbering (rules_of signals.now) (round + 1) below.now }
     ensures { IfOk result (λ v. IsNumbering (rules_of signals.now) round v.items) }
 {
-    if are_light(signals, round + 1) {
+    if signals.are_light(round + 1) {
         return marked_numbers(alloc, signals, round, below);
     }
     let marks = edge_marks(alloc, signals, round + 1, below)?;

@@ -13,15 +13,6 @@ use gs_filter::Classes;
 use gs_tree::Signals;
 use std::alloc::{AllocError, Global};
 
-/// The parent of each signal of a round, by its place in the round before; zeros in round 1.
-fn parents_in<'a>(signals: &'a Signals, round: u8) -> &'a [u32]
-    requires some { 0 < round }
-    requires last { round ≤ round_count (rules_of signals.now) }
-    ensures { result.now ≡ parents (rules_of signals.entry.now) round }
-{
-    &signals.parents()[usize::from(round) - 1]
-}
-
 /// For each round, the last one first, a number for each signal: equal exactly where signals are isomorphic.
 pub(crate) fn node_numbers(alloc: Global, signals: &Signals) -> Result<Vec<Vec<u32>>, AllocError>
     ensures { IfOk result (λ v. AreNumberings (rules_of signals.now) (rows v.items)) }
@@ -62,7 +53,7 @@ fn class_lists(
         let here = round_classes(
             alloc,
             last_classes(&lists),
-            parents_in(signals, done + 1),
+            signals.parents_in(done + 1),
             &numbers[usize::from(rounds - done) - 1],
         )?;
         lists.push(here)?;

@@ -13,7 +13,7 @@ mod stopped;
 pub use checking::{Lossless, check};
 pub use keys::side_keys;
 pub use parts::Part;
-pub use runs::{Run, ancestor, descendants, descendants_in, parents_in};
+pub use runs::{Run, ancestor, descendants, descendants_in};
 pub use sides::{Side, side_sums};
 pub use stop::CheckStop;
 pub use stopped::stopped_classes;

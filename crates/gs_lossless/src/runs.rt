@@ -1,7 +1,7 @@
 //! The signals of a later round that descend from a signal: a run of places.
 
 ghost use Rattle.std.specs.Prelude.{◌≡◌, ◌+◌, ◌<◌, ◌≤◌, length};
-ghost use Rattle.gs_model.specs.{Frame.{at_round, frame_of}, Game.{round_count}, Signals.{first_child, parents, signals as signals_in}};
+ghost use Rattle.gs_model.specs.{Frame.{at_round, frame_of}, Game.{round_count}, Signals.{first_child, signals as signals_in}};
 ghost use Rattle.gs_tree.specs.{Trees.{rules_of}, Walk.{last_count}};
 ghost use Rattle.gs_lossless.specs.Amounts.{IsRun, IsRunIn};
 
@@ -12,15 +12,6 @@ use gs_tree::Signals;
 pub struct Run {
     pub first: u32,
     pub end: u32,
-}
-
-/// The parent of each signal of a round, by its place in the round before; zeros in round 1.
-pub fn parents_in<'a>(signals: &'a Signals, round: u8) -> &'a [u32]
-    requires some { 0 < round }
-    requires last { round ≤ round_count (rules_of signals.now) }
-    ensures { result.now ≡ parents (rules_of signals.entry.now) round }
-{
-    &signals.parents()[usize::from(round) - 1]
 }
 
 /// The ancestor in a round of a signal of the last round.
@@ -34,7 +25,7 @@ pub fn ancestor(signals: &Signals, round: u8, signal: u32) -> u32
     let mut at = signals.rounds();
     let mut place = signal;
     while round < at {
-        place = parents_in(signals, at)[place as usize];
+        place = signals.parents_in(at)[place as usize];
         at -= 1;
     }
     place

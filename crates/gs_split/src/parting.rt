@@ -8,7 +8,6 @@ ghost use Rattle.gs_split.specs.Turns.{AreParted, HaveNumbers, IsRoundParted, cl
 
 use crate::rounds::round_classes;
 use gs_filter::Classes;
-use gs_lossless::parents_in;
 use gs_tree::Signals;
 use std::alloc::{AllocError, Global};
 
@@ -41,7 +40,7 @@ fn round_parted(
 {
     let _rounds = classes.rounds();
     let before = &classes.lists()[usize::from(round) - 1];
-    round_classes(alloc, before, above, parents_in(signals, round), numbers)
+    round_classes(alloc, before, above, signals.parents_in(round), numbers)
 }
 
 /// The new classes of all rounds, by a number for each signal of each round.

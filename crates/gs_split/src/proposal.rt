@@ -9,7 +9,6 @@ ghost use Rattle.gs_split.specs.Proposal.{AreFair, AreFairFrom, IsProposal, chil
 use crate::parting::parted;
 use gs_boards::{BoardOrder, Pays};
 use gs_filter::Classes;
-use gs_lossless::parents_in;
 use gs_tree::Signals;
 use std::alloc::{AllocError, Global};
 
@@ -155,7 +154,7 @@ fn fair_numbers(
 {
     let _rounds = classes.rounds();
     let list = &classes.lists()[usize::from(round)];
-    let parents = parents_in(signals, round + 1);
+    let parents = signals.parents_in(round + 1);
     child_numbers(alloc, signals.count(round), parents, list, below)
 }
 

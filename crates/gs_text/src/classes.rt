@@ -2,7 +2,7 @@
 
 ghost use Rattle.std.specs.Prelude.{◌≡◌, ◌≤◌, ◌<◌, ◌-◌, ◌++◌, ◌^◌, [], ◌∷◌, All, IfOk, OnOk, length, map, flat_map, codes, string_bytes, vec_len, slice_index, slice_set, slice_index_or};
 ghost use Rattle.std.specs.List.{zip, range_with_len};
-ghost use Rattle.gs_model.specs.{Classes.{list_of}, Numbering.{greatest}, Game.{round_count}, Signals.{parents, signal_at, signals as signals_in}};
+ghost use Rattle.gs_model.specs.{Classes.{list_of}, Numbering.{greatest}, Game.{round_count}, Signals.{signal_at, signals as signals_in}};
 ghost use Rattle.gs_tree.specs.{Texts.{signal_text}, Trees.{rules_of, deck_of}};
 ghost use Rattle.gs_text.specs.ClassText.{begin_line, open_line, round_line, round_text, AreListsOf, signal_texts as texts_of_signals, class_text as text_of_classes};
 
@@ -87,15 +87,6 @@ fn signal_texts(alloc: Global, signals: &Signals, round: u8) -> Result<Vec<Strin
     Ok(texts)
 }
 
-// The parents of the signals of a round, by their places in the round before.
-fn parents_in<'a>(signals: &'a Signals, round: u8) -> &'a [u32]
-    requires some { 0 < round }
-    requires last { round ≤ round_count (rules_of signals.now) }
-    ensures { result.now ≡ parents (rules_of signals.entry.now) round }
-{
-    &signals.parents()[usize::from(round) - 1]
-}
-
 // The line of each class of a round after the first, without its end, by the texts of the round before: no text of the round itself is kept.
 fn lines_below(
     alloc: Global,
@@ -113,7 +104,7 @@ fn lines_below(
     ensures { IfOk result (λ lines. map string_bytes lines.items ≡ map (open_line (zip (texts_of_signals (deck_of signals.now) (rules_of signals.now) round) classes.now)) (range_with_len 1 count)) }
 {
     let _few = signals.count(round);
-    let parents = parents_in(signals, round);
+    let parents = signals.parents_in(round);
     let mut lines = begun_lines(alloc, count)?;
     for (index, class) in classes.iter().enumerate() {
         let owner = parents[index] as usize;

@@ -11,6 +11,7 @@ pub mod Beside
 pub mod Rows
 pub mod Parts
 pub mod OneCard
+pub mod Ones
 pub mod Weights
 pub mod Same
 pub mod Linked

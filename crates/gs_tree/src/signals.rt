@@ -53,7 +53,7 @@ pub struct Signals<'g> {
 }
 
 impl<'g> Signals<'g> {
-    ghost use Rattle.std.specs.Prelude.{◌≡◌, ◌≢◌, ◌≤◌, ◌<◌, ◌+◌, ◌-◌, ◌++◌, ◌*◌, ◌==◌, ℕ, true, IfOk, IfSome, OnOk, slice_index, filter, map, length, string_bytes};
+    ghost use Rattle.std.specs.Prelude.{◌≡◌, ◌≢◌, ◌≤◌, ◌<◌, ◌+◌, ◌-◌, ◌++◌, ◌*◌, ◌==◌, ◌↔◌, ℕ, true, EachIndex, IfOk, IfSome, IsTrue, OnOk, slice_index, filter, map, length, string_bytes};
     ghost use Rattle.std.specs.List.{range_with_len};
     ghost use Rattle.gs_model.specs.Game.{round_count};
     ghost use Rattle.gs_model.specs.Signals.{signals, parents as parents_in, signal_at, child_count, first_child, last_edge, left_by, own_cards, public_cards};
@@ -126,6 +126,15 @@ impl<'g> Signals<'g> {
         &self.parents
     }
 
+    /// The parent of each signal of a round, by its place in the round before; zeros in round 1.
+    pub fn parents_in(&self, round: u8) -> &[u32]
+        requires some { 0 < round }
+        requires last { round ≤ round_count (rules_of self.now) }
+        ensures { result.now ≡ parents_in (rules_of self.now) round }
+    {
+        &self.parents[usize::from(round) - 1]
+    }
+
     /// The children of a signal of a round before the last: the place of the first one in the next round, and one past the last.
     pub fn children(&self, round: u8, signal: u32) -> (u32, u32)
         requires some { 0 < round }
@@ -148,6 +157,16 @@ impl<'g> Signals<'g> {
         self.layers[usize::from(round) - 1]
             .edges
             .of(signal as usize)
+    }
+
+    /// Whether the edge to each signal of a round weighs 1.
+    pub fn are_light(&self, round: u8) -> bool
+        requires some { 0 < round }
+        requires last { round ≤ round_count (rules_of self.now) }
+        ensures { IsTrue result ↔ EachIndex (signals (rules_of self.now) round)
+            (λ signal. last_edge (rules_of self.now).copies (signal_at (rules_of self.now) round signal) ≡ 1) }
+    {
+        self.layers[usize::from(round) - 1].edges.are_ones()
     }
 
     /// The ways to take all that a last-round signal shows: the product of the edge weights on the way to it.

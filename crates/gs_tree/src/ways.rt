@@ -1,7 +1,16 @@
 //! Numbers of ways, one for each signal of a round.
 
+ghost use Rattle.std.specs.Prelude.{◌≡◌, ◌↔◌, EachIndex, IsTrue, slice_index};
+
 use std::alloc::{AllocError, Global};
 use std::marker::Model;
+
+/// Whether each of some numbers is 1.
+fn are_ones(numbers: &[u64]) -> bool
+    ensures { IsTrue result ↔ EachIndex numbers.now (λ i. slice_index numbers.now i ≡ 1) }
+{
+    numbers.iter().all(|number| *number == 1)
+}
 
 /// Numbers, one behind another. As long as each is 1 they are counted and not kept, so that a deck of single cards keeps none.
 #[derive(Drop, Debug)]
@@ -21,7 +30,7 @@ impl Model for Ways {
 }
 
 impl Ways {
-    ghost use Rattle.std.specs.Prelude.{◌≡◌, ◌<◌, ◌++◌, ◌∷◌, [], IfSome, OnOk, length, replicate, slice_index};
+    ghost use Rattle.std.specs.Prelude.{◌≡◌, ◌<◌, ◌++◌, ◌∷◌, ◌↔◌, [], EachIndex, IfSome, IsTrue, OnOk, length, replicate, slice_index};
 
     /// No numbers yet.
     pub(crate) fn new(alloc: Global) -> Ways
@@ -52,6 +61,13 @@ impl Ways {
         } else {
             None
         }
+    }
+
+    /// Whether each number is 1.
+    pub(crate) fn are_ones(&self) -> bool
+        ensures { IsTrue result ↔ EachIndex self.now (λ i. slice_index self.now i ≡ 1) }
+    {
+        are_ones(&self.rest)
     }
 
     /// How many numbers there are.

@@ -9,7 +9,7 @@ pub returns-then-are_light : goal.returns-then-are_light
 returns-then-are_light c =
     let g = rules_of c.args.signals.now in
     let r = c.args.round + 1 in
-    IfOk-weaker c.marked_numbers.result _ _ (λ v h. h c.args.below.now c.requires.numbers (marks_light g r c.args.below.now c.requires.numbers (c.are_light.ensures c.if-are_light.true))) c.marked_numbers.ensures
+    IfOk-weaker c.marked_numbers.result _ _ (λ v h. h c.args.below.now c.requires.numbers (marks_light g r c.args.below.now c.requires.numbers (c.are_light.ensures.0 c.if-are_light.true))) c.marked_numbers.ensures
 
 pub returns : goal.returns
 returns c =

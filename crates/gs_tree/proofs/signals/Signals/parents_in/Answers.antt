@@ -1,0 +1,12 @@
+use Rattle.std.proofs.Common.{◌-◌, ◌∙◌, ap, arith, get_or}
+use Rattle.gs_tree.specs.Trees.{rules_of}
+use Rattle.gs_tree.proofs.Lookups.{parents_of}
+use Rattle.gs_tree.proofs.signals.Signals.parents_in.Goals as goal
+
+pub returns : goal.returns
+returns c =
+    let s = c.args.self.now in
+    let row = c.index.result.now in
+    c.deref.ensures.value
+    ∙ parents_of (rules_of s) s.parents.items s.layers.items c.args.round row s.tables c.requires.some (omega (arith, s.counted, c.requires.last))
+    (c.index.ensures ∙ ap (λ k. get_or s.parents.items (k - 1) row) c.from.ensures)
