@@ -1,10 +1,12 @@
 -- The signals that descend from a signal stand side by side.
-use Rattle.std.proofs.Common.{◌≡◌, ℕ, zero, suc, ◌+◌, ◌-◌, ◌<◌, ◌≤◌, List, [], ◌∷◌, length, take, get_or, sym, ap, ◌∙◌, subst, arith, ⊎_elim, length-append}
+use Rattle.std.proofs.Common.{◌≡◌, ℕ, zero, suc, ◌+◌, ◌-◌, ◌<◌, ◌≤◌, ◌^◌, List, [], ◌∷◌, length, take, get_or, sym, ap, ◌∙◌, subst, arith, ⊎_elim, length-append}
 use Rattle.std.specs.Prelude.{All, flat_map}
 use Rattle.std.proofs.lemmas.Bool.{cases_lt}
 use Rattle.std.proofs.lemmas.Grind.{flat_map-append}
+use Rattle.std.proofs.lemmas.List.Sums.{get_or-le-sum_by}
 use Rattle.std.proofs.lemmas.List.{append-nil, length-map, take_all, take_more}
 use Rattle.gs_game.specs.Games.{round_of}
+use Rattle.gs_game.specs.Limits.{IsWithinLimits}
 use Rattle.gs_game.proofs.Playable.{is_playable}
 use Rattle.gs_model.specs.Frame.{ancestor, ancestor_up, at_round, frame_of, last_round, signal_count}
 use Rattle.gs_model.specs.Deals.{Deal, deals}
@@ -158,6 +160,10 @@ count_last g p = ap (signal_count (frame_of g)) (last_round_of g) ∙ signal_cou
 
 pub twos_in : (g : Game) → IsPlayable g → (n : ℕ) → n ≡ length (signals g (round_count g)) → All (λ (d : Deal). d.two < n) (deals g)
 twos_in g p n e = λ k d l. let t = (in_range g p).twos k d l in omega (arith, t, count_last g p, e)
+
+-- a deal weighs no more than all, which is little
+pub deals_light : (g : Game) → IsWithinLimits g → All (λ (d : Deal). d.weight < 2 ^ 32) (deals g)
+deals_light g limits = λ k d l. omega (arith, get_or-le-sum_by (λ (x : Deal). x.weight) (deals g) k d l, limits.weight_in)
 
 -- the lists of classes over a game's parents are as long as its rounds
 pub list_long : (g : Game) (l : Filter) → l.parents ≡ (frame_of g).parents → IsSound l → (round : ℕ) → 0 < round → round ≤ round_count g → length (list_of l.lists round) ≡ length (signals g round)

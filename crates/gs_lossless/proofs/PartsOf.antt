@@ -20,7 +20,7 @@ use Rattle.gs_lossless.proofs.Weighed.{children_amount, children_some, children_
 -- each part has weight, and by the keys of any classes they add up to what the side counts
 pub record ArePartsOf (g : Game) (side : Side) (round s : ℕ) (keys : List ℕ) (parts : List Part) : Type 0 where
   pub some : All (λ (q : Part). 0 < q.weight) parts
-  pub fits : sum_by (λ (q : Part). q.weight) parts < 2 ^ 64
+  pub fits : sum_by (λ (q : Part). q.weight) parts < 2 ^ 32
   pub amounts : (lists : ClassLists) → keys ≡ keys_of (frame_of g) lists side round → (c : ℕ) (o : ℤ) → sum_at parts c o ≡ amount (frame_of g) lists side round s c o
 
 pub before_last : (f : Frame) (side : Side) (round : ℕ) → side ≡ Children → HasSide f side round → round < last_round f

@@ -10,12 +10,12 @@ use std::alloc::{AllocError, Global};
 pub struct Part {
     pub class: u32,
     pub outcome: i8,
-    pub weight: u64,
+    pub weight: u32,
 }
 
 /// Adds a part to sums whose keys are none below its own: the last sum takes it, or it begins a new one.
 fn add(sums: &mut Vec<Part>, part: Part) -> Result<(), AllocError>
-    requires { sum_by (λ p. p.weight) sums.old.items + part.weight < 2 ^ 64 }
+    requires { sum_by (λ p. p.weight) sums.old.items + part.weight < 2 ^ 32 }
     ensures { OnOk result (reverse sums.new.items ≡ put part (reverse sums.old.items)) }
 {
     let count = sums.len();
@@ -33,7 +33,7 @@ fn add(sums: &mut Vec<Part>, part: Part) -> Result<(), AllocError>
 /// The sums of the weights of some parts, for each class and outcome that some part has.
 pub(crate) fn sums_of(alloc: Global, mut parts: Vec<Part>) -> Result<Vec<Part>, AllocError>
     requires some { All (λ p. 0 < p.weight) parts.items }
-    requires fits { sum_by (λ p. p.weight) parts.items < 2 ^ 64 }
+    requires fits { sum_by (λ p. p.weight) parts.items < 2 ^ 32 }
     ensures { IfOk result (λ v. AreSumsOf parts.items (reverse v.items)) }
 {
     parts.sort_unstable();

@@ -1,6 +1,6 @@
 //! What is compared of a signal: the sums of its deals, or of its children.
 
-ghost use Rattle.std.specs.{Prelude.{◌≡◌, ◌+◌, ◌++◌, ◌<◌, ◌≤◌, All, IfOk, OnOk, length, map, reverse}, List.{range_with_len}};
+ghost use Rattle.std.specs.{Prelude.{◌≡◌, ◌+◌, ◌++◌, ◌<◌, ◌≤◌, ◌^◌, All, IfOk, OnOk, length, map, reverse}, List.{range_with_len}};
 ghost use Rattle.gs_model.specs.{Classes.{ClassLists}, Deals.{Deal as Dealt, deals as all_deals}, Frame.{frame_of}, Game.{round_count}};
 ghost use Rattle.gs_model.specs.Signals.{child_count, first_child, signals as signals_in};
 ghost use Rattle.gs_tree.specs.{Trees.{rules_of}, Walk.{last_count}};
@@ -25,13 +25,14 @@ pub enum Side {
 
 /// A deal's weight, for the class of player 2's signal, and for the outcome or for none.
 fn part_of(keys: &[u32], by_outcome: bool, deal: Deal) -> Part
-    requires { deal.two < length keys.now }
+    requires in_range { deal.two < length keys.now }
+    requires few { deal.weight < 2 ^ 32 }
     ensures { result ≡ deal_part keys.now by_outcome deal }
 {
     Part {
         class: keys[deal.two as usize],
         outcome: if by_outcome { deal.outcome } else { 0 },
-        weight: deal.weight,
+        weight: deal.weight as u32,
     }
 }
 
@@ -42,7 +43,8 @@ fn push_parts(
     keys: &[u32],
     by_outcome: bool,
 ) -> Result<(), AllocError>
-    requires { All (λ (d : Dealt). d.two < length keys.now) deals }
+    requires in_range { All (λ (d : Dealt). d.two < length keys.now) deals }
+    requires few { All (λ (d : Dealt). d.weight < 2 ^ 32) deals }
     ensures { OnOk result (parts.new.items ≡ parts.old.items ++ map (deal_part keys.now by_outcome) deals.entry) }
 {
     for deal in deals {

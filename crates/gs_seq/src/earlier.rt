@@ -49,7 +49,7 @@ fn part_above(classes: &Classes, round: u8, pair: Pair) -> Part
     Part {
         class: classes.parent_class(round + 1, pair.two),
         outcome: 0,
-        weight: u64::from(pair.weight),
+        weight: pair.weight,
     }
 }
 

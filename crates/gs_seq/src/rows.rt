@@ -47,7 +47,7 @@ fn pair_from(part: Part, members: u64) -> Pair
     ensures value { result ≡ pair_of members part }
     ensures moderate { IsModerate result }
 {
-    let weight = (members * part.weight) as u32;
+    let weight = (members * u64::from(part.weight)) as u32;
     Pair {
         two: part.class,
         weight,

@@ -1,4 +1,4 @@
-use Rattle.std.proofs.Common.{◌≡◌, ◌<◌, ◌++◌, ◌∷◌, [], List, ap, length, map, sym, ◌∙◌, subst, append_assoc}
+use Rattle.std.proofs.Common.{◌≡◌, ◌<◌, ◌^◌, ◌++◌, ◌∷◌, [], List, ap, length, map, sym, ◌∙◌, subst, append_assoc}
 use Rattle.std.specs.Prelude.{All}
 use Rattle.std.proofs.lemmas.List.Elements.{All-tail}
 use Rattle.gs_model.specs.Deals.{Deal}
@@ -15,10 +15,12 @@ loop-deal-preserved c =
     let first : before ≡ deal ∷ rest = c.in-Some.ensures.steps in
     let parts = c.loop-deal.parts.items in
     let inside : Deal → Type 0 = λ d. d.two < length c.args.keys.now in
+    let light : Deal → Type 0 = λ d. d.weight < 2 ^ 32 in
     record {
       done = ap (λ (xs : List Part). xs ++ map part rest) (c.in_ok-push.ensures.items ∙ ap (λ (p : Part). parts ++ p ∷ []) c.part_of.ensures)
           ∙ append_assoc parts (part deal ∷ []) (map part rest)
           ∙ ap (λ (l : List Deal). parts ++ map part l) (sym first)
           ∙ c.loop-deal.invariant.done;
       inside = All-tail inside deal rest (subst (All inside) first c.loop-deal.invariant.inside);
+      few = All-tail light deal rest (subst (All light) first c.loop-deal.invariant.few);
     }

@@ -1,4 +1,4 @@
-use Rattle.std.proofs.Common.{◌≡◌, ◌+◌, ◌-◌, ◌<◌, ℕ, List, ◌++◌, ap, length, map, sym, ◌∙◌, subst, arith}
+use Rattle.std.proofs.Common.{◌≡◌, ◌+◌, ◌-◌, ◌<◌, ◌^◌, ℕ, List, ◌++◌, ap, length, map, sym, ◌∙◌, subst, arith}
 use Rattle.std.specs.Prelude.{◌==◌, All, filter, flat_map}
 use Rattle.std.specs.List.{range_with_len}
 use Rattle.std.proofs.lemmas.List.Elements.{All-filter}
@@ -7,15 +7,22 @@ use Rattle.gs_model.proofs.GroupSteps.{flat_map_range_more}
 use Rattle.gs_tree.specs.Trees.{rules_of}
 use Rattle.gs_lossless.specs.Amounts.{deal_part}
 use Rattle.gs_lossless.specs.declared.parts.Part.{Part}
-use Rattle.gs_lossless.proofs.Descent.{playable, twos_in}
+use Rattle.gs_lossless.proofs.Descent.{deals_light, playable, twos_in}
 use Rattle.gs_lossless.proofs.sides.run_parts.Goals as goal
 
-pub push_parts-requires : goal.push_parts-requires
-push_parts-requires c =
+pub push_parts-requires-clause-in_range : goal.push_parts-requires-clause-in_range
+push_parts-requires-clause-in_range c =
     let g = rules_of c.args.signals.now in
     let p : Deal → Type 0 = λ d. d.two < length c.args.keys.now in
-    subst (λ (l : List Deal). All p l) (sym c.deals_of.ensures)
+    subst (All p) (sym c.deals_of.ensures)
     (All-filter (λ (d : Deal). d.one == c.loop-place.place) p (deals g) (twos_in g (playable c.args.signals.now) (length c.args.keys.now) c.requires.all))
+
+pub push_parts-requires-clause-few : goal.push_parts-requires-clause-few
+push_parts-requires-clause-few c =
+    let g = rules_of c.args.signals.now in
+    let light : Deal → Type 0 = λ d. d.weight < 2 ^ 32 in
+    subst (All light) (sym c.deals_of.ensures)
+    (All-filter (λ (d : Deal). d.one == c.loop-place.place) light (deals g) (deals_light g c.args.signals.now.game.now.limits))
 
 pub loop-place-preserved : goal.loop-place-preserved
 loop-place-preserved c =
