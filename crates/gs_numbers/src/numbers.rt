@@ -1,8 +1,9 @@
 //! The numbers of keys and of lists.
 
 ghost use Rattle.std.specs.Prelude.{◌≡◌, ◌+◌, ◌-◌, ◌<◌, ◌≤◌, ◌^◌, IfOk, OnOk, Some, slice_get, true};
+ghost use lib.Pointwise.{pointwise};
 ghost use Rattle.indexmap.specs.IndexSet.{IsUnique, index_set_len, insert_key};
-ghost use Rattle.gs_numbers.specs.Numbers.{IsNumberOf, StayIn, same_parts};
+ghost use Rattle.gs_numbers.specs.Numbers.{IsNumberOf, StayIn, parts_of, same_parts};
 
 use indexmap::IndexSet;
 use std::alloc::{AllocError, Global};
@@ -21,7 +22,7 @@ pub fn number_of<K: Eq + Hash + Drop>(keys: &mut IndexSet<K>, key: K) -> Result<
     Ok(index as u32 + 1)
 }
 
-/// The number of a list, by first sight too. The list is copied only where it was not seen before.
+/// The number of a list, by first sight too. A copy of it is kept where it was not seen before, and else the lists stay.
 pub fn number_of_list<P: Copy + Eq + Hash + Drop>(
     alloc: Global,
     lists: &mut IndexSet<Vec<P>>,
@@ -29,6 +30,7 @@ pub fn number_of_list<P: Copy + Eq + Hash + Drop>(
 ) -> Result<u32, AllocError>
     requires few { index_set_len lists.old + 1 < 2 ^ 32 }
     requires unique { IsUnique (same_parts P.eq) lists.old }
+    ensures grown { OnOk result (parts_of lists.new.keys ≡ insert_key (pointwise P.eq) (parts_of lists.old.keys) list.now) }
     ensures kept { OnOk result (StayIn lists.old.keys lists.new.keys) }
     ensures number { IfOk result (IsNumberOf P.eq lists.new.keys list.now) }
     ensures few { OnOk result (index_set_len lists.new ≤ index_set_len lists.old + 1) }

@@ -2,6 +2,7 @@ use Rattle.std.proofs.Common.{◌≡◌, ◌+◌, ◌-◌, ◌++◌, ◌∙◌, 
 use lib.Pointwise.{pointwise}
 use Rattle.gs_numbers.specs.Numbers.{same_parts}
 use Rattle.gs_numbers.proofs.Numbered.{find_passes, slice_get-insert}
+use Rattle.gs_numbers.proofs.Grown.{parts_insert, parts_stay}
 use Rattle.gs_numbers.proofs.numbers.number_of_list.Goals as goal
 
 pub returns-in-Some-clause-number : goal.returns-in-Some-clause-number
@@ -30,3 +31,11 @@ returns-clause-number g c =
       stands = n.stored.1;
       same = subst (λ l. pointwise g.P.PartialEq.eq l n.stored.0.items ≡ true) whole n.stored.2;
     }
+
+pub returns-in-Some-clause-grown : goal.returns-in-Some-clause-grown
+returns-in-Some-clause-grown g c = parts_stay g.P.PartialEq.eq c.args.lists.now.keys c.args.list.now (sym c.in-Some.ensures.found)
+
+pub returns-clause-grown : goal.returns-clause-grown
+returns-clause-grown g c =
+    let whole = c.in_ok-extend_from_slice.ensures.items ∙ ap (λ l. l ++ c.args.list.now) c.in_ok-key.ensures.items in
+    parts_insert g.P.PartialEq.eq c.args.lists.now.keys c.number_of.new.keys.keys c.extend_from_slice.new.self c.args.list.now whole c.in_ok-number.ensures.grown
