@@ -1,14 +1,21 @@
--- One command more.
-use Rattle.std.proofs.Common.{◌≡◌, ◌++◌, ◌||◌, ℕ, ◌+◌, ◌<◌, List, [], ◌∷◌, Bool, false, refl, ap, sym, subst, ◌∙◌, fold, length, take, get_or, add-one}
+-- One option more, and one command more.
+use Rattle.std.proofs.Common.{◌≡◌, ◌++◌, ◌||◌, ℕ, ◌+◌, ◌<◌, List, [], ◌∷◌, Bool, false, refl, ap, sym, subst, ◌∙◌, length, take, get_or, add-one}
 use Rattle.std.proofs.Math.Seq.{take-length, take-suc}
 use Rattle.std.proofs.lemmas.List.Sums.{fold-append}
-use Rattle.clap.specs.Words.{AddsSubcommand, App, Shape, app_of, shape_of, with_subcommand}
+use Rattle.clap.specs.Words.{AddsArg, AddsSubcommand, App, Rule, rule_of, shape_of, with_rule, with_subcommand}
+use Rattle.clap.specs.declared.builder.arg.Arg.{Arg}
 use Rattle.clap.specs.declared.builder.command.Command.{Command}
-use Rattle.gs_words.specs.Program.{Is, app_for, bare, with_commands}
+use Rattle.gs_words.specs.Commands.{OptionOf}
+use Rattle.gs_words.specs.Program.{Is, app_for, bare, rule_for, with_commands}
 use Rattle.gs_words.specs.declared.names.CommandName.{CommandName}
 
 neither : (a b : Bool) → a ≡ false → b ≡ false → (a || b) ≡ false
 neither a b e f = rw (e, f) refl
+
+-- a command with an option behind those that it had
+pub with_one : (app : App) (o : OptionOf) (old new : Command) (a : Arg) → Is app old → rule_of a ≡ rule_for o → a.global ≡ false → AddsArg old a new → Is (with_rule app (rule_for o)) new
+with_one app o old new a is rule local adds =
+    (adds.shape local ∙ (ap (λ (x : App). with_rule x (rule_of a)) is.0 ∙ ap (λ (r : Rule). with_rule app r) rule), adds.globals ∙ neither _ _ is.1 local)
 
 -- a command behind those that were there
 behind : (names : List CommandName) (c : CommandName) → with_commands (names ++ c ∷ []) ≡ with_subcommand (with_commands names) (app_for c).top

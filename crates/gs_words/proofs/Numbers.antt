@@ -7,7 +7,8 @@ use Rattle.std.proofs.lemmas.Str.Parse.{numerals_by_value, tells_all_ascii_digit
 use Rattle.std.proofs.lemmas.Bool.{cases_eq, eq-eqb, ne_eqb, eqb-true, lt-leb, false≢true}
 use Rattle.std.proofs.lemmas.Bool.Decides.{leb_tells}
 use Rattle.std.proofs.lemmas.List.{nil_from_length}
-use Rattle.gs_words.specs.Values.{is_numeral, number_in}
+use Rattle.gs_frac.specs.Texts.{is_numeral}
+use Rattle.gs_words.specs.Values.{number_in}
 
 -- a numeral is digits, at least one
 numeral_digits : (word : List ℕ) → is_numeral word ≡ true → (all_ascii_digits word ≡ true) × (0 < length word)

@@ -1,17 +1,17 @@
 -- Plain words are a request.
-use Rattle.std.proofs.Common.{◌≡◌, ◌++◌, ◌&&◌, ◌||◌, not, ℕ, if◌then◌else◌, Bool, true, false, refl, List, [], ◌∷◌, Option, Some, None, is_some, IsTrue, IsSome, codes, ap, ◌∙◌, fold, unwrap_or, suc, append_assoc, append-nil, inl, inr}
-use Rattle.std.specs.Prelude.{option_map, slice_get}
+use Rattle.std.proofs.Common.{◌≡◌, ◌++◌, ◌&&◌, ◌||◌, not, ℕ, Bool, true, false, refl, List, [], ◌∷◌, Option, Some, None, is_some, IsTrue, IsSome, codes, ap, ◌∙◌, fold, unwrap_or, append_assoc, append-nil, inl, inr}
+use Rattle.std.specs.Prelude.{find, option_and_then, option_map, slice_get}
 use Rattle.std.specs.List.{list_all, list_any}
 use Rattle.std.specs.Str.{bytes_eq}
 use Rattle.std.proofs.lemmas.Bool.{and_parts, cases_Bool, false≢true}
-use Rattle.clap.specs.Words.{Row, Rule, Text, built, fault_of, first_of, new_rule, subcommand_of}
-use Rattle.clap.specs.Simple.{Shape, names_of}
+use Rattle.clap.specs.Words.{App, Row, Rule, Text, built, fault_of, first_of, new_rule, subcommand_of}
+use Rattle.clap.specs.Simple.{Shape, entered, label_of, names_of}
 use Rattle.clap.specs.Takes.{is_given}
-use Rattle.clap.specs.Walk.{Held, Names, Walk, finished, idle, nothing_held, walk_from, walked}
-use Rattle.clap.specs.Faults.{check_fault, defaults_fault, level_fault, walk_fault}
-use Rattle.clap.proofs.FaultLemmas.{stopped_fault}
+use Rattle.clap.specs.Walk.{Held, Names, Walk, answers_to, finished, idle, nothing_held, settled, stop_after, walk_from, walked}
+use Rattle.clap.specs.Faults.{built_fault, check_fault, defaults_fault, level_fault, turn_fault, walk_fault}
+use Rattle.clap.proofs.FaultLemmas.{past, stopped_fault}
 use Rattle.clap.proofs.OnLiterals.{clap_on_literals}
-use Rattle.gs_words.specs.Commands.{command_word, commands, options_of}
+use Rattle.gs_words.specs.Commands.{OptionOf, command_of, command_word, options_of}
 use Rattle.gs_words.specs.Plain.{Given, are_plain, given_for, name_of, option_words, stand_once}
 use Rattle.gs_words.specs.Program.{program}
 use Rattle.gs_words.specs.Requests.{grouping_in, is_set, make_with, play_with, query_with, request_of, task_for, task_in}
@@ -32,128 +32,79 @@ unfolding walked
 stop_more R names h name ws [] = rw (append-nil ws)
 stop_more R names h name ws (word ∷ rest) = stop_more R names h name (ws ++ word ∷ []) rest ∙ rw (append_assoc ws (word ∷ []) rest)
 
-abbrev top : Shape
-top = (built program).top
-
-abbrev names : Names
-names = names_of (built program)
-
-abbrev shape_at : ℕ → Shape
-shape_at i = unwrap_or (slice_get (built program).subs i) top
-
--- the place of a command among all
-abbrev place_in : List CommandName → List ℕ → ℕ
-place_in [] word = 0
-place_in (c ∷ cs) word = if bytes_eq (command_word c) word then 0 else suc (place_in cs word)
-
-abbrev shape_of : CommandName → Shape
-shape_of c = shape_at (place_in commands (command_word c))
-
 abbrev stopped_at : Text → List Text → Walk
 stopped_at name ws = record { held = nothing_held; waiting = idle; position = 1; is_trailing = false; stopped = Some (name, ws) }
 
-enters : (c : CommandName) (ws : List Text) → fold (walked top.rules names) (walk_from nothing_held) (command_word c ∷ ws) ≡ stopped_at (command_word c) ws
+-- ---- a parse that comes to a level
+
+-- no word is wanted before a level
+record Opens (a : App) : Type 0 where
+  defaults : defaults_fault (settled a.top.rules nothing_held).rows a.top.rules ≡ []
+  checks : check_fault a.top (finished a.top.rules nothing_held) true ≡ []
+
+-- a word leads to a level
+record LeadsTo (a : App) (word : Text) (s : Shape) : Type 0 where
+  step : walked a.top.rules (names_of a) (walk_from nothing_held) word ≡ stopped_at word []
+  clean : turn_fault a.top (names_of a) (walk_from nothing_held) word ≡ []
+  found : find (λ s. answers_to word (label_of s)) a.subs ≡ Some s
+  name : s.name ≡ word
+
+enters : (a : App) (word : Text) (s : Shape) (ws : List Text) → LeadsTo a word s → fold (walked a.top.rules (names_of a)) (walk_from nothing_held) (word ∷ ws) ≡ stopped_at word ws
+enters a word s ws at = ap (λ (w : Walk). fold (walked a.top.rules (names_of a)) w ws) at.step ∙ stop_more a.top.rules (names_of a) nothing_held word [] ws
+
+is_met : (a : App) (word : Text) (s : Shape) (ws : List Text) → LeadsTo a word s → walk_fault a.top (names_of a) (walk_from nothing_held) (word ∷ ws) ≡ []
+unfolding walk_fault
+is_met a word s ws at =
+    past _ _ at.clean ∙ (ap (λ (w : Walk). walk_fault a.top (names_of a) w ws) at.step ∙ stopped_fault a.top (names_of a) (walk_from nothing_held) (word, []) ws)
+
+-- words that the level takes are taken
+taken : (a : App) (word : Text) (s : Shape) (ws : List Text) → Opens a → LeadsTo a word s → level_fault s [] nothing_held ws false [] ≡ [] → built_fault a nothing_held (word ∷ ws) ≡ []
+taken a word s ws opens at h = rw (is_met a word s ws at, enters a word s ws at, at.found, h, opens.defaults, opens.checks) refl
+
+rows : (a : App) (word : Text) (s : Shape) (ws : List Text) (end : Held) → LeadsTo a word s → fold (walked s.rules []) (walk_from nothing_held) ws ≡ walk_from end
+    → entered a (stop_after a.top.rules (names_of a) (word ∷ ws)) ≡ Some (word, finished s.rules end)
+rows a word s ws end at e = ap (λ (w : Walk). entered a w.stopped) (enters a word s ws at) ∙ rw (at.found, at.name, e) refl
+
+-- ---- the commands of the program
+
+abbrev shape_of : CommandName → Shape
+shape_of c = unwrap_or (find (λ s. answers_to (command_word c) (label_of s)) (built program).subs) (built program).top
+
+opens : Opens (built program)
 unfolding clap_on_literals
-enters Shrink ws = stop_more top.rules names nothing_held (codes "shrink") [] ws
-enters Check ws = stop_more top.rules names nothing_held (codes "check") [] ws
-enters Solve ws = stop_more top.rules names nothing_held (codes "solve") [] ws
-enters Play ws = stop_more top.rules names nothing_held (codes "play") [] ws
-enters Evaluate ws = stop_more top.rules names nothing_held (codes "evaluate") [] ws
-enters Query ws = stop_more top.rules names nothing_held (codes "query") [] ws
-enters Make ws = stop_more top.rules names nothing_held (codes "make") [] ws
-enters Upgrade ws = stop_more top.rules names nothing_held (codes "upgrade") [] ws
-enters Judge ws = stop_more top.rules names nothing_held (codes "judge") [] ws
-enters Duel ws = stop_more top.rules names nothing_held (codes "duel") [] ws
-enters Certify ws = stop_more top.rules names nothing_held (codes "certify") [] ws
-enters Verify ws = stop_more top.rules names nothing_held (codes "verify") [] ws
-enters Path ws = stop_more top.rules names nothing_held (codes "path") [] ws
+opens = record { defaults = refl; checks = refl }
 
-is_met : (c : CommandName) (ws : List Text) → walk_fault top names (walk_from nothing_held) (command_word c ∷ ws) ≡ []
+abbrev rule_at : Shape → ℕ → Rule
+rule_at s i = unwrap_or (slice_get s.rules i) (new_rule [])
+
+-- the word of a command leads to a level that has its options
+record IsCommand (c : CommandName) : Type 0 where
+  named : command_of (command_word c) ≡ Some c
+  leads : LeadsTo (built program) (command_word c) (shape_of c)
+  known : AreKnown (shape_of c).rules (options_of c)
+  defaults : list_all has_good_default (shape_of c).rules ≡ true
+
+is_command : (c : CommandName) → IsCommand c
 unfolding clap_on_literals
-is_met Shrink ws = stopped_fault top names (walk_from nothing_held) (codes "shrink", []) ws
-is_met Check ws = stopped_fault top names (walk_from nothing_held) (codes "check", []) ws
-is_met Solve ws = stopped_fault top names (walk_from nothing_held) (codes "solve", []) ws
-is_met Play ws = stopped_fault top names (walk_from nothing_held) (codes "play", []) ws
-is_met Evaluate ws = stopped_fault top names (walk_from nothing_held) (codes "evaluate", []) ws
-is_met Query ws = stopped_fault top names (walk_from nothing_held) (codes "query", []) ws
-is_met Make ws = stopped_fault top names (walk_from nothing_held) (codes "make", []) ws
-is_met Upgrade ws = stopped_fault top names (walk_from nothing_held) (codes "upgrade", []) ws
-is_met Judge ws = stopped_fault top names (walk_from nothing_held) (codes "judge", []) ws
-is_met Duel ws = stopped_fault top names (walk_from nothing_held) (codes "duel", []) ws
-is_met Certify ws = stopped_fault top names (walk_from nothing_held) (codes "certify", []) ws
-is_met Verify ws = stopped_fault top names (walk_from nothing_held) (codes "verify", []) ws
-is_met Path ws = stopped_fault top names (walk_from nothing_held) (codes "path", []) ws
-
--- words that the level of the command takes are taken
-taken : (c : CommandName) (ws : List Text) → level_fault (shape_of c) [] nothing_held ws false [] ≡ [] → fault_of program (command_word c ∷ ws) ≡ []
-unfolding defaults_fault
-taken Shrink ws h = rw (is_met Shrink ws, enters Shrink ws, h)
-taken Check ws h = rw (is_met Check ws, enters Check ws, h)
-taken Solve ws h = rw (is_met Solve ws, enters Solve ws, h)
-taken Play ws h = rw (is_met Play ws, enters Play ws, h)
-taken Evaluate ws h = rw (is_met Evaluate ws, enters Evaluate ws, h)
-taken Query ws h = rw (is_met Query ws, enters Query ws, h)
-taken Make ws h = rw (is_met Make ws, enters Make ws, h)
-taken Upgrade ws h = rw (is_met Upgrade ws, enters Upgrade ws, h)
-taken Judge ws h = rw (is_met Judge ws, enters Judge ws, h)
-taken Duel ws h = rw (is_met Duel ws, enters Duel ws, h)
-taken Certify ws h = rw (is_met Certify ws, enters Certify ws, h)
-taken Verify ws h = rw (is_met Verify ws, enters Verify ws, h)
-taken Path ws h = rw (is_met Path ws, enters Path ws, h)
-
-rows : (c : CommandName) (ws : List Text) (end : Held) → fold (walked (shape_of c).rules []) (walk_from nothing_held) ws ≡ walk_from end → subcommand_of program (command_word c ∷ ws) ≡ Some (command_word c, finished (shape_of c).rules end)
-rows Shrink ws end e = rw (enters Shrink ws, e)
-rows Check ws end e = rw (enters Check ws, e)
-rows Solve ws end e = rw (enters Solve ws, e)
-rows Play ws end e = rw (enters Play ws, e)
-rows Evaluate ws end e = rw (enters Evaluate ws, e)
-rows Query ws end e = rw (enters Query ws, e)
-rows Make ws end e = rw (enters Make ws, e)
-rows Upgrade ws end e = rw (enters Upgrade ws, e)
-rows Judge ws end e = rw (enters Judge ws, e)
-rows Duel ws end e = rw (enters Duel ws, e)
-rows Certify ws end e = rw (enters Certify ws, e)
-rows Verify ws end e = rw (enters Verify ws, e)
-rows Path ws end e = rw (enters Path ws, e)
+is_command Shrink = record { named = refl; leads = record { step = refl; clean = refl; found = refl; name = refl }; known = ((rule_at (shape_of Shrink) 0, record { named = record { long = refl; dashes = refl; by_long = refl; id = refl }; takes = refl; most = refl; set = refl; range = refl; missing = refl; passes = refl }), tt); defaults = refl }
+is_command Check = record { named = refl; leads = record { step = refl; clean = refl; found = refl; name = refl }; known = ((rule_at (shape_of Check) 0, record { named = record { long = refl; dashes = refl; by_long = refl; id = refl }; takes = refl; by_id = refl; most = refl; same = refl; set = refl; range = refl; passes = λ v. refl }), ((rule_at (shape_of Check) 1, record { named = record { long = refl; dashes = refl; by_long = refl; id = refl }; takes = refl; most = refl; set = refl; range = refl; missing = refl; passes = refl }), tt)); defaults = refl }
+is_command Solve = record { named = refl; leads = record { step = refl; clean = refl; found = refl; name = refl }; known = ((rule_at (shape_of Solve) 0, record { named = record { long = refl; dashes = refl; by_long = refl; id = refl }; takes = refl; by_id = refl; most = refl; same = refl; set = refl; range = refl; passes = λ v. refl }), tt); defaults = refl }
+is_command Play = record { named = refl; leads = record { step = refl; clean = refl; found = refl; name = refl }; known = ((rule_at (shape_of Play) 0, record { named = record { long = refl; dashes = refl; by_long = refl; id = refl }; takes = refl; by_id = refl; most = refl; same = refl; set = refl; range = refl; passes = λ v. refl }), ((rule_at (shape_of Play) 1, record { named = record { long = refl; dashes = refl; by_long = refl; id = refl }; takes = refl; by_id = refl; most = refl; same = refl; set = refl; range = refl; passes = λ v. refl }), tt)); defaults = refl }
+is_command Evaluate = record { named = refl; leads = record { step = refl; clean = refl; found = refl; name = refl }; known = tt; defaults = refl }
+is_command Query = record { named = refl; leads = record { step = refl; clean = refl; found = refl; name = refl }; known = ((rule_at (shape_of Query) 0, record { named = record { long = refl; dashes = refl; by_long = refl; id = refl }; takes = refl; by_id = refl; most = refl; same = refl; set = refl; range = refl; passes = λ v. refl }), ((rule_at (shape_of Query) 1, record { named = record { long = refl; dashes = refl; by_long = refl; id = refl }; takes = refl; by_id = refl; most = refl; same = refl; set = refl; range = refl; passes = λ v. refl }), ((rule_at (shape_of Query) 2, record { named = record { long = refl; dashes = refl; by_long = refl; id = refl }; takes = refl; by_id = refl; most = refl; same = refl; set = refl; range = refl; passes = λ v. refl }), tt))); defaults = refl }
+is_command Make = record { named = refl; leads = record { step = refl; clean = refl; found = refl; name = refl }; known = ((rule_at (shape_of Make) 0, record { named = record { long = refl; dashes = refl; by_long = refl; id = refl }; takes = refl; by_id = refl; most = refl; same = refl; set = refl; range = refl; passes = λ v. refl }), ((rule_at (shape_of Make) 1, record { named = record { long = refl; dashes = refl; by_long = refl; id = refl }; takes = refl; by_id = refl; most = refl; same = refl; set = refl; range = refl; passes = λ v. refl }), ((rule_at (shape_of Make) 2, record { named = record { long = refl; dashes = refl; by_long = refl; id = refl }; takes = refl; by_id = refl; most = refl; same = refl; set = refl; range = refl; passes = λ v. refl }), ((rule_at (shape_of Make) 3, record { named = record { long = refl; dashes = refl; by_long = refl; id = refl }; takes = refl; by_id = refl; most = refl; same = refl; set = refl; range = refl; passes = λ v. refl }), ((rule_at (shape_of Make) 4, record { named = record { long = refl; dashes = refl; by_long = refl; id = refl }; takes = refl; most = refl; set = refl; range = refl; missing = refl; passes = refl }), tt))))); defaults = refl }
+is_command Upgrade = record { named = refl; leads = record { step = refl; clean = refl; found = refl; name = refl }; known = tt; defaults = refl }
+is_command Judge = record { named = refl; leads = record { step = refl; clean = refl; found = refl; name = refl }; known = tt; defaults = refl }
+is_command Duel = record { named = refl; leads = record { step = refl; clean = refl; found = refl; name = refl }; known = tt; defaults = refl }
+is_command Certify = record { named = refl; leads = record { step = refl; clean = refl; found = refl; name = refl }; known = tt; defaults = refl }
+is_command Verify = record { named = refl; leads = record { step = refl; clean = refl; found = refl; name = refl }; known = tt; defaults = refl }
+is_command Path = record { named = refl; leads = record { step = refl; clean = refl; found = refl; name = refl }; known = ((rule_at (shape_of Path) 0, record { named = record { long = refl; dashes = refl; by_long = refl; id = refl }; takes = refl; by_id = refl; most = refl; same = refl; set = refl; range = refl; passes = λ v. refl }), tt); defaults = refl }
 
 asked : (words : List Text) (name : Text) (found : List Row) → fault_of program words ≡ [] → subcommand_of program words ≡ Some (name, found) → request_of words ≡ task_in (name, found)
 unfolding request_of
 asked words name found faults entered = rw (faults, entered) refl
 
--- ---- the options of each command
-
-abbrev rule_at : Shape → ℕ → Rule
-rule_at s i = unwrap_or (slice_get s.rules i) (new_rule [])
-
-known : (c : CommandName) → AreKnown (shape_of c).rules (options_of c)
-known Shrink = ((rule_at (shape_of Shrink) 0, record { named = record { long = refl; dashes = refl; by_long = refl; id = refl }; takes = refl; most = refl; set = refl; range = refl; missing = refl; passes = refl }), tt)
-known Check = ((rule_at (shape_of Check) 0, record { named = record { long = refl; dashes = refl; by_long = refl; id = refl }; takes = refl; by_id = refl; most = refl; same = refl; set = refl; range = refl; passes = λ v. refl }), ((rule_at (shape_of Check) 1, record { named = record { long = refl; dashes = refl; by_long = refl; id = refl }; takes = refl; most = refl; set = refl; range = refl; missing = refl; passes = refl }), tt))
-known Solve = ((rule_at (shape_of Solve) 0, record { named = record { long = refl; dashes = refl; by_long = refl; id = refl }; takes = refl; by_id = refl; most = refl; same = refl; set = refl; range = refl; passes = λ v. refl }), tt)
-known Play = ((rule_at (shape_of Play) 0, record { named = record { long = refl; dashes = refl; by_long = refl; id = refl }; takes = refl; by_id = refl; most = refl; same = refl; set = refl; range = refl; passes = λ v. refl }), ((rule_at (shape_of Play) 1, record { named = record { long = refl; dashes = refl; by_long = refl; id = refl }; takes = refl; by_id = refl; most = refl; same = refl; set = refl; range = refl; passes = λ v. refl }), tt))
-known Evaluate = tt
-known Query = ((rule_at (shape_of Query) 0, record { named = record { long = refl; dashes = refl; by_long = refl; id = refl }; takes = refl; by_id = refl; most = refl; same = refl; set = refl; range = refl; passes = λ v. refl }), ((rule_at (shape_of Query) 1, record { named = record { long = refl; dashes = refl; by_long = refl; id = refl }; takes = refl; by_id = refl; most = refl; same = refl; set = refl; range = refl; passes = λ v. refl }), ((rule_at (shape_of Query) 2, record { named = record { long = refl; dashes = refl; by_long = refl; id = refl }; takes = refl; by_id = refl; most = refl; same = refl; set = refl; range = refl; passes = λ v. refl }), tt)))
-known Make = ((rule_at (shape_of Make) 0, record { named = record { long = refl; dashes = refl; by_long = refl; id = refl }; takes = refl; by_id = refl; most = refl; same = refl; set = refl; range = refl; passes = λ v. refl }), ((rule_at (shape_of Make) 1, record { named = record { long = refl; dashes = refl; by_long = refl; id = refl }; takes = refl; by_id = refl; most = refl; same = refl; set = refl; range = refl; passes = λ v. refl }), ((rule_at (shape_of Make) 2, record { named = record { long = refl; dashes = refl; by_long = refl; id = refl }; takes = refl; by_id = refl; most = refl; same = refl; set = refl; range = refl; passes = λ v. refl }), ((rule_at (shape_of Make) 3, record { named = record { long = refl; dashes = refl; by_long = refl; id = refl }; takes = refl; by_id = refl; most = refl; same = refl; set = refl; range = refl; passes = λ v. refl }), ((rule_at (shape_of Make) 4, record { named = record { long = refl; dashes = refl; by_long = refl; id = refl }; takes = refl; most = refl; set = refl; range = refl; missing = refl; passes = refl }), tt)))))
-known Upgrade = tt
-known Judge = tt
-known Duel = tt
-known Certify = tt
-known Verify = tt
-known Path = ((rule_at (shape_of Path) 0, record { named = record { long = refl; dashes = refl; by_long = refl; id = refl }; takes = refl; by_id = refl; most = refl; same = refl; set = refl; range = refl; passes = λ v. refl }), tt)
-
-good_defaults : (c : CommandName) → list_all has_good_default (shape_of c).rules ≡ true
-good_defaults Shrink = refl
-good_defaults Check = refl
-good_defaults Solve = refl
-good_defaults Play = refl
-good_defaults Evaluate = refl
-good_defaults Query = refl
-good_defaults Make = refl
-good_defaults Upgrade = refl
-good_defaults Judge = refl
-good_defaults Duel = refl
-good_defaults Certify = refl
-good_defaults Verify = refl
-good_defaults Path = refl
+-- ---- what is given
 
 -- plain words, as their three parts
 record ArePlain (c : CommandName) (gs : List Given) : Type 0 where
@@ -168,117 +119,78 @@ parts c gs plain =
     let q = and_parts (stand_once gs) complete p.1 in
     record { forms = p.0; once = q.0; complete = q.1 }
 
--- an option that has to be given is given
+-- what has to be given is given
+abbrev has_required : (Text → Bool) → List OptionOf → Bool
+has_required given os = list_all (λ o. not o.is_required || given o.name) os
+
+either : (b p q : Bool) → (p ≡ true → q ≡ true) → (not b || p) ≡ true → (not b || q) ≡ true
+either true p q f h = f h
+either false p q f h = refl
+
+still_required : (p q : Text → Bool) (os : List OptionOf) → ((name : Text) → p name ≡ true → q name ≡ true) → has_required p os ≡ true → has_required q os ≡ true
+still_required p q [] f h = refl
+still_required p q (o ∷ os) f h =
+    let both = and_parts (not o.is_required || p o.name) (has_required p os) h in
+    rw (either o.is_required (p o.name) (q o.name) (f o.name) both.0, still_required p q os f both.1) refl
+
 abbrev is_there_of : List Given → Text → Bool
 is_there_of gs name = list_any (λ g. bytes_eq (name_of g) name) gs
 
 -- what has to be given to `make` is given
-record HasAll (gs : List Given) : Type 0 where
-  kind : is_there_of gs (codes "kind") ≡ true
-  ranks : is_there_of gs (codes "ranks") ≡ true
-  suits : is_there_of gs (codes "suits") ≡ true
-  cap : is_there_of gs (codes "cap") ≡ true
+record HasAll (given : Text → Bool) : Type 0 where
+  kind : given (codes "kind") ≡ true
+  ranks : given (codes "ranks") ≡ true
+  suits : given (codes "suits") ≡ true
+  cap : given (codes "cap") ≡ true
 
-has_all : (gs : List Given) → ArePlain Make gs → HasAll gs
-has_all gs p =
-    let k = and_parts (is_there_of gs (codes "kind")) (is_there_of gs (codes "ranks") && (is_there_of gs (codes "suits") && (is_there_of gs (codes "cap") && true))) p.complete in
-    let r = and_parts (is_there_of gs (codes "ranks")) (is_there_of gs (codes "suits") && (is_there_of gs (codes "cap") && true)) k.1 in
-    let s = and_parts (is_there_of gs (codes "suits")) (is_there_of gs (codes "cap") && true) r.1 in
-    record { kind = k.0; ranks = r.0; suits = s.0; cap = (and_parts (is_there_of gs (codes "cap")) true s.1).0 }
+has_all : (given : Text → Bool) → has_required given (options_of Make) ≡ true → HasAll given
+has_all given h =
+    let k = and_parts (given (codes "kind")) (given (codes "ranks") && (given (codes "suits") && (given (codes "cap") && true))) h in
+    let r = and_parts (given (codes "ranks")) (given (codes "suits") && (given (codes "cap") && true)) k.1 in
+    let s = and_parts (given (codes "suits")) (given (codes "cap") && true) r.1 in
+    record { kind = k.0; ranks = r.0; suits = s.0; cap = (and_parts (given (codes "cap")) true s.1).0 }
 
 -- what has to be given to `query` is given
-record HasQuery (gs : List Given) : Type 0 where
-  player : is_there_of gs (codes "player") ≡ true
-  line : is_there_of gs (codes "line") ≡ true
-  signal : is_there_of gs (codes "signal") ≡ true
+record HasQuery (given : Text → Bool) : Type 0 where
+  player : given (codes "player") ≡ true
+  line : given (codes "line") ≡ true
+  signal : given (codes "signal") ≡ true
 
-has_query : (gs : List Given) → ArePlain Query gs → HasQuery gs
-has_query gs p =
-    let l = and_parts (is_there_of gs (codes "player")) (is_there_of gs (codes "line") && (is_there_of gs (codes "signal") && true)) p.complete in
-    let s = and_parts (is_there_of gs (codes "line")) (is_there_of gs (codes "signal") && true) l.1 in
-    record { player = l.0; line = s.0; signal = (and_parts (is_there_of gs (codes "signal")) true s.1).0 }
+has_query : (given : Text → Bool) → has_required given (options_of Query) ≡ true → HasQuery given
+has_query given h =
+    let l = and_parts (given (codes "player")) (given (codes "line") && (given (codes "signal") && true)) h in
+    let s = and_parts (given (codes "line")) (given (codes "signal") && true) l.1 in
+    record { player = l.0; line = s.0; signal = (and_parts (given (codes "signal")) true s.1).0 }
 
-has_turns : (gs : List Given) → ArePlain Play gs → is_there_of gs (codes "turns") ≡ true
-has_turns gs p = (and_parts (is_there_of gs (codes "turns")) true p.complete).0
+has_turns : (given : Text → Bool) → has_required given (options_of Play) ≡ true → given (codes "turns") ≡ true
+has_turns given h = (and_parts (given (codes "turns")) true h).0
 
-make_checks : (found : List Row) → is_given (codes "kind") found ≡ true → is_given (codes "ranks") found ≡ true → is_given (codes "suits") found ≡ true → is_given (codes "cap") found ≡ true
-    → check_fault (shape_of Make) found false ≡ []
-make_checks found k r s c = rw (k, r, s, c) refl
-
-play_checks : (found : List Row) → is_given (codes "turns") found ≡ true → check_fault (shape_of Play) found false ≡ []
-play_checks found t = rw t refl
-
-query_checks : (found : List Row) → is_given (codes "player") found ≡ true → is_given (codes "line") found ≡ true → is_given (codes "signal") found ≡ true → check_fault (shape_of Query) found false ≡ []
-query_checks found p l s = rw (p, l, s) refl
-
-no_checks_shrink : (found : List Row) → check_fault (shape_of Shrink) found false ≡ []
-no_checks_shrink found = refl
-
-no_checks_check : (found : List Row) → check_fault (shape_of Check) found false ≡ []
-no_checks_check found = refl
-
-no_checks_solve : (found : List Row) → check_fault (shape_of Solve) found false ≡ []
-no_checks_solve found = refl
-
-no_checks_evaluate : (found : List Row) → check_fault (shape_of Evaluate) found false ≡ []
-no_checks_evaluate found = refl
-
-no_checks_upgrade : (found : List Row) → check_fault (shape_of Upgrade) found false ≡ []
-no_checks_upgrade found = refl
-
-no_checks_judge : (found : List Row) → check_fault (shape_of Judge) found false ≡ []
-no_checks_judge found = refl
-
-no_checks_duel : (found : List Row) → check_fault (shape_of Duel) found false ≡ []
-no_checks_duel found = refl
-
-no_checks_certify : (found : List Row) → check_fault (shape_of Certify) found false ≡ []
-no_checks_certify found = refl
-
-no_checks_verify : (found : List Row) → check_fault (shape_of Verify) found false ≡ []
-no_checks_verify found = refl
-
-no_checks_path : (found : List Row) → check_fault (shape_of Path) found false ≡ []
-no_checks_path found = refl
+-- a level to which all is given that has to be wants no more
+checked : (c : CommandName) (found : List Row) → has_required (λ name. is_given name found) (options_of c) ≡ true → check_fault (shape_of c) found false ≡ []
+checked Shrink found h = refl
+checked Check found h = refl
+checked Solve found h = refl
+checked Play found h = rw (has_turns (λ name. is_given name found) h) refl
+checked Evaluate found h = refl
+checked Query found h = let all = has_query (λ name. is_given name found) h in rw (all.player, all.line, all.signal) refl
+checked Make found h = let all = has_all (λ name. is_given name found) h in rw (all.kind, all.ranks, all.suits, all.cap) refl
+checked Upgrade found h = refl
+checked Judge found h = refl
+checked Duel found h = refl
+checked Certify found h = refl
+checked Verify found h = refl
+checked Path found h = refl
 
 checks : (c : CommandName) (gs : List Given) (given : AreGiven (shape_of c).rules gs) → ArePlain c gs → check_fault (shape_of c) (all_rows (shape_of c).rules gs given) false ≡ []
-checks Shrink gs given p = no_checks_shrink (all_rows (shape_of Shrink).rules gs given)
-checks Check gs given p = no_checks_check (all_rows (shape_of Check).rules gs given)
-checks Solve gs given p = no_checks_solve (all_rows (shape_of Solve).rules gs given)
-checks Play gs given p = play_checks (all_rows (shape_of Play).rules gs given) (is_there (shape_of Play).rules gs given (codes "turns") (has_turns gs p))
-checks Evaluate gs given p = no_checks_evaluate (all_rows (shape_of Evaluate).rules gs given)
-checks Query gs given p =
-    let R = (shape_of Query).rules in
-    let all = has_query gs p in
-    query_checks (all_rows R gs given) (is_there R gs given (codes "player") all.player) (is_there R gs given (codes "line") all.line) (is_there R gs given (codes "signal") all.signal)
-checks Make gs given p =
-    let R = (shape_of Make).rules in
-    let all = has_all gs p in
-    make_checks (all_rows R gs given) (is_there R gs given (codes "kind") all.kind) (is_there R gs given (codes "ranks") all.ranks) (is_there R gs given (codes "suits") all.suits) (is_there R gs given (codes "cap") all.cap)
-checks Upgrade gs given p = no_checks_upgrade (all_rows (shape_of Upgrade).rules gs given)
-checks Judge gs given p = no_checks_judge (all_rows (shape_of Judge).rules gs given)
-checks Duel gs given p = no_checks_duel (all_rows (shape_of Duel).rules gs given)
-checks Certify gs given p = no_checks_certify (all_rows (shape_of Certify).rules gs given)
-checks Verify gs given p = no_checks_verify (all_rows (shape_of Verify).rules gs given)
-checks Path gs given p = no_checks_path (all_rows (shape_of Path).rules gs given)
+checks c gs given p =
+    let R = (shape_of c).rules in
+    checked c (all_rows R gs given) (still_required (is_there_of gs) (λ name. is_given name (all_rows R gs given)) (options_of c) (λ name. is_there R gs given name) p.complete)
 
 -- ---- what they ask for
 
 -- what a command that is entered asks for
 entered_for : (c : CommandName) (found : List Row) → task_in (command_word c, found) ≡ task_for c (λ option. first_of option found)
-entered_for Shrink found = refl
-entered_for Check found = refl
-entered_for Solve found = refl
-entered_for Play found = refl
-entered_for Evaluate found = refl
-entered_for Query found = refl
-entered_for Make found = refl
-entered_for Upgrade found = refl
-entered_for Judge found = refl
-entered_for Duel found = refl
-entered_for Certify found = refl
-entered_for Verify found = refl
-entered_for Path found = refl
+entered_for c found = ap (λ (o : Option CommandName). option_and_then (λ command. task_for command (λ option. first_of option found)) o) (is_command c).named
 
 shrink_meant : (found : List Row) (gs : List Given) → is_set (first_of (codes "summary") found) ≡ is_set (given_for gs (codes "summary")) → task_for Shrink (λ option. first_of option found) ≡ task_for Shrink (given_for gs)
 shrink_meant found gs s = rw s refl
@@ -340,9 +252,9 @@ plain_meant c gs plain =
     let p = parts c gs plain in
     let s = shape_of c in
     let ws = option_words gs in
-    let given = all_given s.rules (options_of c) gs (known c) p.forms in
-    let t = taken_in_any_order s gs given p.once (good_defaults c) (checks c gs given p) in
-    asked (command_word c ∷ ws) (command_word c) (finished s.rules t.end) (taken c ws t.takes) (rows c ws t.end t.walks)
+    let given = all_given s.rules (options_of c) gs (is_command c).known p.forms in
+    let t = taken_in_any_order s gs given p.once (is_command c).defaults (checks c gs given p) in
+    asked (command_word c ∷ ws) (command_word c) (finished s.rules t.end) (taken (built program) (command_word c) s ws opens (is_command c).leads t.takes) (rows (built program) (command_word c) s ws t.end (is_command c).leads t.walks)
     ∙ (ap (λ l. task_in (command_word c, l)) t.found ∙ (entered_for c (all_rows s.rules gs given) ∙ same_task c gs given))
 
 -- ---- they ask for something
@@ -381,7 +293,7 @@ some_grouping c gs rules p =
 
 some_make : (gs : List Given) → ArePlain Make gs → is_some (task_for Make (given_for gs)) ≡ true
 some_make gs p =
-    let all = has_all gs p in
+    let all = has_all (is_there_of gs) p.complete in
     let os = options_of Make in
     let k = passed os (codes "kind") (λ word. is_some (kind_of word)) gs (λ _. (refl, λ _ h. h), (λ e. absurd (false≢true e), (λ e. absurd (false≢true e), (λ e. absurd (false≢true e), (λ e. absurd (false≢true e), tt))))) p.forms all.kind in
     let r = passed os (codes "ranks") (λ word. is_some (number_in 1 13 word)) gs (λ e. absurd (false≢true e), (λ _. (refl, λ _ h. h), (λ e. absurd (false≢true e), (λ e. absurd (false≢true e), (λ e. absurd (false≢true e), tt))))) p.forms all.ranks in
@@ -391,12 +303,12 @@ some_make gs p =
 
 some_play : (gs : List Given) → ArePlain Play gs → is_some (task_for Play (given_for gs)) ≡ true
 some_play gs p =
-    let t = passed (options_of Play) (codes "turns") (λ word. is_some (number_in 0 1000000 word)) gs (λ e. absurd (false≢true e), (λ _. (refl, λ _ h. h), tt)) p.forms (has_turns gs p) in
+    let t = passed (options_of Play) (codes "turns") (λ word. is_some (number_in 0 1000000 word)) gs (λ e. absurd (false≢true e), (λ _. (refl, λ _ h. h), tt)) p.forms (has_turns (is_there_of gs) p.complete) in
     rw t.1 (some_played (grouping_in (given_for gs (codes "classes"))) (number_in 0 1000000 t.0) (some_grouping Play gs (λ _. (refl, λ _ h. h), (λ e. absurd (false≢true e), tt)) p) t.2)
 
 some_queried : (gs : List Given) → ArePlain Query gs → is_some (task_for Query (given_for gs)) ≡ true
 some_queried gs p =
-    let all = has_query gs p in
+    let all = has_query (is_there_of gs) p.complete in
     let os = options_of Query in
     let n = passed os (codes "player") (λ word. is_some (number_in 1 2 word)) gs (λ _. (refl, λ _ h. h), (λ e. absurd (false≢true e), (λ e. absurd (false≢true e), tt))) p.forms all.player in
     let l = passed os (codes "line") (λ word. true) gs (λ e. absurd (false≢true e), (λ _. (refl, λ _ h. h), (λ e. absurd (false≢true e), tt))) p.forms all.line in

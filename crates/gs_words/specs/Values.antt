@@ -1,7 +1,8 @@
 -- The values that options take.
-use Rattle.std.specs.Prelude.{ℕ, Bool, false, ◌&&◌, ◌==◌, nat_le, if◌then◌else◌, List, [], ◌∷◌, length, Option, Some, None, codes}
-use Rattle.std.specs.Str.{all_ascii_digits, bytes_eq}
+use Rattle.std.specs.Prelude.{ℕ, ◌&&◌, nat_le, if◌then◌else◌, List, Option, Some, None, codes}
+use Rattle.std.specs.Str.{bytes_eq}
 use Rattle.std.specs.Str.Parse.{digits_value}
+use Rattle.gs_frac.specs.Texts.{is_numeral}
 use Rattle.gs_made.specs.declared.kind.Kind.{Kind}
 use Rattle.gs_made.specs.declared.kind.Kind.TheVariants.{Kuhn, Leduc, Rhode}
 use Rattle.gs_words.specs.declared.request.Grouping.{Grouping}
@@ -16,11 +17,6 @@ grouping_of word = if bytes_eq word (codes "ogi") then Some Isomorphism
 abbrev pub kind_of : List ℕ → Option Kind
 kind_of word = if bytes_eq word (codes "kuhn") then Some Kuhn
     else (if bytes_eq word (codes "leduc") then Some Leduc else (if bytes_eq word (codes "rhode") then Some Rhode else None))
-
--- digits, at least one, without sign or leading zero
-abbrev pub is_numeral : List ℕ → Bool
-is_numeral [] = false
-is_numeral (b ∷ bytes) = if b == 48 then length bytes == 0 else all_ascii_digits (b ∷ bytes)
 
 -- the number that the word writes, where it is from `least` to `most`
 abbrev pub number_in : ℕ → ℕ → List ℕ → Option ℕ

@@ -37,85 +37,35 @@ fn required_value<'a>(alloc: Global, name: &'a str) -> Arg<'a>
     Arg::new(alloc, name).long(name).required(true)
 }
 
-fn shrink_command<'a>(alloc: Global) -> Result<Command<'a>, AllocError>
-    ensures { IfOk result (Is (app_for name.Shrink)) }
-{
-    Command::new(alloc, "shrink").arg(summary_flag(alloc))
-}
-
-fn check_command<'a>(alloc: Global) -> Result<Command<'a>, AllocError>
-    ensures { IfOk result (Is (app_for name.Check)) }
-{
-    Command::new(alloc, "check")
-        .arg(classes_option(alloc))?
-        .arg(summary_flag(alloc))
-}
-
-fn solve_command<'a>(alloc: Global) -> Result<Command<'a>, AllocError>
-    ensures { IfOk result (Is (app_for name.Solve)) }
-{
-    Command::new(alloc, "solve").arg(classes_option(alloc))
-}
-
-fn play_command<'a>(alloc: Global) -> Result<Command<'a>, AllocError>
-    ensures { IfOk result (Is (app_for name.Play)) }
-{
-    Command::new(alloc, "play")
-        .arg(classes_option(alloc))?
-        .arg(required_value(alloc, "turns"))
-}
-
-fn query_command<'a>(alloc: Global) -> Result<Command<'a>, AllocError>
-    ensures { IfOk result (Is (app_for name.Query)) }
-{
-    Command::new(alloc, "query")
-        .arg(required_value(alloc, "player"))?
-        .arg(required_value(alloc, "line"))?
-        .arg(required_value(alloc, "signal"))
-}
-
-// The command `make` without its last options.
-fn made_command<'a>(alloc: Global) -> Result<Command<'a>, AllocError>
-    ensures { IfOk result (Is (with_options (codes "make") (required (codes "kind") (λ _. true) ∷ required (codes "ranks") (λ _. true) ∷ required (codes "suits") (λ _. true) ∷ []))) }
-{
-    Command::new(alloc, "make")
-        .arg(required_value(alloc, "kind"))?
-        .arg(required_value(alloc, "ranks"))?
-        .arg(required_value(alloc, "suits"))
-}
-
-fn make_command<'a>(alloc: Global) -> Result<Command<'a>, AllocError>
-    ensures { IfOk result (Is (app_for name.Make)) }
-{
-    made_command(alloc)?
-        .arg(required_value(alloc, "cap"))?
-        .arg(summary_flag(alloc))
-}
-
-fn path_command<'a>(alloc: Global) -> Result<Command<'a>, AllocError>
-    ensures { IfOk result (Is (app_for name.Path)) }
-{
-    Command::new(alloc, "path").arg(classes_option(alloc))
-}
-
 // A command with its options.
 fn command_for<'a>(alloc: Global, name: CommandName) -> Result<Command<'a>, AllocError>
     ensures { IfOk result (Is (app_for name)) }
 {
+    let word: &'a str = name.word();
+    let command = Command::new(alloc, word);
     match name {
-        CommandName::Shrink => shrink_command(alloc),
-        CommandName::Check => check_command(alloc),
-        CommandName::Solve => solve_command(alloc),
-        CommandName::Play => play_command(alloc),
-        CommandName::Evaluate => Ok(Command::new(alloc, "evaluate")),
-        CommandName::Query => query_command(alloc),
-        CommandName::Make => make_command(alloc),
-        CommandName::Upgrade => Ok(Command::new(alloc, "upgrade")),
-        CommandName::Judge => Ok(Command::new(alloc, "judge")),
-        CommandName::Duel => Ok(Command::new(alloc, "duel")),
-        CommandName::Certify => Ok(Command::new(alloc, "certify")),
-        CommandName::Verify => Ok(Command::new(alloc, "verify")),
-        CommandName::Path => path_command(alloc),
+        CommandName::Shrink => command.arg(summary_flag(alloc)),
+        CommandName::Check => command.arg(classes_option(alloc))?.arg(summary_flag(alloc)),
+        CommandName::Solve | CommandName::Path => command.arg(classes_option(alloc)),
+        CommandName::Play => command
+            .arg(classes_option(alloc))?
+            .arg(required_value(alloc, "turns")),
+        CommandName::Query => command
+            .arg(required_value(alloc, "player"))?
+            .arg(required_value(alloc, "line"))?
+            .arg(required_value(alloc, "signal")),
+        CommandName::Make => command
+            .arg(required_value(alloc, "kind"))?
+            .arg(required_value(alloc, "ranks"))?
+            .arg(required_value(alloc, "suits"))?
+            .arg(required_value(alloc, "cap"))?
+            .arg(summary_flag(alloc)),
+        CommandName::Evaluate
+        | CommandName::Upgrade
+        | CommandName::Judge
+        | CommandName::Duel
+        | CommandName::Certify
+        | CommandName::Verify => Ok(command),
     }
 }
 

@@ -1,7 +1,7 @@
 //! The commands by their names.
 
-ghost use Rattle.std.specs.Prelude.{◌≡◌};
-ghost use Rattle.gs_words.specs.Commands.{command_of};
+ghost use Rattle.std.specs.{Prelude.{◌≡◌, find}, Str.{bytes_eq}};
+ghost use Rattle.gs_words.specs.Commands.{command_of, command_word};
 
 /// A command of the program.
 #[derive(Clone, Copy, Debug, PartialEq, Eq)]
@@ -38,24 +38,44 @@ pub(crate) const COMMANDS: [CommandName; 13] = [
     CommandName::Path,
 ];
 
+impl CommandName {
+    /// The word that names the command.
+    pub(crate) fn word(self) -> &'static str
+        ensures { result.now ≡ command_word self }
+    {
+        match self {
+            CommandName::Shrink => "shrink",
+            CommandName::Check => "check",
+            CommandName::Solve => "solve",
+            CommandName::Play => "play",
+            CommandName::Evaluate => "evaluate",
+            CommandName::Query => "query",
+            CommandName::Make => "make",
+            CommandName::Upgrade => "upgrade",
+            CommandName::Judge => "judge",
+            CommandName::Duel => "duel",
+            CommandName::Certify => "certify",
+            CommandName::Verify => "verify",
+            CommandName::Path => "path",
+        }
+    }
+}
+
+// The first of the commands that a word names.
+fn named_in(names: &[CommandName], word: &str) -> Option<CommandName>
+    ensures { result ≡ find (λ c. bytes_eq word.now (command_word c)) names.now }
+{
+    for name in names {
+        if word == name.word() {
+            return Some(*name);
+        }
+    }
+    None
+}
+
 /// The command that a word names.
 pub(crate) fn command_named(word: &str) -> Option<CommandName>
     ensures { result ≡ command_of word.now }
 {
-    match word {
-        "shrink" => Some(CommandName::Shrink),
-        "check" => Some(CommandName::Check),
-        "solve" => Some(CommandName::Solve),
-        "play" => Some(CommandName::Play),
-        "evaluate" => Some(CommandName::Evaluate),
-        "query" => Some(CommandName::Query),
-        "make" => Some(CommandName::Make),
-        "upgrade" => Some(CommandName::Upgrade),
-        "judge" => Some(CommandName::Judge),
-        "duel" => Some(CommandName::Duel),
-        "certify" => Some(CommandName::Certify),
-        "verify" => Some(CommandName::Verify),
-        "path" => Some(CommandName::Path),
-        _ => None,
-    }
+    named_in(&COMMANDS, word)
 }

@@ -1,9 +1,10 @@
 //! The values of options.
 
-ghost use Rattle.std.specs.{Prelude.{◌≡◌, ◌≤◌, IfSome}, Str.{all_ascii_digits}};
-ghost use Rattle.gs_words.specs.Values.{grouping_of, is_numeral, kind_of, number_in};
+ghost use Rattle.std.specs.Prelude.{◌≡◌, ◌≤◌, IfSome};
+ghost use Rattle.gs_words.specs.Values.{grouping_of, kind_of, number_in};
 
 use crate::request::Grouping;
+use gs_frac::is_number;
 use gs_made::Kind;
 
 /// The classes that a word names.
@@ -27,28 +28,6 @@ pub(crate) fn kind(word: &str) -> Option<Kind>
         "leduc" => Some(Kind::Leduc),
         "rhode" => Some(Kind::Rhode),
         _ => None,
-    }
-}
-
-fn all_digits(bytes: &[u8]) -> bool
-    ensures { result ≡ all_ascii_digits bytes.now }
-{
-    for b in bytes {
-        if !b.is_ascii_digit() {
-            return false;
-        }
-    }
-    true
-}
-
-// Whether the bytes are digits without leading zeros.
-fn is_number(bytes: &[u8]) -> bool
-    ensures { result ≡ is_numeral bytes.now }
-{
-    match bytes {
-        [] => false,
-        [b'0', rest @ ..] => rest.is_empty(),
-        _ => all_digits(bytes),
     }
 }
 

@@ -1,5 +1,5 @@
 use Rattle.std.proofs.Common.{◌≡◌, ◌∙◌, true, sym, arith, rules}
-use Rattle.gs_words.specs.Values.{is_numeral}
+use Rattle.gs_frac.specs.Texts.{is_numeral}
 use Rattle.gs_words.proofs.Numbers.{too_large}
 use Rattle.gs_words.proofs.values.number.Goals as goal
 
