@@ -218,33 +218,19 @@ path_meant : (found : List Row) (gs : List Given) → first_of (codes "classes")
 path_meant found gs c = rw c refl
 
 same_task : (c : CommandName) (gs : List Given) (given : AreGiven (shape_of c).rules gs) → task_for c (λ option. first_of option (all_rows (shape_of c).rules gs given)) ≡ task_for c (given_for gs)
-same_task Shrink gs given =
-    let R = (shape_of Shrink).rules in
-    shrink_meant (all_rows R gs given) gs (same_flag R gs given (codes "summary") refl)
-same_task Check gs given =
-    let R = (shape_of Check).rules in
-    check_meant (all_rows R gs given) gs (same_value R gs given (codes "classes") refl) (same_flag R gs given (codes "summary") refl)
-same_task Solve gs given =
-    let R = (shape_of Solve).rules in
-    solve_meant (all_rows R gs given) gs (same_value R gs given (codes "classes") refl)
-same_task Play gs given =
-    let R = (shape_of Play).rules in
-    play_meant (all_rows R gs given) gs (same_value R gs given (codes "classes") refl) (same_value R gs given (codes "turns") refl)
+same_task Shrink gs given = shrink_meant (all_rows (shape_of Shrink).rules gs given) gs (same_flag (shape_of Shrink).rules gs given (codes "summary") refl)
+same_task Check gs given = check_meant (all_rows (shape_of Check).rules gs given) gs (same_value (shape_of Check).rules gs given (codes "classes") refl) (same_flag (shape_of Check).rules gs given (codes "summary") refl)
+same_task Solve gs given = solve_meant (all_rows (shape_of Solve).rules gs given) gs (same_value (shape_of Solve).rules gs given (codes "classes") refl)
+same_task Play gs given = play_meant (all_rows (shape_of Play).rules gs given) gs (same_value (shape_of Play).rules gs given (codes "classes") refl) (same_value (shape_of Play).rules gs given (codes "turns") refl)
 same_task Evaluate gs given = refl
-same_task Query gs given =
-    let R = (shape_of Query).rules in
-    query_meant (all_rows R gs given) gs (same_value R gs given (codes "player") refl) (same_value R gs given (codes "line") refl) (same_value R gs given (codes "signal") refl)
-same_task Make gs given =
-    let R = (shape_of Make).rules in
-    make_meant (all_rows R gs given) gs (same_value R gs given (codes "kind") refl) (same_value R gs given (codes "ranks") refl) (same_value R gs given (codes "suits") refl) (same_value R gs given (codes "cap") refl) (same_flag R gs given (codes "summary") refl)
+same_task Query gs given = query_meant (all_rows (shape_of Query).rules gs given) gs (same_value (shape_of Query).rules gs given (codes "player") refl) (same_value (shape_of Query).rules gs given (codes "line") refl) (same_value (shape_of Query).rules gs given (codes "signal") refl)
+same_task Make gs given = make_meant (all_rows (shape_of Make).rules gs given) gs (same_value (shape_of Make).rules gs given (codes "kind") refl) (same_value (shape_of Make).rules gs given (codes "ranks") refl) (same_value (shape_of Make).rules gs given (codes "suits") refl) (same_value (shape_of Make).rules gs given (codes "cap") refl) (same_flag (shape_of Make).rules gs given (codes "summary") refl)
 same_task Upgrade gs given = refl
 same_task Judge gs given = refl
 same_task Duel gs given = refl
 same_task Certify gs given = refl
 same_task Verify gs given = refl
-same_task Path gs given =
-    let R = (shape_of Path).rules in
-    path_meant (all_rows R gs given) gs (same_value R gs given (codes "classes") refl)
+same_task Path gs given = path_meant (all_rows (shape_of Path).rules gs given) gs (same_value (shape_of Path).rules gs given (codes "classes") refl)
 
 -- plain words ask for what their options say
 pub plain_meant : (c : CommandName) (gs : List Given) → IsTrue (are_plain c gs) → request_of (command_word c ∷ option_words gs) ≡ task_for c (given_for gs)
