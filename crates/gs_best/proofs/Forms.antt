@@ -22,11 +22,11 @@ use Rattle.gs_tree.specs.declared.signals.Signals.{Signals}
 use Rattle.gs_seq.specs.Abstracts.{frame_of, lists_of}
 use Rattle.gs_seq.specs.Games.{frame_in}
 use Rattle.gs_seq.specs.declared.form.Abstract.{Abstract}
+use Rattle.gs_seq.proofs.FewMoves.{AreFewMoves, moves_few}
 use Rattle.gs_seq.proofs.Points.{Reads, few, length-points, playable, point_reads, walked}
 use Rattle.gs_seq.proofs.SlotLaws.{class_few, over}
 use Rattle.gs_best.specs.Forms.{game_in}
 use Rattle.gs_best.proofs.Chips.{IsModest, modest}
-use Rattle.gs_best.proofs.Moves.{AreFewMoves, moves_few}
 
 pub form_walked : (a : Abstract) (player : ℕ) → 0 < player → player ≤ 2 → IsWalked (frame_of a) player
 form_walked a player some two = walked (game_in a) player some two

@@ -1,5 +1,5 @@
 -- Room by the sizes of rounds.
-use Rattle.std.proofs.Common.{◌≡◌, ℕ, ◌+◌, ◌-◌, ◌*◌, ◌<◌, ◌≤◌, List, [], ◌∷◌, ◌++◌, drop, length, get_or, refl, sym, take, ap, ◌∙◌, arith, sum_by, count_by, eqb}
+use Rattle.std.proofs.Common.{◌≡◌, ℕ, ◌+◌, ◌-◌, ◌*◌, ◌<◌, List, [], ◌∷◌, ◌++◌, drop, length, get_or, refl, sym, take, ap, ◌∙◌, subst, arith, sum_by, count_by, eqb}
 use Rattle.std.specs.Prelude.{pos, ◌*ℤ◌}
 use Rattle.std.specs.List.{range_with_len}
 use Rattle.std.proofs.Math.Nat.{mul-one, mul_comm}
@@ -18,7 +18,7 @@ use Rattle.gs_model.proofs.RawBound.{All-range, range_once}
 use Rattle.gs_model.proofs.Regroup.{regroup_weights, sum_z-pos}
 use Rattle.gs_model.proofs.Total.{sum_z-same}
 use Rattle.gs_seq.proofs.ClassRows.{sum_by-map}
-use Rattle.gs_best.specs.Sizes.{HasRoom, HoldsAll, IsRoomy, IsWide, point_room, points_in, sizes_of, value_room}
+use Rattle.gs_best.specs.Sizes.{AreOfLength, HasRoom, Holds, HoldsAll, IsRoomy, IsWide, IsWideFor, point_room, points_in, sizes_of, value_room}
 use Rattle.gs_best.specs.Tables.{start_of}
 use Rattle.gs_best.specs.declared.room.Scratch.{Scratch}
 use Rattle.gs_best.specs.declared.room.Table.{Table}
@@ -66,7 +66,7 @@ size_at f lists i d l =
 size_count : (f : Frame) (lists : ClassLists) → length (sizes_of f lists) ≡ last_round f
 size_count f lists = length-map (range_with_len 1 (last_round f)) (λ j. (points_in f j, class_count lists j)) ∙ length-range_with_len 1 (last_round f)
 
-wide_by : (f : Frame) (lists : ClassLists) (wide : ℕ) → ((i : ℕ) (d : ℕ × ℕ) → i < length (sizes_of f lists) → (get_or (sizes_of f lists) i d).1 ≤ wide) → IsWide f lists wide
+wide_by : (f : Frame) (lists : ClassLists) (wide : ℕ) → IsWideFor (sizes_of f lists) wide → IsWide f lists wide
 wide_by f lists wide h round some top =
     let i = round - 1 in
     let e : 1 + i ≡ round = omega arith in
@@ -76,46 +76,28 @@ wide_by f lists wide h round some top =
     let k = ap (class_count lists) e in
     omega arith
 
-by_wide : (f : Frame) (lists : ClassLists) (wide : ℕ) → IsWide f lists wide → (i : ℕ) (d : ℕ × ℕ) → i < length (sizes_of f lists) → (get_or (sizes_of f lists) i d).1 ≤ wide
+by_wide : (f : Frame) (lists : ClassLists) (wide : ℕ) → IsWide f lists wide → IsWideFor (sizes_of f lists) wide
 by_wide f lists wide h i d l =
     let in_rounds : i < last_round f = (let n = size_count f lists in omega arith) in
     let b = size_at f lists i d in_rounds in
     let a = h (1 + i) (omega arith) (omega arith) in
     omega arith
 
+-- what is said of one length is said of another
+lengths_by : (s : Scratch) (one other : ℕ → Type 0) → ((wide : ℕ) → one wide → other wide) → AreOfLength one s → AreOfLength other s
+lengths_by s one other h r = record { numbers = h _ r.numbers; ends = h _ r.ends; worths = h _ r.worths; best = h _ r.best; moves = h _ r.moves }
+
 pub roomy : (f : Frame) (lists : ClassLists) → IsWalked f 1 → (t : Table) (s : Scratch) → HoldsAll f lists t → HasRoom f lists s → IsRoomy (sizes_of f lists) t s
-roomy f lists w t s h r =
-    let values = value_room_is f 1 w lists in
-    let points = point_room_is f 1 w lists in
-    record {
-      starts = (let a = h.starts in omega arith);
-      values = (let a = h.values in omega arith);
-      picks = (let a = h.picks in omega arith);
-      numbers = by_wide f lists (length s.numbers.items) r.numbers;
-      ends = by_wide f lists (length s.ends.items) r.ends;
-      worths = by_wide f lists (length s.worths.items) r.worths;
-      best = by_wide f lists (length s.best.items) r.best;
-      moves = by_wide f lists (length s.moves.items) r.moves;
-    }
+roomy f lists w t s h r = record {
+  table = subst (λ n. Holds n (value_room (sizes_of f lists)) t) (sym (point_room_is f 1 w lists)) (subst (λ n. Holds (point_count f) n t) (sym (value_room_is f 1 w lists)) h);
+  rows = lengths_by s (IsWide f lists) (IsWideFor (sizes_of f lists)) (by_wide f lists) r;
+}
 
 pub holds_all : (f : Frame) (lists : ClassLists) → IsWalked f 1 → (t : Table) (s : Scratch) → IsRoomy (sizes_of f lists) t s → HoldsAll f lists t
-holds_all f lists w t s r =
-    let values = value_room_is f 1 w lists in
-    let points = point_room_is f 1 w lists in
-    record {
-      starts = (let a = r.starts in omega arith);
-      values = (let a = r.values in omega arith);
-      picks = (let a = r.picks in omega arith);
-    }
+holds_all f lists w t s r = subst (λ n. Holds (point_count f) n t) (value_room_is f 1 w lists) (subst (λ n. Holds n (value_room (sizes_of f lists)) t) (point_room_is f 1 w lists) r.table)
 
 pub has_room : (f : Frame) (lists : ClassLists) (t : Table) (s : Scratch) → IsRoomy (sizes_of f lists) t s → HasRoom f lists s
-has_room f lists t s r = record {
-  numbers = wide_by f lists (length s.numbers.items) r.numbers;
-  ends = wide_by f lists (length s.ends.items) r.ends;
-  worths = wide_by f lists (length s.worths.items) r.worths;
-  best = wide_by f lists (length s.best.items) r.best;
-  moves = wide_by f lists (length s.moves.items) r.moves;
-}
+has_room f lists t s r = lengths_by s (IsWideFor (sizes_of f lists)) (IsWide f lists) (wide_by f lists) r.rows
 
 -- a row as it stands after it was written through a slice
 pub written_wide : {A : Type 0} (f : Frame) (lists : ClassLists) (n : ℕ) (old row : List A) → length old ≡ n → length row ≡ length old → IsWide f lists (length old) → IsWide f lists (length (take n (row ++ drop (length row) old)))

@@ -1,10 +1,10 @@
 -- What holds of a deviating player.
-use Rattle.std.proofs.Common.{◌≡◌, ℕ, ◌+◌, ◌^◌, ◌<◌, ◌≤◌, List, refl, subst, arith}
-use Rattle.std.specs.Prelude.{ℤ, unsigned_abs}
+use Rattle.std.proofs.Common.{◌≡◌, ℕ, ◌+◌, ◌-◌, ◌^◌, ◌<◌, ◌≤◌, List, get_or, refl, ap, subst, arith}
+use Rattle.std.specs.Prelude.{ℤ, pos, unsigned_abs}
 use Rattle.std.specs.List.{range_with_len}
 use Rattle.gs_filter.specs.Filter.{IsSound}
 use Rattle.gs_model.specs.BestAnswers.{Values, class_worth, spread, start_sum}
-use Rattle.gs_model.specs.Classes.{ClassLists, IsClass, IsClasses}
+use Rattle.gs_model.specs.Classes.{ClassLists, IsClass, IsClasses, class_count}
 use Rattle.gs_model.specs.Frame.{Frame, end_count, last_round, leads_to, move_count, other_player, point_count, round_of}
 use Rattle.gs_model.specs.FrameFacts.{IsFrom, IsInside, IsWalked}
 use Rattle.gs_model.specs.Plans.{Plan}
@@ -12,10 +12,12 @@ use Rattle.gs_model.specs.Positions.{Target, at_end, at_point}
 use Rattle.gs_model.specs.Sums.{sum_z}
 use Rattle.gs_seq.specs.Abstracts.{frame_of, lists_of}
 use Rattle.gs_seq.specs.Plans.{class_plan, lifted}
-use Rattle.gs_best.specs.Rows.{Worths}
-use Rattle.gs_best.specs.Tables.{IsBestFrom, moves_of, table_of}
+use Rattle.gs_best.specs.Ends.{IsEndRow}
+use Rattle.gs_best.specs.Rows.{AreModest, Worths}
+use Rattle.gs_best.specs.Tables.{IsBestFrom, classes_at, moves_of, start_of, table_of}
 use Rattle.gs_best.specs.declared.deviator.Deviator.{Deviator}
 use Rattle.gs_best.proofs.Forms.{form_classes, form_in_range, form_lossless, form_modest, form_walked}
+use Rattle.gs_best.proofs.Placed.{IsRow}
 use Rattle.gs_best.proofs.Small.{start_small, value_small, worth_small, worths_small}
 
 abbrev pub frame : Deviator → Frame
@@ -70,6 +72,21 @@ module _ (d : Deviator) (s : IsSound d.form.now.lossless.now.classes.now) where
     known_start =
         start_small (frame d) (form_in_range d.form.now) (lists d) classes (form_lossless d.form.now) d.player (side_walked d) (other_walked d) (form_modest d.form.now) (class_plan (frame d) (lists d) d.other.now) d.plan.plan.plan
         (values_in d values) (moves_of (frame d) (lists d) picks) from h (λ z c l lc. refl)
+
+    -- the values of a point, in a list where they stand from a place on, are modest
+    pub point_modest : (p start count : ℕ) (list : List ℤ) → p < point_count (frame d) → from ≤ p → IsRow (classes_at (frame d) (lists d)) (point_count (frame d)) p start count → list ≡ values → AreModest list start count
+    point_modest p start count list inside later row same k l =
+        let m = known_value (at_point p) (k + 1) inside later (omega arith, omega (arith, l, row.count_is)) in
+        let place : start_of (frame d) (lists d) p + (k + 1 - 1) ≡ start + k = omega (arith, row.start_is) in
+        omega (arith, m, ap (λ i. unsigned_abs (get_or values i (pos 0))) place, ap (λ xs. unsigned_abs (get_or xs (start + k) (pos 0))) same)
+
+    -- and so is what an end is worth
+    pub end_modest : (z count : ℕ) (list row : List ℤ) → z < end_count (frame d) → count ≡ class_count (lists d) (round_of (frame d) (at_end z)) → IsEndRow (frame d) (lists d) d.player (against d) z row → list ≡ row → AreModest list 0 count
+    end_modest z count list row inside all worths same k l =
+        let class : IsClass (lists d) (round_of (frame d) (at_end z)) (k + 1) = (omega arith, omega (arith, l, all)) in
+        let m = known_value (at_end z) (k + 1) inside tt class in
+        let place : k + 1 - 1 ≡ 0 + k = omega arith in
+        omega (arith, m, ap unsigned_abs (worths (k + 1) class), ap (λ i. unsigned_abs (get_or row i (pos 0))) place, ap (λ xs. unsigned_abs (get_or xs (0 + k) (pos 0))) same)
 
 -- a later point to which a move leads
 pub record IsNextPoint (d : Deviator) (q next : ℕ) : Type 0 where

@@ -20,19 +20,27 @@ sizes_of f lists = map (λ round. (points_in f round, class_count lists round)) 
 abbrev pub IsWide : Frame → ClassLists → ℕ → Type 0
 IsWide f lists wide = (round : ℕ) → 0 < round → round ≤ last_round f → class_count lists round ≤ wide
 
+-- each of the rows to work on has a length of which this is true
+pub record AreOfLength (is_long : ℕ → Type 0) (s : Scratch) : Type 0 where
+  pub numbers : is_long (length s.numbers.items)
+  pub ends : is_long (length s.ends.items)
+  pub worths : is_long (length s.worths.items)
+  pub best : is_long (length s.best.items)
+  pub moves : is_long (length s.moves.items)
+
 -- the rows to work on are long enough
-pub record HasRoom (f : Frame) (lists : ClassLists) (s : Scratch) : Type 0 where
-  pub numbers : IsWide f lists (length s.numbers.items)
-  pub ends : IsWide f lists (length s.ends.items)
-  pub worths : IsWide f lists (length s.worths.items)
-  pub best : IsWide f lists (length s.best.items)
-  pub moves : IsWide f lists (length s.moves.items)
+abbrev pub HasRoom : Frame → ClassLists → Scratch → Type 0
+HasRoom f lists = AreOfLength (IsWide f lists)
+
+-- there is room for so many points and so many values
+pub record Holds (points entries : ℕ) (t : Table) : Type 0 where
+  pub starts : points ≤ length t.starts.items
+  pub values : entries ≤ length t.values.items
+  pub picks : entries ≤ length t.picks.items
 
 -- there is a value and a move for each point and class
-pub record HoldsAll (f : Frame) (lists : ClassLists) (t : Table) : Type 0 where
-  pub starts : point_count f ≤ length t.starts.items
-  pub values : start_of f lists (point_count f) ≤ length t.values.items
-  pub picks : start_of f lists (point_count f) ≤ length t.picks.items
+abbrev pub HoldsAll : Frame → ClassLists → Table → Type 0
+HoldsAll f lists = Holds (point_count f) (start_of f lists (point_count f))
 
 -- and each point's values start where they should
 pub record IsLaidOut (f : Frame) (lists : ClassLists) (t : Table) : Type 0 where
@@ -49,13 +57,11 @@ point_room sizes = sum_by (λ (n : ℕ × ℕ). n.0) sizes
 abbrev pub value_room : List (ℕ × ℕ) → ℕ
 value_room sizes = sum_by (λ (n : ℕ × ℕ). n.0 * n.1) sizes
 
+-- a number for each class of rounds of these sizes
+abbrev pub IsWideFor : List (ℕ × ℕ) → ℕ → Type 0
+IsWideFor sizes wide = (i : ℕ) (d : ℕ × ℕ) → i < length sizes → (get_or sizes i d).1 ≤ wide
+
 -- lists and rows are long enough for rounds of these sizes
 pub record IsRoomy (sizes : List (ℕ × ℕ)) (t : Table) (s : Scratch) : Type 0 where
-  pub starts : point_room sizes ≤ length t.starts.items
-  pub values : value_room sizes ≤ length t.values.items
-  pub picks : value_room sizes ≤ length t.picks.items
-  pub numbers : (i : ℕ) (d : ℕ × ℕ) → i < length sizes → (get_or sizes i d).1 ≤ length s.numbers.items
-  pub ends : (i : ℕ) (d : ℕ × ℕ) → i < length sizes → (get_or sizes i d).1 ≤ length s.ends.items
-  pub worths : (i : ℕ) (d : ℕ × ℕ) → i < length sizes → (get_or sizes i d).1 ≤ length s.worths.items
-  pub best : (i : ℕ) (d : ℕ × ℕ) → i < length sizes → (get_or sizes i d).1 ≤ length s.best.items
-  pub moves : (i : ℕ) (d : ℕ × ℕ) → i < length sizes → (get_or sizes i d).1 ≤ length s.moves.items
+  pub table : Holds (point_room sizes) (value_room sizes) t
+  pub rows : AreOfLength (IsWideFor sizes) s

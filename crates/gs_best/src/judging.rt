@@ -50,7 +50,7 @@ fn start_total(side: &Deviator<'_>, table: &Table, scratch: &mut Scratch) -> i12
             round_sum(side.form, round_at(side.form, point), &table.values, start)
         }
         Target::End(end) => {
-            read_end(side, end, &mut scratch.ends, &mut scratch.numbers);
+            read_end(side, end, scratch);
             round_sum(side.form, end_round(side.form, end), &scratch.ends, 0)
         }
     }

@@ -1,10 +1,10 @@
 //! The value of a point, from what its moves are worth.
 
 ghost use Rattle.std.specs.Prelude.{◌≡◌, ◌≢◌, ◌==◌, ◌+◌, ◌<◌, ◌≤◌, ◌^◌, ◌+ℤ◌, ℕ, pos, length, get_or, slice_index, unsigned_abs, if◌then◌else◌};
-ghost use Rattle.gs_model.specs.{BestAnswers.{class_worth}, Classes.{class_count}, Frame.{move_count, player_at, point_count}};
+ghost use Rattle.gs_model.specs.{BestAnswers.{class_worth}, Frame.{point_count}};
 ghost use Rattle.gs_seq.specs.{Abstracts.{frame_of, lists_of}, Plans.{lifted}};
-ghost use Rattle.gs_best.specs.{Rows.{AreAdded, AreGreatest, AreRaised, AreSums, IsMerged, raises}, Sizes.{HasRoom, IsLaidOut}};
-ghost use Rattle.gs_best.specs.Tables.{IsBestFrom, classes_at, moves_of, table_of};
+ghost use Rattle.gs_best.specs.{Rows.{AreAdded, AreRaised, IsMerged, raises}, Sizes.{HasRoom, IsLaidOut}};
+ghost use Rattle.gs_best.specs.Tables.{IsBestFrom, moves_of, table_of};
 
 use crate::deviator::Deviator;
 use crate::reading::{chooser, class_total, move_total, round_at, round_total};
@@ -57,50 +57,6 @@ pub fn add(worths: &[i128], choice: u8, count: usize, sums: &mut [i128])
     }
 }
 
-/// The greatest worth of a move of a point, and the first move that has it, for each class of the point's round.
-fn best_moves(side: &Deviator<'_>, point: u32, table: &Table, scratch: &mut Scratch)
-    requires point { point < point_count (frame_of side.now.form.now) }
-    requires laid_out { IsLaidOut (frame_of side.now.form.now) (lists_of side.now.form.now) table.now }
-    requires known { let f = frame_of side.now.form.now in let lists = lists_of side.now.form.now in
-        IsBestFrom f lists side.now.player (table_of f lists side.now.player (lifted f lists side.now.other.now) table.now.values.items) (moves_of f lists table.now.picks.items) (point + 1) }
-    requires room { HasRoom (frame_of side.now.form.now) (lists_of side.now.form.now) scratch.old }
-    ensures best { let f = frame_of side.now.form.now in let lists = lists_of side.now.form.now in
-        AreGreatest f lists (class_worth f lists (table_of f lists side.now.player (lifted f lists side.now.other.now) table.now.values.items)) point (move_count f point) scratch.new.best.items scratch.new.moves.items }
-    ensures room { HasRoom (frame_of side.now.form.now) (lists_of side.now.form.now) scratch.new }
-{
-    let _rounds = round_total(side.form);
-    let count = class_total(side.form, round_at(side.form, point)) as usize;
-    for choice in 0..move_total(side.form, point) {
-        read_worths(side, point, choice, table, scratch);
-        raise(
-            &scratch.worths,
-            choice,
-            count,
-            &mut scratch.best,
-            &mut scratch.moves,
-        );
-    }
-}
-
-/// The sum of the worths of all moves of a point, for each class of the point's round.
-fn sum_moves(side: &Deviator<'_>, point: u32, table: &Table, scratch: &mut Scratch)
-    requires point { point < point_count (frame_of side.now.form.now) }
-    requires laid_out { IsLaidOut (frame_of side.now.form.now) (lists_of side.now.form.now) table.now }
-    requires known { let f = frame_of side.now.form.now in let lists = lists_of side.now.form.now in
-        IsBestFrom f lists side.now.player (table_of f lists side.now.player (lifted f lists side.now.other.now) table.now.values.items) (moves_of f lists table.now.picks.items) (point + 1) }
-    requires room { HasRoom (frame_of side.now.form.now) (lists_of side.now.form.now) scratch.old }
-    ensures sums { let f = frame_of side.now.form.now in let lists = lists_of side.now.form.now in
-        AreSums f lists (class_worth f lists (table_of f lists side.now.player (lifted f lists side.now.other.now) table.now.values.items)) point (move_count f point) scratch.new.best.items }
-    ensures room { HasRoom (frame_of side.now.form.now) (lists_of side.now.form.now) scratch.new }
-{
-    let _rounds = round_total(side.form);
-    let count = class_total(side.form, round_at(side.form, point)) as usize;
-    for choice in 0..move_total(side.form, point) {
-        read_worths(side, point, choice, table, scratch);
-        add(&scratch.worths, choice, count, &mut scratch.best);
-    }
-}
-
 /// The values of a point, and where the player chooses his first best moves, for each class of the point's round.
 pub(crate) fn merge_moves(side: &Deviator<'_>, point: u32, table: &Table, scratch: &mut Scratch)
     requires point { point < point_count (frame_of side.now.form.now) }
@@ -112,9 +68,16 @@ pub(crate) fn merge_moves(side: &Deviator<'_>, point: u32, table: &Table, scratc
         IsMerged f lists side.now.player (class_worth f lists (table_of f lists side.now.player (lifted f lists side.now.other.now) table.now.values.items)) point scratch.new.best.items scratch.new.moves.items }
     ensures room { HasRoom (frame_of side.now.form.now) (lists_of side.now.form.now) scratch.new }
 {
-    if chooser(side.form, point) == side.player {
-        best_moves(side, point, table, scratch);
-    } else {
-        sum_moves(side, point, table, scratch);
+    let _rounds = round_total(side.form);
+    let count = class_total(side.form, round_at(side.form, point)) as usize;
+    let own = chooser(side.form, point) == side.player;
+    for choice in 0..move_total(side.form, point) {
+        read_worths(side, point, choice, table, scratch);
+        let worths = &scratch.worths;
+        if own {
+            raise(worths, choice, count, &mut scratch.best, &mut scratch.moves);
+        } else {
+            add(worths, choice, count, &mut scratch.best);
+        }
     }
 }

@@ -4,6 +4,7 @@ pub mod Above
 pub mod AlongBoards
 pub mod Coming
 pub mod Leaks
+pub mod FewMoves
 pub mod Gathered
 pub mod ClassRows
 pub mod ClassSums

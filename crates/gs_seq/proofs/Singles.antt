@@ -21,7 +21,7 @@ use Rattle.gs_model.specs.Game.{Game, round_count}
 use Rattle.gs_model.specs.Pairs.{pair_sum}
 use Rattle.gs_model.specs.Sums.{sum_z}
 use Rattle.gs_model.proofs.Gather.{class_in}
-use Rattle.gs_model.proofs.Ranges.{deals_weigh, signal_count_is}
+use Rattle.gs_model.proofs.Ranges.{deals_weigh, every-kept, signal_count_is}
 use Rattle.gs_model.proofs.RawBound.{range_once}
 use Rattle.gs_model.proofs.Regroup.{sum_z-pos}
 use Rattle.gs_model.proofs.Total.{sum_z-same}
@@ -38,7 +38,6 @@ use Rattle.gs_seq.proofs.Meeting.{row_long}
 use Rattle.gs_seq.proofs.RowFacts.{sum-add, times_sum}
 use Rattle.gs_seq.proofs.RowLaws.{RisesBy, by_index, further}
 use Rattle.gs_seq.proofs.RowRoom.{table}
-use Rattle.gs_seq.proofs.Sizes.{every-filter}
 use Rattle.gs_seq.proofs.SlotLaws.{not_eq, over}
 
 -- ---- sums by keys
@@ -204,7 +203,7 @@ module _ (g : ValidGame) (c : Filter) (e : c.parents ≡ (frame_in g).parents) (
         two = omega (arith, (table g).dealt_two i d l, count_is, g.limits.signals_in (round_count (game_of g.game)) (omega arith));
         weight = omega (arith, get_or-le-sum_by (λ (x : Deal). x.weight) (deals (game_of g.game)) i d l, g.limits.weight_in);
       } in
-      All-from_recursion IsSlight (deals_of s) (every-filter IsSlight (λ (d : Deal). d.one == s) (deals (game_of g.game)) (recursion_from_All IsSlight (deals (game_of g.game)) all))
+      All-from_recursion IsSlight (deals_of s) (every-kept IsSlight (λ (d : Deal). d.one == s) (deals (game_of g.game)) (recursion_from_All IsSlight (deals (game_of g.game)) all))
 
   -- as many pairs as deals
   pub made_count : pair_count (frame_in g) c.lists last ≡ length (deals (game_of g.game))

@@ -32,4 +32,4 @@ returns c =
     let share = end_share (frame d) (form_in_range a) (lists d) (form_classes a c.round_total-rounds.ensures.sound) (form_lossless a) d.player (form_walked a d.player d.some d.two) (class_plan (frame d) (lists d) d.other.now) c.args.end c.args.class c.requires.end c.requires.class in
     let size = c.size-members.ensures ∙ ap (λ (k : Filter). class_size k.lists c.end_round.result c.args.class) held ∙ ap (λ j. class_size (lists d) j c.args.class) c.end_round.ensures.value in
     to_z-of_z w128 c.over.result (record { sfits = c.over.type_inv })
-    ∙ c.over.ensures worth (to_z-of_z w128 c.end_sum-together.result (record { sfits = c.end_sum-together.type_inv }) ∙ c.end_sum-together.ensures ∙ share ∙ ap (λ n. worth *ℤ pos n) (sym size))
+    ∙ c.over.ensures.share worth (to_z-of_z w128 c.end_sum-together.result (record { sfits = c.end_sum-together.type_inv }) ∙ c.end_sum-together.ensures ∙ share ∙ ap (λ n. worth *ℤ pos n) (sym size))

@@ -1,27 +1,42 @@
-use Rattle.std.proofs.Common.{◌≡◌, ◌+◌, ◌-◌, ◌∙◌, ap, sym, arith, get_or}
-use Rattle.std.specs.Prelude.{pos, ◌*ℤ◌}
-use Rattle.gs_model.specs.BestAnswers.{end_worth}
-use Rattle.gs_model.specs.Classes.{class_count, class_size, first_member}
+use Rattle.std.proofs.Common.{List, ℕ, length, drop, sym, ap, subst, arith}
+use Rattle.std.specs.Prelude.{ℤ}
 use Rattle.gs_model.specs.Frame.{round_of}
 use Rattle.gs_model.specs.Positions.{at_end}
-use Rattle.gs_seq.specs.Plans.{class_plan}
-use Rattle.gs_best.proofs.Forms.{form_in_range, form_lossless}
-use Rattle.gs_best.proofs.Shares.{end_share}
-use Rattle.gs_best.proofs.Sides.{against, classes, frame, lists, side_walked}
+use Rattle.gs_best.specs.Ends.{IsEndRow}
+use Rattle.gs_best.proofs.Filled.{written}
+use Rattle.gs_best.proofs.Rooms.{written_wide}
+use Rattle.gs_best.proofs.Sides.{against, frame, lists, side_walked}
 use Rattle.gs_best.proofs.ends.read_end.Goals as goal
 
-pub returns : goal.returns
-returns c =
-    let d = c.args.side.now in
-    let f = frame d in
+pub read_row-requires-clause-room : goal.read_row-requires-clause-room
+read_row-requires-clause-room c =
+    let w = side_walked c.args.side.now in
     let z = c.args.end in
-    let round = round_of f (at_end z) in
-    let row = c.end_sums.new.sums in
-    λ k h.
-    (let worth = end_worth f d.player (against d) z (first_member (lists d) round k) in
-    let share = end_share f (form_in_range d.form.now) (lists d) (classes d c.round_total-rounds.ensures.sound) (form_lossless d.form.now) d.player (side_walked d) (class_plan f (lists d) d.other.now) z k c.requires.end h in
-    let at : k - 1 ≡ 0 + (k - 1) = omega arith in
-    let one : k ≡ k - 1 + 1 = omega (arith, h.0) in
-    let sum : get_or row (k - 1) (pos 0) ≡ worth *ℤ pos (class_size (lists d) c.end_round.result (k - 1 + 1)) =
-    ap (λ i. get_or row i (pos 0)) at ∙ c.end_sums.ensures.here k h ∙ share ∙ ap (λ i. worth *ℤ pos (class_size (lists d) i k)) (sym c.end_round.ensures.value) ∙ ap (λ i. worth *ℤ pos (class_size (lists d) c.end_round.result i)) one in
-    c.share_all.ensures (k - 1) worth (omega (arith, h.0, h.1, ap (class_count (lists d)) c.end_round.ensures.value)) sum)
+    omega (arith, c.requires.room.ends (round_of (frame c.args.side.now) (at_end z)) (w.end_round z c.requires.end) (w.end_in z c.requires.end), ap (λ (l : List ℤ). length l) c.deref_mut.ensures.value)
+
+pub read_row-requires-clause-numbers : goal.read_row-requires-clause-numbers
+read_row-requires-clause-numbers c =
+    let w = side_walked c.args.side.now in
+    let z = c.args.end in
+    omega (arith, c.requires.room.numbers (round_of (frame c.args.side.now) (at_end z)) (w.end_round z c.requires.end) (w.end_in z c.requires.end), ap (λ (l : List ℕ). length l) c.deref_mut-2.ensures.value)
+
+pub returns-clause-row : goal.returns-clause-row
+returns-clause-row c =
+    let d = c.args.side.now in
+    let row = c.read_row.new.row in
+    let old = c.args.scratch.now.ends in
+    subst (IsEndRow (frame d) (lists d) d.player (against d) c.args.end)
+    (sym (written old.len row (drop (length row) old.items) (omega (arith, c.read_row.auto.row, ap (λ (l : List ℤ). length l) c.deref_mut.ensures.value, old.ok.0)))) c.read_row.ensures
+
+pub returns-clause-room : goal.returns-clause-room
+returns-clause-room c =
+    let d = c.args.side.now in
+    let s = c.args.scratch.now in
+    let room = c.requires.room in
+    record {
+      numbers = written_wide (frame d) (lists d) s.numbers.len s.numbers.items c.read_row.new.numbers (omega (arith, s.numbers.ok.0)) (omega (arith, c.read_row.auto.numbers, ap (λ (l : List ℕ). length l) c.deref_mut-2.ensures.value)) room.numbers;
+      ends = written_wide (frame d) (lists d) s.ends.len s.ends.items c.read_row.new.row (omega (arith, s.ends.ok.0)) (omega (arith, c.read_row.auto.row, ap (λ (l : List ℤ). length l) c.deref_mut.ensures.value)) room.ends;
+      worths = room.worths;
+      best = room.best;
+      moves = room.moves;
+    }

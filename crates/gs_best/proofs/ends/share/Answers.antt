@@ -22,4 +22,4 @@ returns c =
     let a = c.args.form.now in
     let held : c.classes.result.now ≡ a.lossless.now.classes.now = c.classes.ensures.held ∙ ap (λ (l : Lossless). l.classes.now) c.lossless.ensures in
     let size = c.size.ensures ∙ ap (λ (k : Filter). class_size k.lists c.args.round c.args.class) held in
-    λ share together. to_z-of_z w128 c.over.result (record { sfits = c.over.type_inv }) ∙ c.over.ensures share (to_z-of_z w128 c.args.together c.ranges.together ∙ together ∙ ap (λ n. share *ℤ pos n) (sym size))
+    λ share together. to_z-of_z w128 c.over.result (record { sfits = c.over.type_inv }) ∙ c.over.ensures.share share (to_z-of_z w128 c.args.together c.ranges.together ∙ together ∙ ap (λ n. share *ℤ pos n) (sym size))

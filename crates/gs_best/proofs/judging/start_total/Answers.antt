@@ -1,11 +1,11 @@
-use Rattle.std.proofs.Common.{◌≡◌, ℕ, ◌+◌, ◌-◌, ◌<◌, List, length, drop, get_or, refl, sym, ap, ◌∙◌, subst, arith, to_z, of_z}
-use Rattle.std.specs.Prelude.{ℤ, pos, unsigned_abs}
+use Rattle.std.proofs.Common.{◌≡◌, ◌-◌, ◌<◌, List, length, refl, sym, ap, ◌∙◌, subst, arith, to_z, of_z}
+use Rattle.std.specs.Prelude.{ℤ, unsigned_abs}
 use Rattle.std.proofs.lemmas.Int.{to_z-of_z}
 use mir.Syntax.{w128}
 use Rattle.gs_game.specs.Seen.{target_of}
 use Rattle.gs_model.specs.BestAnswers.{spread, start_sum}
-use Rattle.gs_model.specs.Classes.{IsClass, class_count}
-use Rattle.gs_model.specs.Frame.{end_count, point_count, round_of, signals_in}
+use Rattle.gs_model.specs.Classes.{class_count}
+use Rattle.gs_model.specs.Frame.{end_count, point_count, signals_in}
 use Rattle.gs_model.specs.FrameFacts.{IsInside}
 use Rattle.gs_model.specs.Positions.{at_end, at_point}
 use Rattle.gs_model.specs.Sums.{sum_z}
@@ -13,12 +13,10 @@ use Rattle.gs_best.specs.Answers.{IsBestTotal}
 use Rattle.gs_best.specs.Rows.{value_at}
 use Rattle.gs_best.specs.Tables.{classes_at, moves_of, start_of}
 use Rattle.gs_best.proofs.Backwards.{from_best}
-use Rattle.gs_best.proofs.Filled.{written}
 use Rattle.gs_best.proofs.Placed.{IsRow, row_read}
-use Rattle.gs_best.proofs.Rooms.{written_wide}
-use Rattle.gs_best.proofs.Sides.{IsKnown, against, classes, frame, known_start, known_value, lists, side_walked, values_in}
+use Rattle.gs_best.proofs.Sides.{IsKnown, against, classes, end_modest, frame, known_start, lists, point_modest, side_walked, values_in}
 use Rattle.gs_best.proofs.Totals.{starts_at_end, starts_at_point}
-use Rattle.gs_best.proofs.judging.start_total.Goals.{Start, In-Point, In-End, After-round_at, After-deref-in-End, After-round_sum, After-round_sum-in-End}
+use Rattle.gs_best.proofs.judging.start_total.Goals.{Start, In-Point, In-End, After-round_at, After-round_sum, After-round_sum-in-End}
 use Rattle.gs_best.proofs.judging.start_total.Goals as goal
 
 known : (c : Start) → IsKnown c.args.side.now c.args.table.now.values.items c.args.table.now.picks.items 0
@@ -32,9 +30,10 @@ point_inside : (c : In-Point) → c.in-Point.point < point_count (frame c.args.s
 point_inside c = subst (IsInside (frame c.args.side.now)) (at_that_point c) (side_walked c.args.side.now).start_in
 
 -- where its values stand
-row : (c : After-round_at) → c.in-Point.point < point_count (frame c.args.side.now)
-    → IsRow (classes_at (frame c.args.side.now) (lists c.args.side.now)) (point_count (frame c.args.side.now)) c.in-Point.point c.index.result.now (class_count (lists c.args.side.now) c.round_at.result)
-row c l = row_read _ _ _ _ _ c.args.table.now.starts.items l c.requires.filled.holds.starts c.requires.filled.places c.index.ensures (ap (class_count (lists c.args.side.now)) c.round_at.ensures.value)
+row : (c : After-round_at) → IsRow (classes_at (frame c.args.side.now) (lists c.args.side.now)) (point_count (frame c.args.side.now)) c.in-Point.point c.index.result.now (class_count (lists c.args.side.now) c.round_at.result)
+row c =
+    let inside = point_inside (goal.at.After-round_at c).In-Point in
+    row_read _ _ _ _ _ c.args.table.now.starts.items inside c.requires.filled.holds.starts c.requires.filled.places c.index.ensures (ap (class_count (lists c.args.side.now)) c.round_at.ensures.value)
 
 -- the end where play starts
 at_that_end : (c : In-End) → (frame c.args.side.now).start ≡ at_end c.in-End.end
@@ -42,13 +41,6 @@ at_that_end c = sym c.start_at.ensures ∙ ap target_of c.in-End.is
 
 end_inside : (c : In-End) → c.in-End.end < end_count (frame c.args.side.now)
 end_inside c = subst (IsInside (frame c.args.side.now)) (at_that_end c) (side_walked c.args.side.now).start_in
-
--- what was read of it
-paid : (c : After-deref-in-End) → c.deref-in-End.result.now ≡ c.read_end.new.row
-paid c =
-    let row = c.read_end.new.row in
-    let old = c.args.scratch.now.ends in
-    c.deref-in-End.ensures.value ∙ written old.len row (drop (length row) old.items) (omega (arith, c.read_end.auto.row, ap (λ (l : List ℤ). length l) c.deref_mut.ensures.value, old.ok.0))
 
 -- the sums are the value at the start
 total_at_point : (c : After-round_sum) → (frame c.args.side.now).start ≡ at_point c.in-Point.point → c.index.result.now ≡ start_of (frame c.args.side.now) (lists c.args.side.now) c.in-Point.point
@@ -59,13 +51,13 @@ total_at_point c is start =
     to_z-of_z w128 c.round_sum.result (record { sfits = c.round_sum.type_inv }) ∙ c.round_sum.ensures ∙ sum
     ∙ starts_at_point (frame d) (lists d) d.player (against d) c.args.table.now.values.items c.in-Point.point c.round_at.result c.index.result.now is c.round_at.ensures.value start
 
-total_at_end : (c : After-round_sum-in-End) → (frame c.args.side.now).start ≡ at_end c.in-End.end → c.deref-in-End.result.now ≡ c.read_end.new.row
+total_at_end : (c : After-round_sum-in-End) → (frame c.args.side.now).start ≡ at_end c.in-End.end
     → to_z w128 (of_z w128 c.round_sum-in-End.result) ≡ start_sum (frame c.args.side.now) (spread (frame c.args.side.now) (lists c.args.side.now) (values_in c.args.side.now c.args.table.now.values.items))
-total_at_end c is reads =
+total_at_end c is =
     let d = c.args.side.now in
-    let sum = ap (λ l. sum_z (value_at (lists d) c.end_round.result l 0) (signals_in (frame d) c.end_round.result)) reads in
+    let sum = ap (λ l. sum_z (value_at (lists d) c.end_round.result l 0) (signals_in (frame d) c.end_round.result)) c.deref-in-End.ensures.value in
     to_z-of_z w128 c.round_sum-in-End.result (record { sfits = c.round_sum-in-End.type_inv }) ∙ c.round_sum-in-End.ensures ∙ sum
-    ∙ starts_at_end (frame d) (lists d) d.player (against d) c.args.table.now.values.items (classes d c.round_total-rounds.ensures.sound) c.in-End.end c.end_round.result c.read_end.new.row is c.end_round.ensures.value c.end_round.ensures.some c.end_round.ensures.top c.read_end.ensures
+    ∙ starts_at_end (frame d) (lists d) d.player (against d) c.args.table.now.values.items (classes d c.round_total-rounds.ensures.sound) c.in-End.end c.end_round.result c.read_end.new.scratch.ends.items is c.end_round.ensures.value c.end_round.ensures.some c.end_round.ensures.top c.read_end.ensures.row
 
 -- so it is the best total
 is_best : (c : Start) (total : ℤ) → total ≡ start_sum (frame c.args.side.now) (spread (frame c.args.side.now) (lists c.args.side.now) (values_in c.args.side.now c.args.table.now.values.items))
@@ -84,84 +76,41 @@ pub round_at-requires : goal.round_at-requires
 round_at-requires c = point_inside (goal.at.round_at-requires c).In-Point
 
 pub round_sum-requires-clause-room : goal.round_sum-requires-clause-room
-round_sum-requires-clause-room c =
-    let at = goal.at.round_sum-requires-clause-room c in
-    omega (arith, (row at.After-round_at (point_inside at.In-Point)).within, c.requires.filled.holds.values, ap (λ (l : List ℤ). length l) c.deref.ensures.value)
+round_sum-requires-clause-room c = omega (arith, (row (goal.at.round_sum-requires-clause-room c).After-round_at).within, c.requires.filled.holds.values, ap (λ (l : List ℤ). length l) c.deref.ensures.value)
 
 pub round_sum-requires-clause-modest : goal.round_sum-requires-clause-modest
 round_sum-requires-clause-modest c =
-    let d = c.args.side.now in
     let at = goal.at.round_sum-requires-clause-modest c in
-    let inside = point_inside at.In-Point in
-    let r = row at.After-round_at inside in
-    let values = c.args.table.now.values.items in
-    λ k l.
-    (let m = known_value d c.round_total-rounds.ensures.sound values c.args.table.now.picks.items 0 (known at.Start) (at_point c.in-Point.point) (k + 1) inside (omega arith) (omega arith, omega (arith, l, r.count_is)) in
-    let place : start_of (frame d) (lists d) c.in-Point.point + (k + 1 - 1) ≡ c.index.result.now + k = omega (arith, r.start_is) in
-    omega (arith, m, ap (λ i. unsigned_abs (get_or values i (pos 0))) place, ap (λ l. unsigned_abs (get_or l (c.index.result.now + k) (pos 0))) c.deref.ensures.value))
+    point_modest c.args.side.now c.round_total-rounds.ensures.sound c.args.table.now.values.items c.args.table.now.picks.items 0 (known at.Start) c.in-Point.point _ _ _ (point_inside at.In-Point) (omega arith) (row at.After-round_at) c.deref.ensures.value
 
 pub read_end-requires-clause-end : goal.read_end-requires-clause-end
 read_end-requires-clause-end c = end_inside (goal.at.read_end-requires-clause-end c).In-End
-
-pub read_end-requires-clause-room : goal.read_end-requires-clause-room
-read_end-requires-clause-room c =
-    let w = side_walked c.args.side.now in
-    let z = c.in-End.end in
-    let inside = end_inside (goal.at.read_end-requires-clause-room c).In-End in
-    omega (arith, c.requires.room.ends (round_of (frame c.args.side.now) (at_end z)) (w.end_round z inside) (w.end_in z inside), ap (λ (l : List ℤ). length l) c.deref_mut.ensures.value)
-
-pub read_end-requires-clause-numbers : goal.read_end-requires-clause-numbers
-read_end-requires-clause-numbers c =
-    let w = side_walked c.args.side.now in
-    let z = c.in-End.end in
-    let inside = end_inside (goal.at.read_end-requires-clause-numbers c).In-End in
-    omega (arith, c.requires.room.numbers (round_of (frame c.args.side.now) (at_end z)) (w.end_round z inside) (w.end_in z inside), ap (λ (l : List ℕ). length l) c.deref_mut-in-End.ensures.value)
 
 pub end_round-requires : goal.end_round-requires
 end_round-requires c = end_inside (goal.at.end_round-requires c).In-End
 
 pub round_sum-requires-in-End-clause-modest : goal.round_sum-requires-in-End-clause-modest
 round_sum-requires-in-End-clause-modest c =
-    let d = c.args.side.now in
-    let z = c.in-End.end in
     let at = goal.at.round_sum-requires-in-End-clause-modest c in
-    let row = c.read_end.new.row in
-    λ k l.
-    (let class : IsClass (lists d) (round_of (frame d) (at_end z)) (k + 1) = (omega arith, omega (arith, l, ap (class_count (lists d)) c.end_round.ensures.value)) in
-    let m = known_value d c.round_total-rounds.ensures.sound c.args.table.now.values.items c.args.table.now.picks.items 0 (known at.Start) (at_end z) (k + 1) (end_inside at.In-End) tt class in
-    let worth = ap unsigned_abs (c.read_end.ensures (k + 1) class) in
-    let place : k + 1 - 1 ≡ 0 + k = omega arith in
-    omega (arith, m, worth, ap (λ i. unsigned_abs (get_or row i (pos 0))) place, ap (λ l. unsigned_abs (get_or l (0 + k) (pos 0))) (paid at.After-deref-in-End)))
+    end_modest c.args.side.now c.round_total-rounds.ensures.sound c.args.table.now.values.items c.args.table.now.picks.items 0 (known at.Start) c.in-End.end _ _ c.read_end.new.scratch.ends.items (end_inside at.In-End)
+    (ap (class_count (lists c.args.side.now)) c.end_round.ensures.value) c.read_end.ensures.row c.deref-in-End.ensures.value
 
 pub returns-in-Point-clause-total : goal.returns-in-Point-clause-total
 returns-in-Point-clause-total c =
     let at = goal.at.returns-in-Point-clause-total c in
-    is_best at.Start _ (total_at_point at.After-round_sum (at_that_point at.In-Point) (row at.After-round_at (point_inside at.In-Point)).start_is)
+    is_best at.Start _ (total_at_point at.After-round_sum (at_that_point at.In-Point) (row at.After-round_at).start_is)
 
 pub returns-in-Point-clause-small : goal.returns-in-Point-clause-small
 returns-in-Point-clause-small c =
     let at = goal.at.returns-in-Point-clause-small c in
-    let total = total_at_point at.After-round_sum (at_that_point at.In-Point) (row at.After-round_at (point_inside at.In-Point)).start_is in
+    let total = total_at_point at.After-round_sum (at_that_point at.In-Point) (row at.After-round_at).start_is in
     omega (arith, ap unsigned_abs total, known_start c.args.side.now c.round_total-rounds.ensures.sound c.args.table.now.values.items c.args.table.now.picks.items 0 (known at.Start) refl)
 
 pub returns-in-End-clause-total : goal.returns-in-End-clause-total
-returns-in-End-clause-total c = let at = goal.at.returns-in-End-clause-total c in is_best at.Start _ (total_at_end at.After-round_sum-in-End (at_that_end at.In-End) (paid at.After-deref-in-End))
+returns-in-End-clause-total c = let at = goal.at.returns-in-End-clause-total c in is_best at.Start _ (total_at_end at.After-round_sum-in-End (at_that_end at.In-End))
 
 pub returns-in-End-clause-small : goal.returns-in-End-clause-small
 returns-in-End-clause-small c =
     let at = goal.at.returns-in-End-clause-small c in
-    let total = total_at_end at.After-round_sum-in-End (at_that_end at.In-End) (paid at.After-deref-in-End) in
+    let total = total_at_end at.After-round_sum-in-End (at_that_end at.In-End) in
     omega (arith, ap unsigned_abs total, known_start c.args.side.now c.round_total-rounds.ensures.sound c.args.table.now.values.items c.args.table.now.picks.items 0 (known at.Start) refl)
-
-pub returns-in-End-clause-room : goal.returns-in-End-clause-room
-returns-in-End-clause-room c =
-    let d = c.args.side.now in
-    let s = c.args.scratch.now in
-    let room = c.requires.room in
-    record {
-      numbers = written_wide (frame d) (lists d) s.numbers.len s.numbers.items c.read_end.new.numbers (omega (arith, s.numbers.ok.0)) (omega (arith, c.read_end.auto.numbers, ap (λ (l : List ℕ). length l) c.deref_mut-in-End.ensures.value)) room.numbers;
-      ends = written_wide (frame d) (lists d) s.ends.len s.ends.items c.read_end.new.row (omega (arith, s.ends.ok.0)) (omega (arith, c.read_end.auto.row, ap (λ (l : List ℤ). length l) c.deref_mut.ensures.value)) room.ends;
-      worths = room.worths;
-      best = room.best;
-      moves = room.moves;
-    }
