@@ -11,9 +11,7 @@ pub fn gcd(a: u128, b: u128) -> u128
     let mut x = a;
     let mut y = b;
     while y != 0 {
-        let rest = x % y;
-        x = y;
-        y = rest;
+        (x, y) = (y, x % y);
     }
     x
 }

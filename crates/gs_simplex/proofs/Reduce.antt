@@ -3,32 +3,30 @@ use Prim.Native.Nat.{◌∣◌}
 use Rattle.std.proofs.lemmas.Bool.{cases_eq}
 use Rattle.std.proofs.lemmas.Int.{ints, unsigned_abs-mul}
 use Rattle.std.specs.Int.{IsGcd}
-use Rattle.std.proofs.lemmas.Nat.Gcd.{dvd-zero, dvd_trans}
-use Rattle.std.proofs.Math.Nat.{eq-one_of_dvd-one, eq-zero_of_zero-dvd, mul-dvd-mul_left, dvd_of_mul-dvd-mul_left, le_of_dvd}
+use Rattle.std.proofs.lemmas.Nat.Gcd.{dvd_refl, dvd-zero, dvd_trans}
+use Rattle.std.proofs.Math.Nat.{eq-one_of_dvd-one, one-dvd, eq-zero_of_zero-dvd, mul-dvd-mul_left, dvd_of_mul-dvd-mul_left, le_of_dvd}
 use Rattle.gs_rows.specs.Rows.{IsNarrow, IsPrimitive}
 use Rattle.gs_rows.proofs.Ring.{ring, linear, one_times, times_pos, times_times, cancel, cancel_zero}
 use Rattle.gs_rows.proofs.Sums.{cases_last}
 use Rattle.gs_rows.proofs.Primitive.{over, over_times}
-use Rattle.gs_simplex.specs.Numbers.{at, IsShared, IsWideQuotient, IsReduced, IsReducedTo, IsDivided}
+use Rattle.gs_simplex.specs.Numbers.{at, AllNarrow, IsDivisor, IsShared, IsQuotient, IsWideQuotient, IsReduced, IsReducedTo, IsDivided}
 
--- the greatest common divisor of the numbers below `count`
-pub record IsDivisor (d count : ℕ) (f : ℕ → ℤ) : Type 0 where
-  pub divides : (j : ℕ) → j < count → d ∣ unsigned_abs (f j)
-  pub greatest : (e : ℕ) → ((j : ℕ) → j < count → e ∣ unsigned_abs (f j)) → e ∣ d
+-- one more number among those divided, which may be 0
+pub one_more : (f : ℕ → ℤ) (i found next m : ℕ) → m ≡ unsigned_abs (f i) → IsGcd found m next → IsDivisor i f found → IsDivisor (i + 1) f next
+one_more f i found next m e g u = record {
+  divides = below_more (λ j. next ∣ unsigned_abs (f j)) i (λ j h. dvd_trans next g.0 (u.divides j h)) (let P : ℕ → Type 0 = λ t. next ∣ t in subst P e g.1);
+  greatest = λ d h. g.2 d (u.greatest d (λ j l. h j (omega arith))) (let P : ℕ → Type 0 = λ t. d ∣ t in subst P (sym e) (h i (omega arith)));
+}
 
--- one more number among those divided
-pub one_more_of : (f : ℕ → ℤ) (i found next m : ℕ) → m ≡ unsigned_abs (f i) → IsGcd found m next
-    → ((j : ℕ) → j < i → found ∣ unsigned_abs (f j)) × ((d : ℕ) → ((j : ℕ) → j < i → d ∣ unsigned_abs (f j)) → d ∣ found)
-    → ((j : ℕ) → j < i + 1 → next ∣ unsigned_abs (f j)) × ((d : ℕ) → ((j : ℕ) → j < i + 1 → d ∣ unsigned_abs (f j)) → d ∣ next)
-one_more_of f i found next m e g inv = (
-  below_more (λ j. next ∣ unsigned_abs (f j)) i (λ j h. dvd_trans next g.0 (inv.0 j h)) (let P : ℕ → Type 0 = λ t. next ∣ t in subst P e g.1),
-  λ d h. g.2 d (inv.1 d (λ j l. h j (omega arith))) (let P : ℕ → Type 0 = λ t. d ∣ t in subst P (sym e) (h i (omega arith))),
-)
+pub one_zero : (f : ℕ → ℤ) (i d : ℕ) → f i ≡ pos 0 → IsDivisor i f d → IsDivisor (i + 1) f d
+one_zero f i d z u = one_more f i d d 0 (sym (ap unsigned_abs z)) (dvd_refl d, dvd-zero d, λ e h k. h) u
 
-pub one_more : (xs : List ℤ) (i found next m : ℕ) → m ≡ unsigned_abs (at xs i) → IsGcd found m next
-    → ((j : ℕ) → j < i → found ∣ unsigned_abs (at xs j)) × ((d : ℕ) → ((j : ℕ) → j < i → d ∣ unsigned_abs (at xs j)) → d ∣ found)
-    → ((j : ℕ) → j < i + 1 → next ∣ unsigned_abs (at xs j)) × ((d : ℕ) → ((j : ℕ) → j < i + 1 → d ∣ unsigned_abs (at xs j)) → d ∣ next)
-one_more xs i found next m e g inv = one_more_of (at xs) i found next m e g inv
+-- where 1 is the greatest divisor of the first numbers, it is that of all
+pub one_of_all : (f : ℕ → ℤ) (i count d : ℕ) → i ≤ count → d ≡ 1 → IsDivisor i f d → IsDivisor count f 1
+one_of_all f i count d few e u = record {
+  divides = λ j h. one-dvd _;
+  greatest = λ k h. let P : ℕ → Type 0 = λ t. k ∣ t in subst P e (u.greatest k (λ j l. h j (omega arith)));
+}
 
 abs_zero : (z : ℤ) → unsigned_abs z ≡ 0 → z ≡ pos 0
 abs_zero z e = omega (arith, ints)
@@ -44,23 +42,23 @@ some_nonzero (suc n) f = elim (cases_eq (unsigned_abs (f n)) 0) [
   ]
 ]
 
-zero_divides : (d count : ℕ) (f : ℕ → ℤ) → IsDivisor d count f → d ≡ 0 → (j : ℕ) → j < count → f j ≡ pos 0
+zero_divides : (d count : ℕ) (f : ℕ → ℤ) → IsDivisor count f d → d ≡ 0 → (j : ℕ) → j < count → f j ≡ pos 0
 zero_divides d count f u e j h = abs_zero (f j) (eq-zero_of_zero-dvd (let P : ℕ → Type 0 = λ t. t ∣ unsigned_abs (f j) in subst P e (u.divides j h)))
 
-pub divisor_small : (d count bound : ℕ) (f : ℕ → ℤ) → IsDivisor d count f → ((j : ℕ) → j < count → unsigned_abs (f j) ≤ bound) → d ≤ bound
+pub divisor_small : (d count bound : ℕ) (f : ℕ → ℤ) → IsDivisor count f d → ((j : ℕ) → j < count → unsigned_abs (f j) ≤ bound) → d ≤ bound
 divisor_small d count bound f u h = elim (some_nonzero count f) [
   | inl w ↦ (let l : d ≤ unsigned_abs (f w.0) = le_of_dvd (omega (arith, w.2)) (u.divides w.0 w.1) in omega (arith, h w.0 w.1))
   | inr z ↦ (let e : d ≡ 0 = eq-zero_of_zero-dvd (u.greatest 0 (λ j l. let s : unsigned_abs (f j) ≡ 0 = ap unsigned_abs (z j l) in let P : ℕ → Type 0 = λ t. 0 ∣ t in subst P (sym s) (dvd-zero 0))) in omega arith)
 ]
 
-pub by_divides : (d by count : ℕ) (f : ℕ → ℤ) → IsDivisor d count f → by ≡ max d 1 → (j : ℕ) → j < count → by ∣ unsigned_abs (f j)
+pub by_divides : (d by count : ℕ) (f : ℕ → ℤ) → IsDivisor count f d → by ≡ max d 1 → (j : ℕ) → j < count → by ∣ unsigned_abs (f j)
 by_divides d by count f u e j h = elim (cases_eq d 0) [
   | inl z ↦ (let s : unsigned_abs (f j) ≡ 0 = ap unsigned_abs (zero_divides d count f u z j h) in let P : ℕ → Type 0 = λ t. by ∣ t in subst P (sym s) (dvd-zero by))
   | inr nz ↦ (let s : d ≡ by = omega arith in let P : ℕ → Type 0 = λ t. t ∣ unsigned_abs (f j) in subst P s (u.divides j h))
 ]
 
 -- what is left after the division has no common divisor
-pub quotients_primitive : (d by last : ℕ) (f q : ℕ → ℤ) → IsDivisor d (suc last) f → by ≡ max d 1 → ((j : ℕ) → j ≤ last → f j ≡ pos by *ℤ q j) → IsPrimitive last q
+pub quotients_primitive : (d by last : ℕ) (f q : ℕ → ℤ) → IsDivisor (suc last) f d → by ≡ max d 1 → ((j : ℕ) → j ≤ last → f j ≡ pos by *ℤ q j) → IsPrimitive last q
 quotients_primitive d by last f q u e at_q = elim (cases_eq d 0) [
   | inl z ↦ record {
     form = inl (λ j h.
@@ -79,8 +77,9 @@ quotients_primitive d by last f q u e at_q = elim (cases_eq d 0) [
   }
 ]
 
-pub narrow_divisor : (d by count : ℕ) (f : ℕ → ℤ) → IsDivisor d count f → ((j : ℕ) → j < count → unsigned_abs (f j) < 2 ^ 62) → by ≡ max d 1 → by < 2 ^ 62
-narrow_divisor d by count f u h e = let b : d ≤ 2 ^ 62 - 1 = divisor_small d count (2 ^ 62 - 1) f u (λ j l. let k : unsigned_abs (f j) < 2 ^ 62 = h j l in omega arith) in omega arith
+pub divisor_narrow : (row : List ℤ) (d : ℕ) → IsDivisor (length row) (at row) d → AllNarrow row → d < 2 ^ 62
+divisor_narrow row d u h =
+    let b : d ≤ 2 ^ 62 - 1 = divisor_small d (length row) (2 ^ 62 - 1) (at row) u (λ j l. let k : unsigned_abs (at row j) < 2 ^ 62 = h j l in omega arith) in omega arith
 
 pub divisor_bounds : (g m : ℕ) → 0 < m → m < 2 ^ 62 → g ∣ m → (0 < g) × (g < 2 ^ 62)
 divisor_bounds g m some small d = (
@@ -112,14 +111,14 @@ reduced_divided lead row mid new c width own far sh is u =
 
 -- the row of a pivot, divided
 module _ (lead row : ℕ → ℤ) (c width d by : ℕ) (own far : ℤ) (mixed : List ℤ) (sh : IsShared (lead c) (row c) own far) (wide : 0 < width) (long : length mixed ≡ width)
-    (is : (j : ℕ) → j < width → at mixed j ≡ own *ℤ row j -ℤ far *ℤ lead j) (u : IsDivisor d (length mixed) (at mixed)) (e : by ≡ max d 1) where
+    (is : (j : ℕ) → j < width → at mixed j ≡ own *ℤ row j -ℤ far *ℤ lead j) (u : IsDivisor (length mixed) (at mixed) d) (e : by ≡ max d 1) where
   by_positive : pos 0 <ℤ pos by
   by_positive = omega (arith, ints)
 
   divided_from : (q : ℕ → ℤ) → ((j : ℕ) → j < width → at mixed j ≡ pos by *ℤ q j) → IsDivided width (at mixed) q
   divided_from q h =
       let s : length mixed ≡ suc (width - 1) = omega arith in
-      let P : ℕ → Type 0 = λ t. IsDivisor d t (at mixed) in
+      let P : ℕ → Type 0 = λ t. IsDivisor t (at mixed) d in
       record { divided = (pos by, by_positive, h); primitive = quotients_primitive d by (width - 1) (at mixed) q (subst P s u) e (λ j l. h j (omega arith)) }
 
   pub reduced_from : (q : ℕ → ℤ) → ((j : ℕ) → j < width → at mixed j ≡ pos by *ℤ q j) → IsReduced lead c width row q
@@ -151,22 +150,23 @@ kept_reduced lead row c width own z prim = record {
 }
 
 -- ---- a row divided
-pub divided_row : (row new : List ℤ) (d by : ℕ) → 0 < length row → IsDivisor d (length row) (at row) → by ≡ max d 1 → ((j : ℕ) → j < length row → at row j ≡ pos by *ℤ at new j) → IsDivided (length row) (at row) (at new)
-divided_row row new d by some u e h = record {
+divided_by : (row new : List ℤ) (d by : ℕ) → 0 < length row → IsDivisor (length row) (at row) d → by ≡ max d 1 → ((j : ℕ) → j < length row → at row j ≡ pos by *ℤ at new j) → IsDivided (length row) (at row) (at new)
+divided_by row new d by some u e h = record {
   divided = (pos by, omega (arith, ints), h);
   primitive =
       (let s : length row ≡ suc (length row - 1) = omega arith in
-      let P : ℕ → Type 0 = λ t. IsDivisor d t (at row) in
+      let P : ℕ → Type 0 = λ t. IsDivisor t (at row) d in
       quotients_primitive d by (length row - 1) (at row) (at new) (subst P s u) e (λ j l. h j (omega arith)));
 }
 
-pub undivided_row : (row : List ℤ) (d by : ℕ) → 0 < length row → IsDivisor d (length row) (at row) → by ≡ max d 1 → by ≤ 1 → IsDivided (length row) (at row) (at row)
-undivided_row row d by some u e small =
-    let one : 1 ≡ by = omega arith in
-    divided_row row row d by some u e (λ j l. sym (one_times (at row j)) ∙ ap (λ t. pos t *ℤ at row j) one)
+pub divided_row : (row new : List ℤ) (d : ℕ) → 0 < length row → IsDivisor (length row) (at row) d → 1 < d → IsQuotient d row new (length row) → IsDivided (length row) (at row) (at new)
+divided_row row new d some u more q = divided_by row new d d some u (omega (arith, more)) q.each
 
--- all numbers divide 0, which is narrow
-pub nothing_common : (z : ℤ) → z ≡ pos 0 → ((d : ℕ) → d ∣ unsigned_abs z) × (unsigned_abs z < 2 ^ 62)
-nothing_common z e =
-    let P : ℤ → Type 0 = λ t. ((d : ℕ) → d ∣ unsigned_abs t) × (unsigned_abs t < 2 ^ 62) in
-    subst P (sym e) (λ d. dvd-zero d, omega arith)
+pub undivided_row : (row : List ℤ) (d : ℕ) → 0 < length row → IsDivisor (length row) (at row) d → d ≤ 1 → IsDivided (length row) (at row) (at row)
+undivided_row row d some u small = divided_by row row d 1 some u (omega (arith, small)) (λ j l. sym (one_times (at row j)))
+
+-- of no numbers it is 0, which is narrow
+pub nothing_common : (f : ℕ → ℤ) (z : ℤ) → z ≡ pos 0 → IsDivisor 0 f (unsigned_abs z) × (unsigned_abs z < 2 ^ 62)
+nothing_common f z e =
+    let P : ℤ → Type 0 = λ t. IsDivisor 0 f (unsigned_abs t) × (unsigned_abs t < 2 ^ 62) in
+    subst P (sym e) (record { divides = λ j l. absurd (omega arith); greatest = λ d l. dvd-zero d }, omega arith)

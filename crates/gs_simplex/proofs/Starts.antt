@@ -1,16 +1,10 @@
-use Rattle.std.proofs.Common.{◌≡◌, inl, inr, ℕ, zero, suc, ◌+◌, ◌-◌, ◌*◌, ◌<◌, ◌≤◌, ◌^◌, List, [], length, ℤ, pos, ◌-ℤ◌, ◌*ℤ◌, neg_ℤ, ◌<ℤ◌, unsigned_abs, refl, sym, ap, subst, ◌∙◌, arith}
-use Prim.Native.Nat.{◌∣◌}
+use Rattle.std.proofs.Common.{◌≡◌, inl, inr, ℕ, zero, suc, ◌+◌, ◌-◌, ◌*◌, ◌<◌, ◌^◌, List, [], length, ℤ, pos, neg_ℤ, unsigned_abs, sym, ap, subst, ◌∙◌, arith}
 use Rattle.std.proofs.lemmas.Bool.{cases_eq, cases_lt}
-use Rattle.std.proofs.Math.Nat.{eq-one_of_dvd-one}
 use Rattle.gs_rows.specs.declared.Program.{Program}
-use Rattle.gs_rows.specs.Sums.{sum_to}
 use Rattle.gs_rows.specs.Rows.{IsNarrow, IsPrimitive}
-use Rattle.gs_rows.specs.Program.{number, aim_of, IsShaped, IsRowsOf}
+use Rattle.gs_rows.specs.Program.{IsShaped, IsRowsOf}
 use Rattle.gs_rows.proofs.Exists.{empty_rows_from}
-use Rattle.gs_rows.proofs.Ring.{ring, linear, times_zero, zero_times, cancel_zero}
-use Rattle.gs_rows.proofs.Sums.{sum_zero}
-use Rattle.gs_rows.proofs.Pivot.{combination_divided}
-use Rattle.gs_rows.proofs.Solutions.{only_at, only_at_same, only_at_other, program_row}
+use Rattle.gs_rows.proofs.Ring.{cancel_zero}
 use Rattle.gs_simplex.specs.Numbers.{at, cell, AllNarrow, IsDivided}
 use Rattle.gs_simplex.specs.Table.{table_rows, table_aim, IsTable}
 use Rattle.gs_simplex.specs.State.{IsRaw}

@@ -1,5 +1,6 @@
 -- Rows as lists of numbers, and what becomes of one row in a pivot.
 use Rattle.std.specs.Prelude.{◌≡◌, ◌≢◌, ℕ, ◌+◌, ◌-◌, ◌*◌, ◌<◌, ◌≤◌, ◌^◌, ◌⊎◌, ℤ, pos, neg_ℤ, ◌≤ℤ◌, ◌-ℤ◌, ◌*ℤ◌, ◌<ℤ◌, List, slice_index_or, length, unsigned_abs}
+use Prim.Native.Nat.{◌∣◌}
 use Rattle.gs_rows.specs.Rows.{IsNarrow, IsPrimitive}
 
 -- the number at a place, 0 past the end
@@ -17,6 +18,11 @@ AllWithin xs = (j : ℕ) → j < length xs → unsigned_abs (at xs j) ≤ 2 ^ 12
 -- each number is at most `most` in size
 abbrev pub AllAtMost : List ℤ → ℕ → Type 0
 AllAtMost xs most = (j : ℕ) → j < length xs → unsigned_abs (at xs j) ≤ most
+
+-- the greatest number that divides the first `count` numbers, 0 where all are 0
+pub record IsDivisor (count : ℕ) (f : ℕ → ℤ) (d : ℕ) : Type 0 where
+  pub divides : (j : ℕ) → j < count → d ∣ unsigned_abs (f j)
+  pub greatest : (e : ℕ) → ((j : ℕ) → j < count → e ∣ unsigned_abs (f j)) → e ∣ d
 
 -- a and b are own and far over a common divisor
 pub record IsShared (own far a b : ℤ) : Type 0 where

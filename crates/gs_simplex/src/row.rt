@@ -4,7 +4,7 @@ ghost use Rattle.std.specs.Prelude.{◌≡◌, ◌≢◌, MatchOption, ℕ, ◌+
 ghost use Prim.Native.Nat.{◌∣◌};
 ghost use Rattle.std.specs.Int.{IsGcd};
 ghost use Rattle.gs_rows.specs.Rows.{IsNarrow, IsPrimitive};
-ghost use Rattle.gs_simplex.specs.Numbers.{at, AllNarrow, AllWithin, AllAtMost, IsShared, IsQuotient, IsWideQuotient, IsReduced, IsReducedTo, IsDivided};
+ghost use Rattle.gs_simplex.specs.Numbers.{at, AllNarrow, AllWithin, AllAtMost, IsDivisor, IsShared, IsQuotient, IsWideQuotient, IsReduced, IsReducedTo, IsDivided};
 ghost use Rattle.gs_simplex.specs.Live.{IsSupport, IsChange, IsTouched};
 
 use crate::exact::{Divisor, short_gcd};
@@ -194,8 +194,7 @@ fn common_divisor(found: u128, number: u128) -> u128
 // The greatest number that divides all of `mixed`, 0 where all are 0.
 fn divisor(mixed: &[i128]) -> u128
     requires { AllWithin mixed.now }
-    ensures divides { (j : ℕ) → j < length mixed.now → result ∣ unsigned_abs (at mixed.now j) }
-    ensures greatest { (d : ℕ) → ((j : ℕ) → j < length mixed.now → d ∣ unsigned_abs (at mixed.now j)) → d ∣ result }
+    ensures { IsDivisor (length mixed.now) (at mixed.now) result }
 {
     let mut found: u128 = 0;
     for number in mixed {
@@ -227,8 +226,7 @@ fn narrow_common_divisor(found: Divisor, number: i64) -> Divisor
 // The greatest number that divides all of the narrow numbers of `row`, 0 where all are 0.
 fn narrow_divisor(row: &[i64]) -> u64
     requires { AllNarrow row.now }
-    ensures divides { (j : ℕ) → j < length row.now → result ∣ unsigned_abs (at row.now j) }
-    ensures greatest { (d : ℕ) → ((j : ℕ) → j < length row.now → d ∣ unsigned_abs (at row.now j)) → d ∣ result }
+    ensures { IsDivisor (length row.now) (at row.now) result }
 {
     let mut found = Divisor::of(0);
     for number in row {
@@ -298,13 +296,14 @@ fn divide_all(row: &mut [i64], by: u64)
 }
 
 // Divides `row` by its greatest common divisor.
+#[tactic(auto, using(crate::proofs::Reduce::divided_row, crate::proofs::Reduce::undivided_row, crate::proofs::Reduce::divisor_narrow))]
 pub(crate) fn divide_row(row: &mut [i64])
     requires some { 0 < length row.old }
     requires narrow { AllNarrow row.old }
     ensures divided { IsDivided (length row.old) (at row.old) (at row.new) }
     ensures narrow { AllNarrow row.new }
 {
-    let by = narrow_divisor(row).max(1);
+    let by = narrow_divisor(row);
     if by > 1 {
         divide_all(row, by);
     }
@@ -315,8 +314,7 @@ pub(crate) fn divide_row(row: &mut [i64])
 fn divisor_at(row: &[i64], places: &[u32], found: usize) -> u64
     requires narrow { AllNarrow row.now }
     requires support { IsSupport places.now found (length row.now) (at row.now) (at row.now) }
-    ensures divides { (j : ℕ) → j < length row.now → result ∣ unsigned_abs (at row.now j) }
-    ensures greatest { (d : ℕ) → ((j : ℕ) → j < length row.now → d ∣ unsigned_abs (at row.now j)) → d ∣ result }
+    ensures { IsDivisor (length row.now) (at row.now) result }
 {
     let mut common = Divisor::of(0);
     for k in 0..found {
@@ -349,6 +347,7 @@ fn divide_all_at(row: &mut [i64], places: &[u32], found: usize, by: u64)
 }
 
 // Divides a row that is 0 outside the first `found` places by its greatest common divisor.
+#[tactic(auto, using(crate::proofs::Reduce::divided_row, crate::proofs::Reduce::undivided_row, crate::proofs::Reduce::divisor_narrow))]
 fn divide_row_at(row: &mut [i64], places: &[u32], found: usize)
     requires some { 0 < length row.old }
     requires narrow { AllNarrow row.old }
@@ -356,7 +355,7 @@ fn divide_row_at(row: &mut [i64], places: &[u32], found: usize)
     ensures divided { IsDivided (length row.old) (at row.old) (at row.new) }
     ensures narrow { AllNarrow row.new }
 {
-    let by = divisor_at(row, places, found).max(1);
+    let by = divisor_at(row, places, found);
     if by > 1 {
         divide_all_at(row, places, found, by);
     }

@@ -1,7 +1,5 @@
-use Rattle.std.proofs.Common.{ℕ, ◌<◌, unsigned_abs}
-use Prim.Native.Nat.{◌∣◌}
-use Rattle.gs_simplex.specs.Numbers.{at}
+use Rattle.gs_simplex.specs.Numbers.{at, IsDivisor}
 use Rattle.gs_simplex.proofs.row.divisor.Given as goal
 
 abbrev pub invariant-loop-number : goal.invariant-loop-number
-invariant-loop-number l = ((j : ℕ) → j < l.number-index → l.found ∣ unsigned_abs (at l.mixed j)) × ((d : ℕ) → ((j : ℕ) → j < l.number-index → d ∣ unsigned_abs (at l.mixed j)) → d ∣ l.found)
+invariant-loop-number l = IsDivisor l.number-index (at l.mixed) l.found

@@ -5,7 +5,7 @@ use Rattle.std.proofs.lemmas.Nat.{mul-le}
 use Rattle.gs_simplex.specs.Live.{IsSupport}
 use Rattle.gs_simplex.proofs.Fits.{kept_64}
 use Rattle.gs_simplex.proofs.Lives.{change_touched, support_mixed}
-use Rattle.gs_simplex.proofs.Reduce.{IsDivisor, divisor_small, by_divides, reduced_divided, reduced_from, reduced_wide}
+use Rattle.gs_simplex.proofs.Reduce.{divisor_small, by_divides, reduced_divided, reduced_from, reduced_wide}
 use Rattle.gs_simplex.proofs.row.reduce_row.Goals as goal
 
 -- the places at which the row changes
@@ -48,13 +48,13 @@ divide_row_at-requires-clause-support c =
 pub narrow_into-requires-clause-small : goal.narrow_into-requires-clause-small
 narrow_into-requires-clause-small c =
     let mixed = c.mix.new.mixed in
-    let h : c.divisor.result ≤ 2 ^ 125 = divisor_small c.divisor.result (length mixed) (2 ^ 125) (at mixed) (record { divides = c.divisor.ensures.divides; greatest = c.divisor.ensures.greatest }) c.mix.ensures.within in
+    let h : c.divisor.result ≤ 2 ^ 125 = divisor_small c.divisor.result (length mixed) (2 ^ 125) (at mixed) c.divisor.ensures c.mix.ensures.within in
     omega arith
 
 pub narrow_into-requires-clause-divides : goal.narrow_into-requires-clause-divides
 narrow_into-requires-clause-divides c =
     let mixed = c.mix.new.mixed in
-    by_divides c.divisor.result c.max-by.result (length mixed) (at mixed) (record { divides = c.divisor.ensures.divides; greatest = c.divisor.ensures.greatest }) c.max-by.ensures
+    by_divides c.divisor.result c.max-by.result (length mixed) (at mixed) c.divisor.ensures c.max-by.ensures
 
 -- the multipliers as they are stored
 stored_shared : (lc rc own far : ℤ) → IsNarrow lc → IsNarrow rc → IsNarrow own → IsNarrow far → IsShared (to_z w64 (of_z w64 lc)) (to_z w64 (of_z w64 rc)) own far
@@ -88,7 +88,7 @@ returns c =
     let sh = stored_shared (at lead k) (at row k) m.result.0 m.result.1 (c.requires.narrow_lead k inside) (c.requires.narrow_row k (omega (arith, c.requires.long))) m.ensures.narrow_own m.ensures.narrow_far m.ensures.shared in
     let own = to_z w64 (of_z w64 m.result.0) in let far = to_z w64 (of_z w64 m.result.1) in
     let is : (j : ℕ) → j < length lead → at mixed j ≡ own *ℤ at row j -ℤ far *ℤ at lead j = λ j l. c.mix.ensures.mixed j (omega (arith, c.requires.long)) in
-    let u : IsDivisor c.divisor.result (length mixed) (at mixed) = record { divides = c.divisor.ensures.divides; greatest = c.divisor.ensures.greatest } in
+    let u = c.divisor.ensures in
     let by = c.max-by.result in
     elim c.narrow_into.result as (λ r. MatchOption r (IsQuotient by mixed new (length mixed)) (λ w. IsWideQuotient by mixed w.column w.number)
     → MatchOption r (IsReduced (at lead) k (length lead) (at row) (at new) × AllNarrow new) (λ w. IsReducedTo (at lead) k (length lead) (at row) w.column w.number)) [
