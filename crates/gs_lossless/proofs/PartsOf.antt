@@ -1,5 +1,5 @@
 -- What is known of the parts of a signal on one side.
-use Rattle.std.proofs.Common.{◌≡◌, ℕ, ℤ, suc, ◌<◌, ◌^◌, Bool, List, length, map, ap, sym, subst, ◌∙◌, arith, sum_by}
+use Rattle.std.proofs.Common.{◌≡◌, ℕ, ℤ, suc, ◌+◌, ◌-◌, ◌<◌, ◌^◌, Bool, List, length, map, ap, sym, subst, ◌∙◌, arith, sum_by}
 use Rattle.std.specs.Prelude.{All, ◌==◌}
 use Rattle.std.specs.List.{range_with_len}
 use Rattle.gs_model.specs.Classes.{ClassLists}
@@ -27,15 +27,18 @@ pub before_last : (f : Frame) (side : Side) (round : ℕ) → side ≡ Children 
 before_last f Deals round is h = absurd (cc)
 before_last f Children round is h = h.1
 
-pub of_children : (s : Signals) (side : Side) (round x : ℕ) (keys : List ℕ) (parts : List Part) → side ≡ Children → HasSide (frame_of (rules_of s)) side round → x < length (signals (rules_of s) round)
-    → parts ≡ map (child_part keys) (range_with_len (first_child (rules_of s) round x) (child_count (rules_of s) round x)) → ArePartsOf (rules_of s) side round x keys parts
-of_children s Deals round x keys parts is h l e = absurd (cc)
-of_children s Children round x keys parts is h l e =
+pub of_children : (s : Signals) (side : Side) (round x : ℕ) (keys : List ℕ) (parts : List Part) (start end : ℕ) → side ≡ Children → HasSide (frame_of (rules_of s)) side round
+    → x < length (signals (rules_of s) round) → start ≡ first_child (rules_of s) round x → end ≡ first_child (rules_of s) round x + child_count (rules_of s) round x
+    → parts ≡ map (child_part keys) (range_with_len start (end - start)) → ArePartsOf (rules_of s) side round x keys parts
+of_children s Deals round x keys parts start end is h l from to e = absurd (cc)
+of_children s Children round x keys parts start end is h l from to e =
     let g = rules_of s in
     let first = first_child g round x in
     let n = child_count g round x in
     let run = child_run g (playable s) round x h.0 (omega (arith, h.1, last_is g)) l in
-    subst (ArePartsOf g Children round x keys) (sym e) (record {
+    let many : end - start ≡ n = omega (arith, from, to) in
+    let all = e ∙ ap (λ k. map (child_part keys) (range_with_len k (end - start))) from ∙ ap (λ k. map (child_part keys) (range_with_len first k)) many in
+    subst (ArePartsOf g Children round x keys) (sym all) (record {
       some = children_some keys first n;
       fits = omega (arith, children_total keys first n, children_within g round x l, s.game.now.limits.signals_in (suc round) (omega (arith, h.1, last_is g)));
       amounts = λ lists e c o. ap (λ (ks : List ℕ). sum_at (map (child_part ks) (range_with_len first n)) c o) e ∙ children_amount g lists round x first n run c o;

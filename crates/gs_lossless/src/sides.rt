@@ -1,8 +1,8 @@
 //! What is compared of a signal: the sums of its deals, or of its children.
 
-ghost use Rattle.std.specs.{Prelude.{◌≡◌, ◌+◌, ◌++◌, ◌<◌, ◌≤◌, ◌^◌, All, IfOk, OnOk, length, map, reverse}, List.{range_with_len}};
-ghost use Rattle.gs_model.specs.{Classes.{ClassLists}, Deals.{Deal as Dealt, deals as all_deals}, Frame.{frame_of}, Game.{round_count}};
-ghost use Rattle.gs_model.specs.Signals.{child_count, first_child, signals as signals_in};
+ghost use Rattle.std.specs.{Prelude.{◌≡◌, ◌-◌, ◌++◌, ◌<◌, ◌≤◌, ◌^◌, All, IfOk, OnOk, length, map, reverse}, List.{range_with_len}};
+ghost use Rattle.gs_model.specs.{Classes.{ClassLists}, Deals.{Deal as Dealt, deals as all_deals}, Frame.{frame_of}};
+ghost use Rattle.gs_model.specs.Signals.{signals as signals_in};
 ghost use Rattle.gs_tree.specs.{Trees.{rules_of}, Walk.{last_count}};
 ghost use Rattle.gs_lossless.specs.Amounts.{AreAmounts, HasSide, child_part, deal_part, deal_parts as parts_between, key_count, keys_of};
 
@@ -73,24 +73,14 @@ fn run_parts(
     Ok(parts)
 }
 
-/// The children of a signal as parts, each for its class.
-fn child_parts(
-    alloc: Global,
-    signals: &Signals,
-    round: u8,
-    signal: u32,
-    keys: &[u32],
-) -> Result<Vec<Part>, AllocError>
-    requires some { 0 < round }
-    requires before_last { round < round_count (rules_of signals.now) }
-    requires in_range { signal < length (signals_in (rules_of signals.now) round) }
-    requires all { length keys.now ≡ length (signals_in (rules_of signals.now) (round + 1)) }
-    ensures { IfOk result (λ v. v.items ≡ map (child_part keys.now)
-        (range_with_len (first_child (rules_of signals.now) round signal) (child_count (rules_of signals.now) round signal))) }
+/// A run of children as parts, each for its class.
+fn child_parts(alloc: Global, keys: &[u32], run: Run) -> Result<Vec<Part>, AllocError>
+    requires ordered { run.first ≤ run.end }
+    requires within { run.end ≤ length keys.now }
+    ensures { IfOk result (λ v. v.items ≡ map (child_part keys.now) (range_with_len run.first (run.end - run.first))) }
 {
-    let (first, end) = signals.children(round, signal);
-    let mut parts = Vec::with_capacity(alloc, (end - first) as usize)?;
-    for child in first..end {
+    let mut parts = Vec::with_capacity(alloc, (run.end - run.first) as usize)?;
+    for child in run.first..run.end {
         parts.push(Part {
             class: keys[child as usize],
             outcome: 0,
@@ -117,7 +107,10 @@ pub fn side_sums(
         → AreAmounts (frame_of (rules_of signals.now)) lists side round signal (reverse v.items)) }
 {
     let parts = match side {
-        Side::Children => child_parts(alloc, signals, round, signal, keys)?,
+        Side::Children => {
+            let (first, end) = signals.children(round, signal);
+            child_parts(alloc, keys, Run { first, end })?
+        }
         Side::Deals => {
             let run = descendants(signals, round, signal);
             run_parts(alloc, signals, keys, round == signals.rounds(), run)?

@@ -4,4 +4,4 @@ use Rattle.gs_lossless.specs.Amounts.{child_part}
 use Rattle.gs_lossless.proofs.sides.child_parts.Given as goal
 
 abbrev pub invariant-loop-child : goal.invariant-loop-child
-invariant-loop-child l = l.parts.items ≡ map (child_part l.keys) (range_with_len l.first (l.child - l.first))
+invariant-loop-child l = l.parts.items ≡ map (child_part l.keys) (range_with_len l.fn.run.first (l.child - l.fn.run.first))
