@@ -6,6 +6,7 @@ ghost use Rattle.gs_filter.specs.Filter.{single_classes};
 ghost use Rattle.gs_tree.specs.Trees.{rules_of};
 ghost use Rattle.gs_lossless.specs.Stops.{IsUnlike, IsUnlikeIn, MatchUnlike};
 
+use crate::grouped::Grouped;
 use crate::scan::first_apart;
 use crate::sides::Side;
 use crate::stop::CheckStop;
@@ -54,56 +55,49 @@ impl<'a> Lossless<'a> {
 }
 
 /// Whether the last round's sums and the children of all rounds agree within classes: then the classes are lossless.
-fn settles(alloc: Global, signals: &Signals, classes: &Classes) -> Result<bool, AllocError>
-    requires { classes.now.parents ≡ (frame_of (rules_of signals.now)).parents }
-    ensures { IfOk result (λ b. IsTrue b → IsLossless (frame_of (rules_of signals.now)) classes.now.lists) }
+fn settles(alloc: Global, grouped: &Grouped<'_>) -> Result<bool, AllocError>
+    ensures { IfOk result (λ b. IsTrue b → IsLossless (frame_of (rules_of grouped.now.signals.now)) grouped.now.classes.now.lists) }
 {
-    let _rounds = classes.rounds();
-    let last = signals.rounds();
+    let _rounds = grouped.classes.rounds();
+    let last = grouped.signals.rounds();
     for round in 1..last {
-        let end = signals.count(round);
-        if first_apart(alloc, signals, classes, Side::Children, round, end)?.is_some() {
+        let end = grouped.signals.count(round);
+        if first_apart(alloc, grouped, Side::Children, round, end)?.is_some() {
             return Ok(false);
         }
     }
-    let end = signals.count(last);
-    Ok(first_apart(alloc, signals, classes, Side::Deals, last, end)?.is_none())
+    let end = grouped.signals.count(last);
+    Ok(first_apart(alloc, grouped, Side::Deals, last, end)?.is_none())
 }
 
 /// The first signal of a round that is not like the first member of its class. The last round has no children.
-fn unlike_in(
-    alloc: Global,
-    signals: &Signals,
-    classes: &Classes,
-    round: u8,
-) -> Result<Option<u32>, AllocError>
-    requires parents { classes.now.parents ≡ (frame_of (rules_of signals.now)).parents }
+fn unlike_in(alloc: Global, grouped: &Grouped<'_>, round: u8) -> Result<Option<u32>, AllocError>
     requires some { 0 < round }
-    requires top { round ≤ last_round (frame_of (rules_of signals.now)) }
-    ensures { IfOk result (MatchUnlike (frame_of (rules_of signals.now)) classes.now.lists round) }
+    requires top { round ≤ last_round (frame_of (rules_of grouped.now.signals.now)) }
+    ensures { IfOk result (MatchUnlike (frame_of (rules_of grouped.now.signals.now)) grouped.now.classes.now.lists round) }
 {
-    let apart = first_deals_apart(alloc, signals, classes, round)?;
-    if round == signals.rounds() {
+    let apart = first_deals_apart(alloc, grouped, round)?;
+    if round == grouped.signals.rounds() {
         return Ok(apart);
     }
-    let end = apart.unwrap_or(signals.count(round));
-    let before = first_apart(alloc, signals, classes, Side::Children, round, end)?;
+    let end = apart.unwrap_or(grouped.signals.count(round));
+    let before = first_apart(alloc, grouped, Side::Children, round, end)?;
     Ok(before.or(apart))
 }
 
 /// The first unlike pair, or none where the classes are lossless.
-fn first_unlike(alloc: Global, signals: &Signals, classes: &Classes) -> Result<(), CheckStop>
-    requires { classes.now.parents ≡ (frame_of (rules_of signals.now)).parents }
-    ensures lossless { IfOk result (λ _. IsLossless (frame_of (rules_of signals.now)) classes.now.lists) }
-    ensures unlike { IfErr result (IsUnlikeIn (frame_of (rules_of signals.now)) classes.now.lists) }
-    ensures refuted { IfErr result (λ e. IsUnlike e → IsLossless (frame_of (rules_of signals.now)) classes.now.lists → ⊥) }
-    ensures single { IfErr result (λ e. IsUnlike e → classes.now.lists ≡ single_classes classes.now.parents → ⊥) }
+fn first_unlike(alloc: Global, grouped: &Grouped<'_>) -> Result<(), CheckStop>
+    ensures lossless { IfOk result (λ _. IsLossless (frame_of (rules_of grouped.now.signals.now)) grouped.now.classes.now.lists) }
+    ensures unlike { IfErr result (IsUnlikeIn (frame_of (rules_of grouped.now.signals.now)) grouped.now.classes.now.lists) }
+    ensures refuted { IfErr result (λ e. IsUnlike e → IsLossless (frame_of (rules_of grouped.now.signals.now)) grouped.now.classes.now.lists → ⊥) }
+    ensures single { IfErr result (λ e. IsUnlike e → grouped.now.classes.now.lists ≡ single_classes grouped.now.classes.now.parents → ⊥) }
 {
-    let _rounds = classes.rounds();
-    for before in 0..signals.rounds() {
+    let _rounds = grouped.classes.rounds();
+    for before in 0..grouped.signals.rounds() {
         let round = before + 1;
-        if let Some(second) = unlike_in(alloc, signals, classes, round)? {
-            let first = classes.first(round, classes.class_of(round, second));
+        if let Some(second) = unlike_in(alloc, grouped, round)? {
+            let class = grouped.classes.class_of(round, second);
+            let first = grouped.classes.first(round, class);
             return Err(CheckStop::Unlike {
                 round,
                 first,
@@ -130,8 +124,9 @@ pub fn check<'a>(
     ensures refuted { IfErr result (λ e. IsUnlike e → IsLossless (frame_of (rules_of signals.entry.now)) classes.entry.now.lists → ⊥) }
     ensures single { IfErr result (λ e. IsUnlike e → classes.entry.now.lists ≡ single_classes classes.entry.now.parents → ⊥) }
 {
-    if !settles(alloc, signals, classes)? {
-        first_unlike(alloc, signals, classes)?;
+    let grouped = Grouped { signals, classes };
+    if !settles(alloc, &grouped)? {
+        first_unlike(alloc, &grouped)?;
     }
     Ok(Lossless { signals, classes })
 }

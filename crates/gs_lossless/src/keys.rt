@@ -5,6 +5,7 @@ ghost use Rattle.gs_model.specs.Frame.{frame_of};
 ghost use Rattle.gs_tree.specs.Trees.{rules_of};
 ghost use Rattle.gs_lossless.specs.Amounts.{HasSide, keys_of};
 
+use crate::grouped::Grouped;
 use crate::runs::ancestor;
 use crate::sides::Side;
 use gs_filter::Classes;
@@ -25,21 +26,16 @@ pub fn side_keys(
 {
     match side {
         Side::Children => Vec::from_slice(alloc, &classes.lists()[usize::from(round)]),
-        Side::Deals => ancestor_classes(alloc, signals, classes, round),
+        Side::Deals => ancestor_classes(alloc, &Grouped { signals, classes }, round),
     }
 }
 
 /// For each signal of the last round the class of its ancestor in a round.
-fn ancestor_classes(
-    alloc: Global,
-    signals: &Signals,
-    classes: &Classes,
-    round: u8,
-) -> Result<Vec<u32>, AllocError>
-    requires parents { classes.now.parents ≡ (frame_of (rules_of signals.now)).parents }
-    requires side { HasSide (frame_of (rules_of signals.now)) Side.Deals round }
-    ensures { IfOk result (λ v. v.items ≡ keys_of (frame_of (rules_of signals.now)) classes.now.lists Side.Deals round) }
+fn ancestor_classes(alloc: Global, grouped: &Grouped<'_>, round: u8) -> Result<Vec<u32>, AllocError>
+    requires { HasSide (frame_of (rules_of grouped.now.signals.now)) Side.Deals round }
+    ensures { IfOk result (λ v. v.items ≡ keys_of (frame_of (rules_of grouped.now.signals.now)) grouped.now.classes.now.lists Side.Deals round) }
 {
+    let Grouped { signals, classes } = *grouped;
     let _rounds = classes.rounds();
     let count = signals.count(signals.rounds());
     let mut keys = Vec::with_capacity(alloc, count as usize)?;

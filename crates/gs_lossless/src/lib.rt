@@ -2,6 +2,7 @@
 #![tactic(auto)]
 
 mod checking;
+mod grouped;
 mod keys;
 mod parts;
 mod runs;
@@ -11,6 +12,7 @@ mod stop;
 mod stopped;
 
 pub use checking::{Lossless, check};
+pub use grouped::Grouped;
 pub use keys::side_keys;
 pub use parts::Part;
 pub use runs::{Run, ancestor, descendants, descendants_in};

@@ -5,11 +5,10 @@ ghost use Rattle.gs_model.specs.{Frame.{frame_of}, Signals.{signals as signals_i
 ghost use Rattle.gs_tree.specs.Trees.{rules_of};
 ghost use Rattle.gs_lossless.specs.{Amounts.{HasSide}, Scans.{IsFirstApart}};
 
+use crate::grouped::Grouped;
 use crate::keys::side_keys;
 use crate::parts::{Part, are_same};
 use crate::sides::{Side, side_sums};
-use gs_filter::Classes;
-use gs_tree::Signals;
 use std::alloc::{AllocError, Global};
 
 /// A list for each class of a round, all empty.
@@ -27,17 +26,16 @@ fn empty_lists(alloc: Global, classes: u32) -> Result<Vec<Vec<Part>>, AllocError
 /// kept where the class has more members.
 pub(crate) fn first_apart(
     alloc: Global,
-    signals: &Signals,
-    classes: &Classes,
+    grouped: &Grouped<'_>,
     side: Side,
     round: u8,
     end: u32,
 ) -> Result<Option<u32>, AllocError>
-    requires parents { classes.now.parents ≡ (frame_of (rules_of signals.now)).parents }
-    requires side { HasSide (frame_of (rules_of signals.now)) side round }
-    requires within { end ≤ length (signals_in (rules_of signals.now) round) }
-    ensures { IfOk result (IsFirstApart (frame_of (rules_of signals.now)) classes.now.lists side round end) }
+    requires side { HasSide (frame_of (rules_of grouped.now.signals.now)) side round }
+    requires within { end ≤ length (signals_in (rules_of grouped.now.signals.now) round) }
+    ensures { IfOk result (IsFirstApart (frame_of (rules_of grouped.now.signals.now)) grouped.now.classes.now.lists side round end) }
 {
+    let Grouped { signals, classes } = *grouped;
     let _rounds = classes.rounds();
     let keys = side_keys(alloc, signals, classes, side, round)?;
     let mut kept = empty_lists(alloc, classes.classes(round))?;

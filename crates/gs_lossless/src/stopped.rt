@@ -9,6 +9,7 @@ ghost use Rattle.gs_tree.specs.Trees.{rules_of};
 ghost use Rattle.gs_lossless.specs.{Amounts.{HasSide}, Scans.{IsFirstApart}, Stopped.{stopped_lists as lists_after}};
 ghost use Rattle.gs_lossless.specs.declared.sides.Side.TheVariants.{Deals};
 
+use crate::grouped::Grouped;
 use crate::scan::first_apart;
 use crate::sides::Side;
 use gs_filter::{ClassFault, Classes};
@@ -58,23 +59,27 @@ pub fn stopped_classes(
 /// The first signal of a round whose deals weigh otherwise than those of the first member of its class.
 pub(crate) fn first_deals_apart(
     alloc: Global,
-    signals: &Signals,
-    classes: &Classes,
+    grouped: &Grouped<'_>,
     round: u8,
 ) -> Result<Option<u32>, AllocError>
-    requires parents { classes.now.parents ≡ (frame_of (rules_of signals.now)).parents }
-    requires side { HasSide (frame_of (rules_of signals.now)) Deals round }
-    ensures { IfOk result (IsFirstApart (frame_of (rules_of signals.now)) classes.now.lists Deals round (signal_count (frame_of (rules_of signals.now)) round)) }
+    requires { HasSide (frame_of (rules_of grouped.now.signals.now)) Deals round }
+    ensures { let f = frame_of (rules_of grouped.now.signals.now) in
+        IfOk result (IsFirstApart f grouped.now.classes.now.lists Deals round (signal_count f round)) }
 {
+    let Grouped { signals, classes } = *grouped;
     let _rounds = classes.rounds();
     let end = signals.count(round);
     if round < signals.rounds() {
         if let Some(game) = signals.game().stopped(alloc, round)? {
             let stopped = Signals::of(alloc, &game)?;
             if let Some(seen) = stopped_classes(alloc, &stopped, classes, round)? {
-                return first_apart(alloc, &stopped, &seen, Side::Deals, round, end);
+                let seen = Grouped {
+                    signals: &stopped,
+                    classes: &seen,
+                };
+                return first_apart(alloc, &seen, Side::Deals, round, end);
             }
         }
     }
-    first_apart(alloc, signals, classes, Side::Deals, round, end)
+    first_apart(alloc, grouped, Side::Deals, round, end)
 }

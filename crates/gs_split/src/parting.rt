@@ -6,9 +6,9 @@ ghost use Rattle.gs_filter.specs.Rows.{rows};
 ghost use Rattle.gs_tree.specs.Trees.{rules_of};
 ghost use Rattle.gs_split.specs.Turns.{AreParted, HaveNumbers, IsRoundParted, classes_above};
 
-use crate::rounds::round_classes;
+use crate::rounds::{TurnKeys, round_classes};
 use gs_filter::Classes;
-use gs_tree::Signals;
+use gs_lossless::Grouped;
 use std::alloc::{AllocError, Global};
 
 /// The classes of the last of some rounds; before round 1 one signal, of class 1.
@@ -24,41 +24,43 @@ fn last_classes(lists: &[Vec<u32>]) -> &[u32]
 /// The new classes of a round, by a number for each signal. `above` has the new classes of the round before.
 fn round_parted(
     alloc: Global,
-    signals: &Signals,
-    classes: &Classes,
+    grouped: &Grouped<'_>,
     round: u8,
     above: &[u32],
     numbers: &[u32],
 ) -> Result<Vec<u32>, AllocError>
-    requires parents { classes.now.parents ≡ (frame_of (rules_of signals.now)).parents }
     requires some { 0 < round }
-    requires top { round ≤ last_round (frame_of (rules_of signals.now)) }
+    requires top { round ≤ last_round (frame_of (rules_of grouped.now.signals.now)) }
     requires any { round ≡ 1 → 0 < length above.now }
-    requires above { 1 < round → length above.now ≡ signal_count (frame_of (rules_of signals.now)) (round - 1) }
-    requires numbers { length numbers.now ≡ signal_count (frame_of (rules_of signals.now)) round }
-    ensures { IfOk result (λ v. IsRoundParted (frame_of (rules_of signals.now)) classes.now.lists above.now numbers.now round v.items) }
+    requires above { 1 < round → length above.now ≡ signal_count (frame_of (rules_of grouped.now.signals.now)) (round - 1) }
+    requires numbers { length numbers.now ≡ signal_count (frame_of (rules_of grouped.now.signals.now)) round }
+    ensures { IfOk result (λ v. IsRoundParted (frame_of (rules_of grouped.now.signals.now)) grouped.now.classes.now.lists above.now numbers.now round v.items) }
 {
-    let _rounds = classes.rounds();
-    let before = &classes.lists()[usize::from(round) - 1];
-    round_classes(alloc, before, above, signals.parents_in(round), numbers)
+    let _rounds = grouped.classes.rounds();
+    let before = &grouped.classes.lists()[usize::from(round) - 1];
+    let keys = TurnKeys {
+        before,
+        above,
+        parents: grouped.signals.parents_in(round),
+        numbers,
+    };
+    round_classes(alloc, &keys)
 }
 
 /// The new classes of all rounds, by a number for each signal of each round.
 fn parted_lists(
     alloc: Global,
-    signals: &Signals,
-    classes: &Classes,
+    grouped: &Grouped<'_>,
     numbers: &[Vec<u32>],
 ) -> Result<Vec<Vec<u32>>, AllocError>
-    requires parents { classes.now.parents ≡ (frame_of (rules_of signals.now)).parents }
-    requires numbers { HaveNumbers (frame_of (rules_of signals.now)) (rows numbers.now) }
-    ensures { IfOk result (λ v. AreParted (frame_of (rules_of signals.now)) classes.now.lists (rows numbers.now) (rows v.items)) }
+    requires { HaveNumbers (frame_of (rules_of grouped.now.signals.now)) (rows numbers.now) }
+    ensures { IfOk result (λ v. AreParted (frame_of (rules_of grouped.now.signals.now)) grouped.now.classes.now.lists (rows numbers.now) (rows v.items)) }
 {
-    let mut lists = Vec::with_capacity(alloc, usize::from(signals.rounds()))?;
-    for done in 0..signals.rounds() {
+    let mut lists = Vec::with_capacity(alloc, usize::from(grouped.signals.rounds()))?;
+    for done in 0..grouped.signals.rounds() {
         let above = last_classes(&lists);
         let here_numbers = &numbers[usize::from(done)];
-        let here = round_parted(alloc, signals, classes, done + 1, above, here_numbers)?;
+        let here = round_parted(alloc, grouped, done + 1, above, here_numbers)?;
         lists.push(here)?;
     }
     Ok(lists)
@@ -67,15 +69,13 @@ fn parted_lists(
 /// Signals of one class stay together where their parents do and their numbers are equal.
 pub(crate) fn parted(
     alloc: Global,
-    signals: &Signals,
-    classes: &Classes,
+    grouped: &Grouped<'_>,
     numbers: &[Vec<u32>],
 ) -> Result<Classes, AllocError>
-    requires parents { classes.now.parents ≡ (frame_of (rules_of signals.now)).parents }
-    requires numbers { HaveNumbers (frame_of (rules_of signals.now)) (rows numbers.now) }
-    ensures parents { IfOk result (λ c. c.parents ≡ (frame_of (rules_of signals.now)).parents) }
-    ensures parted { IfOk result (λ c. AreParted (frame_of (rules_of signals.now)) classes.now.lists (rows numbers.now) c.lists) }
+    requires { HaveNumbers (frame_of (rules_of grouped.now.signals.now)) (rows numbers.now) }
+    ensures parents { IfOk result (λ c. c.parents ≡ (frame_of (rules_of grouped.now.signals.now)).parents) }
+    ensures parted { IfOk result (λ c. AreParted (frame_of (rules_of grouped.now.signals.now)) grouped.now.classes.now.lists (rows numbers.now) c.lists) }
 {
-    let lists = parted_lists(alloc, signals, classes, numbers)?;
-    Classes::of_filter(alloc, signals.parents(), lists)
+    let lists = parted_lists(alloc, grouped, numbers)?;
+    Classes::of_filter(alloc, grouped.signals.parents(), lists)
 }

@@ -8,7 +8,7 @@ ghost use Rattle.gs_split.specs.Turns.{AreSettled, AreSideFirsts, AreSideNumbers
 
 use gs_alike::Boards;
 use gs_filter::Classes;
-use gs_lossless::{Side, side_keys, side_sums};
+use gs_lossless::{Grouped, Side, side_keys, side_sums};
 use gs_numbers::number_of_list;
 use gs_tree::Signals;
 use indexmap::IndexSet;
@@ -67,17 +67,16 @@ fn settled_classes(
 /// them stands for, and none in a class that a turn cannot part.
 pub(crate) fn side_numbers(
     alloc: Global,
-    signals: &Signals,
     boards: &Boards<'_>,
-    classes: &Classes,
+    grouped: &Grouped<'_>,
     side: Side,
     round: u8,
 ) -> Result<Vec<u32>, AllocError>
-    requires boards { boards.now.signals.now ≡ signals.now }
-    requires parents { classes.now.parents ≡ (frame_of (rules_of signals.now)).parents }
-    requires side { HasSide (frame_of (rules_of signals.now)) side round }
-    ensures { IfOk result (λ v. AreSideNumbers (frame_of (rules_of signals.now)) classes.now.lists side round v.items) }
+    requires boards { boards.now.signals.now ≡ grouped.now.signals.now }
+    requires side { HasSide (frame_of (rules_of grouped.now.signals.now)) side round }
+    ensures { IfOk result (λ v. AreSideNumbers (frame_of (rules_of grouped.now.signals.now)) grouped.now.classes.now.lists side round v.items) }
 {
+    let Grouped { signals, classes } = *grouped;
     let _rounds = classes.rounds();
     let keys = side_keys(alloc, signals, classes, side, round)?;
     let firsts = side_firsts(alloc, signals, boards, side, round, &keys)?;

@@ -9,7 +9,7 @@ ghost use Rattle.gs_split.specs.Proposal.{AreFair, AreFairFrom, IsProposal, chil
 use crate::parting::parted;
 use gs_boards::{BoardOrder, Pays};
 use gs_filter::Classes;
-use gs_tree::Signals;
+use gs_lossless::Grouped;
 use std::alloc::{AllocError, Global};
 
 /// An odd factor with no pattern in its bits.
@@ -108,54 +108,47 @@ fn child_numbers(
 /// Fair numbers of the last round, by the order of its signals.
 fn order_numbers(
     alloc: Global,
-    signals: &Signals,
+    grouped: &Grouped<'_>,
     order: &BoardOrder<'_>,
-    classes: &Classes,
 ) -> Result<Vec<u32>, AllocError>
-    requires order { order.now.signals.now ≡ signals.now }
-    requires parents { classes.now.parents ≡ (frame_of (rules_of signals.now)).parents }
-    ensures { IfOk result (λ v. AreFair (frame_of (rules_of signals.now)) classes.now.lists (last_round (frame_of (rules_of signals.now))) v.items) }
+    requires { order.now.signals.now ≡ grouped.now.signals.now }
+    ensures { let f = frame_of (rules_of grouped.now.signals.now) in
+        IfOk result (λ v. AreFair f grouped.now.classes.now.lists (last_round f) v.items) }
 {
-    let _rounds = classes.rounds();
-    let last = signals.rounds();
-    let list = &classes.lists()[usize::from(last) - 1];
+    let _rounds = grouped.classes.rounds();
+    let last = grouped.signals.rounds();
+    let list = &grouped.classes.lists()[usize::from(last) - 1];
     deal_numbers(alloc, order, list)
 }
 
 /// Fair numbers of the last round, where no kind of cards has more than one copy and each player is dealt one private card.
-fn last_numbers(
-    alloc: Global,
-    signals: &Signals,
-    classes: &Classes,
-) -> Result<Option<Vec<u32>>, AllocError>
-    requires { classes.now.parents ≡ (frame_of (rules_of signals.now)).parents }
-    ensures { IfOk result (λ o. IfSome o (λ v. AreFair (frame_of (rules_of signals.now)) classes.now.lists (last_round (frame_of (rules_of signals.now))) v.items)) }
+fn last_numbers(alloc: Global, grouped: &Grouped<'_>) -> Result<Option<Vec<u32>>, AllocError>
+    ensures { let f = frame_of (rules_of grouped.now.signals.now) in
+        IfOk result (λ o. IfSome o (λ v. AreFair f grouped.now.classes.now.lists (last_round f) v.items)) }
 {
-    let Some(order) = BoardOrder::of(alloc, signals)? else {
+    let Some(order) = BoardOrder::of(alloc, grouped.signals)? else {
         return Ok(None);
     };
-    let numbers = order_numbers(alloc, signals, &order, classes)?;
+    let numbers = order_numbers(alloc, grouped, &order)?;
     Ok(Some(numbers))
 }
 
 /// Fair numbers of a round, by those of the next round.
 fn fair_numbers(
     alloc: Global,
-    signals: &Signals,
-    classes: &Classes,
+    grouped: &Grouped<'_>,
     round: u8,
     below: &[u32],
 ) -> Result<Vec<u32>, AllocError>
-    requires parents { classes.now.parents ≡ (frame_of (rules_of signals.now)).parents }
     requires some { 0 < round }
-    requires before_last { round < last_round (frame_of (rules_of signals.now)) }
-    requires fair { AreFair (frame_of (rules_of signals.now)) classes.now.lists (round + 1) below.now }
-    ensures { IfOk result (λ v. AreFair (frame_of (rules_of signals.now)) classes.now.lists round v.items) }
+    requires before_last { round < last_round (frame_of (rules_of grouped.now.signals.now)) }
+    requires fair { AreFair (frame_of (rules_of grouped.now.signals.now)) grouped.now.classes.now.lists (round + 1) below.now }
+    ensures { IfOk result (λ v. AreFair (frame_of (rules_of grouped.now.signals.now)) grouped.now.classes.now.lists round v.items) }
 {
-    let _rounds = classes.rounds();
-    let list = &classes.lists()[usize::from(round)];
-    let parents = signals.parents_in(round + 1);
-    child_numbers(alloc, signals.count(round), parents, list, below)
+    let _rounds = grouped.classes.rounds();
+    let list = &grouped.classes.lists()[usize::from(round)];
+    let parents = grouped.signals.parents_in(round + 1);
+    child_numbers(alloc, grouped.signals.count(round), parents, list, below)
 }
 
 /// The first of some lists.
@@ -169,19 +162,18 @@ fn first_list(lists: &[Vec<u32>]) -> &[u32]
 /// Fair numbers of all rounds, from the last one up.
 fn all_numbers(
     alloc: Global,
-    signals: &Signals,
-    classes: &Classes,
+    grouped: &Grouped<'_>,
     last: Vec<u32>,
 ) -> Result<Vec<Vec<u32>>, AllocError>
-    requires parents { classes.now.parents ≡ (frame_of (rules_of signals.now)).parents }
-    requires fair { AreFair (frame_of (rules_of signals.now)) classes.now.lists (last_round (frame_of (rules_of signals.now))) last.items }
-    ensures { IfOk result (λ v. AreFairFrom (frame_of (rules_of signals.now)) classes.now.lists 1 (rows v.items)) }
+    requires { let f = frame_of (rules_of grouped.now.signals.now) in
+        AreFair f grouped.now.classes.now.lists (last_round f) last.items }
+    ensures { IfOk result (λ v. AreFairFrom (frame_of (rules_of grouped.now.signals.now)) grouped.now.classes.now.lists 1 (rows v.items)) }
 {
-    let mut numbers = Vec::with_capacity(alloc, usize::from(signals.rounds()))?;
+    let mut numbers = Vec::with_capacity(alloc, usize::from(grouped.signals.rounds()))?;
     numbers.push(last)?;
-    for round in (1..signals.rounds()).rev() {
+    for round in (1..grouped.signals.rounds()).rev() {
         let below = first_list(&numbers);
-        let here = fair_numbers(alloc, signals, classes, round, below)?;
+        let here = fair_numbers(alloc, grouped, round, below)?;
         numbers.insert(0, here)?;
     }
     Ok(numbers)
@@ -189,19 +181,14 @@ fn all_numbers(
 
 /// Classes between the given ones and their coarsest lossless refinement, where the boards can be walked along: the last round is parted by mixed
 /// sums, and the rounds before it by those of the children.
-pub(crate) fn proposal(
-    alloc: Global,
-    signals: &Signals,
-    from: &Classes,
-) -> Result<Option<Classes>, AllocError>
-    requires { from.now.parents ≡ (frame_of (rules_of signals.now)).parents }
-    ensures parents { IfOk result (λ o. IfSome o (λ c. c.parents ≡ (frame_of (rules_of signals.now)).parents)) }
-    ensures proposal { IfOk result (λ o. IfSome o (λ c. IsProposal (frame_of (rules_of signals.now)) from.now.lists c.lists)) }
+pub(crate) fn proposal(alloc: Global, from: &Grouped<'_>) -> Result<Option<Classes>, AllocError>
+    ensures parents { IfOk result (λ o. IfSome o (λ c. c.parents ≡ (frame_of (rules_of from.now.signals.now)).parents)) }
+    ensures proposal { IfOk result (λ o. IfSome o (λ c. IsProposal (frame_of (rules_of from.now.signals.now)) from.now.classes.now.lists c.lists)) }
 {
-    let Some(last) = last_numbers(alloc, signals, from)? else {
+    let Some(last) = last_numbers(alloc, from)? else {
         return Ok(None);
     };
-    let numbers = all_numbers(alloc, signals, from, last)?;
-    let classes = parted(alloc, signals, from, &numbers)?;
+    let numbers = all_numbers(alloc, from, last)?;
+    let classes = parted(alloc, from, &numbers)?;
     Ok(Some(classes))
 }

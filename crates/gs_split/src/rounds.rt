@@ -31,6 +31,30 @@ impl Model for TurnKey {
     ghost inverse = { λ p. record { before = p.0; above = p.1; number = p.2 } };
 }
 
+/// What a turn looks at in a round, signal by signal: its old class, its parent and the number of its sums; and the new classes of the round before.
+#[derive(Clone, Copy)]
+pub(crate) struct TurnKeys<'a> {
+    pub before: &'a [u32],
+    pub above: &'a [u32],
+    pub parents: &'a [u32],
+    pub numbers: &'a [u32],
+    ghost old: { length before.now ≡ length numbers.now },
+    ghost all: { length parents.now ≡ length numbers.now },
+    ghost in_range: { All (λ p. p < length above.now) parents.now },
+}
+
+/// What a turn tells a signal apart by.
+fn key_at(keys: &TurnKeys<'_>, at: usize) -> TurnKey
+    requires { at < length keys.now.numbers.now }
+    ensures { result ≡ turn_key keys.now.before.now keys.now.above.now keys.now.parents.now keys.now.numbers.now at }
+{
+    TurnKey {
+        before: keys.before[at],
+        above: keys.above[keys.parents[at] as usize],
+        number: keys.numbers[at],
+    }
+}
+
 /// Notes an item at a place that its key chooses, and gives the item that was there.
 fn noted(last: &mut [u32], key: TurnKey, item: u32) -> u32 {
     let mixed = key.before.wrapping_mul(31) ^ key.above.wrapping_mul(1021) ^ key.number;
@@ -41,58 +65,30 @@ fn noted(last: &mut [u32], key: TurnKey, item: u32) -> u32 {
 }
 
 /// The class of an item, where it has one and has this key.
-fn class_again(
-    before: &[u32],
-    above: &[u32],
-    parents: &[u32],
-    numbers: &[u32],
-    classes: &[u32],
-    item: u32,
-    key: TurnKey,
-) -> Option<u32>
-    requires old { length before.now ≡ length numbers.now }
-    requires all { length parents.now ≡ length numbers.now }
-    requires within { length classes.now ≤ length numbers.now }
-    requires in_range { All (λ p. p < length above.now) parents.now }
-    ensures { IfSome result (HasClassOf (turn_key before.now above.now parents.now numbers.now) classes.now key) }
+fn class_again(keys: &TurnKeys<'_>, classes: &[u32], item: u32, key: TurnKey) -> Option<u32>
+    requires { length classes.now ≤ length keys.now.numbers.now }
+    ensures { IfSome result (HasClassOf (turn_key keys.now.before.now keys.now.above.now keys.now.parents.now keys.now.numbers.now) classes.now key) }
 {
     let place = item as usize;
-    if classes.len() <= place || before[place] != key.before || numbers[place] != key.number {
-        return None;
-    }
-    if above[parents[place] as usize] != key.above {
+    if classes.len() <= place || key_at(keys, place) != key {
         return None;
     }
     Some(classes[place])
 }
 
-/// The new classes of a round, numbered from 1 by first member. `before` has its old classes, `above` the new classes of the round before, and
-/// `parents` and `numbers` the parent of each signal and the number of its sums.
-pub(crate) fn round_classes(
-    alloc: Global,
-    before: &[u32],
-    above: &[u32],
-    parents: &[u32],
-    numbers: &[u32],
-) -> Result<Vec<u32>, AllocError>
-    requires old { length before.now ≡ length numbers.now }
-    requires all { length parents.now ≡ length numbers.now }
-    requires few { length numbers.now + 1 < 2 ^ 32 }
-    requires in_range { All (λ p. p < length above.now) parents.now }
-    ensures long { IfOk result (λ v. length v.items ≡ length numbers.now) }
-    ensures classes { IfOk result (λ v. IsKeyClasses (turn_key before.now above.now parents.now numbers.now) v.items) }
+/// The new classes of a round, numbered from 1 by first member.
+pub(crate) fn round_classes(alloc: Global, keys: &TurnKeys<'_>) -> Result<Vec<u32>, AllocError>
+    requires { length keys.now.numbers.now + 1 < 2 ^ 32 }
+    ensures long { IfOk result (λ v. length v.items ≡ length keys.now.numbers.now) }
+    ensures classes { IfOk result (λ v. IsKeyClasses (turn_key keys.now.before.now keys.now.above.now keys.now.parents.now keys.now.numbers.now) v.items) }
 {
     let mut last = vec![in alloc; 0; KEPT]?;
     let mut seen = IndexSet::new(alloc);
-    let mut classes = Vec::with_capacity(alloc, numbers.len())?;
-    for (at, number) in numbers.iter().enumerate() {
-        let key = TurnKey {
-            before: before[at],
-            above: above[parents[at] as usize],
-            number: *number,
-        };
+    let mut classes = Vec::with_capacity(alloc, keys.numbers.len())?;
+    for at in 0..keys.numbers.len() {
+        let key = key_at(keys, at);
         let item = noted(&mut last, key, at as u32);
-        if let Some(class) = class_again(before, above, parents, numbers, &classes, item, key) {
+        if let Some(class) = class_again(keys, &classes, item, key) {
             classes.push(class)?;
             continue;
         }

@@ -9,6 +9,7 @@ use crate::stays::known_rounds;
 use crate::turns::turn;
 use gs_alike::Boards;
 use gs_filter::Classes;
+use gs_lossless::Grouped;
 use gs_tree::Signals;
 use std::alloc::{AllocError, Global};
 
@@ -56,7 +57,11 @@ pub fn split(alloc: Global, signals: &Signals, from: &Classes) -> Result<Classes
     ensures coarsest { IfOk result (λ c. IsCoarsestLossless (frame_of (rules_of signals.now)) from.now.lists c.lists) }
     ensures parents { IfOk result (λ c. c.parents ≡ (frame_of (rules_of signals.now)).parents) }
 {
-    if let Some(proposed) = proposal(alloc, signals, from)? {
+    let given = Grouped {
+        signals,
+        classes: from,
+    };
+    if let Some(proposed) = proposal(alloc, &given)? {
         return settled(alloc, signals, &proposed);
     }
     settled(alloc, signals, from)

@@ -10,7 +10,7 @@ use crate::parting::parted;
 use crate::parts::side_numbers;
 use gs_alike::Boards;
 use gs_filter::Classes;
-use gs_lossless::Side;
+use gs_lossless::{Grouped, Side};
 use gs_tree::Signals;
 use std::alloc::{AllocError, Global};
 
@@ -18,46 +18,42 @@ use std::alloc::{AllocError, Global};
 /// children. Where those are known to be the same, all numbers are.
 fn round_numbers(
     alloc: Global,
-    signals: &Signals,
     boards: &Boards<'_>,
-    classes: &Classes,
+    grouped: &Grouped<'_>,
     round: u8,
     known: bool,
 ) -> Result<Vec<u32>, AllocError>
-    requires boards { boards.now.signals.now ≡ signals.now }
-    requires parents { classes.now.parents ≡ (frame_of (rules_of signals.now)).parents }
+    requires boards { boards.now.signals.now ≡ grouped.now.signals.now }
     requires some { 0 < round }
-    requires top { round ≤ last_round (frame_of (rules_of signals.now)) }
-    requires known { known ≡ true → (s t : ℕ) → InOneClass (frame_of (rules_of signals.now)) classes.now.lists round s t
-        → HaveSameSums (frame_of (rules_of signals.now)) classes.now.lists round s t }
-    ensures { IfOk result (λ v. AreTurnNumbers (frame_of (rules_of signals.now)) classes.now.lists round v.items) }
+    requires top { round ≤ last_round (frame_of (rules_of grouped.now.signals.now)) }
+    requires known { known ≡ true → (s t : ℕ) → InOneClass (frame_of (rules_of grouped.now.signals.now)) grouped.now.classes.now.lists round s t
+        → HaveSameSums (frame_of (rules_of grouped.now.signals.now)) grouped.now.classes.now.lists round s t }
+    ensures { IfOk result (λ v. AreTurnNumbers (frame_of (rules_of grouped.now.signals.now)) grouped.now.classes.now.lists round v.items) }
 {
     if known {
-        vec![in alloc; 0; signals.count(round) as usize]
-    } else if round < signals.rounds() {
-        side_numbers(alloc, signals, boards, classes, Side::Children, round)
+        vec![in alloc; 0; grouped.signals.count(round) as usize]
+    } else if round < grouped.signals.rounds() {
+        side_numbers(alloc, boards, grouped, Side::Children, round)
     } else {
-        side_numbers(alloc, signals, boards, classes, Side::Deals, round)
+        side_numbers(alloc, boards, grouped, Side::Deals, round)
     }
 }
 
 /// The numbers of all rounds.
 fn exact_numbers(
     alloc: Global,
-    signals: &Signals,
     boards: &Boards<'_>,
-    classes: &Classes,
+    grouped: &Grouped<'_>,
     known: &[bool],
 ) -> Result<Vec<Vec<u32>>, AllocError>
-    requires boards { boards.now.signals.now ≡ signals.now }
-    requires parents { classes.now.parents ≡ (frame_of (rules_of signals.now)).parents }
-    requires known { AreKnown (frame_of (rules_of signals.now)) classes.now.lists known.now }
-    ensures { IfOk result (λ v. AreExact (frame_of (rules_of signals.now)) classes.now.lists (rows v.items)) }
+    requires boards { boards.now.signals.now ≡ grouped.now.signals.now }
+    requires known { AreKnown (frame_of (rules_of grouped.now.signals.now)) grouped.now.classes.now.lists known.now }
+    ensures { IfOk result (λ v. AreExact (frame_of (rules_of grouped.now.signals.now)) grouped.now.classes.now.lists (rows v.items)) }
 {
-    let mut numbers = Vec::with_capacity(alloc, usize::from(signals.rounds()))?;
-    for done in 0..signals.rounds() {
+    let mut numbers = Vec::with_capacity(alloc, usize::from(grouped.signals.rounds()))?;
+    for done in 0..grouped.signals.rounds() {
         let is_known = known[usize::from(done)];
-        let here = round_numbers(alloc, signals, boards, classes, done + 1, is_known)?;
+        let here = round_numbers(alloc, boards, grouped, done + 1, is_known)?;
         numbers.push(here)?;
     }
     Ok(numbers)
@@ -78,6 +74,7 @@ pub(crate) fn turn(
     ensures parents { IfOk result (λ c. c.parents ≡ (frame_of (rules_of signals.now)).parents) }
     ensures turn { IfOk result (λ c. IsTurn (frame_of (rules_of signals.now)) classes.now.lists c.lists) }
 {
-    let numbers = exact_numbers(alloc, signals, boards, classes, known)?;
-    parted(alloc, signals, classes, &numbers)
+    let grouped = Grouped { signals, classes };
+    let numbers = exact_numbers(alloc, boards, &grouped, known)?;
+    parted(alloc, &grouped, &numbers)
 }

@@ -9,46 +9,46 @@ use Rattle.gs_lossless.proofs.Scanned.{alike_more, first_unlike_from, not_single
 use Rattle.gs_lossless.proofs.Settled.{lossless_by_firsts, over}
 use Rattle.gs_lossless.proofs.checking.first_unlike.Goals as goal
 
-pub class_of-requires-clause-within : goal.class_of-requires-clause-within
-class_of-requires-clause-within c =
-    let g = rules_of c.args.signals.now in
+pub class_of-class-requires-clause-within : goal.class_of-class-requires-clause-within
+class_of-class-requires-clause-within c =
+    let g = rules_of c.args.grouped.now.signals.now in
     let f = frame_of g in
-    let l = c.args.classes.now in
+    let l = c.args.grouped.now.classes.now in
     let round = c.loop-before.before + 1 in
     let top : round ≤ round_count g = omega (arith, c.loop-before-test.true, c.rounds-before-end.ensures.value) in
     let h = subst (MatchUnlike f l.lists round) c.in-Some.is c.in_ok-second.ensures in
-    omega (arith, h.0, list_long g l c.requires c.rounds-rounds.ensures.sound round (omega arith) top, signal_count_is g round (omega arith) top)
+    omega (arith, h.0, list_long g l c.args.grouped.now.parents c.rounds-rounds.ensures.sound round (omega arith) top, signal_count_is g round (omega arith) top)
 
 pub returns-in-Some-clause-unlike : goal.returns-in-Some-clause-unlike
 returns-in-Some-clause-unlike c =
-    let g = rules_of c.args.signals.now in
+    let g = rules_of c.args.grouped.now.signals.now in
     let f = frame_of g in
-    let l = c.args.classes.now in
-    first_unlike_from f l.lists c.loop-before.before c.first-first.result c.in-Some.second c.class_of.result
+    let l = c.args.grouped.now.classes.now in
+    first_unlike_from f l.lists c.loop-before.before c.first-first.result c.in-Some.second c.class_of-class.result
     (omega (arith, c.loop-before-test.true, c.rounds-before-end.ensures.value, last_is g))
     (subst (MatchUnlike f l.lists (c.loop-before.before + 1)) c.in-Some.is c.in_ok-second.ensures)
-    c.class_of.ensures.value c.first-first.ensures.value c.loop-before.invariant
+    c.class_of-class.ensures.value c.first-first.ensures.value c.loop-before.invariant
 
 pub returns-in-Some-clause-refuted : goal.returns-in-Some-clause-refuted
 returns-in-Some-clause-refuted c =
-    let f = frame_of (rules_of c.args.signals.now) in
-    λ _. refuted f c.args.classes.now c.requires c.rounds-rounds.ensures.sound (c.loop-before.before + 1) c.first-first.result c.in-Some.second (returns-in-Some-clause-unlike c)
+    let f = frame_of (rules_of c.args.grouped.now.signals.now) in
+    λ _. refuted f c.args.grouped.now.classes.now c.args.grouped.now.parents c.rounds-rounds.ensures.sound (c.loop-before.before + 1) c.first-first.result c.in-Some.second (returns-in-Some-clause-unlike c)
 
 pub returns-in-Some-clause-single : goal.returns-in-Some-clause-single
 returns-in-Some-clause-single c =
-    let f = frame_of (rules_of c.args.signals.now) in
-    λ _. not_single f c.args.classes.now c.requires c.rounds-rounds.ensures.sound (c.loop-before.before + 1) c.first-first.result c.in-Some.second (returns-in-Some-clause-unlike c)
+    let f = frame_of (rules_of c.args.grouped.now.signals.now) in
+    λ _. not_single f c.args.grouped.now.classes.now c.args.grouped.now.parents c.rounds-rounds.ensures.sound (c.loop-before.before + 1) c.first-first.result c.in-Some.second (returns-in-Some-clause-unlike c)
 
 pub loop-before-preserved : goal.loop-before-preserved
 loop-before-preserved c =
-    let f = frame_of (rules_of c.args.signals.now) in
-    let lists = c.args.classes.now.lists in
+    let f = frame_of (rules_of c.args.grouped.now.signals.now) in
+    let lists = c.args.grouped.now.classes.now.lists in
     alike_more f lists c.loop-before.before c.loop-before.invariant (subst (MatchUnlike f lists (c.loop-before.before + 1)) c.in_default.is c.in_ok-second.ensures)
 
 pub returns-clause-lossless : goal.returns-clause-lossless
 returns-clause-lossless c =
-    let g = rules_of c.args.signals.now in
+    let g = rules_of c.args.grouped.now.signals.now in
     let f = frame_of g in
-    let l = c.args.classes.now in
-    let classes = over f l c.requires c.rounds-rounds.ensures.sound.classes in
+    let l = c.args.grouped.now.classes.now in
+    let classes = over f l c.args.grouped.now.parents c.rounds-rounds.ensures.sound.classes in
     lossless_by_firsts f l.lists classes.filter (λ r s some top ls. c.loop-before.invariant r some (omega (arith, top, last_is g)) s ls)

@@ -15,9 +15,9 @@ use Rattle.gs_lossless.proofs.checking.settles.Goals as goal
 
 pub loop-round-preserved : goal.loop-round-preserved
 loop-round-preserved c =
-    let g = rules_of c.args.signals.now in
+    let g = rules_of c.args.grouped.now.signals.now in
     let f = frame_of g in
-    let lists = c.args.classes.now.lists in
+    let lists = c.args.grouped.now.classes.now.lists in
     let here = none_apart f lists Children c.loop-round.round c.count-end.result c.in_ok-first_apart.field-0 (sym c.is_some.ensures ∙ c.if-is_some.false) c.in_ok-first_apart.ensures in
     λ r some l. ⊎_elim (λ under. c.loop-round.invariant r some under)
     (λ over. let e : c.loop-round.round ≡ r = omega (arith, l, over) in
@@ -29,11 +29,11 @@ not_turned b r e t = e ∙ ap not t
 
 pub returns : goal.returns
 returns c =
-    let g = rules_of c.args.signals.now in
+    let g = rules_of c.args.grouped.now.signals.now in
     let f = frame_of g in
-    let l = c.args.classes.now in
-    let p = playable c.args.signals.now in
-    let classes = over f l c.requires c.rounds-rounds.ensures.sound.classes in
+    let l = c.args.grouped.now.classes.now in
+    let p = playable c.args.grouped.now.signals.now in
+    let classes = over f l c.args.grouped.now.parents c.rounds-rounds.ensures.sound.classes in
     let top : c.rounds-last.result ≡ last_round f = c.rounds-last.ensures.value ∙ sym (last_is g) in
     λ t.
     let here = none_apart f l.lists Deals c.rounds-last.result c.count-end-2.result c.in_ok-first_apart-2.field-0 (not_turned (is_some c.in_ok-first_apart-2.field-0) c.is_none.result c.is_none.ensures t) c.in_ok-first_apart-2.ensures in

@@ -14,27 +14,27 @@ use Rattle.gs_lossless.proofs.scan.first_apart.Goals.{After-first, then-first-si
 
 pub class_of-class-requires-clause-within : goal.class_of-class-requires-clause-within
 class_of-class-requires-clause-within c =
-    let g = rules_of c.args.signals.now in
+    let g = rules_of c.args.grouped.now.signals.now in
     let h = side_in (frame_of g) c.args.side c.args.round c.requires.side in
-    let n = list_long g c.args.classes.now c.requires.parents c.rounds-rounds.ensures.sound c.args.round h.0 (omega (arith, h.1, last_is g)) in
+    let n = list_long g c.args.grouped.now.classes.now c.args.grouped.now.parents c.rounds-rounds.ensures.sound c.args.round h.0 (omega (arith, h.1, last_is g)) in
     omega (arith, n, c.requires.within)
 
 pub side_sums-requires-clause-all : goal.side_sums-requires-clause-all
 side_sums-requires-clause-all c =
-    let g = rules_of c.args.signals.now in
+    let g = rules_of c.args.grouped.now.signals.now in
     ap (λ (l : List ℕ). length l) (c.deref.ensures.value ∙ c.in_ok-keys.ensures)
-    ∙ keys_long g c.args.classes.now c.requires.parents c.rounds-rounds.ensures.sound (playable c.args.signals.now) c.args.side c.args.round c.requires.side
+    ∙ keys_long g c.args.grouped.now.classes.now c.args.grouped.now.parents c.rounds-rounds.ensures.sound (playable c.args.grouped.now.signals.now) c.args.side c.args.round c.requires.side
 
 pub loop-signal-preserved-then-size-eq1 : goal.loop-signal-preserved-then-size-eq1
 loop-signal-preserved-then-size-eq1 c =
-    let g = rules_of c.args.signals.now in
+    let g = rules_of c.args.grouped.now.signals.now in
     let f = frame_of g in
-    let lists = c.args.classes.now.lists in
+    let lists = c.args.grouped.now.classes.now.lists in
     let h = side_in f c.args.side c.args.round c.requires.side in
     let sound = c.rounds-rounds.ensures.sound in
-    let top : c.args.round ≤ length c.args.classes.now.parents = omega (arith, h.1, ap (λ (ps : List (List ℕ)). length ps) c.requires.parents) in
+    let top : c.args.round ≤ length c.args.grouped.now.classes.now.parents = omega (arith, h.1, ap (λ (ps : List (List ℕ)). length ps) c.args.grouped.now.parents) in
     let n = sound.classes.numbered c.args.round h.0 top in
-    let long = list_long g c.args.classes.now c.requires.parents sound c.args.round h.0 (omega (arith, h.1, last_is g)) in
+    let long = list_long g c.args.grouped.now.classes.now c.args.grouped.now.parents sound c.args.round h.0 (omega (arith, h.1, last_is g)) in
     let one : class_size lists c.args.round (class_of lists c.args.round c.loop-signal.signal) ≡ 1 =
     ap (class_size lists c.args.round) (sym c.class_of-class.ensures.value) ∙ sym c.size.ensures ∙ c.if-size-eq1.true in
     record {
@@ -46,12 +46,12 @@ loop-signal-preserved-then-size-eq1 c =
 
 -- the first member of the class stands before another one, and its sums are kept
 earlier : (c : After-first) → c.first.result ≢ c.loop-signal.signal → (d : Vec Part Global)
-    → AreAmounts (frame_of (rules_of c.args.signals.now)) c.args.classes.now.lists c.args.side c.args.round (first_member c.args.classes.now.lists c.args.round c.class_of-class.result) (reverse (get_or c.loop-signal.kept.items (c.class_of-class.result - 1) d).items)
+    → AreAmounts (frame_of (rules_of c.args.grouped.now.signals.now)) c.args.grouped.now.classes.now.lists c.args.side c.args.round (first_member c.args.grouped.now.classes.now.lists c.args.round c.class_of-class.result) (reverse (get_or c.loop-signal.kept.items (c.class_of-class.result - 1) d).items)
 earlier c other d =
-    let g = rules_of c.args.signals.now in
-    let lists = c.args.classes.now.lists in
+    let g = rules_of c.args.grouped.now.signals.now in
+    let lists = c.args.grouped.now.classes.now.lists in
     let h = side_in (frame_of g) c.args.side c.args.round c.requires.side in
-    let long = list_long g c.args.classes.now c.requires.parents c.rounds-rounds.ensures.sound c.args.round h.0 (omega (arith, h.1, last_is g)) in
+    let long = list_long g c.args.grouped.now.classes.now c.args.grouped.now.parents c.rounds-rounds.ensures.sound c.args.round h.0 (omega (arith, h.1, last_is g)) in
     let le = first_le lists c.args.round c.loop-signal.signal (omega (arith, long, c.requires.within)) in
     let own = ap (first_member lists c.args.round) c.class_of-class.ensures.value in
     c.loop-signal.invariant.stored c.class_of-class.result d c.class_of-class.ensures.class.0 c.class_of-class.ensures.class.1 (omega (arith, le, own, c.first.ensures.value, other))
@@ -59,8 +59,8 @@ earlier c other d =
 
 pub returns-then-not-are_same : goal.returns-then-not-are_same
 returns-then-not-are_same c =
-    let f = frame_of (rules_of c.args.signals.now) in
-    let lists = c.args.classes.now.lists in
+    let f = frame_of (rules_of c.args.grouped.now.signals.now) in
+    let lists = c.args.grouped.now.classes.now.lists in
     let kept = get_or c.loop-signal.kept.items (c.class_of-class.result - 1) c.index.result.now in
     let sums = c.in_ok-sums.sums in
     let first = earlier (goal.at.returns-then-not-are_same c).After-first c.if-first-signal.false c.index.result.now in
@@ -78,9 +78,9 @@ returns-then-not-are_same c =
 
 pub loop-signal-preserved : goal.loop-signal-preserved
 loop-signal-preserved c =
-    let g = rules_of c.args.signals.now in
+    let g = rules_of c.args.grouped.now.signals.now in
     let f = frame_of g in
-    let lists = c.args.classes.now.lists in
+    let lists = c.args.grouped.now.classes.now.lists in
     let side = c.args.side in
     let round = c.args.round in
     let signal = c.loop-signal.signal in
@@ -89,7 +89,7 @@ loop-signal-preserved c =
     let sums = c.in_ok-sums.sums in
     let h = side_in f side round c.requires.side in
     let sound = c.rounds-rounds.ensures.sound in
-    let top : round ≤ length c.args.classes.now.parents = omega (arith, h.1, ap (λ (ps : List (List ℕ)). length ps) c.requires.parents) in
+    let top : round ≤ length c.args.grouped.now.classes.now.parents = omega (arith, h.1, ap (λ (ps : List (List ℕ)). length ps) c.args.grouped.now.parents) in
     let n = sound.classes.numbered round h.0 top in
     let is = c.class_of-class.ensures.value in
     let in_class = c.class_of-class.ensures.class in

@@ -7,7 +7,7 @@ use Rattle.gs_lossless.proofs.scan.first_apart.Given as goal
 
 abbrev pub invariant-loop-signal : goal.invariant-loop-signal
 invariant-loop-signal l = record {
-  long : length l.kept.items ≡ class_count l.classes.lists l.round;
-  stored : StoredBelow (frame_of (rules_of l.signals)) l.classes.lists l.side l.round l.signal l.kept.items;
-  agree : AgreeBelow (frame_of (rules_of l.signals)) l.classes.lists l.side l.round l.signal;
+  long : length l.kept.items ≡ class_count l.grouped.classes.now.lists l.round;
+  stored : StoredBelow (frame_of (rules_of l.grouped.signals.now)) l.grouped.classes.now.lists l.side l.round l.signal l.kept.items;
+  agree : AgreeBelow (frame_of (rules_of l.grouped.signals.now)) l.grouped.classes.now.lists l.side l.round l.signal;
 }

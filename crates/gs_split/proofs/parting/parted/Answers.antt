@@ -11,17 +11,17 @@ use Rattle.gs_split.proofs.Turned.{classes_of}
 use Rattle.gs_split.proofs.parting.parted.Goals as goal
 
 pub of_filter-requires-clause-parents : goal.of_filter-requires-clause-parents
-of_filter-requires-clause-parents c = subst AreParents (sym c.parents.ensures) (are_parents c.args.signals.now)
+of_filter-requires-clause-parents c = subst AreParents (sym c.parents.ensures) (are_parents c.args.grouped.now.signals.now)
 
 pub of_filter-requires-clause-classes : goal.of_filter-requires-clause-classes
 of_filter-requires-clause-classes c =
     let new = rows c.in_ok-lists.lists.items in
-    subst (λ (ps : List (List ℕ)). IsClasses ps new) (sym c.parents.ensures) (classes_of (frame_of (rules_of c.args.signals.now)) c.args.classes.now.lists (rows c.args.numbers.now) new c.in_ok-lists.ensures)
+    subst (λ (ps : List (List ℕ)). IsClasses ps new) (sym c.parents.ensures) (classes_of (frame_of (rules_of c.args.grouped.now.signals.now)) c.args.grouped.now.classes.now.lists (rows c.args.numbers.now) new c.in_ok-lists.ensures)
 
 pub returns-clause-parted : goal.returns-clause-parted
 returns-clause-parted c =
-    let f = frame_of (rules_of c.args.signals.now) in
-    let old = c.args.classes.now.lists in
+    let f = frame_of (rules_of c.args.grouped.now.signals.now) in
+    let old = c.args.grouped.now.classes.now.lists in
     let numbers = rows c.args.numbers.now in
     let new = rows c.in_ok-lists.lists.items in
     if_ok c.of_filter.result (λ (v : Filter). v.lists ≡ new) (λ (v : Filter). AreParted f old numbers v.lists)

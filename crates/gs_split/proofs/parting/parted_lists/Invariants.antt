@@ -8,5 +8,5 @@ use Rattle.gs_split.proofs.parting.parted_lists.Given as goal
 abbrev pub invariant-loop-done : goal.invariant-loop-done
 invariant-loop-done l = record {
   long : length (rows l.lists.items) ≡ l.done;
-  each : ArePartedTo (frame_of (rules_of l.signals)) l.classes.lists (rows l.numbers) (rows l.lists.items);
+  each : ArePartedTo (frame_of (rules_of l.grouped.signals.now)) l.grouped.classes.now.lists (rows l.numbers) (rows l.lists.items);
 }

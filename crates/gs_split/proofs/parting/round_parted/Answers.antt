@@ -11,49 +11,43 @@ use Rattle.gs_split.proofs.Turned.{both_ok, first_parents, list_read, parents_un
 use Rattle.gs_split.proofs.parting.round_parted.Goals as goal
 
 pub parents_in-requires-clause-last : goal.parents_in-requires-clause-last
-parents_in-requires-clause-last c = omega (arith, c.requires.top, last_is (rules_of c.args.signals.now))
+parents_in-requires-clause-last c = omega (arith, c.requires.top, last_is (rules_of c.args.grouped.now.signals.now))
 
-pub round_classes-requires-clause-all : goal.round_classes-requires-clause-all
-round_classes-requires-clause-all c =
-    let g = rules_of c.args.signals.now in
-    let round = c.args.round in
-    ap (λ (l : List ℕ). length l) c.parents_in.ensures ∙ length-parents g round ∙ sym (signal_count_is g round c.requires.some (omega (arith, c.requires.top, last_is g))) ∙ sym c.requires.numbers
-
-pub round_classes-requires-clause-old : goal.round_classes-requires-clause-old
-round_classes-requires-clause-old c =
-    let g = rules_of c.args.signals.now in
+pub round_classes-requires : goal.round_classes-requires
+round_classes-requires c =
+    let g = rules_of c.args.grouped.now.signals.now in
     let round = c.args.round in
     let top : round ≤ round_count g = omega (arith, c.requires.top, last_is g) in
-    let sound = c.rounds-rounds.ensures.sound in
-    let all = sound.classes.rounds ∙ ap (λ (ps : List (List ℕ)). length ps) c.requires.parents in
-    let before = list_read c.lists.result.now c.args.classes.now.lists c.from.result round c.index-lists-from.result c.deref.result.now c.lists.ensures.value c.from.ensures c.requires.some (omega (arith, all, c.requires.top)) c.index-lists-from.is c.deref.ensures.value in
-    ap (λ (l : List ℕ). length l) before ∙ list_long g c.args.classes.now c.requires.parents sound round c.requires.some top ∙ sym (signal_count_is g round c.requires.some top) ∙ sym c.requires.numbers
-
-pub round_classes-requires-clause-few : goal.round_classes-requires-clause-few
-round_classes-requires-clause-few c =
-    let g = rules_of c.args.signals.now in
-    let round = c.args.round in
-    let top : round ≤ round_count g = omega (arith, c.requires.top, last_is g) in
-    let n = c.args.signals.now.game.now.limits.signals_in round top in
+    let n = c.args.grouped.now.signals.now.game.now.limits.signals_in round top in
     let m = signal_count_is g round c.requires.some top in
     omega (arith, n, m, c.requires.numbers)
 
-pub round_classes-requires-clause-in_range : goal.round_classes-requires-clause-in_range
-round_classes-requires-clause-in_range c =
-    let g = rules_of c.args.signals.now in
-    subst (λ (ps : List ℕ). All (λ p. p < length c.args.above.now) ps) (sym c.parents_in.ensures)
-    (parents_under c.args.signals.now c.args.round (length c.args.above.now) c.requires.some (omega (arith, c.requires.top, last_is g)) c.requires.any c.requires.above)
+pub invariant_of-keys : goal.invariant_of-keys
+invariant_of-keys c =
+    let g = rules_of c.args.grouped.now.signals.now in
+    let round = c.args.round in
+    let top : round ≤ round_count g = omega (arith, c.requires.top, last_is g) in
+    let sound = c.rounds-rounds.ensures.sound in
+    let all = sound.classes.rounds ∙ ap (λ (ps : List (List ℕ)). length ps) c.args.grouped.now.parents in
+    let before = list_read c.lists.result.now c.args.grouped.now.classes.now.lists c.from.result round c.index-lists-from.result c.deref.result.now c.lists.ensures.value c.from.ensures c.requires.some (omega (arith, all, c.requires.top)) c.index-lists-from.is c.deref.ensures.value in
+    let many = sym (signal_count_is g round c.requires.some top) ∙ sym c.requires.numbers in
+    record {
+      old = ap (λ (l : List ℕ). length l) before ∙ list_long g c.args.grouped.now.classes.now c.args.grouped.now.parents sound round c.requires.some top ∙ many;
+      all = ap (λ (l : List ℕ). length l) c.parents_in.ensures ∙ length-parents g round ∙ many;
+      in_range = subst (λ (ps : List ℕ). All (λ p. p < length c.args.above.now) ps) (sym c.parents_in.ensures)
+          (parents_under c.args.grouped.now.signals.now round (length c.args.above.now) c.requires.some top c.requires.any c.requires.above);
+    }
 
 pub returns : goal.returns
 returns c =
-    let g = rules_of c.args.signals.now in
+    let g = rules_of c.args.grouped.now.signals.now in
     let f = frame_of g in
     let round = c.args.round in
-    let lists = c.args.classes.now.lists in
+    let lists = c.args.grouped.now.classes.now.lists in
     let above = c.args.above.now in
     let numbers = c.args.numbers.now in
     let top : round ≤ round_count g = omega (arith, c.requires.top, last_is g) in
-    let all = c.rounds-rounds.ensures.sound.classes.rounds ∙ ap (λ (ps : List (List ℕ)). length ps) c.requires.parents in
+    let all = c.rounds-rounds.ensures.sound.classes.rounds ∙ ap (λ (ps : List (List ℕ)). length ps) c.args.grouped.now.parents in
     let before = list_read c.lists.result.now lists c.from.result round c.index-lists-from.result c.deref.result.now c.lists.ensures.value c.from.ensures c.requires.some (omega (arith, all, c.requires.top)) c.index-lists-from.is c.deref.ensures.value in
     let ps = c.parents_in.ensures ∙ sym (parents_at g round c.requires.some top) in
     both_ok c.round_classes.result
@@ -61,5 +55,5 @@ returns c =
     (λ (v : Vec ℕ Global). IsKeyClasses (turn_key c.deref.result.now above c.parents_in.result.now numbers) v.items)
     (λ (v : Vec ℕ Global). IsRoundParted f lists above numbers round v.items)
     (λ v long h. round_made f lists round above numbers v.items c.deref.result.now c.parents_in.result.now before ps c.requires.numbers
-    (λ i one l. first_parents c.args.signals.now round i one l) c.requires.some long h)
+    (λ i one l. first_parents c.args.grouped.now.signals.now round i one l) c.requires.some long h)
     c.round_classes.ensures.long c.round_classes.ensures.classes

@@ -15,34 +15,34 @@ use Rattle.gs_split.proofs.parts.side_numbers.Goals as goal
 use Rattle.gs_split.proofs.parts.side_numbers.Goals.{In_ok-firsts, In_ok-keys, In_ok-settled, Joined-index, else-index+in_ok-sums, then-index}
 
 pub count-count-requires-clause-in_range : goal.count-count-requires-clause-in_range
-count-count-requires-clause-in_range c = side_top (rules_of c.args.signals.now) c.args.side c.args.round c.requires.side
+count-count-requires-clause-in_range c = side_top (rules_of c.args.grouped.now.signals.now) c.args.side c.args.round c.requires.side
 
 -- there are as many keys as the side has
-many : (c : In_ok-keys) (keys : List ℕ) → keys ≡ c.in_ok-keys.keys.items → length keys ≡ key_count (rules_of c.args.signals.now) c.args.side c.args.round
+many : (c : In_ok-keys) (keys : List ℕ) → keys ≡ c.in_ok-keys.keys.items → length keys ≡ key_count (rules_of c.args.grouped.now.signals.now) c.args.side c.args.round
 many c keys is =
     ap (λ (l : List ℕ). length l) (is ∙ c.in_ok-keys.ensures)
-    ∙ keys_long (rules_of c.args.signals.now) c.args.classes.now c.requires.parents c.rounds-rounds.ensures.sound (playable c.args.signals.now) c.args.side c.args.round c.requires.side
+    ∙ keys_long (rules_of c.args.grouped.now.signals.now) c.args.grouped.now.classes.now c.args.grouped.now.parents c.rounds-rounds.ensures.sound (playable c.args.grouped.now.signals.now) c.args.side c.args.round c.requires.side
 
 pub side_firsts-requires-clause-all : goal.side_firsts-requires-clause-all
 side_firsts-requires-clause-all c = many (goal.at.side_firsts-requires-clause-all c).In_ok-keys c.deref.result.now c.deref.ensures.value
 
 -- what is known of the stand-ins
-stands : (c : In_ok-firsts) → AreSideFirsts (frame_of (rules_of c.args.signals.now)) c.args.classes.now.lists c.args.side c.args.round c.in_ok-firsts.firsts.items
-stands c = c.in_ok-firsts.ensures c.args.classes.now.lists (c.deref.ensures.value ∙ c.in_ok-keys.ensures)
+stands : (c : In_ok-firsts) → AreSideFirsts (frame_of (rules_of c.args.grouped.now.signals.now)) c.args.grouped.now.classes.now.lists c.args.side c.args.round c.in_ok-firsts.firsts.items
+stands c = c.in_ok-firsts.ensures c.args.grouped.now.classes.now.lists (c.deref.ensures.value ∙ c.in_ok-keys.ensures)
 
 pub settled_classes-requires-clause-all : goal.settled_classes-requires-clause-all
 settled_classes-requires-clause-all c =
-    let g = rules_of c.args.signals.now in
+    let g = rules_of c.args.grouped.now.signals.now in
     ap (λ (l : List ℕ). length l) c.deref-2.ensures.value ∙ (stands (goal.at.settled_classes-requires-clause-all c).In_ok-firsts).long ∙ side_signals g c.args.side c.args.round c.requires.side
-    ∙ sym (side_classes g c.args.classes.now c.requires.parents c.rounds-rounds.ensures.sound c.args.side c.args.round c.requires.side)
+    ∙ sym (side_classes g c.args.grouped.now.classes.now c.args.grouped.now.parents c.rounds-rounds.ensures.sound c.args.side c.args.round c.requires.side)
 
 pub index-first-requires : goal.index-first-requires
 index-first-requires c =
-    omega (arith, (stands (goal.at.index-first-requires c).In_ok-firsts).long, side_signals (rules_of c.args.signals.now) c.args.side c.args.round c.requires.side, c.count-count.ensures.value, c.loop-signal-test.true)
+    omega (arith, (stands (goal.at.index-first-requires c).In_ok-firsts).long, side_signals (rules_of c.args.grouped.now.signals.now) c.args.side c.args.round c.requires.side, c.count-count.ensures.value, c.loop-signal-test.true)
 
 pub class_of-class-requires-clause-within : goal.class_of-class-requires-clause-within
 class_of-class-requires-clause-within c =
-    let n = side_classes (rules_of c.args.signals.now) c.args.classes.now c.requires.parents c.rounds-rounds.ensures.sound c.args.side c.args.round c.requires.side in
+    let n = side_classes (rules_of c.args.grouped.now.signals.now) c.args.grouped.now.classes.now c.args.grouped.now.parents c.rounds-rounds.ensures.sound c.args.side c.args.round c.requires.side in
     omega (arith, n, c.count-count.ensures.value, c.loop-signal-test.true)
 
 pub side_sums-requires-clause-all : goal.side_sums-requires-clause-all
@@ -50,22 +50,22 @@ side_sums-requires-clause-all c = many (goal.at.side_sums-requires-clause-all c)
 
 -- what a signal's sums are
 abbrev sign : In_ok-settled → ℕ → List Part → Type 0
-sign c = AreClassSums (frame_of (rules_of c.args.signals.now)) c.args.classes.now.lists c.args.side c.args.round c.in_ok-settled.settled.items
+sign c = AreClassSums (frame_of (rules_of c.args.grouped.now.signals.now)) c.args.grouped.now.classes.now.lists c.args.side c.args.round c.in_ok-settled.settled.items
 
 pub loop-signal-preserved-then-first-signal : goal.loop-signal-preserved-then-first-signal
 loop-signal-preserved-then-first-signal c =
     let s = sign (goal.at.loop-signal-preserved-then-first-signal c).In_ok-settled in
     let firsts = stands (goal.at.loop-signal-preserved-then-first-signal c).In_ok-firsts in
     let signal = c.loop-signal.signal in
-    let here : signal < length c.in_ok-firsts.firsts.items = omega (arith, firsts.long, side_signals (rules_of c.args.signals.now) c.args.side c.args.round c.requires.side, c.count-count.ensures.value, c.loop-signal-test.true) in
+    let here : signal < length c.in_ok-firsts.firsts.items = omega (arith, firsts.long, side_signals (rules_of c.args.grouped.now.signals.now) c.args.side c.args.round c.requires.side, c.count-count.ensures.value, c.loop-signal-test.true) in
     let first = get_or_read c.in_ok-firsts.firsts.items signal c.index-first.result.now here c.index-first.ensures 0 in
     numbered_again part_eq part_decides s _ _ _ _ c.index-first.result.now _ c.loop-signal.invariant c.if-first-signal.true c.index-number.ensures
-    (λ a h. sums_again (frame_of (rules_of c.args.signals.now)) c.args.classes.now.lists c.args.round c.args.side _ c.in_ok-settled.settled.items signal a firsts here (subst (λ i. s i a) first h)) c.in_ok-push.ensures.items
+    (λ a h. sums_again (frame_of (rules_of c.args.grouped.now.signals.now)) c.args.grouped.now.classes.now.lists c.args.round c.args.side _ c.in_ok-settled.settled.items signal a firsts here (subst (λ i. s i a) first h)) c.in_ok-push.ensures.items
 
 made : (c : Joined-index) → sign (goal.at.Joined-index c).In_ok-settled c.loop-signal.signal c.if-index.sums.items
 made c =
-    let f = frame_of (rules_of c.args.signals.now) in
-    let lists = c.args.classes.now.lists in
+    let f = frame_of (rules_of c.args.grouped.now.signals.now) in
+    let lists = c.args.grouped.now.classes.now.lists in
     let settled = c.in_ok-settled.settled.items in
     let signal = c.loop-signal.signal in
     let class : c.class_of-class.result ≡ class_of lists c.args.round signal = c.class_of-class.ensures.value in
@@ -86,9 +86,9 @@ loop-signal-preserved c =
 
 pub returns : goal.returns
 returns c =
-    let g = rules_of c.args.signals.now in
+    let g = rules_of c.args.grouped.now.signals.now in
     let f = frame_of g in
-    let lists = c.args.classes.now.lists in
+    let lists = c.args.grouped.now.classes.now.lists in
     let side = c.args.side in
     let round = c.args.round in
     let settled = c.in_ok-settled.settled.items in

@@ -10,16 +10,16 @@ use Rattle.gs_split.proofs.proposal.all_numbers.Goals as goal
 
 pub loop-round-init : goal.loop-round-init
 loop-round-init c =
-    let g = rules_of c.args.signals.now in
+    let g = rules_of c.args.grouped.now.signals.now in
     let f = frame_of g in
-    let lists = c.args.classes.now.lists in
+    let lists = c.args.grouped.now.classes.now.lists in
     let r = c.rounds-round.result in
     let is : r ≡ last_round f = omega (arith, c.rounds-round.ensures.value, last_is g) in
     let e : c.push.new.self.items ≡ c.args.last ∷ [] = c.in_ok-push.ensures.items ∙ ap (λ (xs : List (Vec ℕ Global)). xs ++ c.args.last ∷ []) c.in_ok-numbers.ensures.items in
     record {
       some = omega (arith, c.rounds-round.ensures.some);
       within = omega (arith, is);
-      fair = subst (λ (vs : List (Vec ℕ Global)). AreFairFrom f lists r (rows vs)) (sym e) (fair_last_alone f lists c.args.last.items r is c.requires.fair);
+      fair = subst (λ (vs : List (Vec ℕ Global)). AreFairFrom f lists r (rows vs)) (sym e) (fair_last_alone f lists c.args.last.items r is c.requires);
     }
 
 pub first_list-below-requires : goal.first_list-below-requires
@@ -32,8 +32,8 @@ fair_numbers-requires-clause-before_last c = omega (arith, c.loop-round-test.tru
 
 pub fair_numbers-requires-clause-fair : goal.fair_numbers-requires-clause-fair
 fair_numbers-requires-clause-fair c =
-    let f = frame_of (rules_of c.args.signals.now) in
-    let lists = c.args.classes.now.lists in
+    let f = frame_of (rules_of c.args.grouped.now.signals.now) in
+    let lists = c.args.grouped.now.classes.now.lists in
     let i = c.loop-round.invariant in
     let now = rows c.loop-round.numbers.items in
     let at : c.first_list-below.result.now ≡ get_or now 0 [] = c.first_list-below.ensures ∙ ap (λ (vs : List (Vec ℕ Global)). get_or (rows vs) 0 []) c.deref.ensures.value in
@@ -43,8 +43,8 @@ fair_numbers-requires-clause-fair c =
 
 pub loop-round-preserved : goal.loop-round-preserved
 loop-round-preserved c =
-    let f = frame_of (rules_of c.args.signals.now) in
-    let lists = c.args.classes.now.lists in
+    let f = frame_of (rules_of c.args.grouped.now.signals.now) in
+    let lists = c.args.grouped.now.classes.now.lists in
     let i = c.loop-round.invariant in
     let numbers = c.loop-round.numbers.items in
     let here = c.in_ok-here.here in

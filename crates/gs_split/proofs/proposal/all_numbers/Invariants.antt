@@ -8,6 +8,6 @@ use Rattle.gs_split.proofs.proposal.all_numbers.Given as goal
 abbrev pub invariant-loop-round : goal.invariant-loop-round
 invariant-loop-round l = record {
   some : 1 ≤ l.round;
-  within : l.round ≤ last_round (frame_of (rules_of l.signals));
-  fair : AreFairFrom (frame_of (rules_of l.signals)) l.classes.lists l.round (rows l.numbers.items);
+  within : l.round ≤ last_round (frame_of (rules_of l.grouped.signals.now));
+  fair : AreFairFrom (frame_of (rules_of l.grouped.signals.now)) l.grouped.classes.now.lists l.round (rows l.numbers.items);
 }

@@ -11,22 +11,22 @@ use Rattle.gs_split.proofs.turns.exact_numbers.Goals as goal
 
 pub bounds-known-from : goal.bounds-known-from
 bounds-known-from c =
-    let l = last_is (rules_of c.args.signals.now) in
+    let l = last_is (rules_of c.args.grouped.now.signals.now) in
     omega (arith, c.from-in-loop-done.ensures, c.requires.known.long, c.loop-done-test.true, c.rounds-done-end.ensures.value, l)
 
 pub round_numbers-requires-clause-top : goal.round_numbers-requires-clause-top
-round_numbers-requires-clause-top c = omega (arith, c.loop-done-test.true, c.rounds-done-end.ensures.value, last_is (rules_of c.args.signals.now))
+round_numbers-requires-clause-top c = omega (arith, c.loop-done-test.true, c.rounds-done-end.ensures.value, last_is (rules_of c.args.grouped.now.signals.now))
 
 pub round_numbers-requires-clause-known : goal.round_numbers-requires-clause-known
 round_numbers-requires-clause-known c =
-    let lt : c.loop-done.done + 1 ≤ last_round (frame_of (rules_of c.args.signals.now)) = omega (arith, c.loop-done-test.true, c.rounds-done-end.ensures.value, last_is (rules_of c.args.signals.now)) in
+    let lt : c.loop-done.done + 1 ≤ last_round (frame_of (rules_of c.args.grouped.now.signals.now)) = omega (arith, c.loop-done-test.true, c.rounds-done-end.ensures.value, last_is (rules_of c.args.grouped.now.signals.now)) in
     let at : c.from-in-loop-done.result ≡ c.loop-done.done + 1 - 1 = omega (arith, c.from-in-loop-done.ensures) in
     λ marked s t one. c.requires.known.same (c.loop-done.done + 1) s t (omega arith) lt (subst (λ k. get_or c.args.known.now k false ≡ true) at marked) one
 
 pub loop-done-preserved : goal.loop-done-preserved
 loop-done-preserved c =
-    let f = frame_of (rules_of c.args.signals.now) in
-    let old = c.args.classes.now.lists in
+    let f = frame_of (rules_of c.args.grouped.now.signals.now) in
+    let old = c.args.grouped.now.classes.now.lists in
     let numbers = c.loop-done.numbers.items in
     let here = c.in_ok-here.here in
     let more : rows c.push.new.self.items ≡ rows numbers ++ here.items ∷ [] = ap (λ (vs : List (Vec ℕ Global)). rows vs) c.in_ok-push.ensures.items ∙ map-append (λ (v : Vec ℕ Global). v.items) numbers (here ∷ []) in
@@ -38,6 +38,6 @@ loop-done-preserved c =
 
 pub returns : goal.returns
 returns c =
-    let g = rules_of c.args.signals.now in
-    all_exact (frame_of g) c.args.classes.now.lists (rows c.loop-done.numbers.items)
+    let g = rules_of c.args.grouped.now.signals.now in
+    all_exact (frame_of g) c.args.grouped.now.classes.now.lists (rows c.loop-done.numbers.items)
     (omega (arith, c.loop-done.invariant.long, c.loop-done-test.false, c.loop-done.auto.done-end, c.rounds-done-end.ensures.value, last_is g)) c.loop-done.invariant.each

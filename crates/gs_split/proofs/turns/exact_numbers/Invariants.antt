@@ -8,5 +8,5 @@ use Rattle.gs_split.proofs.turns.exact_numbers.Given as goal
 abbrev pub invariant-loop-done : goal.invariant-loop-done
 invariant-loop-done l = record {
   long : length (rows l.numbers.items) ≡ l.done;
-  each : AreExactTo (frame_of (rules_of l.signals)) l.classes.lists (rows l.numbers.items);
+  each : AreExactTo (frame_of (rules_of l.grouped.signals.now)) l.grouped.classes.now.lists (rows l.numbers.items);
 }

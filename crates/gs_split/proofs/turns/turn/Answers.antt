@@ -13,9 +13,9 @@ use Rattle.gs_split.proofs.turns.turn.Goals.{After-deref}
 exact : (c : After-deref) → AreExact (frame_of (rules_of c.args.signals.now)) c.args.classes.now.lists (rows c.deref.result.now)
 exact c = subst (λ (vs : List (Vec ℕ Global)). AreExact (frame_of (rules_of c.args.signals.now)) c.args.classes.now.lists (rows vs)) (sym c.deref.ensures.value) c.in_ok-numbers.ensures
 
-pub parted-requires-clause-numbers : goal.parted-requires-clause-numbers
-parted-requires-clause-numbers c =
-    exact_have (frame_of (rules_of c.args.signals.now)) c.args.classes.now.lists (rows c.deref.result.now) (exact (goal.at.parted-requires-clause-numbers c).After-deref)
+pub parted-requires : goal.parted-requires
+parted-requires c =
+    exact_have (frame_of (rules_of c.args.signals.now)) c.args.classes.now.lists (rows c.deref.result.now) (exact (goal.at.parted-requires c).After-deref)
 
 pub returns-clause-turn : goal.returns-clause-turn
 returns-clause-turn c =
