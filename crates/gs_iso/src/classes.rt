@@ -18,55 +18,56 @@ fn noted(last: &mut [u32], number: u32, item: u32) -> u32 {
     }
 }
 
-/// The class of an item, where it has one and has this key.
-fn class_again(
-    above: &[u32],
-    parents: &[u32],
-    numbers: &[u32],
-    classes: &[u32],
-    item: u32,
-    key: ClassKey,
-) -> Option<u32>
-    requires all { length parents.now ≡ length numbers.now }
-    requires within { length classes.now ≤ length numbers.now }
-    requires in_range { All (λ p. p < length above.now) parents.now }
-    ensures { IfSome result (HasClassOf (class_key above.now parents.now numbers.now) classes.now key) }
-{
-    let place = item as usize;
-    if classes.len() <= place || numbers[place] != key.number {
-        return None;
+/// The signals of a round as items: the classes of the round before, and the parent and the number of each item.
+#[derive(Clone, Copy)]
+pub(crate) struct RoundItems<'a> {
+    pub above: &'a [u32],
+    pub parents: &'a [u32],
+    pub numbers: &'a [u32],
+    pub ghost all: { length parents.now ≡ length numbers.now },
+    pub ghost in_range: { All (λ p. p < length above.now) parents.now },
+}
+
+impl RoundItems<'_> {
+    /// What tells an item apart.
+    fn key(self, item: usize) -> ClassKey
+        requires { item < length self.numbers.now }
+        ensures { result ≡ class_key self.entry.above.now self.entry.parents.now self.entry.numbers.now item }
+    {
+        ClassKey {
+            above: self.above[self.parents[item] as usize],
+            number: self.numbers[item],
+        }
     }
-    if above[parents[place] as usize] != key.above {
-        return None;
+
+    /// The class of an item, where it has one and has this key.
+    fn class_again(self, classes: &[u32], item: u32, key: ClassKey) -> Option<u32>
+        requires { length classes.now ≤ length self.numbers.now }
+        ensures { IfSome result (HasClassOf (class_key self.entry.above.now self.entry.parents.now self.entry.numbers.now) classes.now key) }
+    {
+        let class = *classes.get(item as usize)?;
+        if self.key(item as usize) != key {
+            return None;
+        }
+        Some(class)
     }
-    Some(classes[place])
 }
 
 /// The classes of a round, numbered from 1 by first member: two signals are of one class where their parents are, in the round before, and
-/// their numbers are equal. `above` has the classes of the round before.
-pub(crate) fn round_classes(
-    alloc: Global,
-    above: &[u32],
-    parents: &[u32],
-    numbers: &[u32],
-) -> Result<Vec<u32>, AllocError>
-    requires all { length parents.now ≡ length numbers.now }
-    requires few { length numbers.now + 1 < 2 ^ 32 }
-    requires in_range { All (λ p. p < length above.now) parents.now }
-    ensures long { IfOk result (λ v. length v.items ≡ length numbers.now) }
-    ensures classes { IfOk result (λ v. IsKeyClasses (class_key above.now parents.now numbers.now) v.items) }
+/// their numbers are equal.
+pub(crate) fn round_classes(alloc: Global, items: RoundItems<'_>) -> Result<Vec<u32>, AllocError>
+    requires { length items.numbers.now + 1 < 2 ^ 32 }
+    ensures long { IfOk result (λ v. length v.items ≡ length items.entry.numbers.now) }
+    ensures classes { IfOk result (λ v. IsKeyClasses (class_key items.entry.above.now items.entry.parents.now items.entry.numbers.now) v.items) }
 {
-    let most = numbers.iter().max().copied().unwrap_or(0);
+    let most = items.numbers.iter().max().copied().unwrap_or(0);
     let mut last = vec![in alloc; 0; most as usize + 1]?;
     let mut seen = IndexSet::new(alloc);
-    let mut classes = Vec::with_capacity(alloc, numbers.len())?;
-    for (at, number) in numbers.iter().enumerate() {
-        let key = ClassKey {
-            above: above[parents[at] as usize],
-            number: *number,
-        };
+    let mut classes = Vec::with_capacity(alloc, items.numbers.len())?;
+    for (at, number) in items.numbers.iter().enumerate() {
+        let key = items.key(at);
         let item = noted(&mut last, *number, at as u32);
-        if let Some(class) = class_again(above, parents, numbers, &classes, item, key) {
+        if let Some(class) = items.class_again(&classes, item, key) {
             classes.push(class)?;
             continue;
         }

@@ -7,7 +7,7 @@ ghost use Rattle.gs_tree.specs.Trees.{rules_of};
 ghost use Rattle.gs_iso.specs.Numbers.{AreNumberings, classes_above};
 
 use crate::children::child_numbers;
-use crate::classes::round_classes;
+use crate::classes::{RoundItems, round_classes};
 use crate::leaves::leaf_numbers;
 use gs_filter::Classes;
 use gs_tree::Signals;
@@ -50,12 +50,12 @@ fn class_lists(
     let rounds = signals.rounds();
     let mut lists = Vec::with_capacity(alloc, usize::from(rounds))?;
     for done in 0..rounds {
-        let here = round_classes(
-            alloc,
-            last_classes(&lists),
-            signals.parents_in(done + 1),
-            &numbers[usize::from(rounds - done) - 1],
-        )?;
+        let items = RoundItems {
+            above: last_classes(&lists),
+            parents: signals.parents_in(done + 1),
+            numbers: &numbers[usize::from(rounds - done) - 1],
+        };
+        let here = round_classes(alloc, items)?;
         lists.push(here)?;
     }
     Ok(lists)

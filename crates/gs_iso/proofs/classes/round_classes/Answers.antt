@@ -1,4 +1,4 @@
-use Rattle.std.proofs.Common.{ℕ, List, refl, subst}
+use Rattle.std.proofs.Common.{ℕ, List, subst, sym}
 use Rattle.gs_numbers.specs.Numbers.{HasClassOf}
 use Rattle.gs_numbers.proofs.FirstSeen.{seen_again, seen_more}
 use Rattle.gs_iso.specs.Numbers.{class_key}
@@ -8,12 +8,12 @@ use Rattle.gs_iso.proofs.classes.round_classes.Goals as goal
 
 pub loop-at-preserved-in-Some : goal.loop-at-preserved-in-Some
 loop-at-preserved-in-Some c =
-    let key = class_key c.args.above.now c.args.parents.now c.args.numbers.now in
-    let found = subst (λ (xs : List ℕ). HasClassOf key xs (key c.loop-at.at) c.in-Some.class) c.deref.ensures.value c.in-Some.ensures in
-    seen_again child_eq child_exact key _ _ _ _ _ _ c.loop-at.invariant refl found c.in_ok-push.ensures.items
+    let key = class_key c.args.items.above.now c.args.items.parents.now c.args.items.numbers.now in
+    let found = subst (λ (xs : List ℕ). HasClassOf key xs c.key-key.result c.in-Some.class) c.deref.ensures.value c.in-Some.ensures in
+    seen_again child_eq child_exact key _ _ _ _ _ _ c.loop-at.invariant (sym c.key-key.ensures) found c.in_ok-push.ensures.items
 
 pub loop-at-preserved : goal.loop-at-preserved
 loop-at-preserved c =
-    let key = class_key c.args.above.now c.args.parents.now c.args.numbers.now in
+    let key = class_key c.args.items.above.now c.args.items.parents.now c.args.items.numbers.now in
     let n = c.in_ok-class.ensures in
-    seen_more child_eq child_exact key _ _ _ _ _ _ _ c.loop-at.invariant refl n.stored n.grown n.few n.unique n.some c.in_ok-push-2.ensures.items
+    seen_more child_eq child_exact key _ _ _ _ _ _ _ c.loop-at.invariant (sym c.key-key.ensures) n.stored n.grown n.few n.unique n.some c.in_ok-push-2.ensures.items

@@ -5,4 +5,4 @@ use Rattle.gs_iso.proofs.Exact.{child_exact}
 use Rattle.gs_iso.proofs.classes.round_classes.Given as goal
 
 abbrev pub invariant-loop-at : goal.invariant-loop-at
-invariant-loop-at l = AreSeen child_eq child_exact (class_key l.above l.parents l.numbers) l.seen.keys l.classes.items l.at
+invariant-loop-at l = AreSeen child_eq child_exact (class_key l.items.above.now l.items.parents.now l.items.numbers.now) l.seen.keys l.classes.items l.at

@@ -1,50 +1,53 @@
 use Rattle.std.proofs.Common.{◌≡◌, ◌+◌, ◌-◌, ◌<◌, ◌∷◌, [], ◌∙◌, suc, ℕ, List, Vec, Global, ap, arith, get_or, length, length-append, subst, sym}
-use Rattle.gs_model.specs.Game.{round_count}
 use Rattle.gs_model.specs.Signals.{parents}
 use Rattle.gs_filter.specs.Rows.{rows}
 use Rattle.gs_filter.proofs.RowLaws.{length-rows, row_read}
 use Rattle.gs_tree.specs.Trees.{rules_of}
-use Rattle.gs_iso.specs.Numbers.{classes_above}
-use Rattle.gs_iso.proofs.Listed.{AreClassesIn, above_in, all_classes, classes_next, numbers_in, ready, rows_more}
+use Rattle.gs_iso.specs.Numbers.{IsNumbering, classes_above}
+use Rattle.gs_iso.proofs.Listed.{AreClassesIn, AreReady, above_in, all_classes, classes_next, numbers_in, ready, rows_more}
 use Rattle.gs_iso.proofs.signal_classes.class_lists.Goals as goal
+use Rattle.gs_iso.proofs.signal_classes.class_lists.Goals.{After-deref-in-loop-done}
 
-pub round_classes-requires : goal.round_classes-requires
-round_classes-requires c =
-    let g = rules_of c.args.signals.now in
-    let done = c.loop-done.done in
-    let above = c.last_classes.result.now in
-    let ps = c.parents_in.result.now in
-    let numbers = c.deref-in-loop-done.result.now in
+-- the classes of the round before
+above : (c : After-deref-in-loop-done) → AreClassesIn (rules_of c.args.signals.now) c.loop-done.done c.last_classes.result.now
+above c =
+    above_in (rules_of c.args.signals.now) c.loop-done.lists.items c.loop-done.done c.last_classes.result.now c.loop-done.invariant.long
+    (c.last_classes.ensures ∙ ap (λ (vs : List (Vec ℕ Global)). classes_above (rows vs)) c.deref.ensures.value) c.loop-done.invariant.each
+
+-- the numbers of the round
+numbered : (c : After-deref-in-loop-done) → IsNumbering (rules_of c.args.signals.now) (suc c.loop-done.done) c.deref-in-loop-done.result.now
+numbered c =
     let all = c.args.numbers.now in
     let i = c.from-in-loop-done.result - 1 in
-    let lt : done < round_count g = omega (arith, c.loop-done-test.true, c.rounds-rounds.ensures.value) in
-    let next : done + 1 ≡ suc done = omega arith in
     let n = length-rows all in
     let in' : i < length all = omega (arith, n, c.requires.rounds, c.from-in-loop-done.ensures, c.loop-done-test.true, c.rounds-rounds.ensures.value) in
-    let a = above_in g c.loop-done.lists.items done above c.loop-done.invariant.long (c.last_classes.ensures ∙ ap (λ (vs : List (Vec ℕ Global)). classes_above (rows vs)) c.deref.ensures.value) c.loop-done.invariant.each in
-    let m = numbers_in g (rows all) i (suc done) numbers c.requires (omega (arith, n, in')) (omega (arith, c.from-in-loop-done.ensures, c.loop-done-test.true, c.rounds-rounds.ensures.value))
-    (c.deref-in-loop-done.ensures.value ∙ row_read all i c.index-numbers-from.result in' c.index-numbers-from.is) in
-    let r = ready g done above ps numbers c.args.signals.now.game.now.limits lt a (c.parents_in.ensures ∙ ap (parents g) next) m in
-    record { all = r.all; few = r.few; in_range = r.in_range }
+    numbers_in (rules_of c.args.signals.now) (rows all) i (suc c.loop-done.done) c.deref-in-loop-done.result.now c.requires (omega (arith, n, in')) (omega (arith, c.from-in-loop-done.ensures, c.loop-done-test.true, c.rounds-rounds.ensures.value))
+    (c.deref-in-loop-done.ensures.value ∙ row_read all i c.index-numbers-from.result in' c.index-numbers-from.is)
+
+parents_are : (c : After-deref-in-loop-done) → c.parents_in.result.now ≡ parents (rules_of c.args.signals.now) (suc c.loop-done.done)
+parents_are c = let next : c.loop-done.done + 1 ≡ suc c.loop-done.done = omega arith in c.parents_in.ensures ∙ ap (parents (rules_of c.args.signals.now)) next
+
+are_ready : (c : After-deref-in-loop-done) → AreReady c.last_classes.result.now c.parents_in.result.now c.deref-in-loop-done.result.now
+are_ready c =
+    ready (rules_of c.args.signals.now) c.loop-done.done c.last_classes.result.now c.parents_in.result.now c.deref-in-loop-done.result.now c.args.signals.now.game.now.limits
+    (omega (arith, c.loop-done-test.true, c.rounds-rounds.ensures.value)) (above c) (parents_are c) (numbered c)
+
+pub invariant_of-items : goal.invariant_of-items
+invariant_of-items c =
+    let r = are_ready (goal.at.invariant_of-items c).After-deref-in-loop-done in
+    record { all = r.all; in_range = r.in_range }
+
+pub round_classes-requires : goal.round_classes-requires
+round_classes-requires c = (are_ready (goal.at.round_classes-requires c).After-deref-in-loop-done).few
 
 pub loop-done-preserved : goal.loop-done-preserved
 loop-done-preserved c =
+    let at = (goal.at.loop-done-preserved c).After-deref-in-loop-done in
     let g = rules_of c.args.signals.now in
-    let done = c.loop-done.done in
     let lists = c.loop-done.lists.items in
     let here = c.in_ok-here.here in
     let pushed = c.in_ok-push.ensures.items in
-    let above = c.last_classes.result.now in
-    let numbers = c.deref-in-loop-done.result.now in
-    let all = c.args.numbers.now in
-    let i = c.from-in-loop-done.result - 1 in
-    let next : done + 1 ≡ suc done = omega arith in
-    let n = length-rows all in
-    let in' : i < length all = omega (arith, n, c.requires.rounds, c.from-in-loop-done.ensures, c.loop-done-test.true, c.rounds-rounds.ensures.value) in
-    let a = above_in g lists done above c.loop-done.invariant.long (c.last_classes.ensures ∙ ap (λ (vs : List (Vec ℕ Global)). classes_above (rows vs)) c.deref.ensures.value) c.loop-done.invariant.each in
-    let m = numbers_in g (rows all) i (suc done) numbers c.requires (omega (arith, n, in')) (omega (arith, c.from-in-loop-done.ensures, c.loop-done-test.true, c.rounds-rounds.ensures.value))
-    (c.deref-in-loop-done.ensures.value ∙ row_read all i c.index-numbers-from.result in' c.index-numbers-from.is) in
-    let k = classes_next g done above numbers here.items a m c.in_ok-here.ensures.long c.parents_in.result.now (c.parents_in.ensures ∙ ap (parents g) next) c.in_ok-here.ensures.classes in
+    let k = classes_next g c.loop-done.done c.last_classes.result.now c.deref-in-loop-done.result.now here.items (above at) (numbered at) c.in_ok-here.ensures.long c.parents_in.result.now (parents_are at) c.in_ok-here.ensures.classes in
     record {
       long = ap length pushed ∙ length-append lists (here ∷ []) ∙ ap (λ k. k + 1) c.loop-done.invariant.long;
       each = subst (λ (vs : List (Vec ℕ Global)). (k : ℕ) → k < length vs → AreClassesIn g (suc k) (get_or (rows vs) k [])) (sym pushed)
