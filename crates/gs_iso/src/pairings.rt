@@ -1,9 +1,9 @@
 //! Bijections between the children of two signals.
 
-ghost use Rattle.std.specs.Prelude.{◌<◌, ◌≤◌, IfOk, length};
+ghost use Rattle.std.specs.Prelude.{◌<◌, ◌≤◌, ◌+◌, IfOk, length};
 ghost use Rattle.gs_model.specs.{Game.{round_count}, Signals.{signal_at, signals as signals_in}};
 ghost use Rattle.gs_tree.specs.{Trees.{rules_of}, Walk.{last_count}};
-ghost use Rattle.gs_iso.specs.Pairings.{IsPaired};
+ghost use Rattle.gs_iso.specs.{Numbers.{IsNumbering}, Pairings.{IsPaired}};
 
 use crate::children::children_under;
 use crate::equals::match_equals;
@@ -30,11 +30,12 @@ fn leaf_pairing(
     match_equals(alloc, &ones, &twos)
 }
 
-/// The pairing of two signals of a round before the last, by their children.
+/// The pairing of two signals of a round before the last, by their children. `below` has the numbers of the next round.
 fn child_pairing(
     alloc: Global,
     signals: &Signals,
     round: u8,
+    below: &[u32],
     a: u32,
     b: u32,
 ) -> Result<Option<Match>, AllocError>
@@ -42,10 +43,9 @@ fn child_pairing(
     requires before_last { round < round_count (rules_of signals.now) }
     requires a_in { a < length (signals_in (rules_of signals.now) round) }
     requires b_in { b < length (signals_in (rules_of signals.now) round) }
+    requires numbers { IsNumbering (rules_of signals.now) (round + 1) below.now }
     ensures { IfOk result (IsPaired (rules_of signals.now) round (signal_at (rules_of signals.now) round a) (signal_at (rules_of signals.now) round b)) }
 {
-    let numbers = node_numbers(alloc, signals)?;
-    let below = &numbers[usize::from(signals.rounds() - round) - 1];
     let ones = children_under(alloc, signals, round, a, below)?;
     let twos = children_under(alloc, signals, round, b, below)?;
     match_equals(alloc, &ones, &twos)
@@ -70,8 +70,9 @@ pub fn pairing(
     ensures { IfOk result (IsPaired (rules_of signals.now) round (signal_at (rules_of signals.now) round a) (signal_at (rules_of signals.now) round b)) }
 {
     if round == signals.rounds() {
-        leaf_pairing(alloc, signals, a, b)
-    } else {
-        child_pairing(alloc, signals, round, a, b)
+        return leaf_pairing(alloc, signals, a, b);
     }
+    let numbers = node_numbers(alloc, signals)?;
+    let below = &numbers[usize::from(signals.rounds() - round) - 1];
+    child_pairing(alloc, signals, round, below, a, b)
 }
