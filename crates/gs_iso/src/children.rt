@@ -1,6 +1,6 @@
 //! The numbers of signals before the last round, by their children's.
 
-ghost use Rattle.std.specs.{Prelude.{ℕ, ◌≡◌, ◌<◌, ◌≤◌, ◌+◌, IfOk, List, OnOk, length, map}, List.{range_with_len}};
+ghost use Rattle.std.specs.{Cow.{cow_slice_items}, Prelude.{ℕ, ◌≡◌, ◌<◌, ◌≤◌, ◌+◌, IfOk, OnOk, length, map}, List.{range_with_len}};
 ghost use Rattle.gs_model.specs.{Game.{round_count}, Signals.{child_count, first_child, signals as signals_in}};
 ghost use Rattle.gs_model.specs.Signatures.{IsSignature};
 ghost use Rattle.gs_tree.specs.Trees.{rules_of};
@@ -11,6 +11,7 @@ use gs_numbers::{number_of, number_of_list};
 use gs_tree::Signals;
 use indexmap::IndexSet;
 use std::alloc::{AllocError, Global};
+use std::borrow::CowSlice;
 
 /// The children of a signal, by their places. `below` has the numbers of the next round.
 pub(crate) fn children_under(
@@ -38,18 +39,22 @@ pub(crate) fn children_under(
     Ok(children)
 }
 
-/// For each signal of a round a mark: equal exactly where both the edges to the signals and their numbers are.
-fn edge_marks(
+/// For each signal of a round a mark: equal exactly where both the edges to the signals and their numbers are. Where each edge weighs 1, the
+/// numbers are the marks.
+fn edge_marks<'a>(
     alloc: Global,
     signals: &Signals,
     round: u8,
-    numbers: &[u32],
-) -> Result<Vec<u32>, AllocError>
+    numbers: &'a [u32],
+) -> Result<CowSlice<'a, u32>, AllocError>
     requires some { 0 < round }
     requires last { round ≤ round_count (rules_of signals.now) }
     requires numbers { IsNumbering (rules_of signals.now) round numbers.now }
-    ensures { IfOk result (λ v. AreMarks (rules_of signals.now) round numbers.now v.items) }
+    ensures { IfOk result (λ v. AreMarks (rules_of signals.now) round numbers.now (cow_slice_items v)) }
 {
+    if signals.are_light(round) {
+        return Ok(CowSlice::Borrowed(numbers));
+    }
     let count = signals.count(round);
     let mut seen = IndexSet::new(alloc);
     let mut marks = Vec::with_capacity(alloc, count as usize)?;
@@ -61,7 +66,7 @@ fn edge_marks(
         let mark = number_of(&mut seen, child)?;
         marks.push(mark)?;
     }
-    Ok(marks)
+    Ok(CowSlice::Owned(marks))
 }
 
 /// Puts the marks of a signal's children, in ascending order, into a list in place of what it held. `marks` has those of the next round.
@@ -85,33 +90,7 @@ fn sign_children(
     Ok(())
 }
 
-/// For each signal of a round before the last a number: equal exactly where the signals are isomorphic. `marks` has the marks of the next round.
-fn marked_numbers(
-    alloc: Global,
-    signals: &Signals,
-    round: u8,
-    marks: &[u32],
-) -> Result<Vec<u32>, AllocError>
-    requires some { 0 < round }
-    requires before_last { round < round_count (rules_of signals.now) }
-    requires marks { length marks.now ≡ length (signals_in (rules_of signals.now) (round + 1)) }
-    ensures { IfOk result (λ v. (below : List ℕ) → IsNumbering (rules_of signals.now) (round + 1) below
-        → AreMarks (rules_of signals.now) (round + 1) below marks.now → IsNumbering (rules_of signals.now) round v.items) }
-{
-    let count = signals.count(round);
-    let mut seen = IndexSet::new(alloc);
-    let mut signature = Vec::new(alloc);
-    let mut numbers = Vec::with_capacity(alloc, count as usize)?;
-    for signal in 0..count {
-        sign_children(&mut signature, signals, round, signal, marks)?;
-        let number = number_of_list(alloc, &mut seen, &signature)?;
-        numbers.push(number)?;
-    }
-    Ok(numbers)
-}
-
-/// For each signal of a round before the last a number: equal exactly where the signals are isomorphic. `below` has the numbers of the next round,
-/// which are marks where each edge weighs 1.
+/// For each signal of a round before the last a number: equal exactly where the signals are isomorphic. `below` has the numbers of the next round.
 pub(crate) fn child_numbers(
     alloc: Global,
     signals: &Signals,
@@ -123,9 +102,16 @@ pub(crate) fn child_numbers(
     requires numbers { IsNumbering (rules_of signals.now) (round + 1) below.now }
     ensures { IfOk result (λ v. IsNumbering (rules_of signals.now) round v.items) }
 {
-    if signals.are_light(round + 1) {
-        return marked_numbers(alloc, signals, round, below);
+    let kept = edge_marks(alloc, signals, round + 1, below)?;
+    let marks = kept.as_slice();
+    let count = signals.count(round);
+    let mut seen = IndexSet::new(alloc);
+    let mut signature = Vec::new(alloc);
+    let mut numbers = Vec::with_capacity(alloc, count as usize)?;
+    for signal in 0..count {
+        sign_children(&mut signature, signals, round, signal, marks)?;
+        let number = number_of_list(alloc, &mut seen, &signature)?;
+        numbers.push(number)?;
     }
-    let marks = edge_marks(alloc, signals, round + 1, below)?;
-    marked_numbers(alloc, signals, round, &marks)
+    Ok(numbers)
 }

@@ -3,6 +3,7 @@ use Rattle.gs_numbers.proofs.FirstSeen.{seen_more}
 use Rattle.gs_tree.specs.Trees.{rules_of}
 use Rattle.gs_iso.specs.Numbers.{child_part}
 use Rattle.gs_iso.specs.Orders.{child_eq}
+use Rattle.gs_iso.proofs.Below.{marks_light}
 use Rattle.gs_iso.proofs.Exact.{child_exact}
 use Rattle.gs_iso.proofs.children.edge_marks.Goals as goal
 
@@ -12,6 +13,9 @@ loop-signal-preserved c =
     let n = c.in_ok-mark.ensures in
     let with : ℕ → ℕ × ℕ = λ edge. (edge, get_or c.args.numbers.now c.loop-signal.signal 0) in
     seen_more child_eq child_exact key _ _ _ _ _ _ (with c.edge.result) c.loop-signal.invariant (ap with (sym c.edge.ensures)) n.stored n.grown n.few n.unique n.some c.in_ok-push.ensures.items
+
+pub returns-then-are_light : goal.returns-then-are_light
+returns-then-are_light c = marks_light (rules_of c.args.signals.now) c.args.round c.args.numbers.now c.requires.numbers (c.are_light.ensures.0 c.if-are_light.true)
 
 pub returns : goal.returns
 returns c = record {
