@@ -6,3 +6,18 @@ pub enum Version {
     One,
     Two,
 }
+
+impl Version {
+    ghost use Rattle.std.specs.Prelude.{◌≡◌};
+    ghost use Rattle.gs_file.specs.JsonForm.{version_number};
+
+    /// The number of the version.
+    pub fn number(self) -> u8
+        ensures { result ≡ version_number self }
+    {
+        match self {
+            Version::One => 1,
+            Version::Two => 2,
+        }
+    }
+}
