@@ -7,13 +7,13 @@ use Rattle.std.specs.Str.{bytes_eq}
 use Rattle.std.proofs.lemmas.Bool.{and_parts, false≢true}
 use Rattle.std.proofs.lemmas.Map.Text.{is_eq-slice_cmp}
 use Rattle.std.proofs.lemmas.Slice.Eq.{bytes_eq-Decides}
-use Rattle.toml.specs.Data.{Members, no_members, member, as_integer, as_str, get_member}
+use Rattle.toml.specs.Data.{Data, Members, no_members, member, as_integer, as_str, get_member}
 use Rattle.gs_bet.specs.Limit.{limit_bet}
 use Rattle.gs_model.specs.Betting.{Bet}
 use Rattle.gs_model.specs.Game.{Round as Rules}
 use Rattle.gs_file.specs.Faults.{wrong_type, missing_key}
 use Rattle.gs_file.specs.Keys.{has_only, is_among, key_in, limit_keys, tree_keys, within_round}
-use Rattle.gs_file.specs.Reading.{Play, Tree_text, Limit_of, Round, has_tree, limit_round_at, play_tree, play_within, round_at, round_built, round_within, tree_round_at}
+use Rattle.gs_file.specs.Reading.{Play, PlayValues, Tree_text, Tree_value, Limit_of, Limit_values, Round, has_tree, play_tree, play_typed, play_values, play_within, round_at, round_built, round_keys, round_within}
 use Rattle.gs_file.specs.States.{Has, HasOnly, IsText}
 use Rattle.gs_file.specs.Tables.{only, required, text, whole_number, within}
 use Rattle.gs_file.specs.TreeTexts.{IsTextOf, IsTreeRead}
@@ -54,61 +54,51 @@ pub record RoundHas (r : Round ℤ) (table : Members) : Type 0 where
   pub public : Has table key.Public (IsWhole r.public)
   pub play : PlayHas r.play table
 
-pub tree_round_ok : (n : ℕ) (table : Members) (r : Round ℤ) → tree_round_at File n table ≡ Ok r → RoundHas r table
-unfolding tree_round_at
-tree_round_ok n table r e =
-    let (u, eo, e1) = after (only File tree_keys n table) _ r e in
-    let (p, ep, e2) = after (required File table (within_round n key.Private)) _ r e1 in
-    let (q, eq, e3) = after (required File table (within_round n key.Public)) _ r e2 in
-    let (t, et, e4) = after (required File table (within_round n key.Tree)) _ r e3 in
-    let (private, ei, e5) = after (whole_number (within_round n key.Private) p) _ r e4 in
-    let (public, ej, e6) = after (whole_number (within_round n key.Public) q) _ r e5 in
-    let (tree, ek, e7) = after (text (within_round n key.Tree) t) _ r e6 in
-    subst (λ w. RoundHas w table) (same_ok _ r e7) (record {
-      private = (p, found_ok (get_member (key_in File key.Private) table) (missing_key (within_round n key.Private)) p ep, found_ok (as_integer p) (wrong_type (within_round n key.Private)) private ei);
-      public = (q, found_ok (get_member (key_in File key.Public) table) (missing_key (within_round n key.Public)) q eq, found_ok (as_integer q) (wrong_type (within_round n key.Public)) public ej);
-      play = (only_ok tree_keys n table u eo, (t, found_ok (get_member (key_in File key.Tree) table) (missing_key (within_round n key.Tree)) t et, found_ok (as_str t) (wrong_type (within_round n key.Tree)) tree ek));
-    })
+-- a key that has to be there, with a value of its type
+whole_has : (n : ℕ) (k : Key) (table : Members) (d : Data) (z : ℤ) → required File table (within_round n k) ≡ Ok d → whole_number (within_round n k) d ≡ Ok z → Has table k (IsWhole z)
+whole_has n k table d z ed ez = (d, found_ok (get_member (key_in File k) table) (missing_key (within_round n k)) d ed, found_ok (as_integer d) (wrong_type (within_round n k)) z ez)
 
-pub limit_round_ok : (n : ℕ) (table : Members) (r : Round ℤ) → limit_round_at File n table ≡ Ok r → RoundHas r table
-unfolding limit_round_at
-limit_round_ok n table r e =
-    let (u, eo, e1) = after (only File limit_keys n table) _ r e in
-    let (p, ep, e2) = after (required File table (within_round n key.Private)) _ r e1 in
-    let (q, eq, e3) = after (required File table (within_round n key.Public)) _ r e2 in
-    let (b, eb, e4) = after (required File table (within_round n key.Bet)) _ r e3 in
-    let (c, ec, e5) = after (required File table (within_round n key.Cap)) _ r e4 in
-    let (private, ei, e6) = after (whole_number (within_round n key.Private) p) _ r e5 in
-    let (public, ej, e7) = after (whole_number (within_round n key.Public) q) _ r e6 in
-    let (bet, ek, e8) = after (whole_number (within_round n key.Bet) b) _ r e7 in
-    let (cap, el, e9) = after (whole_number (within_round n key.Cap) c) _ r e8 in
-    subst (λ w. RoundHas w table) (same_ok _ r e9) (record {
-      private = (p, found_ok (get_member (key_in File key.Private) table) (missing_key (within_round n key.Private)) p ep, found_ok (as_integer p) (wrong_type (within_round n key.Private)) private ei);
-      public = (q, found_ok (get_member (key_in File key.Public) table) (missing_key (within_round n key.Public)) q eq, found_ok (as_integer q) (wrong_type (within_round n key.Public)) public ej);
-      play = (
-        only_ok limit_keys n table u eo,
-        (b, found_ok (get_member (key_in File key.Bet) table) (missing_key (within_round n key.Bet)) b eb, found_ok (as_integer b) (wrong_type (within_round n key.Bet)) bet ek),
-        (c, found_ok (get_member (key_in File key.Cap) table) (missing_key (within_round n key.Cap)) c ec, found_ok (as_integer c) (wrong_type (within_round n key.Cap)) cap el),
-      );
-    })
+play_ok : (by_tree : Bool) (n : ℕ) (table : Members) (values : PlayValues) (play : Play ℤ) → HasOnly table (round_keys by_tree) → play_values File n table by_tree ≡ Ok values → play_typed n values ≡ Ok play → PlayHas play table
+play_ok true n table values play o ev ep =
+    let (t, et, e1) = after (required File table (within_round n key.Tree)) (λ tree. Ok (Tree_value tree)) values ev in
+    let typed : play_typed n (Tree_value t) ≡ Ok play = ap (play_typed n) (same_ok (Tree_value t) values e1) ∙ ep in
+    let (words, ew, e2) = after (text (within_round n key.Tree) t) (λ words. Ok (Tree_text words)) play typed in
+    subst (λ p. PlayHas p table) (same_ok (Tree_text words) play e2)
+    (o, (t, found_ok (get_member (key_in File key.Tree) table) (missing_key (within_round n key.Tree)) t et, found_ok (as_str t) (wrong_type (within_round n key.Tree)) words ew))
+play_ok false n table values play o ev ep =
+    let (b, eb, e1) = after (required File table (within_round n key.Bet)) _ values ev in
+    let (c, ec, e2) = after (required File table (within_round n key.Cap)) _ values e1 in
+    let typed : play_typed n (Limit_values b c) ≡ Ok play = ap (play_typed n) (same_ok (Limit_values b c) values e2) ∙ ep in
+    let (bet, ei, e3) = after (whole_number (within_round n key.Bet) b) _ play typed in
+    let (cap, ej, e4) = after (whole_number (within_round n key.Cap) c) _ play e3 in
+    subst (λ p. PlayHas p table) (same_ok (Limit_of bet cap) play e4) (o, whole_has n key.Bet table b bet eb ei, whole_has n key.Cap table c cap ec ej)
 
 pub round_ok : (n : ℕ) (table : Members) (r : Round ℤ) → round_at File n table ≡ Ok r → RoundHas r table
 unfolding round_at
-round_ok n table r e = by (has_tree File table) e
-  where
-    by : (b : Bool) → (if b then tree_round_at File n table else limit_round_at File n table) ≡ Ok r → RoundHas r table
-    by true e = tree_round_ok n table r e
-    by false e = limit_round_ok n table r e
+round_ok n table r e =
+    let by_tree = has_tree File table in
+    let (u, eo, e1) = after (only File (round_keys by_tree) n table) _ r e in
+    let (p, ep, e2) = after (required File table (within_round n key.Private)) _ r e1 in
+    let (q, eq, e3) = after (required File table (within_round n key.Public)) _ r e2 in
+    let (values, ev, e4) = after (play_values File n table by_tree) _ r e3 in
+    let (private, ei, e5) = after (whole_number (within_round n key.Private) p) _ r e4 in
+    let (public, ej, e6) = after (whole_number (within_round n key.Public) q) _ r e5 in
+    let (play, ek, e7) = after (play_typed n values) _ r e6 in
+    subst (λ w. RoundHas w table) (same_ok _ r e7) (record {
+      private = whole_has n key.Private table p private ep ei;
+      public = whole_has n key.Public table q public eq ej;
+      play = play_ok by_tree n table values play (only_ok (round_keys by_tree) n table u eo) ev ek;
+    })
 
 pub round_is : (n : ℕ) (table : Members) (r : Round ℤ) → RoundHas r table → round_at File n table ≡ Ok r
-unfolding round_at tree_round_at limit_round_at
+unfolding round_at
 round_is n table r h = by r.play h.play refl
   where
     by : (play : Play ℤ) → PlayHas play table → r.play ≡ play → round_at File n table ≡ Ok r
     by (Tree_text words) (none_else, (t, found, is)) same =
         let (p, fp, ip) = h.private in
         let (q, fq, iq) = h.public in
-        rw (found, none_else, fp, fq, ip, iq, is) (ap (λ play. Ok (record { private = r.private; public = r.public; play = play })) (sym same))
+        rw (found, found, none_else, fp, fq, ip, iq, is) (ap (λ play. Ok (record { private = r.private; public = r.public; play = play })) (sym same))
     by (Limit_of bet most) (none_else, (b, fb, ib), (c, fc, ic)) same =
         let (p, fp, ip) = h.private in
         let (q, fq, iq) = h.public in

@@ -37,10 +37,10 @@ abbrev pub key_in : Form → Key → List ℕ
 key_in form key.Round = rounds_key form
 key_in form k = key_text k
 
--- the keys that may stand at the top, by version
+-- the keys that may stand at the top, by version: `bonus`, the last, in version 2 alone
 abbrev pub top_keys : Version → List Key
 top_keys One = key.Version ∷ key.Ranks ∷ key.Suits ∷ key.Copies ∷ key.Ranking ∷ key.Ante ∷ key.Round ∷ []
-top_keys Two = key.Version ∷ key.Ranks ∷ key.Suits ∷ key.Copies ∷ key.Ranking ∷ key.Bonus ∷ key.Ante ∷ key.Round ∷ []
+top_keys Two = key.Version ∷ key.Ranks ∷ key.Suits ∷ key.Copies ∷ key.Ranking ∷ key.Ante ∷ key.Round ∷ key.Bonus ∷ []
 
 -- the keys that may stand in a round with a tree
 abbrev pub tree_keys : List Key

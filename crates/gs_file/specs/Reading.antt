@@ -1,6 +1,6 @@
 -- What a game file or a value of JSON states, or the first check that fails: the checks stand in their order. Source: this project's game files and
 -- strategy files.
-use Rattle.std.specs.Prelude.{ℕ, zero, suc, ℤ, pos, ◌-◌, ◌==◌, ◌||◌, Bool, true, List, Option, Some, None, is_some, Result, Ok, Err, codes, length, replicate, nat_lt, if◌then◌else◌}
+use Rattle.std.specs.Prelude.{ℕ, zero, suc, ℤ, pos, ◌-◌, ◌==◌, ◌||◌, Bool, true, false, List, Option, Some, None, is_some, Result, Ok, Err, codes, length, replicate, nat_lt, if◌then◌else◌}
 use Rattle.std.specs.Option.{ok_or}
 use Rattle.std.specs.Str.{bytes_eq, is_utf8}
 use Rattle.toml.specs.Parse.{parse_document}
@@ -18,6 +18,7 @@ use Rattle.gs_model.specs.Outcome.{categories}
 use Rattle.gs_file.specs.Faults.{Fault, not_text, not_toml, bad_version, range, deck, tree_text, game, ◌>>=◌}
 use Rattle.gs_file.specs.Keys.{top, within_round, top_keys, tree_keys, limit_keys, key_text}
 use Rattle.gs_file.specs.Tables.{required, only, whole_number, text, text_or_empty, tables_in, whole_numbers_in, each, within}
+use Rattle.gs_file.specs.declared.fault.Key.{Key}
 use Rattle.gs_file.specs.declared.fault.Key.TheVariants as key
 use Rattle.gs_file.specs.declared.form.Form.{Form}
 use Rattle.gs_file.specs.declared.form.Form.TheVariants.{File, Json}
@@ -129,40 +130,48 @@ pub record Round (N : Type 0) : Type 0 where
   pub public : N
   pub play : Play N
 
--- a round with a tree: exactly the keys `private`, `public` and `tree`, two integers and a string
-unfoldable pub tree_round_at : Form → ℕ → Members → Result (Round ℤ) Fault
-tree_round_at form n table = do
-  _ ← only form tree_keys n table
-  private ← required form table (within_round n key.Private)
-  public ← required form table (within_round n key.Public)
-  tree ← required form table (within_round n key.Tree)
-  private ← whole_number (within_round n key.Private) private
-  public ← whole_number (within_round n key.Public) public
-  tree ← text (within_round n key.Tree) tree
-  Ok (record { private = private; public = public; play = Tree_text tree })
-
--- a round with limit betting: exactly the keys `private`, `public`, `bet` and `cap`, all integers
-unfoldable pub limit_round_at : Form → ℕ → Members → Result (Round ℤ) Fault
-limit_round_at form n table = do
-  _ ← only form limit_keys n table
-  private ← required form table (within_round n key.Private)
-  public ← required form table (within_round n key.Public)
-  bet ← required form table (within_round n key.Bet)
-  cap ← required form table (within_round n key.Cap)
-  private ← whole_number (within_round n key.Private) private
-  public ← whole_number (within_round n key.Public) public
-  bet ← whole_number (within_round n key.Bet) bet
-  cap ← whole_number (within_round n key.Cap) cap
-  Ok (record { private = private; public = public; play = Limit_of bet cap })
-
 -- whether a round is told by its tree: in a game file where the key `tree` is there, in JSON always
 abbrev pub has_tree : Form → Members → Bool
 has_tree File table = is_some (get_member (key_text key.Tree) table)
 has_tree (Json version) table = true
 
--- a round: with a tree where it is told by it, else with limit betting
+-- the values that a round's betting is told by: a tree's text, or a bet and a cap
+pub data PlayValues : Type 0 where
+  Tree_value : Data → PlayValues
+  Limit_values : (bet cap : Data) → PlayValues
+
+-- the keys that may stand in a round, by whether it is told by its tree
+abbrev pub round_keys : Bool → List Key
+round_keys true = tree_keys
+round_keys false = limit_keys
+
+-- the values of a round's betting
+abbrev pub play_values : Form → ℕ → Members → Bool → Result PlayValues Fault
+play_values form n table true = required form table (within_round n key.Tree) >>= λ tree. Ok (Tree_value tree)
+play_values form n table false = do
+  bet ← required form table (within_round n key.Bet)
+  cap ← required form table (within_round n key.Cap)
+  Ok (Limit_values bet cap)
+
+-- a round's betting: its tree is a string, its bet and its cap are integers
+abbrev pub play_typed : ℕ → PlayValues → Result (Play ℤ) Fault
+play_typed n (Tree_value tree) = text (within_round n key.Tree) tree >>= λ words. Ok (Tree_text words)
+play_typed n (Limit_values bet cap) = do
+  bet ← whole_number (within_round n key.Bet) bet
+  cap ← whole_number (within_round n key.Cap) cap
+  Ok (Limit_of bet cap)
+
+-- a round: exactly the keys `private` and `public`, which are integers, and those of its betting
 unfoldable pub round_at : Form → ℕ → Members → Result (Round ℤ) Fault
-round_at form n table = if has_tree form table then tree_round_at form n table else limit_round_at form n table
+round_at form n table = do
+  _ ← only form (round_keys (has_tree form table)) n table
+  private ← required form table (within_round n key.Private)
+  public ← required form table (within_round n key.Public)
+  values ← play_values form n table (has_tree form table)
+  private ← whole_number (within_round n key.Private) private
+  public ← whole_number (within_round n key.Public) public
+  play ← play_typed n values
+  Ok (record { private = private; public = public; play = play })
 
 -- ---- the ranges
 

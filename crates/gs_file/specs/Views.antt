@@ -5,12 +5,14 @@ use Rattle.gs_card.specs.Rankings.{ranking_of}
 use Rattle.gs_game.specs.Games.{round_of}
 use Rattle.gs_game.specs.declared.game.Game.{Game}
 use Rattle.gs_game.specs.declared.valid.ValidGame.{ValidGame}
-use Rattle.gs_file.specs.Reading.{Play, Tree_text, Limit_of, Round, TopValues as TopData, Top, Stated, FileGame}
+use Rattle.gs_file.specs.Reading.{Play, PlayValues, Tree_text, Tree_value, Limit_of, Limit_values, Round, TopValues as TopData, Top, Stated, FileGame}
 use Rattle.gs_file.specs.declared.parts.TopValues.{TopValues}
 use Rattle.gs_file.specs.declared.parts.TopFields.{TopFields}
 use Rattle.gs_file.specs.declared.parts.RoundFields.{RoundFields}
 use Rattle.gs_file.specs.declared.parts.Betting.{Betting}
 use Rattle.gs_file.specs.declared.parts.Betting.TheVariants as betting
+use Rattle.gs_file.specs.declared.parts.BettingValues.{BettingValues}
+use Rattle.gs_file.specs.declared.parts.BettingValues.TheVariants as told
 use Rattle.gs_file.specs.declared.parts.RoundSizes.{RoundSizes}
 use Rattle.gs_file.specs.declared.parts.Sizes.{Sizes}
 use Rattle.gs_file.specs.declared.parts.StatedGame.{StatedGame}
@@ -39,6 +41,11 @@ top_view t = record {
   ante = t.ante;
   rounds = map (λ d. table_view d.now) t.rounds.items;
 }
+
+-- the values of a round's betting, as the definitions see them
+abbrev pub betting_view : BettingValues → PlayValues
+betting_view (told.Tree tree) = Tree_value (view tree.now)
+betting_view (told.Limit bet cap) = Limit_values (view bet.now) (view cap.now)
 
 -- how a round is bet, as the definitions see it
 abbrev pub play_view : Betting → Play ℤ

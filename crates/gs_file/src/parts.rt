@@ -31,6 +31,13 @@ pub struct TopFields<'t> {
     pub rounds: Vec<&'t Table>,
 }
 
+/// The values that a round's betting is told by.
+#[derive(Clone, Copy)]
+pub enum BettingValues<'t> {
+    Tree(&'t Value),
+    Limit { bet: &'t Value, cap: &'t Value },
+}
+
 /// How a round is bet.
 #[derive(Clone, Copy)]
 pub enum Betting<'t> {

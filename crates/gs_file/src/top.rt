@@ -36,39 +36,23 @@ fn version(form: Form, table: &Table) -> Result<Version, FileFault>
     version_by_number(form, number)
 }
 
+/// No key but those of the version stands at the top: `bonus`, the last, in version 2 alone.
 fn check_top_keys(form: Form, table: &Table, version: Version) -> Result<(), FileFault>
     ensures { Gives (λ v. v) result (only form (top_keys version) 0 (table_view table.now)) }
 {
+    let keys = [
+        Key::Version,
+        Key::Ranks,
+        Key::Suits,
+        Key::Copies,
+        Key::Ranking,
+        Key::Ante,
+        Key::Round,
+        Key::Bonus,
+    ];
     match version {
-        Version::One => check_only(
-            form,
-            table,
-            &[
-                Key::Version,
-                Key::Ranks,
-                Key::Suits,
-                Key::Copies,
-                Key::Ranking,
-                Key::Ante,
-                Key::Round,
-            ],
-            0,
-        ),
-        Version::Two => check_only(
-            form,
-            table,
-            &[
-                Key::Version,
-                Key::Ranks,
-                Key::Suits,
-                Key::Copies,
-                Key::Ranking,
-                Key::Bonus,
-                Key::Ante,
-                Key::Round,
-            ],
-            0,
-        ),
+        Version::One => check_only(form, table, &keys[..7], 0),
+        Version::Two => check_only(form, table, &keys, 0),
     }
 }
 
