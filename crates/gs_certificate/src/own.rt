@@ -1,41 +1,33 @@
 //! The points of the player whose numbers are checked: a number is to be at least what each move is worth.
 
-ghost use Rattle.std.specs.Prelude.{◌≡◌, ◌<◌, ◌≤◌, ◌≤ℤ◌, ◌<ℤ◌, ◌^◌, IfSome, MatchOption, unsigned_abs};
+ghost use Rattle.std.specs.Prelude.{◌≡◌, ◌<◌, ◌≤◌, ◌≤ℤ◌, ◌<ℤ◌, ◌^◌, MatchOption, unsigned_abs};
 ghost use Rattle.gs_game.specs.Seen.{target_of};
 ghost use Rattle.gs_model.specs.{BestAnswers.{end_worth}, Classes.{IsClass, class_count, first_member}, Frame.{end_count, player_at, round_of}};
 ghost use Rattle.gs_model.specs.Positions.{at_end, at_point};
-ghost use Rattle.gs_seq.specs.{Abstracts.{frame_of, lists_of}, Plans.{class_plan, lifted}};
-ghost use Rattle.gs_certificate.specs.{Claims.{IsClaim, frame_in, lists_in, table_in}, Numbers.{AreHighAt, IsFirstLowAt, Tells}, Paid.{ArePaid}};
+ghost use Rattle.gs_seq.specs.Plans.{lifted};
+ghost use Rattle.gs_certificate.specs.{Claims.{IsClaim, frame_in, lists_in, table_in}, Numbers.{AreHighAt, IsFirstLowAt, Tells}};
 ghost use Rattle.gs_certificate.specs.{Spots.{IsFirstBelow, IsSpot, IsWay}, Worths.{target_worth}};
 
 use crate::claim::Claim;
 use crate::spot::{Spot, Way};
 use crate::spots::way_at;
 use crate::sums::paid_together;
-use crate::tables::EndSums;
 use crate::worths::{number_at, worth};
-use gs_best::{Deviator, class_total, move_total, round_total};
+use gs_best::{class_total, move_total, round_total};
 use gs_game::Target;
 use gs_seq::scaled;
 
 /// Whether a number is less than what an end is worth to a class of its round, from what all members gain together: nothing is divided.
-fn is_below_end(
-    side: &Deviator<'_>,
-    ends: Option<&EndSums>,
-    number: i128,
-    end: u32,
-    round: u8,
-    class: u32,
-) -> bool
-    requires ends { let f = frame_of side.now.form.now in let lists = lists_of side.now.form.now in IfSome ends (λ kept. ArePaid f lists side.now.player (class_plan f lists side.now.other.now) kept.now) }
+fn is_below_end(claim: &Claim<'_>, number: i128, end: u32, round: u8, class: u32) -> bool
+    requires claim { IsClaim claim.now }
     requires small { unsigned_abs number < 2 ^ 90 }
-    requires end { end < end_count (frame_of side.now.form.now) }
-    requires round { round ≡ round_of (frame_of side.now.form.now) (at_end end) }
-    requires class { IsClass (lists_of side.now.form.now) round class }
-    ensures { let f = frame_of side.now.form.now in let lists = lists_of side.now.form.now in let worth = end_worth f side.now.player (lifted f lists side.now.other.now) end (first_member lists (round_of f (at_end end)) class) in
+    requires end { end < end_count (frame_in claim.now) }
+    requires round { round ≡ round_of (frame_in claim.now) (at_end end) }
+    requires class { IsClass (lists_in claim.now) round class }
+    ensures { let f = frame_in claim.now in let lists = lists_in claim.now in let side = claim.now.side.now in let worth = end_worth f side.player (lifted f lists side.other.now) end (first_member lists (round_of f (at_end end)) class) in
         Tells result (number <ℤ worth) (worth ≤ℤ number) }
 {
-    let (together, members) = paid_together(side, ends, end, round, class);
+    let (together, members) = paid_together(claim, end, round, class);
     scaled(u64::from(members), number) < together
 }
 
@@ -53,7 +45,7 @@ fn is_below(claim: &Claim<'_>, spot: Spot, way: Way, class: u32) -> bool
     let number = number_at(claim.side, claim.values, spot, class);
     if let Target::End(end) = way.to {
         if spot.round == way.round {
-            return is_below_end(claim.side, claim.ends, number, end, spot.round, class);
+            return is_below_end(claim, number, end, spot.round, class);
         }
     }
     number < worth(claim, spot, way, class)

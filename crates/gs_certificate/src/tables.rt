@@ -1,11 +1,12 @@
 //! What ends pay a player, end by end and class by class. Both the check of a certificate and the payoff read it.
 
-ghost use Rattle.std.specs.Prelude.{◌≡◌, ◌<◌, ◌≤◌, IfOk, IfSome, length};
+ghost use Rattle.std.specs.Prelude.{◌≡◌, ◌<◌, ◌≤◌, IfOk, length};
 ghost use Rattle.gs_model.specs.{Classes.{IsClass}, Frame.{end_count, round_of}, Payoff.{raw_payoff}, Positions.{at_end}};
 ghost use Rattle.gs_seq.specs.{Abstracts.{frame_of, lists_of}, Payoffs.{end_sum, payoff_at}, Plans.{IsPlanOf, class_plan, lifted}};
 ghost use Rattle.gs_best.specs.Sizes.{IsWide};
-ghost use Rattle.gs_certificate.specs.Paid.{ArePaid};
+ghost use Rattle.gs_certificate.specs.{Claims.{IsClaim, frame_in, lists_in}, Paid.{ArePaid}};
 
+use crate::claim::Claim;
 use gs_best::{Deviator, class_total, end_round, end_total, round_total, widest};
 use gs_seq::{Abstract, Plan, plus, scaled};
 use std::alloc::{AllocError, Global};
@@ -67,15 +68,15 @@ fn kept_at(side: &Deviator<'_>, ends: &EndSums, end: u32, class: u32) -> i128
 }
 
 /// What an end pays the members of a class of its round together: read where it is kept, else added up.
-pub(crate) fn paid_at(side: &Deviator<'_>, ends: Option<&EndSums>, end: u32, class: u32) -> i128
-    requires ends { let f = frame_of side.now.form.now in let lists = lists_of side.now.form.now in
-        IfSome ends (λ kept. ArePaid f lists side.now.player (class_plan f lists side.now.other.now) kept.now) }
-    requires end { end < end_count (frame_of side.now.form.now) }
-    requires class { IsClass (lists_of side.now.form.now) (round_of (frame_of side.now.form.now) (at_end end)) class }
-    ensures { let f = frame_of side.now.form.now in let lists = lists_of side.now.form.now in
-        result ≡ end_sum f lists side.now.player (class_plan f lists side.now.other.now) end class }
+pub(crate) fn paid_at(claim: &Claim<'_>, end: u32, class: u32) -> i128
+    requires claim { IsClaim claim.now }
+    requires end { end < end_count (frame_in claim.now) }
+    requires class { IsClass (lists_in claim.now) (round_of (frame_in claim.now) (at_end end)) class }
+    ensures { let f = frame_in claim.now in let lists = lists_in claim.now in let side = claim.now.side.now in
+        result ≡ end_sum f lists side.player (class_plan f lists side.other.now) end class }
 {
-    match ends {
+    let side = claim.side;
+    match claim.ends {
         Some(kept) => kept_at(side, kept, end, class),
         None => side.form.end_sum(side.player, side.other, end, class),
     }

@@ -15,7 +15,7 @@ scaled-requires c = times_small c.from.result _ (omega (arith, c.from.ensures, c
 
 pub returns : goal.returns
 returns c =
-    let d = c.args.side.now in
+    let d = c.args.claim.now.side.now in
     let worth = end_worth (frame d) d.player (against d) c.args.end (first_member (lists d) (round_of (frame d) (at_end c.args.end)) c.args.class) in
     share_tells c.from.result c.args.number worth _ _ (omega (arith, c.from.ensures, c.paid_together-together.ensures.some))
     (read_back c.scaled.result _ (record { sfits = c.scaled.type_inv }) (c.scaled.ensures ∙ ap (λ x. pos c.from.result *ℤ x) (sym (kept c.args.number c.requires.small))))
