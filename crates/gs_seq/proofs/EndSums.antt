@@ -134,13 +134,16 @@ stake_size player folder put = by (player == folder)
     by true = omega (arith, ints, abs_is (neg_ℤ (pos put)))
     by false = omega (arith, ints, abs_is (pos put))
 
--- what an end pays is at most 36,864 chips a deal
-pub pays_size : (player : ℕ) (z : End) (p : Pair) → z.put ≤ 4096 → unsigned_abs p.signed ≤ 9 * p.weight → unsigned_abs (pair_pays player z p) ≤ 36864 * p.weight
-pays_size player z p few moderate = by z.kind refl
+-- what an end pays is at most nine times its chips a deal
+pub pays_size : (player most : ℕ) (z : End) (p : Pair) → z.put ≤ most → unsigned_abs p.signed ≤ 9 * p.weight → unsigned_abs (pair_pays player z p) ≤ most * (9 * p.weight)
+pays_size player most z p few moderate = by z.kind refl
   where
-    by : (k : EndKind) → z.kind ≡ k → unsigned_abs (pair_pays player z p) ≤ 36864 * p.weight
-    by Folded1 k = rw k (omega (arith, unsigned_abs-mul (stake player 1 z.put) (pos p.weight), abs_is (pos p.weight), mul-le-mul_right p.weight (stake_size player 1 z.put), mul-le-mul_right p.weight few))
-    by Folded2 k = rw k (omega (arith, unsigned_abs-mul (stake player 2 z.put) (pos p.weight), abs_is (pos p.weight), mul-le-mul_right p.weight (stake_size player 2 z.put), mul-le-mul_right p.weight few))
+    once : most * p.weight ≤ most * (9 * p.weight)
+    once = mul-le-mul_left most (omega arith)
+
+    by : (k : EndKind) → z.kind ≡ k → unsigned_abs (pair_pays player z p) ≤ most * (9 * p.weight)
+    by Folded1 k = rw k (omega (arith, unsigned_abs-mul (stake player 1 z.put) (pos p.weight), abs_is (pos p.weight), mul-le-mul_right p.weight (stake_size player 1 z.put), mul-le-mul_right p.weight few, once))
+    by Folded2 k = rw k (omega (arith, unsigned_abs-mul (stake player 2 z.put) (pos p.weight), abs_is (pos p.weight), mul-le-mul_right p.weight (stake_size player 2 z.put), mul-le-mul_right p.weight few, once))
     by Show k = rw k (omega (arith, unsigned_abs-mul (pos z.put) p.signed, mul-le-mul_left z.put moderate, mul-le-mul_right (9 * p.weight) few))
 
 -- what a pair adds
@@ -193,7 +196,7 @@ module _ (f : Frame) (r : InRange f) (lists : ClassLists) (k : IsClasses f.paren
   signed_few = row_signed f (is_table f r) lists k (round_of f (at_end z)) (w.end_round z l) (w.end_in z l) c row h few.outcomes
 
   pub pays_few : (i : ℕ) (d : Pair) → i < length row → unsigned_abs (pair_pays player (end_at f z) (get_or row i d)) ≤ 36864 * (get_or row i d).weight
-  pays_few i d m = pays_size player (end_at f z) (get_or row i d) (few.puts z l) (signed_few i d m)
+  pays_few i d m = omega (arith, pays_size player 4096 (end_at f z) (get_or row i d) (few.puts z l) (signed_few i d m))
 
   -- the sum over some first pairs of a row, with numbers that are not over a bound
   pub prefix_small : (n : ℕ → ℕ) (t : ℕ) → ((e : ℕ) → IsClass lists (round_of f (at_end z)) e → n e ≤ t) → (i : ℕ)
@@ -218,11 +221,6 @@ module _ (f : Frame) (r : InRange f) (lists : ClassLists) (k : IsClasses f.paren
         mul-le-mul_left m (sum_by-take-le (λ (p : Pair). p.weight) row i),
         ap (λ n. m * n) (row_weighs f (is_table f r) lists k (round_of f (at_end z)) (w.end_round z l) (w.end_in z l) c row h),
       )
-
-  -- so with the numbers of a plan
-  pub prefix_few : (y : Plan) → ((e : ℕ) → IsClass lists (round_of f (at_end z)) e → class_number f lists (other_player player) y z e ≤ y.total) → (i : ℕ)
-      → unsigned_abs (sum_z (pair_term f lists player y z) (take i row)) ≤ (36864 * y.total) * weight_here
-  prefix_few y within i = prefix_small (λ e. class_number f lists (other_player player) y z e) y.total within i
 
 -- ---- sums by numbers in a list
 

@@ -1,5 +1,5 @@
 -- What a game in sequence form reads of its game and classes.
-use Rattle.std.proofs.Common.{◌≡◌, ℕ, ◌<◌, ◌≤◌, List, map, get_or, ap, ◌∙◌, sym, subst, inl, inr, ⊎_elim, arith}
+use Rattle.std.proofs.Common.{◌≡◌, ℕ, ◌<◌, ◌≤◌, List, map, get_or, refl, ap, ◌∙◌, sym, subst, inl, inr, ⊎_elim, arith}
 use Rattle.std.specs.Prelude.{◌⊎◌}
 use Rattle.std.proofs.lemmas.Bool.{cases_eq}
 use Rattle.gs_game.specs.Games.{game_of}
@@ -11,7 +11,9 @@ use Rattle.gs_model.specs.Frame.{Frame, end_at, end_count, round_of}
 use Rattle.gs_model.specs.FrameFacts.{InRange, IsWalked}
 use Rattle.gs_model.specs.Positions.{at_end}
 use Rattle.gs_model.proofs.Ranges.{in_range as in_range_of}
+use Rattle.gs_seq.specs.Abstracts.{frame_of, lists_of}
 use Rattle.gs_seq.specs.Games.{frame_in}
+use Rattle.gs_seq.specs.declared.form.Abstract.{Abstract}
 use Rattle.gs_seq.proofs.Ends.{end_reads, end_round}
 use Rattle.gs_seq.proofs.Points.{playable, walked as walked_by}
 use Rattle.gs_seq.proofs.Sizes.{AreModest, modest}
@@ -37,6 +39,10 @@ pub given : (g : ValidGame) (f : Frame) (lists : ClassLists) → frame_in g ≡ 
 given g f lists same classes =
     subst (λ x. IsClasses x.parents lists → AreGiven x lists) same
     (λ k. record { in_range = in_range_of (game_of g.game) (playable g); classes = k; modest = modest g; walked = walked_by g }) classes
+
+-- the same of a game in sequence form
+pub given_in : (a : Abstract) → IsClasses (frame_of a).parents (lists_of a) → AreGiven (frame_of a) (lists_of a)
+given_in a classes = given a.lossless.now.signals.now.game.now (frame_of a) (lists_of a) refl classes
 
 pub one_or_two : (player : ℕ) → 0 < player → player ≤ 2 → (player ≡ 1) ⊎ (player ≡ 2)
 one_or_two player some few = ⊎_elim (λ one. inl one) (λ other. inr (omega arith)) (cases_eq player 1)

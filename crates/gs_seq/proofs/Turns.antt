@@ -1,23 +1,22 @@
 -- A walk over a row, pair by pair: where it stands, and what is known of the pair there.
 use Rattle.std.proofs.Common.{◌≡◌, ℕ, zero, suc, ◌+◌, ◌-◌, ◌*◌, ◌<◌, ◌≤◌, ◌^◌, List, [], ◌∷◌, length, get_or, drop, take, sym, ap, ◌∙◌, subst, arith}
-use Rattle.std.specs.Prelude.{ℤ, pos, ◌+ℤ◌, unsigned_abs}
+use Rattle.std.specs.Prelude.{ℤ, pos, ◌+ℤ◌, ◌*ℤ◌, unsigned_abs}
 use Rattle.std.proofs.lemmas.List.{length-drop, take_all}
-use Rattle.gs_game.specs.declared.valid.ValidGame.{ValidGame}
-use Rattle.gs_model.specs.Classes.{ClassLists, IsClass, IsClasses}
-use Rattle.gs_model.specs.Frame.{Frame, end_at, end_count, round_of}
+use Rattle.gs_model.specs.Classes.{ClassLists, IsClass, IsClasses, classes_in}
+use Rattle.gs_model.specs.Frame.{Frame, end_at, end_count, payoff_to, round_of}
 use Rattle.gs_model.specs.FrameFacts.{InRange, IsWalked}
+use Rattle.gs_model.specs.Pairs.{pair_sum}
 use Rattle.gs_model.specs.Positions.{at_end}
 use Rattle.gs_model.specs.Sums.{sum_z}
 use Rattle.gs_model.proofs.Sparse.{sum_z-more}
 use Rattle.gs_model.proofs.Tables.{is_table}
 use Rattle.gs_seq.specs.Abstracts.{frame_of, lists_of}
-use Rattle.gs_seq.specs.Games.{frame_in}
 use Rattle.gs_seq.specs.Payoffs.{pair_pays}
 use Rattle.gs_seq.specs.Rows.{IsRow}
 use Rattle.gs_seq.specs.declared.form.Abstract.{Abstract}
 use Rattle.gs_seq.specs.declared.pair.Pair.{Pair}
-use Rattle.gs_seq.proofs.EndSums.{pays_few, product_few, scaled_few, signed_few, weight_few}
-use Rattle.gs_seq.proofs.Forms.{given}
+use Rattle.gs_seq.proofs.EndSums.{class_few_weight, pays_few, prefix_small, product_few, row_sum, signed_few, weight_few}
+use Rattle.gs_seq.proofs.Forms.{AreGiven, given_in, one_or_two}
 use Rattle.gs_seq.proofs.RowFacts.{row_class}
 use Rattle.gs_seq.proofs.Sizes.{AreModest}
 
@@ -80,19 +79,6 @@ known f r lists k player w few z l c row h left rest p t =
       pays = pays_few f r lists k player w few z l c row h (passed row left) p t.inside;
     })
 
--- where the walk over a row of a game in sequence form stands, and what is known of the pair there
-pub pair_in : (a : Abstract) (g : ValidGame) → frame_in g ≡ frame_of a → IsClasses (frame_of a).parents (lists_of a) → (player z c : ℕ) → 0 < player → player ≤ 2 → z < end_count (frame_of a) → (row left rest : List Pair) (p : Pair)
-    → IsRow (frame_of a) (lists_of a) (round_of (frame_of a) (at_end z)) c row → left ≡ drop (passed row left) row → left ≡ p ∷ rest → IsTurn row left rest p × IsKnown (frame_of a) (lists_of a) player z p
-pair_in a g same classes player z c some two l row left rest p h on first =
-    let t = turn row left rest p on first in
-    let k = given g (frame_of a) (lists_of a) same classes in
-    (t, known (frame_of a) k.in_range (lists_of a) k.classes player (k.walked player some two) k.modest z l c row h left rest p t)
-
--- a number times what the end pays in the pair fits 128 bits
-pub product_fits : (f : Frame) (lists : ClassLists) (player z : ℕ) (p : Pair) → IsKnown f lists player z p → (n t : ℕ) (v : ℤ) → n ≤ t → t ≤ 2 ^ 36 → v ≡ pair_pays player (end_at f z) p → n * unsigned_abs v < 2 ^ 127
-product_fits f lists player z p k n t v l few is =
-    omega (arith, scaled_few n t (unsigned_abs (pair_pays player (end_at f z) p)) p.weight l k.pays, product_few t p.weight few k.weight, ap (λ w. n * unsigned_abs w) is)
-
 -- sums over the pairs that are passed: none, one more, all
 pub sum_begun : (v : Pair → ℤ) (row left : List Pair) → left ≡ row → pos 0 ≡ sum_z v (take (passed row left) row)
 sum_begun v row left same = ap (λ n. sum_z v (take n row)) (sym (none_passed row left same))
@@ -104,3 +90,31 @@ sum_turned v row left rest p t sum part h e =
 
 pub sum_ended : (v : Pair → ℤ) (row left : List Pair) → left ≡ [] → (sum : ℤ) → sum ≡ sum_z v (take (passed row left) row) → sum ≡ sum_z v row
 sum_ended v row left none sum h = h ∙ ap (sum_z v) (take_all (passed row left) row (all_passed row left none))
+
+-- the walk over a row of a game in sequence form: what is known of the pair where it stands, and what the sum of what the end pays, by numbers of classes
+-- that are not over the greatest total, is on the way and at its end
+module _ (a : Abstract) (classes : IsClasses (frame_of a).parents (lists_of a)) (player z c : ℕ) (some : 0 < player) (two : player ≤ 2) (l : z < end_count (frame_of a)) (row : List Pair)
+    (h : IsRow (frame_of a) (lists_of a) (round_of (frame_of a) (at_end z)) c row) where
+  g : AreGiven (frame_of a) (lists_of a)
+  g = given_in a classes
+
+  w : IsWalked (frame_of a) player
+  w = g.walked player some two
+
+  pub pair_in : (left rest : List Pair) (p : Pair) → left ≡ drop (passed row left) row → left ≡ p ∷ rest → IsTurn row left rest p × IsKnown (frame_of a) (lists_of a) player z p
+  pair_in left rest p on first =
+      let t = turn row left rest p on first in
+      (t, known (frame_of a) g.in_range (lists_of a) g.classes player w g.modest z l c row h left rest p t)
+
+  pub sums_fit : (n : ℕ → ℕ) → ((e : ℕ) → IsClass (lists_of a) (round_of (frame_of a) (at_end z)) e → n e ≤ 2 ^ 36) → (i : ℕ) (s : ℤ)
+      → s ≡ sum_z (λ (p : Pair). pos (n p.two) *ℤ pair_pays player (end_at (frame_of a) z) p) (take i row) → unsigned_abs s < 2 ^ 127
+  sums_fit n few i s is =
+      let size = prefix_small (frame_of a) g.in_range (lists_of a) g.classes player w g.modest z l c row h n (2 ^ 36) few i in
+      let weight = class_few_weight (frame_of a) g.in_range (lists_of a) g.classes player w g.modest z l c row h in
+      omega (arith, size, product_few (2 ^ 36) _ (omega arith) weight, ap unsigned_abs is)
+
+  pub sum_is_all : (n : ℕ → ℕ) (left : List Pair) → left ≡ [] → (s : ℤ) → s ≡ sum_z (λ (p : Pair). pos (n p.two) *ℤ pair_pays player (end_at (frame_of a) z) p) (take (passed row left) row)
+      → s ≡ sum_z (λ e. pos (n e) *ℤ pair_sum (frame_of a) (lists_of a) (lists_of a) (round_of (frame_of a) (at_end z)) (payoff_to (frame_of a) player z) c e) (classes_in (lists_of a) (round_of (frame_of a) (at_end z)))
+  sum_is_all n left none s is =
+      sum_ended (λ (p : Pair). pos (n p.two) *ℤ pair_pays player (end_at (frame_of a) z) p) row left none s is
+      ∙ row_sum (frame_of a) (lists_of a) player (one_or_two player some two) w z l c row h g.in_range g.classes n

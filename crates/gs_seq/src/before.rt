@@ -15,80 +15,64 @@ use gs_lossless::{Lossless, Side, side_keys, side_sums, stopped_classes};
 use gs_tree::Signals;
 use std::alloc::{AllocError, Global};
 
+/// A round before the last with its classes, and the game that stops after it with the same classes of the round.
+#[derive(Clone, Copy)]
+struct StoppedRound<'a> {
+    signals: &'a Signals<'a>,
+    classes: &'a Classes,
+    round: u8,
+    stopped: &'a Signals<'a>,
+    seen: &'a Classes,
+    ghost parents: { classes.now.parents ≡ (frame_in signals.now.game.now).parents },
+    ghost lossless: { IsLossless (frame_in signals.now.game.now) classes.now.lists },
+    ghost some: { 0 < round },
+    ghost before_last: { round < round_count (rules_of signals.now) },
+    ghost stops: { StopsAfter (rules_of signals.now) round (rules_of stopped.now) },
+    ghost over: { seen.now.parents ≡ (frame_in stopped.now.game.now).parents },
+    ghost same: { list_of seen.now.lists round ≡ list_of classes.now.lists round },
+}
+
 /// The ways to go on after a round: what all deals weigh, over what those of the game that stops there weigh.
-fn ways_on(signals: &Signals, round: u8, stopped: &Signals) -> u64
-    requires some { 0 < round }
-    requires top { round ≤ round_count (rules_of signals.now) }
-    requires stops { StopsAfter (rules_of signals.now) round (rules_of stopped.now) }
-    ensures { result ≡ ways_after (rules_of signals.now) round }
+fn ways_on(at: &StoppedRound<'_>) -> u64
+    ensures { result ≡ ways_after (rules_of at.now.signals.now) at.now.round }
 {
-    signals.game().weight() / stopped.game().weight()
+    at.signals.game().weight() / at.stopped.game().weight()
 }
 
 /// The row of a class of a round before the last, by the deals of its first member where the game stops after the round.
 fn row_by(
     alloc: Global,
-    signals: &Signals,
-    classes: &Classes,
-    round: u8,
-    stopped: &Signals,
-    seen: &Classes,
+    at: &StoppedRound<'_>,
     keys: &[u32],
     ways: u64,
     class: u32,
 ) -> Result<Vec<Pair>, AllocError>
-    requires parents { classes.now.parents ≡ (frame_in signals.now.game.now).parents }
-    requires lossless { IsLossless (frame_in signals.now.game.now) classes.now.lists }
-    requires some { 0 < round }
-    requires before_last { round < round_count (rules_of signals.now) }
-    requires stops { StopsAfter (rules_of signals.now) round (rules_of stopped.now) }
-    requires same { list_of seen.now.lists round ≡ list_of classes.now.lists round }
-    requires keys { keys.now ≡ keys_of (frame_in stopped.now.game.now) seen.now.lists sides.Deals round }
-    requires ways { ways ≡ ways_after (rules_of signals.now) round }
-    requires class { IsClass classes.now.lists round class }
-    ensures { IfOk result (λ v. IsRow (frame_in signals.now.game.now) classes.now.lists round class v.items) }
+    requires keys { keys.now ≡ keys_of (frame_in at.now.stopped.now.game.now) at.now.seen.now.lists sides.Deals at.now.round }
+    requires ways { ways ≡ ways_after (rules_of at.now.signals.now) at.now.round }
+    requires class { IsClass at.now.classes.now.lists at.now.round class }
+    ensures { IfOk result (λ v. IsRow (frame_in at.now.signals.now.game.now) at.now.classes.now.lists at.now.round class v.items) }
 {
-    let _rounds = classes.rounds();
-    let first = classes.first(round, class);
-    let sums = side_sums(alloc, stopped, Side::Deals, round, keys, first)?;
-    row_of(alloc, &sums, u64::from(classes.size(round, class)) * ways)
+    let _rounds = at.classes.rounds();
+    let first = at.classes.first(at.round, class);
+    let sums = side_sums(alloc, at.stopped, Side::Deals, at.round, keys, first)?;
+    row_of(
+        alloc,
+        &sums,
+        u64::from(at.classes.size(at.round, class)) * ways,
+    )
 }
 
 /// The rows of a round before the last, by the game that stops after it.
-fn rows_by(
-    alloc: Global,
-    signals: &Signals,
-    classes: &Classes,
-    round: u8,
-    stopped: &Signals,
-    seen: &Classes,
-) -> Result<Vec<Vec<Pair>>, AllocError>
-    requires parents { classes.now.parents ≡ (frame_in signals.now.game.now).parents }
-    requires lossless { IsLossless (frame_in signals.now.game.now) classes.now.lists }
-    requires some { 0 < round }
-    requires before_last { round < round_count (rules_of signals.now) }
-    requires stops { StopsAfter (rules_of signals.now) round (rules_of stopped.now) }
-    requires over { seen.now.parents ≡ (frame_in stopped.now.game.now).parents }
-    requires same { list_of seen.now.lists round ≡ list_of classes.now.lists round }
-    ensures { IfOk result (λ v. AreRowsIn (frame_in signals.now.game.now) classes.now.lists round v.items) }
+fn rows_by(alloc: Global, at: &StoppedRound<'_>) -> Result<Vec<Vec<Pair>>, AllocError>
+    ensures { IfOk result (λ v. AreRowsIn (frame_in at.now.signals.now.game.now) at.now.classes.now.lists at.now.round v.items) }
 {
-    let _rounds = classes.rounds();
-    let keys = side_keys(alloc, stopped, seen, Side::Deals, round)?;
-    let ways = ways_on(signals, round, stopped);
-    let count = classes.classes(round);
+    let _rounds = at.classes.rounds();
+    let keys = side_keys(alloc, at.stopped, at.seen, Side::Deals, at.round)?;
+    let ways = ways_on(at);
+    let count = at.classes.classes(at.round);
     let mut rows = Vec::with_capacity(alloc, count as usize)?;
     for before in 0..count {
-        let row = row_by(
-            alloc,
-            signals,
-            classes,
-            round,
-            stopped,
-            seen,
-            &keys,
-            ways,
-            before + 1,
-        )?;
+        let row = row_by(alloc, at, &keys, ways, before + 1)?;
         rows.push(row)?;
     }
     Ok(rows)
@@ -111,7 +95,14 @@ fn rows_at(
     if let Some(game) = signals.game().stopped(alloc, round)? {
         let stopped = Signals::of(alloc, &game)?;
         if let Some(seen) = stopped_classes(alloc, &stopped, classes, round)? {
-            return rows_by(alloc, signals, classes, round, &stopped, &seen);
+            let at = StoppedRound {
+                signals,
+                classes,
+                round,
+                stopped: &stopped,
+                seen: &seen,
+            };
+            return rows_by(alloc, &at);
         }
     }
     rows_in(alloc, signals, classes, round)

@@ -42,7 +42,7 @@ pub(crate) fn point_source(game: &ValidGame, offsets: &[u32], point: u32) -> Opt
 }
 
 /// A player's last step before an end.
-fn end_step(game: &ValidGame, player: u8, end: u32) -> Option<Step>
+pub fn end_step(game: &ValidGame, player: u8, end: u32) -> Option<Step>
     requires { end < end_count (frame_in game.now) }
     ensures { option_map step_of result ≡ last_step (frame_in game.now) player (at_end end) }
 {

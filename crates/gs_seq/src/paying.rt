@@ -7,9 +7,8 @@ ghost use Rattle.gs_model.specs.Deals.{Deal as Dealt};
 ghost use Rattle.gs_seq.specs.{Payoffs.{pair_pays}, Singles.{deal_pair}};
 
 use crate::form::Abstract;
-use crate::numbers::{plus, scaled};
 use crate::pairs::Pairs;
-use crate::payoff::pays;
+use crate::payoff::add_pays;
 use crate::plan::Plan;
 use gs_boards::{BoardOrder, Pays};
 use gs_game::{End, EndKind};
@@ -38,14 +37,13 @@ fn pays_at(player: u8, end: End) -> Pays
 
 impl<'a> Abstract<'a> {
     ghost use Rattle.std.specs.Prelude.{◌+◌, ℕ, get_or};
-    ghost use Rattle.gs_model.specs.{Classes.{IsClass}, Frame.{end_at, end_count, last_round, other_player, round_of}, Payoff.{raw_payoff}};
-    ghost use Rattle.gs_model.specs.Positions.{at_end};
-    ghost use Rattle.gs_seq.specs.{Abstracts.{frame_of, lists_of}, Payoffs.{AreFew, AreNumbersAt, end_classes, end_sum, number_sum, payoff_at}};
-    ghost use Rattle.gs_seq.specs.{Plans.{IsPlanOf, class_plan, lifted}, Rows.{IsRow, IsSingleIn}, Singles.{HasSumsOf}};
+    ghost use Rattle.gs_model.specs.{Classes.{IsClass}, Frame.{end_at, end_count, last_round, other_player, round_of}, Positions.{at_end}};
+    ghost use Rattle.gs_seq.specs.{Abstracts.{frame_of, lists_of}, Payoffs.{AreFew, AreNumbersAt, end_classes, end_sum, number_sum}};
+    ghost use Rattle.gs_seq.specs.{Plans.{IsPlanOf, class_plan}, Rows.{IsRow, IsSingleIn}, Singles.{HasSumsOf}};
     ghost use Rattle.gs_tree.specs.Trees.{rules_of};
 
     /// An end of the game.
-    fn end_in(&self, end: u32) -> End
+    pub(crate) fn end_in(&self, end: u32) -> End
         requires { end < end_count (frame_of self.now) }
         ensures value { end_of result ≡ end_at (frame_of self.now) end }
         ensures round { result.round ≡ round_of (frame_of self.now) (at_end end) }
@@ -56,7 +54,7 @@ impl<'a> Abstract<'a> {
     }
 
     /// How many classes the round of an end has.
-    fn class_total(&self, end: u32) -> u32
+    pub(crate) fn class_total(&self, end: u32) -> u32
         requires { end < end_count (frame_of self.now) }
         ensures { result ≡ end_classes (frame_of self.now) (lists_of self.now) end }
     {
@@ -188,49 +186,7 @@ impl<'a> Abstract<'a> {
         let mut sum = 0i128;
         for pair in row {
             let number = number_of(numbers, pair.two);
-            sum = plus(sum, scaled(number, pays(player, at, pair)));
-        }
-        sum
-    }
-
-    /// What a plan of player 1 and a plan of player 2 pay player 1, as `payoff`, with room to read what ends pay: a number for each class of any end.
-    pub fn payoff_in(&self, x: &Plan, y: &Plan, sums: &mut [i128], numbers: &mut [u64]) -> i128
-        requires x { IsPlanOf (frame_of self.now) (lists_of self.now) 1 x.now }
-        requires y { IsPlanOf (frame_of self.now) (lists_of self.now) 2 y.now }
-        requires sums { (z : ℕ) → z < end_count (frame_of self.now) → end_classes (frame_of self.now) (lists_of self.now) z ≤ length sums.old }
-        requires numbers { (z : ℕ) → z < end_count (frame_of self.now) → end_classes (frame_of self.now) (lists_of self.now) z ≤ length numbers.old }
-        ensures { result ≡ raw_payoff (frame_of self.now) (lifted (frame_of self.now) (lists_of self.now) x.now) (lifted (frame_of self.now) (lists_of self.now) y.now) }
-    {
-        let _game = self.game();
-        let mut sum = 0i128;
-        for end in 0..self.end_total() {
-            sum = plus(sum, self.payoff_read(x, y, end, sums, numbers));
-        }
-        sum
-    }
-
-    /// What two plans pay at an end, over the classes of player 1.
-    fn payoff_read(
-        &self,
-        x: &Plan,
-        y: &Plan,
-        end: u32,
-        sums: &mut [i128],
-        numbers: &mut [u64],
-    ) -> i128
-        requires x { IsPlanOf (frame_of self.now) (lists_of self.now) 1 x.now }
-        requires y { IsPlanOf (frame_of self.now) (lists_of self.now) 2 y.now }
-        requires end { end < end_count (frame_of self.now) }
-        requires sums { end_classes (frame_of self.now) (lists_of self.now) end ≤ length sums.old }
-        requires numbers { end_classes (frame_of self.now) (lists_of self.now) end ≤ length numbers.old }
-        ensures { result ≡ payoff_at (frame_of self.now) (lists_of self.now) (class_plan (frame_of self.now) (lists_of self.now) x.now) (class_plan (frame_of self.now) (lists_of self.now) y.now) end }
-    {
-        let _game = self.game();
-        self.end_sums(1, y, end, 0, sums, numbers);
-        let mut sum = 0i128;
-        for before in 0..self.class_total(end) {
-            let number = self.number_at_end(x, end, before + 1);
-            sum = plus(sum, scaled(number, sums[before as usize]));
+            sum = add_pays(sum, number, player, at, pair);
         }
         sum
     }

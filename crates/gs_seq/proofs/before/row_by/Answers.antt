@@ -19,38 +19,38 @@ use Rattle.gs_seq.proofs.Stopped.{in_stopped, row_fits, row_is, same_signals, wa
 use Rattle.gs_seq.proofs.before.row_by.Goals as goal
 use Rattle.gs_seq.proofs.before.row_by.Goals.{After-deref, After-rounds-rounds}
 
-top : (c : After-rounds-rounds) → c.args.round ≤ round_count (rules_of c.args.signals.now)
-top c = omega (arith, c.requires.before_last)
+top : (c : After-rounds-rounds) → c.args.at.now.round ≤ round_count (rules_of c.args.at.now.signals.now)
+top c = omega (arith, c.args.at.now.before_last)
 
 -- the sums of the first member
-amounts : (c : After-deref) → AreAmounts (frame_in c.args.stopped.now.game.now) c.args.seen.now.lists Deals c.args.round c.first-first.result (reverse c.deref.result.now)
+amounts : (c : After-deref) → AreAmounts (frame_in c.args.at.now.stopped.now.game.now) c.args.at.now.seen.now.lists Deals c.args.at.now.round c.first-first.result (reverse c.deref.result.now)
 amounts c =
-    subst (λ xs. AreAmounts (frame_in c.args.stopped.now.game.now) c.args.seen.now.lists Deals c.args.round c.first-first.result (reverse xs)) (sym c.deref.ensures.value)
-    (c.in_ok-sums.ensures c.args.seen.now.lists c.requires.keys)
+    subst (λ xs. AreAmounts (frame_in c.args.at.now.stopped.now.game.now) c.args.at.now.seen.now.lists Deals c.args.at.now.round c.first-first.result (reverse xs)) (sym c.deref.ensures.value)
+    (c.in_ok-sums.ensures c.args.at.now.seen.now.lists c.requires.keys)
 
 pub side_sums-requires-clause-side : goal.side_sums-requires-clause-side
-side_sums-requires-clause-side c = in_stopped c.args.signals.now.game.now c.args.stopped.now.game.now c.args.round c.requires.some (omega (arith, c.requires.before_last)) c.requires.stops
+side_sums-requires-clause-side c = in_stopped c.args.at.now.signals.now.game.now c.args.at.now.stopped.now.game.now c.args.at.now.round c.args.at.now.some (omega (arith, c.args.at.now.before_last)) c.args.at.now.stops
 
 pub side_sums-requires-clause-all : goal.side_sums-requires-clause-all
 side_sums-requires-clause-all c =
-    let f = frame_in c.args.stopped.now.game.now in
-    ap length c.requires.keys ∙ length-map (signals_in f (last_round f)) (λ x. class_of c.args.seen.now.lists c.args.round (at_round f c.args.round x))
-    ∙ length-range_with_len 0 (signal_count f (last_round f)) ∙ count_last (rules_of c.args.stopped.now) (playable c.args.stopped.now)
+    let f = frame_in c.args.at.now.stopped.now.game.now in
+    ap length c.requires.keys ∙ length-map (signals_in f (last_round f)) (λ x. class_of c.args.at.now.seen.now.lists c.args.at.now.round (at_round f c.args.at.now.round x))
+    ∙ length-range_with_len 0 (signal_count f (last_round f)) ∙ count_last (rules_of c.args.at.now.stopped.now) (playable c.args.at.now.stopped.now)
 
 pub side_sums-requires-clause-in_range : goal.side_sums-requires-clause-in_range
 side_sums-requires-clause-in_range c =
     let few = top (goal.at.side_sums-requires-clause-in_range c).After-rounds-rounds in
-    let same = ap length (same_signals c.args.signals.now.game.now c.args.stopped.now.game.now c.args.round c.requires.some few c.requires.stops) in
-    omega (arith, c.first-first.ensures.within, list_long (rules_of c.args.signals.now) c.args.classes.now c.requires.parents c.rounds-rounds.ensures.sound c.args.round c.requires.some few, same)
+    let same = ap length (same_signals c.args.at.now.signals.now.game.now c.args.at.now.stopped.now.game.now c.args.at.now.round c.args.at.now.some few c.args.at.now.stops) in
+    omega (arith, c.first-first.ensures.within, list_long (rules_of c.args.at.now.signals.now) c.args.at.now.classes.now c.args.at.now.parents c.rounds-rounds.ensures.sound c.args.at.now.round c.args.at.now.some few, same)
 
 pub overflow_mul-from : goal.overflow_mul-from
 overflow_mul-from c =
-    let g = c.args.signals.now.game.now in
-    let round = c.args.round in
+    let g = c.args.at.now.signals.now.game.now in
+    let round = c.args.at.now.round in
     let within = top (goal.at.overflow_mul-from c).After-rounds-rounds in
-    let few = ways_few g c.args.stopped.now.game.now round c.requires.some within c.requires.stops in
-    let long = list_long (rules_of c.args.signals.now) c.args.classes.now c.requires.parents c.rounds-rounds.ensures.sound round c.requires.some within in
-    let most = count_by-le-length (λ x. x == c.args.class) (list_of c.args.classes.now.lists round) in
+    let few = ways_few g c.args.at.now.stopped.now.game.now round c.args.at.now.some within c.args.at.now.stops in
+    let long = list_long (rules_of c.args.at.now.signals.now) c.args.at.now.classes.now c.args.at.now.parents c.rounds-rounds.ensures.sound round c.args.at.now.some within in
+    let most = count_by-le-length (λ x. x == c.args.class) (list_of c.args.at.now.classes.now.lists round) in
     let size : c.from.result ≤ 200000 = omega (arith, c.from.ensures, c.size.ensures, most, long, g.limits.signals_in round within) in
     omega (arith, mul-le-mul_right c.args.ways size, few, c.requires.ways)
 
@@ -58,20 +58,20 @@ pub row_of-requires : goal.row_of-requires
 row_of-requires c =
     let at = goal.at.row_of-requires c in
     let sums = c.deref.result.now in
-    let fits = row_fits c.args.signals.now.game.now c.args.stopped.now.game.now c.args.round c.requires.some (top at.After-rounds-rounds) c.requires.stops c.requires.before_last c.args.classes.now c.requires.parents
-    c.rounds-rounds.ensures.sound c.requires.lossless c.args.seen.now.lists c.requires.same c.args.class c.first-first.result c.from.result (c.from.ensures ∙ c.size.ensures) sums (amounts at.After-deref) c.first-first.ensures.within
+    let fits = row_fits c.args.at.now.signals.now.game.now c.args.at.now.stopped.now.game.now c.args.at.now.round c.args.at.now.some (top at.After-rounds-rounds) c.args.at.now.stops c.args.at.now.before_last c.args.at.now.classes.now c.args.at.now.parents
+    c.rounds-rounds.ensures.sound c.args.at.now.lossless c.args.at.now.seen.now.lists c.args.at.now.same c.args.class c.first-first.result c.from.result (c.from.ensures ∙ c.size.ensures) sums (amounts at.After-deref) c.first-first.ensures.within
     c.first-first.ensures.member in
     omega (arith, fits, ap (λ n. (c.from.result * n) * sum_by (λ (p : Part). p.weight) sums) c.requires.ways)
 
 pub returns : goal.returns
 returns c =
     let at = goal.at.returns c in
-    let f = frame_in c.args.signals.now.game.now in
-    let lists = c.args.classes.now.lists in
+    let f = frame_in c.args.at.now.signals.now.game.now in
+    let lists = c.args.at.now.classes.now.lists in
     let sums = c.deref.result.now in
-    let row = row_is c.args.signals.now.game.now c.args.stopped.now.game.now c.args.round c.requires.some (top at.After-rounds-rounds) c.requires.stops c.requires.before_last c.args.classes.now c.requires.parents
-    c.rounds-rounds.ensures.sound c.requires.lossless c.args.seen.now.lists c.requires.same c.args.class c.first-first.result c.from.result (c.from.ensures ∙ c.size.ensures) sums (amounts at.After-deref) c.first-first.ensures.within
+    let row = row_is c.args.at.now.signals.now.game.now c.args.at.now.stopped.now.game.now c.args.at.now.round c.args.at.now.some (top at.After-rounds-rounds) c.args.at.now.stops c.args.at.now.before_last c.args.at.now.classes.now c.args.at.now.parents
+    c.rounds-rounds.ensures.sound c.args.at.now.lossless c.args.at.now.seen.now.lists c.args.at.now.same c.args.class c.first-first.result c.from.result (c.from.ensures ∙ c.size.ensures) sums (amounts at.After-deref) c.first-first.ensures.within
     c.first-first.ensures.member in
-    let here = subst (λ n. IsRow f lists c.args.round c.args.class (gathered (c.from.result * n) (reverse sums))) (sym c.requires.ways) row in
-    if_ok c.row_of.result (λ v. v.items ≡ gathered (c.from.result * c.args.ways) (reverse sums)) (λ v. IsRow f lists c.args.round c.args.class v.items)
-    (λ v e. subst (IsRow f lists c.args.round c.args.class) (sym e) here) c.row_of.ensures
+    let here = subst (λ n. IsRow f lists c.args.at.now.round c.args.class (gathered (c.from.result * n) (reverse sums))) (sym c.requires.ways) row in
+    if_ok c.row_of.result (λ v. v.items ≡ gathered (c.from.result * c.args.ways) (reverse sums)) (λ v. IsRow f lists c.args.at.now.round c.args.class v.items)
+    (λ v e. subst (IsRow f lists c.args.at.now.round c.args.class) (sym e) here) c.row_of.ensures

@@ -1,16 +1,9 @@
-use Rattle.std.proofs.Common.{arith, subst}
-use Rattle.gs_game.specs.Games.{game_of}
-use Rattle.gs_game.specs.GoingOn.{StopsAfter}
-use Rattle.gs_game.specs.declared.valid.ValidGame.{ValidGame}
+use Rattle.std.proofs.Common.{arith}
 use Rattle.gs_lossless.proofs.Descent.{last_is}
 use Rattle.gs_tree.specs.Trees.{rules_of}
 use Rattle.gs_seq.specs.Games.{frame_in}
 use Rattle.gs_seq.proofs.SlotLaws.{over}
 use Rattle.gs_seq.proofs.before.rows_at.Goals as goal
-
-pub rows_by-requires-clause-stops : goal.rows_by-requires-clause-stops
-rows_by-requires-clause-stops c =
-    let made = rw c.in-Some.is at c.in_ok-game.ensures.stops in rw c.in_ok-stopped.ensures (subst (λ (v : ValidGame). StopsAfter (game_of v.game) c.args.round (game_of c.in-Some.game.game)) c.game.ensures made)
 
 pub stopped_classes-requires-clause-top : goal.stopped_classes-requires-clause-top
 stopped_classes-requires-clause-top c =

@@ -1,6 +1,5 @@
 use Rattle.std.proofs.Common.{◌≡◌, ◌+◌, ◌∙◌, ap, Vec, Global, length, sym, arith}
 use Rattle.std.proofs.lemmas.List.{length_push}
-use Rattle.gs_game.specs.declared.valid.ValidGame.{ValidGame}
 use Rattle.gs_lossless.proofs.Descent.{last_is}
 use Rattle.gs_model.specs.Frame.{last_round}
 use Rattle.gs_model.specs.Lossless.{IsLossless}
@@ -9,35 +8,25 @@ use Rattle.gs_tree.specs.declared.signals.Signals.{Signals}
 use Rattle.gs_seq.specs.Games.{frame_in}
 use Rattle.gs_seq.specs.Rows.{AreRowsIn}
 use Rattle.gs_seq.specs.declared.pair.Pair.{Pair}
-use Rattle.gs_seq.proofs.Carried.{carried}
+use Rattle.gs_seq.proofs.Carried.{held_by, read_of}
 use Rattle.gs_seq.proofs.CellLaws.{AreRowsOf, pushed_to}
 use Rattle.gs_seq.proofs.before.rows_before.Goals as goal
-use Rattle.gs_seq.proofs.before.rows_before.Goals.{After-rounds-count}
-
--- the game that is read is that of the classes
-same : (c : After-rounds-count) → c.signals-signals.result.now.game.now ≡ c.args.lossless.now.signals.now.game.now
-same c = ap (λ (x : Signals). x.game.now) c.signals-signals.ensures.held
 
 pub rows_at-requires-clause-lossless : goal.rows_at-requires-clause-lossless
-rows_at-requires-clause-lossless c =
-    let s = c.args.lossless.now in
-    carried s.signals.now.game.now c.signals-signals.result.now.game.now s.classes.now c.classes.result.now IsLossless (sym (same (goal.at.rows_at-requires-clause-lossless c).After-rounds-count)) (sym c.classes.ensures.held)
-    c.classes.ensures.lossless
+rows_at-requires-clause-lossless c = read_of c.args.lossless.now c.signals-signals.result.now c.classes.result.now IsLossless c.signals-signals.ensures.held c.classes.ensures.held c.classes.ensures.lossless
 
 pub loop-before-preserved : goal.loop-before-preserved
 loop-before-preserved c =
-    let s = c.args.lossless.now in
     let rows = c.loop-before.rows in
     let x = c.in_ok-at.at in
-    let here = carried c.signals-signals.result.now.game.now s.signals.now.game.now c.classes.result.now s.classes.now (λ f lists. AreRowsIn f lists (c.loop-before.before + 1) x.items) (same (goal.at.loop-before-preserved c).After-rounds-count)
-    c.classes.ensures.held c.in_ok-at.ensures in
+    let here = held_by c.args.lossless.now c.signals-signals.result.now c.classes.result.now (λ f lists. AreRowsIn f lists (c.loop-before.before + 1) x.items) c.signals-signals.ensures.held c.classes.ensures.held c.in_ok-at.ensures in
     record {
       long = ap length c.in_ok-push.ensures.items ∙ length_push rows.items x ∙ ap (λ n. n + 1) c.loop-before.invariant.long;
-      rows = pushed_to (λ j (v : Vec (Vec Pair Global) Global). AreRowsOf s (j + 1) v.items) rows.items _ x c.loop-before.before c.in_ok-push.ensures.items c.loop-before.invariant.long c.loop-before.invariant.rows here;
+      rows = pushed_to (λ j (v : Vec (Vec Pair Global) Global). AreRowsOf c.args.lossless.now (j + 1) v.items) rows.items _ x c.loop-before.before c.in_ok-push.ensures.items c.loop-before.invariant.long c.loop-before.invariant.rows here;
     }
 
 pub returns-clause-long : goal.returns-clause-long
 returns-clause-long c =
     let last : c.rounds-count.result ≡ last_round (frame_in c.args.lossless.now.signals.now.game.now) =
-    c.rounds-count.ensures.value ∙ sym (last_is (rules_of c.signals-signals.result.now)) ∙ ap (λ (x : ValidGame). last_round (frame_in x)) (same (goal.at.returns-clause-long c).After-rounds-count) in
+    c.rounds-count.ensures.value ∙ sym (last_is (rules_of c.signals-signals.result.now)) ∙ ap (λ (x : Signals). last_round (frame_in x.game.now)) c.signals-signals.ensures.held in
     omega (arith, c.loop-before.invariant.long, last, c.rounds-count.ensures.some, c.loop-before-test.false, c.loop-before.auto.before-end)

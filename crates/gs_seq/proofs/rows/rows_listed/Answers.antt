@@ -1,6 +1,5 @@
 use Rattle.std.proofs.Common.{◌≡◌, ◌≤◌, ◌+◌, ◌-◌, ◌++◌, ◌∷◌, [], Vec, Global, ap, get_or, length, refl, sym, ◌∙◌, subst, arith}
 use Rattle.std.proofs.lemmas.List.{get_or-reverse, length-reverse, length_push}
-use Rattle.gs_game.specs.declared.valid.ValidGame.{ValidGame}
 use Rattle.gs_lossless.proofs.Descent.{last_is}
 use Rattle.gs_model.specs.Frame.{last_round}
 use Rattle.gs_model.specs.Lossless.{IsLossless}
@@ -9,20 +8,12 @@ use Rattle.gs_tree.specs.declared.signals.Signals.{Signals}
 use Rattle.gs_seq.specs.Games.{frame_in}
 use Rattle.gs_seq.specs.Rows.{AreRowsIn}
 use Rattle.gs_seq.specs.declared.pair.Pair.{Pair}
-use Rattle.gs_seq.proofs.Carried.{carried}
+use Rattle.gs_seq.proofs.Carried.{held_by, read_of}
 use Rattle.gs_seq.proofs.CellLaws.{AreRowsOf, pushed_to}
 use Rattle.gs_seq.proofs.rows.rows_listed.Goals as goal
-use Rattle.gs_seq.proofs.rows.rows_listed.Goals.{After-rounds-round}
-
--- the game that is read is that of the classes
-same : (c : After-rounds-round) → c.signals-signals.result.now.game.now ≡ c.args.lossless.now.signals.now.game.now
-same c = ap (λ (x : Signals). x.game.now) c.signals-signals.ensures.held
 
 pub rows_in-requires-clause-lossless : goal.rows_in-requires-clause-lossless
-rows_in-requires-clause-lossless c =
-    let s = c.args.lossless.now in
-    carried s.signals.now.game.now c.signals-signals.result.now.game.now s.classes.now c.classes.result.now IsLossless (sym (same (goal.at.rows_in-requires-clause-lossless c).After-rounds-round)) (sym c.classes.ensures.held)
-    c.classes.ensures.lossless
+rows_in-requires-clause-lossless c = read_of c.args.lossless.now c.signals-signals.result.now c.classes.result.now IsLossless c.signals-signals.ensures.held c.classes.ensures.held c.classes.ensures.lossless
 
 pub rows_in-requires-clause-top : goal.rows_in-requires-clause-top
 rows_in-requires-clause-top c = omega (arith, c.rounds-round.ensures.value, last_is (rules_of c.signals-signals.result.now))
@@ -33,11 +24,10 @@ loop-round-init c =
     let f = frame_in s.signals.now.game.now in
     let first = c.in_ok-rows_in.field-0 in
     let round = c.rounds-round.result in
-    let alike = same (goal.at.loop-round-init c).After-rounds-round in
-    let last : round ≡ last_round f = c.rounds-round.ensures.value ∙ sym (last_is (rules_of c.signals-signals.result.now)) ∙ ap (λ (x : ValidGame). last_round (frame_in x)) alike in
+    let last : round ≡ last_round f = c.rounds-round.ensures.value ∙ sym (last_is (rules_of c.signals-signals.result.now)) ∙ ap (λ (x : Signals). last_round (frame_in x.game.now)) c.signals-signals.ensures.held in
     let items : c.push.new.self.items ≡ first ∷ [] = c.in_ok-push.ensures.items ∙ ap (λ xs. xs ++ first ∷ []) c.in_ok-rows.ensures.items in
     let long : length c.push.new.self.items ≡ 1 = ap length items in
-    let moved = carried c.signals-signals.result.now.game.now s.signals.now.game.now c.classes.result.now s.classes.now (λ f lists. AreRowsIn f lists round first.items) alike c.classes.ensures.held c.in_ok-rows_in.ensures in
+    let moved = held_by s c.signals-signals.result.now c.classes.result.now (λ f lists. AreRowsIn f lists round first.items) c.signals-signals.ensures.held c.classes.ensures.held c.in_ok-rows_in.ensures in
     let at : round ≡ last_round f - 0 = omega (arith, last) in
     record {
       some = c.rounds-round.ensures.some;

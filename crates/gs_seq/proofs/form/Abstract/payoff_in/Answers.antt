@@ -7,14 +7,10 @@ use Rattle.gs_seq.specs.Abstracts.{frame_of, lists_of}
 use Rattle.gs_seq.specs.Payoffs.{payoff_at}
 use Rattle.gs_seq.specs.Plans.{class_plan}
 use Rattle.gs_seq.proofs.EndTotals.{ends_are_all, ends_within, from_zero, range_put}
-use Rattle.gs_seq.proofs.Forms.{AreGiven, given}
+use Rattle.gs_seq.proofs.Forms.{given_in}
 use Rattle.gs_seq.proofs.Signed.{read_back}
 use Rattle.gs_seq.proofs.form.Abstract.payoff_in.Goals as goal
-use Rattle.gs_seq.proofs.form.Abstract.payoff_in.Goals.{After-game-game, After-payoff_read}
-
--- what the laws ask of the frame and classes
-held : (c : After-game-game) → AreGiven (frame_of c.args.self.now) (lists_of c.args.self.now)
-held c = given c.game-game.result.now (frame_of c.args.self.now) (lists_of c.args.self.now) c.game-game.ensures.held c.game-game.ensures.classes
+use Rattle.gs_seq.proofs.form.Abstract.payoff_in.Goals.{After-payoff_read}
 
 -- the sum with the end's part
 sum_is : (c : After-payoff_read)
@@ -36,12 +32,12 @@ payoff_read-requires-clause-numbers c = omega (arith, c.requires.numbers c.loop-
 pub plus-sum-requires : goal.plus-sum-requires
 plus-sum-requires c =
     let at = goal.at.plus-sum-requires c in
-    ends_within _ _ (held at.After-game-game) _ _ c.requires.x.plan.plan c.requires.y.plan.plan (c.loop-end.end + 1) (omega (arith, c.end_total-end-end.ensures, c.loop-end-test.true)) _ (sum_is at.After-payoff_read)
+    ends_within _ _ (given_in c.args.self.now c.game-game.ensures.classes) _ _ c.requires.x.plan.plan c.requires.y.plan.plan (c.loop-end.end + 1) (omega (arith, c.end_total-end-end.ensures, c.loop-end-test.true)) _ (sum_is at.After-payoff_read)
 
 pub loop-end-preserved : goal.loop-end-preserved
 loop-end-preserved c = read_back c.plus-sum.result _ (search rules) (c.plus-sum.ensures ∙ sum_is (goal.at.loop-end-preserved c).After-payoff_read)
 
 pub returns : goal.returns
 returns c =
-    ends_are_all _ _ (held (goal.at.returns c).After-game-game) _ _ c.requires.x.plan.plan c.requires.y.plan.plan c.loop-end.end (omega (arith, c.end_total-end-end.ensures, c.loop-end-test.false, c.loop-end.auto.end-end)) _
+    ends_are_all _ _ (given_in c.args.self.now c.game-game.ensures.classes) _ _ c.requires.x.plan.plan c.requires.y.plan.plan c.loop-end.end (omega (arith, c.end_total-end-end.ensures, c.loop-end-test.false, c.loop-end.auto.end-end)) _
     c.loop-end.invariant

@@ -11,18 +11,14 @@ use Rattle.gs_seq.specs.Abstracts.{frame_of, lists_of}
 use Rattle.gs_seq.specs.Payoffs.{end_sum}
 use Rattle.gs_seq.specs.Plans.{class_plan}
 use Rattle.gs_seq.proofs.EndTotals.{class_term, classes_within, range_put, term_fits, term_is, term_within}
-use Rattle.gs_seq.proofs.Forms.{AreGiven, given}
+use Rattle.gs_seq.proofs.Forms.{given_in}
 use Rattle.gs_seq.proofs.Signed.{read_back}
 use Rattle.gs_seq.proofs.form.Abstract.payoff_read.Goals as goal
-use Rattle.gs_seq.proofs.form.Abstract.payoff_read.Goals.{After-game-game, After-number_at_end-number, After-scaled, In-loop-before}
+use Rattle.gs_seq.proofs.form.Abstract.payoff_read.Goals.{After-number_at_end-number, After-scaled, In-loop-before}
 
 -- what the list has of a class
 read_at : (sums : List ℤ) (n : ℕ) (w : ℤ) → get_or sums (0 + (n + 1 - 1)) (pos 0) ≡ w → get_or sums n (pos 0) ≡ w
 read_at sums n w h = let at : n ≡ 0 + (n + 1 - 1) = omega arith in ap (λ i. get_or sums i (pos 0)) at ∙ h
-
--- what the laws ask of the frame and classes
-held : (c : After-game-game) → AreGiven (frame_of c.args.self.now) (lists_of c.args.self.now)
-held c = given c.game-game.result.now (frame_of c.args.self.now) (lists_of c.args.self.now) c.game-game.ensures.held c.game-game.ensures.classes
 
 -- the class, its number and what the end pays there
 here : (c : In-loop-before) → IsClass (lists_of c.args.self.now) (round_of (frame_of c.args.self.now) (at_end c.args.end)) (c.loop-before.before + 1)
@@ -62,12 +58,12 @@ pub scaled-requires : goal.scaled-requires
 scaled-requires c =
     let at = goal.at.scaled-requires c in
     term_fits c.number_at_end-number.result _ _ _ (number_is at.After-number_at_end-number) (worth_is at.In-loop-before (search rules))
-    (term_within _ _ (held at.After-game-game) _ _ c.requires.x.plan.plan c.requires.y.plan.plan c.args.end (c.loop-before.before + 1) c.requires.end (here at.In-loop-before))
+    (term_within _ _ (given_in c.args.self.now c.game-game.ensures.classes) _ _ c.requires.x.plan.plan c.requires.y.plan.plan c.args.end (c.loop-before.before + 1) c.requires.end (here at.In-loop-before))
 
 pub plus-sum-requires : goal.plus-sum-requires
 plus-sum-requires c =
     let at = goal.at.plus-sum-requires c in
-    classes_within _ _ (held at.After-game-game) _ _ c.requires.x.plan.plan c.requires.y.plan.plan c.args.end (c.loop-before.before + 1) c.requires.end (here at.In-loop-before).1 _ (sum_is at.After-scaled (search rules))
+    classes_within _ _ (given_in c.args.self.now c.game-game.ensures.classes) _ _ c.requires.x.plan.plan c.requires.y.plan.plan c.args.end (c.loop-before.before + 1) c.requires.end (here at.In-loop-before).1 _ (sum_is at.After-scaled (search rules))
 
 pub loop-before-preserved : goal.loop-before-preserved
 loop-before-preserved c = read_back c.plus-sum.result _ (search rules) (c.plus-sum.ensures ∙ sum_is (goal.at.loop-before-preserved c).After-scaled (search rules))
