@@ -16,10 +16,10 @@ use Rattle.gs_solve.specs.Parts.{cell_at, class_adds, end_sequence}
 use Rattle.gs_solve.specs.Programs.{unit}
 use Rattle.gs_solve.specs.Sequences.{form_sizes}
 use Rattle.gs_solve.proofs.AddedCells.{added_none, added_same, added_then, added_within}
-use Rattle.gs_solve.proofs.Cells.{pair_adds, prefix_small, row_adds}
+use Rattle.gs_solve.proofs.Cells.{first_in, pair_adds, prefix_small, row_adds, second_in}
 use Rattle.gs_solve.proofs.EndSteps.{form_is}
 use Rattle.gs_solve.proofs.payoffs.add_row.Goals as goal
-use Rattle.gs_solve.proofs.payoffs.add_row.Goals.{After-pays, After-round_total-rounds, After-second_sequence, In-Some}
+use Rattle.gs_solve.proofs.payoffs.add_row.Goals.{After-pays, After-round_total-rounds, After-sequence_at-two, In-Some}
 
 form : (c : After-round_total-rounds) → IsForm (frame_of c.args.form.now) (lists_of c.args.form.now)
 form c = form_is c.args.form.now c.round_total-rounds.ensures.sound
@@ -35,11 +35,16 @@ at_pair c =
     )
 
 -- the place is one of the list, and this is what the end pays
-inside : (c : After-second_sequence) → c.first_sequence.result * c.args.twos + c.second_sequence.result < length c.loop-pair.sums
+inside : (c : After-sequence_at-two) → c.sequence_at-one.result * c.args.twos + c.sequence_at-two.result < length c.loop-pair.sums
 inside c =
-    let n = form_sizes (frame_of c.args.form.now) (lists_of c.args.form.now) in
-    let l : c.second_sequence.result < c.args.twos = omega (arith, c.second_sequence.ensures.within, c.requires.twos) in
-    omega (arith, mul-add-lt c.first_sequence.result c.args.twos c.second_sequence.result n.ones c.first_sequence.ensures.within l, c.requires.long, c.loop-pair.auto.sums, mul_comm c.args.twos n.ones)
+    let f = frame_of c.args.form.now in
+    let ls = lists_of c.args.form.now in
+    let at = goal.at.After-sequence_at-two c in
+    let u = form at.After-round_total-rounds in
+    let n = form_sizes f ls in
+    let k : c.sequence_at-one.result < n.ones = omega (arith, c.sequence_at-one.ensures, first_in f ls u c.args.end c.args.class c.requires.end c.requires.class) in
+    let l : c.sequence_at-two.result < c.args.twos = omega (arith, c.sequence_at-two.ensures, second_in f ls u c.args.end c.in-Some.pair.two c.requires.end (at_pair at.In-Some).1.class, c.requires.twos) in
+    omega (arith, mul-add-lt c.sequence_at-one.result c.args.twos c.sequence_at-two.result n.ones k l, c.requires.long, c.loop-pair.auto.sums, mul_comm c.args.twos n.ones)
 
 pays_is : (c : After-pays) → to_z w64 (of_z w64 c.pays.result) ≡ pair_pays 1 (end_at (frame_of c.args.form.now) c.args.end) c.in-Some.pair
 pays_is c =
@@ -53,14 +58,14 @@ loop-pair-init c =
     let begins : left ≡ row = cc in
     record { on = begun row left begins; added = added_none (λ k. sum_z (v k) (take (passed row left) row)) c.args.sums.now (λ k. ap (λ n. sum_z (v k) (take n row)) (none_passed row left begins)) }
 
-pub second_sequence-requires-clause-class : goal.second_sequence-requires-clause-class
-second_sequence-requires-clause-class c = (at_pair (goal.at.second_sequence-requires-clause-class c).In-Some).1.class
+pub sequence_at-two-requires-clause-class : goal.sequence_at-two-requires-clause-class
+sequence_at-two-requires-clause-class c = (at_pair (goal.at.sequence_at-two-requires-clause-class c).In-Some).1.class
 
 pub pays-requires : goal.pays-requires
 pays-requires c = let k = (at_pair (goal.at.pays-requires c).In-Some).1 in record { few = k.weight; moderate = k.signed }
 
 pub add-requires-clause-inside : goal.add-requires-clause-inside
-add-requires-clause-inside c = omega (arith, inside (goal.at.add-requires-clause-inside c).After-second_sequence)
+add-requires-clause-inside c = omega (arith, inside (goal.at.add-requires-clause-inside c).After-sequence_at-two)
 
 pub add-requires-clause-fits : goal.add-requires-clause-fits
 add-requires-clause-fits c =
@@ -72,10 +77,10 @@ add-requires-clause-fits c =
     let k = (at_pair at.In-Some).1 in
     let row : List Pair = c.args.row in
     let i = passed row c.loop-pair.pair-iterator in
-    let place = c.first_sequence.result * c.args.twos + c.second_sequence.result in
+    let place = c.sequence_at-one.result * c.args.twos + c.sequence_at-two.result in
     let within = added_within (λ k. sum_z (pair_adds f ls z c.args.class k) (take i row)) c.args.sums.now c.loop-pair.sums (2 ^ 61) (2 ^ 42) (2 ^ 61 + 2 ^ 42) c.loop-pair.invariant.added c.requires.within
     (λ k. prefix_small f u.in_range ls u.classes u.one (modest (game_in c.args.form.now)) z c.requires.end c.args.class row c.requires.row k i) (omega arith) in
-    let here = within place (inside at.After-second_sequence) in
+    let here = within place (inside at.After-sequence_at-two) in
     let both = abs_sum (get_or c.loop-pair.sums place (pos 0)) (to_z w64 (of_z w64 c.pays.result)) in
     omega (arith, here, both, ap unsigned_abs (pays_is at.After-pays), k.pays, k.weight)
 
@@ -90,10 +95,10 @@ loop-pair-preserved c =
     let pair = c.in-Some.pair in
     let v = pair_adds f ls z c.args.class in
     let i = passed row c.loop-pair.pair-iterator in
-    let place = c.first_sequence.result * c.args.twos + c.second_sequence.result in
-    let cell : place ≡ cell_at f ls z c.args.class pair.two = ap (λ x. x * c.args.twos + c.second_sequence.result) c.first_sequence.ensures.value
-    ∙ ap (λ w. end_sequence f ls 1 z c.args.class * w + c.second_sequence.result) c.requires.twos
-    ∙ ap (λ x. end_sequence f ls 1 z c.args.class * (form_sizes f ls).twos + x) c.second_sequence.ensures.value in
+    let place = c.sequence_at-one.result * c.args.twos + c.sequence_at-two.result in
+    let cell : place ≡ cell_at f ls z c.args.class pair.two = ap (λ x. x * c.args.twos + c.sequence_at-two.result) c.sequence_at-one.ensures
+    ∙ ap (λ w. end_sequence f ls 1 z c.args.class * w + c.sequence_at-two.result) c.requires.twos
+    ∙ ap (λ x. end_sequence f ls 1 z c.args.class * (form_sizes f ls).twos + x) c.sequence_at-two.ensures in
     record {
       on = t.on;
       added = added_then (λ k. sum_z (v k) (take i row)) (λ k. unit place k *ℤ to_z w64 (of_z w64 c.pays.result)) (λ k. sum_z (v k) (take (passed row c.next.new.self) row)) c.args.sums.now c.loop-pair.sums c.add.new.sums
