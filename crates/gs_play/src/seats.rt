@@ -14,8 +14,8 @@ use crate::adding::add_times;
 use gs_best::{Deviator, round_total};
 use gs_seq::{Abstract, Plan};
 use gs_totals::{
-    Course, Places, Scratch, Totals, advance, advance_points, fill, follow, lasting, picks_for,
-    put_all, read_ends, renew_ends,
+    Course, Ledger, Places, Scratch, Totals, advance, fill, follow, lasting, picks_for, put_all,
+    read_ends, renew_ends,
 };
 use std::alloc::{AllocError, Global};
 use std::mem::swap;
@@ -83,7 +83,11 @@ pub(crate) fn begin(
         player,
         other,
     };
-    read_ends(&side, places, &mut seat.totals, scratch);
+    let ledger = Ledger {
+        side: &side,
+        places,
+    };
+    read_ends(&ledger, &mut seat.totals, scratch);
 }
 
 /// Finds a player's best totals against the other's plan with the moves that they choose, and the weights of the plan that puts all on them.
@@ -118,7 +122,11 @@ fn find(
         player,
         other,
     };
-    fill(&side, places, totals, picks, scratch);
+    let ledger = Ledger {
+        side: &side,
+        places,
+    };
+    fill(&ledger, totals, picks, scratch);
     put_all(form, player, places, picks, weights);
 }
 
@@ -219,7 +227,11 @@ pub(crate) fn read_steps(
         player,
         other: more,
     };
-    read_ends(&side, places, steps, scratch);
+    let ledger = Ledger {
+        side: &side,
+        places,
+    };
+    read_ends(&ledger, steps, scratch);
 }
 
 /// Reads what the other's answer pays a player each turn, where it is not what the answer before paid.
@@ -253,7 +265,11 @@ pub(crate) fn renew(
         player,
         other: &other.answer,
     };
-    renew_ends(&side, &other.next, places, steps, scratch);
+    let ledger = Ledger {
+        side: &side,
+        places,
+    };
+    renew_ends(&ledger, &other.next, steps, scratch);
 }
 
 /// Finds what the other's answer adds to a player's totals each turn, as long as his choices stay.
@@ -284,7 +300,11 @@ fn rise(
         player,
         other: more,
     };
-    follow(&side, places, steps, &seat.picks, scratch);
+    let ledger = Ledger {
+        side: &side,
+        places,
+    };
+    follow(&ledger, steps, &seat.picks, scratch);
 }
 
 /// A number of turns, at most so many, in which no choice of a player changes.
@@ -374,25 +394,6 @@ pub(crate) fn stays(
     )
 }
 
-/// Adds to a player's totals so many times what each turn adds: to what ends pay, and where his choices last longer to the totals of points as well.
-fn advance_totals(form: &Abstract, totals: &mut Totals, steps: &Totals, times: u32, lasts: u32)
-    requires rows { HasRows (frame_of form.now) (lists_of form.now) totals.old }
-    requires step_rows { HasRows (frame_of form.now) (lists_of form.now) steps.now }
-    requires small { AreSmallRows (frame_of form.now) (lists_of form.now) totals.old.ends.items }
-    requires small_steps { AreSmallRows (frame_of form.now) (lists_of form.now) steps.now.ends.items }
-    requires small_points { times < lasts → AreSmallPoints (frame_of form.now) (lists_of form.now) totals.old.points.items }
-    requires small_slopes { times < lasts → AreSmallPoints (frame_of form.now) (lists_of form.now) steps.now.points.items }
-    requires few { times ≤ 2 ^ 20 }
-    ensures rows { HasRows (frame_of form.now) (lists_of form.now) totals.new }
-    ensures lines { AreEndLines (frame_of form.now) (lists_of form.now) totals.old.ends.items steps.now.ends.items times totals.new.ends.items }
-    ensures points { times < lasts → ArePointLines (frame_of form.now) (lists_of form.now) totals.old.points.items steps.now.points.items times totals.new.points.items }
-{
-    advance(form, totals, steps, times);
-    if times < lasts {
-        advance_points(form, totals, steps, times);
-    }
-}
-
 /// Adds a player's answer to his plan so many times, and to his totals what the other's answer adds each time; where his choices last for more turns,
 /// his answer is known after them.
 pub(crate) fn move_on(
@@ -426,7 +427,7 @@ pub(crate) fn move_on(
     ensures lasting { IsTrue seat.new.is_answered → times < lasts }
     ensures points { times < lasts → ArePointLines (frame_of form.now) (lists_of form.now) seat.old.totals.points.items steps.now.points.items times seat.new.totals.points.items }
 {
-    advance_totals(form, &mut seat.totals, steps, times, lasts);
+    advance(form, &mut seat.totals, steps, times, lasts);
     add_times(form, player, &mut seat.plan, &seat.answer, times);
     seat.is_answered = times < lasts;
 }

@@ -7,10 +7,8 @@ use Rattle.gs_filter.specs.Filter.{IsSound}
 use Rattle.gs_model.specs.BestAnswers.{Values}
 use Rattle.gs_model.specs.Classes.{IsClass, class_count}
 use Rattle.gs_model.specs.Frame.{leads_to, move_count, other_player, player_at, point_count, round_of}
-use Rattle.gs_model.specs.Plans.{Plan}
 use Rattle.gs_model.specs.Positions.{at_point}
 use Rattle.gs_model.specs.Sums.{sum_z}
-use Rattle.gs_seq.specs.Plans.{class_plan}
 use Rattle.gs_seq.proofs.Points.{players}
 use Rattle.gs_best.specs.Forms.{game_in}
 use Rattle.gs_best.specs.declared.deviator.Deviator.{Deviator}
@@ -19,18 +17,11 @@ use Rattle.gs_best.proofs.Forms.{form_class_few, form_in_range, form_modest, for
 use Rattle.gs_best.proofs.Ranges.{range_abs}
 use Rattle.gs_best.proofs.Sides.{classes, frame, lists, other_walked, side_walked}
 use Rattle.gs_totals.specs.ClassTotals.{class_above, total_worth}
+use Rattle.gs_totals.specs.Ledgers.{facing, totals_in}
 use Rattle.gs_totals.specs.Merged.{AreModestFrom}
-use Rattle.gs_totals.specs.Places.{IsFollowedFrom, totals_of}
+use Rattle.gs_totals.specs.Places.{IsFollowedFrom}
 use Rattle.gs_totals.proofs.Gathers.{tested_small}
 use Rattle.gs_totals.proofs.TotalBounds.{totals_few}
-
--- the other player's plan over classes
-abbrev pub facing : Deviator → Plan
-facing d = class_plan (frame d) (lists d) d.other.now
-
--- class totals as the list has them
-abbrev pub totals_in : Deviator → List ℤ → Values
-totals_in d values = totals_of (frame d) (lists d) d.player (facing d) values
 
 either_player : (d : Deviator) (q : ℕ) → q < point_count (frame d) → (player_at (frame d) q ≡ d.player → ⊥) → player_at (frame d) q ≡ other_player d.player
 either_player d q l other =

@@ -16,5 +16,6 @@ mod Lines
 pub mod Behind
 pub mod SmallEnds
 pub mod CourseLaws
-pub mod Reading
+pub mod Targets
+pub mod Readings
 pub mod Renewals

@@ -1,5 +1,5 @@
 -- The rows of a point and of an end, where places are known, and what ends pay, one end more.
-use Rattle.std.proofs.Common.{◌≡◌, ℕ, ◌+◌, ◌-◌, ◌<◌, ◌++◌, List, drop, get_or, length, take, sym, ap, ◌∙◌, subst, arith, ⊎_elim}
+use Rattle.std.proofs.Common.{◌≡◌, ℕ, ◌+◌, ◌-◌, ◌<◌, ◌≤◌, ◌++◌, List, drop, get_or, length, take, sym, ap, ◌∙◌, subst, arith, ⊎_elim}
 use Rattle.std.specs.Prelude.{ℤ, pos}
 use Rattle.std.proofs.lemmas.Bool.{cases_eq}
 use Rattle.gs_model.specs.Classes.{ClassLists, IsClass}
@@ -7,6 +7,7 @@ use Rattle.gs_model.specs.Frame.{Frame, end_count, point_count, round_of}
 use Rattle.gs_model.specs.Plans.{Plan}
 use Rattle.gs_model.specs.Positions.{at_end}
 use Rattle.gs_seq.specs.Payoffs.{end_classes, end_sum}
+use Rattle.gs_best.specs.Sizes.{IsWide}
 use Rattle.gs_best.specs.Tables.{classes_at}
 use Rattle.gs_best.proofs.Filled.{written}
 use Rattle.gs_best.proofs.Placed.{IsRow, row_read}
@@ -39,3 +40,10 @@ paid_more f lists player y z start at old new here before done e k le lk = ⊎_e
     let earlier = end_before f lists e k z lk (omega arith) in
     before (end_start f lists e + (k - 1)) (omega (arith, earlier, at)) ∙ done e k (omega arith) lk)
     (cases_eq e z)
+
+-- a list that was written through a slice is as long as it was
+pub long_written : {A : Type 0} (n long : ℕ) (old new : List A) → n ≤ length old → length old ≡ long → length new ≡ long → n ≤ length (take long (new ++ drop (length new) old))
+long_written n long old new most full same = subst (λ l. n ≤ length l) (sym (written long new (drop (length new) old) same)) (omega (arith, most, full, same))
+
+pub wide_written : {A : Type 0} (f : Frame) (lists : ClassLists) (long : ℕ) (old new : List A) → IsWide f lists (length old) → length old ≡ long → length new ≡ long → IsWide f lists (length (take long (new ++ drop (length new) old)))
+wide_written f lists long old new wide full same j some top = long_written _ long old new (wide j some top) full same

@@ -8,3 +8,5 @@ pub mod Merged
 pub mod Room
 pub mod Lasting
 pub mod Courses
+pub mod Ledgers
+pub mod Rows

@@ -25,6 +25,5 @@ pub record HasRows (f : Frame) (lists : ClassLists) (t : Totals) : Type 0 where
 pub record HasScratch (f : Frame) (lists : ClassLists) (s : Scratch) : Type 0 where
   pub numbers : IsWide f lists (length s.numbers.items)
   pub worths : IsWide f lists (length s.worths.items)
-  pub rises : IsWide f lists (length s.rises.items)
   pub best : IsWide f lists (length s.best.items)
   pub moves : IsWide f lists (length s.moves.items)

@@ -32,32 +32,25 @@ fn advance_first(sums: &mut [i128], steps: &[i128], count: usize, times: u32)
     }
 }
 
-/// Adds to what ends pay against a plan so many times what they pay against another one.
-pub fn advance(form: &Abstract, totals: &mut Totals, steps: &Totals, times: u32)
+/// Adds to a player's class totals so many times what each turn adds: to what ends pay, and where his choices last for more turns to the totals of points
+/// as well.
+pub fn advance(form: &Abstract, totals: &mut Totals, steps: &Totals, times: u32, lasts: u32)
     requires rows { HasRows (frame_of form.now) (lists_of form.now) totals.old }
     requires step_rows { HasRows (frame_of form.now) (lists_of form.now) steps.now }
     requires small { AreSmallRows (frame_of form.now) (lists_of form.now) totals.old.ends.items }
     requires small_steps { AreSmallRows (frame_of form.now) (lists_of form.now) steps.now.ends.items }
+    requires small_points { times < lasts → AreSmallPoints (frame_of form.now) (lists_of form.now) totals.old.points.items }
+    requires small_slopes { times < lasts → AreSmallPoints (frame_of form.now) (lists_of form.now) steps.now.points.items }
     requires few { times ≤ 2 ^ 20 }
     ensures rows { HasRows (frame_of form.now) (lists_of form.now) totals.new }
     ensures lines { AreEndLines (frame_of form.now) (lists_of form.now) totals.old.ends.items steps.now.ends.items times totals.new.ends.items }
-    ensures points { totals.new.points ≡ totals.old.points }
+    ensures points { times < lasts → ArePointLines (frame_of form.now) (lists_of form.now) totals.old.points.items steps.now.points.items times totals.new.points.items }
+    ensures kept { lasts ≤ times → totals.new.points ≡ totals.old.points }
 {
-    let count = end_room(form) as usize;
-    advance_first(&mut totals.ends, &steps.ends, count, times);
-}
-
-/// Adds to the class totals of points so many times what each turn adds to them.
-pub fn advance_points(form: &Abstract, totals: &mut Totals, steps: &Totals, times: u32)
-    requires rows { HasRows (frame_of form.now) (lists_of form.now) totals.old }
-    requires step_rows { HasRows (frame_of form.now) (lists_of form.now) steps.now }
-    requires small { AreSmallPoints (frame_of form.now) (lists_of form.now) totals.old.points.items }
-    requires small_steps { AreSmallPoints (frame_of form.now) (lists_of form.now) steps.now.points.items }
-    requires few { times ≤ 2 ^ 20 }
-    ensures rows { HasRows (frame_of form.now) (lists_of form.now) totals.new }
-    ensures lines { ArePointLines (frame_of form.now) (lists_of form.now) totals.old.points.items steps.now.points.items times totals.new.points.items }
-    ensures ends { totals.new.ends ≡ totals.old.ends }
-{
-    let count = value_total(form) as usize;
-    advance_first(&mut totals.points, &steps.points, count, times);
+    let ends = end_room(form) as usize;
+    advance_first(&mut totals.ends, &steps.ends, ends, times);
+    if times < lasts {
+        let points = value_total(form) as usize;
+        advance_first(&mut totals.points, &steps.points, points, times);
+    }
 }

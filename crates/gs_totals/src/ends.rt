@@ -2,37 +2,33 @@
 
 ghost use Rattle.std.specs.Prelude.{◌≤◌, length};
 ghost use Rattle.gs_model.specs.Frame.{end_count};
-ghost use Rattle.gs_seq.specs.{Abstracts.{frame_of, lists_of}, Plans.{class_plan}};
 ghost use Rattle.gs_best.specs.Sizes.{IsWide};
-ghost use Rattle.gs_totals.specs.{Places.{AreEndSums, end_start}, Room.{HasRows, HasScratch, IsPlaced}};
+ghost use Rattle.gs_totals.specs.{Ledgers.{ArePaid, facing, frame_in, lists_in}, Places.{AreEndSums, end_start}, Room.{HasRows, HasScratch}};
 
+use crate::ledger::Ledger;
 use crate::paying::read_end;
-use crate::places::{Places, Scratch, Totals};
-use gs_best::{Deviator, end_total};
+use crate::places::{Scratch, Totals};
+use gs_best::end_total;
 
 /// What all ends pay the members of each class together.
-fn read_all(side: &Deviator<'_>, places: &Places, sums: &mut [i128], numbers: &mut [u64])
-    requires wide { IsWide (frame_of side.now.form.now) (lists_of side.now.form.now) (length numbers.old) }
-    requires placed { IsPlaced (frame_of side.now.form.now) (lists_of side.now.form.now) places.now }
-    requires room { end_start (frame_of side.now.form.now) (lists_of side.now.form.now) (end_count (frame_of side.now.form.now)) ≤ length sums.old }
-    ensures { let f = frame_of side.now.form.now in let lists = lists_of side.now.form.now in
-        AreEndSums f lists side.now.player (class_plan f lists side.now.other.now) sums.new }
+fn read_all(ledger: &Ledger<'_>, sums: &mut [i128], numbers: &mut [u64])
+    requires wide { IsWide (frame_in ledger.now) (lists_in ledger.now) (length numbers.old) }
+    requires room { end_start (frame_in ledger.now) (lists_in ledger.now) (end_count (frame_in ledger.now)) ≤ length sums.old }
+    ensures { let k = ledger.now in AreEndSums (frame_in k) (lists_in k) k.side.now.player (facing k.side.now) sums.new }
 {
-    for end in 0..end_total(side.form) {
-        let start = places.ends[end as usize] as usize;
-        read_end(side, end, start, sums, numbers);
+    for end in 0..end_total(ledger.side.form) {
+        let start = ledger.places.ends[end as usize] as usize;
+        read_end(ledger.side, end, start, sums, numbers);
     }
 }
 
 /// Reads what ends pay a player against the other's plan, class by class.
-pub fn read_ends(side: &Deviator<'_>, places: &Places, totals: &mut Totals, scratch: &mut Scratch)
-    requires scratch { HasScratch (frame_of side.now.form.now) (lists_of side.now.form.now) scratch.old }
-    requires placed { IsPlaced (frame_of side.now.form.now) (lists_of side.now.form.now) places.now }
-    requires rows { HasRows (frame_of side.now.form.now) (lists_of side.now.form.now) totals.old }
-    ensures scratch { HasScratch (frame_of side.now.form.now) (lists_of side.now.form.now) scratch.new }
-    ensures rows { HasRows (frame_of side.now.form.now) (lists_of side.now.form.now) totals.new }
-    ensures paid { let f = frame_of side.now.form.now in let lists = lists_of side.now.form.now in
-        AreEndSums f lists side.now.player (class_plan f lists side.now.other.now) totals.new.ends.items }
+pub fn read_ends(ledger: &Ledger<'_>, totals: &mut Totals, scratch: &mut Scratch)
+    requires scratch { HasScratch (frame_in ledger.now) (lists_in ledger.now) scratch.old }
+    requires rows { HasRows (frame_in ledger.now) (lists_in ledger.now) totals.old }
+    ensures scratch { HasScratch (frame_in ledger.now) (lists_in ledger.now) scratch.new }
+    ensures rows { HasRows (frame_in ledger.now) (lists_in ledger.now) totals.new }
+    ensures paid { ArePaid ledger.now totals.new }
 {
-    read_all(side, places, &mut totals.ends, &mut scratch.numbers);
+    read_all(ledger, &mut totals.ends, &mut scratch.numbers);
 }

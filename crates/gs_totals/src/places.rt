@@ -33,9 +33,7 @@ pub struct Scratch {
     pub(crate) numbers: Vec<u64>,
     // what a move is worth
     pub(crate) worths: Vec<i128>,
-    // what a turn adds to that
-    pub(crate) rises: Vec<i128>,
-    // what a point is worth by the moves so far
+    // what a point is worth by the moves so far, or what a turn adds to a move's worth
     pub(crate) best: Vec<i128>,
     // and the first best one of them
     pub(crate) moves: Vec<u8>,
@@ -107,7 +105,6 @@ impl Scratch {
         Ok(Scratch {
             numbers: vec![in alloc; 0u64; wide]?,
             worths: vec![in alloc; 0i128; wide]?,
-            rises: vec![in alloc; 0i128; wide]?,
             best: vec![in alloc; 0i128; wide]?,
             moves: vec![in alloc; 0u8; wide]?,
         })

@@ -6,10 +6,12 @@ ghost use Rattle.gs_model.specs.{Classes.{IsClass}, Frame.{end_count, last_step,
 ghost use Rattle.gs_model.specs.Positions.{at_end};
 ghost use Rattle.gs_seq.specs.{Abstracts.{frame_of, lists_of}, Payoffs.{end_classes, end_sum}, Plans.{class_plan}, Slots.{plan_of, slot_count}};
 ghost use Rattle.gs_best.specs.Sizes.{IsWide};
-ghost use Rattle.gs_totals.specs.{Places.{AreEndSums, end_start}, Renewed.{AgreeAt, AreSameAt}, Room.{HasRows, HasScratch, IsPlaced}};
+ghost use Rattle.gs_totals.specs.{Ledgers.{ArePaid, facing, frame_in, lists_in}, Places.{AreEndSums, end_start}, Renewed.{AgreeAt, AreSameAt}};
+ghost use Rattle.gs_totals.specs.Room.{HasRows, HasScratch};
 
+use crate::ledger::Ledger;
 use crate::paying::{end_in, read_end};
-use crate::places::{Places, Scratch, Totals};
+use crate::places::{Scratch, Totals};
 use gs_best::{Deviator, class_total, end_total, round_at, round_total};
 use gs_game::Step;
 use gs_seq::Abstract;
@@ -84,46 +86,30 @@ fn renew_end(
 }
 
 /// Reads what all ends pay anew where the other player's plan differs there from what it was with other weights.
-fn renew_all(
-    side: &Deviator<'_>,
-    before: &[u64],
-    places: &Places,
-    sums: &mut [i128],
-    numbers: &mut [u64],
-)
-    requires before { length before.now ≡ slot_count (frame_of side.now.form.now) (lists_of side.now.form.now) (other_player side.now.player) }
-    requires wide { IsWide (frame_of side.now.form.now) (lists_of side.now.form.now) (length numbers.old) }
-    requires placed { IsPlaced (frame_of side.now.form.now) (lists_of side.now.form.now) places.now }
-    requires room { end_start (frame_of side.now.form.now) (lists_of side.now.form.now) (end_count (frame_of side.now.form.now)) ≤ length sums.old }
-    requires paid { let f = frame_of side.now.form.now in let lists = lists_of side.now.form.now in
-        AreEndSums f lists side.now.player (plan_of f lists side.now.other.now.total before.now) sums.old }
-    ensures { let f = frame_of side.now.form.now in let lists = lists_of side.now.form.now in
-        AreEndSums f lists side.now.player (class_plan f lists side.now.other.now) sums.new }
+fn renew_all(ledger: &Ledger<'_>, before: &[u64], sums: &mut [i128], numbers: &mut [u64])
+    requires before { length before.now ≡ slot_count (frame_in ledger.now) (lists_in ledger.now) (other_player ledger.now.side.now.player) }
+    requires wide { IsWide (frame_in ledger.now) (lists_in ledger.now) (length numbers.old) }
+    requires room { end_start (frame_in ledger.now) (lists_in ledger.now) (end_count (frame_in ledger.now)) ≤ length sums.old }
+    requires paid { let k = ledger.now in
+        AreEndSums (frame_in k) (lists_in k) k.side.now.player (plan_of (frame_in k) (lists_in k) k.side.now.other.now.total before.now) sums.old }
+    ensures { let k = ledger.now in AreEndSums (frame_in k) (lists_in k) k.side.now.player (facing k.side.now) sums.new }
 {
-    for end in 0..end_total(side.form) {
-        let start = places.ends[end as usize] as usize;
-        renew_end(side, before, end, start, sums, numbers);
+    for end in 0..end_total(ledger.side.form) {
+        let start = ledger.places.ends[end as usize] as usize;
+        renew_end(ledger.side, before, end, start, sums, numbers);
     }
 }
 
 /// Reads what ends pay a player against the other's plan, where it is known what they pay with other weights.
-pub fn renew_ends(
-    side: &Deviator<'_>,
-    before: &[u64],
-    places: &Places,
-    totals: &mut Totals,
-    scratch: &mut Scratch,
-)
-    requires before { length before.now ≡ slot_count (frame_of side.now.form.now) (lists_of side.now.form.now) (other_player side.now.player) }
-    requires scratch { HasScratch (frame_of side.now.form.now) (lists_of side.now.form.now) scratch.old }
-    requires placed { IsPlaced (frame_of side.now.form.now) (lists_of side.now.form.now) places.now }
-    requires rows { HasRows (frame_of side.now.form.now) (lists_of side.now.form.now) totals.old }
-    requires paid { let f = frame_of side.now.form.now in let lists = lists_of side.now.form.now in
-        AreEndSums f lists side.now.player (plan_of f lists side.now.other.now.total before.now) totals.old.ends.items }
-    ensures scratch { HasScratch (frame_of side.now.form.now) (lists_of side.now.form.now) scratch.new }
-    ensures rows { HasRows (frame_of side.now.form.now) (lists_of side.now.form.now) totals.new }
-    ensures paid { let f = frame_of side.now.form.now in let lists = lists_of side.now.form.now in
-        AreEndSums f lists side.now.player (class_plan f lists side.now.other.now) totals.new.ends.items }
+pub fn renew_ends(ledger: &Ledger<'_>, before: &[u64], totals: &mut Totals, scratch: &mut Scratch)
+    requires before { length before.now ≡ slot_count (frame_in ledger.now) (lists_in ledger.now) (other_player ledger.now.side.now.player) }
+    requires scratch { HasScratch (frame_in ledger.now) (lists_in ledger.now) scratch.old }
+    requires rows { HasRows (frame_in ledger.now) (lists_in ledger.now) totals.old }
+    requires paid { let k = ledger.now in
+        AreEndSums (frame_in k) (lists_in k) k.side.now.player (plan_of (frame_in k) (lists_in k) k.side.now.other.now.total before.now) totals.old.ends.items }
+    ensures scratch { HasScratch (frame_in ledger.now) (lists_in ledger.now) scratch.new }
+    ensures rows { HasRows (frame_in ledger.now) (lists_in ledger.now) totals.new }
+    ensures paid { ArePaid ledger.now totals.new }
 {
-    renew_all(side, before, places, &mut totals.ends, &mut scratch.numbers);
+    renew_all(ledger, before, &mut totals.ends, &mut scratch.numbers);
 }

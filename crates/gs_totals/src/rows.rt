@@ -1,17 +1,24 @@
 //! What a move is worth to classes as wholes.
 
-ghost use Rattle.std.specs.Prelude.{◌≡◌, ◌+◌, ◌<◌, ◌≤◌, ℕ, pos, length, get_or};
-ghost use Rattle.gs_model.specs.{Classes.{class_count}, Frame.{last_round, move_count, point_count}};
-ghost use Rattle.gs_seq.specs.{Abstracts.{frame_of, lists_of}, Plans.{class_plan}};
-ghost use Rattle.gs_best.specs.{Rows.{AreModest, AreWorths}, Sizes.{IsWide}, Tables.{classes_at}};
-ghost use Rattle.gs_totals.specs.{ClassTotals.{total_worth}, Merged.{AreGathered, AreModestFrom}, Places.{AreEndSums, totals_of}};
-ghost use Rattle.gs_totals.specs.Room.{HasRows, IsPlaced};
+ghost use Rattle.std.specs.Prelude.{◌≡◌, ◌<◌, ◌≤◌, ℕ, pos, length, get_or};
+ghost use Rattle.gs_model.specs.{Classes.{class_count}, Frame.{leads_to, move_count, round_of}, Positions.{at_point}};
+ghost use Rattle.gs_seq.specs.Abstracts.{frame_of, lists_of};
+ghost use Rattle.gs_best.specs.{Rows.{AreWorths}, Sizes.{IsWide}, Tables.{classes_at}};
+ghost use Rattle.gs_totals.specs.{ClassTotals.{total_worth}, Ledgers.{frame_in, lists_in, totals_in}, Merged.{AreGathered}, Rows.{IsLaterRow, IsRowOf}};
 
 use crate::above::class_above;
-use crate::places::{Places, Totals};
-use gs_best::{Deviator, class_total, end_round, round_at, round_total, target_at};
+use crate::reading::Reading;
+use gs_best::{class_total, end_round, round_at, round_total, target_at};
 use gs_game::Target;
 use gs_seq::{Abstract, plus};
+
+/// A number for each class of a round, in a list from a place on.
+#[derive(Clone, Copy)]
+struct Row<'a> {
+    round: u8,
+    values: &'a [i128],
+    start: usize,
+}
 
 /// Sets so many numbers to 0.
 fn clear(sums: &mut [i128], count: usize)
@@ -24,84 +31,72 @@ fn clear(sums: &mut [i128], count: usize)
 }
 
 /// Adds to a cleared row, for each class of a later round, the class's number at the class above it.
-fn gather(form: &Abstract, from: u8, to: u8, values: &[i128], start: usize, sums: &mut [i128])
+fn gather(form: &Abstract, row: Row<'_>, to: u8, sums: &mut [i128])
     requires some { 0 < to }
-    requires earlier { to ≤ from }
-    requires top { from ≤ last_round (frame_of form.now) }
-    requires room { start + class_count (lists_of form.now) from ≤ length values.now }
-    requires modest { AreModest values.now start (class_count (lists_of form.now) from) }
+    requires row { IsLaterRow (frame_of form.now) (lists_of form.now) to row }
     requires wide { class_count (lists_of form.now) to ≤ length sums.old }
     requires clear { (k : ℕ) → k < class_count (lists_of form.now) to → get_or sums.old k (pos 0) ≡ pos 0 }
-    ensures { AreGathered (frame_of form.now) (lists_of form.now) from to values.now start sums.new }
+    ensures { AreGathered (frame_of form.now) (lists_of form.now) row.entry.round to row.entry.values.now row.entry.start sums.new }
 {
-    for class in 0..class_total(form, from) {
-        let place = class_above(form, from, to, class + 1) as usize - 1;
-        sums[place] = plus(sums[place], values[start + class as usize]);
+    for class in 0..class_total(form, row.round) {
+        let place = class_above(form, row.round, to, class + 1) as usize - 1;
+        sums[place] = plus(sums[place], row.values[row.start + class as usize]);
     }
 }
 
 /// For each class of a round what a row of a later round holds below it: gathered in another row, or where it is of the round itself as it stands.
-fn read_row<'a>(
-    form: &Abstract,
-    from: u8,
-    to: u8,
-    values: &'a [i128],
-    start: usize,
-    sums: &'a mut [i128],
-) -> &'a [i128]
+fn read_row<'a>(form: &Abstract, row: Row<'a>, to: u8, sums: &'a mut [i128]) -> &'a [i128]
     requires some { 0 < to }
-    requires earlier { to ≤ from }
-    requires top { from ≤ last_round (frame_of form.now) }
-    requires room { start + class_count (lists_of form.now) from ≤ length values.now }
-    requires modest { AreModest values.now start (class_count (lists_of form.now) from) }
+    requires row { IsLaterRow (frame_of form.now) (lists_of form.now) to row }
     requires wide { class_count (lists_of form.now) to ≤ length sums.old }
-    ensures gathered { AreGathered (frame_of form.now) (lists_of form.now) from to values.now start result.now }
+    ensures gathered { AreGathered (frame_of form.now) (lists_of form.now) row.entry.round to row.entry.values.now row.entry.start result.now }
     ensures long { class_count (lists_of form.now) to ≤ length result.now }
 {
     let _rounds = round_total(form);
     let count = class_total(form, to) as usize;
-    if from == to {
-        return &values[start..start + count];
+    if row.round == to {
+        return &row.values[row.start..row.start + count];
     }
     clear(sums, count);
-    gather(form, from, to, values, start, sums);
+    gather(form, row, to, sums);
     sums
 }
 
-/// What a move of a point is worth to each class of the point's round, where the totals of all later points are known; the last row may be written anew.
-pub(crate) fn read_worths<'a>(
-    side: &Deviator<'_>,
-    places: &Places,
-    totals: &'a Totals,
-    point: u32,
-    choice: u8,
-    worths: &'a mut [i128],
-) -> &'a [i128]
-    requires point { point < point_count (frame_of side.now.form.now) }
-    requires choice { choice < move_count (frame_of side.now.form.now) point }
-    requires placed { IsPlaced (frame_of side.now.form.now) (lists_of side.now.form.now) places.now }
-    requires rows { HasRows (frame_of side.now.form.now) (lists_of side.now.form.now) totals.now }
-    requires paid { let f = frame_of side.now.form.now in let lists = lists_of side.now.form.now in
-        AreEndSums f lists side.now.player (class_plan f lists side.now.other.now) totals.now.ends.items }
-    requires modest { let f = frame_of side.now.form.now in let lists = lists_of side.now.form.now in
-        AreModestFrom f lists (totals_of f lists side.now.player (class_plan f lists side.now.other.now) totals.now.points.items) (point + 1) }
-    requires wide { IsWide (frame_of side.now.form.now) (lists_of side.now.form.now) (length worths.old) }
-    ensures worths { let f = frame_of side.now.form.now in let lists = lists_of side.now.form.now in
-        AreWorths f lists (total_worth f lists (totals_of f lists side.now.player (class_plan f lists side.now.other.now) totals.now.points.items)) point choice result.now }
-    ensures long { classes_at (frame_of side.now.form.now) (lists_of side.now.form.now) point ≤ length result.now }
+/// The row of class totals at the target of a move.
+fn target_row<'a>(at: &'a Reading<'_, '_>, choice: u8) -> Row<'a>
+    requires { choice < move_count (frame_in at.now.ledger) at.now.point }
+    ensures later { let k = at.now.ledger in IsLaterRow (frame_in k) (lists_in k) (round_of (frame_in k) (at_point at.now.point)) result }
+    ensures held { let k = at.now.ledger in
+        IsRowOf (frame_in k) (lists_in k) (totals_in k.side.now at.now.totals.now.points.items) (leads_to (frame_in k) at.now.point choice) result }
 {
-    let _rounds = round_total(side.form);
-    let to = round_at(side.form, point);
-    match target_at(side.form, point, choice) {
-        Target::Point(next) => {
-            let start = places.points[next as usize] as usize;
-            let from = round_at(side.form, next);
-            read_row(side.form, from, to, &totals.points, start, worths)
-        }
-        Target::End(end) => {
-            let start = places.ends[end as usize] as usize;
-            let from = end_round(side.form, end);
-            read_row(side.form, from, to, &totals.ends, start, worths)
-        }
+    let form = at.ledger.side.form;
+    match target_at(form, at.point, choice) {
+        Target::Point(next) => Row {
+            round: round_at(form, next),
+            values: &at.totals.points,
+            start: at.ledger.places.points[next as usize] as usize,
+        },
+        Target::End(end) => Row {
+            round: end_round(form, end),
+            values: &at.totals.ends,
+            start: at.ledger.places.ends[end as usize] as usize,
+        },
     }
+}
+
+/// What a move of a point is worth to each class of the point's round; the last row may be written anew.
+pub(crate) fn read_worths<'a>(
+    at: &'a Reading<'_, '_>,
+    choice: u8,
+    sums: &'a mut [i128],
+) -> &'a [i128]
+    requires choice { choice < move_count (frame_in at.now.ledger) at.now.point }
+    requires wide { IsWide (frame_in at.now.ledger) (lists_in at.now.ledger) (length sums.old) }
+    ensures worths { let k = at.now.ledger in
+        AreWorths (frame_in k) (lists_in k) (total_worth (frame_in k) (lists_in k) (totals_in k.side.now at.now.totals.now.points.items)) at.now.point choice result.now }
+    ensures long { at.now.count ≤ length result.now }
+{
+    let form = at.ledger.side.form;
+    let row = target_row(at, choice);
+    read_row(form, row, round_at(form, at.point), sums)
 }

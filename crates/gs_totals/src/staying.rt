@@ -7,9 +7,11 @@ ghost use Rattle.gs_totals.specs.{Courses.{Lasts, LastsAt, StaysBehind, frame_in
 ghost use Rattle.gs_totals.specs.Lasting.{AreBehind, IsBehind, IsNotAhead, IsWithinGap};
 
 use crate::course::Course;
+use crate::ledger::Ledger;
 use crate::places::Scratch;
+use crate::reading::Reading;
 use crate::rows::read_worths;
-use gs_best::{Deviator, chooser, class_total, move_total, point_total, round_at, round_total};
+use gs_best::{Deviator, chooser, move_total, point_total, round_total};
 
 /// A number of turns, at most so many, in which a gain each turn does not close a gap.
 fn within_gap(before: bool, gap: u128, gain: u128, times: u32) -> u32
@@ -124,7 +126,7 @@ fn lasting_move(
     if times <= 1 {
         return times;
     }
-    let now = Deviator {
+    let side = Deviator {
         form: course.form,
         player: course.player,
         other: course.other,
@@ -134,15 +136,23 @@ fn lasting_move(
         player: course.player,
         other: course.more,
     };
-    let worth = read_worths(&now, course.places, course.totals, point, choice, worths);
-    let rise = read_worths(&added, course.places, course.steps, point, choice, rises);
-    let start = course.places.points[point as usize] as usize;
-    let count = class_total(course.form, round_at(course.form, point)) as usize;
+    let ledger = Ledger {
+        side: &side,
+        places: course.places,
+    };
+    let rising = Ledger {
+        side: &added,
+        places: course.places,
+    };
+    let now = Reading::of(&ledger, course.totals, point);
+    let step = Reading::of(&rising, course.steps, point);
+    let worth = read_worths(&now, choice, worths);
+    let rise = read_worths(&step, choice, rises);
     behind_all(
         choice,
         course.picks,
-        start,
-        count,
+        now.start,
+        now.count,
         &course.totals.points,
         worth,
         &course.steps.points,
@@ -152,41 +162,25 @@ fn lasting_move(
 }
 
 /// A number of turns, at most so many, in which no choice at an own point changes.
-fn lasting_point(
-    course: &Course<'_>,
-    point: u32,
-    worths: &mut [i128],
-    rises: &mut [i128],
-    times: u32,
-) -> u32
+fn lasting_point(course: &Course<'_>, point: u32, scratch: &mut Scratch, times: u32) -> u32
     requires point { point < point_count (frame_in course.now) }
     requires own { player_at (frame_in course.now) point ≡ course.now.player }
-    requires worths { IsWide (frame_in course.now) (lists_in course.now) (length worths.old) }
-    requires rises { IsWide (frame_in course.now) (lists_in course.now) (length rises.old) }
+    requires scratch { HasScratch (frame_in course.now) (lists_in course.now) scratch.old }
+    ensures scratch { HasScratch (frame_in course.now) (lists_in course.now) scratch.new }
     ensures lasts { LastsAt course.now point result }
     ensures most { result ≤ times }
     ensures some { 0 < times → 0 < result }
 {
     let mut left = times;
     for choice in 0..move_total(course.form, point) {
-        left = lasting_move(course, point, choice, worths, rises, left);
-    }
-    left
-}
-
-/// A number of turns, at most so many, in which no choice at any own point changes.
-fn lasting_all(course: &Course<'_>, worths: &mut [i128], rises: &mut [i128], times: u32) -> u32
-    requires worths { IsWide (frame_in course.now) (lists_in course.now) (length worths.old) }
-    requires rises { IsWide (frame_in course.now) (lists_in course.now) (length rises.old) }
-    ensures lasts { Lasts course.now result }
-    ensures most { result ≤ times }
-    ensures some { 0 < times → 0 < result }
-{
-    let mut left = times;
-    for point in 0..point_total(course.form) {
-        if chooser(course.form, point) == course.player {
-            left = lasting_point(course, point, worths, rises, left);
-        }
+        left = lasting_move(
+            course,
+            point,
+            choice,
+            &mut scratch.worths,
+            &mut scratch.best,
+            left,
+        );
     }
     left
 }
@@ -199,5 +193,11 @@ pub fn lasting(course: &Course<'_>, scratch: &mut Scratch, times: u32) -> u32
     ensures most { result ≤ times }
     ensures some { 0 < times → 0 < result }
 {
-    lasting_all(course, &mut scratch.worths, &mut scratch.rises, times)
+    let mut left = times;
+    for point in 0..point_total(course.form) {
+        if chooser(course.form, point) == course.player {
+            left = lasting_point(course, point, scratch, left);
+        }
+    }
+    left
 }

@@ -4,16 +4,16 @@ use Rattle.gs_model.specs.Frame.{end_count}
 use Rattle.gs_seq.specs.Payoffs.{end_classes}
 use Rattle.gs_best.proofs.Placed.{IsRow}
 use Rattle.gs_best.proofs.Sides.{frame, lists}
+use Rattle.gs_totals.specs.Ledgers.{facing}
 use Rattle.gs_totals.specs.Places.{end_start}
 use Rattle.gs_totals.proofs.EndStarts.{end_starts_le, end_starts_more}
-use Rattle.gs_totals.proofs.Known.{facing}
 use Rattle.gs_totals.proofs.PlacedRows.{end_row, paid_more}
 use Rattle.gs_totals.proofs.renewing.renew_all.Goals.{After-index}
 use Rattle.gs_totals.proofs.renewing.renew_all.Goals as goal
 
 -- the row of the end at hand
-row : (c : After-index) → IsRow (end_classes (frame c.args.side.now) (lists c.args.side.now)) (end_count (frame c.args.side.now)) c.loop-end.end c.index.result.now (end_classes (frame c.args.side.now) (lists c.args.side.now) c.loop-end.end)
-row c = end_row (frame c.args.side.now) (lists c.args.side.now) c.args.places.now c.requires.placed c.loop-end.end _ _ (omega (arith, c.loop-end-test.true, c.end_total-end-end.ensures)) c.index.ensures refl
+row : (c : After-index) → IsRow (end_classes (frame c.args.ledger.now.side.now) (lists c.args.ledger.now.side.now)) (end_count (frame c.args.ledger.now.side.now)) c.loop-end.end c.index.result.now (end_classes (frame c.args.ledger.now.side.now) (lists c.args.ledger.now.side.now) c.loop-end.end)
+row c = end_row (frame c.args.ledger.now.side.now) (lists c.args.ledger.now.side.now) c.args.ledger.now.places.now c.args.ledger.now.placed c.loop-end.end _ _ (omega (arith, c.loop-end-test.true, c.end_total-end-end.ensures)) c.index.ensures refl
 
 pub loop-end-init : goal.loop-end-init
 loop-end-init c = record {
@@ -29,7 +29,7 @@ renew_end-requires-clause-room c = omega (arith, (row (goal.at.renew_end-require
 
 pub renew_end-requires-clause-paid : goal.renew_end-requires-clause-paid
 renew_end-requires-clause-paid c =
-    let d = c.args.side.now in
+    let d = c.args.ledger.now.side.now in
     let z = c.loop-end.end in
     let r = row (goal.at.renew_end-requires-clause-paid c).After-index in
     λ k lk.
@@ -39,7 +39,7 @@ renew_end-requires-clause-paid c =
 
 pub loop-end-preserved : goal.loop-end-preserved
 loop-end-preserved c =
-    let d = c.args.side.now in
+    let d = c.args.ledger.now.side.now in
     let f = frame d in
     let z = c.loop-end.end in
     let r = row (goal.at.loop-end-preserved c).After-index in

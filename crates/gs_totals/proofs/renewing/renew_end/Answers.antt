@@ -1,7 +1,7 @@
 use Rattle.std.proofs.Common.{◌∙◌}
 use Rattle.gs_seq.specs.Slots.{plan_of}
 use Rattle.gs_best.proofs.Sides.{frame, lists}
-use Rattle.gs_totals.proofs.Known.{facing}
+use Rattle.gs_totals.specs.Ledgers.{facing}
 use Rattle.gs_totals.proofs.Renewals.{same_paid}
 use Rattle.gs_totals.proofs.renewing.renew_end.Goals as goal
 

@@ -7,4 +7,4 @@ use Rattle.gs_totals.proofs.rows.gather.Given as goal
 
 abbrev pub invariant-loop-class : goal.invariant-loop-class
 invariant-loop-class l = let f = frame_of l.form in let lists = lists_of l.form in
-    (c : ℕ) → IsClass lists l.to c → get_or l.sums (c - 1) (pos 0) ≡ gathered_to f lists l.from l.to l.values l.start c l.class
+    (c : ℕ) → IsClass lists l.to c → get_or l.sums (c - 1) (pos 0) ≡ gathered_to f lists l.row.round l.to l.row.values.now l.row.start c l.class

@@ -1,48 +1,76 @@
-use Rattle.std.proofs.Common.{◌+◌, List, length, ap, ◌∙◌, arith}
+use Rattle.std.proofs.Common.{◌+◌, ◌<◌, List, length, sym, ap, subst, arith}
 use Rattle.std.specs.Prelude.{ℤ}
-use Rattle.gs_model.specs.Classes.{class_count}
-use Rattle.gs_model.specs.Frame.{point_count}
+use Rattle.gs_model.specs.Frame.{move_count, point_count}
+use Rattle.gs_seq.specs.Abstracts.{frame_of, lists_of}
+use Rattle.gs_best.specs.Rows.{AreWorths}
+use Rattle.gs_best.specs.Sizes.{IsWide}
 use Rattle.gs_best.specs.Tables.{classes_at}
 use Rattle.gs_best.proofs.Placed.{IsRow}
-use Rattle.gs_totals.specs.Courses.{frame_in, lists_in}
+use Rattle.gs_totals.specs.ClassTotals.{total_worth}
+use Rattle.gs_totals.specs.Courses.{totals_added, totals_now}
+use Rattle.gs_totals.specs.Ledgers.{frame_in, lists_in, totals_in}
 use Rattle.gs_totals.proofs.CourseLaws.{added_modest, all_ahead, all_behind, all_gains, all_gaps, now_modest, once_behind}
-use Rattle.gs_totals.proofs.PlacedRows.{point_row}
-use Rattle.gs_totals.proofs.staying.lasting_move.Goals.{After-class_total-count}
+use Rattle.gs_totals.proofs.Readings.{brought, carried, row_of}
+use Rattle.gs_totals.proofs.staying.lasting_move.Goals.{After-of-now, After-read_worths-worth, After-read_worths-rise}
 use Rattle.gs_totals.proofs.staying.lasting_move.Goals as goal
 
-row : (c : After-class_total-count) → IsRow (classes_at (frame_in c.args.course.now) (lists_in c.args.course.now)) (point_count (frame_in c.args.course.now)) c.args.point c.index.result.now c.class_total-count.result
-row c = let k = c.args.course.now in point_row (frame_in k) (lists_in k) k.places.now k.placed c.args.point _ _ c.requires.point c.index.ensures (c.class_total-count.ensures.value ∙ ap (class_count (lists_in k)) c.round_at.ensures.value)
+row : (c : After-of-now) → let a = c.args.course.now.form.now in IsRow (classes_at (frame_of a) (lists_of a)) (point_count (frame_of a)) c.args.point c.of-now.result.start c.of-now.result.count
+row c = row_of _ c.args.course.now.totals.now c.args.point c.of-now.result c.of-now.ensures.ledger c.of-now.ensures.totals c.of-now.ensures.point
 
-pub read_worths-worth-requires-clause-modest : goal.read_worths-worth-requires-clause-modest
-read_worths-worth-requires-clause-modest c = now_modest c.args.course.now c.round_total-rounds.ensures.sound (c.args.point + 1)
+worths : (c : After-read_worths-worth) → let a = c.args.course.now.form.now in AreWorths (frame_of a) (lists_of a) (total_worth (frame_of a) (lists_of a) (totals_now c.args.course.now)) c.args.point c.args.choice c.read_worths-worth.result.now
+worths c = carried _ c.args.course.now.totals.now c.args.point c.of-now.result c.of-now.ensures.ledger c.of-now.ensures.totals c.of-now.ensures.point
+    (λ k t q. AreWorths (frame_in k) (lists_in k) (total_worth (frame_in k) (lists_in k) (totals_in k.side.now t.points.items)) q c.args.choice c.read_worths-worth.result.now) c.read_worths-worth.ensures.worths
 
-pub read_worths-rise-requires-clause-modest : goal.read_worths-rise-requires-clause-modest
-read_worths-rise-requires-clause-modest c = added_modest c.args.course.now c.round_total-rounds.ensures.sound (c.args.point + 1)
+rises : (c : After-read_worths-rise) → let a = c.args.course.now.form.now in AreWorths (frame_of a) (lists_of a) (total_worth (frame_of a) (lists_of a) (totals_added c.args.course.now)) c.args.point c.args.choice c.read_worths-rise.result.now
+rises c = carried _ c.args.course.now.steps.now c.args.point c.of-step.result c.of-step.ensures.ledger c.of-step.ensures.totals c.of-step.ensures.point
+    (λ k t q. AreWorths (frame_in k) (lists_in k) (total_worth (frame_in k) (lists_in k) (totals_in k.side.now t.points.items)) q c.args.choice c.read_worths-rise.result.now) c.read_worths-rise.ensures.worths
+
+pub of-now-requires-clause-modest : goal.of-now-requires-clause-modest
+of-now-requires-clause-modest c = λ s. now_modest c.args.course.now s (c.args.point + 1)
+
+pub of-step-requires-clause-modest : goal.of-step-requires-clause-modest
+of-step-requires-clause-modest c = λ s. added_modest c.args.course.now s (c.args.point + 1)
+
+pub read_worths-worth-requires-clause-choice : goal.read_worths-worth-requires-clause-choice
+read_worths-worth-requires-clause-choice c = brought _ c.args.course.now.totals.now c.args.point c.of-now.result c.of-now.ensures.ledger c.of-now.ensures.totals c.of-now.ensures.point (λ k t q. c.args.choice < move_count (frame_in k) q) c.requires.choice
+
+pub read_worths-worth-requires-clause-wide : goal.read_worths-worth-requires-clause-wide
+read_worths-worth-requires-clause-wide c = subst (λ k. IsWide (frame_in k) (lists_in k) (length c.args.worths.now)) (sym c.of-now.ensures.ledger) c.requires.worths
+
+pub read_worths-rise-requires-clause-choice : goal.read_worths-rise-requires-clause-choice
+read_worths-rise-requires-clause-choice c = brought _ c.args.course.now.steps.now c.args.point c.of-step.result c.of-step.ensures.ledger c.of-step.ensures.totals c.of-step.ensures.point (λ k t q. c.args.choice < move_count (frame_in k) q) c.requires.choice
+
+pub read_worths-rise-requires-clause-wide : goal.read_worths-rise-requires-clause-wide
+read_worths-rise-requires-clause-wide c = subst (λ k. IsWide (frame_in k) (lists_in k) (length c.args.rises.now)) (sym c.of-step.ensures.ledger) c.requires.rises
 
 pub behind_all-requires-clause-picks : goal.behind_all-requires-clause-picks
-behind_all-requires-clause-picks c = omega (arith, (row (goal.at.behind_all-requires-clause-picks c).After-class_total-count).within, c.args.course.now.many)
+behind_all-requires-clause-picks c = omega (arith, (row (goal.at.behind_all-requires-clause-picks c).After-of-now).within, c.args.course.now.many)
 
 pub behind_all-requires-clause-values : goal.behind_all-requires-clause-values
-behind_all-requires-clause-values c = omega (arith, (row (goal.at.behind_all-requires-clause-values c).After-class_total-count).within, c.args.course.now.rows.points, ap (λ (l : List ℤ). length l) c.deref.ensures.value)
+behind_all-requires-clause-values c = omega (arith, (row (goal.at.behind_all-requires-clause-values c).After-of-now).within, c.args.course.now.rows.points, ap (λ (l : List ℤ). length l) c.deref.ensures.value)
 
 pub behind_all-requires-clause-slopes : goal.behind_all-requires-clause-slopes
-behind_all-requires-clause-slopes c = omega (arith, (row (goal.at.behind_all-requires-clause-slopes c).After-class_total-count).within, c.args.course.now.step_rows.points, ap (λ (l : List ℤ). length l) c.deref-2.ensures.value)
+behind_all-requires-clause-slopes c = omega (arith, (row (goal.at.behind_all-requires-clause-slopes c).After-of-now).within, c.args.course.now.step_rows.points, ap (λ (l : List ℤ). length l) c.deref-2.ensures.value)
 
 pub behind_all-requires-clause-ahead : goal.behind_all-requires-clause-ahead
 behind_all-requires-clause-ahead c =
-    all_ahead c.args.course.now c.args.point c.args.choice _ _ (row (goal.at.behind_all-requires-clause-ahead c).After-class_total-count) _ _ _ _ c.deref.ensures.value c.deref-2.ensures.value c.read_worths-worth.ensures.worths c.read_worths-rise.ensures.worths c.round_total-rounds.ensures.sound c.requires.point c.requires.choice c.requires.own
+    let at = goal.at.behind_all-requires-clause-ahead c in
+    all_ahead c.args.course.now c.args.point c.args.choice _ _ (row at.After-of-now) _ _ _ _ c.deref.ensures.value c.deref-2.ensures.value (worths at.After-read_worths-worth) (rises at.After-read_worths-rise) c.round_total-rounds.ensures.sound c.requires.point c.requires.choice c.requires.own
 
 pub behind_all-requires-clause-gaps : goal.behind_all-requires-clause-gaps
 behind_all-requires-clause-gaps c =
-    all_gaps c.args.course.now c.args.point c.args.choice _ _ (row (goal.at.behind_all-requires-clause-gaps c).After-class_total-count) _ _ _ _ c.deref.ensures.value c.deref-2.ensures.value c.read_worths-worth.ensures.worths c.read_worths-rise.ensures.worths c.round_total-rounds.ensures.sound c.requires.point c.requires.choice
+    let at = goal.at.behind_all-requires-clause-gaps c in
+    all_gaps c.args.course.now c.args.point c.args.choice _ _ (row at.After-of-now) _ _ _ _ c.deref.ensures.value c.deref-2.ensures.value (worths at.After-read_worths-worth) (rises at.After-read_worths-rise) c.round_total-rounds.ensures.sound c.requires.point c.requires.choice
 
 pub behind_all-requires-clause-gains : goal.behind_all-requires-clause-gains
 behind_all-requires-clause-gains c =
-    all_gains c.args.course.now c.args.point c.args.choice _ _ (row (goal.at.behind_all-requires-clause-gains c).After-class_total-count) _ _ _ _ c.deref.ensures.value c.deref-2.ensures.value c.read_worths-worth.ensures.worths c.read_worths-rise.ensures.worths c.round_total-rounds.ensures.sound c.requires.point c.requires.choice
+    let at = goal.at.behind_all-requires-clause-gains c in
+    all_gains c.args.course.now c.args.point c.args.choice _ _ (row at.After-of-now) _ _ _ _ c.deref.ensures.value c.deref-2.ensures.value (worths at.After-read_worths-worth) (rises at.After-read_worths-rise) c.round_total-rounds.ensures.sound c.requires.point c.requires.choice
 
 pub returns-clause-behind : goal.returns-clause-behind
 returns-clause-behind c =
-    all_behind c.args.course.now c.args.point c.args.choice _ _ (row (goal.at.returns-clause-behind c).After-class_total-count) _ _ _ _ c.deref.ensures.value c.deref-2.ensures.value c.read_worths-worth.ensures.worths c.read_worths-rise.ensures.worths c.behind_all.result c.behind_all.ensures.behind
+    let at = goal.at.returns-clause-behind c in
+    all_behind c.args.course.now c.args.point c.args.choice _ _ (row at.After-of-now) _ _ _ _ c.deref.ensures.value c.deref-2.ensures.value (worths at.After-read_worths-worth) (rises at.After-read_worths-rise) c.behind_all.result c.behind_all.ensures.behind
 
 pub returns-then-times-le1-clause-behind : goal.returns-then-times-le1-clause-behind
 returns-then-times-le1-clause-behind c = once_behind c.args.course.now c.round_total-rounds.ensures.sound c.args.point c.args.choice c.args.times c.requires.point c.requires.choice c.requires.own (omega arith)

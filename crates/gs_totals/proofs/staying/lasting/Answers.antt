@@ -1,10 +1,11 @@
-use Rattle.std.proofs.Common.{◌≡◌, length, sym, ap, ◌∙◌, subst, arith, ⊎_elim}
+use Rattle.std.proofs.Common.{◌≡◌, sym, ◌∙◌, subst, arith, ⊎_elim}
 use Rattle.std.proofs.lemmas.Bool.{cases_eq}
 use Rattle.gs_model.specs.Frame.{player_at, point_count}
-use Rattle.gs_totals.specs.Courses.{LastsAt, frame_in}
+use Rattle.gs_totals.specs.Courses.{LastsAt, frame_in, lists_in}
+use Rattle.gs_totals.specs.Room.{HasScratch}
 use Rattle.gs_totals.proofs.Behind.{lasts_less}
-use Rattle.gs_totals.proofs.staying.lasting_all.Goals as goal
-use Rattle.gs_totals.proofs.staying.lasting_all.Goals.{then-chooser-course, else-chooser-course}
+use Rattle.gs_totals.proofs.staying.lasting.Goals as goal
+use Rattle.gs_totals.proofs.staying.lasting.Goals.{then-chooser-course, else-chooser-course}
 
 pub loop-point-preserved : goal.loop-point-preserved
 loop-point-preserved c =
@@ -17,8 +18,7 @@ loop-point-preserved c =
           let e = w.lasting_point-left.ensures in
           let less = w.lasting_point-left.result in
           record {
-            worths = λ j some top. omega (arith, i.worths j some top, w.lasting_point-left.auto.worths, ap length w.worths-is);
-            rises = λ j some top. omega (arith, i.rises j some top, w.lasting_point-left.auto.rises, ap length w.rises-is);
+            scratch = subst (HasScratch (frame_in k) (lists_in k)) (sym w.scratch-is) e.scratch;
             lasts = λ p lp own. subst (LastsAt k p) (sym w.left-is) (⊎_elim
                 (λ (same : p ≡ q). subst (λ p. LastsAt k p less) (sym same) e.lasts)
                 (λ (other : p ≡ q → ⊥). lasts_less k p left less e.most (i.lasts p (omega arith) own))
@@ -28,8 +28,7 @@ loop-point-preserved c =
           }
       | else-chooser-course w ↦
           record {
-            worths = λ j some top. omega (arith, i.worths j some top, ap length w.worths-is);
-            rises = λ j some top. omega (arith, i.rises j some top, ap length w.rises-is);
+            scratch = subst (HasScratch (frame_in k) (lists_in k)) (sym w.scratch-is) i.scratch;
             lasts = λ p lp own. subst (LastsAt k p) (sym w.left-is) (⊎_elim
                 (λ (same : p ≡ q). absurd (w.if-chooser-course.false (c.chooser.ensures ∙ subst (λ p. player_at (frame_in k) p ≡ k.player) same own)))
                 (λ (other : p ≡ q → ⊥). i.lasts p (omega arith) own)

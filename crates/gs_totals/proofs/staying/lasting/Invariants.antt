@@ -1,13 +1,12 @@
-use Rattle.std.proofs.Common.{◌≡◌, ℕ, ◌<◌, ◌≤◌, length}
+use Rattle.std.proofs.Common.{◌≡◌, ℕ, ◌<◌, ◌≤◌}
 use Rattle.gs_model.specs.Frame.{player_at}
-use Rattle.gs_best.specs.Sizes.{IsWide}
 use Rattle.gs_totals.specs.Courses.{LastsAt, frame_in, lists_in}
-use Rattle.gs_totals.proofs.staying.lasting_all.Given as goal
+use Rattle.gs_totals.specs.Room.{HasScratch}
+use Rattle.gs_totals.proofs.staying.lasting.Given as goal
 
 abbrev pub invariant-loop-point : goal.invariant-loop-point
 invariant-loop-point l = record {
-  worths : IsWide (frame_in l.course) (lists_in l.course) (length l.worths);
-  rises : IsWide (frame_in l.course) (lists_in l.course) (length l.rises);
+  scratch : HasScratch (frame_in l.course) (lists_in l.course) l.scratch;
   lasts : (q : ℕ) → q < l.point → player_at (frame_in l.course) q ≡ l.course.player → LastsAt l.course q l.left;
   most : l.left ≤ l.times;
   some : 0 < l.times → 0 < l.left;
