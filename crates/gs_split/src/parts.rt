@@ -1,10 +1,10 @@
 //! What a turn looks at on one side: the sums of the last round, or the children before it.
 
-ghost use Rattle.std.specs.Prelude.{◌≡◌, ◌<◌, ◌≤◌, IfOk, length};
-ghost use Rattle.gs_model.specs.{Classes.{ClassLists, list_of}, Frame.{frame_of}};
+ghost use Rattle.std.specs.Prelude.{◌≡◌, ◌<◌, ◌≤◌, ℕ, IfOk, List, length};
+ghost use Rattle.gs_model.specs.{Classes.{ClassLists, list_of}, Frame.{frame_of, last_round}};
 ghost use Rattle.gs_tree.specs.Trees.{rules_of};
 ghost use Rattle.gs_lossless.specs.Amounts.{HasSide, key_count, keys_of};
-ghost use Rattle.gs_split.specs.Turns.{AreSettled, AreSideFirsts, AreSideNumbers};
+ghost use Rattle.gs_split.specs.Turns.{AreSettled, AreSideFirsts, AreSideNumbers, AreTurnNumbers};
 
 use gs_alike::Boards;
 use gs_filter::Classes;
@@ -63,21 +63,37 @@ fn settled_classes(
     Ok(settled)
 }
 
-/// For each signal of a round a number: within a class equal exactly where the signals agree on one side. Sums are made only of signals that none before
-/// them stands for, and none in a class that a turn cannot part.
+/// What a turn looks at in a round: in the last one the deals, before it the children.
+fn side_at(signals: &Signals, round: u8) -> Side
+    requires some { 0 < round }
+    requires top { round ≤ last_round (frame_of (rules_of signals.now)) }
+    ensures side { HasSide (frame_of (rules_of signals.now)) result round }
+    ensures turn { (lists : ClassLists) (numbers : List ℕ) → AreSideNumbers (frame_of (rules_of signals.now)) lists result round numbers
+        → AreTurnNumbers (frame_of (rules_of signals.now)) lists round numbers }
+{
+    if round < signals.rounds() {
+        Side::Children
+    } else {
+        Side::Deals
+    }
+}
+
+/// For each signal of a round a number: within a class equal exactly where the signals have, in the last round, the same sums, and before it the same
+/// children. Sums are made only of signals that none before them stands for, and none in a class that a turn cannot part.
 pub(crate) fn side_numbers(
     alloc: Global,
     boards: &Boards<'_>,
     grouped: &Grouped<'_>,
-    side: Side,
     round: u8,
 ) -> Result<Vec<u32>, AllocError>
     requires boards { boards.now.signals.now ≡ grouped.now.signals.now }
-    requires side { HasSide (frame_of (rules_of grouped.now.signals.now)) side round }
-    ensures { IfOk result (λ v. AreSideNumbers (frame_of (rules_of grouped.now.signals.now)) grouped.now.classes.now.lists side round v.items) }
+    requires some { 0 < round }
+    requires top { round ≤ last_round (frame_of (rules_of grouped.now.signals.now)) }
+    ensures { IfOk result (λ v. AreTurnNumbers (frame_of (rules_of grouped.now.signals.now)) grouped.now.classes.now.lists round v.items) }
 {
     let Grouped { signals, classes } = *grouped;
     let _rounds = classes.rounds();
+    let side = side_at(signals, round);
     let keys = side_keys(alloc, signals, classes, side, round)?;
     let firsts = side_firsts(alloc, signals, boards, side, round, &keys)?;
     let settled = settled_classes(alloc, classes, round, &firsts)?;

@@ -10,7 +10,7 @@ use crate::parting::parted;
 use crate::parts::side_numbers;
 use gs_alike::Boards;
 use gs_filter::Classes;
-use gs_lossless::{Grouped, Side};
+use gs_lossless::Grouped;
 use gs_tree::Signals;
 use std::alloc::{AllocError, Global};
 
@@ -32,10 +32,8 @@ fn round_numbers(
 {
     if known {
         vec![in alloc; 0; grouped.signals.count(round) as usize]
-    } else if round < grouped.signals.rounds() {
-        side_numbers(alloc, boards, grouped, Side::Children, round)
     } else {
-        side_numbers(alloc, boards, grouped, Side::Deals, round)
+        side_numbers(alloc, boards, grouped, round)
     }
 }
 

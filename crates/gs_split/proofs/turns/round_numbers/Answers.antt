@@ -1,10 +1,9 @@
-use Rattle.std.proofs.Common.{◌≡◌, ◌<◌, ◌∙◌, arith, rules, sym}
+use Rattle.std.proofs.Common.{◌∙◌, arith, rules, sym}
 use Rattle.std.proofs.lemmas.Result.{IfOk-weaker}
-use Rattle.gs_model.specs.Frame.{frame_of, last_round}
+use Rattle.gs_model.specs.Frame.{frame_of}
 use Rattle.gs_model.proofs.Ranges.{signal_count_is}
 use Rattle.gs_tree.specs.Trees.{rules_of}
 use Rattle.gs_lossless.proofs.Descent.{last_is}
-use Rattle.gs_split.proofs.Agreed.{numbers_of_children, numbers_of_deals}
 use Rattle.gs_split.proofs.Known.{known_numbers}
 use Rattle.gs_split.proofs.turns.round_numbers.Goals as goal
 
@@ -18,15 +17,3 @@ returns-then-known c =
     IfOk-weaker c.vec.result _ _
     (λ v h. known_numbers (frame_of g) c.args.grouped.now.classes.now.lists c.args.round v.items c.count.result (h (λ y k. search rules)) (c.count.ensures.value ∙ sym n) (c.requires.known c.if-known.true))
     c.vec.ensures.items_if_clones_equal
-
-pub returns-then-round-rounds : goal.returns-then-round-rounds
-returns-then-round-rounds c =
-    let g = rules_of c.args.grouped.now.signals.now in
-    let before : c.args.round < last_round (frame_of g) = omega (arith, c.if-round-rounds.true, c.rounds.ensures.value, last_is g) in
-    IfOk-weaker c.side_numbers.result _ _ (λ v h. numbers_of_children (frame_of g) c.args.grouped.now.classes.now.lists c.args.round v.items before h) c.side_numbers.ensures
-
-pub returns-else-round-rounds : goal.returns-else-round-rounds
-returns-else-round-rounds c =
-    let g = rules_of c.args.grouped.now.signals.now in
-    let last : c.args.round ≡ last_round (frame_of g) = omega (arith, c.if-round-rounds.false, c.rounds.ensures.value, last_is g, c.requires.top) in
-    IfOk-weaker c.side_numbers-else-round-rounds.result _ _ (λ v h. numbers_of_deals (frame_of g) c.args.grouped.now.classes.now.lists c.args.round v.items last h) c.side_numbers-else-round-rounds.ensures
