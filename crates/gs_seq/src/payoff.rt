@@ -88,8 +88,40 @@ impl<'a> Abstract<'a> {
         sum
     }
 
-    /// What a plan of player 1 and a plan of player 2 pay player 1, in chips times the weight of all deals and both totals. There is
-    /// room to read what ends pay: a number for each class of any end.
+    /// What a plan of player 1 and a plan of player 2 pay player 1, in chips times the weight of all deals and both totals.
+    ///
+    /// It takes no memory.
+    pub fn payoff(&self, x: &Plan, y: &Plan) -> i128
+        requires x { IsPlanOf (frame_of self.now) (lists_of self.now) 1 x.now }
+        requires y { IsPlanOf (frame_of self.now) (lists_of self.now) 2 y.now }
+        ensures { result ≡ raw_payoff (frame_of self.now) (lifted (frame_of self.now) (lists_of self.now) x.now) (lifted (frame_of self.now) (lists_of self.now) y.now) }
+    {
+        let _game = self.game();
+        let mut sum = 0i128;
+        for end in 0..self.end_total() {
+            sum = plus(sum, self.payoff_at(x, y, end));
+        }
+        sum
+    }
+
+    /// What two plans pay at an end, over the classes of player 1.
+    fn payoff_at(&self, x: &Plan, y: &Plan, end: u32) -> i128
+        requires x { IsPlanOf (frame_of self.now) (lists_of self.now) 1 x.now }
+        requires y { IsPlanOf (frame_of self.now) (lists_of self.now) 2 y.now }
+        requires end { end < end_count (frame_of self.now) }
+        ensures { result ≡ payoff_at (frame_of self.now) (lists_of self.now) (class_plan (frame_of self.now) (lists_of self.now) x.now) (class_plan (frame_of self.now) (lists_of self.now) y.now) end }
+    {
+        let _game = self.game();
+        let mut sum = 0i128;
+        for before in 0..self.class_total(end) {
+            let number = self.number_at_end(x, end, before + 1);
+            let worth = self.end_sum(1, y, end, before + 1);
+            sum = plus(sum, scaled(number, worth));
+        }
+        sum
+    }
+
+    /// The same with room to read what ends pay: a number for each class of any end.
     pub fn payoff_in(&self, x: &Plan, y: &Plan, sums: &mut [i128], numbers: &mut [u64]) -> i128
         requires x { IsPlanOf (frame_of self.now) (lists_of self.now) 1 x.now }
         requires y { IsPlanOf (frame_of self.now) (lists_of self.now) 2 y.now }
@@ -105,7 +137,7 @@ impl<'a> Abstract<'a> {
         sum
     }
 
-    /// What two plans pay at an end, over the classes of player 1.
+    /// What two plans pay at an end, read for all classes of player 1 at once.
     fn payoff_read(
         &self,
         x: &Plan,

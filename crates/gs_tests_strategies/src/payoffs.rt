@@ -3,7 +3,6 @@
 ghost use Rattle.std.specs.Prelude.{◌<◌, ◌≤◌};
 
 use crate::rows::over_form;
-use gs_best::{Work, verdict};
 use gs_samples::{KUHN, classes_of, game_of};
 use gs_seq::{Abstract, PlanFault, plan_fault};
 use gs_tree::Signals;
@@ -42,21 +41,17 @@ fn is_first(
     Ok(plan.player == player && plan.total == 1 && *plan.weights == *want)
 }
 
-/// What two stored plans pay, over the weight of all deals and both totals, where they are plans.
+/// What two stored plans pay, where they are plans.
 fn paid(
     alloc: Global,
     form: &Abstract<'_>,
     x: Stored<'_>,
     y: Stored<'_>,
-) -> Result<Option<(i128, i128)>, AllocError> {
+) -> Result<Option<i128>, AllocError> {
     let one = form.plan(1, x.0, Vec::from_slice(alloc, x.1)?);
     let two = form.plan(2, y.0, Vec::from_slice(alloc, y.1)?);
-    let mut work = Work::new(alloc, form)?;
     match (one, two) {
-        (Ok(x), Ok(y)) => {
-            let value = verdict(form, &x, &y, &mut work).value;
-            Ok(Some((value.num, value.den)))
-        }
+        (Ok(x), Ok(y)) => Ok(Some(form.payoff(&x, &y))),
         _ => Ok(None),
     }
 }
@@ -80,42 +75,42 @@ fn first_plans_make_first_moves(rt: HostRuntime) -> Result<(), Fail> {
 }
 
 /// Games and classes, total and weights of a plan of player 1 and of one of player 2, and what they pay.
-const PAID: [(&str, &str, Stored<'static>, Stored<'static>, (i128, i128)); 6] = [
-    (KUHN, "", (1, FIRSTS), (1, FIRSTS), (0, 1)),
+const PAID: [(&str, &str, Stored<'static>, Stored<'static>, i128); 6] = [
+    (KUHN, "", (1, FIRSTS), (1, FIRSTS), 0),
     (
         KUHN,
         "",
         (2, &[1, 1, 1, 1, 2, 0, 1, 0, 1, 0, 2, 0]),
         (2, &[1, 1, 1, 1, 2, 0, 2, 0, 2, 0, 2, 0]),
-        (1, 12),
+        2,
     ),
     (
         KUHN,
         "",
         (3, &[3, 0, 3, 0, 3, 0, 3, 0, 2, 1, 0, 3]),
         (3, &[2, 1, 3, 0, 0, 3, 3, 0, 2, 1, 0, 3]),
-        (-1, 18),
+        -3,
     ),
     (
         KUHN,
         "",
         (1, &[0, 1, 0, 1, 0, 1, 0, 0, 0, 0, 0, 0]),
         (1, FIRSTS),
-        (1, 1),
+        6,
     ),
     (
         TWO_ROUNDS,
         "ranks",
         (1, FIRSTS_OF_TWO),
         (1, FIRSTS_OF_TWO),
-        (0, 1),
+        0,
     ),
     (
         TWO_ROUNDS,
         "ranks",
         (1, BETS_OF_TWO),
         (1, FIRSTS_OF_TWO),
-        (1, 1),
+        120,
     ),
 ];
 
