@@ -13,7 +13,7 @@ use Rattle.gs_model.specs.Signals.{signal_at, signals}
 use Rattle.gs_model.specs.Verdict.{IsVerdict}
 use Rattle.gs_model.proofs.Ranges.{signal_count_is}
 use Rattle.gs_model.proofs.Walked.{last_round_of}
-use Rattle.gs_reply.proofs.Refused.{tells_answer}
+use Rattle.gs_reply.proofs.Refused.{answers_more, tells_answer}
 use Rattle.gs_reply.specs.Refusals.{Unlike_pair, Limit, Too_large, Wrong_number}
 use Rattle.gs_reply.specs.Replies.{Answers, Reply, Tells}
 use Rattle.gs_reply.specs.declared.answers.Answer.{Answer}
@@ -26,22 +26,21 @@ use Rattle.gs_strategy.specs.Values.{Parts, Strategy}
 use Rattle.gs_strategy.specs.Views.{numbers_of, strategy_of, stored_view}
 use Rattle.gs_strategy.specs.declared.stored.Stored.{Stored}
 use Rattle.gs_tree.specs.Texts.{signal_text}
-use Rattle.gs_confirm.proofs.Faults.{answers_map}
 use Rattle.gs_confirm.specs.Commands.{OfConfirmed}
 use Rattle.gs_confirm.specs.Troubles.{IsFirstWrong, Passes, SaysLarge, SaysUnlike, SaysWrong}
 
 -- what is said of a strategy that is not confirmed is what its command answers
 pub unlike_refused : (says : Strategy → Reply → Type 0) (s : Strategy) (a : Answer) → Answers (SaysUnlike s) a → Answers (OfConfirmed says s) a
-unlike_refused says s a h = answers_map (SaysUnlike s) (OfConfirmed says s) (λ r said. inr (Unlike_pair said.0 said.1 said.2, said.3, said.4)) a h
+unlike_refused says s a h = answers_more (SaysUnlike s) (OfConfirmed says s) (λ r said. inr (Unlike_pair said.0 said.1 said.2, said.3, said.4)) a h
 
 pub large_refused : (says : Strategy → Reply → Type 0) (s : Strategy) (a : Answer) → Answers (SaysLarge s) a → Answers (OfConfirmed says s) a
-large_refused says s a h = answers_map (SaysLarge s) (OfConfirmed says s) (λ r said. inr (Too_large said.0, said.1, said.2)) a h
+large_refused says s a h = answers_more (SaysLarge s) (OfConfirmed says s) (λ r said. inr (Too_large said.0, said.1, said.2)) a h
 
 pub wrong_refused : (says : Strategy → Reply → Type 0) (s : Strategy) (a : Answer) → Answers (SaysWrong s) a → Answers (OfConfirmed says s) a
-wrong_refused says s a h = answers_map (SaysWrong s) (OfConfirmed says s) (λ r said. inr (Wrong_number said.0 said.1 said.2, said.3, said.4)) a h
+wrong_refused says s a h = answers_more (SaysWrong s) (OfConfirmed says s) (λ r said. inr (Wrong_number said.0 said.1 said.2, said.3, said.4)) a h
 
 pub confirmed_said : (says : Strategy → Reply → Type 0) (s : Strategy) (a : Answer) → IsConfirmed s → Answers (says s) a → Answers (OfConfirmed says s) a
-confirmed_said says s a confirmed h = answers_map (says s) (OfConfirmed says s) (λ r said. inl (confirmed, said)) a h
+confirmed_said says s a confirmed h = answers_more (says s) (OfConfirmed says s) (λ r said. inl (confirmed, said)) a h
 
 -- ---- classes
 

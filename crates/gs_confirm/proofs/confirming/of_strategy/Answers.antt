@@ -9,5 +9,5 @@ use Rattle.gs_confirm.proofs.confirming.of_strategy.Goals as goal
 pub lossless_of-requires-clause-parents : goal.lossless_of-requires-clause-parents
 lossless_of-requires-clause-parents c = c.args.stored.now.parents ∙ ap (λ (v : ValidGame). (frame_in v).parents) (sym c.in_ok-signals.ensures)
 
-pub returns : goal.returns
-returns c = unlike_refused (says_of c.args.ask.now) (stored_view c.args.stored.now) c.in-Err.refusal (rw c.in-Err.is at c.in_ok-lossless.ensures.unlike)
+pub returns-in-Err : goal.returns-in-Err
+returns-in-Err c = unlike_refused (says_of c.args.ask.now) (stored_view c.args.stored.now) c.in-Err.refusal (rw c.in-Err.is at c.in_ok-lossless.ensures.unlike)
