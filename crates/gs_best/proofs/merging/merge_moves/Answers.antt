@@ -1,11 +1,13 @@
 use Rattle.std.proofs.Common.{◌≡◌, ◌≢◌, ◌+◌, ◌^◌, ◌<◌, ◌≤◌, ℕ, List, ◌++◌, length, take, drop, sym, ap, ◌∙◌, subst, arith, Vec}
 use Rattle.std.specs.Prelude.{ℤ}
 use Rattle.std.specs.declared.alloc.Global.{Global}
-use Rattle.gs_model.specs.Classes.{class_count}
-use Rattle.gs_model.specs.Frame.{move_count, player_at, round_of}
+use Rattle.gs_model.specs.Classes.{ClassLists, class_count}
+use Rattle.gs_model.specs.Frame.{Frame, move_count, player_at, round_of}
 use Rattle.gs_model.specs.Positions.{at_point}
 use Rattle.gs_best.specs.Rows.{AreGreatest, AreSums, AreWorths, IsMergedBy}
-use Rattle.gs_best.specs.Sizes.{HasRoom}
+use Rattle.gs_best.specs.Sizes.{HasRoom, IsWide}
+use Rattle.gs_best.specs.declared.deviator.Deviator.{Deviator}
+use Rattle.gs_best.specs.declared.room.Scratch.{Scratch}
 use Rattle.gs_best.proofs.Filled.{written}
 use Rattle.gs_best.proofs.Greatest.{greatest_step, sum_fits, sum_step}
 use Rattle.gs_best.proofs.Rooms.{written_wide}
@@ -15,6 +17,15 @@ use Rattle.gs_best.proofs.merging.merge_moves.Goals as goal
 
 all : (c : After-class_total-count) → c.class_total-count.result ≡ class_count (lists c.args.side.now) (round_of (frame c.args.side.now) (at_point c.args.point))
 all c = c.class_total-count.ensures.value ∙ ap (class_count (lists c.args.side.now)) c.round_at.ensures.value
+
+-- the sums so far, in a list that is the same
+sums_so_far : (d : Deviator) (values : List ℤ) (q n : ℕ) (old row : List ℤ) (moves : List ℕ) → (0 < n → IsMergedBy n (frame d) (lists d) d.player (worths_in d values) q old moves) → old ≡ row → player_at (frame d) q ≢ d.player → 0 < n
+    → AreSums (frame d) (lists d) (worths_in d values) q n row
+sums_so_far d values q n old row moves so_far same other some = subst (AreSums (frame d) (lists d) (worths_in d values) q n) same ((so_far some).others other)
+
+-- rows of which two were written keep their room
+written_room : (f : Frame) (ls : ClassLists) (s : Scratch) (best : Vec ℤ Global) (moves : Vec ℕ Global) → HasRoom f ls s → IsWide f ls (length best.items) → IsWide f ls (length moves.items) → HasRoom f ls (record s { best = best; moves = moves })
+written_room f ls s best moves room wide_best wide_moves = record { numbers = room.numbers; ends = room.ends; worths = room.worths; best = wide_best; moves = wide_moves }
 
 pub add-requires-clause-fits : goal.add-requires-clause-fits
 add-requires-clause-fits c =
@@ -32,7 +43,7 @@ add-requires-clause-fits c =
     let was = ap (λ (l : Vec ℤ Global). l.items) (sym c.read_worths.ensures.best) ∙ sym c.deref_mut-else-own.ensures.value in
     λ k l some.
     sum_fits (frame d) (lists d) v q n c.class_total-count.result (all at.After-class_total-count) c.deref-else-own.result.now (subst (AreWorths (frame d) (lists d) v q n) (sym c.deref-else-own.ensures.value) c.read_worths.ensures.worths)
-    c.deref_mut-else-own.result.now (2 ^ 87) (2 ^ 87) (omega arith) (subst (AreSums (frame d) (lists d) v q n) was ((c.loop-choice.invariant.so_far some).others other))
+    c.deref_mut-else-own.result.now (2 ^ 87) (2 ^ 87) (omega arith) (sums_so_far d values q n _ _ c.loop-choice.scratch.moves.items c.loop-choice.invariant.so_far was other some)
     (λ e. known_worths d sound values picks (q + 1) c.requires.known q e n c.requires.point even (omega (arith, in_moves))) (λ e. known_worth d sound values picks (q + 1) c.requires.known q n e c.requires.point even in_moves) k l
 
 pub loop-choice-preserved : goal.loop-choice-preserved
@@ -61,13 +72,8 @@ loop-choice-preserved c =
           let greatest = greatest_step f ls v q n c.class_total-count.result count w.deref.result.now worths w.deref_mut.result.now best w.deref_mut-then-own.result.now moves w.raise.ensures.raised
           (λ some. subst (λ l. AreGreatest f ls v q n l w.deref_mut-then-own.result.now) best_was (subst (λ l. AreGreatest f ls v q n c.loop-choice.scratch.best.items l) moves_were ((c.loop-choice.invariant.so_far some).own own))) in
           record {
-            room = subst (HasRoom f ls) (sym w.scratch-is) (record {
-              numbers = room.numbers;
-              ends = room.ends;
-              worths = room.worths;
-              best = written_wide f ls s.best.len s.best.items best (omega (arith, s.best.ok.0)) best_long room.best;
-              moves = written_wide f ls s.moves.len s.moves.items moves (omega (arith, s.moves.ok.0)) moves_long room.moves;
-            });
+            room = subst (HasRoom f ls) (sym w.scratch-is)
+                (written_room f ls s _ _ room (written_wide f ls s.best.len s.best.items best (omega (arith, s.best.ok.0)) best_long room.best) (written_wide f ls s.moves.len s.moves.items moves (omega (arith, s.moves.ok.0)) moves_long room.moves));
             so_far = λ some. record {
               own = λ is. subst (λ x. AreGreatest f ls v q (n + 1) x.best.items x.moves.items) (sym w.scratch-is)
                   (subst (λ l. AreGreatest f ls v q (n + 1) l (take s.moves.len (moves ++ drop (length moves) s.moves.items))) (sym best_is) (subst (λ l. AreGreatest f ls v q (n + 1) best l) (sym moves_are) greatest));
@@ -82,15 +88,9 @@ loop-choice-preserved c =
           let was = ap (λ (l : Vec ℤ Global). l.items) (sym c.read_worths.ensures.best) ∙ sym w.deref_mut-else-own.ensures.value in
           let other : player_at f q ≢ d.player = λ e. w.if-own.false (c.chooser.ensures ∙ e) in
           let sums = sum_step f ls v q n c.class_total-count.result count w.deref-else-own.result.now worths w.deref_mut-else-own.result.now new w.add.ensures.added
-          (λ some. subst (AreSums f ls v q n) was ((c.loop-choice.invariant.so_far some).others other)) in
+          (sums_so_far d c.args.table.now.values.items q n _ _ c.loop-choice.scratch.moves.items c.loop-choice.invariant.so_far was other) in
           record {
-            room = subst (HasRoom f ls) (sym w.scratch-is) (record {
-              numbers = room.numbers;
-              ends = room.ends;
-              worths = room.worths;
-              best = written_wide f ls s.best.len s.best.items new (omega (arith, s.best.ok.0)) long room.best;
-              moves = room.moves;
-            });
+            room = subst (HasRoom f ls) (sym w.scratch-is) (written_room f ls s _ s.moves room (written_wide f ls s.best.len s.best.items new (omega (arith, s.best.ok.0)) long room.best) room.moves);
             so_far = λ some. record {
               own = λ is. absurd (other is);
               others = λ not. subst (λ x. AreSums f ls v q (n + 1) x.best.items) (sym w.scratch-is) (subst (AreSums f ls v q (n + 1)) (sym sums_are) sums);
