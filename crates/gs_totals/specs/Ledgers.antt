@@ -49,7 +49,7 @@ pub record IsReady (k : Ledger) (t : Totals) (picks : List ℕ) (s : Scratch) : 
 abbrev pub AreBestIn : Ledger → Totals → List ℕ → ℕ → Type 0
 AreBestIn k t picks from = AreBestFrom (frame_in k) (lists_in k) k.side.now.player (totals_in k.side.now t.points.items) (moves_in k picks) from
 
--- or follow moves
+-- at the points from one on class totals follow moves
 abbrev pub AreFollowedIn : Ledger → Totals → List ℕ → ℕ → Type 0
 AreFollowedIn k t picks from = IsFollowedFrom (frame_in k) (lists_in k) k.side.now.player (totals_in k.side.now t.points.items) (moves_in k picks) from
 

@@ -26,8 +26,8 @@ fn take(worths: &[i128], choice: u8, count: usize, picks: &[u8], start: usize, r
 /// The greatest worth of a move of a point, and the first move that has it, for each class of the point's round.
 fn best_moves(at: &Reading<'_, '_>, worths: &mut [i128], best: &mut [i128], moves: &mut [u8])
     requires worths { IsWide (frame_in at.now.ledger) (lists_in at.now.ledger) (length worths.old) }
-    requires best { IsWide (frame_in at.now.ledger) (lists_in at.now.ledger) (length best.old) }
-    requires moves { IsWide (frame_in at.now.ledger) (lists_in at.now.ledger) (length moves.old) }
+    requires best { at.now.count ≤ length best.old }
+    requires moves { at.now.count ≤ length moves.old }
     ensures { let k = at.now.ledger in let f = frame_in k in
         AreGreatest f (lists_in k) (total_worth f (lists_in k) (totals_in k.side.now at.now.totals.now.points.items)) at.now.point (move_count f at.now.point) best.new moves.new }
 {
@@ -40,7 +40,7 @@ fn best_moves(at: &Reading<'_, '_>, worths: &mut [i128], best: &mut [i128], move
 /// The sum of the worths of all moves of a point, for each class of the point's round.
 fn sum_moves(at: &Reading<'_, '_>, worths: &mut [i128], sums: &mut [i128])
     requires worths { IsWide (frame_in at.now.ledger) (lists_in at.now.ledger) (length worths.old) }
-    requires sums { IsWide (frame_in at.now.ledger) (lists_in at.now.ledger) (length sums.old) }
+    requires sums { at.now.count ≤ length sums.old }
     ensures { let k = at.now.ledger in let f = frame_in k in
         AreSums f (lists_in k) (total_worth f (lists_in k) (totals_in k.side.now at.now.totals.now.points.items)) at.now.point (move_count f at.now.point) sums.new }
 {
@@ -54,7 +54,7 @@ fn sum_moves(at: &Reading<'_, '_>, worths: &mut [i128], sums: &mut [i128])
 fn chosen_moves(at: &Reading<'_, '_>, picks: &[u8], worths: &mut [i128], row: &mut [i128])
     requires picks { let k = at.now.ledger in start_of (frame_in k) (lists_in k) (point_count (frame_in k)) ≤ length picks.now }
     requires worths { IsWide (frame_in at.now.ledger) (lists_in at.now.ledger) (length worths.old) }
-    requires row { IsWide (frame_in at.now.ledger) (lists_in at.now.ledger) (length row.old) }
+    requires row { at.now.count ≤ length row.old }
     ensures { let k = at.now.ledger in let f = frame_in k in
         AreChosen f (lists_in k) (totals_in k.side.now at.now.totals.now.points.items) (moves_in k picks.now) at.now.point (move_count f at.now.point) row.new }
 {

@@ -4,34 +4,21 @@ use Rattle.gs_best.specs.Rows.{AreGreatest}
 use Rattle.gs_best.proofs.Greatest.{greatest_step}
 use Rattle.gs_totals.specs.ClassTotals.{total_worth}
 use Rattle.gs_totals.specs.Ledgers.{frame_in, lists_in}
-use Rattle.gs_totals.proofs.Readings.{totals_at, wide_at}
+use Rattle.gs_totals.proofs.Readings.{totals_at}
 use Rattle.gs_totals.proofs.merging.best_moves.Goals as goal
 
 pub read_worths-read-requires-clause-wide : goal.read_worths-read-requires-clause-wide
 read_worths-read-requires-clause-wide c = λ j some top. omega (arith, c.requires.worths j some top, c.loop-choice.auto.worths)
 
-pub raise-requires-clause-best : goal.raise-requires-clause-best
-raise-requires-clause-best c = wide_at c.args.at.now _ c.loop-choice.invariant.best
-
-pub raise-requires-clause-moves : goal.raise-requires-clause-moves
-raise-requires-clause-moves c = wide_at c.args.at.now _ c.loop-choice.invariant.moves
-
 pub loop-choice-preserved : goal.loop-choice-preserved
 loop-choice-preserved c =
     let at = c.args.at.now in
-    let k = at.ledger in
-    let i = c.loop-choice.invariant in
-    record {
-      best = λ j some top. omega (arith, i.best j some top, c.raise.auto.best);
-      moves = λ j some top. omega (arith, i.moves j some top, c.raise.auto.moves);
-      so_far = λ some.
-          greatest_step (frame_in k) (lists_in k) (total_worth (frame_in k) (lists_in k) (totals_at at)) at.point c.loop-choice.choice at.count at.count_is c.read_worths-read.result.now c.read_worths-read.ensures.worths c.loop-choice.best c.raise.new.best c.loop-choice.moves c.raise.new.moves c.raise.ensures.raised i.so_far;
-    }
+    λ some.
+    greatest_step (frame_in at.ledger) (lists_in at.ledger) (total_worth (frame_in at.ledger) (lists_in at.ledger) (totals_at at)) at.point c.loop-choice.choice at.count at.count_is c.read_worths-read.result.now c.read_worths-read.ensures.worths c.loop-choice.best c.raise.new.best c.loop-choice.moves c.raise.new.moves c.raise.ensures.raised c.loop-choice.invariant
 
 pub returns : goal.returns
 returns c =
     let at = c.args.at.now in
-    let k = at.ledger in
-    let all : c.loop-choice.choice ≡ move_count (frame_in k) at.point = omega (arith, c.loop-choice-test.false, c.loop-choice.auto.choice-end, c.move_total-choice-end.ensures.value) in
+    let all : c.loop-choice.choice ≡ move_count (frame_in at.ledger) at.point = omega (arith, c.loop-choice-test.false, c.loop-choice.auto.choice-end, c.move_total-choice-end.ensures.value) in
     let some : 0 < c.loop-choice.choice = omega (arith, c.loop-choice-test.false, c.loop-choice.auto.choice-end, c.move_total-choice-end.ensures.some) in
-    subst (λ n. AreGreatest (frame_in k) (lists_in k) (total_worth (frame_in k) (lists_in k) (totals_at at)) at.point n c.loop-choice.best c.loop-choice.moves) all (c.loop-choice.invariant.so_far some)
+    subst (λ n. AreGreatest (frame_in at.ledger) (lists_in at.ledger) (total_worth (frame_in at.ledger) (lists_in at.ledger) (totals_at at)) at.point n c.loop-choice.best c.loop-choice.moves) all (c.loop-choice.invariant some)
