@@ -1,5 +1,5 @@
 -- What the checks of a strategy find is what a command answers.
-use Rattle.std.proofs.Common.{◌≡◌, ◌<◌, ◌≤◌, ℕ, List, inl, inr, length, refl, sym, ap, subst, ◌∙◌, arith}
+use Rattle.std.proofs.Common.{◌≡◌, ◌<◌, ◌≤◌, ℕ, List, inr, length, refl, sym, ap, subst, ◌∙◌, arith}
 use Rattle.gs_best.specs.Judged.{parts}
 use Rattle.gs_filter.specs.Filter.{Filter}
 use Rattle.gs_frac.specs.declared.value.Verdict.{Verdict}
@@ -32,15 +32,6 @@ use Rattle.gs_confirm.specs.Troubles.{IsFirstWrong, Passes, SaysLarge, SaysUnlik
 -- what is said of a strategy that is not confirmed is what its command answers
 pub unlike_refused : (says : Strategy → Reply → Type 0) (s : Strategy) (a : Answer) → Answers (SaysUnlike s) a → Answers (OfConfirmed says s) a
 unlike_refused says s a h = answers_more (SaysUnlike s) (OfConfirmed says s) (λ r said. inr (Unlike_pair said.0 said.1 said.2, said.3, said.4)) a h
-
-pub large_refused : (says : Strategy → Reply → Type 0) (s : Strategy) (a : Answer) → Answers (SaysLarge s) a → Answers (OfConfirmed says s) a
-large_refused says s a h = answers_more (SaysLarge s) (OfConfirmed says s) (λ r said. inr (Too_large said.0, said.1, said.2)) a h
-
-pub wrong_refused : (says : Strategy → Reply → Type 0) (s : Strategy) (a : Answer) → Answers (SaysWrong s) a → Answers (OfConfirmed says s) a
-wrong_refused says s a h = answers_more (SaysWrong s) (OfConfirmed says s) (λ r said. inr (Wrong_number said.0 said.1 said.2, said.3, said.4)) a h
-
-pub confirmed_said : (says : Strategy → Reply → Type 0) (s : Strategy) (a : Answer) → IsConfirmed s → Answers (says s) a → Answers (OfConfirmed says s) a
-confirmed_said says s a confirmed h = answers_more (says s) (OfConfirmed says s) (λ r said. inl (confirmed, said)) a h
 
 -- ---- classes
 
