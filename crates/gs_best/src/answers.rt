@@ -7,9 +7,9 @@ ghost use Rattle.gs_best.specs.Answers.{AreChoices, IsPaidMost, NoneGainsMore};
 
 use crate::deviator::Deviator;
 use crate::fill::filled;
+use crate::form::round_total;
 use crate::listing::own_moves;
 use crate::putting::put_all;
-use crate::reading::round_total;
 use gs_seq::{Abstract, Plan};
 use std::alloc::{AllocError, Global};
 

@@ -6,8 +6,8 @@ ghost use Rattle.gs_seq.specs.{Abstracts.{frame_of, lists_of}, Plans.{lifted}};
 ghost use Rattle.gs_best.specs.{Answers.{IsFilled}, Rows.{IsCopied}, Sizes.{HasRoom, HoldsAll, IsLaidOut}, Tables.{IsBestFrom, moves_of, table_of}};
 
 use crate::deviator::Deviator;
+use crate::form::{class_total, point_total, round_at, round_total};
 use crate::merging::merge_moves;
-use crate::reading::{class_total, point_total, round_at, round_total};
 use crate::room::{Scratch, Table, place_points};
 use crate::work::room_for;
 use std::alloc::{AllocError, Global};

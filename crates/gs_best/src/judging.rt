@@ -8,8 +8,8 @@ ghost use Rattle.gs_best.specs.{Answers.{IsBestTotal, IsFilled}, Judged.{parts},
 use crate::deviator::Deviator;
 use crate::ends::read_end;
 use crate::fill::fill;
+use crate::form::{deal_weight, end_round, round_at, round_total, signal_total, start_at};
 use crate::numbers::judged;
-use crate::reading::{deal_weight, end_round, round_at, round_total, signal_total, start_at};
 use crate::room::{Scratch, Table};
 use crate::rows::run_sum;
 use crate::work::Work;

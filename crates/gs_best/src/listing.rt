@@ -5,7 +5,7 @@ ghost use Rattle.gs_seq.specs.{Abstracts.{frame_of, lists_of}, Plans.{lifted}};
 ghost use Rattle.gs_best.specs.Answers.{AreChoices, IsFilled};
 
 use crate::deviator::Deviator;
-use crate::reading::{chooser, class_total, point_total, round_at};
+use crate::form::{chooser, class_total, point_total, round_at};
 use crate::room::Table;
 use std::alloc::{AllocError, Global};
 

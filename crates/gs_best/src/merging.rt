@@ -7,7 +7,7 @@ ghost use Rattle.gs_best.specs.{Rows.{AreAdded, AreRaised, IsMerged, raises}, Si
 ghost use Rattle.gs_best.specs.Tables.{IsBestFrom, moves_of, table_of};
 
 use crate::deviator::Deviator;
-use crate::reading::{chooser, class_total, move_total, round_at, round_total};
+use crate::form::{chooser, class_total, move_total, round_at, round_total};
 use crate::room::{Scratch, Table};
 use crate::rows::read_worths;
 use gs_seq::plus;

@@ -7,7 +7,7 @@ ghost use Rattle.gs_seq.specs.Slots.{slot_count, slots_before};
 ghost use Rattle.gs_best.specs.{Answers.{IsFilled}, Puts.{ArePutBefore, IsPutAt}, Tables.{AreInMoves, AreStarts, moves_of, start_of}};
 
 use crate::deviator::Deviator;
-use crate::reading::{chooser, class_total, point_total, round_at, round_total};
+use crate::form::{chooser, class_total, point_total, round_at, round_total};
 use crate::room::Table;
 use gs_seq::{Abstract, Plan};
 use std::alloc::{AllocError, Global};

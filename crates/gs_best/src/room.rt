@@ -5,7 +5,7 @@ ghost use Rattle.gs_model.specs.Frame.{point_count};
 ghost use Rattle.gs_seq.specs.Abstracts.{frame_of, lists_of};
 ghost use Rattle.gs_best.specs.Tables.{AreStarts, start_of};
 
-use crate::reading::{class_total, point_total, round_at};
+use crate::form::{class_total, point_total, round_at};
 use gs_seq::Abstract;
 
 /// For each point and class of its round a value, and at a deviator's own points the first best move.

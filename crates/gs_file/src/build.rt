@@ -9,7 +9,7 @@ ghost use Rattle.gs_file.specs.{Answers.{Gives}, Reading.{deck_at, tree_at, play
 ghost use Rattle.gs_file.specs.Views.{sizes_view, ranged_view, game_view, valid_view};
 
 use crate::fault::FileFault;
-use crate::parts::{RoundSizes, Sizes};
+use crate::values::{RoundSizes, Sizes};
 use gs_bet::{BetTree, limit_tree, parse_tree};
 use gs_card::Deck;
 use gs_game::{Game, Round, ValidGame};

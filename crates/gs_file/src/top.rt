@@ -12,7 +12,7 @@ use crate::fields::{
 };
 use crate::form::Form;
 use crate::lists::{tables_of, whole_numbers_of};
-use crate::parts::{TopFields, TopValues};
+use crate::values::{TopFields, TopValues};
 use crate::version::Version;
 use std::alloc::Global;
 use toml::{Table, Value};

@@ -6,7 +6,7 @@ ghost use Rattle.gs_model.specs.Signatures.{IsSignature};
 ghost use Rattle.gs_tree.specs.Trees.{rules_of};
 ghost use Rattle.gs_iso.specs.{Numbers.{AreMarks, IsNumbering, child_part, marks_under}, Orders.{mark_lt}};
 
-use crate::parts::Child;
+use crate::nodes::Child;
 use gs_numbers::{number_of, number_of_list};
 use gs_tree::Signals;
 use indexmap::IndexSet;

@@ -4,7 +4,7 @@ ghost use Rattle.std.specs.Prelude.{◌≡◌, ◌+◌, ◌≤◌, ◌<◌, ◌^
 ghost use Rattle.gs_numbers.specs.Numbers.{HasClassOf, IsKeyClasses};
 ghost use Rattle.gs_iso.specs.Numbers.{class_key};
 
-use crate::parts::ClassKey;
+use crate::nodes::ClassKey;
 use gs_numbers::number_of;
 use indexmap::IndexSet;
 use std::alloc::{AllocError, Global};

@@ -5,7 +5,7 @@ ghost use Rattle.gs_model.specs.{Game.{round_count}, Signals.{signal_at}, ViewTr
 ghost use Rattle.gs_tree.specs.{Trees.{rules_of}, Walk.{last_count}};
 ghost use Rattle.gs_iso.specs.{Orders.{leaf_mark, leaf_of}, Numbers.{IsLeafSignature, IsNumbering}};
 
-use crate::parts::Leaf;
+use crate::nodes::Leaf;
 use gs_alike::stand_ins;
 use gs_numbers::number_of_list;
 use gs_tree::{Deal, Deals, Signals};

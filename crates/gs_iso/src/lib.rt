@@ -5,8 +5,8 @@ mod children;
 mod classes;
 mod equals;
 mod leaves;
+mod nodes;
 mod pairings;
-mod parts;
 mod signal_classes;
 
 pub use pairings::pairing;

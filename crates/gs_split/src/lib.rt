@@ -2,9 +2,9 @@
 #![tactic(auto)]
 
 mod parting;
-mod parts;
 mod proposal;
 mod rounds;
+mod sides;
 mod splitting;
 mod stays;
 mod turns;

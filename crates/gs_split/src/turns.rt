@@ -7,7 +7,7 @@ ghost use Rattle.gs_tree.specs.Trees.{rules_of};
 ghost use Rattle.gs_split.specs.Turns.{AreExact, AreKnown, AreTurnNumbers, HaveSameSums};
 
 use crate::parting::parted;
-use crate::parts::side_numbers;
+use crate::sides::side_numbers;
 use gs_alike::Boards;
 use gs_filter::Classes;
 use gs_lossless::Grouped;

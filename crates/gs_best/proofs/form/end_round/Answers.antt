@@ -2,7 +2,7 @@ use Rattle.std.proofs.Common.{arith, None}
 use Rattle.gs_game.specs.declared.positions.End.{End}
 use Rattle.gs_game.specs.declared.positions.EndKind.TheVariants as kinds
 use Rattle.gs_best.proofs.Forms.{form_end, form_walked}
-use Rattle.gs_best.proofs.reading.end_round.Goals as goal
+use Rattle.gs_best.proofs.form.end_round.Goals as goal
 
 abbrev none : End
 none = record { round = 0; kind = kinds.Folded1; put = 0; one = None; two = None }

@@ -1,7 +1,7 @@
 use Rattle.std.proofs.Common.{ap, sym, ◌∙◌}
 use Rattle.gs_game.specs.declared.positions.Point.{Point}
 use Rattle.gs_best.proofs.Forms.{form_reads}
-use Rattle.gs_best.proofs.reading.chooser.Goals as goal
+use Rattle.gs_best.proofs.form.chooser.Goals as goal
 
 pub returns : goal.returns
 returns c =

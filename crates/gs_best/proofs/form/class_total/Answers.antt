@@ -3,7 +3,7 @@ use Rattle.gs_filter.specs.Filter.{Filter}
 use Rattle.gs_lossless.specs.declared.checking.Lossless.{Lossless}
 use Rattle.gs_model.specs.Classes.{class_count}
 use Rattle.gs_best.proofs.Forms.{form_class_few}
-use Rattle.gs_best.proofs.reading.class_total.Goals as goal
+use Rattle.gs_best.proofs.form.class_total.Goals as goal
 
 pub returns-clause-few : goal.returns-clause-few
 returns-clause-few c =

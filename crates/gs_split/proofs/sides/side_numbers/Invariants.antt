@@ -3,7 +3,7 @@ use Rattle.gs_numbers.proofs.Numbered.{AreNumbered}
 use Rattle.gs_tree.specs.Trees.{rules_of}
 use Rattle.gs_lossless.proofs.Merge.{part_decides}
 use Rattle.gs_split.specs.Turns.{AreClassSums, part_eq}
-use Rattle.gs_split.proofs.parts.side_numbers.Given as goal
+use Rattle.gs_split.proofs.sides.side_numbers.Given as goal
 
 abbrev pub invariant-loop-signal : goal.invariant-loop-signal
 invariant-loop-signal l =

@@ -11,8 +11,8 @@ use Rattle.gs_lossless.proofs.Merge.{part_decides}
 use Rattle.gs_lossless.proofs.Scanned.{side_classes, side_signals, side_top}
 use Rattle.gs_split.specs.Turns.{AreClassSums, AreSettled, AreSideFirsts, part_eq}
 use Rattle.gs_split.proofs.Agreed.{sums_again, sums_law, sums_made, sums_none}
-use Rattle.gs_split.proofs.parts.side_numbers.Goals as goal
-use Rattle.gs_split.proofs.parts.side_numbers.Goals.{In_ok-firsts, In_ok-keys, In_ok-settled, Joined-index, else-index+in_ok-sums, then-index}
+use Rattle.gs_split.proofs.sides.side_numbers.Goals as goal
+use Rattle.gs_split.proofs.sides.side_numbers.Goals.{In_ok-firsts, In_ok-keys, In_ok-settled, Joined-index, else-index+in_ok-sums, then-index}
 
 pub count-count-requires-clause-in_range : goal.count-count-requires-clause-in_range
 count-count-requires-clause-in_range c = side_top (rules_of c.args.grouped.now.signals.now) c.side_at-side.result c.args.round c.side_at-side.ensures.side

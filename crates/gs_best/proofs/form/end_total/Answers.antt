@@ -1,6 +1,6 @@
 use Rattle.std.proofs.Common.{arith}
 use Rattle.gs_best.proofs.Forms.{form_ends, form_modest}
-use Rattle.gs_best.proofs.reading.end_total.Goals as goal
+use Rattle.gs_best.proofs.form.end_total.Goals as goal
 
 pub overflow_cast-result : goal.overflow_cast-result
 overflow_cast-result c =

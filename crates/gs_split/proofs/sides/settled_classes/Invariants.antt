@@ -1,7 +1,7 @@
 use Rattle.std.proofs.Common.{◌≡◌, ◌<◌, ℕ, get_or, length}
 use Rattle.gs_model.specs.Classes.{class_count, class_of, first_member}
 use Rattle.gs_split.specs.Turns.{IsSettled}
-use Rattle.gs_split.proofs.parts.settled_classes.Given as goal
+use Rattle.gs_split.proofs.sides.settled_classes.Given as goal
 
 abbrev pub invariant-loop-signal : goal.invariant-loop-signal
 invariant-loop-signal l = record {

@@ -3,7 +3,7 @@ use Rattle.gs_model.specs.Frame.{frame_of, last_round}
 use Rattle.gs_tree.specs.Trees.{rules_of}
 use Rattle.gs_lossless.proofs.Descent.{last_is}
 use Rattle.gs_split.proofs.Agreed.{numbers_of_children, numbers_of_deals}
-use Rattle.gs_split.proofs.parts.side_at.Goals as goal
+use Rattle.gs_split.proofs.sides.side_at.Goals as goal
 
 pub returns-then-round-rounds-clause-side : goal.returns-then-round-rounds-clause-side
 returns-then-round-rounds-clause-side c = (c.requires.some, omega (arith, c.if-round-rounds.true, c.rounds.ensures.value, last_is (rules_of c.args.signals.now)))

@@ -1,6 +1,6 @@
 use Rattle.std.proofs.Common.{arith}
 use Rattle.gs_best.proofs.Forms.{form_few, form_points}
-use Rattle.gs_best.proofs.reading.point_total.Goals as goal
+use Rattle.gs_best.proofs.form.point_total.Goals as goal
 
 pub overflow_cast-result : goal.overflow_cast-result
 overflow_cast-result c =

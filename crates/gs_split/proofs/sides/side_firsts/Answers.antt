@@ -9,7 +9,7 @@ use Rattle.gs_alike.specs.Alike.{AreStandIns}
 use Rattle.gs_lossless.proofs.Descent.{last_is, playable}
 use Rattle.gs_lossless.proofs.Scanned.{side_in}
 use Rattle.gs_split.proofs.Alike.{firsts_of_deals, firsts_of_themselves, last_keys}
-use Rattle.gs_split.proofs.parts.side_firsts.Goals as goal
+use Rattle.gs_split.proofs.sides.side_firsts.Goals as goal
 
 pub stand_ins-requires : goal.stand_ins-requires
 stand_ins-requires c =

@@ -1,7 +1,7 @@
 use Rattle.std.proofs.Common.{ap, sym, ◌∙◌, arith}
 use Rattle.gs_game.specs.declared.positions.Point.{Point}
 use Rattle.gs_best.proofs.Forms.{form_reads, form_walked}
-use Rattle.gs_best.proofs.reading.round_at.Goals as goal
+use Rattle.gs_best.proofs.form.round_at.Goals as goal
 
 pub returns-clause-value : goal.returns-clause-value
 returns-clause-value c =

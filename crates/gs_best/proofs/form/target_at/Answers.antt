@@ -1,7 +1,7 @@
 use Rattle.std.proofs.Common.{ap, sym, ◌∙◌, arith, get_or, vec_len}
 use Rattle.gs_game.specs.declared.positions.Point.{Point}
 use Rattle.gs_best.proofs.Forms.{form_leads, form_reads}
-use Rattle.gs_best.proofs.reading.target_at.Goals as goal
+use Rattle.gs_best.proofs.form.target_at.Goals as goal
 
 pub index-requires : goal.index-requires
 index-requires c =
