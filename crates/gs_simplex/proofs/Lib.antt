@@ -8,7 +8,5 @@ pub mod Starts
 pub mod Choosing
 pub mod Paths
 pub mod Checks
-pub mod Sample
 pub mod Ends
 pub mod Traces
-pub mod Rowless

@@ -1,7 +1,7 @@
 -- What the tests find out of a program and an opening before they call `run`.
-use Rattle.std.specs.Prelude.{false, [], ◌∷◌, ◌≡◌, ◌≢◌, ℕ, ◌+◌, ◌<◌, List, length, take, slice_index_or, ℤ, pos, ◌≤ℤ◌}
+use Rattle.std.specs.Prelude.{◌≡◌, ◌≢◌, ℕ, ◌+◌, ◌<◌, List, length, take, slice_index_or, ℤ, pos, ◌≤ℤ◌}
 use Rattle.gs_rows.specs.declared.Program.{Program}
-use Rattle.gs_rows.specs.Program.{rows_of, Listing, IsListed, IsFree, IsRowsOf, CanTake}
+use Rattle.gs_rows.specs.Program.{Listing, IsListed, IsFree, IsRowsOf, CanTake}
 use Rattle.gs_simplex.specs.Numbers.{AllNarrow}
 use Rattle.gs_simplex.specs.Table.{table_rows, table_aim, IsTable}
 
@@ -27,21 +27,3 @@ pub record IsTaken (p : Program) (o : Listing) (t : ℕ) (xs : List ℤ) : Type 
 -- no right side of a row whose listed column is not free is below 0
 abbrev pub HasFeasibleSides : Program → Listing → (ℕ → ℕ → ℤ) → Type 0
 HasFeasibleSides p l rows = (i j : ℕ) → IsListed l i j → ¬ IsFree p j → pos 0 ≤ℤ rows i p.cols
-
--- the program of two rows whose first step has a number of 2^62 + 1
-pub record IsWideSample (p : Program) : Type 0 where
-  pub rows : p.rows ≡ 2
-  pub cols : p.cols ≡ 2
-  pub numbers : rows_of p ≡ (pos 2305843009213693951 ∷ pos 3 ∷ pos 1 ∷ []) ∷ (pos 2305843009213693950 ∷ pos 5 ∷ pos 1 ∷ []) ∷ []
-  pub free : p.free.items ≡ false ∷ false ∷ []
-  pub aim : p.aim.items ≡ pos 0 ∷ pos 0 ∷ []
-
--- a program with no row and this many columns, none of them free or in the aim
-pub record IsRowless (count : ℕ) (p : Program) : Type 0 where
-  pub rows : p.rows ≡ 0
-  pub cols : p.cols ≡ count
-  pub numbers : p.numbers.items ≡ []
-  pub free_long : length p.free.items ≡ count
-  pub free : (j : ℕ) → slice_index_or p.free.items j false ≡ false
-  pub aim_long : length p.aim.items ≡ count
-  pub aim : (j : ℕ) → slice_index_or p.aim.items j (pos 0) ≡ pos 0

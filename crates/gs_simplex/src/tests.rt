@@ -2,7 +2,7 @@ ghost use Rattle.std.specs.Prelude.{◌≡◌, ◌≢◌, ℕ, ◌+◌, ◌-◌,
 ghost use Rattle.std.specs.Vec.{vec_items};
 ghost use Rattle.gs_rows.specs.Program.{IsShaped, IsOpening, IsPairList, IsTakenInTurn, IsRowsOf, IsListed, IsFree, RowListed, ColListed, CanTake};
 ghost use Rattle.gs_simplex.specs.{Numbers.{at, AllNarrow}, Table.{table_rows, table_aim, IsTable}, State.{HasRoom, IsStart}, Answer.{IsSmall}};
-ghost use Rattle.gs_simplex.specs.Conditions.{IsWideRow, IsNewPair, CanTakeAt, IsTaken, HasFeasibleSides, IsWideSample, IsRowless};
+ghost use Rattle.gs_simplex.specs.Conditions.{IsWideRow, IsNewPair, CanTakeAt, IsTaken, HasFeasibleSides};
 
 use super::*;
 use crate::choice::{is_free, number_at, pair_at};
@@ -427,77 +427,5 @@ fn the_path_of_kuhns_game(rt: HostRuntime) -> Result<(), Fail> {
             replace_column(&mut basis, *leaving, *entering);
         }
     }
-    Ok(())
-}
-
-fn wide_program(alloc: Global) -> Result<Program, AllocError>
-    ensures { IfOk result IsWideSample }
-{
-    let first = Vec::from_slice(alloc, &[2305843009213693951i64, 3, 1])?;
-    let second = Vec::from_slice(alloc, &[2305843009213693950i64, 5, 1])?;
-    let mut numbers = Vec::new(alloc);
-    numbers.push(first)?;
-    numbers.push(second)?;
-    let free = Vec::from_slice(alloc, &[false, false])?;
-    let aim = Vec::from_slice(alloc, &[0i64, 0])?;
-    Ok(Program {
-        rows: 2,
-        cols: 2,
-        free,
-        numbers,
-        aim,
-    })
-}
-
-#[test]
-fn a_wide_number_in_the_opening(rt: HostRuntime) -> Result<(), Fail> {
-    let alloc = rt.alloc();
-    let p = wide_program(alloc)?;
-    let answer = run(alloc, &p, &[(1, 1), (2, 2)], 9);
-    let text = text_of(alloc, &answer)?;
-    assert_eq!(rt;
-        text.as_str(),
-        "Wide { step: 1, row: 2, col: 2, number: 4611686018427387905 }"
-    );
-    Ok(())
-}
-
-fn rowless(alloc: Global, cols: u32) -> Result<Program, AllocError>
-    ensures { IfOk result (IsRowless cols) }
-{
-    let free = vec![in alloc; false; cols as usize]?;
-    let aim = vec![in alloc; 0i64; cols as usize]?;
-    Ok(Program {
-        rows: 0,
-        cols,
-        free,
-        numbers: Vec::new(alloc),
-        aim,
-    })
-}
-
-#[test]
-fn the_largest_table(rt: HostRuntime) -> Result<(), Fail> {
-    let alloc = rt.alloc();
-    let p = rowless(alloc, 1_048_576)?;
-    let text = text_of(alloc, &run(alloc, &p, &[], 9))?;
-    assert_eq!(rt; text.as_str(), "TableTooLarge { count: 1048577 }");
-    let p = rowless(alloc, 1_048_575)?;
-    let answer = run(alloc, &p, &[], 9);
-    assert!(rt; matches!(answer, Ok(_)));
-    Ok(())
-}
-
-mod leduc;
-
-#[test]
-fn leducs_program(rt: HostRuntime) -> Result<(), Fail> {
-    let alloc = rt.alloc();
-    let opening = pairs_in(alloc, leduc::OPENING)?;
-    let text = answer(alloc, &leduc::program(alloc)?, &opening, 8192)?;
-    assert_eq!(rt;
-        text.as_str(),
-        "Wide { step: 1686, row: 50, col: 15, number: -4838826802217196096 }"
-    );
     Ok(())
 }

@@ -1,5 +1,9 @@
-//! Tests of exact solutions of games, through the public calls of `gs_solve` and of the `trace` of `gs_simplex`.
+//! Tests of exact solutions of games, through the public calls of `gs_solve` and `gs_simplex`.
 #![tactic(auto)]
 
 #[cfg(test)]
+mod leduc;
+#[cfg(test)]
 mod solved;
+#[cfg(test)]
+mod stops;

@@ -2,7 +2,7 @@ use Rattle.std.proofs.Common.{◌≡◌, ℕ, ◌<◌, ◌^◌, [], Bool, true, 
 use Rattle.gs_rows.specs.declared.Program.{Program}
 use Rattle.gs_rows.specs.Program.{IsShaped, IsOpening}
 use Rattle.gs_rows.proofs.Ring.{linear}
-use Rattle.gs_simplex.specs.Conditions.{IsRowless}
+use Rattle.gs_tests_solutions.specs.Programs.{IsRowless}
 
 pub rowless_shaped : (count : ℕ) (p : Program) → IsRowless count p → IsShaped p
 rowless_shaped count p s = record {

@@ -1,5 +1,5 @@
-use Rattle.gs_simplex.proofs.Rowless.{rowless_opens}
-use Rattle.gs_simplex.proofs.tests.the_largest_table.Goals as goal
+use Rattle.gs_tests_solutions.proofs.Rowless.{rowless_opens}
+use Rattle.gs_tests_solutions.proofs.stops.the_largest_table.Goals as goal
 
 pub run-requires-clause-opens : goal.run-requires-clause-opens
 run-requires-clause-opens g c = rowless_opens 1048576 c.in_ok-p.p c.in_ok-p.ensures

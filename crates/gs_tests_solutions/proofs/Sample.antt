@@ -6,7 +6,7 @@ use Rattle.gs_rows.specs.Rows.{IsNarrow, IsUnlistedRow}
 use Rattle.gs_rows.specs.Program.{number, IsFree, IsShaped, Listing, IsListed, RowListed, ColListed, CanTake, IsOpening}
 use Rattle.gs_rows.proofs.Ring.{linear}
 use Rattle.gs_rows.proofs.Solutions.{only_at, only_at_same, only_at_other, program_row}
-use Rattle.gs_simplex.specs.Conditions.{IsWideSample}
+use Rattle.gs_tests_solutions.specs.Programs.{IsWideSample}
 
 abbrev listed : List (List ℤ)
 listed = (pos 2305843009213693951 ∷ pos 3 ∷ pos 1 ∷ []) ∷ (pos 2305843009213693950 ∷ pos 5 ∷ pos 1 ∷ []) ∷ []

@@ -1,0 +1,2 @@
+mod Sample
+mod Rowless
