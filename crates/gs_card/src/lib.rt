@@ -12,8 +12,6 @@ mod decks;
 mod faults;
 mod groups;
 mod rankings;
-#[cfg(test)]
-mod tests;
 
 pub use cards::{Card, Cards};
 pub use counting::ways;

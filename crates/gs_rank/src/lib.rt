@@ -6,8 +6,6 @@ ghost use Rattle.gs_rank.specs.ThreeCards.{CategoriesAreGreatest};
 mod outcomes;
 mod ranker;
 mod strengths;
-#[cfg(test)]
-mod tests;
 
 pub use outcomes::{category, outcome};
 pub use ranker::Ranker;

@@ -1,4 +1,5 @@
-//! Tests of betting trees, games and raw signals, through the public calls of `gs_bet`, `gs_game`, `gs_tree` and `gs_boards`.
+//! Tests of cards, hands, betting trees, games and raw signals, through the public calls of `gs_card`, `gs_rank`, `gs_bet`, `gs_game`, `gs_tree` and
+//! `gs_boards`.
 #![tactic(auto)]
 
 #[cfg(test)]
@@ -6,6 +7,10 @@ mod bets;
 #[cfg(test)]
 mod boards;
 #[cfg(test)]
+mod cards;
+#[cfg(test)]
 mod games;
+#[cfg(test)]
+mod hands;
 #[cfg(test)]
 mod signals;

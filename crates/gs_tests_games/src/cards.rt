@@ -1,6 +1,8 @@
+//! Decks that are refused, the texts of cards, and groups in order.
+
 ghost use Rattle.std.specs.Prelude.{◌≤◌};
 
-use crate::{Card, Deck, DeckFault, ways};
+use gs_card::{Card, Deck, DeckFault, ways};
 use std::alloc::{AllocError, Global};
 use std::test::Fail;
 

@@ -1,5 +1,7 @@
-use crate::{Ranker, category, outcome, strength};
+//! Strengths and outcomes of hands, by hand.
+
 use gs_card::{Deck, Ranking};
+use gs_rank::{Ranker, category, outcome, strength};
 use std::process::Abort;
 use std::test::Fail;
 
