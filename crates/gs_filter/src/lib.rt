@@ -11,6 +11,3 @@ mod tally;
 pub use classes::Classes;
 pub use fault::ClassFault;
 pub use laws::classes_have_no_fault;
-
-#[cfg(test)]
-mod tests;

@@ -9,6 +9,3 @@ mod search;
 
 pub use graph::{Graph, Match, NoMatch};
 pub use matching::perfect;
-
-#[cfg(test)]
-mod tests;

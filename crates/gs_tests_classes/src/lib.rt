@@ -1,12 +1,16 @@
-//! Tests of classes: which signals are alike, which are isomorphic, which classes lose nothing and how others are parted. They go through the public
-//! calls of `gs_alike`, `gs_iso`, `gs_lossless` and `gs_split`.
+//! Tests of classes: which lists are filters, which graphs have matchings, which signals are alike, which are isomorphic, which classes lose nothing and
+//! how others are parted. They go through the public calls of `gs_filter`, `gs_match`, `gs_alike`, `gs_iso`, `gs_lossless` and `gs_split`.
 #![tactic(auto)]
 
 #[cfg(test)]
 mod alike;
 #[cfg(test)]
+mod filters;
+#[cfg(test)]
 mod isomorphic;
 #[cfg(test)]
 mod lossless;
+#[cfg(test)]
+mod matchings;
 #[cfg(test)]
 mod parted;

@@ -1,8 +1,8 @@
-//! Worked graphs, by hand.
+//! Matchings of worked graphs, by hand.
 
 ghost use Rattle.std.specs.Prelude.{◌<◌, All};
 
-use super::*;
+use gs_match::{Graph, perfect};
 use std::alloc::{AllocError, Global};
 use std::test::Fail;
 

@@ -1,9 +1,9 @@
-//! What no clause says: that calls succeed, and worked values by hand.
+//! Information filters: that calls succeed, and worked values by hand.
 
 ghost use Rattle.std.specs.Prelude.{◌<◌, ◌≤◌, length};
 ghost use Rattle.gs_filter.specs.{Rows.{rows}, Filter.{AreParents}};
 
-use super::*;
+use gs_filter::{ClassFault, Classes};
 use std::alloc::{AllocError, Global};
 use std::test::Fail;
 
