@@ -17,7 +17,8 @@ range_over : (a n : ℕ) → n ≤ a → range_with_len a (n - a) ≡ []
 range_over a n l = let e : n - a ≡ 0 = omega arith in ap (range_with_len a) e
 
 -- places that a test refuses are passed over
-passed : (p : ℕ → Bool) (n a d : ℕ) → ((k : ℕ) → a ≤ k → k < a + d → k < n → p k ≡ false) → filter p (range_with_len a (n - a)) ≡ filter p (range_with_len (a + d) (n - (a + d)))
+passed : (p : ℕ → Bool) (n a d : ℕ) → ((k : ℕ) → a ≤ k → k < a + d → k < n → p k ≡ false)
+    → filter p (range_with_len a (n - a)) ≡ filter p (range_with_len (a + d) (n - (a + d)))
 passed p n a zero h = let e : a ≡ a + 0 = omega arith in ap (λ k. filter p (range_with_len k (n - k))) e
 passed p n a (suc d) h = ⊎_elim
     (λ (l : a < n).
@@ -57,7 +58,8 @@ module _ {X : Type 0} (g : Game) (h : ℕ → X) (firsts nexts : List ℕ) (boar
       }
 
   -- the next one
-  pub chain_more : (first signal : ℕ) (row : List X) → signal < last_count g → IsOnChain g h first signal row → IsOnChain g h first (get_or nexts signal 0) (row ++ h signal ∷ [])
+  pub chain_more : (first signal : ℕ) (row : List X) → signal < last_count g → IsOnChain g h first signal row
+      → IsOnChain g h first (get_or nexts signal 0) (row ++ h signal ∷ [])
   chain_more first signal row m on =
       let n : ℕ = last_count g in
       let t : ℕ = get_or nexts signal 0 in
@@ -68,7 +70,8 @@ module _ {X : Type 0} (g : Game) (h : ℕ → X) (firsts nexts : List ℕ) (boar
       let at : signal + 1 + (t - (signal + 1)) ≡ t = omega arith in
       let left : filter p (range_with_len signal (n - signal)) ≡ signal ∷ filter p (range_with_len t (n - t)) =
       taken p n signal m here
-      ∙ ap (λ xs. signal ∷ xs) (passed p n (signal + 1) (t - (signal + 1)) (λ k lo hi in'. alike k ∙ boards.none_between signal k m (omega arith) (omega arith) in')
+      ∙ ap (λ xs. signal ∷ xs) (passed p n (signal + 1) (t - (signal + 1)) (λ k lo hi in'. alike k
+      ∙ boards.none_between signal k m (omega arith) (omega arith) in')
       ∙ ap (λ k. filter p (range_with_len k (n - k))) at) in
       record {
         same = λ in'. alike t ∙ boards.next_same signal m in';
@@ -76,6 +79,7 @@ module _ {X : Type 0} (g : Game) (h : ℕ → X) (firsts nexts : List ℕ) (boar
       }
 
 -- all
-pub chain_end : {X : Type 0} (g : Game) (h : ℕ → X) (first signal : ℕ) (row : List X) → last_count g ≤ signal → IsOnChain g h first signal row → row ≡ map h (signals_on g first)
+pub chain_end : {X : Type 0} (g : Game) (h : ℕ → X) (first signal : ℕ) (row : List X) → last_count g ≤ signal → IsOnChain g h first signal row
+    → row ≡ map h (signals_on g first)
 chain_end g h first signal row l on =
     sym (ap (λ xs. row ++ map h (filter (shows_same g first) xs)) (range_over signal (last_count g) l) ∙ append-nil row) ∙ on.rest

@@ -18,7 +18,8 @@ pub none_filled : (f : ℕ → ℕ) (xs : List ℕ) (seats : List Seat) → leng
 none_filled f xs seats e = record { long = e; each = λ i l. absurd (omega arith) }
 
 -- one more
-pub one_filled : (f : ℕ → ℕ) (xs : List ℕ) (seats : List Seat) (n x : ℕ) → AreFilled f xs seats n → n < length seats → x ≡ f n → AreFilled f (set xs n x) seats (n + 1)
+pub one_filled : (f : ℕ → ℕ) (xs : List ℕ) (seats : List Seat) (n x : ℕ) → AreFilled f xs seats n → n < length seats → x ≡ f n
+    → AreFilled f (set xs n x) seats (n + 1)
 one_filled f xs seats n x h l e = record {
   long = length-set xs n x ∙ h.long;
   each = below_more (λ (i : ℕ). get_or (set xs n x) i 0 ≡ f i) n

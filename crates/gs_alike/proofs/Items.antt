@@ -54,8 +54,10 @@ kept_one marks kept item mark is h m l = ⊎_elim
     (cases_eq m mark)
 
 -- one more
-pub one_made : (marks : List ℕ) (n : ℕ) (now kept more : List ℕ) (mark first : ℕ) → n < length marks → AreMade marks n now kept → mark ≡ get_or now n 0 → first ≤ n
-    → (first < n → (mark < length kept) × (get_or kept mark 0 ≡ first)) → (more ≡ kept) ⊎ (more ≡ set kept mark n) → AreMade marks (n + 1) (set now n first) more
+pub one_made : (marks : List ℕ) (n : ℕ) (now kept more : List ℕ) (mark first : ℕ) → n < length marks → AreMade marks n now kept → mark ≡ get_or now n 0
+    → first ≤ n
+    → (first < n → (mark < length kept) × (get_or kept mark 0 ≡ first)) → (more ≡ kept) ⊎ (more ≡ set kept mark n)
+    → AreMade marks (n + 1) (set now n first) more
 one_made marks n now kept more mark first l h is le earlier step =
     let at : n < length now = omega (arith, l, h.long) in
     let mark_is : mark ≡ get_or marks n 0 = is ∙ h.after n (omega arith) in
@@ -95,7 +97,12 @@ one_made marks n now kept more mark first l h is le earlier step =
     }
 
 pub all_made : (marks : List ℕ) (n : ℕ) (now kept : List ℕ) → length marks ≤ n → AreMade marks n now kept → AreFirsts marks now
-all_made marks n now kept l h = record { long = h.long; before = λ i m. h.before i (omega (arith, l, m)); same = λ i m. h.same i (omega (arith, l, m)); itself = λ i m. h.itself i (omega (arith, l, m)) }
+all_made marks n now kept l h = record {
+  long = h.long;
+  before = λ i m. h.before i (omega (arith, l, m));
+  same = λ i m. h.same i (omega (arith, l, m));
+  itself = λ i m. h.itself i (omega (arith, l, m));
+}
 
 -- a signal is like itself
 pub alike_self : (g : Game) (keys : List ℕ) (i : ℕ) → AreAlike g keys i i

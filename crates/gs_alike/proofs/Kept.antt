@@ -17,7 +17,11 @@ rows_same row other e = (slice_eq-Decides Decides-eqb row.items other.items (row
 
 -- a kind has hands in any order
 pub kind_moved : (kinds : List Kind) (kind : ℕ) (row hands : List ℕ) → IsKindOf kinds kind row → IsPermutation hands row → IsKindOf kinds kind hands
-kind_moved kinds kind row hands k h = record { within = k.within; same = λ d. IsPermutation-trans (get_or kinds kind d).hands.items row hands (k.same d) (IsPermutation-sym hands row h) }
+kind_moved kinds kind row hands k h = record {
+  within = k.within;
+  same = λ d.
+      IsPermutation-trans (get_or kinds kind d).hands.items row hands (k.same d) (IsPermutation-sym hands row h);
+}
 
 module _ (kinds : List Kind) (last : Kind) where
   kind_later : (kind : ℕ) (row : List ℕ) → IsKindOf kinds kind row → IsKindOf (kinds ++ last ∷ []) kind row
@@ -33,7 +37,8 @@ module _ (kinds : List Kind) (last : Kind) where
   }
 
   -- one more kind, kept for its row
-  pub kept_more : (old new : HashMap (Vec ℕ) ℕ (BuildHasherDefault FoldHasher)) (key : Vec ℕ) (kind : ℕ) → KeepsKinds kinds old → kind ≡ length kinds → IsPermutation last.hands.items key.items
+  pub kept_more : (old new : HashMap (Vec ℕ) ℕ (BuildHasherDefault FoldHasher)) (key : Vec ℕ) (kind : ℕ) → KeepsKinds kinds old → kind ≡ length kinds
+      → IsPermutation last.hands.items key.items
       → ((q : Vec ℕ) → get row_eq new q ≡ cond (row_eq key q) (Some kind) (get row_eq old q)) → KeepsKinds (kinds ++ last ∷ []) new
   kept_more old new key kind kept e h step row k found = go (row_eq key row) refl (sym (step row) ∙ found)
     where

@@ -30,7 +30,8 @@ pub may_none : (signals hands others other_hands old : List ℕ) → MayMark sig
 may_none signals hands others other_hands old = record { long = refl; each = λ i. inl refl }
 
 -- one more
-pub may_more : (signals hands others other_hands old marks : List ℕ) (one two : ℕ) → MayMark signals hands others other_hands old marks → one < length signals → two < length others → get_or hands one 0 ≡ get_or other_hands two 0
+pub may_more : (signals hands others other_hands old marks : List ℕ) (one two : ℕ) → MayMark signals hands others other_hands old marks → one < length signals
+    → two < length others → get_or hands one 0 ≡ get_or other_hands two 0
     → get_or signals one 0 < length marks → MayMark signals hands others other_hands old (set marks (get_or signals one 0) (get_or others two 0))
 may_more signals hands others other_hands old marks one two h l m same in' =
     let s : ℕ = get_or signals one 0 in
@@ -48,7 +49,8 @@ may_more signals hands others other_hands old marks one two h l m same in' =
     }
 
 -- one more, of seats
-pub may_seat : (seats others : List Seat) (hands other_hands old marks : List ℕ) (one two : ℕ) → MayMark (signals_in seats) hands (signals_in others) other_hands old marks → one < length seats → two < length others
+pub may_seat : (seats others : List Seat) (hands other_hands old marks : List ℕ) (one two : ℕ)
+    → MayMark (signals_in seats) hands (signals_in others) other_hands old marks → one < length seats → two < length others
     → get_or hands one 0 ≡ get_or other_hands two 0 → (get_or seats one none).signal < length marks
     → MayMark (signals_in seats) hands (signals_in others) other_hands old (set marks (get_or seats one none).signal (get_or others two none).signal)
 may_seat seats others hands other_hands old marks one two h l m same in' =
@@ -67,7 +69,8 @@ pub record IsKnown (boards : List Board) (keys : List ℕ) (kind : Kind) : Type 
   pub hands : (d : Board) → AreHands (get_or boards kind.board d) keys kind.hands.items
 
 -- marks so far: each signal is marked by one that is like it, and the kinds are those of boards
-pub record AreMarked (g : Game) (boards : List Board) (keys marks : List ℕ) (kinds : List Kind) (seen : HashMap (Vec ℕ) ℕ (BuildHasherDefault FoldHasher)) : Type 0 where
+pub record AreMarked (g : Game) (boards : List Board) (keys marks : List ℕ) (kinds : List Kind)
+    (seen : HashMap (Vec ℕ) ℕ (BuildHasherDefault FoldHasher)) : Type 0 where
   pub marks_are : AreMarks g keys marks
   pub kept : KeepsKinds kinds seen
   pub known : All (IsKnown boards keys) kinds
@@ -80,16 +83,19 @@ unmarked g keys marks none e big = record {
       omega (arith, is, small, big));
 }
 
-pub like_known : (boards : List Board) (keys hands : List ℕ) (kinds : List Kind) (kind : ℕ) (like : Kind) → All (IsKnown boards keys) kinds → IsKindOf kinds kind hands → like ≡ get_or kinds kind like → IsKnown boards keys like
+pub like_known : (boards : List Board) (keys hands : List ℕ) (kinds : List Kind) (kind : ℕ) (like : Kind) → All (IsKnown boards keys) kinds
+    → IsKindOf kinds kind hands → like ≡ get_or kinds kind like → IsKnown boards keys like
 like_known boards keys hands kinds kind like known of is = subst (IsKnown boards keys) (sym is) (known kind like of.within)
 
 -- a list that was written as a whole
 pub whole : (n : ℕ) (new old : List ℕ) → length new ≡ length old → length old ≡ n → take n (new ++ drop (length new) old) ≡ new
 whole n new old e f =
-    ap (λ (xs : List ℕ). take n (new ++ xs)) (drop_all (length new) old (omega (arith, e))) ∙ ap (take n) (append-nil new) ∙ take_all n new (omega (arith, e, f))
+    ap (λ (xs : List ℕ). take n (new ++ xs)) (drop_all (length new) old (omega (arith, e))) ∙ ap (take n) (append-nil new)
+    ∙ take_all n new (omega (arith, e, f))
 
 -- the kinds after the board that is read at a place
-pub known_after : (boards read : List Board) (keys hands now : List ℕ) (place : ℕ) (board : Board) (kinds more : List Kind) → read ≡ boards → now ≡ hands → place < length read → board ≡ get_or read place board → AreHands board keys hands
+pub known_after : (boards read : List Board) (keys hands now : List ℕ) (place : ℕ) (board : Board) (kinds more : List Kind) → read ≡ boards → now ≡ hands
+    → place < length read → board ≡ get_or read place board → AreHands board keys hands
     → All (IsKnown boards keys) kinds → (more ≡ kinds) ⊎ HasMore kinds more place now → All (IsKnown boards keys) more
 known_after boards read keys hands now place board kinds more e f l at here all step = ⊎_elim
     (λ same. subst (All (IsKnown boards keys)) (sym same) all)
@@ -98,15 +104,22 @@ known_after boards read keys hands now place board kinds more e f l at here all 
     let is : board ≡ get_or boards place board = subst (λ (bs : List Board). board ≡ get_or bs place board) e at in
     let P : ℕ → Type 0 = λ b. (d : Board) → AreHands (get_or boards b d) keys m.last.hands.items in
     let each : (d : Board) → AreHands (get_or boards place d) keys m.last.hands.items = λ d.
-    let there : AreHands (get_or boards place d) keys hands = subst (λ (b : Board). AreHands b keys hands) (is ∙ get_or_default boards place board d in') here in
+    let there : AreHands (get_or boards place d) keys hands = subst (λ (b : Board). AreHands b keys hands) (is
+    ∙ get_or_default boards place board d in') here in
     subst (AreHands (get_or boards place d) keys) (sym (m.hands_are ∙ f)) there in
-    let new : IsKnown boards keys m.last = record { within = subst (λ (b : ℕ). b < length boards) (sym m.board_is) in'; hands = subst P (sym m.board_is) each } in
+    let new : IsKnown boards keys m.last = record {
+      within = subst (λ (b : ℕ). b < length boards) (sym m.board_is) in';
+      hands =
+          subst P (sym m.board_is) each;
+    } in
     subst (All (IsKnown boards keys)) (sym m.joined) (All-push (IsKnown boards keys) kinds m.last all new))
     step
 
 -- the marks after a board
-pub marks_after : (g : Game) (by_rank : Bool) (boards : List Board) (keys : List ℕ) → ((i : ℕ) → i < last_count g → get_or keys i 0 < 4294967296) → All (IsBoard g by_rank) boards → (place kind : ℕ) (board other : Board) (like : Kind) (kinds : List Kind)
-    → (hands marks new : List ℕ) → place < length boards → board ≡ get_or boards place board → AreHands board keys hands → All (IsKnown boards keys) kinds → IsKindOf kinds kind hands → like ≡ get_or kinds kind like → other ≡ get_or boards like.board other
+pub marks_after : (g : Game) (by_rank : Bool) (boards : List Board) (keys : List ℕ) → ((i : ℕ) → i < last_count g → get_or keys i 0 < 4294967296)
+    → All (IsBoard g by_rank) boards → (place kind : ℕ) (board other : Board) (like : Kind) (kinds : List Kind)
+    → (hands marks new : List ℕ) → place < length boards → board ≡ get_or boards place board → AreHands board keys hands → All (IsKnown boards keys) kinds
+    → IsKindOf kinds kind hands → like ≡ get_or kinds kind like → other ≡ get_or boards like.board other
     → AreMarks g keys marks → MayMark (signals_in board.seats.items) hands (signals_in other.seats.items) like.hands.items marks new → AreMarks g keys new
 marks_after g by_rank boards keys few each place kind board other like kinds hands marks new l is h known of like_is other_is m may =
     let b : IsBoard g by_rank board = subst (IsBoard g by_rank) (sym is) (each place board l) in
@@ -123,9 +136,12 @@ marks_after g by_rank boards keys few each place kind board other like kinds han
     }
 
 -- lists that are read through references
-pub may_read : (s o seats others : List Seat) (h k m hands other_hands old marks : List ℕ) → s ≡ seats → h ≡ hands → o ≡ others → k ≡ other_hands → m ≡ old → MayMark (signals_in s) h (signals_in o) k m marks
+pub may_read : (s o seats others : List Seat) (h k m hands other_hands old marks : List ℕ) → s ≡ seats → h ≡ hands → o ≡ others → k ≡ other_hands → m ≡ old
+    → MayMark (signals_in s) h (signals_in o) k m marks
     → MayMark (signals_in seats) hands (signals_in others) other_hands old marks
 may_read s o seats others h k m hands other_hands old marks a b d e f may =
-    subst (λ (x : List ℕ). MayMark (signals_in seats) hands (signals_in others) other_hands x marks) f (subst (λ (x : List ℕ). MayMark (signals_in seats) hands (signals_in others) x m marks) e
-    (subst (λ (x : List Seat). MayMark (signals_in seats) hands (signals_in x) k m marks) d (subst (λ (x : List ℕ). MayMark (signals_in seats) x (signals_in o) k m marks) b
+    subst (λ (x : List ℕ). MayMark (signals_in seats) hands (signals_in others) other_hands x marks) f
+    (subst (λ (x : List ℕ). MayMark (signals_in seats) hands (signals_in others) x m marks) e
+    (subst (λ (x : List Seat). MayMark (signals_in seats) hands (signals_in x) k m marks) d
+    (subst (λ (x : List ℕ). MayMark (signals_in seats) x (signals_in o) k m marks) b
     (subst (λ (x : List Seat). MayMark (signals_in x) h (signals_in o) k m marks) a may))))

@@ -37,7 +37,8 @@ cancelled x xs ys h = permuted_from_times xs ys (λ v.
 abbrev hand_in : List ℕ → (ℕ → ℕ) → ℕ → ℕ
 hand_in keys level i = level i * 4294967296 + get_or keys i 0
 
-module _ (g : Game) (keys : List ℕ) (few : (i : ℕ) → i < last_count g → get_or keys i 0 < 4294967296) (level : ℕ → ℕ) (plain : IsPlain g) (told : TellOutcomes g level) where
+module _ (g : Game) (keys : List ℕ) (few : (i : ℕ) → i < last_count g → get_or keys i 0 < 4294967296) (level : ℕ
+    → ℕ) (plain : IsPlain g) (told : TellOutcomes g level) where
   abbrev hand : ℕ → ℕ
   hand = hand_in keys level
 
@@ -54,7 +55,8 @@ module _ (g : Game) (keys : List ℕ) (few : (i : ℕ) → i < last_count g → 
   deal_seen : (i k : ℕ) → i < last_count g → k < last_count g → shows_same g i k ≡ true → (deal_at g i k).weight ≡ 1
       → seen_by keys (deal_at g i k) ≡ sight (level i) (hand k)
   deal_seen i k l m same w =
-      triple (get_or keys k 0) (hand k % 4294967296) (outcome g.bonus g.ranking (signal_strength g (signal_at g (round_count g) i)) (signal_strength g (signal_at g (round_count g) k)))
+      triple (get_or keys k 0) (hand k % 4294967296) (outcome g.bonus g.ranking (signal_strength g (signal_at g (round_count g) i))
+      (signal_strength g (signal_at g (round_count g) k)))
       (told.pays (level i) (hand k / 4294967296)) (deal_at g i k).weight 1 (sym (key_of_hand k m))
       (told.paid i k l m same ∙ ap (told.pays (level i)) (sym (level_of_hand k m))) w
     where
@@ -67,7 +69,8 @@ module _ (g : Game) (keys : List ℕ) (few : (i : ℕ) → i < last_count g → 
       ≡ map (sight (level i)) (map hand (filter (but (shows_same g i) i) (range_with_len a n)))
   run_seen i l a zero h = refl
   run_seen i l a (suc n) h =
-      go (but (shows_same g i) i a) (λ e. (both (shows_same g i a) (cond (eqb a i) false true) e)) (weight_is g plain i a l (omega arith)) (run_seen i l (a + 1) n (omega arith))
+      go (but (shows_same g i) i a) (λ e. (both (shows_same g i a) (cond (eqb a i) false true) e)) (weight_is g plain i a l (omega arith))
+      (run_seen i l (a + 1) n (omega arith))
     where
       deals' : List Deal
       deals' = filter (λ (d : Deal). nat_lt 0 d.weight) (map (deal_at g i) (range_with_len (a + 1) n))
@@ -79,7 +82,8 @@ module _ (g : Game) (keys : List ℕ) (few : (i : ℕ) → i < last_count g → 
       both true q e = refl
       both false q e = absurd (cc)
 
-      go : (b : Bool) → (b ≡ true → shows_same g i a ≡ true) → (deal_at g i a).weight ≡ cond b 1 0 → map (seen_by keys) deals' ≡ map (sight (level i)) (map hand places)
+      go : (b : Bool) → (b ≡ true → shows_same g i a ≡ true) → (deal_at g i a).weight ≡ cond b 1 0
+          → map (seen_by keys) deals' ≡ map (sight (level i)) (map hand places)
           → map (seen_by keys) (cond (nat_lt 0 (deal_at g i a).weight) (deal_at g i a ∷ deals') deals')
           ≡ map (sight (level i)) (map hand (cond b (a ∷ places) places))
       go true same w r =
@@ -99,14 +103,17 @@ module _ (g : Game) (keys : List ℕ) (few : (i : ℕ) → i < last_count g → 
   others_are i l = taken_out (shows_same g i) hand i 0 (last_count g) (public_self (signal_at g (round_count g) i)) (omega arith) (omega arith)
 
   -- a signal of the same hand, on a board of the same hands, is alike
-  pub place_is : (i r : ℕ) → i < last_count g → r < last_count g → IsPermutation (map hand (signals_on g r)) (map hand (signals_on g i)) → hand r ≡ hand i → AreAlike g keys i r
+  pub place_is : (i r : ℕ) → i < last_count g → r < last_count g → IsPermutation (map hand (signals_on g r)) (map hand (signals_on g i)) → hand r ≡ hand i
+      → AreAlike g keys i r
   place_is i r l m board same =
       let strong : level i ≡ level r = sym (level_of_hand i l) ∙ ap (λ (h : ℕ). h / 4294967296) (sym same) ∙ level_of_hand r m in
       let mine = others_are i l in
       let his = others_are r m in
       let both : IsPermutation (hand i ∷ others i) (hand r ∷ others r) =
-      IsPermutation-trans (hand i ∷ others i) (map hand (signals_on g i)) (hand r ∷ others r) (IsPermutation-sym (map hand (signals_on g i)) (hand i ∷ others i) mine)
-      (IsPermutation-trans (map hand (signals_on g i)) (map hand (signals_on g r)) (hand r ∷ others r) (IsPermutation-sym (map hand (signals_on g r)) (map hand (signals_on g i)) board) his) in
+      IsPermutation-trans (hand i ∷ others i) (map hand (signals_on g i)) (hand r ∷ others r)
+      (IsPermutation-sym (map hand (signals_on g i)) (hand i ∷ others i) mine)
+      (IsPermutation-trans (map hand (signals_on g i)) (map hand (signals_on g r)) (hand r ∷ others r)
+      (IsPermutation-sym (map hand (signals_on g r)) (map hand (signals_on g i)) board) his) in
       let Q : ℕ → Type 0 = λ h. IsPermutation (hand i ∷ others i) (h ∷ others r) in
       let left : IsPermutation (others i) (others r) = cancelled (hand i) (others i) (others r) (subst Q same both) in
       let mapped = IsPermutation-map (sight (level i)) (others i) (others r) left in
@@ -120,32 +127,38 @@ module _ (g : Game) (keys : List ℕ) (few : (i : ℕ) → i < last_count g → 
       }
 
 -- the hands of a board's signals
-hands_are : (g : Game) (by_rank : Bool) (keys : List ℕ) (board : Board) (hands : List ℕ) → IsBoard g by_rank board → AreHands board keys hands → hands ≡ map (hand_in keys (level_of g by_rank)) (signals_in board.seats.items)
+hands_are : (g : Game) (by_rank : Bool) (keys : List ℕ) (board : Board) (hands : List ℕ) → IsBoard g by_rank board → AreHands board keys hands
+    → hands ≡ map (hand_in keys (level_of g by_rank)) (signals_in board.seats.items)
 hands_are g by_rank keys board hands b h =
     let sigs : List ℕ = signals_in board.seats.items in
     let f : ℕ → ℕ = hand_in keys (level_of g by_rank) in
     let long : length sigs ≡ length board.seats.items = length-map board.seats.items (λ (s : Seat). s.signal) in
     ext_get_or 0 hands (map f sigs) (h.long ∙ sym long ∙ sym (length-map sigs f)) (λ i l.
     let m : i < length sigs = omega (arith, l, h.long, long) in
-    let level : get_or (levels_in board.seats.items) i 0 ≡ level_of g by_rank (get_or sigs i 0) = ap (λ (xs : List ℕ). get_or xs i 0) b.levels ∙ get_or-map (level_of g by_rank) sigs i 0 0 m in
+    let level : get_or (levels_in board.seats.items) i 0 ≡ level_of g by_rank (get_or sigs i 0) =
+    ap (λ (xs : List ℕ). get_or xs i 0) b.levels ∙ get_or-map (level_of g by_rank) sigs i 0 0 m in
     h.each i (omega (arith, m, long)) ∙ ap (λ (v : ℕ). v * 4294967296 + get_or keys (get_or sigs i 0) 0) level ∙ sym (get_or-map f sigs i 0 0 m))
 
 -- the hands on the board of one of its signals
-hands_there : (g : Game) (by_rank : Bool) (keys : List ℕ) (board : Board) (hands : List ℕ) (one i : ℕ) → IsBoard g by_rank board → AreHands board keys hands → one < length (signals_in board.seats.items) → get_or (signals_in board.seats.items) one 0 ≡ i
-    → IsPermutation (map (hand_in keys (level_of g by_rank)) (signals_on g i)) hands × (i < last_count g) × (get_or hands one 0 ≡ hand_in keys (level_of g by_rank) i)
+hands_there : (g : Game) (by_rank : Bool) (keys : List ℕ) (board : Board) (hands : List ℕ) (one i : ℕ) → IsBoard g by_rank board → AreHands board keys hands
+    → one < length (signals_in board.seats.items) → get_or (signals_in board.seats.items) one 0 ≡ i
+    → IsPermutation (map (hand_in keys (level_of g by_rank)) (signals_on g i)) hands × (i < last_count g)
+    × (get_or hands one 0 ≡ hand_in keys (level_of g by_rank) i)
 hands_there g by_rank keys board hands one i b h l is =
     let sigs : List ℕ = signals_in board.seats.items in
     let f : ℕ → ℕ = hand_in keys (level_of g by_rank) in
     let m : one < length board.seats.items = omega (arith, l, length-map board.seats.items (λ (s : Seat). s.signal)) in
     let e : hands ≡ map f sigs = hands_are g by_rank keys board hands b h in
-    let same : IsPermutation (signals_on g i) sigs = permuted_from_times (signals_on g i) sigs (subst (λ (k : ℕ). (v : ℕ) → times v (signals_on g k) ≡ times v sigs) is (b.signals one m)) in (
+    let same : IsPermutation (signals_on g i) sigs = permuted_from_times (signals_on g i) sigs (subst (λ (k : ℕ). (v : ℕ)
+    → times v (signals_on g k) ≡ times v sigs) is (b.signals one m)) in (
       subst (IsPermutation (map f (signals_on g i))) (sym e) (IsPermutation-map f (signals_on g i) sigs same),
       subst (λ (k : ℕ). k < last_count g) (sym (get_or-map (λ (s : Seat). s.signal) board.seats.items one none 0 m) ∙ is) (b.within one none m),
       ap (λ (xs : List ℕ). get_or xs one 0) e ∙ get_or-map f sigs one 0 0 l ∙ ap f is,
     )
 
 -- a mark is alike
-pub mark_alike : (g : Game) (by_rank : Bool) (keys : List ℕ) → ((i : ℕ) → i < last_count g → get_or keys i 0 < 4294967296) → (board other : Board) (hands other_hands : List ℕ)
+pub mark_alike : (g : Game) (by_rank : Bool) (keys : List ℕ) → ((i : ℕ) → i < last_count g → get_or keys i 0 < 4294967296)
+    → (board other : Board) (hands other_hands : List ℕ)
     → IsBoard g by_rank board → IsBoard g by_rank other → AreHands board keys hands → AreHands other keys other_hands → IsPermutation other_hands hands
     → (i mark : ℕ) → IsMark (signals_in board.seats.items) hands (signals_in other.seats.items) other_hands i mark → AreAlike g keys i mark
 mark_alike g by_rank keys few board other hands other_hands b o h k moved i mark m =

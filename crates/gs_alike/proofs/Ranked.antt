@@ -17,7 +17,8 @@ pub record AreRanked (seats : List Seat) (n : ℕ) (now : List Seat) (rank above
 pub start_ranked : (seats : List Seat) → AreRanked seats 0 seats 0 0
 start_ranked seats = record { last = ranked_none (levels_in seats); long = refl; before = λ k l. absurd (omega arith); after = λ k l. refl }
 
-module _ (seats : List Seat) (up : IsNonDecreasingBy (λ (s : Seat). s.level) seats) (n : ℕ) (l : n < length seats) (now : List Seat) (rank above : ℕ) (h : AreRanked seats n now rank above) where
+module _ (seats : List Seat) (up : IsNonDecreasingBy (λ (s : Seat). s.level) seats) (n : ℕ) (l : n
+    < length seats) (now : List Seat) (rank above : ℕ) (h : AreRanked seats n now rank above) where
   abbrev zs : List ℕ
   zs = levels_in seats
 
@@ -30,7 +31,8 @@ module _ (seats : List Seat) (up : IsNonDecreasingBy (λ (s : Seat). s.level) se
   pub level_is : get_or zs n 0 ≡ (get_or now n none).level
   level_is = level_was ∙ ap (λ (s : Seat). s.level) (sym (h.after n (omega arith)))
 
-  one_more : (next : ℕ) → IsRanked zs (n + 1) next (get_or zs n 0) → AreRanked seats (n + 1) (set now n (let s : Seat = record { level = next; signal = (get_or now n none).signal } in s)) next (get_or zs n 0)
+  one_more : (next : ℕ) → IsRanked zs (n + 1) next (get_or zs n 0) → AreRanked seats (n + 1) (set now n (let s : Seat =
+      record { level = next; signal = (get_or now n none).signal } in s)) next (get_or zs n 0)
   one_more next r =
       let new : Seat = record { level = next; signal = (get_or now n none).signal } in
       let at : n < length now = omega (arith, l, h.long) in
@@ -48,11 +50,13 @@ module _ (seats : List Seat) (up : IsNonDecreasingBy (λ (s : Seat). s.level) se
       }
 
   -- a stronger seat
-  pub more_ranked : above < get_or zs n 0 → AreRanked seats (n + 1) (set now n (let s : Seat = record { level = n; signal = (get_or now n none).signal } in s)) n (get_or zs n 0)
+  pub more_ranked : above < get_or zs n 0 → AreRanked seats (n + 1) (set now n (let s : Seat = record { level = n; signal = (get_or now n none).signal } in
+      s)) n (get_or zs n 0)
   more_ranked more = one_more n (ranked_above zs (ascending_in seats up) n within rank above h.last more)
 
   -- one that is as strong
-  pub more_again : get_or zs n 0 ≤ above → AreRanked seats (n + 1) (set now n (let s : Seat = record { level = rank; signal = (get_or now n none).signal } in s)) rank above
+  pub more_again : get_or zs n 0 ≤ above → AreRanked seats (n + 1) (set now n (let s : Seat = record { level = rank; signal = (get_or now n none).signal } in
+      s)) rank above
   more_again less =
       let there : above ≤ get_or zs n 0 = h.last.rest n (omega arith) within in
       let same : get_or zs n 0 ≡ above = omega (arith, less, there) in

@@ -72,7 +72,8 @@ none_smaller (x ∷ xs) a h =
     omega (arith, p, q, none_smaller xs a (λ k l. h (suc k) (omega arith)))
 
 -- those that are smaller stand first
-first_smaller : (n : ℕ) (xs : List ℕ) (a : ℕ) → n ≤ length xs → ((k : ℕ) → k < n → get_or xs k 0 < a) → ((k : ℕ) → n ≤ k → k < length xs → a ≤ get_or xs k 0) → smaller a xs ≡ n
+first_smaller : (n : ℕ) (xs : List ℕ) (a : ℕ) → n ≤ length xs → ((k : ℕ) → k < n → get_or xs k 0 < a) → ((k : ℕ) → n ≤ k → k < length xs → a ≤ get_or xs k 0)
+    → smaller a xs ≡ n
 first_smaller zero xs a l lo hi = none_smaller xs a (λ k m. hi k (omega arith) m)
 first_smaller (suc n) [] a l lo hi = absurd (omega arith)
 first_smaller (suc n) (x ∷ xs) a l lo hi =
@@ -94,7 +95,8 @@ module _ (xs : List ℕ) (up : IsNonDecreasing xs) (n : ℕ) (l : n < length xs)
   pub ranked_above : above < get_or xs n 0 → IsRanked xs (n + 1) n (get_or xs n 0)
   ranked_above more =
       let s : ℕ = get_or xs n 0 in
-      let is : n ≡ smaller s xs = sym (first_smaller n xs s (omega (arith, l)) (λ k m. let b = h.below k m in omega (arith, b, more)) (λ k m e. up n k 0 m e)) in
+      let is : n ≡ smaller s xs = sym (first_smaller n xs s (omega (arith, l)) (λ k m. let b = h.below k m in
+      omega (arith, b, more)) (λ k m e. up n k 0 m e)) in
       record { rank_is = is; below = λ k m. up k n 0 (omega (arith, m)) l; rest = λ k m e. up n k 0 (omega (arith, m)) e }
 
   -- the same number
@@ -103,7 +105,11 @@ module _ (xs : List ℕ) (up : IsNonDecreasing xs) (n : ℕ) (l : n < length xs)
       let s : ℕ = get_or xs n 0 in
       let there : above ≤ s = h.rest n (omega arith) l in
       let same : above ≡ s = omega (arith, less, there) in
-      record { rank_is = h.rank_is ∙ ap (λ a. smaller a xs) same; below = λ k m. up k n 0 (omega (arith, m)) l; rest = λ k m e. up n k 0 (omega (arith, m)) e }
+      record {
+        rank_is = h.rank_is ∙ ap (λ a. smaller a xs) same;
+        below = λ k m. up k n 0 (omega (arith, m)) l;
+        rest = λ k m e. up n k 0 (omega (arith, m)) e;
+      }
 
 -- ---- outcomes
 
@@ -111,7 +117,8 @@ module _ (xs : List ℕ) (up : IsNonDecreasing xs) (n : ℕ) (l : n < length xs)
 abbrev paid_once : ℕ → ℕ → ℤ
 paid_once a b = cond (nat_lt b a) (pos 1) (cond (nat_lt a b) (neg_ℤ (pos 1)) (pos 0))
 
-outcome_once : (bonus : List ℕ) (r : Ranking) (a b : ℕ) → slice_index bonus (category r a) ≡ 1 → slice_index bonus (category r b) ≡ 1 → outcome bonus r a b ≡ paid_once a b
+outcome_once : (bonus : List ℕ) (r : Ranking) (a b : ℕ) → slice_index bonus (category r a) ≡ 1 → slice_index bonus (category r b) ≡ 1
+    → outcome bonus r a b ≡ paid_once a b
 outcome_once bonus r a b e f =
     ap (λ (n : ℕ). cond (nat_lt b a) (pos n) (cond (nat_lt a b) (neg_ℤ (pos (slice_index bonus (category r b)))) (pos 0))) e
     ∙ ap (λ (n : ℕ). cond (nat_lt b a) (pos 1) (cond (nat_lt a b) (neg_ℤ (pos n)) (pos 0))) f
@@ -127,7 +134,8 @@ module _ (g : Game) where
   strength_at i l = get_or-map (signal_strength g) (signals g (round_count g)) i [] 0 l
 
   -- two signals on a board
-  ranks_tell : (i k : ℕ) → i < last_count g → shows_same g i k ≡ true → nat_lt (level_of g true i) (level_of g true k) ≡ nat_lt (slice_index (strengths_of g) i) (slice_index (strengths_of g) k)
+  ranks_tell : (i k : ℕ) → i < last_count g → shows_same g i k ≡ true → nat_lt (level_of g true i) (level_of g true k)
+      ≡ nat_lt (slice_index (strengths_of g) i) (slice_index (strengths_of g) k)
   ranks_tell i k l same =
       let h : ℕ → ℕ = slice_index (strengths_of g) in
       let xs : List ℕ = strengths_on g i in
@@ -150,7 +158,8 @@ module _ (g : Game) where
         let once : PaysOnce g = pays refl in
         let up : nat_lt b a ≡ nat_lt (level_of g true k) (level_of g true i) = sym (ranks_tell k i m (shown_back g i k same)) in
         let down : nat_lt a b ≡ nat_lt (level_of g true i) (level_of g true k) = sym (ranks_tell i k l same) in
-        outcome_once g.bonus g.ranking (signal_strength g (signal_at g (round_count g) i)) (signal_strength g (signal_at g (round_count g) k)) (once i l) (once k m)
+        outcome_once g.bonus g.ranking (signal_strength g (signal_at g (round_count g) i)) (signal_strength g (signal_at g (round_count g) k)) (once i l)
+        (once k m)
         ∙ ap (λ (x : ℕ). paid_once x (signal_strength g (signal_at g (round_count g) k))) (sym (strength_at i l)) ∙ ap (paid_once a) (sym (strength_at k m))
         ∙ ap (λ (t : Bool). cond t (pos 1) (cond (nat_lt a b) (neg_ℤ (pos 1)) (pos 0))) up
         ∙ ap (λ (t : Bool). cond (nat_lt (level_of g true k) (level_of g true i)) (pos 1) (cond t (neg_ℤ (pos 1)) (pos 0))) down;
@@ -163,6 +172,7 @@ module _ (g : Game) where
       let s : ℕ = signal_strength g (signal_at g (round_count g) i) in
       let at : get_or strengths i 0 ≡ s = ap (λ (xs : List ℕ). get_or xs i 0) ranked ∙ strength_at i l in
       let long : length strengths ≡ last_count g = ap (λ (xs : List ℕ). length xs) ranked ∙ length-map (signals g (round_count g)) (signal_strength g) in
-      let in' : category g.ranking s < categories g.ranking = subst (λ (x : ℕ). category g.ranking x < categories g.ranking) at (strong i 0 (omega (arith, l, long))) in
+      let in' : category g.ranking s < categories g.ranking = subst (λ (x : ℕ). category g.ranking x
+      < categories g.ranking) at (strong i 0 (omega (arith, l, long))) in
       let span : length bonus ≡ length g.bonus = ap (λ (xs : List ℕ). length xs) e in
       ap (λ (xs : List ℕ). slice_index xs (category g.ranking s)) (sym e) ∙ ones (category g.ranking s) (omega (arith, in', span, h.each))

@@ -27,7 +27,8 @@ tests_alike p q h (x ∷ xs) = ap (λ b. cond b (x ∷ filter p xs) (filter p xs
 on_board : (p : ℕ → Bool) (a n : ℕ) → All (λ s. (s < a + n) × (p s ≡ true)) (filter p (range_with_len a n))
 on_board p a zero = All-nil (λ s. (s < a + zero) × (p s ≡ true))
 on_board p a (suc n) =
-    go (All-weaker (λ s. (s < a + 1 + n) × (p s ≡ true)) (λ s. (s < a + suc n) × (p s ≡ true)) (λ s h. (omega (arith, h.0), h.1)) (filter p (range_with_len (a + 1) n)) (on_board p (a + 1) n)) (p a) refl
+    go (All-weaker (λ s. (s < a + 1 + n) × (p s ≡ true)) (λ s. (s < a + suc n)
+    × (p s ≡ true)) (λ s h. (omega (arith, h.0), h.1)) (filter p (range_with_len (a + 1) n)) (on_board p (a + 1) n)) (p a) refl
   where
     go : All (λ s. (s < a + suc n) × (p s ≡ true)) (filter p (range_with_len (a + 1) n)) → (b : Bool) → p a ≡ b
         → All (λ s. (s < a + suc n) × (p s ≡ true)) (cond b (a ∷ filter p (range_with_len (a + 1) n)) (filter p (range_with_len (a + 1) n)))
@@ -42,8 +43,10 @@ signals_kept : (by_rank : Bool) (seats : List Seat) → signals_in (cond by_rank
 signals_kept true seats = map-map (λ (s : Seat). s.signal) (ranked_in seats) seats
 signals_kept false seats = refl
 
-levels_ranked : (by_rank : Bool) (seats : List Seat) → levels_in (cond by_rank (ranked seats) seats) ≡ cond by_rank (map (λ a. smaller a (levels_in seats)) (levels_in seats)) (levels_in seats)
-levels_ranked true seats = map-map (λ (s : Seat). s.level) (ranked_in seats) seats ∙ sym (map-map (λ a. smaller a (levels_in seats)) (λ (s : Seat). s.level) seats)
+levels_ranked : (by_rank : Bool) (seats : List Seat) → levels_in (cond by_rank (ranked seats) seats)
+    ≡ cond by_rank (map (λ a. smaller a (levels_in seats)) (levels_in seats)) (levels_in seats)
+levels_ranked true seats = map-map (λ (s : Seat). s.level) (ranked_in seats) seats
+    ∙ sym (map-map (λ a. smaller a (levels_in seats)) (λ (s : Seat). s.level) seats)
 levels_ranked false seats = refl
 
 -- what holds of the signals holds of the seats
@@ -60,7 +63,8 @@ module _ (g : Game) where
   pub one_board : (i first : ℕ) → shows_same g i first ≡ true → signals_on g i ≡ signals_on g first
   one_board i first e =
       tests_alike (shows_same g i) (shows_same g first)
-      (λ k. public_alike (signal_at g (round_count g) i) (signal_at g (round_count g) first) (signal_at g (round_count g) k) e) (range_with_len 0 (last_count g))
+      (λ k. public_alike (signal_at g (round_count g) i) (signal_at g (round_count g) first) (signal_at g (round_count g) k) e)
+      (range_with_len 0 (last_count g))
 
   pub board_few : (i : ℕ) → length (signals_on g i) ≤ last_count g
   board_few i =
@@ -97,7 +101,8 @@ module _ (g : Game) where
         subst (λ (l : List ℕ). IsPermutation l sigs) e (IsPermutation-map (λ (s : Seat). s.signal) (map (seat_of g) (signals_on g first)) seats moved)
 
     sigs_on : All On sigs
-    sigs_on = All-permutation On (signals_on g first) sigs sigs_moved (All-weaker (λ i. (i < 0 + last_count g) × (shows_same g first i ≡ true)) On (λ i h. (omega (arith, h.0), h.1)) (signals_on g first) (on_board (shows_same g first) 0 (last_count g)))
+    sigs_on = All-permutation On (signals_on g first) sigs sigs_moved (All-weaker (λ i. (i < 0 + last_count g)
+        × (shows_same g first i ≡ true)) On (λ i h. (omega (arith, h.0), h.1)) (signals_on g first) (on_board (shows_same g first) 0 (last_count g)))
 
     zs_are : zs ≡ map (slice_index (strengths_of g)) sigs
     zs_are = strengths_are seats (All-permutation (λ s. s ≡ seat_of g s.signal) (map (seat_of g) (signals_on g first)) seats moved
@@ -107,37 +112,48 @@ module _ (g : Game) where
     rank_there i on =
         let st : ℕ → ℕ = slice_index (strengths_of g) in
         ap (smaller (st i)) zs_are
-        ∙ sum_by-IsPermutation (λ (x : ℕ). cond (nat_lt x (st i)) 1 0) (map st (signals_on g first)) (map st sigs) (IsPermutation-map st (signals_on g first) sigs sigs_moved)
+        ∙ sum_by-IsPermutation (λ (x : ℕ). cond (nat_lt x (st i)) 1 0) (map st (signals_on g first)) (map st sigs)
+        (IsPermutation-map st (signals_on g first) sigs sigs_moved)
         ∙ ap (λ l. smaller (st i) (map st l)) (one_board first i on.1)
 
     levels_by : (by_rank : Bool) → cond by_rank (map (λ a. smaller a zs) zs) zs ≡ map (level_of g by_rank) sigs
     levels_by false = zs_are
     levels_by true =
         ap (map (λ a. smaller a zs)) zs_are ∙ map-map (λ a. smaller a zs) (slice_index (strengths_of g)) sigs
-        ∙ levels_are (λ i. smaller (slice_index (strengths_of g) i) zs) (level_of g true) sigs (All-weaker On (λ i. smaller (slice_index (strengths_of g) i) zs ≡ level_of g true i) rank_there sigs sigs_on)
+        ∙ levels_are (λ i. smaller (slice_index (strengths_of g) i) zs) (level_of g true) sigs
+        (All-weaker On (λ i. smaller (slice_index (strengths_of g) i) zs ≡ level_of g true i) rank_there sigs sigs_on)
 
     board_whole : (i : ℕ) → i < length sigs → HaveSame (signals_on g (slice_index sigs i)) sigs
     board_whole i l v =
         let on : On (get_or sigs i 0) = sigs_on i 0 l in
-        ap (λ xs. times v xs) (sym (one_board first (get_or sigs i 0) on.1)) ∙ sym (sum_by-IsPermutation (λ (x : ℕ). cond (eqb x v) 1 0) (signals_on g first) sigs sigs_moved)
+        ap (λ xs. times v xs) (sym (one_board first (get_or sigs i 0) on.1))
+        ∙ sym (sum_by-IsPermutation (λ (x : ℕ). cond (eqb x v) 1 0) (signals_on g first) sigs sigs_moved)
 
-    pub board_is : (by_rank : Bool) (board : Board) → IsPlain g → (by_rank ≡ true → PaysOnce g) → board.seats.items ≡ cond by_rank (ranked seats) seats → IsBoard g by_rank board
+    pub board_is : (by_rank : Bool) (board : Board) → IsPlain g → (by_rank ≡ true → PaysOnce g) → board.seats.items ≡ cond by_rank (ranked seats) seats
+        → IsBoard g by_rank board
     board_is by_rank board plain once is =
         let signals : signals_in board.seats.items ≡ sigs = ap signals_in is ∙ signals_kept by_rank seats in
         let levels : levels_in board.seats.items ≡ cond by_rank (map (λ a. smaller a zs) zs) zs = ap levels_in is ∙ levels_ranked by_rank seats in
         let long : length board.seats.items ≡ length (signals_in board.seats.items) = sym (length-map board.seats.items (λ (s : Seat). s.signal)) in
-        let all : (i : ℕ) → i < length (signals_in board.seats.items) → HaveSame (signals_on g (slice_index (signals_in board.seats.items) i)) (signals_in board.seats.items) =
+        let all : (i : ℕ) → i < length (signals_in board.seats.items) → HaveSame (signals_on g (slice_index (signals_in board.seats.items) i))
+        (signals_in board.seats.items) =
         subst (λ l. (i : ℕ) → i < length l → HaveSame (signals_on g (slice_index l i)) l) (sym signals) board_whole in
         record {
           plain = plain;
           once = once;
-          within = seats_within (λ i. i < last_count g) board.seats.items (subst (All (λ i. i < last_count g)) (sym signals) (All-weaker On (λ i. i < last_count g) (λ i h. h.0) sigs sigs_on));
+          within = seats_within (λ i. i < last_count g) board.seats.items
+              (subst (All (λ i. i < last_count g)) (sym signals) (All-weaker On (λ i. i < last_count g) (λ i h. h.0) sigs sigs_on));
           signals = λ i l. all i (omega (arith, l, long));
           levels = levels ∙ levels_by by_rank ∙ ap (map (level_of g by_rank)) (sym signals);
         }
 
     pub seats_few : length seats ≤ last_count g
-    seats_few = omega (arith, length_permutation (map (seat_of g) (signals_on g first)) seats moved, length-map (signals_on g first) (seat_of g), board_few first)
+    seats_few = omega (
+      arith,
+      length_permutation (map (seat_of g) (signals_on g first)) seats moved,
+      length-map (signals_on g first) (seat_of g),
+      board_few first,
+    )
 
 -- the levels ascend with the seats
 pub ascending_in : (seats : List Seat) → IsNonDecreasingBy (λ (s : Seat). s.level) seats → IsNonDecreasing (levels_in seats)

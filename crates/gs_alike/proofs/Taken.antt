@@ -18,12 +18,14 @@ not_before p i a (suc n) l =
     let rest : List ℕ = filter (but p i) (range_with_len (a + 1) n) in
     ap (λ c. cond (p a && cond c false true) (a ∷ rest) rest) t ∙ go (p a) ∙ ap (λ xs. cond (p a) (a ∷ xs) xs) (not_before p i (a + 1) n (omega arith))
   where
-    go : (b : Bool) → cond (b && true) (a ∷ filter (but p i) (range_with_len (a + 1) n)) (filter (but p i) (range_with_len (a + 1) n)) ≡ cond b (a ∷ filter (but p i) (range_with_len (a + 1) n)) (filter (but p i) (range_with_len (a + 1) n))
+    go : (b : Bool) → cond (b && true) (a ∷ filter (but p i) (range_with_len (a + 1) n)) (filter (but p i) (range_with_len (a + 1) n))
+        ≡ cond b (a ∷ filter (but p i) (range_with_len (a + 1) n)) (filter (but p i) (range_with_len (a + 1) n))
     go true = refl
     go false = refl
 
 -- a place that a test takes, and the others that it takes
-pub taken_out : (p : ℕ → Bool) (h : ℕ → ℕ) (i a n : ℕ) → p i ≡ true → a ≤ i → i < a + n → IsPermutation (map h (filter p (range_with_len a n))) (h i ∷ map h (filter (but p i) (range_with_len a n)))
+pub taken_out : (p : ℕ → Bool) (h : ℕ → ℕ) (i a n : ℕ) → p i ≡ true → a ≤ i → i < a + n
+    → IsPermutation (map h (filter p (range_with_len a n))) (h i ∷ map h (filter (but p i) (range_with_len a n)))
 taken_out p h i a zero e lo hi = absurd (omega arith)
 taken_out p h i a (suc n) e lo hi = ⊎_elim
     (λ (same : a ≡ i).
@@ -51,7 +53,8 @@ taken_out p h i a (suc n) e lo hi = ⊎_elim
     none true ys = refl
     none false ys = refl
 
-    more : (b : Bool) (xs ys : List ℕ) → IsPermutation (map h xs) (h i ∷ map h ys) → IsPermutation (map h (cond b (a ∷ xs) xs)) (h i ∷ map h (cond (b && true) (a ∷ ys) ys))
+    more : (b : Bool) (xs ys : List ℕ) → IsPermutation (map h xs) (h i ∷ map h ys)
+        → IsPermutation (map h (cond b (a ∷ xs) xs)) (h i ∷ map h (cond (b && true) (a ∷ ys) ys))
     more true xs ys r =
         IsPermutation-trans (h a ∷ map h xs) (h a ∷ h i ∷ map h ys) (h i ∷ h a ∷ map h ys) (IsPermutation-cons (h a) (map h xs) (h i ∷ map h ys) r)
         (IsPermutation-middle (h a ∷ []) (h i) (map h ys))

@@ -13,7 +13,8 @@ use Rattle.gs_alike.specs.declared.kinds.Kind.{Kind}
 -- for each signal of a board its hand: a number made of its level and its key
 pub record AreHands (board : Board) (keys hands : List ℕ) : Type 0 where
   pub long : length hands ≡ length board.seats.items
-  pub each : (i : ℕ) → i < length board.seats.items → slice_index hands i ≡ slice_index (levels_in board.seats.items) i * 4294967296 + slice_index keys (slice_index (signals_in board.seats.items) i)
+  pub each : (i : ℕ) → i < length board.seats.items → slice_index hands i
+      ≡ slice_index (levels_in board.seats.items) i * 4294967296 + slice_index keys (slice_index (signals_in board.seats.items) i)
 
 -- the kind at a place has some hands, in some order
 pub record IsKindOf (kinds : List Kind) (kind : ℕ) (hands : List ℕ) : Type 0 where

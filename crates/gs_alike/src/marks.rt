@@ -56,7 +56,8 @@ pub(crate) fn mark_board(
     requires other_hands { length other_hands.now ≡ length others.now }
     requires within { All (λ seat. seat.signal < length marks.old) seats.now }
     ensures long { length marks.new ≡ length marks.old }
-    ensures each { (i : ℕ) → (slice_index marks.new i ≡ slice_index marks.old i) ⊎ IsMark (signals_in seats.now) hands.now (signals_in others.now) other_hands.now i (slice_index marks.new i) }
+    ensures each { (i : ℕ) → (slice_index marks.new i ≡ slice_index marks.old i)
+        ⊎ IsMark (signals_in seats.now) hands.now (signals_in others.now) other_hands.now i (slice_index marks.new i) }
 {
     let mut search = Search {
         level: 0,

@@ -23,20 +23,24 @@ slot_under c k m some l = let e : c ≡ suc (c - 1) = omega arith in omega (arit
 agree_less : (n m : ℕ) (xs ys : List ℕ) → m ≤ n → Agree n xs ys → Agree m xs ys
 agree_less n m xs ys l h k lk = h k (omega arith)
 
-module _ (f : Frame) (r : InRange f) (lists : ClassLists) (k : IsClasses f.parents lists) (player : ℕ) (w : IsWalked f player) (move : ℕ → ℕ → ℕ) (q : ℕ) (l : q < point_count f) (own : player_at f q ≡ player) (c : ℕ)
+module _ (f : Frame) (r : InRange f) (lists : ClassLists) (k : IsClasses f.parents lists) (player : ℕ) (w : IsWalked f player) (move : ℕ → ℕ
+    → ℕ) (q : ℕ) (l : q < point_count f) (own : player_at f q ≡ player) (c : ℕ)
     (h : IsClass lists (round_of f (at_point q)) c) where
   abbrev came_by : List ℕ → ℕ
-  came_by xs = number_before f (lift f lists (plan_of f lists 1 xs)) (last_step f player (at_point q)) (round_of f (at_point q)) (first_member lists (round_of f (at_point q)) c)
+  came_by xs = number_before f (lift f lists (plan_of f lists 1 xs)) (last_step f player (at_point q)) (round_of f (at_point q))
+      (first_member lists (round_of f (at_point q)) c)
 
   -- weights that agree up to the next class keep the numbers of a class
-  pub put_kept : (n : ℕ) (xs ys : List ℕ) → slots_before f lists player q + c * move_count f q ≤ n → Agree n xs ys → IsPutAt f lists player move xs q c → IsPutAt f lists player move ys q c
+  pub put_kept : (n : ℕ) (xs ys : List ℕ) → slots_before f lists player q + c * move_count f q ≤ n → Agree n xs ys → IsPutAt f lists player move xs q c
+      → IsPutAt f lists player move ys q c
   put_kept n xs ys room agree put m lm =
       let at : slot_of f lists q c m < n = omega (arith, room, slot_under c (move_count f q) m h.0 lm, ap (λ p. slots_before f lists p q) own) in
       let same = came_kept f r lists k player w q l own c h xs ys (agree_less n (slots_before f lists player q) xs ys (omega (arith, room)) agree) in
       agree (slot_of f lists q c m) at ∙ put m lm ∙ ap (λ x. cond (m == move q c) x 0) (sym same)
 
   -- a class's weights, once what comes there is put on its move
-  pub put_here : (xs : List ℕ) (slot came : ℕ) → slot ≡ slot_of f lists q c (move q c) → move q c < move_count f q → slot < length xs → came ≡ came_by xs → IsClear (slots_before f lists player q + (c - 1) * move_count f q) xs
+  pub put_here : (xs : List ℕ) (slot came : ℕ) → slot ≡ slot_of f lists q c (move q c) → move q c < move_count f q → slot < length xs → came ≡ came_by xs
+      → IsClear (slots_before f lists player q + (c - 1) * move_count f q) xs
       → IsPutAt f lists player move (set xs slot came) q c
   put_here xs slot came at in_moves room is clear m lm =
       let whose = ap (λ p. slots_before f lists p q) own in
@@ -45,16 +49,20 @@ module _ (f : Frame) (r : InRange f) (lists : ClassLists) (k : IsClasses f.paren
       ⊎_elim
       (λ (e : m ≡ move q c).
       let place : slot_of f lists q c m ≡ slot = omega (arith, at, e) in
-      ap (λ n. get_or (set xs slot came) n 0) place ∙ get_or-set_same xs slot came 0 room ∙ is ∙ sym same ∙ sym (ap (λ b. cond b (came_by (set xs slot came)) 0) ((Decides-eqb m (move q c)).1 e)))
+      ap (λ n. get_or (set xs slot came) n 0) place ∙ get_or-set_same xs slot came 0 room ∙ is ∙ sym same
+      ∙ sym (ap (λ b. cond b (came_by (set xs slot came)) 0) ((Decides-eqb m (move q c)).1 e)))
       (λ (other : m ≡ move q c → ⊥).
       let n = slot_of f lists q c m in
       let apart : n ≡ slot → ⊥ = λ e. other (omega (arith, at, e)) in
-      get_or-set_other xs slot n came 0 apart ∙ clear n (omega (arith, whose)) ∙ sym (ap (λ b. cond b (came_by (set xs slot came)) 0) (not_eq m (move q c) other)))
+      get_or-set_other xs slot n came 0 apart ∙ clear n (omega (arith, whose))
+      ∙ sym (ap (λ b. cond b (came_by (set xs slot came)) 0) (not_eq m (move q c) other)))
       (cases_eq m (move q c))
 
 -- one more point of the player
-pub puts_more : (f : Frame) (r : InRange f) (lists : ClassLists) (k : IsClasses f.parents lists) (player : ℕ) (w : IsWalked f player) (move : ℕ → ℕ → ℕ) (q : ℕ) (xs ys : List ℕ)
-    → q < point_count f → ArePutBefore f lists player move xs q → Agree (slots_before f lists player q) xs ys → ((c : ℕ) → IsClass lists (round_of f (at_point q)) c → IsPutAt f lists player move ys q c)
+pub puts_more : (f : Frame) (r : InRange f) (lists : ClassLists) (k : IsClasses f.parents lists) (player : ℕ) (w : IsWalked f player) (move : ℕ → ℕ
+    → ℕ) (q : ℕ) (xs ys : List ℕ)
+    → q < point_count f → ArePutBefore f lists player move xs q → Agree (slots_before f lists player q) xs ys
+    → ((c : ℕ) → IsClass lists (round_of f (at_point q)) c → IsPutAt f lists player move ys q c)
     → ArePutBefore f lists player move ys (q + 1)
 puts_more f r lists k player w move q xs ys l puts agree here p c lp own h = ⊎_elim
     (λ e. subst (λ n. IsPutAt f lists player move ys n c) (sym e) (here c (subst (λ n. IsClass lists (round_of f (at_point n)) c) e h)))
@@ -62,15 +70,19 @@ puts_more f r lists k player w move q xs ys l puts agree here p c lp own h = ⊎
     let before : p < q = omega arith in
     let in_points : p < point_count f = omega (arith, before, l) in
     put_kept f r lists k player w move p in_points own c h (slots_before f lists player q) xs ys
-    (omega (arith, slots_own f lists player p own, mul-le-mul_right (move_count f p) h.1, slots_le f lists player (p + 1) q (omega arith))) agree (puts p c before own h))
+    (omega (arith, slots_own f lists player p own, mul-le-mul_right (move_count f p) h.1, slots_le f lists player (p + 1) q (omega arith))) agree
+    (puts p c before own h))
     (cases_eq p q)
 
 -- one more point of the other player
-pub puts_same : (f : Frame) (lists : ClassLists) (player : ℕ) (move : ℕ → ℕ → ℕ) (q : ℕ) (xs : List ℕ) → ArePutBefore f lists player move xs q → (player_at f q ≡ player → ⊥) → ArePutBefore f lists player move xs (q + 1)
-puts_same f lists player move q xs puts other p c lp own h = ⊎_elim (λ e. absurd (other (sym (ap (player_at f) e) ∙ own))) (λ ne. puts p c (omega arith) own h) (cases_eq p q)
+pub puts_same : (f : Frame) (lists : ClassLists) (player : ℕ) (move : ℕ → ℕ → ℕ) (q : ℕ) (xs : List ℕ) → ArePutBefore f lists player move xs q
+    → (player_at f q ≡ player → ⊥) → ArePutBefore f lists player move xs (q + 1)
+puts_same f lists player move q xs puts other p c lp own h = ⊎_elim (λ e. absurd (other (sym (ap (player_at f) e) ∙ own)))
+    (λ ne. puts p c (omega arith) own h) (cases_eq p q)
 
 -- the plan is the first best plan
-pub put_is_best : (f : Frame) (lists : ClassLists) (player : ℕ) (y : Plan) (v : Values) (move : ℕ → ℕ → ℕ) (weights : List ℕ) → IsBestValues f lists player y v move → ArePutBefore f lists player move weights (point_count f)
+pub put_is_best : (f : Frame) (lists : ClassLists) (player : ℕ) (y : Plan) (v : Values) (move : ℕ → ℕ → ℕ) (weights : List ℕ)
+    → IsBestValues f lists player y v move → ArePutBefore f lists player move weights (point_count f)
     → IsFirstBestPlan f lists player y (plan_of f lists 1 weights)
 put_is_best f lists player y v move weights best puts = record {
   values = v;
@@ -80,6 +92,7 @@ put_is_best f lists player y v move weights best puts = record {
   puts = λ q c m l own h lm. puts q c l own h m lm;
 }
 
-pub put_is_plan : (f : Frame) → InRange f → (lists : ClassLists) → IsClasses f.parents lists → (player : ℕ) → IsWalked f player → (y : Plan) (weights : List ℕ) → length weights ≡ slot_count f lists player
+pub put_is_plan : (f : Frame) → InRange f → (lists : ClassLists) → IsClasses f.parents lists → (player : ℕ) → IsWalked f player
+    → (y : Plan) (weights : List ℕ) → length weights ≡ slot_count f lists player
     → IsFirstBestPlan f lists player y (plan_of f lists 1 weights) → IsPlan f lists player 1 weights
 put_is_plan f r lists k player w y weights long b = record { long = long; plan = first_best_is_plan f lists player r w k y (plan_of f lists 1 weights) b }

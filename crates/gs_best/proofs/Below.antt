@@ -21,7 +21,15 @@ pub range_le : (f g : ℕ → ℕ) (n : ℕ) → ((k : ℕ) → k < n → f k �
 range_le f g zero h = omega arith
 range_le f g (suc n) h =
     let e : suc n ≡ n + 1 = omega arith in
-    omega (arith, ap (λ k. sum_by f (range_with_len 0 k)) e, ap (λ k. sum_by g (range_with_len 0 k)) e, sum_range_more f n, sum_range_more g n, h n (omega arith), range_le f g n (λ k l. h k (omega arith)))
+    omega (
+      arith,
+      ap (λ k. sum_by f (range_with_len 0 k)) e,
+      ap (λ k. sum_by g (range_with_len 0 k)) e,
+      sum_range_more f n,
+      sum_range_more g n,
+      h n (omega arith),
+      range_le f g n (λ k l. h k (omega arith)),
+    )
 
 pub range_add : (f g : ℕ → ℕ) (n : ℕ) → sum_by (λ k. f k + g k) (range_with_len 0 n) ≡ sum_by f (range_with_len 0 n) + sum_by g (range_with_len 0 n)
 range_add f g zero = refl
@@ -41,7 +49,12 @@ range_add f g (suc n) =
 pub prefix_le : (f : ℕ → ℕ) (m n : ℕ) → m ≤ n → sum_by f (range_with_len 0 m) ≤ sum_by f (range_with_len 0 n)
 prefix_le f m n l =
     let e : n ≡ m + (n - m) = omega arith in
-    omega (arith, ap (λ k. sum_by f (range_with_len 0 k)) e, ap (sum_by f) (range_append 0 m (n - m)), sum_by-append f (range_with_len 0 m) (range_with_len (0 + m) (n - m)))
+    omega (
+      arith,
+      ap (λ k. sum_by f (range_with_len 0 k)) e,
+      ap (sum_by f) (range_append 0 m (n - m)),
+      sum_by-append f (range_with_len 0 m) (range_with_len (0 + m) (n - m)),
+    )
 
 pub ones_are : {X : Type 0} (xs : List X) → sum_by (λ (x : X). 1) xs ≡ length xs
 ones_are [] = refl
@@ -77,7 +90,8 @@ module _ (f : Frame) where
     same (suc n) (suc m) (at_end z) i h k = refl
     same (suc n) (suc m) (at_point q) i h k =
         sum-same_range (λ c. within_moves n (leads_to f q c)) (λ c. within_moves m (leads_to f q c)) (move_count f q)
-        (λ c l. same n m (leads_to f q c) (w.inside q c i l) (reaches_next n q (leads_to f q c) i h (w.later q c i l)) (reaches_next m q (leads_to f q c) i k (w.later q c i l)))
+        (λ c l. same n m (leads_to f q c) (w.inside q c i l) (reaches_next n q (leads_to f q c) i h (w.later q c i l))
+        (reaches_next m q (leads_to f q c) i k (w.later q c i l)))
 
     pub below_end : (z : ℕ) → ends_below (at_end z) ≡ 1
     unfolding ends_below within_moves
@@ -114,7 +128,8 @@ module _ (f : Frame) where
     behind : (q r : ℕ) → r < point_count f → q ≤ r → next_counts q r ≡ ends_below (at_point r)
     unfolding next_counts
     behind q r l m =
-        sum-same_range (λ c. counts q (leads_to f r c)) (λ c. ends_below (leads_to f r c)) (move_count f r) (λ c lc. counts_behind q r (leads_to f r c) m (w.later r c l lc))
+        sum-same_range (λ c. counts q (leads_to f r c)) (λ c. ends_below (leads_to f r c)) (move_count f r)
+        (λ c lc. counts_behind q r (leads_to f r c) m (w.later r c l lc))
         ∙ sym (below_point r l)
 
     -- the point q once, and all that counts

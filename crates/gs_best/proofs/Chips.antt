@@ -17,7 +17,8 @@ use Rattle.gs_seq.proofs.Sizes.{abs_neg, abs_pos, are_bet, outcomes_le, puts_le,
 pub product_le : (a b c d : ℕ) → a ≤ c → b ≤ d → a * b ≤ c * d
 product_le a b c d l m = let x = mul-le-mul_right b l in let y = mul-le-mul_left c m in omega (arith, x, y)
 
-kind_pays : (k : EndKind) (put : ℕ) (o : ℤ) (most : ℕ) (top : ℕ) → put ≤ most → unsigned_abs o ≤ top → 1 ≤ top → unsigned_abs (end_payoff (record { round = 1; kind = k; put = put; one = None; two = None }) o) ≤ most * top
+kind_pays : (k : EndKind) (put : ℕ) (o : ℤ) (most : ℕ) (top : ℕ) → put ≤ most → unsigned_abs o ≤ top → 1 ≤ top
+    → unsigned_abs (end_payoff (record { round = 1; kind = k; put = put; one = None; two = None }) o) ≤ most * top
 kind_pays Folded1 put o most top l m s = let y : most * 1 ≤ most * top = mul-le-mul_left most s in abs_neg put (most * top) (omega (arith, y, l))
 kind_pays Folded2 put o most top l m s = let y : most * 1 ≤ most * top = mul-le-mul_left most s in abs_pos put (most * top) (omega (arith, y, l))
 kind_pays Show put o most top l m s =
@@ -32,12 +33,15 @@ end_pays e o most top l m s = kind_pays e.kind e.put o most top l m s
 abs_turned : (z : ℤ) → unsigned_abs (neg_ℤ z) ≡ unsigned_abs z
 abs_turned z = omega (arith, ints, abs_is z, abs_is (neg_ℤ z))
 
-pays_le : (f : Frame) (p z : ℕ) (o : ℤ) (most top : ℕ) → (end_at f z).put ≤ most → unsigned_abs o ≤ top → 1 ≤ top → unsigned_abs (payoff_to f p z o) ≤ most * top
+pays_le : (f : Frame) (p z : ℕ) (o : ℤ) (most top : ℕ) → (end_at f z).put ≤ most → unsigned_abs o ≤ top → 1 ≤ top
+    → unsigned_abs (payoff_to f p z o) ≤ most * top
 unfolding payoff_to
-pays_le f p z o most top l m s = elim (p == 1) as (λ b. unsigned_abs (cond b (end_payoff (end_at f z) o) (neg_ℤ (end_payoff (end_at f z) (neg_ℤ o)))) ≤ most * top) [
-  | true ↦ end_pays (end_at f z) o most top l m s
-  | false ↦ let k = end_pays (end_at f z) (neg_ℤ o) most top l (omega (arith, abs_turned o, m)) s in omega (arith, abs_turned (end_payoff (end_at f z) (neg_ℤ o)), k)
-]
+pays_le f p z o most top l m s = elim (p == 1) as (λ b. unsigned_abs (cond b (end_payoff (end_at f z) o) (neg_ℤ (end_payoff (end_at f z) (neg_ℤ o))))
+    ≤ most * top) [
+      | true ↦ end_pays (end_at f z) o most top l m s
+      | false ↦ let k = end_pays (end_at f z) (neg_ℤ o) most top l (omega (arith, abs_turned o, m)) s in
+          omega (arith, abs_turned (end_payoff (end_at f z) (neg_ℤ o)), k)
+    ]
 
 -- what bounds all numbers of a game
 pub record IsModest (f : Frame) : Type 0 where
@@ -52,6 +56,11 @@ modest g =
     record {
       ends = b.lines;
       pays = λ p z k d lz lk.
-          omega (arith, b.puts, pays_le (frame_in g) p z (get_or (frame_in g).deals k d).outcome (most_in (trees_of r) r.ante r.ante) (greatest r.bonus) (puts_le g z lz) (outcomes_le r k d lk) (some_greatest g));
+          omega (
+            arith,
+            b.puts,
+            pays_le (frame_in g) p z (get_or (frame_in g).deals k d).outcome (most_in (trees_of r) r.ante r.ante) (greatest r.bonus)
+                (puts_le g z lz) (outcomes_le r k d lk) (some_greatest g),
+          );
       weight = g.limits.weight_in;
     }

@@ -7,36 +7,42 @@ use Rattle.std.proofs.lemmas.Grind.{get_or-set_at}
 use Rattle.std.proofs.lemmas.List.{get_or-set_other}
 
 -- one more number
-pub row_more : {A : Type 0} (F : ℕ → A) (row : List A) (i : ℕ) (v d : A) → i < length row → v ≡ F i → ((k : ℕ) → k < i → get_or row k d ≡ F k) → (k : ℕ) → k < i + 1 → get_or (set row i v) k d ≡ F k
+pub row_more : {A : Type 0} (F : ℕ → A) (row : List A) (i : ℕ) (v d : A) → i < length row → v ≡ F i → ((k : ℕ) → k < i → get_or row k d ≡ F k) → (k : ℕ)
+    → k < i + 1 → get_or (set row i v) k d ≡ F k
 row_more F row i v d l e h k lk = ⊎_elim
     (λ (same : k ≡ i). get_or-set_at row i k v d same l ∙ e ∙ ap F (sym same))
     (λ (other : k ≡ i → ⊥). get_or-set_other row i k v d other ∙ h k (omega arith))
     (cases_eq k i)
 
 -- a number that stands already
-pub row_keeps : {A : Type 0} (F : ℕ → A) (row : List A) (i : ℕ) (d : A) → get_or row i d ≡ F i → ((k : ℕ) → k < i → get_or row k d ≡ F k) → (k : ℕ) → k < i + 1 → get_or row k d ≡ F k
+pub row_keeps : {A : Type 0} (F : ℕ → A) (row : List A) (i : ℕ) (d : A) → get_or row i d ≡ F i → ((k : ℕ) → k < i → get_or row k d ≡ F k) → (k : ℕ)
+    → k < i + 1 → get_or row k d ≡ F k
 row_keeps F row i d e h k lk = ⊎_elim
     (λ (same : k ≡ i). ap (λ j. get_or row j d) same ∙ e ∙ ap F (sym same))
     (λ (other : k ≡ i → ⊥). h k (omega arith))
     (cases_eq k i)
 
 -- the numbers behind are as they were
-pub rest_more : {A : Type 0} (row old : List A) (i : ℕ) (v d : A) → ((k : ℕ) → i ≤ k → get_or row k d ≡ get_or old k d) → (k : ℕ) → i + 1 ≤ k → get_or (set row i v) k d ≡ get_or old k d
+pub rest_more : {A : Type 0} (row old : List A) (i : ℕ) (v d : A) → ((k : ℕ) → i ≤ k → get_or row k d ≡ get_or old k d) → (k : ℕ) → i + 1 ≤ k
+    → get_or (set row i v) k d ≡ get_or old k d
 rest_more row old i v d h k lk = get_or-set_other row i k v d (λ e. omega arith) ∙ h k (omega arith)
 
 -- a row by classes, which count from 1
-pub by_class : {A : Type 0} (F : ℕ → A) (row : List A) (n : ℕ) (d : A) → ((k : ℕ) → k < n → get_or row k d ≡ F (k + 1)) → (c : ℕ) → 0 < c → c ≤ n → get_or row (c - 1) d ≡ F c
+pub by_class : {A : Type 0} (F : ℕ → A) (row : List A) (n : ℕ) (d : A) → ((k : ℕ) → k < n → get_or row k d ≡ F (k + 1)) → (c : ℕ) → 0 < c → c ≤ n
+    → get_or row (c - 1) d ≡ F c
 by_class F row n d h c some top = let e : c - 1 + 1 ≡ c = omega arith in h (c - 1) (omega arith) ∙ ap F e
 
 -- copies from a place on
-pub copy_more : {A : Type 0} (row values : List A) (start i : ℕ) (v d : A) → start + i < length values → v ≡ get_or row i d → ((k : ℕ) → k < i → get_or values (start + k) d ≡ get_or row k d)
+pub copy_more : {A : Type 0} (row values : List A) (start i : ℕ) (v d : A) → start + i < length values → v ≡ get_or row i d
+    → ((k : ℕ) → k < i → get_or values (start + k) d ≡ get_or row k d)
     → (k : ℕ) → k < i + 1 → get_or (set values (start + i) v) (start + k) d ≡ get_or row k d
 copy_more row values start i v d l e h k lk = ⊎_elim
     (λ (same : k ≡ i). get_or-set_at values (start + i) (start + k) v d (omega arith) l ∙ e ∙ ap (λ j. get_or row j d) (sym same))
     (λ (other : k ≡ i → ⊥). get_or-set_other values (start + i) (start + k) v d (λ w. other (omega arith)) ∙ h k (omega arith))
     (cases_eq k i)
 
-pub copy_before : {A : Type 0} (values old : List A) (start i : ℕ) (v d : A) → ((k : ℕ) → k < start → get_or values k d ≡ get_or old k d) → (k : ℕ) → k < start → get_or (set values (start + i) v) k d ≡ get_or old k d
+pub copy_before : {A : Type 0} (values old : List A) (start i : ℕ) (v d : A) → ((k : ℕ) → k < start → get_or values k d ≡ get_or old k d) → (k : ℕ)
+    → k < start → get_or (set values (start + i) v) k d ≡ get_or old k d
 copy_before values old start i v d h k lk = get_or-set_other values (start + i) k v d (λ w. omega arith) ∙ h k lk
 
 pub copy_behind : {A : Type 0} (values old : List A) (start i : ℕ) (v d : A) → ((k : ℕ) → start + i ≤ k → get_or values k d ≡ get_or old k d)
@@ -58,7 +64,8 @@ pub shares_more : (size : ℕ → ℕ) (xs first : List ℤ) (i : ℕ) (v : ℤ)
 shares_more size xs first i v l before same here k share lk e = ⊎_elim
     (λ (is : k ≡ i).
     let at : get_or (set xs i v) k (pos 0) ≡ v = ap (λ n. get_or (set xs i v) n (pos 0)) is ∙ get_or-set_at xs i i v (pos 0) refl l in
-    let sum : get_or xs i (pos 0) ≡ share *ℤ pos (size (i + 1)) = same ∙ ap (λ n. get_or first n (pos 0)) (sym is) ∙ e ∙ ap (λ n. share *ℤ pos (size (n + 1))) is in
+    let sum : get_or xs i (pos 0) ≡ share *ℤ pos (size (i + 1)) = same ∙ ap (λ n. get_or first n (pos 0)) (sym is) ∙ e
+    ∙ ap (λ n. share *ℤ pos (size (n + 1))) is in
     at ∙ here share sum)
     (λ other. get_or-set_other xs i k v (pos 0) other ∙ before k share (omega arith) e)
     (cases_eq k i)

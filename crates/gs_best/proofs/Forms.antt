@@ -43,26 +43,32 @@ form_modest a = modest (game_in a)
 pub form_moves : (a : Abstract) (q : ℕ) → q < point_count (frame_of a) → AreFewMoves (move_count (frame_of a) q)
 form_moves a q l = moves_few (game_in a) q l
 
-pub form_points : (a : Abstract) (game : ValidGame) (ps : List StoredPoint) → game ≡ game_in a → map point_of ps ≡ map own_point (frame_in game).points → length ps ≡ point_count (frame_of a)
+pub form_points : (a : Abstract) (game : ValidGame) (ps : List StoredPoint) → game ≡ game_in a → map point_of ps ≡ map own_point (frame_in game).points
+    → length ps ≡ point_count (frame_of a)
 form_points a game ps e points = length-points (game_in a) ps (points ∙ ap (λ (v : ValidGame). map own_point (frame_in v).points) e)
 
 pub form_few : (a : Abstract) → point_count (frame_of a) < 4294967296
 form_few a = omega (arith, (few (game_in a)).points)
 
-pub form_reads : (a : Abstract) (game : ValidGame) (ps : List StoredPoint) (q : ℕ) (p : StoredPoint) → game ≡ game_in a → map point_of ps ≡ map own_point (frame_in game).points
+pub form_reads : (a : Abstract) (game : ValidGame) (ps : List StoredPoint) (q : ℕ) (p : StoredPoint) → game ≡ game_in a
+    → map point_of ps ≡ map own_point (frame_in game).points
     → q < point_count (frame_of a) → p ≡ get_or ps q p → Reads (frame_of a) q p
 form_reads a game ps q p e points l is = point_reads (game_in a) ps q p (points ∙ ap (λ (v : ValidGame). map own_point (frame_in v).points) e) l is
 
 -- where a stored move leads
-leads_is : (a : Abstract) (q : ℕ) (p : StoredPoint) (m : ℕ) (x : StoredArrow) → point_of p ≡ own_point (point (frame_of a) q) → m < length p.moves.items → x ≡ get_or p.moves.items m x
+leads_is : (a : Abstract) (q : ℕ) (p : StoredPoint) (m : ℕ) (x : StoredArrow) → point_of p ≡ own_point (point (frame_of a) q) → m < length p.moves.items
+    → x ≡ get_or p.moves.items m x
     → target_of x.to ≡ leads_to (frame_of a) q m
 unfolding leads_to
 leads_is a q p m x e l is =
     let out : Arrow = record { letter = 0; to = (frame_of a).start } in
-    ap (λ (y : StoredArrow). target_of y.to) is ∙ ap (λ (y : Arrow). y.to) (sym (get_or-map arrow_of p.moves.items m x out l)) ∙ ap (λ (o : OwnPoint). (get_or o.moves m out).to) e
+    ap (λ (y : StoredArrow). target_of y.to) is ∙ ap (λ (y : Arrow). y.to) (sym (get_or-map arrow_of p.moves.items m x out l))
+    ∙ ap (λ (o : OwnPoint). (get_or o.moves m out).to) e
 
-pub form_leads : (a : Abstract) (game : ValidGame) (ps : List StoredPoint) (q : ℕ) (p : StoredPoint) (m : ℕ) (x : StoredArrow) → game ≡ game_in a → map point_of ps ≡ map own_point (frame_in game).points
-    → q < point_count (frame_of a) → p ≡ get_or ps q p → m < move_count (frame_of a) q → x ≡ get_or p.moves.items m x → target_of x.to ≡ leads_to (frame_of a) q m
+pub form_leads : (a : Abstract) (game : ValidGame) (ps : List StoredPoint) (q : ℕ) (p : StoredPoint) (m : ℕ) (x : StoredArrow) → game ≡ game_in a
+    → map point_of ps ≡ map own_point (frame_in game).points
+    → q < point_count (frame_of a) → p ≡ get_or ps q p → m < move_count (frame_of a) q → x ≡ get_or p.moves.items m x
+    → target_of x.to ≡ leads_to (frame_of a) q m
 unfolding move_count
 form_leads a game ps q p m x e points l is lm isx =
     let f = frame_of a in
@@ -70,11 +76,19 @@ form_leads a game ps q p m x e points l is lm isx =
     let out = own_point (point f q) in
     let here : point_of p ≡ own_point (point f q) =
     ap point_of is ∙ sym (get_or-map point_of ps q p out (omega (arith, length-points (game_in a) ps seen, l)))
-    ∙ ap (λ (xs : List OwnPoint). get_or xs q out) seen ∙ get_or-map own_point f.points q (record { player = 0; round = 1; one = Rattle.std.proofs.Common.None; two = Rattle.std.proofs.Common.None; moves = Rattle.std.proofs.Common.[] }) out l in
+    ∙ ap (λ (xs : List OwnPoint). get_or xs q out) seen ∙ get_or-map own_point f.points q (record {
+      player = 0;
+      round = 1;
+      one =
+          Rattle.std.proofs.Common.None;
+      two = Rattle.std.proofs.Common.None;
+      moves = Rattle.std.proofs.Common.[];
+    }) out l in
     leads_is a q p m x here (omega (arith, (form_reads a game ps q p e points l is).moves, lm)) isx
 
 -- the round of a stored end
-pub form_end : (a : Abstract) (game : ValidGame) (es : List StoredEnd) (z : ℕ) (d : StoredEnd) → game ≡ game_in a → map end_of es ≡ (frame_in game).ends → z < end_count (frame_of a)
+pub form_end : (a : Abstract) (game : ValidGame) (es : List StoredEnd) (z : ℕ) (d : StoredEnd) → game ≡ game_in a → map end_of es ≡ (frame_in game).ends
+    → z < end_count (frame_of a)
     → (get_or es z d).round ≡ round_of (frame_of a) (at_end z)
 unfolding round_of
 form_end a game es z d e ends l =
@@ -84,14 +98,16 @@ form_end a game es z d e ends l =
     let long : length es ≡ end_count f = sym (length-map es end_of) ∙ ap (λ (xs : List End). length xs) seen in
     ap (λ (x : End). x.round) (sym (get_or-map end_of es z d out (omega (arith, long, l))) ∙ ap (λ (xs : List End). get_or xs z out) seen)
 
-pub form_ends : (a : Abstract) (game : ValidGame) (es : List StoredEnd) → game ≡ game_in a → map end_of es ≡ (frame_in game).ends → length es ≡ end_count (frame_of a)
+pub form_ends : (a : Abstract) (game : ValidGame) (es : List StoredEnd) → game ≡ game_in a → map end_of es ≡ (frame_in game).ends
+    → length es ≡ end_count (frame_of a)
 form_ends a game es e ends = sym (length-map es end_of) ∙ ap (λ (xs : List End). length xs) (ends ∙ ap (λ (v : ValidGame). (frame_in v).ends) e)
 
 -- its classes
 pub form_classes : (a : Abstract) → IsSound a.lossless.now.classes.now → IsClasses (frame_of a).parents (lists_of a)
 form_classes a s = over (frame_of a) a.lossless.now.classes.now a.lossless.now.parents s
 
-pub form_class_few : (a : Abstract) → IsSound a.lossless.now.classes.now → (round : ℕ) → 0 < round → round ≤ last_round (frame_of a) → class_count (lists_of a) round ≤ 200000
+pub form_class_few : (a : Abstract) → IsSound a.lossless.now.classes.now → (round : ℕ) → 0 < round → round ≤ last_round (frame_of a)
+    → class_count (lists_of a) round ≤ 200000
 form_class_few a s round some top = class_few (game_in a) a.lossless.now.classes.now a.lossless.now.parents s round some top
 
 pub form_signals : (a : Abstract) (round : ℕ) → 0 < round → round ≤ last_round (frame_of a) → signal_count (frame_of a) round ≤ 200000
@@ -104,6 +120,8 @@ form_signals a round some top =
 pub form_rounds : (a : Abstract) (s : Signals) → s ≡ a.lossless.now.signals.now → round_count (rules_of s) ≡ last_round (frame_of a)
 form_rounds a s e = ap (λ (s : Signals). round_count (rules_of s)) e ∙ sym (last_round_of (game_of (game_in a).game))
 
-pub form_count : (a : Abstract) (s : Signals) → s ≡ a.lossless.now.signals.now → (round : ℕ) → 0 < round → round ≤ last_round (frame_of a) → length (signals (rules_of s) round) ≡ signal_count (frame_of a) round
+pub form_count : (a : Abstract) (s : Signals) → s ≡ a.lossless.now.signals.now → (round : ℕ) → 0 < round → round ≤ last_round (frame_of a)
+    → length (signals (rules_of s) round) ≡ signal_count (frame_of a) round
 form_count a s e round some top =
-    ap (λ (s : Signals). length (signals (rules_of s) round)) e ∙ sym (signal_count_is (game_of (game_in a).game) round some (let r = last_round_of (game_of (game_in a).game) in omega (arith, top, r)))
+    ap (λ (s : Signals). length (signals (rules_of s) round)) e ∙ sym (signal_count_is (game_of (game_in a).game) round some (let r =
+    last_round_of (game_of (game_in a).game) in omega (arith, top, r)))

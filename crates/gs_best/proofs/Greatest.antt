@@ -50,10 +50,12 @@ old_best W n b p h l = record {
   none_before = h.none_before;
 }
 
-pub greatest_more : (W : ℕ → ℤ) (n : ℕ) (b : ℤ) (p : ℕ) → (0 < n → IsFirstGreatest W n b p) → IsFirstGreatest W (n + 1) (cond (raises n b (W n)) (W n) b) (cond (raises n b (W n)) n p)
+pub greatest_more : (W : ℕ → ℤ) (n : ℕ) (b : ℤ) (p : ℕ) → (0 < n → IsFirstGreatest W n b p)
+    → IsFirstGreatest W (n + 1) (cond (raises n b (W n)) (W n) b) (cond (raises n b (W n)) n p)
 greatest_more W n b p h = by (n == 0) (int_lt b (W n)) refl refl
   where
-    by : (first : Bool) (less : Bool) → (n == 0) ≡ first → int_lt b (W n) ≡ less → IsFirstGreatest W (n + 1) (cond (first || less) (W n) b) (cond (first || less) n p)
+    by : (first : Bool) (less : Bool) → (n == 0) ≡ first → int_lt b (W n) ≡ less
+        → IsFirstGreatest W (n + 1) (cond (first || less) (W n) b) (cond (first || less) n p)
     by true less e f = first_one W n ((Decides-eqb n 0).0 e)
     by false true e f = new_best W n b p (h (some e)) (less_is b (W n) f)
       where
@@ -78,9 +80,11 @@ sum_one W n b h = by (n == 0) refl
         let some : 0 < n = ⊎_elim (λ (z : n ≡ 0). absurd (true≢false (sym ((Decides-eqb n 0).1 z) ∙ e))) (λ (z : n ≡ 0 → ⊥). omega arith) (cases_eq n 0) in
         ap (λ z. z +ℤ W n) (h some) ∙ ap (λ k. sum_z W (range_with_len 0 n) +ℤ W k) (sym at) ∙ sym (sum_more W 0 n)
 
-module _ (f : Frame) (lists : ClassLists) (worth : Worths) (q n count : ℕ) (all : count ≡ class_count lists (round_of f (at_point q))) (worths : List ℤ) (new : AreWorths f lists worth q n worths) where
+module _ (f : Frame) (lists : ClassLists) (worth : Worths) (q n count : ℕ) (all : count
+    ≡ class_count lists (round_of f (at_point q))) (worths : List ℤ) (new : AreWorths f lists worth q n worths) where
   -- one more move, of which the greatest is sought
-  pub greatest_step : (old_best new_best : List ℤ) (old_moves new_moves : List ℕ) → AreRaised count n worths old_best new_best old_moves new_moves → (0 < n → AreGreatest f lists worth q n old_best old_moves) → AreGreatest f lists worth q (n + 1) new_best new_moves
+  pub greatest_step : (old_best new_best : List ℤ) (old_moves new_moves : List ℕ) → AreRaised count n worths old_best new_best old_moves new_moves
+      → (0 < n → AreGreatest f lists worth q n old_best old_moves) → AreGreatest f lists worth q (n + 1) new_best new_moves
   greatest_step old_best new_best old_moves new_moves r h c lc =
       let W : ℕ → ℤ = λ m. worth q m c in
       let k = c - 1 in
@@ -94,17 +98,28 @@ module _ (f : Frame) (lists : ClassLists) (worth : Worths) (q n count : ℕ) (al
       (subst (λ x. IsFirstGreatest W (n + 1) (cond (raises n b (W n)) (W n) b) x) (sym place) (greatest_more W n b p (λ some. h some c lc)))
 
   -- the sum of the worths so far and one more worth is no large number
-  pub sum_fits : (old : List ℤ) (most more : ℕ) → most + more < 2 ^ 127 → AreSums f lists worth q n old → ((c : ℕ) → IsClass lists (round_of f (at_point q)) c → unsigned_abs (sum_z (λ m. worth q m c) (range_with_len 0 n)) ≤ most)
-      → ((c : ℕ) → IsClass lists (round_of f (at_point q)) c → unsigned_abs (worth q n c) ≤ more) → (k : ℕ) → k < count → unsigned_abs (get_or old k (pos 0) +ℤ get_or worths k (pos 0)) < 2 ^ 127
+  pub sum_fits : (old : List ℤ) (most more : ℕ) → most + more < 2 ^ 127 → AreSums f lists worth q n old
+      → ((c : ℕ) → IsClass lists (round_of f (at_point q)) c → unsigned_abs (sum_z (λ m. worth q m c) (range_with_len 0 n)) ≤ most)
+      → ((c : ℕ) → IsClass lists (round_of f (at_point q)) c → unsigned_abs (worth q n c) ≤ more) → (k : ℕ) → k < count
+      → unsigned_abs (get_or old k (pos 0) +ℤ get_or worths k (pos 0)) < 2 ^ 127
   sum_fits old most more fits sums a b k l =
       let class : IsClass lists (round_of f (at_point q)) (k + 1) = (omega arith, omega (arith, l, all)) in
       let at : k + 1 - 1 ≡ k = omega arith in
       let sum_is = ap (λ i. get_or old i (pos 0)) (sym at) ∙ sums (k + 1) class in
       let worth_is = ap (λ i. get_or worths i (pos 0)) (sym at) ∙ new (k + 1) class in
-      omega (arith, fits, a (k + 1) class, b (k + 1) class, ap unsigned_abs sum_is, ap unsigned_abs worth_is, abs_sum (get_or old k (pos 0)) (get_or worths k (pos 0)))
+      omega (
+        arith,
+        fits,
+        a (k + 1) class,
+        b (k + 1) class,
+        ap unsigned_abs sum_is,
+        ap unsigned_abs worth_is,
+        abs_sum (get_or old k (pos 0)) (get_or worths k (pos 0)),
+      )
 
   -- one more move that is added
-  pub sum_step : (old new_sums : List ℤ) → AreAdded count n worths old new_sums → (0 < n → AreSums f lists worth q n old) → AreSums f lists worth q (n + 1) new_sums
+  pub sum_step : (old new_sums : List ℤ) → AreAdded count n worths old new_sums → (0 < n → AreSums f lists worth q n old)
+      → AreSums f lists worth q (n + 1) new_sums
   sum_step old new_sums r h c lc =
       let W : ℕ → ℤ = λ m. worth q m c in
       let k = c - 1 in

@@ -24,7 +24,8 @@ neg_at_most a b l = omega (arith, ints, l)
 
 module _ (f : Frame) (r : InRange f) (lists : ClassLists) (k : IsClasses f.parents lists) (g : IsLossless f lists) (ex : IsExchanged f 1) where
   -- the first best plan is paid its total times the best total, and no raw plan is paid more
-  pub first_is_paid : (player : ℕ) → 0 < player → player ≤ 2 → IsWalked f player → (x y : Plan) → IsFirstBestPlan f lists player (lift f lists y) x → IsPaidMost f lists player (lift f lists y) (lift f lists x)
+  pub first_is_paid : (player : ℕ) → 0 < player → player ≤ 2 → IsWalked f player → (x y : Plan) → IsFirstBestPlan f lists player (lift f lists y) x
+      → IsPaidMost f lists player (lift f lists y) (lift f lists x)
   first_is_paid zero some two w x y b = absurd (omega arith)
   first_is_paid (suc zero) some two w x y b =
       let paid = first_best_paid f lists y x r w k g b in

@@ -17,7 +17,8 @@ pub record IsRow (width : ℕ → ℕ) (n q start count : ℕ) : Type 0 where
   pub within : start + count ≤ row_start width n
 
 -- a row whose start was read from a list
-pub row_read : (width : ℕ → ℕ) (n q start count : ℕ) (starts : List ℕ) → q < n → n ≤ length starts → ((k : ℕ) → k < n → get_or starts k 0 ≡ row_start width k) → start ≡ get_or starts q start → count ≡ width q → IsRow width n q start count
+pub row_read : (width : ℕ → ℕ) (n q start count : ℕ) (starts : List ℕ) → q < n → n ≤ length starts → ((k : ℕ) → k < n → get_or starts k 0 ≡ row_start width k)
+    → start ≡ get_or starts q start → count ≡ width q → IsRow width n q start count
 row_read width n q start count starts l many all read e =
     let at : start ≡ row_start width q = get_or_read starts q start (omega (arith, l, many)) read 0 ∙ all q l in
     record { start_is = at; count_is = e; within = omega (arith, at, e, sum_range_more width q, prefix_le width (q + 1) n (omega (arith, l))) }
@@ -35,7 +36,8 @@ pub place_inside : (width : ℕ → ℕ) (later q c : ℕ) → q < later → (0 
 place_inside width later q c l lc = omega (arith, sum_range_more width q, prefix_le width (q + 1) later (omega (arith, l)), lc.0, lc.1)
 
 -- what holds at each place of each row holds at all places
-pub all_places : (width : ℕ → ℕ) (P : ℕ → Type 0) (n : ℕ) → ((q k : ℕ) → q < n → k < width q → P (row_start width q + k)) → (i : ℕ) → i < row_start width n → P i
+pub all_places : (width : ℕ → ℕ) (P : ℕ → Type 0) (n : ℕ) → ((q k : ℕ) → q < n → k < width q → P (row_start width q + k)) → (i : ℕ) → i < row_start width n
+    → P i
 all_places width P zero h i l = absurd (omega (arith, l))
 all_places width P (suc n) h i l =
     let e : suc n ≡ n + 1 = omega arith in

@@ -28,7 +28,9 @@ exact together share d some is =
     let e = share -ℤ q in
     let sum : share ≡ q +ℤ e = omega (arith, ints) in
     let parts = *ℤ_comm share (pos d) ∙ ap (λ z. pos d *ℤ z) sum ∙ mul-add_right (pos d) q e in
-    let rest : e *ℤ pos d ≡ int_rem together (pos d) = let a = quot-rem together (pos d) in omega (arith, ints, a, is, parts, *ℤ_comm (pos d) q, *ℤ_comm (pos d) e) in
-    let small : unsigned_abs (int_rem together (pos d)) < d = let b = rem_below together (pos d) (let o = abs_one d in omega (arith, o, some)) in omega (arith, b, abs_one d) in
+    let rest : e *ℤ pos d ≡ int_rem together (pos d) = let a = quot-rem together (pos d) in
+    omega (arith, ints, a, is, parts, *ℤ_comm (pos d) q, *ℤ_comm (pos d) e) in
+    let small : unsigned_abs (int_rem together (pos d)) < d = let b = rem_below together (pos d) (let o = abs_one d in omega (arith, o, some)) in
+    omega (arith, b, abs_one d) in
     let none = no_multiple e (int_rem together (pos d)) d rest small in
     omega (arith, ints, abs_is e, none)

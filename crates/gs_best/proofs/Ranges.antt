@@ -28,7 +28,8 @@ sum_none u a (suc n) h =
 
 pub sum_more : (u : ℕ → ℤ) (a n : ℕ) → sum_z u (range_with_len a (n + 1)) ≡ sum_z u (range_with_len a n) +ℤ u (a + n)
 sum_more u a n =
-    ap (sum_z u) (range_append a n 1) ∙ sum_z-append u (range_with_len a n) (range_with_len (a + n) 1) ∙ ap (λ z. sum_z u (range_with_len a n) +ℤ z) (+ℤ_idr (u (a + n)))
+    ap (sum_z u) (range_append a n 1) ∙ sum_z-append u (range_with_len a n) (range_with_len (a + n) 1)
+    ∙ ap (λ z. sum_z u (range_with_len a n) +ℤ z) (+ℤ_idr (u (a + n)))
 
 -- a sum over the descendants of a signal is the sum over their run
 pub run_is : (f : Frame) (to from s first end : ℕ) (u : ℕ → ℤ) → IsRunIn f to from s first end
@@ -41,16 +42,21 @@ run_is f to from s first end u run =
     let e : n ≡ first + (mid + rest) = omega (arith, run.ordered, run.within) in
     let past : (first + mid) ≡ end = omega (arith, run.ordered) in
     let zero_on : 0 + first ≡ first = omega arith in
-    let out : (r : ℕ) → r < n → ((first ≤ r) × (r < end) → ⊥) → v r ≡ pos 0 = λ r l no. ap (λ b. cond b (u r) (pos 0)) (not_eq (ancestor f to from r) s (λ is. no (run.inside r l is))) in
+    let out : (r : ℕ) → r < n → ((first ≤ r) × (r < end) → ⊥) → v r ≡ pos 0 =
+    λ r l no. ap (λ b. cond b (u r) (pos 0)) (not_eq (ancestor f to from r) s (λ is. no (run.inside r l is))) in
     let before = sum_none v 0 first (λ m lo hi. out m (omega (arith, run.ordered, run.within)) (λ w. omega (arith, w.0))) in
-    let inner = sum_same v u first mid (λ m lo hi. ap (λ b. cond b (u m) (pos 0)) ((Decides-eqb (ancestor f to from m) s).1 (run.back m lo (omega (arith, run.ordered))))) in
+    let inner = sum_same v u first mid (λ m lo hi. ap (λ b. cond b (u m) (pos 0))
+    ((Decides-eqb (ancestor f to from m) s).1 (run.back m lo (omega (arith, run.ordered))))) in
     let behind = sum_none v (first + mid) rest (λ m lo hi. out m (omega (arith, run.ordered, run.within)) (λ w. omega (arith, w.1, run.ordered))) in
-    let split = ap (λ k. sum_z v (range_with_len 0 k)) e ∙ ap (sum_z v) (range_append 0 first (mid + rest)) ∙ sum_z-append v (range_with_len 0 first) (range_with_len (0 + first) (mid + rest)) in
-    let split2 = ap (λ k. sum_z v (range_with_len k (mid + rest))) zero_on ∙ ap (sum_z v) (range_append first mid rest) ∙ sum_z-append v (range_with_len first mid) (range_with_len (first + mid) rest) in
+    let split = ap (λ k. sum_z v (range_with_len 0 k)) e ∙ ap (sum_z v) (range_append 0 first (mid + rest))
+    ∙ sum_z-append v (range_with_len 0 first) (range_with_len (0 + first) (mid + rest)) in
+    let split2 = ap (λ k. sum_z v (range_with_len k (mid + rest))) zero_on ∙ ap (sum_z v) (range_append first mid rest)
+    ∙ sum_z-append v (range_with_len first mid) (range_with_len (first + mid) rest) in
     omega (arith, ints, split, split2, before, inner, behind)
 
 -- the size of a sum over a range
-pub range_abs : (u : ℕ → ℤ) (a n most : ℕ) → ((m : ℕ) → a ≤ m → m < a + n → unsigned_abs (u m) ≤ most) → unsigned_abs (sum_z u (range_with_len a n)) ≤ n * most
+pub range_abs : (u : ℕ → ℤ) (a n most : ℕ) → ((m : ℕ) → a ≤ m → m < a + n → unsigned_abs (u m) ≤ most)
+    → unsigned_abs (sum_z u (range_with_len a n)) ≤ n * most
 range_abs u a zero most h = omega (arith, ints)
 range_abs u a (suc n) most h =
     let here = h a (omega arith) (omega arith) in
@@ -59,8 +65,10 @@ range_abs u a (suc n) most h =
     omega (arith, here, rest, s)
 
 -- one more signal of a run
-pub run_step : (u : ℕ → ℤ) (first signal : ℕ) (sum : ℤ) → first ≤ signal → sum ≡ sum_z u (range_with_len first (signal - first)) → sum +ℤ u signal ≡ sum_z u (range_with_len first (signal + 1 - first))
+pub run_step : (u : ℕ → ℤ) (first signal : ℕ) (sum : ℤ) → first ≤ signal → sum ≡ sum_z u (range_with_len first (signal - first))
+    → sum +ℤ u signal ≡ sum_z u (range_with_len first (signal + 1 - first))
 run_step u first signal sum l is =
     let e : signal + 1 - first ≡ (signal - first) + 1 = omega arith in
     let at : first + (signal - first) ≡ signal = omega arith in
-    ap (λ z. z +ℤ u signal) is ∙ ap (λ k. sum_z u (range_with_len first (signal - first)) +ℤ u k) (sym at) ∙ sym (sum_more u first (signal - first)) ∙ ap (λ k. sum_z u (range_with_len first k)) (sym e)
+    ap (λ z. z +ℤ u signal) is ∙ ap (λ k. sum_z u (range_with_len first (signal - first)) +ℤ u k) (sym at) ∙ sym (sum_more u first (signal - first))
+    ∙ ap (λ k. sum_z u (range_with_len first k)) (sym e)

@@ -34,21 +34,26 @@ sum-same f g h (x ∷ xs) = omega (arith, sum_by-cons f x xs, sum_by-cons g x xs
 
 module _ (f : Frame) (p : ℕ) (w : IsWalked f p) where
   -- a number for each point of its round, added up round by round
-  by_rounds : (c : ℕ → ℕ) → sum_by (λ j. points_in f j * c j) (range_with_len 1 (last_round f)) ≡ sum_by (λ q. c (round_of f (at_point q))) (range_with_len 0 (point_count f))
+  by_rounds : (c : ℕ → ℕ) → sum_by (λ j. points_in f j * c j) (range_with_len 1 (last_round f))
+      ≡ sum_by (λ q. c (round_of f (at_point q))) (range_with_len 0 (point_count f))
   by_rounds c =
       let qs = range_with_len 0 (point_count f) in
       let js = range_with_len 1 (last_round f) in
       let at : ℕ → ℕ = λ q. round_of f (at_point q) in
       let left =
-      sum_z-same (λ q. pos 1 *ℤ pos (c (at q))) (λ q. pos (c (at q))) (λ q. omega (arith, ints, product_is (pos 1) (pos (c (at q))))) qs ∙ sum_z-pos (λ q. c (at q)) qs in
-      let right = sum_z-same (λ j. pos (c j) *ℤ pos (points_in f j)) (λ j. pos (points_in f j * c j)) (λ j. plain_product (c j) (points_in f j) ∙ ap pos (mul_comm (c j) (points_in f j))) js ∙ sum_z-pos (λ j. points_in f j * c j) js in
+      sum_z-same (λ q. pos 1 *ℤ pos (c (at q))) (λ q. pos (c (at q))) (λ q. omega (arith, ints, product_is (pos 1) (pos (c (at q))))) qs
+      ∙ sum_z-pos (λ q. c (at q)) qs in
+      let right = sum_z-same (λ j. pos (c j) *ℤ pos (points_in f j)) (λ j. pos (points_in f j * c j)) (λ j. plain_product (c j) (points_in f j)
+      ∙ ap pos (mul_comm (c j) (points_in f j))) js ∙ sum_z-pos (λ j. points_in f j * c j) js in
       let both =
       regroup_weights eqb Decides-eqb at (λ q. 1) (λ j. pos (c j)) js qs
-      (All-range (λ q. count_by (eqb (at q)) js ≡ 1) (point_count f) (λ q l. range_once (at q) 1 (last_round f) (w.some_round q l) (let t = w.point_in q l in omega arith))) in
+      (All-range (λ q. count_by (eqb (at q)) js ≡ 1) (point_count f) (λ q l. range_once (at q) 1 (last_round f) (w.some_round q l) (let t = w.point_in q l in
+      omega arith))) in
       sym (pos_one (sum_by (λ q. c (at q)) qs) (sum_by (λ j. points_in f j * c j) js) (sym left ∙ both ∙ right))
 
   pub value_room_is : (lists : ClassLists) → value_room (sizes_of f lists) ≡ start_of f lists (point_count f)
-  value_room_is lists = sum_by-map (λ (n : ℕ × ℕ). n.0 * n.1) (λ j. (points_in f j, class_count lists j)) (range_with_len 1 (last_round f)) ∙ by_rounds (class_count lists)
+  value_room_is lists = sum_by-map (λ (n : ℕ × ℕ). n.0 * n.1) (λ j. (points_in f j, class_count lists j)) (range_with_len 1 (last_round f))
+      ∙ by_rounds (class_count lists)
 
   pub point_room_is : (lists : ClassLists) → point_room (sizes_of f lists) ≡ point_count f
   point_room_is lists =
@@ -87,19 +92,23 @@ by_wide f lists wide h i d l =
 lengths_by : (s : Scratch) (one other : ℕ → Type 0) → ((wide : ℕ) → one wide → other wide) → AreOfLength one s → AreOfLength other s
 lengths_by s one other h r = record { numbers = h _ r.numbers; ends = h _ r.ends; worths = h _ r.worths; best = h _ r.best; moves = h _ r.moves }
 
-pub roomy : (f : Frame) (lists : ClassLists) → IsWalked f 1 → (t : Table) (s : Scratch) → HoldsAll f lists t → HasRoom f lists s → IsRoomy (sizes_of f lists) t s
+pub roomy : (f : Frame) (lists : ClassLists) → IsWalked f 1 → (t : Table) (s : Scratch) → HoldsAll f lists t → HasRoom f lists s
+    → IsRoomy (sizes_of f lists) t s
 roomy f lists w t s h r = record {
-  table = subst (λ n. Holds n (value_room (sizes_of f lists)) t) (sym (point_room_is f 1 w lists)) (subst (λ n. Holds (point_count f) n t) (sym (value_room_is f 1 w lists)) h);
+  table = subst (λ n. Holds n (value_room (sizes_of f lists)) t) (sym (point_room_is f 1 w lists))
+      (subst (λ n. Holds (point_count f) n t) (sym (value_room_is f 1 w lists)) h);
   rows = lengths_by s (IsWide f lists) (IsWideFor (sizes_of f lists)) (by_wide f lists) r;
 }
 
 pub holds_all : (f : Frame) (lists : ClassLists) → IsWalked f 1 → (t : Table) (s : Scratch) → IsRoomy (sizes_of f lists) t s → HoldsAll f lists t
-holds_all f lists w t s r = subst (λ n. Holds (point_count f) n t) (value_room_is f 1 w lists) (subst (λ n. Holds n (value_room (sizes_of f lists)) t) (point_room_is f 1 w lists) r.table)
+holds_all f lists w t s r = subst (λ n. Holds (point_count f) n t) (value_room_is f 1 w lists)
+    (subst (λ n. Holds n (value_room (sizes_of f lists)) t) (point_room_is f 1 w lists) r.table)
 
 pub has_room : (f : Frame) (lists : ClassLists) (t : Table) (s : Scratch) → IsRoomy (sizes_of f lists) t s → HasRoom f lists s
 has_room f lists t s r = lengths_by s (IsWideFor (sizes_of f lists)) (IsWide f lists) (wide_by f lists) r.rows
 
 -- a row as it stands after it was written through a slice
-pub written_wide : {A : Type 0} (f : Frame) (lists : ClassLists) (n : ℕ) (old row : List A) → length old ≡ n → length row ≡ length old → IsWide f lists (length old) → IsWide f lists (length (take n (row ++ drop (length row) old)))
+pub written_wide : {A : Type 0} (f : Frame) (lists : ClassLists) (n : ℕ) (old row : List A) → length old ≡ n → length row ≡ length old
+    → IsWide f lists (length old) → IsWide f lists (length (take n (row ++ drop (length row) old)))
 written_wide f lists n old row full same wide j some top =
     omega (arith, wide j some top, same, ap length (written n row (drop (length row) old) (same ∙ full)))

@@ -17,16 +17,21 @@ use Rattle.gs_seq.proofs.RowLaws.{size_is, size_some}
 use Rattle.gs_seq.specs.Payoffs.{end_sum}
 
 -- the class of a first member
-pub first_class : (f : Frame) (lists : ClassLists) → IsClasses f.parents lists → (j c : ℕ) → 0 < j → j ≤ last_round f → IsClass lists j c → class_of lists j (first_member lists j c) ≡ c
+pub first_class : (f : Frame) (lists : ClassLists) → IsClasses f.parents lists → (j c : ℕ) → 0 < j → j ≤ last_round f → IsClass lists j c
+    → class_of lists j (first_member lists j c) ≡ c
 first_class f lists k j c some top lc = first_member_of (list_of lists j) c (k.numbered j some top) lc.0 lc.1
 
 -- a class has members
-pub some_member : (f : Frame) (lists : ClassLists) → IsClasses f.parents lists → (j c : ℕ) → 0 < j → j ≤ last_round f → IsClass lists j c → 0 < class_size lists j c
-some_member f lists k j c some top lc = size_some lists j c (first_member lists j c) (first_in (list_of lists j) c (k.numbered j some top) lc.0 lc.1) (first_class f lists k j c some top lc)
+pub some_member : (f : Frame) (lists : ClassLists) → IsClasses f.parents lists → (j c : ℕ) → 0 < j → j ≤ last_round f → IsClass lists j c
+    → 0 < class_size lists j c
+some_member f lists k j c some top lc = size_some lists j c (first_member lists j c) (first_in (list_of lists j) c (k.numbered j some top) lc.0 lc.1)
+    (first_class f lists k j c some top lc)
 
 -- all members of a class together gain so many times what its first member does
-pub end_share : (f : Frame) → InRange f → (lists : ClassLists) → IsClasses f.parents lists → IsLossless f lists → (p : ℕ) → IsWalked f p → (y : Plan) (z c : ℕ) → z < end_count f → IsClass lists (round_of f (at_end z)) c
-    → end_sum f lists p y z c ≡ end_worth f p (lift f lists y) z (first_member lists (round_of f (at_end z)) c) *ℤ pos (class_size lists (round_of f (at_end z)) c)
+pub end_share : (f : Frame) → InRange f → (lists : ClassLists) → IsClasses f.parents lists → IsLossless f lists → (p : ℕ) → IsWalked f p
+    → (y : Plan) (z c : ℕ) → z < end_count f → IsClass lists (round_of f (at_end z)) c
+    → end_sum f lists p y z c ≡ end_worth f p (lift f lists y) z (first_member lists (round_of f (at_end z)) c)
+    *ℤ pos (class_size lists (round_of f (at_end z)) c)
 end_share f r lists k g p w y z c lz lc =
     let h = is_table f r in
     let kn = known_from f p r w in
@@ -37,5 +42,10 @@ end_share f r lists k g p w y z c lz lc =
     let ls = member_in f lists k j c some top lc in
     let worth = end_worth f p (lift f lists y) z in
     sym (end_total_by_pairs f h lists (grouping_from f lists k) p kn y z c lz)
-    ∙ class_total_is f lists j worth c (worth s) (λ t lt is. end_alike f h lists g p kn y z t s lz (record { first_in = lt; second_in = ls; same = is ∙ sym (first_class f lists k j c some top lc) }))
+    ∙ class_total_is f lists j worth c (worth s) (λ t lt is. end_alike f h lists g p kn y z t s lz (record {
+      first_in =
+          lt;
+      second_in = ls;
+      same = is ∙ sym (first_class f lists k j c some top lc);
+    }))
     ∙ ap (λ n. worth s *ℤ pos n) (sym (size_is f lists j c (k.lengths j some top)))

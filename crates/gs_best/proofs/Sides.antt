@@ -52,41 +52,56 @@ module _ (d : Deviator) (s : IsSound d.form.now.lossless.now.classes.now) where
   classes = form_classes d.form.now s
 
   module _ (values : List ℤ) (picks : List ℕ) (from : ℕ) (h : IsKnown d values picks from) where
-    pub known_value : (t : Target) (c : ℕ) → IsInside (frame d) t → IsFrom from t → IsClass (lists d) (round_of (frame d) t) c → unsigned_abs (values_in d values t c) ≤ 2 ^ 87
+    pub known_value : (t : Target) (c : ℕ) → IsInside (frame d) t → IsFrom from t → IsClass (lists d) (round_of (frame d) t) c
+        → unsigned_abs (values_in d values t c) ≤ 2 ^ 87
     known_value =
-        value_small (frame d) (form_in_range d.form.now) (lists d) classes (form_lossless d.form.now) d.player (side_walked d) (other_walked d) (form_modest d.form.now) (class_plan (frame d) (lists d) d.other.now) d.plan.plan.plan
+        value_small (frame d) (form_in_range d.form.now) (lists d) classes (form_lossless d.form.now) d.player (side_walked d) (other_walked d)
+        (form_modest d.form.now) (class_plan (frame d) (lists d) d.other.now) d.plan.plan.plan
         (values_in d values) (moves_of (frame d) (lists d) picks) from h (λ z c l lc. refl)
 
-    pub known_worth : (q m c : ℕ) → q < point_count (frame d) → from ≤ q + 1 → m < move_count (frame d) q → IsClass (lists d) (round_of (frame d) (at_point q)) c → unsigned_abs (class_worth (frame d) (lists d) (values_in d values) q m c) ≤ 2 ^ 87
+    pub known_worth : (q m c : ℕ) → q < point_count (frame d) → from ≤ q + 1 → m < move_count (frame d) q
+        → IsClass (lists d) (round_of (frame d) (at_point q)) c → unsigned_abs (class_worth (frame d) (lists d) (values_in d values) q m c) ≤ 2 ^ 87
     known_worth =
-        worth_small (frame d) (form_in_range d.form.now) (lists d) classes (form_lossless d.form.now) d.player (side_walked d) (other_walked d) (form_modest d.form.now) (class_plan (frame d) (lists d) d.other.now) d.plan.plan.plan
+        worth_small (frame d) (form_in_range d.form.now) (lists d) classes (form_lossless d.form.now) d.player (side_walked d) (other_walked d)
+        (form_modest d.form.now) (class_plan (frame d) (lists d) d.other.now) d.plan.plan.plan
         (values_in d values) (moves_of (frame d) (lists d) picks) from h (λ z c l lc. refl)
 
-    pub known_worths : (q c n : ℕ) → q < point_count (frame d) → from ≤ q + 1 → n ≤ move_count (frame d) q → IsClass (lists d) (round_of (frame d) (at_point q)) c
+    pub known_worths : (q c n : ℕ) → q < point_count (frame d) → from ≤ q + 1 → n ≤ move_count (frame d) q
+        → IsClass (lists d) (round_of (frame d) (at_point q)) c
         → unsigned_abs (sum_z (λ m. class_worth (frame d) (lists d) (values_in d values) q m c) (range_with_len 0 n)) ≤ 2 ^ 87
     known_worths =
-        worths_small (frame d) (form_in_range d.form.now) (lists d) classes (form_lossless d.form.now) d.player (side_walked d) (other_walked d) (form_modest d.form.now) (class_plan (frame d) (lists d) d.other.now) d.plan.plan.plan
+        worths_small (frame d) (form_in_range d.form.now) (lists d) classes (form_lossless d.form.now) d.player (side_walked d) (other_walked d)
+        (form_modest d.form.now) (class_plan (frame d) (lists d) d.other.now) d.plan.plan.plan
         (values_in d values) (moves_of (frame d) (lists d) picks) from h (λ z c l lc. refl)
 
     pub known_start : from ≡ 0 → unsigned_abs (start_sum (frame d) (spread (frame d) (lists d) (values_in d values))) ≤ 2 ^ 87
     known_start =
-        start_small (frame d) (form_in_range d.form.now) (lists d) classes (form_lossless d.form.now) d.player (side_walked d) (other_walked d) (form_modest d.form.now) (class_plan (frame d) (lists d) d.other.now) d.plan.plan.plan
+        start_small (frame d) (form_in_range d.form.now) (lists d) classes (form_lossless d.form.now) d.player (side_walked d) (other_walked d)
+        (form_modest d.form.now) (class_plan (frame d) (lists d) d.other.now) d.plan.plan.plan
         (values_in d values) (moves_of (frame d) (lists d) picks) from h (λ z c l lc. refl)
 
     -- the values of a point, in a list where they stand from a place on, are modest
-    pub point_modest : (p start count : ℕ) (list : List ℤ) → p < point_count (frame d) → from ≤ p → IsRow (classes_at (frame d) (lists d)) (point_count (frame d)) p start count → list ≡ values → AreModest list start count
+    pub point_modest : (p start count : ℕ) (list : List ℤ) → p < point_count (frame d) → from ≤ p
+        → IsRow (classes_at (frame d) (lists d)) (point_count (frame d)) p start count → list ≡ values → AreModest list start count
     point_modest p start count list inside later row same k l =
         let m = known_value (at_point p) (k + 1) inside later (omega arith, omega (arith, l, row.count_is)) in
         let place : start_of (frame d) (lists d) p + (k + 1 - 1) ≡ start + k = omega (arith, row.start_is) in
         omega (arith, m, ap (λ i. unsigned_abs (get_or values i (pos 0))) place, ap (λ xs. unsigned_abs (get_or xs (start + k) (pos 0))) same)
 
     -- and so is what an end is worth
-    pub end_modest : (z count : ℕ) (list row : List ℤ) → z < end_count (frame d) → count ≡ class_count (lists d) (round_of (frame d) (at_end z)) → IsEndRow (frame d) (lists d) d.player (against d) z row → list ≡ row → AreModest list 0 count
+    pub end_modest : (z count : ℕ) (list row : List ℤ) → z < end_count (frame d) → count ≡ class_count (lists d) (round_of (frame d) (at_end z))
+        → IsEndRow (frame d) (lists d) d.player (against d) z row → list ≡ row → AreModest list 0 count
     end_modest z count list row inside all worths same k l =
         let class : IsClass (lists d) (round_of (frame d) (at_end z)) (k + 1) = (omega arith, omega (arith, l, all)) in
         let m = known_value (at_end z) (k + 1) inside tt class in
         let place : k + 1 - 1 ≡ 0 + k = omega arith in
-        omega (arith, m, ap unsigned_abs (worths (k + 1) class), ap (λ i. unsigned_abs (get_or row i (pos 0))) place, ap (λ xs. unsigned_abs (get_or xs (0 + k) (pos 0))) same)
+        omega (
+          arith,
+          m,
+          ap unsigned_abs (worths (k + 1) class),
+          ap (λ i. unsigned_abs (get_or row i (pos 0))) place,
+          ap (λ xs. unsigned_abs (get_or xs (0 + k) (pos 0))) same,
+        )
 
 -- a later point to which a move leads
 pub record IsNextPoint (d : Deviator) (q next : ℕ) : Type 0 where
@@ -94,7 +109,8 @@ pub record IsNextPoint (d : Deviator) (q next : ℕ) : Type 0 where
   pub later : q + 1 ≤ next
   pub onward : round_of (frame d) (at_point q) ≤ round_of (frame d) (at_point next)
 
-pub next_point : (d : Deviator) (q m next : ℕ) → q < point_count (frame d) → m < move_count (frame d) q → leads_to (frame d) q m ≡ at_point next → IsNextPoint d q next
+pub next_point : (d : Deviator) (q m next : ℕ) → q < point_count (frame d) → m < move_count (frame d) q → leads_to (frame d) q m ≡ at_point next
+    → IsNextPoint d q next
 next_point d q m next lq lm e =
     let f = frame d in
     let w = side_walked d in

@@ -33,7 +33,13 @@ use Rattle.gs_best.proofs.Weights.{own_le, own_weight, weight_alike, weight_all,
 
 scaled_sum : {X : Type 0} (u : ℕ) (a : X → ℕ) (xs : List X) → sum_by (λ x. u * a x) xs ≡ u * sum_by a xs
 scaled_sum u a [] = omega arith
-scaled_sum u a (x ∷ xs) = omega (arith, sum_by-cons (λ x. u * a x) x xs, scaled_sum u a xs, ap (λ n. u * n) (sum_by-cons a x xs), mul-add u (a x) (sum_by a xs))
+scaled_sum u a (x ∷ xs) = omega (
+  arith,
+  sum_by-cons (λ x. u * a x) x xs,
+  scaled_sum u a xs,
+  ap (λ n. u * n) (sum_by-cons a x xs),
+  mul-add u (a x) (sum_by a xs),
+)
 
 -- the same with a factor behind
 sum_scaled : {X : Type 0} (a : X → ℕ) (u : ℕ) (xs : List X) → sum_by (λ x. a x * u) xs ≡ sum_by a xs * u
@@ -59,7 +65,8 @@ guarded_abs true z n l = l
 guarded_abs false z n l = omega (arith, ints, abs_is (pos 0))
 
 -- a deal's part of what an end is worth
-part_abs : (b : Bool) (w n total : ℕ) (pay : ℤ) → n ≤ total → unsigned_abs pay ≤ 4096 → unsigned_abs (cond b (pos (w * n) *ℤ pay) (pos 0)) ≤ (total * 4096) * cond b w 0
+part_abs : (b : Bool) (w n total : ℕ) (pay : ℤ) → n ≤ total → unsigned_abs pay ≤ 4096
+    → unsigned_abs (cond b (pos (w * n) *ℤ pay) (pos 0)) ≤ (total * 4096) * cond b w 0
 part_abs true w n total pay l m =
     let e = unsigned_abs-mul (pos (w * n)) pay in
     let s : unsigned_abs (pos (w * n)) ≡ w * n = omega (arith, ints, abs_is (pos (w * n))) in
@@ -78,7 +85,8 @@ member_le f a (suc n) m lo hi =
     (λ (other : a ≡ m → ⊥). let r = member_le f (a + 1) n m (omega arith) (omega arith) in omega (arith, c, r))
     (cases_eq a m)
 
-module _ (f : Frame) (r : InRange f) (lists : ClassLists) (k : IsClasses f.parents lists) (g : IsLossless f lists) (p : ℕ) (w : IsWalked f p) (o : IsWalked f (other_player p)) (b : IsModest f) (y : Plan)
+module _ (f : Frame) (r : InRange f) (lists : ClassLists) (k : IsClasses f.parents lists) (g : IsLossless f lists) (p : ℕ) (w : IsWalked f p)
+    (o : IsWalked f (other_player p)) (b : IsModest f) (y : Plan)
     (plan : IsClassPlan f lists (other_player p) y) where
   tabled : Tabled f
   tabled = is_table f r
@@ -106,9 +114,12 @@ module _ (f : Frame) (r : InRange f) (lists : ClassLists) (k : IsClasses f.paren
   end_le z s l =
       let j = round_of f (at_end z) in
       let number = λ (d : Deal). number_at_end f (other_player p) (lift f lists y) z (at_round f j d.two) in
-      let a = abs_all (λ (d : Deal). cond (at_round f j d.one == s) (pos (d.weight * number d) *ℤ payoff_to f p z d.outcome) (pos 0)) (λ (d : Deal). unit * cond (at_round f j d.one == s) d.weight 0) f.deals
-      (λ i d li. part_abs (at_round f j (get_or f.deals i d).one == s) (get_or f.deals i d).weight (number (get_or f.deals i d)) y.total (payoff_to f p z (get_or f.deals i d).outcome)
-      (number_le z (at_round f j (get_or f.deals i d).two) l (tabled.kept (last_round f) j (get_or f.deals i d).two (w.end_round z l) (w.end_in z l) (tabled.dealt_two i d li))) (b.pays p z i d l li)) in
+      let a = abs_all (λ (d : Deal). cond (at_round f j d.one == s) (pos (d.weight * number d) *ℤ payoff_to f p z d.outcome) (pos 0))
+      (λ (d : Deal). unit * cond (at_round f j d.one == s) d.weight 0) f.deals
+      (λ i d li. part_abs (at_round f j (get_or f.deals i d).one == s) (get_or f.deals i d).weight (number (get_or f.deals i d)) y.total
+      (payoff_to f p z (get_or f.deals i d).outcome)
+      (number_le z (at_round f j (get_or f.deals i d).two) l (tabled.kept (last_round f) j (get_or f.deals i d).two (w.end_round z l) (w.end_in z l)
+      (tabled.dealt_two i d li))) (b.pays p z i d l li)) in
       omega (arith, a, scaled_sum unit (λ (d : Deal). cond (at_round f j d.one == s) d.weight 0) f.deals)
 
   -- the bound of a value at a position, for the deals of a signal
@@ -117,8 +128,10 @@ module _ (f : Frame) (r : InRange f) (lists : ClassLists) (k : IsClasses f.paren
 
   -- what a move is worth, where the values at its target are bounded
   move_le : (v : Values) (q m c : ℕ) → q < point_count f → m < move_count f q → IsClass lists (round_of f (at_point q)) c
-      → ((e : ℕ) → IsClass lists (round_of f (leads_to f q m)) e → unsigned_abs (v (leads_to f q m) e) ≤ most (leads_to f q m) (first_member lists (round_of f (leads_to f q m)) e))
-      → unsigned_abs (class_worth f lists v q m c) ≤ unit * (ends_below f (leads_to f q m) * own_weight f (round_of f (at_point q)) (first_member lists (round_of f (at_point q)) c))
+      → ((e : ℕ) → IsClass lists (round_of f (leads_to f q m)) e → unsigned_abs (v (leads_to f q m) e)
+      ≤ most (leads_to f q m) (first_member lists (round_of f (leads_to f q m)) e))
+      → unsigned_abs (class_worth f lists v q m c) ≤ unit * (ends_below f (leads_to f q m)
+      * own_weight f (round_of f (at_point q)) (first_member lists (round_of f (at_point q)) c))
   move_le v q m c lq lm lc h =
       let j = round_of f (at_point q) in let i = round_of f (leads_to f q m) in
       let s = first_member lists j c in
@@ -128,15 +141,19 @@ module _ (f : Frame) (r : InRange f) (lists : ClassLists) (k : IsClasses f.paren
       let e = ends_below f (leads_to f q m) in
       let later : 0 < i = omega (arith, on, some) in
       let below = λ (x : ℕ). ancestor f i j x == s in
-      let each : (x : ℕ) → x < signal_count f i → unsigned_abs (cond (below x) (v (leads_to f q m) (class_of lists i x)) (pos 0)) ≤ unit * (e * cond (below x) (own_weight f i x) 0) = λ x lx.
+      let each : (x : ℕ) → x < signal_count f i → unsigned_abs (cond (below x) (v (leads_to f q m) (class_of lists i x)) (pos 0))
+      ≤ unit * (e * cond (below x) (own_weight f i x) 0) = λ x lx.
       (let first = to_first f lists (firsts_from f lists k) i x lx in
       let same = weight_alike f tabled i later top lists g x (first_member lists i (class_of lists i x)) first in
       let a = h (class_of lists i x) (class_in f lists k i x later top lx) in
-      let a' : unsigned_abs (v (leads_to f q m) (class_of lists i x)) ≤ unit * (e * own_weight f i x) = subst (λ n. unsigned_abs (v (leads_to f q m) (class_of lists i x)) ≤ unit * (e * n)) (sym same) a in
+      let a' : unsigned_abs (v (leads_to f q m) (class_of lists i x)) ≤ unit * (e * own_weight f i x) =
+      subst (λ n. unsigned_abs (v (leads_to f q m) (class_of lists i x)) ≤ unit * (e * n)) (sym same) a in
       let t = guarded_abs (below x) (v (leads_to f q m) (class_of lists i x)) (unit * (e * own_weight f i x)) a' in
       omega (arith, t, guarded (below x) unit e (own_weight f i x))) in
-      let all = abs_all (λ x. cond (below x) (v (leads_to f q m) (class_of lists i x)) (pos 0)) (λ x. unit * (e * cond (below x) (own_weight f i x) 0)) (signals_in f i)
-      (All-range (λ x. unsigned_abs (cond (below x) (v (leads_to f q m) (class_of lists i x)) (pos 0)) ≤ unit * (e * cond (below x) (own_weight f i x) 0)) (signal_count f i) each) in
+      let all = abs_all (λ x. cond (below x) (v (leads_to f q m) (class_of lists i x)) (pos 0)) (λ x. unit * (e * cond (below x) (own_weight f i x) 0))
+      (signals_in f i)
+      (All-range (λ x. unsigned_abs (cond (below x) (v (leads_to f q m) (class_of lists i x)) (pos 0))
+      ≤ unit * (e * cond (below x) (own_weight f i x) 0)) (signal_count f i) each) in
       omega (
         arith,
         all,
@@ -147,13 +164,16 @@ module _ (f : Frame) (r : InRange f) (lists : ClassLists) (k : IsClasses f.paren
 
   -- the same over all moves
   moves_le : (v : Values) (q c n : ℕ) → q < point_count f → n ≤ move_count f q → IsClass lists (round_of f (at_point q)) c
-      → ((m e : ℕ) → m < move_count f q → IsClass lists (round_of f (leads_to f q m)) e → unsigned_abs (v (leads_to f q m) e) ≤ most (leads_to f q m) (first_member lists (round_of f (leads_to f q m)) e))
+      → ((m e : ℕ) → m < move_count f q → IsClass lists (round_of f (leads_to f q m)) e
+      → unsigned_abs (v (leads_to f q m) e) ≤ most (leads_to f q m) (first_member lists (round_of f (leads_to f q m)) e))
       → unsigned_abs (sum_z (λ m. class_worth f lists v q m c) (range_with_len 0 n))
-      ≤ unit * (sum_by (λ m. ends_below f (leads_to f q m)) (range_with_len 0 n) * own_weight f (round_of f (at_point q)) (first_member lists (round_of f (at_point q)) c))
+      ≤ unit * (sum_by (λ m. ends_below f (leads_to f q m)) (range_with_len 0 n)
+      * own_weight f (round_of f (at_point q)) (first_member lists (round_of f (at_point q)) c))
   moves_le v q c n lq ln lc h =
       let own = own_weight f (round_of f (at_point q)) (first_member lists (round_of f (at_point q)) c) in
       let all = abs_all (λ m. class_worth f lists v q m c) (λ m. unit * (ends_below f (leads_to f q m) * own)) (range_with_len 0 n)
-      (All-range (λ m. unsigned_abs (class_worth f lists v q m c) ≤ unit * (ends_below f (leads_to f q m) * own)) n (λ m lm. move_le v q m c lq (omega (arith, lm, ln)) lc (λ e le. h m e (omega (arith, lm, ln)) le))) in
+      (All-range (λ m. unsigned_abs (class_worth f lists v q m c) ≤ unit * (ends_below f (leads_to f q m) * own)) n
+      (λ m lm. move_le v q m c lq (omega (arith, lm, ln)) lc (λ e le. h m e (omega (arith, lm, ln)) le))) in
       omega (
         arith,
         all,
@@ -162,8 +182,10 @@ module _ (f : Frame) (r : InRange f) (lists : ClassLists) (k : IsClasses f.paren
       )
 
   module _ (v : Values) (move : ℕ → ℕ → ℕ) (from : ℕ) (best : IsBestFrom f lists p v move from)
-      (at_ends : (z c : ℕ) → z < end_count f → IsClass lists (round_of f (at_end z)) c → v (at_end z) c ≡ end_worth f p (lift f lists y) z (first_member lists (round_of f (at_end z)) c)) where
-    value_le : (n q : ℕ) (t : Target) (c : ℕ) → point_count f ≤ q + n → from ≤ q → IsInside f t → IsFrom q t → IsClass lists (round_of f t) c → unsigned_abs (v t c) ≤ most t (first_member lists (round_of f t) c)
+      (at_ends : (z c : ℕ) → z < end_count f → IsClass lists (round_of f (at_end z)) c
+      → v (at_end z) c ≡ end_worth f p (lift f lists y) z (first_member lists (round_of f (at_end z)) c)) where
+    value_le : (n q : ℕ) (t : Target) (c : ℕ) → point_count f ≤ q + n → from ≤ q → IsInside f t → IsFrom q t → IsClass lists (round_of f t) c
+        → unsigned_abs (v t c) ≤ most t (first_member lists (round_of f t) c)
     value_le n q (at_end z) c many lo i a lc =
         let s = first_member lists (round_of f (at_end z)) c in
         let h = subst (λ x. unsigned_abs x ≤ unit * own_weight f (round_of f (at_end z)) s) (sym (at_ends z c i lc)) (end_le z s i) in
@@ -174,7 +196,8 @@ module _ (f : Frame) (r : InRange f) (lists : ClassLists) (k : IsClasses f.paren
         let j = round_of f (at_point t) in
         let own = own_weight f j (first_member lists j c) in
         let later : from ≤ t = omega arith in
-        let next : (m e : ℕ) → m < move_count f t → IsClass lists (round_of f (leads_to f t m)) e → unsigned_abs (v (leads_to f t m) e) ≤ most (leads_to f t m) (first_member lists (round_of f (leads_to f t m)) e) = λ m e lm le.
+        let next : (m e : ℕ) → m < move_count f t → IsClass lists (round_of f (leads_to f t m)) e
+        → unsigned_abs (v (leads_to f t m) e) ≤ most (leads_to f t m) (first_member lists (round_of f (leads_to f t m)) e) = λ m e lm le.
         value_le n (t + 1) (leads_to f t m) e (omega arith) (omega arith) (w.inside t m i lm) (w.later t m i lm) le in
         let all = below_point f p w t i in
         ⊎_elim
@@ -182,7 +205,8 @@ module _ (f : Frame) (r : InRange f) (lists : ClassLists) (k : IsClasses f.paren
         let m = move t c in
         let lm = best.in_range t c later i his lc in
         let h = move_le v t m c i lm lc (λ e le. next m e lm le) in
-        let less : ends_below f (leads_to f t m) ≤ ends_below f (at_point t) = omega (arith, all, member_le (λ m. ends_below f (leads_to f t m)) 0 (move_count f t) m (omega arith) (omega (arith, lm))) in
+        let less : ends_below f (leads_to f t m) ≤ ends_below f (at_point t) =
+        omega (arith, all, member_le (λ m. ends_below f (leads_to f t m)) 0 (move_count f t) m (omega arith) (omega (arith, lm))) in
         let up = mul-le-mul_left unit (mul-le-mul_right own less) in
         omega (arith, h, ap unsigned_abs (best.reached t c later i his lc), up))
         (λ (other : player_at f t ≡ p → ⊥).
@@ -213,20 +237,34 @@ module _ (f : Frame) (r : InRange f) (lists : ClassLists) (k : IsClasses f.paren
         omega (arith, h, figures (ends_below f t) (own_weight f (round_of f t) s) (below_few t i) (own_few (round_of f t) s))
 
     -- what a move of a point is worth, where all later points are known
-    pub worth_small : (q m c : ℕ) → q < point_count f → from ≤ q + 1 → m < move_count f q → IsClass lists (round_of f (at_point q)) c → unsigned_abs (class_worth f lists v q m c) ≤ 2 ^ 87
+    pub worth_small : (q m c : ℕ) → q < point_count f → from ≤ q + 1 → m < move_count f q → IsClass lists (round_of f (at_point q)) c
+        → unsigned_abs (class_worth f lists v q m c) ≤ 2 ^ 87
     worth_small q m c lq lo lm lc =
         let s = first_member lists (round_of f (at_point q)) c in
-        let h = move_le v q m c lq lm lc (λ e le. value_le (point_count f) (q + 1) (leads_to f q m) e (omega arith) lo (w.inside q m lq lm) (w.later q m lq lm) le) in
-        omega (arith, h, figures (ends_below f (leads_to f q m)) (own_weight f (round_of f (at_point q)) s) (below_few (leads_to f q m) (w.inside q m lq lm)) (own_few (round_of f (at_point q)) s))
+        let h = move_le v q m c lq lm lc (λ e le. value_le (point_count f) (q + 1) (leads_to f q m) e (omega arith) lo (w.inside q m lq lm)
+        (w.later q m lq lm) le) in
+        omega (
+          arith,
+          h,
+          figures (ends_below f (leads_to f q m)) (own_weight f (round_of f (at_point q)) s) (below_few (leads_to f q m) (w.inside q m lq lm))
+              (own_few (round_of f (at_point q)) s),
+        )
 
     -- worths of the first moves of a point, added up
-    pub worths_small : (q c n : ℕ) → q < point_count f → from ≤ q + 1 → n ≤ move_count f q → IsClass lists (round_of f (at_point q)) c → unsigned_abs (sum_z (λ m. class_worth f lists v q m c) (range_with_len 0 n)) ≤ 2 ^ 87
+    pub worths_small : (q c n : ℕ) → q < point_count f → from ≤ q + 1 → n ≤ move_count f q → IsClass lists (round_of f (at_point q)) c
+        → unsigned_abs (sum_z (λ m. class_worth f lists v q m c) (range_with_len 0 n)) ≤ 2 ^ 87
     worths_small q c n lq lo ln lc =
         let s = first_member lists (round_of f (at_point q)) c in
-        let h = moves_le v q c n lq ln lc (λ m e lm le. value_le (point_count f) (q + 1) (leads_to f q m) e (omega arith) lo (w.inside q m lq lm) (w.later q m lq lm) le) in
+        let h = moves_le v q c n lq ln lc (λ m e lm le. value_le (point_count f) (q + 1) (leads_to f q m) e (omega arith) lo (w.inside q m lq lm)
+        (w.later q m lq lm) le) in
         let few : sum_by (λ m. ends_below f (leads_to f q m)) (range_with_len 0 n) ≤ 8192 =
         omega (arith, prefix_le (λ m. ends_below f (leads_to f q m)) n (move_count f q) ln, below_point f p w q lq, below_few (at_point q) lq) in
-        omega (arith, h, figures (sum_by (λ m. ends_below f (leads_to f q m)) (range_with_len 0 n)) (own_weight f (round_of f (at_point q)) s) few (own_few (round_of f (at_point q)) s))
+        omega (
+          arith,
+          h,
+          figures (sum_by (λ m. ends_below f (leads_to f q m)) (range_with_len 0 n)) (own_weight f (round_of f (at_point q)) s) few
+              (own_few (round_of f (at_point q)) s),
+        )
 
     -- the sum at the start
     pub start_small : from ≡ 0 → unsigned_abs (start_sum f (spread f lists v)) ≤ 2 ^ 87

@@ -22,14 +22,16 @@ pub starts_le : (f : Frame) (lists : ClassLists) (m n : ℕ) → m ≤ n → sta
 starts_le f lists m n l = prefix_le (classes_at f lists) m n l
 
 -- the place of a class of a point lies before the next point, and so before any later one
-pub place_before : (f : Frame) (lists : ClassLists) (q c later : ℕ) → IsClass lists (round_of f (at_point q)) c → q < later → start_of f lists q + (c - 1) < start_of f lists later
+pub place_before : (f : Frame) (lists : ClassLists) (q c later : ℕ) → IsClass lists (round_of f (at_point q)) c → q < later
+    → start_of f lists q + (c - 1) < start_of f lists later
 place_before f lists q c later lc l = omega (arith, starts_more f lists q, starts_le f lists (q + 1) later (omega arith), lc.0, lc.1)
 
 one_move : (c m : ℕ) → 0 < m → c ≤ c * m
 one_move c m some = let x : c * 1 ≤ c * m = mul-le-mul_left c some in omega arith
 
 -- a point has a slot of its player for each class
-classes_le : (a : Abstract) (q : ℕ) → q < point_count (frame_of a) → classes_at (frame_of a) (lists_of a) q ≤ slots_at (frame_of a) (lists_of a) 1 q + slots_at (frame_of a) (lists_of a) 2 q
+classes_le : (a : Abstract) (q : ℕ) → q < point_count (frame_of a) → classes_at (frame_of a) (lists_of a) q
+    ≤ slots_at (frame_of a) (lists_of a) 1 q + slots_at (frame_of a) (lists_of a) 2 q
 classes_le a q l =
     let f = frame_of a in
     let n = classes_at f (lists_of a) q in

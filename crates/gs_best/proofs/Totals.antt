@@ -34,19 +34,23 @@ module _ (f : Frame) (lists : ClassLists) (p : ℕ) (y : Plan) (values : List �
   pub starts_at_point : (q round start : ℕ) → f.start ≡ at_point q → round ≡ round_of f (at_point q) → start ≡ start_of f lists q
       → sum_z (value_at lists round values start) (signals_in f round) ≡ start_sum f (spread f lists (table_of f lists p y values))
   starts_at_point q round start is here at =
-      ap (λ j. sum_z (value_at lists j values start) (signals_in f j)) here ∙ ap (λ k. sum_z (value_at lists (round_of f (at_point q)) values k) (signals_in f (round_of f (at_point q)))) at
+      ap (λ j. sum_z (value_at lists j values start) (signals_in f j)) here
+      ∙ ap (λ k. sum_z (value_at lists (round_of f (at_point q)) values k) (signals_in f (round_of f (at_point q)))) at
       ∙ ap summed (sym is)
 
   -- the values at an end where play starts
-  pub starts_at_end : IsClasses f.parents lists → (z round : ℕ) (row : List ℤ) → f.start ≡ at_end z → round ≡ round_of f (at_end z) → 0 < round → round ≤ last_round f → IsEndRow f lists p y z row
+  pub starts_at_end : IsClasses f.parents lists → (z round : ℕ) (row : List ℤ) → f.start ≡ at_end z → round ≡ round_of f (at_end z) → 0 < round
+      → round ≤ last_round f → IsEndRow f lists p y z row
       → sum_z (value_at lists round row 0) (signals_in f round) ≡ start_sum f (spread f lists (table_of f lists p y values))
   starts_at_end k z round row is here some top ends =
       ap (λ j. sum_z (value_at lists j row 0) (signals_in f j)) here
-      ∙ sum_same (value_at lists (round_of f (at_end z)) row 0) (λ s. table_of f lists p y values (at_end z) (class_of lists (round_of f (at_end z)) s)) 0 (signal_count f (round_of f (at_end z)))
+      ∙ sum_same (value_at lists (round_of f (at_end z)) row 0) (λ s. table_of f lists p y values (at_end z) (class_of lists (round_of f (at_end z)) s)) 0
+      (signal_count f (round_of f (at_end z)))
       (λ s lo hi.
       let j = round_of f (at_end z) in
       let plain : 0 + (class_of lists j s - 1) ≡ class_of lists j s - 1 = omega arith in
-      ap (λ n. get_or row n (pos 0)) plain ∙ ends (class_of lists j s) (class_in f lists k j s (omega (arith, here, some)) (omega (arith, here, top)) (omega arith)))
+      ap (λ n. get_or row n (pos 0)) plain ∙ ends (class_of lists j s) (class_in f lists k j s (omega (arith, here, some)) (omega (arith, here, top))
+      (omega arith)))
       ∙ ap summed (sym is)
 
 -- a product of a total and a best total
@@ -59,7 +63,8 @@ scaled_small total best l m =
 
 module _ (f : Frame) (r : InRange f) (lists : ClassLists) (k : IsClasses f.parents lists) (g : IsLossless f lists) where
   -- a plan gains at most what its total times the best total says
-  gains_at_most : (p : ℕ) → IsWalked f p → (x y : Plan) → IsClassPlan f lists p x → (b : ℤ) → IsBestTotal f lists p (lift f lists y) b → gain f p (lift f lists x) (lift f lists y) ≤ℤ (pos x.total *ℤ b)
+  gains_at_most : (p : ℕ) → IsWalked f p → (x y : Plan) → IsClassPlan f lists p x → (b : ℤ) → IsBestTotal f lists p (lift f lists y) b
+      → gain f p (lift f lists x) (lift f lists y) ≤ℤ (pos x.total *ℤ b)
   gains_at_most p w x y plan b h =
       let h' = is_table f r in
       let firsts = firsts_from f lists k in
@@ -70,7 +75,8 @@ module _ (f : Frame) (r : InRange f) (lists : ClassLists) (k : IsClasses f.paren
       subst (λ z. gain f p (lift f lists x) (lift f lists y) ≤ℤ (pos x.total *ℤ z)) (sym h.total_is) bound
 
   -- no raw plan gains more than the first best plan
-  pub first_gains_most : (p : ℕ) → IsWalked f p → (x y : Plan) → IsFirstBestPlan f lists p (lift f lists y) x → NoneGainsMore f p (lift f lists y) (lift f lists x)
+  pub first_gains_most : (p : ℕ) → IsWalked f p → (x y : Plan) → IsFirstBestPlan f lists p (lift f lists y) x
+      → NoneGainsMore f p (lift f lists y) (lift f lists x)
   first_gains_most p w x y b z raw =
       let firsts = firsts_from f lists k in
       let holds = holds_by f lists p (lift f lists y) b.values w k (best_holds f lists p (lift f lists y) b.values b.move b.best) in
@@ -78,7 +84,8 @@ module _ (f : Frame) (r : InRange f) (lists : ClassLists) (k : IsClasses f.paren
       subst (λ n. gain f p z (lift f lists y) ≤ℤ (pos z.total *ℤ n)) (sym (first_best_reaches f lists p y x r w k g b).1) bound
 
   -- what two plans pay is small
-  pub paid_small : IsWalked f 1 → IsWalked f 2 → IsExchanged f 1 → (x y : Plan) → IsClassPlan f lists 1 x → IsClassPlan f lists 2 y → (b1 b2 : ℤ) → IsBestTotal f lists 1 (lift f lists y) b1 → IsBestTotal f lists 2 (lift f lists x) b2
+  pub paid_small : IsWalked f 1 → IsWalked f 2 → IsExchanged f 1 → (x y : Plan) → IsClassPlan f lists 1 x → IsClassPlan f lists 2 y → (b1 b2 : ℤ)
+      → IsBestTotal f lists 1 (lift f lists y) b1 → IsBestTotal f lists 2 (lift f lists x) b2
       → unsigned_abs b1 ≤ 2 ^ 87 → unsigned_abs b2 ≤ 2 ^ 87 → unsigned_abs (raw_payoff f (lift f lists x) (lift f lists y)) ≤ 2 ^ 123
   paid_small w1 w2 ex x y px py b1 b2 h1 h2 s1 s2 =
       let v = raw_payoff f (lift f lists x) (lift f lists y) in

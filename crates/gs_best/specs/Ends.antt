@@ -8,4 +8,5 @@ use Rattle.gs_model.specs.Positions.{at_end}
 
 -- what an end is worth to each class of its round, seen from its first member
 abbrev pub IsEndRow : Frame → ClassLists → ℕ → Plan → ℕ → List ℤ → Type 0
-IsEndRow f lists player y z row = (c : ℕ) → IsClass lists (round_of f (at_end z)) c → get_or row (c - 1) (pos 0) ≡ end_worth f player y z (first_member lists (round_of f (at_end z)) c)
+IsEndRow f lists player y z row = (c : ℕ) → IsClass lists (round_of f (at_end z)) c
+    → get_or row (c - 1) (pos 0) ≡ end_worth f player y z (first_member lists (round_of f (at_end z)) c)

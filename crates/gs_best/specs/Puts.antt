@@ -11,8 +11,10 @@ abbrev pub IsPutAt : Frame → ClassLists → ℕ → (ℕ → ℕ → ℕ) → 
 IsPutAt f lists player move weights q c =
     let round = round_of f (at_point q) in
     (m : ℕ) → m < move_count f q
-    → slice_index weights (slot_of f lists q c m) ≡ (if m == move q c then number_before f (lift f lists (plan_of f lists 1 weights)) (last_step f player (at_point q)) round (first_member lists round c) else 0)
+    → slice_index weights (slot_of f lists q c m) ≡ (if m == move q c then number_before f (lift f lists (plan_of f lists 1 weights))
+    (last_step f player (at_point q)) round (first_member lists round c) else 0)
 
 -- so at all classes of the player's points before a point
 abbrev pub ArePutBefore : Frame → ClassLists → ℕ → (ℕ → ℕ → ℕ) → List ℕ → ℕ → Type 0
-ArePutBefore f lists player move weights q = (p c : ℕ) → p < q → player_at f p ≡ player → IsClass lists (round_of f (at_point p)) c → IsPutAt f lists player move weights p c
+ArePutBefore f lists player move weights q = (p c : ℕ) → p < q → player_at f p ≡ player → IsClass lists (round_of f (at_point p)) c
+    → IsPutAt f lists player move weights p c

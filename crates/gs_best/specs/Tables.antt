@@ -32,23 +32,32 @@ AreStarts f lists starts = (q : ℕ) → q < point_count f → slice_index start
 
 -- each class of a player's points has a move of its point
 abbrev pub AreInMoves : Frame → ClassLists → ℕ → (ℕ → ℕ → ℕ) → Type 0
-AreInMoves f lists player move = (q c : ℕ) → q < point_count f → player_at f q ≡ player → IsClass lists (round_of f (at_point q)) c → move q c < move_count f q
+AreInMoves f lists player move = (q c : ℕ) → q < point_count f → player_at f q ≡ player → IsClass lists (round_of f (at_point q)) c
+    → move q c < move_count f q
 
 -- at the points from one on each own class has what its move is worth, and the other's points add up
 pub record IsFollowedBy (f : Frame) (lists : ClassLists) (player : ℕ) (v : Values) (worth : Worths) (move : ℕ → ℕ → ℕ) (from : ℕ) : Type 0 where
   pub in_range : (q c : ℕ) → from ≤ q → q < point_count f → player_at f q ≡ player → IsClass lists (round_of f (at_point q)) c → move q c < move_count f q
-  pub reached : (q c : ℕ) → from ≤ q → q < point_count f → player_at f q ≡ player → IsClass lists (round_of f (at_point q)) c → v (at_point q) c ≡ worth q (move q c) c
-  pub at_others : (q c : ℕ) → from ≤ q → q < point_count f → player_at f q ≢ player → IsClass lists (round_of f (at_point q)) c → v (at_point q) c ≡ sum_z (λ m. worth q m c) (choices_at f q)
+  pub reached : (q c : ℕ) → from ≤ q → q < point_count f → player_at f q ≡ player → IsClass lists (round_of f (at_point q)) c
+      → v (at_point q) c ≡ worth q (move q c) c
+  pub at_others : (q c : ℕ) → from ≤ q → q < point_count f → player_at f q ≢ player → IsClass lists (round_of f (at_point q)) c
+      → v (at_point q) c ≡ sum_z (λ m. worth q m c) (choices_at f q)
 
 -- and that move is the first of greatest worth
 pub record AreFirstBy (f : Frame) (lists : ClassLists) (player : ℕ) (v : Values) (worth : Worths) (move : ℕ → ℕ → ℕ) (from : ℕ) : Type 0 where
-  pub none_more : (q m c : ℕ) → from ≤ q → q < point_count f → player_at f q ≡ player → m < move_count f q → IsClass lists (round_of f (at_point q)) c → worth q m c ≤ℤ v (at_point q) c
-  pub none_before : (q m c : ℕ) → from ≤ q → q < point_count f → player_at f q ≡ player → IsClass lists (round_of f (at_point q)) c → m < move q c → worth q m c <ℤ v (at_point q) c
+  pub none_more : (q m c : ℕ) → from ≤ q → q < point_count f → player_at f q ≡ player → m < move_count f q → IsClass lists (round_of f (at_point q)) c
+      → worth q m c ≤ℤ v (at_point q) c
+  pub none_before : (q m c : ℕ) → from ≤ q → q < point_count f → player_at f q ≡ player → IsClass lists (round_of f (at_point q)) c → m < move q c
+      → worth q m c <ℤ v (at_point q) c
 
 -- best values and first best moves at the points from one on
 pub record IsBestFrom (f : Frame) (lists : ClassLists) (player : ℕ) (v : Values) (move : ℕ → ℕ → ℕ) (from : ℕ) : Type 0 where
   pub in_range : (q c : ℕ) → from ≤ q → q < point_count f → player_at f q ≡ player → IsClass lists (round_of f (at_point q)) c → move q c < move_count f q
-  pub reached : (q c : ℕ) → from ≤ q → q < point_count f → player_at f q ≡ player → IsClass lists (round_of f (at_point q)) c → v (at_point q) c ≡ class_worth f lists v q (move q c) c
-  pub none_more : (q m c : ℕ) → from ≤ q → q < point_count f → player_at f q ≡ player → m < move_count f q → IsClass lists (round_of f (at_point q)) c → class_worth f lists v q m c ≤ℤ v (at_point q) c
-  pub none_before : (q m c : ℕ) → from ≤ q → q < point_count f → player_at f q ≡ player → IsClass lists (round_of f (at_point q)) c → m < move q c → class_worth f lists v q m c <ℤ v (at_point q) c
-  pub at_others : (q c : ℕ) → from ≤ q → q < point_count f → player_at f q ≢ player → IsClass lists (round_of f (at_point q)) c → v (at_point q) c ≡ sum_z (λ m. class_worth f lists v q m c) (choices_at f q)
+  pub reached : (q c : ℕ) → from ≤ q → q < point_count f → player_at f q ≡ player → IsClass lists (round_of f (at_point q)) c
+      → v (at_point q) c ≡ class_worth f lists v q (move q c) c
+  pub none_more : (q m c : ℕ) → from ≤ q → q < point_count f → player_at f q ≡ player → m < move_count f q → IsClass lists (round_of f (at_point q)) c
+      → class_worth f lists v q m c ≤ℤ v (at_point q) c
+  pub none_before : (q m c : ℕ) → from ≤ q → q < point_count f → player_at f q ≡ player → IsClass lists (round_of f (at_point q)) c → m < move q c
+      → class_worth f lists v q m c <ℤ v (at_point q) c
+  pub at_others : (q c : ℕ) → from ≤ q → q < point_count f → player_at f q ≢ player → IsClass lists (round_of f (at_point q)) c
+      → v (at_point q) c ≡ sum_z (λ m. class_worth f lists v q m c) (choices_at f q)

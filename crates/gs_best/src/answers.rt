@@ -20,10 +20,14 @@ pub fn best(alloc: Global, form: &Abstract, player: u8, other: &Plan) -> Result<
     requires two { player ≤ 2 }
     requires other { IsPlanOf (frame_of form.now) (lists_of form.now) (other_player player) other.now }
     ensures plan { IfOk result (λ x. IsPlanOf (frame_of form.now) (lists_of form.now) player x) }
-    ensures best { IfOk result (λ x. let f = frame_of form.now in let lists = lists_of form.now in IsFirstBestPlan f lists player (lifted f lists other.now) (class_plan f lists x)) }
-    ensures bound { IfOk result (λ x. let f = frame_of form.now in let lists = lists_of form.now in NoneGainsMore f player (lifted f lists other.now) (lifted f lists x)) }
-    ensures paid { IfOk result (λ x. let f = frame_of form.now in let lists = lists_of form.now in IsPaidMost f lists player (lifted f lists other.now) (lifted f lists x)) }
+    ensures best { IfOk result (λ x. let f = frame_of form.now in let lists = lists_of form.now in
+        IsFirstBestPlan f lists player (lifted f lists other.now) (class_plan f lists x)) }
+    ensures bound { IfOk result (λ x. let f = frame_of form.now in let lists = lists_of form.now in
+        NoneGainsMore f player (lifted f lists other.now) (lifted f lists x)) }
+    ensures paid { IfOk result (λ x. let f = frame_of form.now in let lists = lists_of form.now in
+        IsPaidMost f lists player (lifted f lists other.now) (lifted f lists x)) }
 {
+    // called only for what its contract says
     let _rounds = round_total(form);
     let side = Deviator {
         form,

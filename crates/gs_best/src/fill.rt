@@ -46,6 +46,7 @@ fn fill_point(side: &Deviator<'_>, point: u32, table: &mut Table, scratch: &mut 
         IsBestFrom f lists side.now.player (table_of f lists side.now.player (lifted f lists side.now.other.now) table.new.values.items) (moves_of f lists table.new.picks.items) point }
     ensures room { HasRoom (frame_of side.now.form.now) (lists_of side.now.form.now) scratch.new }
 {
+    // called only for what its contract says
     let _rounds = round_total(side.form);
     merge_moves(side, point, table, scratch);
     let start = table.starts[point as usize] as usize;

@@ -43,6 +43,7 @@ fn start_total(side: &Deviator<'_>, table: &Table, scratch: &mut Scratch) -> i12
     ensures small { unsigned_abs result ≤ 2 ^ 87 }
     ensures room { HasRoom (frame_of side.now.form.now) (lists_of side.now.form.now) scratch.new }
 {
+    // called only for what its contract says
     let _rounds = round_total(side.form);
     match start_at(side.form) {
         Target::Point(point) => {

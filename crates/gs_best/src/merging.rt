@@ -68,6 +68,7 @@ pub(crate) fn merge_moves(side: &Deviator<'_>, point: u32, table: &Table, scratc
         IsMerged f lists side.now.player (class_worth f lists (table_of f lists side.now.player (lifted f lists side.now.other.now) table.now.values.items)) point scratch.new.best.items scratch.new.moves.items }
     ensures room { HasRoom (frame_of side.now.form.now) (lists_of side.now.form.now) scratch.new }
 {
+    // called only for what its contract says
     let _rounds = round_total(side.form);
     let count = class_total(side.form, round_at(side.form, point)) as usize;
     let own = chooser(side.form, point) == side.player;

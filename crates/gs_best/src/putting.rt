@@ -36,6 +36,7 @@ fn put_point(
         (c : ℕ) → IsClass lists (round_of f (at_point point)) c → IsPutAt f lists player (moves_of f lists picks.now) weights.new point c }
     ensures clear { IsClear (slots_before (frame_of form.now) (lists_of form.now) player (point + 1)) weights.new }
 {
+    // called only for what its contract says
     let _rounds = round_total(form);
     let start = starts[point as usize] as usize;
     for before in 0..class_total(form, round_at(form, point)) {
@@ -57,7 +58,8 @@ pub fn put_moves(form: &Abstract, player: u8, starts: &[u32], picks: &[u8], weig
     requires moves { let f = frame_of form.now in let lists = lists_of form.now in AreInMoves f lists player (moves_of f lists picks.now) }
     requires long { length weights.old ≡ slot_count (frame_of form.now) (lists_of form.now) player }
     requires clear { IsClear 0 weights.old }
-    ensures { let f = frame_of form.now in let lists = lists_of form.now in ArePutBefore f lists player (moves_of f lists picks.now) weights.new (point_count f) }
+    ensures { let f = frame_of form.now in let lists = lists_of form.now in
+        ArePutBefore f lists player (moves_of f lists picks.now) weights.new (point_count f) }
 {
     let _rounds = round_total(form);
     for point in 0..point_total(form) {

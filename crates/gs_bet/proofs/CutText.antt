@@ -18,7 +18,8 @@ mark_44 : (ms : Moves) → mark 44 ms ≡ 44
 mark_44 none = refl
 mark_44 (move letter chips next ms) = refl
 
-pub moves_push : (before : ℕ) (ms : Moves) (l c : ℕ) (t : Bet) → moves_text before (push_move ms l c t) ≡ moves_text before ms ++ (mark before ms ∷ l ∷ (chips_text c ++ (58 ∷ tree_text t)))
+pub moves_push : (before : ℕ) (ms : Moves) (l c : ℕ) (t : Bet) → moves_text before (push_move ms l c t)
+    ≡ moves_text before ms ++ (mark before ms ∷ l ∷ (chips_text c ++ (58 ∷ tree_text t)))
 moves_push before none l c t = rw append-nil refl
 moves_push before (move letter chips next ms) l c t =
     rw (moves_push 44 ms l c t, mark_44) (simp append_assoc)
@@ -32,7 +33,8 @@ has_push (move letter chips next ms) l c t b h e =
 swapped : (a b : ℕ) → eqb a b ≡ false → eqb b a ≡ false
 swapped a b h = ne_eqb b a (λ e. eqb-false a b h (sym e))
 
-pub sound_push : (left : ℕ) (ms : Moves) (l c : ℕ) (t : Bet) → are_sound left ms ≡ true → is_letter l ≡ true → has_letter ms l ≡ false → c ≤ 4096 → is_sound left t ≡ true → are_sound left (push_move ms l c t) ≡ true
+pub sound_push : (left : ℕ) (ms : Moves) (l c : ℕ) (t : Bet) → are_sound left ms ≡ true → is_letter l ≡ true → has_letter ms l ≡ false → c ≤ 4096
+    → is_sound left t ≡ true → are_sound left (push_move ms l c t) ≡ true
 sound_push left none l c t sound letter fresh few next = rw (letter, le-leb c 4096 few, next) refl
 sound_push left (move letter chips next ms) l c t sound is_l fresh few is_t =
     let p = and_parts (is_letter letter && not (has_letter ms letter)) _ sound in
@@ -53,11 +55,20 @@ pub after_text : (outer : List Open) (t : Bet) → cut_text (after outer t) ≡ 
 after_text [] t = refl
 after_text (o ∷ outer) t = rw (moves_push 91 o.moves o.letter o.chips t) (simp append_assoc)
 
-pub after_is : (outer : List Open) (t : Bet) → AreOpen outer → is_sound (16 - length outer) t ≡ true → (is_inside outer || not (is_fold t)) ≡ true → IsCut (after outer t)
+pub after_is : (outer : List Open) (t : Bet) → AreOpen outer → is_sound (16 - length outer) t ≡ true → (is_inside outer || not (is_fold t)) ≡ true
+    → IsCut (after outer t)
 after_is [] t h sound no_fold = and_from (not (is_fold t)) (is_sound 16 t) no_fold sound
 after_is (o ∷ outer) t h sound no_fold =
-    let left : 16 - length (o ∷ outer) ≡ 15 - length outer = omega arith in
-    (record { player = h.0.act.player; depth = h.0.act.depth; moves = sound_push (15 - length outer) o.moves o.letter o.chips t h.0.act.moves h.0.letter h.0.fresh h.0.chips (rw left at sound) }, has_move_push o.moves o.letter o.chips t, h.1)
+    let left : 16 - length (o ∷ outer) ≡ 15 - length outer = omega arith in (
+      record {
+        player = h.0.act.player;
+        depth = h.0.act.depth;
+        moves = sound_push (15
+            - length outer) o.moves o.letter o.chips t h.0.act.moves h.0.letter h.0.fresh h.0.chips (rw left at sound);
+      },
+      has_move_push o.moves o.letter o.chips t,
+      h.1,
+    )
 
 -- ---- digits
 
@@ -115,16 +126,25 @@ goes_few n b h =
 grows_tree : (outer : List Open) (b : ℕ) → AreOpen outer → OkAnd (Grows (at_tree outer) b) (step_tree outer b)
 grows_tree outer b h =
     elim (cases_Bool (eqb b 61)) [
-      | inl e ↦ rw e record { text = after_text outer even ∙ ap (λ (k : ℕ). open_text outer ++ k ∷ []) (sym (eqb-true b 61 e)); is = after_is outer even h refl (or_right (is_inside outer) true refl) }
+      | inl e ↦ rw e record {
+        text = after_text outer even ∙ ap (λ (k : ℕ). open_text outer ++ k ∷ []) (sym (eqb-true b 61 e));
+        is = after_is outer even h refl (or_right (is_inside outer) true refl);
+      }
       | inr e ↦ elim (cases_Bool (eqb b 33 && is_inside outer)) [
         | inl f ↦
             let parts = and_parts (eqb b 33) (is_inside outer) f in
-            rw (e, f) record { text = after_text outer fold ∙ ap (λ (k : ℕ). open_text outer ++ k ∷ []) (sym (eqb-true b 33 parts.0)); is = after_is outer fold h refl (or_left (is_inside outer) false parts.1) }
+            rw (e, f) record {
+              text = after_text outer fold ∙ ap (λ (k : ℕ). open_text outer ++ k ∷ []) (sym (eqb-true b 33 parts.0));
+              is = after_is outer fold h refl (or_left (is_inside outer) false parts.1);
+            }
         | inr f ↦ elim (cases_Bool (eqb b 49 || eqb b 50)) [
           | inl g ↦ elim (cases_Bool (ltb (length outer) 16)) [
             | inl k ↦
                 let same : 48 + (b - 48) ≡ b = player_byte b g in
-                rw (e, f, g, k) record { text = ap (λ (i : ℕ). open_text outer ++ i ∷ []) same; is = (record { player = player_is b g; depth = ltb-true (length outer) 16 k; moves = refl }, h) }
+                rw (e, f, g, k) record {
+                  text = ap (λ (i : ℕ). open_text outer ++ i ∷ []) same;
+                  is = (record { player = player_is b g; depth = ltb-true (length outer) 16 k; moves = refl }, h);
+                }
             | inr k ↦ rw (e, f, g, k) tt
           ]
           | inr g ↦ rw (e, f, g) tt
@@ -132,7 +152,8 @@ grows_tree outer b h =
       ]
     ]
 
-grows_letter : (p : ℕ) (ms : Moves) (outer : List Open) (b : ℕ) → IsAct p ms outer × (count ms < 26) × AreOpen outer → OkAnd (Grows (at_letter p ms outer) b) (step_letter p ms outer b)
+grows_letter : (p : ℕ) (ms : Moves) (outer : List Open) (b : ℕ) → IsAct p ms outer × (count ms < 26) × AreOpen outer
+    → OkAnd (Grows (at_letter p ms outer) b) (step_letter p ms outer b)
 grows_letter p ms outer b h =
     elim (cases_Bool (is_letter b)) [
       | inl e ↦ elim (cases_Bool (has_letter ms b)) [
@@ -155,12 +176,14 @@ grows_chips o outer b h =
       ]
     ]
 
-grows_next : (p : ℕ) (ms : Moves) (outer : List Open) (b : ℕ) → IsAct p ms outer × (has_move ms ≡ true) × AreOpen outer → OkAnd (Grows (at_next p ms outer) b) (step_next p ms outer b)
+grows_next : (p : ℕ) (ms : Moves) (outer : List Open) (b : ℕ) → IsAct p ms outer × (has_move ms ≡ true) × AreOpen outer
+    → OkAnd (Grows (at_next p ms outer) b) (step_next p ms outer b)
 grows_next p ms outer b h =
     elim (cases_Bool (eqb b 93)) [
       | inl e ↦
           let left : 16 - length outer ≡ suc (15 - length outer) = omega (arith, h.0.depth) in
-          let text : cut_text (after outer (act p ms)) ≡ (open_text outer ++ ((48 + p) ∷ moves_text 91 ms)) ++ 93 ∷ [] = after_text outer (act p ms) ∙ simp append_assoc in
+          let text : cut_text (after outer (act p ms)) ≡ (open_text outer ++ ((48 + p) ∷ moves_text 91 ms)) ++ 93 ∷ [] =
+          after_text outer (act p ms) ∙ simp append_assoc in
           rw e record {
             text = text ∙ ap (λ (k : ℕ). (open_text outer ++ ((48 + p) ∷ moves_text 91 ms)) ++ k ∷ []) (sym (eqb-true b 93 e));
             is = after_is outer (act p ms) h.2 (rw left (rw (h.0.player, h.1, h.0.moves) refl)) (or_right (is_inside outer) true refl);
@@ -192,7 +215,8 @@ ok_is x y e = cc
 
 -- the rest grows the cut that a step leads to
 behind : (s : Cut) (b : ℕ) (bytes : List ℕ) (next : Cut) → ((x : Cut) → IsCut x → run x bytes ≡ Ok next → (cut_text next ≡ cut_text x ++ bytes) × IsCut next)
-    → (r : Result Cut Mistake) → OkAnd (Grows s b) r → step_then r (λ x. run x bytes) (b ∷ bytes) ≡ Ok next → (cut_text next ≡ cut_text s ++ (b ∷ bytes)) × IsCut next
+    → (r : Result Cut Mistake) → OkAnd (Grows s b) r → step_then r (λ x. run x bytes) (b ∷ bytes) ≡ Ok next
+    → (cut_text next ≡ cut_text s ++ (b ∷ bytes)) × IsCut next
 behind s b bytes next go (Ok x) g e =
     let more = go x g.is e in
     (more.0 ∙ ap (λ (t : List ℕ). t ++ bytes) g.text ∙ append_assoc (cut_text s) (b ∷ []) bytes, more.1)

@@ -27,7 +27,15 @@ first left letter chips next ms h =
     let range = and_parts (leb 97 letter) (leb letter 122) q.0 in
     let r = and_parts (leb chips 4096) (is_sound left next && are_sound left ms) p.1 in
     let s = and_parts (is_sound left next) (are_sound left ms) r.1 in
-    record { letter = q.0; fresh = not-true (has_letter ms letter) q.1; low = leb-true 97 letter range.0; high = leb-true letter 122 range.1; chips = leb-true chips 4096 r.0; next = s.0; others = s.1 }
+    record {
+      letter = q.0;
+      fresh = not-true (has_letter ms letter) q.1;
+      low = leb-true 97 letter range.0;
+      high = leb-true letter 122 range.1;
+      chips = leb-true chips 4096 r.0;
+      next = s.0;
+      others = s.1;
+    }
 
 places_zero : (ms : Moves) → places 0 ms ≡ 0
 unfolding places

@@ -17,7 +17,8 @@ LeadsTo next total (Ok x) = total ≡ read (next x.0) x.1
 LeadsTo next total (Err e) = total ≡ Err e
 
 -- a part, and then what follows it
-pub leads_on : {A B : Type 0} (first : A → Cut) (next : B → Cut) (total : Result Bet (Mistake × List ℕ)) (r : Read A) (f : A × List ℕ → Read B) → LeadsTo first total r
+pub leads_on : {A B : Type 0} (first : A → Cut) (next : B → Cut) (total : Result Bet (Mistake × List ℕ)) (r : Read A) (f : A × List ℕ → Read B)
+    → LeadsTo first total r
     → ((x : A × List ℕ) → r ≡ Ok x → LeadsTo next (read (first x.0) x.1) (f x)) → LeadsTo next total (r >>= f)
 leads_on first next total (Ok x) f h g = subst (λ (t : Result Bet (Mistake × List ℕ)). LeadsTo next t (f x)) (sym h) (g x refl)
 leads_on first next total (Err e) f h g = h
@@ -50,7 +51,8 @@ goes_no_colon n b h =
     ne_eqb b 58 (λ e. omega arith)
 
 lead_chips : (p : ℕ) (ms : Moves) (l n : ℕ) (outer : List Open) (bytes : List ℕ)
-    → read (at_chips record { player = p; moves = ms; letter = l; chips = n } outer) bytes ≡ read (at_chips record { player = p; moves = ms; letter = l; chips = (chips_at n bytes).0 } outer) (chips_at n bytes).1
+    → read (at_chips record { player = p; moves = ms; letter = l; chips = n } outer) bytes
+    ≡ read (at_chips record { player = p; moves = ms; letter = l; chips = (chips_at n bytes).0 } outer) (chips_at n bytes).1
 unfolding chips_at
 lead_chips p ms l n outer [] = refl
 lead_chips p ms l n outer (b ∷ bytes) =
@@ -58,7 +60,8 @@ lead_chips p ms l n outer (b ∷ bytes) =
       | inl e ↦
           let so : chips_at n (b ∷ bytes) ≡ chips_at (n * 10 + (b - 48)) bytes = rw e refl in
           let no_colon : eqb b 58 ≡ false = goes_no_colon n b e in
-          let one : read (at_chips record { player = p; moves = ms; letter = l; chips = n } outer) (b ∷ bytes) ≡ read (at_chips record { player = p; moves = ms; letter = l; chips = n * 10 + (b - 48) } outer) bytes = rw (no_colon, e) refl in
+          let one : read (at_chips record { player = p; moves = ms; letter = l; chips = n } outer) (b ∷ bytes)
+          ≡ read (at_chips record { player = p; moves = ms; letter = l; chips = n * 10 + (b - 48) } outer) bytes = rw (no_colon, e) refl in
           rw so (one ∙ lead_chips p ms l (n * 10 + (b - 48)) outer bytes)
       | inr e ↦
           let so : chips_at n (b ∷ bytes) ≡ (n, b ∷ bytes) = rw e refl in
@@ -70,11 +73,13 @@ unfolding chips_at
 chips_stop n [] = tt
 chips_stop n (b ∷ bytes) =
     elim (cases_Bool (goes_on n b)) [
-      | inl e ↦ let so : chips_at n (b ∷ bytes) ≡ chips_at (n * 10 + (b - 48)) bytes = rw e refl in subst (λ (x : ℕ × List ℕ). Stops x.0 x.1) (sym so) (chips_stop (n * 10 + (b - 48)) bytes)
+      | inl e ↦ let so : chips_at n (b ∷ bytes) ≡ chips_at (n * 10 + (b - 48)) bytes = rw e refl in
+          subst (λ (x : ℕ × List ℕ). Stops x.0 x.1) (sym so) (chips_stop (n * 10 + (b - 48)) bytes)
       | inr e ↦ let so : chips_at n (b ∷ bytes) ≡ (n, b ∷ bytes) = rw e refl in subst (λ (x : ℕ × List ℕ). Stops x.0 x.1) (sym so) e
     ]
 
-lead_colon : (o : Open) (outer : List Open) (bytes : List ℕ) → Stops o.chips bytes → LeadsTo (λ _. at_tree (o ∷ outer)) (read (at_chips o outer) bytes) (expect_at 58 bytes)
+lead_colon : (o : Open) (outer : List Open) (bytes : List ℕ) → Stops o.chips bytes
+    → LeadsTo (λ _. at_tree (o ∷ outer)) (read (at_chips o outer) bytes) (expect_at 58 bytes)
 unfolding expect_at
 lead_colon o outer [] h = refl
 lead_colon o outer (b ∷ bytes) h = elim (cases_Bool (eqb b 58)) [ inl e ↦ rw e refl | inr e ↦ rw (e, h) refl ]
@@ -84,7 +89,8 @@ abbrev pub NoEnd : List Open → List ℕ → Type 0
 NoEnd outer [] = Unit {0}
 NoEnd outer (b ∷ bytes) = (eqb b 61 ≡ false) × ((eqb b 33 && is_inside outer) ≡ false)
 
-lead_player : (left : ℕ) (outer : List Open) (bytes : List ℕ) → left + length outer ≡ 16 → NoEnd outer bytes → LeadsTo (λ p. at_bracket p outer) (read (at_tree outer) bytes) (player_at left bytes)
+lead_player : (left : ℕ) (outer : List Open) (bytes : List ℕ) → left + length outer ≡ 16 → NoEnd outer bytes
+    → LeadsTo (λ p. at_bracket p outer) (read (at_tree outer) bytes) (player_at left bytes)
 unfolding player_at
 lead_player left outer [] room h = refl
 lead_player zero outer (b ∷ bytes) room h =
@@ -97,7 +103,8 @@ lead_player (suc left) outer (b ∷ bytes) room h =
 
 -- deeper reads an act where so many are left
 abbrev pub ActLeads : ℕ → (List ℕ → Read Bet) → Type 0
-ActLeads left deeper = (outer : List Open) (bytes : List ℕ) → left + length outer ≡ 16 → NoEnd outer bytes → LeadsTo (after outer) (read (at_tree outer) bytes) (deeper bytes)
+ActLeads left deeper = (outer : List Open) (bytes : List ℕ) → left + length outer ≡ 16 → NoEnd outer bytes
+    → LeadsTo (after outer) (read (at_tree outer) bytes) (deeper bytes)
 
 lead_inner : (left : ℕ) (deeper : List ℕ → Read Bet) → ActLeads left deeper → (o : Open) (outer : List Open) (bytes : List ℕ) → left + length (o ∷ outer) ≡ 16
     → LeadsTo (after (o ∷ outer)) (read (at_tree (o ∷ outer)) bytes) (inner_at deeper bytes)
@@ -114,7 +121,8 @@ lead_inner left deeper act_leads o outer (b ∷ bytes) room =
       ]
     ]
 
-lead_move : (left : ℕ) (deeper : List ℕ → Read Bet) → ActLeads left deeper → (p : ℕ) (ms : Moves) (outer : List Open) (bytes : List ℕ) → suc (left + length outer) ≡ 16
+lead_move : (left : ℕ) (deeper : List ℕ → Read Bet) → ActLeads left deeper → (p : ℕ) (ms : Moves) (outer : List Open) (bytes : List ℕ)
+    → suc (left + length outer) ≡ 16
     → LeadsTo (λ more. at_next p more outer) (read (at_letter p ms outer) bytes) (move_at (inner_at deeper) ms bytes)
 unfolding move_at
 lead_move left deeper act_leads p ms outer bytes room =
@@ -124,7 +132,8 @@ lead_move left deeper act_leads p ms outer bytes room =
     rw chips (leads_on _ _ _ _ _ (lead_colon o outer (chips_at 0 letter.1).1 (chips_stop 0 letter.1)) (λ colon _.
     leads_on _ _ _ _ _ (lead_inner left deeper act_leads o outer colon.1 (omega arith)) (λ next _. refl))))
 
-lead_more : (p : ℕ) (ms : Moves) (outer : List Open) (bytes : List ℕ) → LeadsTo (λ more. cond more (at_letter p ms outer) (after outer (act p ms))) (read (at_next p ms outer) bytes) (more_at (count ms) bytes)
+lead_more : (p : ℕ) (ms : Moves) (outer : List Open) (bytes : List ℕ) → LeadsTo (λ more. cond more (at_letter p ms outer) (after outer (act p ms)))
+    (read (at_next p ms outer) bytes) (more_at (count ms) bytes)
 unfolding more_at
 lead_more p ms outer [] = refl
 lead_more p ms outer (b ∷ bytes) =
@@ -161,15 +170,19 @@ unfolding player_at
 player_room (suc left) bytes x h = omega arith
 player_room zero [] x h = absurd cc
 player_room zero (b ∷ bytes) x h =
-    let no : (t : Bool) → cond {A = Read ℕ} t (Err (TooDeep, b ∷ bytes)) (Err (Syntax, b ∷ bytes)) ≡ Ok x → ⊥ = λ t e. elim t as (λ v. cond {A = Read ℕ} v (Err (TooDeep, b ∷ bytes)) (Err (Syntax, b ∷ bytes)) ≡ Ok x → ⊥) [ true ↦ λ d. absurd cc | false ↦ λ d. absurd cc ] e in
+    let no : (t : Bool) → cond {A = Read ℕ} t (Err (TooDeep, b ∷ bytes)) (Err (Syntax, b ∷ bytes)) ≡ Ok x → ⊥ =
+    λ t e. elim t as (λ v. cond {A = Read ℕ} v (Err (TooDeep, b ∷ bytes)) (Err (Syntax, b ∷ bytes)) ≡ Ok x
+    → ⊥) [ true ↦ λ d. absurd cc | false ↦ λ d. absurd cc ] e in
     absurd (no (eqb b 49 || eqb b 50) h)
 
-lead_behind : (others : Read Moves) (p : ℕ) (more : Moves) (outer : List Open) (t : Bool) (rest : List ℕ) → (t ≡ true → LeadsTo (λ ms. after outer (act p ms)) (read (at_letter p more outer) rest) others)
+lead_behind : (others : Read Moves) (p : ℕ) (more : Moves) (outer : List Open) (t : Bool) (rest : List ℕ)
+    → (t ≡ true → LeadsTo (λ ms. after outer (act p ms)) (read (at_letter p more outer) rest) others)
     → LeadsTo (λ ms. after outer (act p ms)) (read (cond t (at_letter p more outer) (after outer (act p more))) rest) (cond t others (Ok (more, rest)))
 lead_behind others p more outer true rest h = h refl
 lead_behind others p more outer false rest h = refl
 
-lead_moves : (left : ℕ) (deeper : List ℕ → Read Bet) → ActLeads left deeper → (p room : ℕ) (ms : Moves) (outer : List Open) (bytes : List ℕ) → suc (left + length outer) ≡ 16 → 26 ≤ room + count ms → count ms < 26
+lead_moves : (left : ℕ) (deeper : List ℕ → Read Bet) → ActLeads left deeper → (p room : ℕ) (ms : Moves) (outer : List Open) (bytes : List ℕ)
+    → suc (left + length outer) ≡ 16 → 26 ≤ room + count ms → count ms < 26
     → LeadsTo (λ more. after outer (act p more)) (read (at_letter p ms outer) bytes) (moves_at (inner_at deeper) room ms bytes)
 unfolding moves_at
 lead_moves left deeper act_leads p zero ms outer bytes depth enough few = absurd (omega arith)
@@ -187,12 +200,14 @@ lead_act left deeper act_leads outer bytes room no_end =
     leads_on _ _ _ _ _ (lead_player left outer bytes room no_end) (λ player is_player.
     let some = player_room left bytes player is_player in
     leads_on _ _ _ _ _ (lead_bracket player.0 outer player.1) (λ bracket _.
-    leads_on _ _ _ _ _ (lead_moves (left - 1) deeper (act_leads some) player.0 26 none outer bracket.1 (omega (arith, some)) (omega arith) (omega arith)) (λ moves _. refl)))
+    leads_on _ _ _ _ _ (lead_moves (left - 1) deeper (act_leads some) player.0 26 none outer bracket.1 (omega (arith, some)) (omega arith) (omega arith))
+    (λ moves _. refl)))
 
 pub lead_acts : (left : ℕ) → ActLeads left (act_at left)
 unfolding act_at
 lead_acts zero = lead_act 0 (λ rest. Err (Syntax, rest)) (λ h. absurd (omega arith))
-lead_acts (suc left) = let e : left ≡ suc left - 1 = omega arith in lead_act (suc left) (act_at left) (λ _. subst (λ k. ActLeads k (act_at left)) e (lead_acts left))
+lead_acts (suc left) = let e : left ≡ suc left - 1 = omega arith in lead_act (suc left) (act_at left)
+    (λ _. subst (λ k. ActLeads k (act_at left)) e (lead_acts left))
 
 lead_outer : (bytes : List ℕ) → LeadsTo whole (read (at_tree []) bytes) (outer_at bytes)
 unfolding outer_at

@@ -74,7 +74,8 @@ swapped : (a b : ℕ) → eqb a b ≡ false → eqb b a ≡ false
 swapped a b h = ne_eqb b a (λ e. eqb-false a b h (sym e))
 
 -- a move behind others
-middle : (left : ℕ) (ms : Moves) (l c : ℕ) (t : Bet) (more : Moves) → are_sound left (join ms (move l c t more)) ≡ true → First left l c t more × (has_letter ms l ≡ false)
+middle : (left : ℕ) (ms : Moves) (l c : ℕ) (t : Bet) (more : Moves) → are_sound left (join ms (move l c t more)) ≡ true
+    → First left l c t more × (has_letter ms l ≡ false)
 middle left none l c t more h = (first left l c t more h, refl)
 middle left (move letter chips next ms) l c t more h =
     let f = first left letter chips next (join ms (move l c t more)) h in
@@ -97,34 +98,44 @@ runs_digit o outer n d bytes lt some few =
     let same : n * 10 + (48 + d - 48) ≡ n * 10 + d = omega arith in
     rw (no_colon, goes n d lt some few, same) refl
 
-runs_decimal : (o : Open) (outer : List Open) (n : ℕ) → 0 < n → n ≤ 4096 → (bytes : List ℕ) → run (at_chips (with_chips o 0) outer) (decimal n ++ bytes) ≡ run (at_chips (with_chips o n) outer) bytes
+runs_decimal : (o : Open) (outer : List Open) (n : ℕ) → 0 < n → n ≤ 4096 → (bytes : List ℕ)
+    → run (at_chips (with_chips o 0) outer) (decimal n ++ bytes) ≡ run (at_chips (with_chips o n) outer) bytes
 runs_decimal o outer n some few =
-    let P : ℕ → List ℕ → Type 0 = λ n ds. 0 < n → n ≤ 4096 → (bytes : List ℕ) → run (at_chips (with_chips o 0) outer) (ds ++ bytes) ≡ run (at_chips (with_chips o n) outer) bytes in
+    let P : ℕ → List ℕ → Type 0 = λ n ds. 0 < n → n ≤ 4096 → (bytes : List ℕ)
+    → run (at_chips (with_chips o 0) outer) (ds ++ bytes) ≡ run (at_chips (with_chips o n) outer) bytes in
     decimal_by_steps P
-    (λ n lt some few bytes. runs_digit o outer 0 n bytes lt (omega arith) (omega arith) ∙ ap (λ (k : ℕ). run (at_chips (with_chips o k) outer) bytes) (zero-add n))
+    (λ n lt some few bytes. runs_digit o outer 0 n bytes lt (omega arith) (omega arith)
+    ∙ ap (λ (k : ℕ). run (at_chips (with_chips o k) outer) bytes) (zero-add n))
     (λ n ds ge before some few bytes.
     let whole_of : n / 10 * 10 + n % 10 ≡ n = omega arith in
     let front = before (omega arith) (omega arith) ((48 + n % 10) ∷ bytes) in
     let last = runs_digit o outer (n / 10) (n % 10) bytes (omega arith) (omega arith) (omega arith) in
-    ap (run (at_chips (with_chips o 0) outer)) (append_assoc ds ((48 + n % 10) ∷ []) bytes) ∙ front ∙ last ∙ ap (λ (k : ℕ). run (at_chips (with_chips o k) outer) bytes) whole_of)
+    ap (run (at_chips (with_chips o 0) outer)) (append_assoc ds ((48 + n % 10) ∷ []) bytes) ∙ front ∙ last
+    ∙ ap (λ (k : ℕ). run (at_chips (with_chips o k) outer) bytes) whole_of)
     n (omega arith) some few
 
-runs_chips : (o : Open) (outer : List Open) (n : ℕ) (bytes : List ℕ) → n ≤ 4096 → run (at_chips (with_chips o 0) outer) (chips_text n ++ bytes) ≡ run (at_chips (with_chips o n) outer) bytes
+runs_chips : (o : Open) (outer : List Open) (n : ℕ) (bytes : List ℕ) → n ≤ 4096
+    → run (at_chips (with_chips o 0) outer) (chips_text n ++ bytes) ≡ run (at_chips (with_chips o n) outer) bytes
 runs_chips o outer zero bytes few = refl
 runs_chips o outer (suc n) bytes few = runs_decimal o outer (suc n) (omega arith) few bytes
 
 -- reading t, whatever stands behind it
 abbrev RunsTree : Bet → Type 0
-RunsTree t = (outer : List Open) (rest : List ℕ) → is_sound (16 - length outer) t ≡ true → (is_inside outer || not (is_fold t)) ≡ true → run (at_tree outer) (tree_text t ++ rest) ≡ run (after outer t) rest
+RunsTree t = (outer : List Open) (rest : List ℕ) → is_sound (16 - length outer) t ≡ true → (is_inside outer || not (is_fold t)) ≡ true
+    → run (at_tree outer) (tree_text t ++ rest) ≡ run (after outer t) rest
 
-runs_move : (l c : ℕ) (t : Bet) → RunsTree t → (p : ℕ) (ms : Moves) (outer : List Open) (front tail : List ℕ) → length outer < 16 → is_letter l ≡ true → has_letter ms l ≡ false → c ≤ 4096 → is_sound (15 - length outer) t ≡ true
+runs_move : (l c : ℕ) (t : Bet) → RunsTree t → (p : ℕ) (ms : Moves) (outer : List Open) (front tail : List ℕ) → length outer < 16 → is_letter l ≡ true
+    → has_letter ms l ≡ false → c ≤ 4096 → is_sound (15 - length outer) t ≡ true
     → run (at_letter p ms outer) ((l ∷ (chips_text c ++ (58 ∷ (tree_text t ++ front)))) ++ tail) ≡ run (at_next p (push_move ms l c t) outer) (front ++ tail)
 runs_move l c t runs p ms outer front tail depth letter fresh few sound =
     let o : Open = record { player = p; moves = ms; letter = l; chips = c } in
     let left : 16 - length (o ∷ outer) ≡ 15 - length outer = omega arith in
-    let first : run (at_letter p ms outer) ((l ∷ (chips_text c ++ (58 ∷ (tree_text t ++ front)))) ++ tail) ≡ run (at_chips (with_chips o 0) outer) ((chips_text c ++ (58 ∷ (tree_text t ++ front))) ++ tail) = rw (letter, fresh) refl in
-    let second : run (at_chips (with_chips o 0) outer) ((chips_text c ++ (58 ∷ (tree_text t ++ front))) ++ tail) ≡ run (at_chips o outer) (58 ∷ ((tree_text t ++ front) ++ tail)) =
-    ap (run (at_chips (with_chips o 0) outer)) (append_assoc (chips_text c) (58 ∷ (tree_text t ++ front)) tail) ∙ runs_chips o outer c (58 ∷ ((tree_text t ++ front) ++ tail)) few in
+    let first : run (at_letter p ms outer) ((l ∷ (chips_text c ++ (58 ∷ (tree_text t ++ front)))) ++ tail)
+    ≡ run (at_chips (with_chips o 0) outer) ((chips_text c ++ (58 ∷ (tree_text t ++ front))) ++ tail) = rw (letter, fresh) refl in
+    let second : run (at_chips (with_chips o 0) outer) ((chips_text c ++ (58 ∷ (tree_text t ++ front))) ++ tail)
+    ≡ run (at_chips o outer) (58 ∷ ((tree_text t ++ front) ++ tail)) =
+    ap (run (at_chips (with_chips o 0) outer)) (append_assoc (chips_text c) (58 ∷ (tree_text t ++ front)) tail)
+    ∙ runs_chips o outer c (58 ∷ ((tree_text t ++ front) ++ tail)) few in
     let third : run (at_tree (o ∷ outer)) ((tree_text t ++ front) ++ tail) ≡ run (after (o ∷ outer) t) (front ++ tail) =
     ap (run (at_tree (o ∷ outer))) (append_assoc (tree_text t) front tail) ∙ runs (o ∷ outer) (front ++ tail) (rw left sound) refl in
     first ∙ second ∙ third
@@ -137,7 +148,8 @@ pub player_cases : (p : ℕ) → is_player p ≡ true → (p ≡ 1) ⊎ (p ≡ 2
 player_cases p h = elim (or_cases (eqb p 1) (eqb p 2) h) [ inl e ↦ inl (eqb-true p 1 e) | inr e ↦ inr (eqb-true p 2 e) ]
 
 -- the front of an act
-runs_front : (p : ℕ) (outer : List Open) (bytes : List ℕ) → length outer < 16 → is_player p ≡ true → run (at_tree outer) ((48 + p) ∷ 91 ∷ bytes) ≡ run (at_letter p none outer) bytes
+runs_front : (p : ℕ) (outer : List Open) (bytes : List ℕ) → length outer < 16 → is_player p ≡ true
+    → run (at_tree outer) ((48 + p) ∷ 91 ∷ bytes) ≡ run (at_letter p none outer) bytes
 runs_front p outer bytes depth player =
     elim (player_cases p player) [
       | inl e ↦ rw (e, lt-ltb (length outer) 16 depth) refl
@@ -164,7 +176,8 @@ mutual
   runs_tree even outer rest sound no_fold = refl
 
   -- an act up to its `]`
-  pub runs_act : (ms : Moves) (p : ℕ) (outer : List Open) (tail : List ℕ) → length outer < 16 → is_player p ≡ true → has_move ms ≡ true → are_sound (15 - length outer) ms ≡ true
+  pub runs_act : (ms : Moves) (p : ℕ) (outer : List Open) (tail : List ℕ) → length outer < 16 → is_player p ≡ true → has_move ms ≡ true
+      → are_sound (15 - length outer) ms ≡ true
       → run (at_tree outer) (((48 + p) ∷ moves_text 91 ms) ++ tail) ≡ run (at_next p ms outer) tail
   runs_act none p outer tail depth player some sound = absurd (false≢true some)
   runs_act (move l c t more) p outer tail depth player some sound =
@@ -174,14 +187,16 @@ mutual
       let others = runs_moves more p (move l c t none) outer tail depth sound in
       front ∙ one ∙ others
 
-  runs_moves : (more : Moves) (p : ℕ) (ms : Moves) (outer : List Open) (tail : List ℕ) → length outer < 16 → are_sound (15 - length outer) (join ms more) ≡ true
+  runs_moves : (more : Moves) (p : ℕ) (ms : Moves) (outer : List Open) (tail : List ℕ) → length outer < 16
+      → are_sound (15 - length outer) (join ms more) ≡ true
       → run (at_next p ms outer) (moves_text 44 more ++ tail) ≡ run (at_next p (join ms more) outer) tail
   runs_moves none p ms outer tail depth sound = rw join_none refl
   runs_moves (move l c t more) p ms outer tail depth sound =
       let m = middle (15 - length outer) ms l c t more sound in
       let room : count ms < 26 = omega (arith, at_most_26 (15 - length outer) (join ms (move l c t more)) sound, count_join ms (move l c t more)) in
       let joined = join_push ms l c t more in
-      let comma : run (at_next p ms outer) (moves_text 44 (move l c t more) ++ tail) ≡ run (at_letter p ms outer) ((l ∷ (chips_text c ++ (58 ∷ (tree_text t ++ moves_text 44 more)))) ++ tail) = rw (lt-ltb (count ms) 26 room) refl in
+      let comma : run (at_next p ms outer) (moves_text 44 (move l c t more) ++ tail)
+      ≡ run (at_letter p ms outer) ((l ∷ (chips_text c ++ (58 ∷ (tree_text t ++ moves_text 44 more)))) ++ tail) = rw (lt-ltb (count ms) 26 room) refl in
       let one = runs_move l c t (runs_tree t) p ms outer (moves_text 44 more) tail depth m.0.letter m.1 m.0.chips m.0.next in
       let others = runs_moves more p (push_move ms l c t) outer tail depth (rw joined sound) in
       comma ∙ one ∙ others ∙ ap (λ (x : Moves). run (at_next p x outer) tail) joined
@@ -189,14 +204,17 @@ mutual
 -- ---- a cut's text leads to the cut
 
 -- an act up to its next letter
-pub runs_to_letter : (ms : Moves) (p : ℕ) (outer : List Open) (tail : List ℕ) → IsAct p ms outer → count ms < 26 → run (at_tree outer) (act_front p ms ++ tail) ≡ run (at_letter p ms outer) tail
+pub runs_to_letter : (ms : Moves) (p : ℕ) (outer : List Open) (tail : List ℕ) → IsAct p ms outer → count ms < 26
+    → run (at_tree outer) (act_front p ms ++ tail) ≡ run (at_letter p ms outer) tail
 runs_to_letter none p outer tail h few = runs_front p outer tail h.depth h.player
 runs_to_letter (move l c t more) p outer tail h few =
     let ms = move l c t more in
     let comma : run (at_next p ms outer) (44 ∷ tail) ≡ run (at_letter p ms outer) tail = rw (lt-ltb (count ms) 26 few) refl in
-    ap (run (at_tree outer)) (append_assoc ((48 + p) ∷ moves_text 91 ms) (44 ∷ []) tail) ∙ runs_act ms p outer (44 ∷ tail) h.depth h.player refl h.moves ∙ comma
+    ap (run (at_tree outer)) (append_assoc ((48 + p) ∷ moves_text 91 ms) (44 ∷ []) tail) ∙ runs_act ms p outer (44 ∷ tail) h.depth h.player refl h.moves
+    ∙ comma
 
-sound_fresh : (left : ℕ) (ms : Moves) (l : ℕ) → are_sound left ms ≡ true → is_letter l ≡ true → has_letter ms l ≡ false → are_sound left (push_move ms l 0 even) ≡ true
+sound_fresh : (left : ℕ) (ms : Moves) (l : ℕ) → are_sound left ms ≡ true → is_letter l ≡ true → has_letter ms l ≡ false
+    → are_sound left (push_move ms l 0 even) ≡ true
 sound_fresh left ms l sound letter fresh = sound_push left ms l 0 even sound letter fresh (omega arith) refl
 
 few_moves : (o : Open) (outer : List Open) → IsOpen o outer → count o.moves < 26
@@ -205,8 +223,13 @@ few_moves o outer h =
     omega (arith, at_most_26 (15 - length outer) (push_move o.moves o.letter 0 even) more, count_push o.moves o.letter 0 even)
 
 -- an open act up to its chips
-pub runs_to_chips : (o : Open) (outer : List Open) (tail : List ℕ) → IsOpen o outer → run (at_tree outer) ((act_front o.player o.moves ++ (o.letter ∷ chips_text o.chips)) ++ tail) ≡ run (at_chips o outer) tail
+pub runs_to_chips : (o : Open) (outer : List Open) (tail : List ℕ) → IsOpen o outer
+    → run (at_tree outer) ((act_front o.player o.moves ++ (o.letter ∷ chips_text o.chips)) ++ tail) ≡ run (at_chips o outer) tail
 runs_to_chips o outer tail h =
-    let text : (act_front o.player o.moves ++ (o.letter ∷ chips_text o.chips)) ++ tail ≡ act_front o.player o.moves ++ (o.letter ∷ (chips_text o.chips ++ tail)) = append_assoc (act_front o.player o.moves) (o.letter ∷ chips_text o.chips) tail in
-    let letter : run (at_letter o.player o.moves outer) (o.letter ∷ (chips_text o.chips ++ tail)) ≡ run (at_chips (with_chips o 0) outer) (chips_text o.chips ++ tail) = rw (h.letter, h.fresh) refl in
-    ap (run (at_tree outer)) text ∙ runs_to_letter o.moves o.player outer (o.letter ∷ (chips_text o.chips ++ tail)) h.act (few_moves o outer h) ∙ letter ∙ runs_chips o outer o.chips tail h.chips
+    let text : (act_front o.player o.moves ++ (o.letter ∷ chips_text o.chips)) ++ tail
+    ≡ act_front o.player o.moves ++ (o.letter ∷ (chips_text o.chips ++ tail)) =
+    append_assoc (act_front o.player o.moves) (o.letter ∷ chips_text o.chips) tail in
+    let letter : run (at_letter o.player o.moves outer) (o.letter ∷ (chips_text o.chips ++ tail))
+    ≡ run (at_chips (with_chips o 0) outer) (chips_text o.chips ++ tail) = rw (h.letter, h.fresh) refl in
+    ap (run (at_tree outer)) text ∙ runs_to_letter o.moves o.player outer (o.letter ∷ (chips_text o.chips ++ tail)) h.act (few_moves o outer h) ∙ letter
+    ∙ runs_chips o outer o.chips tail h.chips

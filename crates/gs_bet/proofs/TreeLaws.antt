@@ -21,4 +21,5 @@ pub plain_act-out : (a : Choice) → plain_act a ≡ act (out-Act a).player (pla
 plain_act-out a = fold_out-Act Bet Bet PlainMove tree_step act_step move_step a ∙ ap (act (out-Act a).player) (same_moves (out-Act a).moves.items)
 
 pub plain-made : (p : ℕ) (ms : Vec Move) → plain (Act (roll-Act record { player = p; moves = ms })) ≡ act p (plain_moves ms.items)
-plain-made p ms = plain-act (roll-Act record { player = p; moves = ms }) ∙ fold-roll-Act Bet Bet PlainMove tree_step act_step move_step record { player = p; moves = ms } ∙ ap (act p) (same_moves ms.items)
+plain-made p ms = plain-act (roll-Act record { player = p; moves = ms })
+    ∙ fold-roll-Act Bet Bet PlainMove tree_step act_step move_step record { player = p; moves = ms } ∙ ap (act p) (same_moves ms.items)

@@ -24,8 +24,10 @@ reached s = Ok s
 reached_is : (x y : Cut) → reached x ≡ reached y → x ≡ y
 reached_is x y e = cc
 
-front_behind : (b : ℕ) (front rest : List ℕ) (next : Cut) → ((x : Cut) → run x (front ++ rest) ≡ Ok next → (middle : Cut) × (run x front ≡ Ok middle) × (run middle rest ≡ Ok next))
-    → (r : Result Cut Mistake) → step_then r (λ x. run x (front ++ rest)) (b ∷ (front ++ rest)) ≡ Ok next → (middle : Cut) × (step_then r (λ x. run x front) (b ∷ front) ≡ Ok middle) × (run middle rest ≡ Ok next)
+front_behind : (b : ℕ) (front rest : List ℕ) (next : Cut) → ((x : Cut) → run x (front ++ rest) ≡ Ok next
+    → (middle : Cut) × (run x front ≡ Ok middle) × (run middle rest ≡ Ok next))
+    → (r : Result Cut Mistake) → step_then r (λ x. run x (front ++ rest)) (b ∷ (front ++ rest)) ≡ Ok next
+    → (middle : Cut) × (step_then r (λ x. run x front) (b ∷ front) ≡ Ok middle) × (run middle rest ≡ Ok next)
 front_behind b front rest next go (Ok x) h = go x h
 front_behind b front rest next go (Err m) h = absurd cc
 
@@ -34,7 +36,8 @@ run_front [] rest s next h = (s, refl, h)
 run_front (b ∷ front) rest s next h = front_behind b front rest next (λ x go. run_front front rest x next go) (step s b) h
 
 on_behind : (b : ℕ) (front rest : List ℕ) (middle : Cut) → ((x : Cut) → run x front ≡ Ok middle → run x (front ++ rest) ≡ run middle rest)
-    → (r : Result Cut Mistake) → step_then r (λ x. run x front) (b ∷ front) ≡ Ok middle → step_then r (λ x. run x (front ++ rest)) (b ∷ (front ++ rest)) ≡ run middle rest
+    → (r : Result Cut Mistake) → step_then r (λ x. run x front) (b ∷ front) ≡ Ok middle
+    → step_then r (λ x. run x (front ++ rest)) (b ∷ (front ++ rest)) ≡ run middle rest
 on_behind b front rest middle go (Ok x) h = go x h
 on_behind b front rest middle go (Err m) h = absurd cc
 
@@ -173,7 +176,11 @@ named (at_letter p ms outer) b h =
 named (at_chips o outer) b h =
     elim (cases_Bool (eqb b 58)) [ inl e ↦ rw e tt | inr e ↦ elim (cases_Bool (goes_on o.chips b)) [ inl f ↦ rw (e, f) tt | inr f ↦ rw (e, f) refl ] ]
 named (at_next p ms outer) b h =
-    elim (cases_Bool (eqb b 93)) [ inl e ↦ rw e tt | inr e ↦ elim (cases_Bool (eqb b 44 && ltb (count ms) 26)) [ inl f ↦ rw (e, f) tt | inr f ↦ rw (e, f) refl ] ]
+    elim (cases_Bool (eqb b 93)) [
+      | inl e ↦ rw e tt
+      | inr e ↦ elim (cases_Bool (eqb b 44 && ltb (count ms) 26))
+          [ inl f ↦ rw (e, f) tt | inr f ↦ rw (e, f) refl ]
+    ]
 named (whole t) b h = refl
 
 at_end : (s : Cut) → Syntax ≡ mistake_at s None
@@ -194,7 +201,8 @@ get_seam (b ∷ front) rest = get_seam front rest
 
 -- ---- the longest prefix
 
-stuck_ends : (front : List ℕ) (place : Cut) (b : ℕ) (rest : List ℕ) (m : Mistake) → run (at_tree []) front ≡ Ok place → step place b ≡ Err m → BeginsTree (front ++ (b ∷ rest)) → ⊥
+stuck_ends : (front : List ℕ) (place : Cut) (b : ℕ) (rest : List ℕ) (m : Mistake) → run (at_tree []) front ≡ Ok place → step place b ≡ Err m
+    → BeginsTree (front ++ (b ∷ rest)) → ⊥
 stuck_ends front place b rest m to stuck begins =
     let r = run_from_begins (front ++ (b ∷ rest)) begins in
     let e : run place (b ∷ rest) ≡ Ok r.0 = sym (run_on front (b ∷ rest) (at_tree []) place to) ∙ r.1 in
@@ -203,18 +211,21 @@ stuck_ends front place b rest m to stuck begins =
     not_both : (s : Cut) (m : Mistake) (rest : List ℕ) → reached s ≡ Err (m, rest) → ⊥
     not_both s m rest h = absurd cc
 
-not_longer : (front rest : List ℕ) (place : Cut) (m : Mistake) → run (at_tree []) front ≡ Ok place → Stuck place rest m → (k : ℕ) → 0 < k → k ≤ length rest → BeginsTree (front ++ take k rest) → ⊥
+not_longer : (front rest : List ℕ) (place : Cut) (m : Mistake) → run (at_tree []) front ≡ Ok place → Stuck place rest m → (k : ℕ) → 0 < k → k ≤ length rest
+    → BeginsTree (front ++ take k rest) → ⊥
 not_longer front [] place m to stuck k some within begins = absurd (omega arith)
 not_longer front (b ∷ rest) place m to stuck zero some within begins = absurd (omega arith)
 not_longer front (b ∷ rest) place m to stuck (suc k) some within begins = stuck_ends front place b (take k rest) m to stuck begins
 
-longest : (front rest : List ℕ) (place : Cut) (m : Mistake) → run (at_tree []) front ≡ Ok place → Stuck place rest m → IsLongest (front ++ rest) (length front)
+longest : (front rest : List ℕ) (place : Cut) (m : Mistake) → run (at_tree []) front ≡ Ok place → Stuck place rest m
+    → IsLongest (front ++ rest) (length front)
 longest front rest place m to stuck = record {
   within = omega (arith, length-append front rest);
   begins = rw take-append_seam (begins_from_run front place to);
   longest = λ n more within begins.
       let k : length front + (n - length front) ≡ n = omega arith in
-      let cut : take n (front ++ rest) ≡ front ++ take (n - length front) rest = ap (λ (i : ℕ). take i (front ++ rest)) (sym k) ∙ take-append-add front rest (n - length front) in
+      let cut : take n (front ++ rest) ≡ front ++ take (n - length front) rest =
+      ap (λ (i : ℕ). take i (front ++ rest)) (sym k) ∙ take-append-add front rest (n - length front) in
       not_longer front rest place m to stuck (n - length front) (omega arith) (omega (arith, length-append front rest)) (rw cut at begins);
 }
 
@@ -244,14 +255,18 @@ left_within text m rest h = let f = read_err text (at_tree []) m rest h in omega
 
 -- ---- a cut's text leads to the cut
 
-behind_open : (outer : List Open) (tail : List ℕ) (s : Cut) → run (at_tree []) (open_text outer) ≡ Ok (at_tree outer) → run (at_tree outer) tail ≡ Ok s → run (at_tree []) (open_text outer ++ tail) ≡ Ok s
+behind_open : (outer : List Open) (tail : List ℕ) (s : Cut) → run (at_tree []) (open_text outer) ≡ Ok (at_tree outer) → run (at_tree outer) tail ≡ Ok s
+    → run (at_tree []) (open_text outer ++ tail) ≡ Ok s
 behind_open outer tail s open_is h = run_on (open_text outer) tail (at_tree []) (at_tree outer) open_is ∙ h
 
 open_runs : (outer : List Open) → AreOpen outer → run (at_tree []) (open_text outer) ≡ Ok (at_tree outer)
 open_runs [] h = refl
 open_runs (o ∷ outer) h =
-    let text : act_front o.player o.moves ++ (o.letter ∷ (chips_text o.chips ++ 58 ∷ [])) ≡ (act_front o.player o.moves ++ (o.letter ∷ chips_text o.chips)) ++ 58 ∷ [] = sym (append_assoc (act_front o.player o.moves) (o.letter ∷ chips_text o.chips) (58 ∷ [])) in
-    behind_open outer (act_front o.player o.moves ++ (o.letter ∷ (chips_text o.chips ++ 58 ∷ []))) (at_tree (o ∷ outer)) (open_runs outer h.1) (ap (run (at_tree outer)) text ∙ runs_to_chips o outer (58 ∷ []) h.0)
+    let text : act_front o.player o.moves ++ (o.letter ∷ (chips_text o.chips ++ 58 ∷ []))
+    ≡ (act_front o.player o.moves ++ (o.letter ∷ chips_text o.chips)) ++ 58 ∷ [] =
+    sym (append_assoc (act_front o.player o.moves) (o.letter ∷ chips_text o.chips) (58 ∷ [])) in
+    behind_open outer (act_front o.player o.moves ++ (o.letter ∷ (chips_text o.chips ++ 58 ∷ []))) (at_tree (o ∷ outer)) (open_runs outer h.1)
+    (ap (run (at_tree outer)) text ∙ runs_to_chips o outer (58 ∷ []) h.0)
 
 -- up to the end of a text
 to_end : (s : Cut) (text : List ℕ) (u : Cut) → run s (text ++ []) ≡ run u [] → run s text ≡ Ok u
@@ -260,13 +275,18 @@ to_end s text u h = ap (run s) (sym (append-nil text)) ∙ h
 pub cut_runs : (s : Cut) → IsCut s → run (at_tree []) (cut_text s) ≡ Ok s
 cut_runs (at_tree outer) h = open_runs outer h
 cut_runs (at_bracket p outer) h =
-    let one : run (at_tree outer) ((48 + p) ∷ []) ≡ Ok (at_bracket p outer) = elim (player_cases p h.0.player) [ inl e ↦ rw (e, lt-ltb (length outer) 16 h.0.depth) refl | inr e ↦ rw (e, lt-ltb (length outer) 16 h.0.depth) refl ] in
+    let one : run (at_tree outer) ((48 + p) ∷ []) ≡ Ok (at_bracket p outer) =
+    elim (player_cases p h.0.player) [ inl e ↦ rw (e, lt-ltb (length outer) 16 h.0.depth) refl | inr e ↦ rw (e, lt-ltb (length outer) 16 h.0.depth) refl ]
+    in
     behind_open outer ((48 + p) ∷ []) (at_bracket p outer) (open_runs outer h.1) one
-cut_runs (at_letter p ms outer) h = behind_open outer (act_front p ms) (at_letter p ms outer) (open_runs outer h.2) (to_end (at_tree outer) (act_front p ms) (at_letter p ms outer) (runs_to_letter ms p outer [] h.0 h.1))
+cut_runs (at_letter p ms outer) h = behind_open outer (act_front p ms) (at_letter p ms outer) (open_runs outer h.2)
+    (to_end (at_tree outer) (act_front p ms) (at_letter p ms outer) (runs_to_letter ms p outer [] h.0 h.1))
 cut_runs (at_chips o outer) h =
-    behind_open outer (act_front o.player o.moves ++ (o.letter ∷ chips_text o.chips)) (at_chips o outer) (open_runs outer h.1) (to_end (at_tree outer) (act_front o.player o.moves ++ (o.letter ∷ chips_text o.chips)) (at_chips o outer) (runs_to_chips o outer [] h.0))
+    behind_open outer (act_front o.player o.moves ++ (o.letter ∷ chips_text o.chips)) (at_chips o outer) (open_runs outer h.1)
+    (to_end (at_tree outer) (act_front o.player o.moves ++ (o.letter ∷ chips_text o.chips)) (at_chips o outer) (runs_to_chips o outer [] h.0))
 cut_runs (at_next p ms outer) h =
-    behind_open outer ((48 + p) ∷ moves_text 91 ms) (at_next p ms outer) (open_runs outer h.2) (to_end (at_tree outer) ((48 + p) ∷ moves_text 91 ms) (at_next p ms outer) (runs_act ms p outer [] h.0.depth h.0.player h.1 h.0.moves))
+    behind_open outer ((48 + p) ∷ moves_text 91 ms) (at_next p ms outer) (open_runs outer h.2)
+    (to_end (at_tree outer) ((48 + p) ∷ moves_text 91 ms) (at_next p ms outer) (runs_act ms p outer [] h.0.depth h.0.player h.1 h.0.moves))
 cut_runs (whole t) h = reads_text t h
 
 -- a text is the text of one cut

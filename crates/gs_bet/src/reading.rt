@@ -85,7 +85,8 @@ fn move_of<'t>(
     moves: &[Move],
     bytes: &'t [u8],
 ) -> Result<(Move, &'t [u8]), Stop>
-    ensures { Gives (λ x. (push_move (plain_moves moves.now) (out-Move x.0).letter (out-Move x.0).chips (plain (out-Move x.0).next), x.1.now)) result (move_at (inner_at (act_at left)) (plain_moves moves.now) bytes.now) }
+    ensures { Gives (λ x. (push_move (plain_moves moves.now) (out-Move x.0).letter (out-Move x.0).chips (plain (out-Move x.0).next), x.1.now)) result
+        (move_at (inner_at (act_at left)) (plain_moves moves.now) bytes.now) }
 {
     let (letter, rest) = letter_of(moves, bytes)?;
     let (chips, rest) = chips_of(rest);

@@ -54,7 +54,8 @@ module _ (g : Game) (plain : IsPlain g) (numbers : List ℕ) (pays : ℤ → ℤ
       rest = filter (λ (d : Deal). nat_lt 0 d.weight) (map (deal_at g i) (range_with_len (a + 1) n))
 
       go : (b : Bool) → (deal_at g i a).weight ≡ cond b 1 0 → sum_z deal_paid rest ≡ sum_z (beside i) (range_with_len (a + 1) n)
-          → sum_z deal_paid (cond (nat_lt 0 (deal_at g i a).weight) (deal_at g i a ∷ rest) rest) ≡ cond b (paid_at i a) (pos 0) +ℤ sum_z (beside i) (range_with_len (a + 1) n)
+          → sum_z deal_paid (cond (nat_lt 0 (deal_at g i a).weight) (deal_at g i a ∷ rest) rest)
+          ≡ cond b (paid_at i a) (pos 0) +ℤ sum_z (beside i) (range_with_len (a + 1) n)
       go true w r =
           ap (λ (x : ℕ). sum_z deal_paid (cond (nat_lt 0 x) (deal_at g i a ∷ rest) rest)) w
           ∙ ap (λ z. z +ℤ sum_z deal_paid rest) (once_paid i a w) ∙ ap (λ z. paid_at i a +ℤ z) r
@@ -100,7 +101,8 @@ module _ (g : Game) (plain : IsPlain g) (numbers : List ℕ) (pays : ℤ → ℤ
 
     -- what a signal is paid: by the places before its own, and by those behind it
     pub place_paid : (n : ℕ) (d : Place) → n < length places
-        → deal_sum g numbers pays (get_or places n d).signal ≡ sum_z (by_place (get_or places n d)) (take n places) +ℤ sum_z (by_place (get_or places n d)) (drop (n + 1) places)
+        → deal_sum g numbers pays (get_or places n d).signal ≡ sum_z (by_place (get_or places n d)) (take n places)
+        +ℤ sum_z (by_place (get_or places n d)) (drop (n + 1) places)
     place_paid n d l =
         row_paid p.signal (inside n d l) ∙ over_places (beside p.signal) (last_count g) places inside are.once
         ∙ ap (sum_z f) (sym (take-append-drop n places)) ∙ sum_z-append f (take n places) (drop n places)
@@ -132,7 +134,8 @@ module _ (g : Game) (plain : IsPlain g) (numbers : List ℕ) (pays : ℤ → ℤ
         behind : All (λ q. f q ≡ by_place p q) (drop (n + 1) places)
         behind i e m =
             let in' : n + 1 + i < length places = omega (arith, m, length-drop (n + 1) places) in
-            let is : get_or (drop (n + 1) places) i e ≡ get_or places (n + 1 + i) d = get_or-drop (n + 1) places i e ∙ get_or_default places (n + 1 + i) e d in' in
+            let is : get_or (drop (n + 1) places) i e ≡ get_or places (n + 1 + i) d =
+            get_or-drop (n + 1) places i e ∙ get_or_default places (n + 1 + i) e d in' in
             subst (λ q. f q ≡ by_place p q) (sym is) (at (n + 1 + i) in' (λ same. absurd (omega (arith, same))))
 
 -- what the walk up has written for each place
@@ -144,7 +147,8 @@ ArePaidBefore places pays numbers sums =
 abbrev pub ArePaidBehind : List Place → Pays → List ℕ → List ℤ → List ℤ → Type 0
 ArePaidBehind places pays numbers sums more =
     (n : ℕ) (d : Place) → n < length places
-    → get_or more (get_or places n d).signal (pos 0) ≡ get_or sums (get_or places n d).signal (pos 0) +ℤ paid_by pays numbers (get_or places n d) (drop (n + 1) places)
+    → get_or more (get_or places n d).signal (pos 0) ≡ get_or sums (get_or places n d).signal (pos 0)
+    +ℤ paid_by pays numbers (get_or places n d) (drop (n + 1) places)
 
 -- both walks give what each signal is paid
 pub both_ways : (g : Game) → IsPlain g → (places : List Place) → ArePlaces g places → (pays : Pays) (numbers : List ℕ) (sums more : List ℤ)

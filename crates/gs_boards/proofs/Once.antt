@@ -20,7 +20,8 @@ one_passes p xs i d l e =
     let one : cond {A = ℕ} (p (get_or xs i d)) 1 0 ≡ 1 = ap (λ b. cond {A = ℕ} b 1 0) e in
     omega (arith, one, get_or-le-sum_by (λ x. cond {A = ℕ} (p x) 1 0) xs i d l)
 
-two_pass : {X : Type 0} (p : X → Bool) (xs : List X) (i j : ℕ) (d : X) → i < j → j < length xs → p (get_or xs i d) ≡ true → p (get_or xs j d) ≡ true → 1 < count_by p xs
+two_pass : {X : Type 0} (p : X → Bool) (xs : List X) (i j : ℕ) (d : X) → i < j → j < length xs → p (get_or xs i d) ≡ true → p (get_or xs j d) ≡ true
+    → 1 < count_by p xs
 two_pass p [] i j d lt l e f = absurd (omega arith)
 two_pass p (x ∷ xs) i zero d lt l e f = absurd (omega arith)
 two_pass p (x ∷ xs) zero (suc j) d lt l e f =
@@ -53,7 +54,8 @@ abbrev pub places_of : ℕ → List Place → ℕ
 places_of signal places = count_by (λ (p : Place). p.signal == signal) places
 
 -- a signal has one place at most
-pub apart_from : (count : ℕ) (places : List Place) → All (λ (p : Place). p.signal < count) places → ((signal : ℕ) → signal < count → places_of signal places ≡ 1) → AreApart places
+pub apart_from : (count : ℕ) (places : List Place) → All (λ (p : Place). p.signal < count) places
+    → ((signal : ℕ) → signal < count → places_of signal places ≡ 1) → AreApart places
 apart_from count places each once i j d lt l e =
     let s : ℕ = (get_or places j d).signal in
     let one = once s (each j d l) in
@@ -72,18 +74,21 @@ place_of places signal one =
     record { index = found.index; inside = found.inside; is = λ d. (Decides-eqb (get_or places found.index d).signal signal).0 (found.passes d) }
 
 -- a sum over all signals is one over their places
-pub over_places : (f : ℕ → ℤ) (count : ℕ) (places : List Place) → All (λ (p : Place). p.signal < count) places → ((signal : ℕ) → signal < count → places_of signal places ≡ 1)
+pub over_places : (f : ℕ → ℤ) (count : ℕ) (places : List Place) → All (λ (p : Place). p.signal < count) places
+    → ((signal : ℕ) → signal < count → places_of signal places ≡ 1)
     → sum_z f (range_with_len 0 count) ≡ sum_z (λ (p : Place). f p.signal) places
 over_places f count places each once =
     sum_z-regroup (λ signal (p : Place). p.signal == signal) f places (range_with_len 0 count) (λ i d l.
     let in' : i < count = omega (arith, l, length-range_with_len 0 count) in
     let is : get_or (range_with_len 0 count) i d ≡ i = get_or-range_with_len 0 count i d in' ∙ omega arith in
     ap (λ (s : ℕ). places_of s places) is ∙ once i in')
-    ∙ sum_z-same_all (λ (p : Place). sum_z (λ signal. cond (p.signal == signal) (f signal) (pos 0)) (range_with_len 0 count)) (λ (p : Place). f p.signal) places (λ i d l. at (get_or places i d).signal (each i d l))
+    ∙ sum_z-same_all (λ (p : Place). sum_z (λ signal. cond (p.signal == signal) (f signal) (pos 0)) (range_with_len 0 count))
+    (λ (p : Place). f p.signal) places (λ i d l. at (get_or places i d).signal (each i d l))
   where
     at : (s : ℕ) → s < count → sum_z (λ signal. cond (s == signal) (f signal) (pos 0)) (range_with_len 0 count) ≡ f s
     at s l =
-        sum_z-same (λ signal. cond (s == signal) (f signal) (pos 0)) (λ signal. cond (s == signal) (f s) (pos 0)) (λ signal. by signal (s == signal) refl) (range_with_len 0 count)
+        sum_z-same (λ signal. cond (s == signal) (f signal) (pos 0)) (λ signal. cond (s == signal) (f s) (pos 0)) (λ signal. by signal (s == signal) refl)
+        (range_with_len 0 count)
         ∙ pick_one (λ signal. s == signal) (f s) (range_with_len 0 count) (range_once s 0 count (omega arith) (omega arith))
       where
         by : (signal : ℕ) (b : Bool) → (s == signal) ≡ b → cond b (f signal) (pos 0) ≡ cond b (f s) (pos 0)

@@ -24,15 +24,18 @@ multiples z f h xs each = sum_z-same_all f (λ x. z *ℤ pos (h x)) xs each ∙ 
 abbrev apart : (Place → ℕ) → Place → Place → ℕ
 apart worth p q = cond (q.board == p.board) (cond (q.strength == p.strength) 0 (worth q)) 0
 
-apart_is : (worth : Place → ℕ) (qs : List Place) (r : Running) (p : Place) → HasPassed worth qs r → r.board ≡ p.board → r.strength ≡ p.strength → sum_by (apart worth p) qs ≡ r.on_board - r.on_level
+apart_is : (worth : Place → ℕ) (qs : List Place) (r : Running) (p : Place) → HasPassed worth qs r → r.board ≡ p.board → r.strength ≡ p.strength
+    → sum_by (apart worth p) qs ≡ r.on_board - r.on_level
 apart_is worth qs r p h b s =
     let board : r.on_board ≡ board_sum worth p.board qs = h.on_board ∙ ap (λ n. board_sum worth n qs) b in
-    let level : r.on_level ≡ level_sum worth p.board p.strength qs = h.on_level ∙ ap (λ n. level_sum worth n r.strength qs) b ∙ ap (λ n. level_sum worth p.board n qs) s in
+    let level : r.on_level ≡ level_sum worth p.board p.strength qs = h.on_level ∙ ap (λ n. level_sum worth n r.strength qs) b
+    ∙ ap (λ n. level_sum worth p.board n qs) s in
     omega (
       arith,
       board,
       level,
-      both_add (apart worth p) (λ q. cond ((q.board == p.board) && (q.strength == p.strength)) (worth q) 0) (λ q. cond (q.board == p.board) (worth q) 0) (λ q. by (q.board == p.board) (q.strength == p.strength) (worth q)) qs,
+      both_add (apart worth p) (λ q. cond ((q.board == p.board) && (q.strength == p.strength)) (worth q) 0) (λ q. cond (q.board == p.board) (worth q) 0)
+          (λ q. by (q.board == p.board) (q.strength == p.strength) (worth q)) qs,
     )
   where
     by : (a b : Bool) (n : ℕ) → cond {A = ℕ} a (cond b 0 n) 0 + cond {A = ℕ} (a && b) n 0 ≡ cond {A = ℕ} a n 0
@@ -42,7 +45,8 @@ apart_is worth qs r p h b s =
 
 -- ---- one place after another
 
-fixed : (stake : ℤ) (numbers : List ℕ) (p q : Place) → cond (q.board == p.board) (pos (number_at numbers q) *ℤ stake) (pos 0) ≡ stake *ℤ pos (cond (q.board == p.board) (number_at numbers q) 0)
+fixed : (stake : ℤ) (numbers : List ℕ) (p q : Place) → cond (q.board == p.board) (pos (number_at numbers q) *ℤ stake) (pos 0)
+    ≡ stake *ℤ pos (cond (q.board == p.board) (number_at numbers q) 0)
 fixed stake numbers p q = go (q.board == p.board)
   where
     go : (b : Bool) → cond b (pos (number_at numbers q) *ℤ stake) (pos 0) ≡ stake *ℤ pos (cond b (number_at numbers q) 0)
@@ -51,7 +55,8 @@ fixed stake numbers p q = go (q.board == p.board)
 
 -- the outcomes
 wins : (p q : Place) → q.strength < p.strength → outcome_at p q ≡ pos p.win
-wins p q l = let t : nat_lt q.strength p.strength ≡ true = grind (arith, nat_tests) in ap (λ b. cond b (pos p.win) (cond (nat_lt p.strength q.strength) (neg_ℤ (pos q.win)) (pos 0))) t
+wins p q l = let t : nat_lt q.strength p.strength ≡ true = grind (arith, nat_tests) in
+    ap (λ b. cond b (pos p.win) (cond (nat_lt p.strength q.strength) (neg_ℤ (pos q.win)) (pos 0))) t
 
 ties : (p q : Place) → q.strength ≡ p.strength → outcome_at p q ≡ pos 0
 ties p q e =
@@ -106,38 +111,47 @@ settled chips numbers p q factor worth pays = ⊎_elim
     ∙ ap (λ c. factor *ℤ pos (cond c (cond (q.strength == p.strength) 0 (worth q)) 0)) (sym t))
     (λ (b : q.board ≡ p.board → ⊥).
     let t : (q.board == p.board) ≡ false = not_eq q.board p.board b in
-    ap (λ c. cond c (shown chips numbers p q) (pos 0)) t ∙ sym (no_more factor) ∙ ap (λ c. factor *ℤ pos (cond c (cond (q.strength == p.strength) 0 (worth q)) 0)) (sym t))
+    ap (λ c. cond c (shown chips numbers p q) (pos 0)) t ∙ sym (no_more factor)
+    ∙ ap (λ c. factor *ℤ pos (cond c (cond (q.strength == p.strength) 0 (worth q)) 0)) (sym t))
     (cases_eq q.board p.board)
 
 weaker : (chips : ℕ) (numbers : List ℕ) (p q : Place) → (q.board ≡ p.board → q.strength ≤ p.strength)
     → cond (q.board == p.board) (shown chips numbers p q) (pos 0) ≡ pos (chips * p.win) *ℤ pos (apart (number_at numbers) p q)
-weaker chips numbers p q weak = settled chips numbers p q (pos (chips * p.win)) (number_at numbers) (λ b s. ap (λ o. pos (number_at numbers q) *ℤ (pos chips *ℤ o)) (wins p q (omega (arith, weak b, s))) ∙ won_of chips (number_at numbers q) p.win)
+weaker chips numbers p q weak = settled chips numbers p q (pos (chips * p.win)) (number_at numbers)
+    (λ b s. ap (λ o. pos (number_at numbers q) *ℤ (pos chips *ℤ o)) (wins p q (omega (arith, weak b, s))) ∙ won_of chips (number_at numbers q) p.win)
 
 stronger : (chips : ℕ) (numbers : List ℕ) (p q : Place) → (q.board ≡ p.board → p.strength ≤ q.strength)
     → cond (q.board == p.board) (shown chips numbers p q) (pos 0) ≡ neg_ℤ (pos chips) *ℤ pos (apart (worth_at (Showdown chips) numbers) p q)
-stronger chips numbers p q strong = settled chips numbers p q (neg_ℤ (pos chips)) (worth_at (Showdown chips) numbers) (λ b s. ap (λ o. pos (number_at numbers q) *ℤ (pos chips *ℤ o)) (loses p q (omega (arith, strong b, s))) ∙ lost_of chips (number_at numbers q) q.win)
+stronger chips numbers p q strong = settled chips numbers p q (neg_ℤ (pos chips)) (worth_at (Showdown chips) numbers)
+    (λ b s. ap (λ o. pos (number_at numbers q) *ℤ (pos chips *ℤ o)) (loses p q (omega (arith, strong b, s))) ∙ lost_of chips (number_at numbers q) q.win)
 
 -- ---- all that a walk has passed
 
-fixed_all : (stake : ℤ) (numbers : List ℕ) (qs : List Place) (r : Running) (p : Place) → HasPassed (number_at numbers) qs r → r.board ≡ p.board → paid_by (Fixed stake) numbers p qs ≡ stake *ℤ pos r.on_board
+fixed_all : (stake : ℤ) (numbers : List ℕ) (qs : List Place) (r : Running) (p : Place) → HasPassed (number_at numbers) qs r → r.board ≡ p.board
+    → paid_by (Fixed stake) numbers p qs ≡ stake *ℤ pos r.on_board
 fixed_all stake numbers qs r p h b =
-    multiples stake (λ q. cond (q.board == p.board) (pos (number_at numbers q) *ℤ stake) (pos 0)) (λ q. cond (q.board == p.board) (number_at numbers q) 0) qs (λ i d l. fixed stake numbers p (get_or qs i d))
+    multiples stake (λ q. cond (q.board == p.board) (pos (number_at numbers q) *ℤ stake) (pos 0)) (λ q. cond (q.board == p.board) (number_at numbers q) 0) qs
+    (λ i d l. fixed stake numbers p (get_or qs i d))
     ∙ ap (λ n. stake *ℤ pos n) (ap (λ n. board_sum (number_at numbers) n qs) (sym b) ∙ sym h.on_board)
 
 -- what a place is paid by places that are no stronger on its board
-pub won_is : (pays : Pays) (numbers : List ℕ) (qs : List Place) (r : Running) (p : Place) → HasPassed (number_at numbers) qs r → r.board ≡ p.board → r.strength ≡ p.strength
+pub won_is : (pays : Pays) (numbers : List ℕ) (qs : List Place) (r : Running) (p : Place) → HasPassed (number_at numbers) qs r → r.board ≡ p.board
+    → r.strength ≡ p.strength
     → All (λ q. q.board ≡ p.board → q.strength ≤ p.strength) qs → won_by pays p r ≡ paid_by pays numbers p qs
 won_is (Fixed stake) numbers qs r p h b s weak = sym (fixed_all stake numbers qs r p h b)
 won_is (Showdown chips) numbers qs r p h b s weak =
     ap (λ n. pos (chips * p.win * n)) (sym (apart_is (number_at numbers) qs r p h b s))
     ∙ omega (arith, ints)
-    ∙ sym (multiples (pos (chips * p.win)) (λ q. cond (q.board == p.board) (shown chips numbers p q) (pos 0)) (apart (number_at numbers) p) qs (λ i d l. weaker chips numbers p (get_or qs i d) (weak i d l)))
+    ∙ sym (multiples (pos (chips * p.win)) (λ q. cond (q.board == p.board) (shown chips numbers p q) (pos 0)) (apart (number_at numbers) p) qs
+    (λ i d l. weaker chips numbers p (get_or qs i d) (weak i d l)))
 
 -- what a place is paid by places that are no weaker on its board
-pub lost_is : (pays : Pays) (numbers : List ℕ) (qs : List Place) (r : Running) (p : Place) → HasPassed (worth_at pays numbers) qs r → r.board ≡ p.board → r.strength ≡ p.strength
+pub lost_is : (pays : Pays) (numbers : List ℕ) (qs : List Place) (r : Running) (p : Place) → HasPassed (worth_at pays numbers) qs r → r.board ≡ p.board
+    → r.strength ≡ p.strength
     → All (λ q. q.board ≡ p.board → p.strength ≤ q.strength) qs → lost_by pays r ≡ paid_by pays numbers p qs
 lost_is (Fixed stake) numbers qs r p h b s strong = sym (fixed_all stake numbers qs r p h b)
 lost_is (Showdown chips) numbers qs r p h b s strong =
     ap (λ n. neg_ℤ (pos (chips * n))) (sym (apart_is (worth_at (Showdown chips) numbers) qs r p h b s))
     ∙ sym (neg_times chips (sum_by (apart (worth_at (Showdown chips) numbers) p) qs))
-    ∙ sym (multiples (neg_ℤ (pos chips)) (λ q. cond (q.board == p.board) (shown chips numbers p q) (pos 0)) (apart (worth_at (Showdown chips) numbers) p) qs (λ i d l. stronger chips numbers p (get_or qs i d) (strong i d l)))
+    ∙ sym (multiples (neg_ℤ (pos chips)) (λ q. cond (q.board == p.board) (shown chips numbers p q) (pos 0)) (apart (worth_at (Showdown chips) numbers) p) qs
+    (λ i d l. stronger chips numbers p (get_or qs i d) (strong i d l)))

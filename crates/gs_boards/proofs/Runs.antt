@@ -39,8 +39,10 @@ off_board worth qs board h = none_add (λ q. cond (q.board == board) (worth q) 0
     off : (q : Place) → (q.board ≡ board → ⊥) → cond (q.board == board) (worth q) 0 ≡ 0
     off q ne = grind (arith, nat_tests, ne)
 
-off_level : (worth : Place → ℕ) (qs : List Place) (board strength : ℕ) → All (λ q. q.board ≡ board → q.strength ≡ strength → ⊥) qs → level_sum worth board strength qs ≡ 0
-off_level worth qs board strength h = none_add (λ q. cond ((q.board == board) && (q.strength == strength)) (worth q) 0) qs (λ i d l. off (get_or qs i d) (h i d l))
+off_level : (worth : Place → ℕ) (qs : List Place) (board strength : ℕ) → All (λ q. q.board ≡ board → q.strength ≡ strength → ⊥) qs
+    → level_sum worth board strength qs ≡ 0
+off_level worth qs board strength h = none_add (λ q. cond ((q.board == board) && (q.strength == strength)) (worth q) 0) qs
+    (λ i d l. off (get_or qs i d) (h i d l))
   where
     off : (q : Place) → (q.board ≡ board → q.strength ≡ strength → ⊥) → cond ((q.board == board) && (q.strength == strength)) (worth q) 0 ≡ 0
     off q ne = ⊎_elim
@@ -94,14 +96,21 @@ passes worth qs more r p b s one h =
 -- what a walk has passed on its level is part of what it has passed on its board, and that is no more than so many worths
 pub level_within : (worth : Place → ℕ) (qs : List Place) (r : Running) → HasPassed worth qs r → r.on_level ≤ r.on_board
 level_within worth qs r h =
-    omega (arith, h.on_board, h.on_level, less_add (λ q. cond ((q.board == r.board) && (q.strength == r.strength)) (worth q) 0) (λ q. cond (q.board == r.board) (worth q) 0) (λ q. by (q.board == r.board) (q.strength == r.strength) (worth q)) qs)
+    omega (
+      arith,
+      h.on_board,
+      h.on_level,
+      less_add (λ q. cond ((q.board == r.board) && (q.strength == r.strength)) (worth q) 0)
+          (λ q. cond (q.board == r.board) (worth q) 0) (λ q. by (q.board == r.board) (q.strength == r.strength) (worth q)) qs,
+    )
   where
     by : (a b : Bool) (n : ℕ) → cond {A = ℕ} (a && b) n 0 ≤ cond {A = ℕ} a n 0
     by true true n = omega arith
     by true false n = omega arith
     by false b n = omega arith
 
-pub board_within : (worth : Place → ℕ) (qs : List Place) (r : Running) (m : ℕ) → ((q : Place) → worth q ≤ m) → HasPassed worth qs r → r.on_board ≤ length qs * m
+pub board_within : (worth : Place → ℕ) (qs : List Place) (r : Running) (m : ℕ) → ((q : Place) → worth q ≤ m) → HasPassed worth qs r
+    → r.on_board ≤ length qs * m
 board_within worth qs r m few h =
     omega (arith, h.on_board, sum_by-le (λ q. cond (q.board == r.board) (worth q) 0) m qs (λ i d l. by (get_or qs i d)))
   where

@@ -20,7 +20,8 @@ no_later p q lp lq h = record {
   strength = low_part p.board p.strength q.board q.strength h;
 }
 
-pub in_order : (made sorted : List Place) → All (λ p. p.strength < 2 ^ 32) made → IsPermutation made sorted → IsNonDecreasingBy rank_of sorted → AreInOrder sorted
+pub in_order : (made sorted : List Place) → All (λ p. p.strength < 2 ^ 32) made → IsPermutation made sorted → IsNonDecreasingBy rank_of sorted
+    → AreInOrder sorted
 in_order made sorted small moved rising i j d le l =
     let all = All-permutation (λ (p : Place). p.strength < 2 ^ 32) made sorted moved small in
     no_later (get_or sorted i d) (get_or sorted j d) (all i d (omega (arith, le, l))) (all j d l) (rising i j d le l)

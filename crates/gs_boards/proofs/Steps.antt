@@ -28,16 +28,19 @@ pub record HasDescended (worth : Place → ℕ) (places : List Place) (n : ℕ) 
 pub climb_start : (worth : Place → ℕ) (places : List Place) (r : Running) → r.on_board ≡ 0 → r.on_level ≡ 0 → HasClimbed worth places 0 r
 climb_start worth places r b l = record { passed = record { on_board = b; on_level = l }; last = λ d some. absurd (omega arith) }
 
-pub descend_start : (worth : Place → ℕ) (places : List Place) (n : ℕ) (r : Running) → n ≡ length places → r.on_board ≡ 0 → r.on_level ≡ 0 → HasDescended worth places n r
+pub descend_start : (worth : Place → ℕ) (places : List Place) (n : ℕ) (r : Running) → n ≡ length places → r.on_board ≡ 0 → r.on_level ≡ 0
+    → HasDescended worth places n r
 descend_start worth places n r all b l = record {
   passed = subst (λ qs. HasPassed worth qs r) (sym (drop_all n places (omega arith))) (record { on_board = b; on_level = l });
   last = λ d in'. absurd (omega arith);
 }
 
-pub one_back : (worth : Place → ℕ) (places : List Place) (n : ℕ) (r : Running) → 0 < n → HasDescended worth places n r → HasDescended worth places (n - 1 + 1) r
+pub one_back : (worth : Place → ℕ) (places : List Place) (n : ℕ) (r : Running) → 0 < n → HasDescended worth places n r
+    → HasDescended worth places (n - 1 + 1) r
 one_back worth places n r some h = let e : n ≡ n - 1 + 1 = omega arith in subst (λ (k : ℕ). HasDescended worth places k r) e h
 
-module _ (worth : Place → ℕ) (places : List Place) (order : AreInOrder places) (n : ℕ) (p : Place) (inside : n < length places) (read : p ≡ get_or places n p) where
+module _ (worth : Place → ℕ) (places : List Place) (order : AreInOrder places) (n : ℕ) (p : Place) (inside : n < length places) (read : p
+    ≡ get_or places n p) where
   -- the places before one, and those behind it
   earlier : (i : ℕ) (d : Place) → i < n → get_or (take n places) i d ≡ get_or places i p
   earlier i d l = let in' : i < length places = omega arith in get_or-take n places i d l ∙ get_or_default places i d p in'
@@ -80,7 +83,15 @@ module _ (worth : Place → ℕ) (places : List Place) (order : AreInOrder place
         let o = order (n - 1) n p (omega arith) inside in
         let at = h.last p (omega arith) in
         let from = ap (λ (x : Place). x.board) (earlier i d m) in
-        ne (omega (arith, q.strength (omega (arith, b, from, same, at.board)), o.strength (omega (arith, same, at.board, board_is)), s, ap (λ (x : Place). x.strength) (earlier i d m), strength_is, at.strength));
+        ne (omega (
+          arith,
+          q.strength (omega (arith, b, from, same, at.board)),
+          o.strength (omega (arith, same, at.board, board_is)),
+          s,
+          ap (λ (x : Place). x.strength) (earlier i d m),
+          strength_is,
+          at.strength,
+        ));
   }
 
   behind : (r : Running) → HasDescended worth places (n + 1) r → IsBefore (drop (n + 1) places) r p
@@ -96,7 +107,15 @@ module _ (worth : Place → ℕ) (places : List Place) (order : AreInOrder place
         let o = order n (n + 1) p (omega arith) (omega arith) in
         let at = h.last p (omega arith) in
         let from = ap (λ (x : Place). x.board) (later i d m) in
-        ne (omega (arith, q.strength (omega (arith, b, from, same, at.board)), o.strength (omega (arith, same, at.board, board_is)), s, ap (λ (x : Place). x.strength) (later i d m), strength_is, at.strength));
+        ne (omega (
+          arith,
+          q.strength (omega (arith, b, from, same, at.board)),
+          o.strength (omega (arith, same, at.board, board_is)),
+          s,
+          ap (λ (x : Place). x.strength) (later i d m),
+          strength_is,
+          at.strength,
+        ));
   }
 
   -- a walk comes to the place
@@ -109,7 +128,8 @@ module _ (worth : Place → ℕ) (places : List Place) (order : AreInOrder place
   -- and passes it
   climb_on : (r : Running) → HasClimbed worth places n r → HasClimbed worth places (n + 1) (passed_by (arrived r p) (worth p))
   climb_on r h = record {
-    passed = passes worth (take n places) (take (n + 1) places) (arrived r p) p refl refl (λ f. sum_by_more f places n p inside ∙ ap (λ q. sum_by f (take n places) + f q) (sym read)) (climb_at r h);
+    passed = passes worth (take n places) (take (n + 1) places) (arrived r p) p refl refl (λ f. sum_by_more f places n p inside
+        ∙ ap (λ q. sum_by f (take n places) + f q) (sym read)) (climb_at r h);
     last = λ d some.
         let back : n + 1 - 1 ≡ n = omega arith in
         let is : p ≡ get_or places (n + 1 - 1) d = read ∙ get_or_default places n p d inside ∙ ap (λ k. get_or places k d) (sym back) in
@@ -147,7 +167,8 @@ come worth qs p r here e passed = record {
   within = subst (λ (x : Running). x.on_level ≤ x.on_board) (sym e) (level_within worth qs (arrived r p) passed);
 }
 
-module _ (worth : Place → ℕ) (places : List Place) (order : AreInOrder places) (n : ℕ) (d : Place) (inside : n < length places) (r here : Running) (is : here ≡ arrived r (get_or places n d)) where
+module _ (worth : Place → ℕ) (places : List Place) (order : AreInOrder places) (n : ℕ) (d : Place) (inside : n < length places) (r here : Running) (is : here
+    ≡ arrived r (get_or places n d)) where
   read : get_or places n d ≡ get_or places n (get_or places n d)
   read = get_or_default places n d (get_or places n d) inside
 
@@ -164,14 +185,19 @@ module _ (worth : Place → ℕ) (places : List Place) (order : AreInOrder place
   pub come_down : HasDescended worth places (n + 1) r → HasCome worth (drop (n + 1) places) (get_or places n d) here
   come_down h = come worth (drop (n + 1) places) (get_or places n d) r here is (descend_at worth places order n (get_or places n d) inside read r h)
 
-  gone_on : (w : ℕ) (gone : Running) → w ≡ worth (get_or places n d) → gone ≡ passed_by here w → gone ≡ passed_by (arrived r (get_or places n d)) (worth (get_or places n d))
+  gone_on : (w : ℕ) (gone : Running) → w ≡ worth (get_or places n d) → gone ≡ passed_by here w
+      → gone ≡ passed_by (arrived r (get_or places n d)) (worth (get_or places n d))
   gone_on w gone counts e = e ∙ ap (λ (x : Running). passed_by x w) is ∙ ap (passed_by (arrived r (get_or places n d))) counts
 
-  pub go_up : (w : ℕ) (gone : Running) → w ≡ worth (get_or places n d) → gone ≡ passed_by here w → HasClimbed worth places n r → HasClimbed worth places (n + 1) gone
-  go_up w gone counts e h = subst (HasClimbed worth places (n + 1)) (sym (gone_on w gone counts e)) (climb_on worth places order n (get_or places n d) inside read r h)
+  pub go_up : (w : ℕ) (gone : Running) → w ≡ worth (get_or places n d) → gone ≡ passed_by here w → HasClimbed worth places n r
+      → HasClimbed worth places (n + 1) gone
+  go_up w gone counts e h = subst (HasClimbed worth places (n + 1)) (sym (gone_on w gone counts e))
+      (climb_on worth places order n (get_or places n d) inside read r h)
 
-  pub go_down : (w : ℕ) (gone : Running) → w ≡ worth (get_or places n d) → gone ≡ passed_by here w → HasDescended worth places (n + 1) r → HasDescended worth places n gone
-  go_down w gone counts e h = subst (HasDescended worth places n) (sym (gone_on w gone counts e)) (descend_on worth places order n (get_or places n d) inside read r h)
+  pub go_down : (w : ℕ) (gone : Running) → w ≡ worth (get_or places n d) → gone ≡ passed_by here w → HasDescended worth places (n + 1) r
+      → HasDescended worth places n gone
+  go_down w gone counts e h = subst (HasDescended worth places n) (sym (gone_on w gone counts e))
+      (descend_on worth places order n (get_or places n d) inside read r h)
 
   -- it has passed no more on its board than before, and one worth more when it goes on
   pub come_within : (w : ℕ) (gone : Running) → gone ≡ passed_by here w → gone.on_board ≤ r.on_board + w
@@ -194,7 +220,8 @@ module _ (places : List Place) (apart : AreApart places) (sums : List ℤ) (insi
       → R k (get_or places k e) (get_or (set sums (get_or places n d).signal v) (get_or places k e).signal (pos 0))
   written R n d v l k e m here there = ⊎_elim
       (λ (is : k ≡ n).
-      let at : get_or (set sums (get_or places n d).signal v) (get_or places n d).signal (pos 0) ≡ v = get_or-set_same sums (get_or places n d).signal v (pos 0) (inside n d l) in
+      let at : get_or (set sums (get_or places n d).signal v) (get_or places n d).signal (pos 0) ≡ v =
+      get_or-set_same sums (get_or places n d).signal v (pos 0) (inside n d l) in
       let P : Place → Type 0 = λ q. R n q (get_or (set sums (get_or places n d).signal v) q.signal (pos 0)) in
       let Q : ℕ → Type 0 = λ j. R j (get_or places j e) (get_or (set sums (get_or places n d).signal v) (get_or places j e).signal (pos 0)) in
       subst Q (sym is) (subst P (same_place n d e l) (subst (R n (get_or places n d)) (sym at) (here is))))

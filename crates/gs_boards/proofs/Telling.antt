@@ -45,7 +45,8 @@ module _ (g : Game) where
           let back : shows_same g p.board q.signal ≡ true = turned q.signal p.board there in
           true≢false (sym (alike p.signal p.board q.signal ip.board.same ∙ back) ∙ e)))
 
-  pub outcome_tells : (p q : Place) → IsPlace g p → IsPlace g q → signal_outcome g (signal_at g (round_count g) p.signal) (signal_at g (round_count g) q.signal) ≡ outcome_at p q
+  pub outcome_tells : (p q : Place) → IsPlace g p → IsPlace g q → signal_outcome g (signal_at g (round_count g) p.signal)
+      (signal_at g (round_count g) q.signal) ≡ outcome_at p q
   outcome_tells p q ip iq =
       let bonus : ℕ → ℤ = λ s. pos (slice_index g.bonus (category g.ranking s)) in
       let F : ℕ → ℕ → ℤ = λ a b. cond (nat_lt b a) (bonus a) (cond (nat_lt a b) (neg_ℤ (bonus b)) (pos 0)) in

@@ -35,7 +35,8 @@ impl<'s> BoardOrder<'s> {
 
     /// The order of the signals, if each kind of cards has one copy at most and each player is dealt one private card.
     pub fn of(alloc: Global, signals: &'s Signals<'s>) -> Result<Option<BoardOrder<'s>>, AllocError>
-        ensures { IfOk result (λ o. MatchOption o (IsPlain (rules_of signals.entry.now) → last_count (rules_of signals.entry.now) ≡ 0) (λ b. b.signals.now ≡ signals.entry.now)) }
+        ensures { IfOk result (λ o. MatchOption o (IsPlain (rules_of signals.entry.now)
+            → last_count (rules_of signals.entry.now) ≡ 0) (λ b. b.signals.now ≡ signals.entry.now)) }
     {
         if !is_plain(signals) {
             return Ok(None);

@@ -11,7 +11,8 @@ use Rattle.gs_card.specs.DeckFaults.{fault_of}
 use Rattle.gs_card.specs.declared.faults.DeckFault.{DeckFault}
 use Rattle.gs_card.specs.declared.faults.DeckFault.TheVariants.{NoCards, BadLetter, RepeatedLetter, TooManyKinds, BadCopies}
 
-passes : (a b c d e : Bool) (f g h i j : DeckFault) → cond a (Some f) (cond b (Some g) (cond c (Some h) (cond d (Some i) (cond e (Some j) None)))) ≡ None → (a ≡ false) × (b ≡ false) × (c ≡ false) × (d ≡ false) × (e ≡ false)
+passes : (a b c d e : Bool) (f g h i j : DeckFault) → cond a (Some f) (cond b (Some g) (cond c (Some h) (cond d (Some i) (cond e (Some j) None)))) ≡ None
+    → (a ≡ false) × (b ≡ false) × (c ≡ false) × (d ≡ false) × (e ≡ false)
 passes true b c d e f g h i j n = absurd (cc)
 passes false true c d e f g h i j n = absurd (cc)
 passes false false true d e f g h i j n = absurd (cc)
@@ -29,7 +30,10 @@ pub record IsFaultless (ranks suits digits : List ℕ) : Type 0 where
 
 pub faultless : (ranks suits copies : List ℕ) → fault_of ranks suits copies ≡ None → IsFaultless ranks suits copies
 faultless ranks suits copies h =
-    let p = passes ((length ranks == 0) || (length suits == 0)) (not (list_all is_ascii_alphanumeric ranks && list_all is_ascii_alphanumeric suits)) (repeats ranks || repeats suits) (nat_lt 52 (length ranks * length suits)) (not ((length copies == 0) || ((length copies == length ranks * length suits) && list_all is_ascii_digit copies))) NoCards BadLetter RepeatedLetter TooManyKinds BadCopies h in
+    let p = passes ((length ranks == 0) || (length suits == 0)) (not (list_all is_ascii_alphanumeric ranks && list_all is_ascii_alphanumeric suits))
+    (repeats ranks || repeats suits) (nat_lt 52 (length ranks * length suits))
+    (not ((length copies == 0) || ((length copies == length ranks * length suits) && list_all is_ascii_digit copies))) NoCards BadLetter
+    RepeatedLetter TooManyKinds BadCopies h in
     record { some = p.0; letters = not-false _ p.1; differ = p.2; few = p.3; copies = not-false _ p.4 }
 
 digits_from : (c : ℕ) → is_ascii_digit c ≡ true → (48 ≤ c) × (c ≤ 57)
@@ -44,7 +48,8 @@ AreCopies k cs = ((length cs == 0) || ((length cs == k) && list_all is_ascii_dig
 some_copies : (k c : ℕ) (cs : List ℕ) → AreCopies k (c ∷ cs) → (length (c ∷ cs) ≡ k) × (list_all is_ascii_digit (c ∷ cs) ≡ true)
 some_copies k c cs h =
     let some : (length (c ∷ cs) == 0) ≡ false = ne_eqb _ _ (λ (e : length (c ∷ cs) ≡ 0). absurd (omega arith)) in
-    let rest = and_parts (length (c ∷ cs) == k) (list_all is_ascii_digit (c ∷ cs)) (sym (ap (λ b. b || ((length (c ∷ cs) == k) && list_all is_ascii_digit (c ∷ cs))) some) ∙ h) in
+    let rest = and_parts (length (c ∷ cs) == k) (list_all is_ascii_digit (c ∷ cs))
+    (sym (ap (λ b. b || ((length (c ∷ cs) == k) && list_all is_ascii_digit (c ∷ cs))) some) ∙ h) in
     (eqb-true _ _ rest.0, rest.1)
 
 counted : (k : ℕ) (cs : List ℕ) → AreCopies k cs → length (counts_of k cs) ≡ k
@@ -57,7 +62,8 @@ digit_small c h = omega (arith, digits_from c h)
 within : (k : ℕ) (cs : List ℕ) → AreCopies k cs → All (λ n. n ≤ 9) (counts_of k cs)
 within k [] h = All-replicate (λ n. n ≤ 9) k 1 (omega arith)
 within k (c ∷ cs) h =
-    All-map (λ n. n ≤ 9) (λ digit. digit - 48) (c ∷ cs) (λ i d l. digit_small _ (AllPass-from_list_all is_ascii_digit (c ∷ cs) (some_copies k c cs h).1 i d l))
+    All-map (λ n. n ≤ 9) (λ digit. digit - 48) (c ∷ cs) (λ i d l. digit_small _
+    (AllPass-from_list_all is_ascii_digit (c ∷ cs) (some_copies k c cs h).1 i d l))
 
 one_or_more : (m n : ℕ) → ((m == 0) || (n == 0)) ≡ false → 0 < m * n
 one_or_more m n h =
@@ -93,5 +99,6 @@ copied ranks suits [] h = refl
 copied ranks suits (c ∷ cs) h = (some_copies (length ranks * length suits) c cs (faultless ranks suits (c ∷ cs) h).copies).1
 
 -- lists that equal what such texts give are a deck
-pub sound_at : (ranks suits copies xs ys zs : List ℕ) → fault_of ranks suits copies ≡ None → xs ≡ ranks → ys ≡ suits → zs ≡ counts_of (length ranks * length suits) copies → IsDeck (record { ranks = xs; suits = ys; counts = zs })
+pub sound_at : (ranks suits copies xs ys zs : List ℕ) → fault_of ranks suits copies ≡ None → xs ≡ ranks → ys ≡ suits
+    → zs ≡ counts_of (length ranks * length suits) copies → IsDeck (record { ranks = xs; suits = ys; counts = zs })
 sound_at ranks suits copies xs ys zs h e f g = rw (e, f, g) (sound ranks suits copies h)

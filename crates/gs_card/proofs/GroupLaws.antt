@@ -41,13 +41,15 @@ some_length (x ∷ xs) zero h = omega arith
 some_length (x ∷ xs) (suc i) h = omega (arith, some_length xs i h)
 
 -- a card in front of a group of what it leaves
-with_card : (size : ℕ) (left : List ℕ) (least card : ℕ) (h : List ℕ) → least ≤ card → 0 < get_or left card 0 → IsGroupFrom size (slice_set left card (get_or left card 0 - 1)) card h → IsGroupFrom (suc size) left least (card ∷ h)
+with_card : (size : ℕ) (left : List ℕ) (least card : ℕ) (h : List ℕ) → least ≤ card → 0 < get_or left card 0
+    → IsGroupFrom size (slice_set left card (get_or left card 0 - 1)) card h → IsGroupFrom (suc size) left least (card ∷ h)
 with_card size left least card h le there p = record {
   ascends = (le, p.ascends);
   sized = omega (arith, p.sized);
   copies = λ kind. ⊎_elim
       (λ (e : card ≡ kind).
-      let here : get_or (slice_set left card (get_or left card 0 - 1)) card 0 ≡ get_or left card 0 - 1 = get_or-set_same left card (get_or left card 0 - 1) 0 (some_length left card there) in
+      let here : get_or (slice_set left card (get_or left card 0 - 1)) card 0 ≡ get_or left card 0 - 1 =
+      get_or-set_same left card (get_or left card 0 - 1) 0 (some_length left card there) in
       let P : ℕ → Type 0 = λ k. times k (card ∷ h) ≤ get_or left k 0 in
       subst P e (omega (arith, p.copies card, here, times-here card h)))
       (λ (n : card ≢ kind).
@@ -57,7 +59,8 @@ with_card size left least card h le there p = record {
 }
 
 -- the first card of a group, and the group behind it
-behind_card : (size : ℕ) (left : List ℕ) (least card : ℕ) (h : List ℕ) → IsGroupFrom (suc size) left least (card ∷ h) → (least ≤ card) × (0 < get_or left card 0) × IsGroupFrom size (slice_set left card (get_or left card 0 - 1)) card h
+behind_card : (size : ℕ) (left : List ℕ) (least card : ℕ) (h : List ℕ) → IsGroupFrom (suc size) left least (card ∷ h)
+    → (least ≤ card) × (0 < get_or left card 0) × IsGroupFrom size (slice_set left card (get_or left card 0 - 1)) card h
 behind_card size left least card h p =
     let there : 0 < get_or left card 0 = omega (arith, p.copies card, times-here card h) in (
       p.ascends.0,
@@ -67,7 +70,8 @@ behind_card size left least card h p =
         sized = omega (arith, p.sized);
         copies = λ kind. ⊎_elim
             (λ (e : card ≡ kind).
-            let here : get_or (slice_set left card (get_or left card 0 - 1)) card 0 ≡ get_or left card 0 - 1 = get_or-set_same left card (get_or left card 0 - 1) 0 (some_length left card there) in
+            let here : get_or (slice_set left card (get_or left card 0 - 1)) card 0 ≡ get_or left card 0 - 1 =
+            get_or-set_same left card (get_or left card 0 - 1) 0 (some_length left card there) in
             let P : ℕ → Type 0 = λ k. times k h ≤ get_or (slice_set left card (get_or left card 0 - 1)) k 0 in
             subst P e (omega (arith, p.copies card, here, times-here card h)))
             (λ (n : card ≢ kind).
@@ -85,9 +89,11 @@ pub every-over : {X : Type 0} (P Q : X → Type 0) → ((x : X) → P x → Q x)
 every-over P Q f [] h = tt
 every-over P Q f (x ∷ xs) h = (f x h.0, every-over P Q f xs h.1)
 
-pub every-range : {Y : Type 0} (P : Y → Type 0) (f : ℕ → List Y) (a n : ℕ) → ((k : ℕ) → a ≤ k → AllByRecursion P (f k)) → AllByRecursion P (flat_map f (range_with_len a n))
+pub every-range : {Y : Type 0} (P : Y → Type 0) (f : ℕ → List Y) (a n : ℕ) → ((k : ℕ) → a ≤ k → AllByRecursion P (f k))
+    → AllByRecursion P (flat_map f (range_with_len a n))
 every-range P f a zero h = tt
-every-range P f a (suc n) h = every-append P (f a) (flat_map f (range_with_len (a + 1) n)) (h a (omega arith)) (every-range P f (a + 1) n (λ k l. h k (omega arith)))
+every-range P f a (suc n) h = every-append P (f a) (flat_map f (range_with_len (a + 1) n)) (h a (omega arith))
+    (every-range P f (a + 1) n (λ k l. h k (omega arith)))
 
 -- each listed group is one
 pub listed_is_group : (size : ℕ) (left : List ℕ) (least : ℕ) → AllByRecursion (IsGroupFrom size left least) (groups_above size left least)
@@ -99,7 +105,8 @@ listed_is_group (suc size) left least =
     let lower = slice_set left card (get_or left card 0 - 1) in
     let P : List (List ℕ) → Type 0 = λ gs. AllByRecursion (IsGroupFrom (suc size) left least) gs in
     rw (lt-ltb 0 (get_or left card 0) there) (every-map (IsGroupFrom (suc size) left least) (λ g. card ∷ g) (groups_above size lower card)
-    (every-over (IsGroupFrom size lower card) (λ h. IsGroupFrom (suc size) left least (card ∷ h)) (λ h p. with_card size left least card h le there p) (groups_above size lower card) (listed_is_group size lower card))))
+    (every-over (IsGroupFrom size lower card) (λ h. IsGroupFrom (suc size) left least (card ∷ h)) (λ h p. with_card size left least card h le there p)
+    (groups_above size lower card) (listed_is_group size lower card))))
     (λ (none : get_or left card 0 ≤ 0). rw (le-ltb 0 (get_or left card 0) none) tt)
     (cases_lt 0 (get_or left card 0)))
 
@@ -121,7 +128,8 @@ group_is_listed (suc size) left least [] p = absurd (omega (arith, p.sized))
 group_is_listed (suc size) left least (card ∷ h) p =
     let q = behind_card size left least card h p in
     let lower = slice_set left card (get_or left card 0 - 1) in
-    let here : Contains (groups_with (groups_above size) left card) (card ∷ h) = rw (lt-ltb 0 (get_or left card 0) q.1) (Contains-map (λ g. card ∷ g) (groups_above size lower card) h (group_is_listed size lower card h q.2)) in
+    let here : Contains (groups_with (groups_above size) left card) (card ∷ h) =
+    rw (lt-ltb 0 (get_or left card 0) q.1) (Contains-map (λ g. card ∷ g) (groups_above size lower card) h (group_is_listed size lower card h q.2)) in
     Contains-range (groups_with (groups_above size) left) least (length left - least) card (card ∷ h) q.0 (omega (arith, some_length left card q.1)) here
 
 no_lower : (least : ℕ) (g : List ℕ) (j d : ℕ) → Ascends least g → j < length g → least ≤ get_or g j d
@@ -162,12 +170,14 @@ cards_within left size g p = λ k d l. some_length left (get_or g k d) (omega (a
 -- the laws
 pub groups_all : (left : List ℕ) (size : ℕ) (g : List ℕ) → Contains (groups left size) g ↔ IsGroup left size g
 groups_all left size g = (
-  λ there. group_from left size g (All-contains (IsGroupFrom size left 0) (groups left size) g (All-from_recursion (IsGroupFrom size left 0) (groups left size) (listed_is_group size left 0)) there),
+  λ there. group_from left size g (All-contains (IsGroupFrom size left 0) (groups left size) g
+      (All-from_recursion (IsGroupFrom size left 0) (groups left size) (listed_is_group size left 0)) there),
   λ p. group_is_listed size left 0 g (from_group left size g p),
 )
 
 pub groups_are_groups : (left : List ℕ) (size : ℕ) → All (IsGroup left size) (groups left size)
-groups_are_groups left size = All-from_recursion (IsGroup left size) (groups left size) (every-over (IsGroupFrom size left 0) (IsGroup left size) (group_from left size) (groups left size) (listed_is_group size left 0))
+groups_are_groups left size = All-from_recursion (IsGroup left size) (groups left size)
+    (every-over (IsGroupFrom size left 0) (IsGroup left size) (group_from left size) (groups left size) (listed_is_group size left 0))
 
 pub each_is_group : (left : List ℕ) (size : ℕ) (gs : List (List ℕ)) → gs ≡ groups left size → All (IsGroup left size) gs
 each_is_group left size gs e = rw e (groups_are_groups left size)

@@ -33,8 +33,12 @@ lower_card a b l = sym (nat_cmp_is a b Less l)
 behind : (card : ℕ) (gs : List (List ℕ)) → InOrder gs → InOrder (map (λ g. card ∷ g) gs)
 unfolding IsStrictlySortedBy
 behind card [] a = tt
-behind card (g ∷ gs) a =
-    (every-map (λ h. slice_cmp nat_cmp (card ∷ g) h ≡ Less) (λ h. card ∷ h) gs (every-over (λ h. slice_cmp nat_cmp g h ≡ Less) (λ h. slice_cmp nat_cmp (card ∷ g) (card ∷ h) ≡ Less) (λ h e. ap (λ o. ordering_then o (slice_cmp nat_cmp g h)) (same_card card) ∙ e) gs a.0), behind card gs a.1)
+behind card (g ∷ gs) a = (
+  every-map (λ h. slice_cmp nat_cmp (card ∷ g) h ≡ Less) (λ h. card ∷ h) gs
+      (every-over (λ h. slice_cmp nat_cmp g h ≡ Less) (λ h. slice_cmp nat_cmp (card ∷ g) (card ∷ h)
+      ≡ Less) (λ h e. ap (λ o. ordering_then o (slice_cmp nat_cmp g h)) (same_card card) ∙ e) gs a.0),
+  behind card gs a.1,
+)
 
 -- groups with a higher first card
 abbrev BeginsAbove : ℕ → List ℕ → Type 0
@@ -59,20 +63,25 @@ every : {X : Type 0} (P : X → Type 0) → ((x : X) → P x) → (xs : List X) 
 every P f [] = tt
 every P f (x ∷ xs) = (f x, every P f xs)
 
-block_begins : (others : List ℕ → ℕ → List (List ℕ)) (left : List ℕ) (low card : ℕ) → low < card → AllByRecursion (BeginsAbove low) (groups_with others left card)
+block_begins : (others : List ℕ → ℕ → List (List ℕ)) (left : List ℕ) (low card : ℕ) → low < card
+    → AllByRecursion (BeginsAbove low) (groups_with others left card)
 block_begins others left low card l = ⊎_elim
-    (λ (there : 0 < get_or left card 0). rw (lt-ltb 0 (get_or left card 0) there) (every-map (BeginsAbove low) (λ g. card ∷ g) _ (every (λ g. low < card) (λ g. l) (others (slice_set left card (get_or left card 0 - 1)) card))))
+    (λ (there : 0 < get_or left card 0). rw (lt-ltb 0 (get_or left card 0) there)
+    (every-map (BeginsAbove low) (λ g. card ∷ g) _ (every (λ g. low < card) (λ g. l) (others (slice_set left card (get_or left card 0 - 1)) card))))
     (λ (none : get_or left card 0 ≤ 0). rw (le-ltb 0 (get_or left card 0) none) tt)
     (cases_lt 0 (get_or left card 0))
 
-block_before : (others : List ℕ → ℕ → List (List ℕ)) (left : List ℕ) (card : ℕ) (hs : List (List ℕ)) → AllByRecursion (BeginsAbove card) hs → AllByRecursion (AllAfter hs) (groups_with others left card)
+block_before : (others : List ℕ → ℕ → List (List ℕ)) (left : List ℕ) (card : ℕ) (hs : List (List ℕ)) → AllByRecursion (BeginsAbove card) hs
+    → AllByRecursion (AllAfter hs) (groups_with others left card)
 block_before others left card hs b = ⊎_elim
     (λ (there : 0 < get_or left card 0). rw (lt-ltb 0 (get_or left card 0) there) (every-map (AllAfter hs) (λ g. card ∷ g) _
-    (every (λ g. AllAfter hs (card ∷ g)) (λ g. every-over (BeginsAbove card) (λ h. slice_cmp nat_cmp (card ∷ g) h ≡ Less) (higher_after card g) hs b) (others (slice_set left card (get_or left card 0 - 1)) card))))
+    (every (λ g. AllAfter hs (card ∷ g)) (λ g. every-over (BeginsAbove card) (λ h. slice_cmp nat_cmp (card ∷ g) h ≡ Less) (higher_after card g) hs b)
+    (others (slice_set left card (get_or left card 0 - 1)) card))))
     (λ (none : get_or left card 0 ≤ 0). rw (le-ltb 0 (get_or left card 0) none) tt)
     (cases_lt 0 (get_or left card 0))
 
-blocks_in_order : (others : List ℕ → ℕ → List (List ℕ)) (left : List ℕ) (a n : ℕ) → ListsInOrder others → InOrder (flat_map (groups_with others left) (range_with_len a n))
+blocks_in_order : (others : List ℕ → ℕ → List (List ℕ)) (left : List ℕ) (a n : ℕ) → ListsInOrder others
+    → InOrder (flat_map (groups_with others left) (range_with_len a n))
 unfolding IsStrictlySortedBy
 blocks_in_order others left a zero o = tt
 blocks_in_order others left a (suc n) o =

@@ -19,11 +19,13 @@ row_below a b n h =
     (div-lt_iff_lt-mul some).1 h
 
 -- the place of the kind's rank
-pub place_of_rank : (ranks suits : List ℕ) (rank suit n : ℕ) → repeats ranks ≡ false → HasLetters ranks suits rank suit n → position (λ x. x == rank) ranks ≡ Some (n / length suits)
+pub place_of_rank : (ranks suits : List ℕ) (rank suit n : ℕ) → repeats ranks ≡ false → HasLetters ranks suits rank suit n
+    → position (λ x. x == rank) ranks ≡ Some (n / length suits)
 place_of_rank ranks suits rank suit n r h = position_here ranks rank (n / length suits) r (row_below (length ranks) (length suits) n h.of_deck) h.rank_is
 
 -- the place of the kind's suit
-pub place_of_suit : (ranks suits : List ℕ) (rank suit n : ℕ) → repeats suits ≡ false → HasLetters ranks suits rank suit n → position (λ x. x == suit) suits ≡ Some (n % length suits)
+pub place_of_suit : (ranks suits : List ℕ) (rank suit n : ℕ) → repeats suits ≡ false → HasLetters ranks suits rank suit n
+    → position (λ x. x == suit) suits ≡ Some (n % length suits)
 place_of_suit ranks suits rank suit n r h =
     let some : 0 < length suits = some_suits (length ranks) (length suits) n h.of_deck in
     position_here suits suit (n % length suits) r (omega arith) h.suit_is
@@ -35,7 +37,8 @@ back_column : (r c s : ℕ) → c < s → (r * s + c) % s ≡ c
 back_column r c s h = mod-mul-add r s c h
 
 -- two places are those of a kind
-pub letters_of_places : (ranks suits : List ℕ) (rank suit r c : ℕ) → position (λ x. x == rank) ranks ≡ Some r → position (λ x. x == suit) suits ≡ Some c → HasLetters ranks suits rank suit (r * length suits + c)
+pub letters_of_places : (ranks suits : List ℕ) (rank suit r c : ℕ) → position (λ x. x == rank) ranks ≡ Some r → position (λ x. x == suit) suits ≡ Some c
+    → HasLetters ranks suits rank suit (r * length suits + c)
 letters_of_places ranks suits rank suit r c e f =
     let a = position-Some (λ x. x == rank) ranks r 0 e in
     let b = position-Some (λ x. x == suit) suits c 0 f in

@@ -54,7 +54,8 @@ one_place (x ∷ xs) (suc i) zero r hi hj e =
 -- the place of a letter, where none stands twice
 pub position_here : (xs : List ℕ) (letter i : ℕ) → repeats xs ≡ false → i < length xs → slice_index xs i ≡ letter → position (λ x. x == letter) xs ≡ Some i
 position_here xs letter i r h e =
-    let before : (k : ℕ) → k < i → (get_or xs k 0 == letter) ≡ false = λ k l. ne_eqb _ _ (λ (same : get_or xs k 0 ≡ letter). absurd (omega (arith, one_place xs k i r (omega arith) h (same ∙ sym e)))) in
+    let before : (k : ℕ) → k < i → (get_or xs k 0 == letter) ≡ false = λ k l. ne_eqb _ _
+    (λ (same : get_or xs k 0 ≡ letter). absurd (omega (arith, one_place xs k i r (omega arith) h (same ∙ sym e)))) in
     let here : position_or_len (λ x. x == letter) xs ≡ i = position_or_len_is (λ x. x == letter) xs i 0 (omega arith) before (λ _. eq-eqb _ _ e) in
     rw here (rw (lt-ltb i (length xs) h) refl)
 
@@ -66,6 +67,7 @@ repeats_found xs i d h e =
     sym (ap repeats (take-append-drop (i + 1) xs)) ∙ repeats_more (take (i + 1) xs) (drop (i + 1) xs) front
 
 -- the letter at place i stands there for the first time
-pub repeats_next : (xs : List ℕ) (i d : ℕ) → i < length xs → repeats (take i xs) ≡ false → list_any (λ x. x == get_or xs i d) (take i xs) ≡ false → repeats (take (i + 1) xs) ≡ false
+pub repeats_next : (xs : List ℕ) (i d : ℕ) → i < length xs → repeats (take i xs) ≡ false → list_any (λ x. x == get_or xs i d) (take i xs) ≡ false
+    → repeats (take (i + 1) xs) ≡ false
 repeats_next xs i d h r e =
     ap repeats (take_more xs i d h) ∙ repeats_push (take i xs) (get_or xs i d) ∙ or_from _ _ r e

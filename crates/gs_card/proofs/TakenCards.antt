@@ -19,10 +19,27 @@ choose_more (suc n) (suc t) =
     (λ (l : n < suc t).
     let z = choose-zero n (suc t) l in
     let y = choose-zero n (suc (suc t)) (omega arith) in
-    omega (arith, choose_more n t, ap (λ k. k * suc t) z, ap (λ k. k * suc (suc t)) z, ap (λ k. k * suc (suc t)) y, ap (λ k. k * (n - t)) z, ap (λ k. choose n t * k) e, ap (λ k. choose n (suc t) * k) e))
+    omega (
+      arith,
+      choose_more n t,
+      ap (λ k. k * suc t) z,
+      ap (λ k. k * suc (suc t)) z,
+      ap (λ k. k * suc (suc t)) y,
+      ap (λ k. k * (n - t)) z,
+      ap (λ k. choose n t * k) e,
+      ap (λ k. choose n (suc t) * k) e,
+    ))
     (λ (l : suc t ≤ n).
     let f : n - t ≡ suc (n - suc t) = omega arith in
-    omega (arith, choose_more n (suc t), choose_more n t, ap (λ k. choose n t * k) e, ap (λ k. choose n (suc t) * k) e, ap (λ k. choose n t * k) f, ap (λ k. choose n (suc t) * k) f))
+    omega (
+      arith,
+      choose_more n (suc t),
+      choose_more n t,
+      ap (λ k. choose n t * k) e,
+      ap (λ k. choose n (suc t) * k) e,
+      ap (λ k. choose n t * k) f,
+      ap (λ k. choose n (suc t) * k) f,
+    ))
     (cases_lt n (suc t))
 
 -- how often a card stands in a group
@@ -58,7 +75,8 @@ first_more kind c cs g =
     ∙ omega (arith, ap (λ k. k * w) (choose_more c t))
 
 -- one more card of a group
-ways_from-more : (kind : ℕ) (left g : List ℕ) (i a : ℕ) → i < length left → kind + i ≡ a → ways_from kind left (g ++ a ∷ []) * suc (times a g) ≡ ways_from kind left g * (get_or left i 0 - times a g)
+ways_from-more : (kind : ℕ) (left g : List ℕ) (i a : ℕ) → i < length left → kind + i ≡ a
+    → ways_from kind left (g ++ a ∷ []) * suc (times a g) ≡ ways_from kind left g * (get_or left i 0 - times a g)
 ways_from-more kind [] g i a l e = absurd (omega arith)
 ways_from-more kind (c ∷ cs) g zero a l e =
     let same : kind ≡ a = omega arith in
@@ -70,10 +88,12 @@ ways_from-more kind (c ∷ cs) g (suc i) a l e =
     ∙ omega (arith, ap (λ k. choose c t * k) (ways_from-more (suc kind) cs g i a (omega arith) (omega arith)))
 
 -- the ways of one card more, by an exact division
-pub ways_more : (left g : List ℕ) (i a w s t : ℕ) → i < length g → a ≡ get_or g i a → a < length left → w ≡ ways left (take i g) → t ≡ times a (take i g) → s ≡ get_or left a 0 - t → w * s / (t + 1) ≡ ways left (take (i + 1) g)
+pub ways_more : (left g : List ℕ) (i a w s t : ℕ) → i < length g → a ≡ get_or g i a → a < length left → w ≡ ways left (take i g) → t ≡ times a (take i g)
+    → s ≡ get_or left a 0 - t → w * s / (t + 1) ≡ ways left (take (i + 1) g)
 ways_more left g i a w s t l at b e f h =
     let next : take i g ++ a ∷ [] ≡ take (i + 1) g = ap (λ x. take i g ++ x ∷ []) at ∙ sym (take_more g i a l) in
-    let step : ways left (take i g ++ a ∷ []) * suc (times a (take i g)) ≡ ways left (take i g) * (get_or left a 0 - times a (take i g)) = ways_from-more 0 left (take i g) a a b (omega arith) in
+    let step : ways left (take i g ++ a ∷ []) * suc (times a (take i g)) ≡ ways left (take i g) * (get_or left a 0 - times a (take i g)) =
+    ways_from-more 0 left (take i g) a a b (omega arith) in
     let product : w * s ≡ ways left (take i g ++ a ∷ []) * (t + 1) = rw (e, h, f) (sym step ∙ rw add-one refl) in
     ap (λ k. k / (t + 1)) product ∙ mul-div_cancel (ways left (take i g ++ a ∷ [])) (omega arith) ∙ ap (ways left) next
 

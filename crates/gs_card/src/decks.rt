@@ -130,7 +130,8 @@ impl Deck {
     /// copy of each kind.
     pub fn new(alloc: Global, ranks: &str, suits: &str, copies: &str) -> Result<Deck, DeckFault>
         ensures refused { IfSome (fault_of ranks.now suits.now copies.now) (λ f. result ≡ Err f) }
-        ensures made { IfNone (fault_of ranks.now suits.now copies.now) (MatchResult result (λ deck. deck ≡ deck_of ranks.now suits.now copies.now) (λ f. f ≡ Memory)) }
+        ensures made { IfNone (fault_of ranks.now suits.now copies.now) (MatchResult result (λ deck. deck ≡ deck_of ranks.now suits.now copies.now) (λ f. f
+            ≡ Memory)) }
         ensures deck { IfOk result IsDeck }
     {
         let ranks = ranks.as_bytes();
@@ -257,6 +258,7 @@ impl Deck {
         ensures each { IfOk result (λ found. All (IsGroup left.now size) found.items) }
         ensures within { IfOk result (λ found. All (λ g. All (λ card. card < length left.now) g) found.items) }
     {
+        // read only for what its contract says
         let _few = &self.counts;
         all_groups(alloc, left, size)
     }

@@ -40,7 +40,8 @@ module _ (f : Frame) (lists : ClassLists) (v : Values) (q : ℕ) where
   pub none_yet : (count : ℕ) → IsLeast 0 count count
   none_yet count = record { within = omega arith; above = λ m l. absurd (omega arith); below = λ l. absurd (omega arith) }
 
-  pub one_move : (n count low next : ℕ) (t : Target) → t ≡ leads_to f q n → IsLeast n count low → IsFirstBelow f lists v q t low next → IsLeast (n + 1) count next
+  pub one_move : (n count low next : ℕ) (t : Target) → t ≡ leads_to f q n → IsLeast n count low → IsFirstBelow f lists v q t low next
+      → IsLeast (n + 1) count next
   one_move n count low next t e h k =
       let k' = subst (λ s. IsFirstBelow f lists v q s low next) e k in
       record {
@@ -50,17 +51,20 @@ module _ (f : Frame) (lists : ClassLists) (v : Values) (q : ℕ) where
             (λ (other : m ≢ n). h.above m (omega arith) c lc (omega (arith, le, k.within)))
             (cases_eq m n);
         below = λ l. ⊎_elim
-            (λ (same : next ≡ low). (let o = h.below (omega (arith, l, same)) in subst (λ i. (m : ℕ) × (m < n + 1) × (v (at_point q) (i + 1) <ℤ class_worth f lists v q m (i + 1))) (sym same) (o.0, omega (arith, o.1), o.2)))
+            (λ (same : next ≡ low). (let o = h.below (omega (arith, l, same)) in
+            subst (λ i. (m : ℕ) × (m < n + 1) × (v (at_point q) (i + 1) <ℤ class_worth f lists v q m (i + 1))) (sym same) (o.0, omega (arith, o.1), o.2)))
             (λ (other : next ≢ low). (n, omega arith, k'.below (omega (arith, k.within, other))))
             (cases_eq next low);
       }
 
-  pub least_low : (player count low : ℕ) → player_at f q ≡ player → count ≡ class_count lists (round_of f (at_point q)) → low < count → IsLeast (move_count f q) count low → IsFirstLowAt f lists player v q (low + 1)
+  pub least_low : (player count low : ℕ) → player_at f q ≡ player → count ≡ class_count lists (round_of f (at_point q)) → low < count
+      → IsLeast (move_count f q) count low → IsFirstLowAt f lists player v q (low + 1)
   least_low player count low his all l h = record {
     class = (omega arith, omega (arith, all, l));
     low = record { own = λ _. h.below l; others = λ other. absurd (other his) };
     first = λ d ld lt. record { own = λ _ m lm. h.above m lm d ld (omega arith); others = λ other. absurd (other his) };
   }
 
-  pub none_low : (player count low : ℕ) → player_at f q ≡ player → count ≡ class_count lists (round_of f (at_point q)) → count ≤ low → IsLeast (move_count f q) count low → AreHighAt f lists player v q
+  pub none_low : (player count low : ℕ) → player_at f q ≡ player → count ≡ class_count lists (round_of f (at_point q)) → count ≤ low
+      → IsLeast (move_count f q) count low → AreHighAt f lists player v q
   none_low player count low his all l h c lc = record { own = λ _ m lm. h.above m lm c lc (omega (arith, lc.1, all)); others = λ other. absurd (other his) }

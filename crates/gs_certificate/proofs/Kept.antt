@@ -30,21 +30,25 @@ module _ (f : Frame) (lists : ClassLists) (player : ℕ) (y : Plan) where
   kept_more count starts sums row h long here =
       let all : length (sums ++ row) ≡ length sums + length row = length-append sums row in
       let new : get_or (starts ++ length sums ∷ []) count 0 ≡ length sums = get_or_push starts (length sums) 0 count h.long in
-      let old : (z : ℕ) → z < count → get_or (starts ++ length sums ∷ []) z 0 ≡ get_or starts z 0 = λ z l. get_or_append_left starts (length sums ∷ []) 0 z (omega (arith, l, h.long)) in
+      let old : (z : ℕ) → z < count → get_or (starts ++ length sums ∷ []) z 0 ≡ get_or starts z 0 =
+      λ z l. get_or_append_left starts (length sums ∷ []) 0 z (omega (arith, l, h.long)) in
       record {
         long = omega (arith, length_push starts (length sums), h.long);
         within = λ z l. ⊎_elim
-            (λ (same : z ≡ count). subst (λ k. get_or (starts ++ length sums ∷ []) k 0 + end_classes f lists k ≤ length (sums ++ row)) (sym same) (omega (arith, new, all, long)))
+            (λ (same : z ≡ count). subst (λ k. get_or (starts ++ length sums ∷ []) k 0 + end_classes f lists k
+            ≤ length (sums ++ row)) (sym same) (omega (arith, new, all, long)))
             (λ (other : z ≢ count). omega (arith, old z (omega arith), h.within z (omega arith), all))
             (cases_eq z count);
         paid = λ z c l k. ⊎_elim
             (λ (same : z ≡ count).
-            let P : ℕ → Type 0 = λ z. IsClass lists (round_of f (at_end z)) c → get_or (sums ++ row) (get_or (starts ++ length sums ∷ []) z 0 + (c - 1)) (pos 0) ≡ end_sum f lists player y z c in
+            let P : ℕ → Type 0 = λ z. IsClass lists (round_of f (at_end z)) c
+            → get_or (sums ++ row) (get_or (starts ++ length sums ∷ []) z 0 + (c - 1)) (pos 0) ≡ end_sum f lists player y z c in
             subst P (sym same) (λ k. ap (λ n. get_or (sums ++ row) (n + (c - 1)) (pos 0)) new ∙ get_or-append-add sums row (c - 1) (pos 0) ∙ here c k) k)
             (λ (other : z ≢ count).
             let lz : z < count = omega arith in
             let in' : get_or starts z 0 + (c - 1) < length sums = omega (arith, h.within z lz, k.0, k.1) in
-            ap (λ n. get_or (sums ++ row) (n + (c - 1)) (pos 0)) (old z lz) ∙ get_or_append_left sums row (pos 0) (get_or starts z 0 + (c - 1)) in' ∙ h.paid z c lz k)
+            ap (λ n. get_or (sums ++ row) (n + (c - 1)) (pos 0)) (old z lz) ∙ get_or_append_left sums row (pos 0) (get_or starts z 0 + (c - 1)) in'
+            ∙ h.paid z c lz k)
             (cases_eq z count);
       }
 

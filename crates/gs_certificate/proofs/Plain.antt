@@ -44,5 +44,9 @@ fraction_plain num (pos d) h =
     let b = and_parts (nat_lt 0 d) (nat_lt d limit) a.0 in
     let c = and_parts (nat_lt (unsigned_abs num) limit) (gcd_of (unsigned_abs num) d == 1) a.1 in
     let low = ltb-true d limit b.1 in
-    joined (signed_decimal num) (47 ∷ decimal d) (signed_plain num (ltb-true (unsigned_abs num) limit c.0)) (omega arith, omega arith, decimal_plain d (omega arith))
+    joined (signed_decimal num) (47 ∷ decimal d) (signed_plain num (ltb-true (unsigned_abs num) limit c.0)) (
+      omega arith,
+      omega arith,
+      decimal_plain d (omega arith),
+    )
 fraction_plain num (negsuc d) h = absurd (false≢true h)

@@ -63,25 +63,30 @@ all_pushed : (ds : List ℕ) (c : ℕ) → all_ascii_digits ds ≡ true → is_a
 all_pushed [] c h k = rw k refl
 all_pushed (d ∷ ds) c h k = let p = and_parts (is_ascii_digit d) (all_ascii_digits ds) h in rw p.0 (all_pushed ds c p.1 k)
 
-pub all_more : (bs : List ℕ) (i : ℕ) → i < length bs → all_ascii_digits (take i bs) ≡ true → 48 ≤ get_or bs i 0 → get_or bs i 0 ≤ 57 → all_ascii_digits (take (i + 1) bs) ≡ true
+pub all_more : (bs : List ℕ) (i : ℕ) → i < length bs → all_ascii_digits (take i bs) ≡ true → 48 ≤ get_or bs i 0 → get_or bs i 0 ≤ 57
+    → all_ascii_digits (take (i + 1) bs) ≡ true
 all_more bs i lt all low high =
     let digit : is_ascii_digit (get_or bs i 0) ≡ true = rw (le-leb 48 (get_or bs i 0) low, le-leb (get_or bs i 0) 57 high) refl in
     ap all_ascii_digits (take_more bs i 0 lt) ∙ all_pushed (take i bs) (get_or bs i 0) all digit
 
-pub value_more : (bs : List ℕ) (i size : ℕ) → i < length bs → size ≡ digits_value 10 (take i bs) → 48 ≤ get_or bs i 0 → get_or bs i 0 ≤ 57 → size * 10 + (get_or bs i 0 - 48) ≡ digits_value 10 (take (i + 1) bs)
+pub value_more : (bs : List ℕ) (i size : ℕ) → i < length bs → size ≡ digits_value 10 (take i bs) → 48 ≤ get_or bs i 0 → get_or bs i 0 ≤ 57
+    → size * 10 + (get_or bs i 0 - 48) ≡ digits_value 10 (take (i + 1) bs)
 value_more bs i size lt is low high = let d = digit_is (get_or bs i 0) low high in let m = digits_value_more 10 bs i lt in omega (arith, d, m, is)
 
 -- a sign and few digits are the text of their number
-pub narrow_is : (bytes digits : List ℕ) (negative : Bool) (size count : ℕ) → (negative, digits) ≡ signed bytes → AreDigits digits size count → 0 < count → (1 < count → get_or digits 0 0 ≢ 48)
+pub narrow_is : (bytes digits : List ℕ) (negative : Bool) (size count : ℕ) → (negative, digits) ≡ signed bytes → AreDigits digits size count → 0 < count
+    → (1 < count → get_or digits 0 0 ≢ 48)
     → (negative && size == 0) ≡ false → bytes ≡ signed_decimal (number_of negative size) ++ drop count digits
 narrow_is bytes digits negative size count parts h some first no_minus_zero =
     let ds : List ℕ = take count digits in
     let long : length ds ≡ count = length-take-le count digits h.within in
     let front : get_or ds 0 0 ≡ get_or digits 0 0 = get_or-take count digits 0 0 some in
-    let numeral : is_numeral ds ≡ true = numeral_is ds h.digits (omega (arith, long, some)) (λ more. subst (λ (x : ℕ). x ≢ 48) (sym front) (first (omega (arith, long, more)))) in
+    let numeral : is_numeral ds ≡ true = numeral_is ds h.digits (omega (arith, long, some))
+    (λ more. subst (λ (x : ℕ). x ≢ 48) (sym front) (first (omega (arith, long, more)))) in
     let text : decimal size ≡ ds = ap decimal h.value ∙ decimal_of_value ds numeral (omega (arith, h.value, h.few)) in
     let shown : signed_decimal (number_of negative size) ≡ with_sign negative ds = signed_text negative size no_minus_zero ∙ ap (with_sign negative) text in
-    let split : with_sign negative digits ≡ with_sign negative ds ++ drop count digits = ap (with_sign negative) (sym (take-append-drop count digits)) ∙ before negative ds (drop count digits) in
+    let split : with_sign negative digits ≡ with_sign negative ds ++ drop count digits =
+    ap (with_sign negative) (sym (take-append-drop count digits)) ∙ before negative ds (drop count digits) in
     signed_is bytes ∙ ap (λ (p : Bool × List ℕ). with_sign p.0 p.1) (sym parts) ∙ split ∙ ap (λ (q : List ℕ). q ++ drop count digits) (sym shown)
   where
     before : (negative : Bool) (xs ys : List ℕ) → with_sign negative (xs ++ ys) ≡ with_sign negative xs ++ ys
@@ -113,16 +118,19 @@ array_text later (z ∷ zs) last h =
     let rest = array_text true zs last (All-tail Small z (zs ++ last ∷ []) h) in
     ap (λ (q : List ℕ). comma_if later ++ (q ++ items_text true (items_of (map number_data (zs ++ last ∷ []))))) one
     ∙ ap (λ (q : List ℕ). comma_if later ++ ((34 ∷ (d ++ 34 ∷ [])) ++ q)) rest
-    ∙ ap (λ (q : List ℕ). comma_if later ++ (34 ∷ q)) (append_assoc d (34 ∷ []) (44 ∷ 34 ∷ (opened zs ++ tail)) ∙ sym (append_assoc d (34 ∷ 44 ∷ 34 ∷ opened zs) tail))
+    ∙ ap (λ (q : List ℕ). comma_if later ++ (34 ∷ q)) (append_assoc d (34 ∷ []) (44 ∷ 34 ∷ (opened zs ++ tail))
+    ∙ sym (append_assoc d (34 ∷ 44 ∷ 34 ∷ opened zs) tail))
 
 opened_more : (zs : List ℤ) (z : ℤ) → opened (zs ++ z ∷ []) ≡ opened zs ++ (signed_decimal z ++ (34 ∷ 44 ∷ 34 ∷ []))
 opened_more [] z = refl
 opened_more (x ∷ zs) z =
     let d = signed_decimal x in
-    ap (λ (q : List ℕ). d ++ (34 ∷ 44 ∷ 34 ∷ q)) (opened_more zs z) ∙ sym (append_assoc d (34 ∷ 44 ∷ 34 ∷ opened zs) (signed_decimal z ++ (34 ∷ 44 ∷ 34 ∷ [])))
+    ap (λ (q : List ℕ). d ++ (34 ∷ 44 ∷ 34 ∷ q)) (opened_more zs z) ∙ sym
+    (append_assoc d (34 ∷ 44 ∷ 34 ∷ opened zs) (signed_decimal z ++ (34 ∷ 44 ∷ 34 ∷ [])))
 
 -- one number more, behind which another stands
-pub goes_on : (bytes left rest next : List ℕ) (zs : List ℤ) (z : ℤ) → bytes ≡ opened zs ++ left → left ≡ signed_decimal z ++ rest → rest ≡ 34 ∷ 44 ∷ 34 ∷ next → bytes ≡ opened (zs ++ z ∷ []) ++ next
+pub goes_on : (bytes left rest next : List ℕ) (zs : List ℤ) (z : ℤ) → bytes ≡ opened zs ++ left → left ≡ signed_decimal z ++ rest → rest ≡ 34 ∷ 44 ∷ 34 ∷ next
+    → bytes ≡ opened (zs ++ z ∷ []) ++ next
 goes_on bytes left rest next zs z e f g =
     let d = signed_decimal z in
     e
@@ -131,7 +139,8 @@ goes_on bytes left rest next zs z e f g =
     ∙ ap (λ (q : List ℕ). q ++ next) (sym (opened_more zs z))
 
 -- the last number
-pub ends : (bytes left rest next : List ℕ) (zs all : List ℤ) (z : ℤ) → bytes ≡ opened zs ++ left → left ≡ signed_decimal z ++ rest → rest ≡ 34 ∷ 93 ∷ next → all ≡ zs ++ z ∷ [] → StandsFor bytes all next
+pub ends : (bytes left rest next : List ℕ) (zs all : List ℤ) (z : ℤ) → bytes ≡ opened zs ++ left → left ≡ signed_decimal z ++ rest → rest ≡ 34 ∷ 93 ∷ next
+    → all ≡ zs ++ z ∷ [] → StandsFor bytes all next
 ends bytes left rest next zs all z e f g are = record {
   front = zs;
   last = z;
@@ -164,7 +173,8 @@ side_is s front last reduced are small =
     ap₂ (λ (t i : List ℕ). from_bound ((t ++ 34 ∷ []) ++ (codes ",\"values\":[" ++ (i ++ 125 ∷ [])))) plain items
 
 -- the bytes are a player's part and what stands behind it
-pub side_stands : (s : Side) (bytes r1 r2 r3 r4 rest : List ℕ) → IsTrue (is_fraction s.bound.0 s.bound.1) → All Small s.values → bytes ≡ from_bound r1 → r1 ≡ fraction_text s.bound.0 s.bound.1 ++ r2 → r2 ≡ from_values r3
+pub side_stands : (s : Side) (bytes r1 r2 r3 r4 rest : List ℕ) → IsTrue (is_fraction s.bound.0 s.bound.1) → All Small s.values → bytes ≡ from_bound r1
+    → r1 ≡ fraction_text s.bound.0 s.bound.1 ++ r2 → r2 ≡ from_values r3
     → StandsFor r3 s.values r4 → r4 ≡ 125 ∷ rest → bytes ≡ compact_text (side_data s) ++ rest
 side_stands s bytes r1 r2 r3 r4 rest reduced small e1 e2 e3 h e4 =
     let f : List ℕ = fraction_text s.bound.0 s.bound.1 in
@@ -185,22 +195,27 @@ from_first rest = codes "{\"player1\":" ++ rest
 abbrev from_second : List ℕ → List ℕ
 from_second rest = codes ",\"player2\":" ++ rest
 
-regrouped_whole : (c d : List ℕ) → from_first (c ++ from_second (d ++ codes ",\"version\":1}\n")) ≡ from_first (c ++ from_second (d ++ codes ",\"version\":1}")) ++ 10 ∷ []
+regrouped_whole : (c d : List ℕ) → from_first (c ++ from_second (d ++ codes ",\"version\":1}\n"))
+    ≡ from_first (c ++ from_second (d ++ codes ",\"version\":1}")) ++ 10 ∷ []
 regrouped_whole c d = simp append_assoc
 
-whole_is : (s : Stated) → compact_text (certificate_data s) ≡ from_first (compact_text (side_data s.one) ++ from_second (compact_text (side_data s.two) ++ codes ",\"version\":1}"))
+whole_is : (s : Stated) → compact_text (certificate_data s) ≡ from_first (compact_text (side_data s.one)
+    ++ from_second (compact_text (side_data s.two) ++ codes ",\"version\":1}"))
 unfolding escape_byte
 whole_is s =
     let one : decimal 1 ≡ 49 ∷ [] = decimal_digit 1 (omega arith) in
-    ap (λ (n : List ℕ). from_first (compact_text (side_data s.one) ++ from_second (compact_text (side_data s.two) ++ (codes ",\"version\":" ++ (n ++ 125 ∷ []))))) one
+    ap (λ (n : List ℕ). from_first (compact_text (side_data s.one) ++ from_second (compact_text (side_data s.two)
+    ++ (codes ",\"version\":" ++ (n ++ 125 ∷ []))))) one
 
 -- the bytes are a certificate's text
-pub stands : (s : Stated) (bytes r1 r2 r3 r4 r5 : List ℕ) → bytes ≡ from_first r1 → r1 ≡ compact_text (side_data s.one) ++ r2 → r2 ≡ from_second r3 → r3 ≡ compact_text (side_data s.two) ++ r4
+pub stands : (s : Stated) (bytes r1 r2 r3 r4 r5 : List ℕ) → bytes ≡ from_first r1 → r1 ≡ compact_text (side_data s.one) ++ r2 → r2 ≡ from_second r3
+    → r3 ≡ compact_text (side_data s.two) ++ r4
     → r4 ≡ codes ",\"version\":1}\n" ++ r5 → r5 ≡ [] → bytes ≡ certificate_text s
 stands s bytes r1 r2 r3 r4 r5 e1 e2 e3 e4 e5 e6 =
     let c : List ℕ = compact_text (side_data s.one) in
     let d : List ℕ = compact_text (side_data s.two) in
     e1
-    ∙ ap from_first (e2 ∙ ap (λ (q : List ℕ). c ++ q) (e3 ∙ ap from_second (e4 ∙ ap (λ (q : List ℕ). d ++ q) (e5 ∙ ap (λ (q : List ℕ). codes ",\"version\":1}\n" ++ q) e6))))
+    ∙ ap from_first (e2 ∙ ap (λ (q : List ℕ). c ++ q) (e3 ∙ ap from_second (e4
+    ∙ ap (λ (q : List ℕ). d ++ q) (e5 ∙ ap (λ (q : List ℕ). codes ",\"version\":1}\n" ++ q) e6))))
     ∙ regrouped_whole c d
     ∙ ap (λ (q : List ℕ). q ++ 10 ∷ []) (sym (whole_is s))

@@ -43,7 +43,8 @@ pub compared : (a b x y : ℤ) → a ≡ x → b ≡ y → Tells (lt_z a b) (x <
 compared a b x y e h = tells_same (lt_z a b) a b x y e h (less_tells a b)
 
 -- so many times a number beside so many equal shares
-pub share_tells : (n : ℕ) (number worth product together : ℤ) → 0 < n → product ≡ pos n *ℤ number → together ≡ worth *ℤ pos n → Tells (lt_z product together) (number <ℤ worth) (worth ≤ℤ number)
+pub share_tells : (n : ℕ) (number worth product together : ℤ) → 0 < n → product ≡ pos n *ℤ number → together ≡ worth *ℤ pos n
+    → Tells (lt_z product together) (number <ℤ worth) (worth ≤ℤ number)
 share_tells n number worth product together some is share =
     tells_so (lt_z product together) (less n number worth) (not_less n number worth some) (compared product together _ _ is (share ∙ *ℤ_comm worth (pos n)))
 

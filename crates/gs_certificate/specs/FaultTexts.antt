@@ -11,7 +11,8 @@ use Rattle.gs_certificate.specs.declared.text_fault.CertTextFault.TheVariants as
 -- why a certificate does not hold
 abbrev pub cert_fault_text : CertFault → List ℕ
 cert_fault_text (fault.Length player want) = codes "player " ++ decimal player ++ codes " length"
-cert_fault_text (fault.Low player point class) = codes "player " ++ decimal player ++ codes " low at point " ++ decimal point ++ codes " class " ++ decimal class
+cert_fault_text (fault.Low player point class) = codes "player " ++ decimal player ++ codes " low at point " ++ decimal point ++ codes " class "
+    ++ decimal class
 cert_fault_text (fault.Bound player found) = codes "player " ++ decimal player ++ codes " bound found " ++ fraction_text found.num found.den
 
 -- why bytes are no certificate's text

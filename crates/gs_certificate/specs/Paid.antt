@@ -11,7 +11,8 @@ use Rattle.gs_certificate.specs.declared.tables.EndSums.{EndSums}
 pub record AreKept (f : Frame) (lists : ClassLists) (player : ℕ) (y : Plan) (count : ℕ) (starts : List ℕ) (sums : List ℤ) : Type 0 where
   pub long : length starts ≡ count
   pub within : (z : ℕ) → z < count → get_or starts z 0 + end_classes f lists z ≤ length sums
-  pub paid : (z c : ℕ) → z < count → IsClass lists (round_of f (at_end z)) c → get_or sums (get_or starts z 0 + (c - 1)) (pos 0) ≡ end_sum f lists player y z c
+  pub paid : (z c : ℕ) → z < count → IsClass lists (round_of f (at_end z)) c
+      → get_or sums (get_or starts z 0 + (c - 1)) (pos 0) ≡ end_sum f lists player y z c
 
 -- and so for all ends
 abbrev pub ArePaid : Frame → ClassLists → ℕ → Plan → EndSums → Type 0

@@ -24,7 +24,8 @@ fn is_below_end(claim: &Claim<'_>, number: i128, end: u32, round: u8, class: u32
     requires end { end < end_count (frame_in claim.now) }
     requires round { round ≡ round_of (frame_in claim.now) (at_end end) }
     requires class { IsClass (lists_in claim.now) round class }
-    ensures { let f = frame_in claim.now in let lists = lists_in claim.now in let side = claim.now.side.now in let worth = end_worth f side.player (lifted f lists side.other.now) end (first_member lists (round_of f (at_end end)) class) in
+    ensures { let f = frame_in claim.now in let lists = lists_in claim.now in let side = claim.now.side.now in
+        let worth = end_worth f side.player (lifted f lists side.other.now) end (first_member lists (round_of f (at_end end)) class) in
         Tells result (number <ℤ worth) (worth ≤ℤ number) }
 {
     let (together, members) = paid_together(claim, end, round, class);
@@ -41,6 +42,7 @@ fn is_below(claim: &Claim<'_>, spot: Spot, way: Way, class: u32) -> bool
         let v = table_in claim.now in let number = v (at_point spot.point) class in let worth = target_worth f lists v spot.point (target_of way.to) class in
         Tells result (number <ℤ worth) (worth ≤ℤ number) }
 {
+    // called only for what its contract says
     let _rounds = round_total(claim.side.form);
     let number = number_at(claim.side, claim.values, spot, class);
     if let Target::End(end) = way.to {

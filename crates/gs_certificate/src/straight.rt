@@ -174,7 +174,8 @@ fn bound_in(bytes: &[u8]) -> Result<(Fraction, &[u8]), Stop>
 
 /// A player's part.
 fn side_in<'b>(alloc: Global, bytes: &'b [u8]) -> Result<Side<'b>, Stop>
-    ensures text { IfOk result (λ s. bytes.now ≡ compact_text (side_data (record { bound = fraction_parts s.bound; values = s.values.items })) ++ s.rest.now) }
+    ensures text { IfOk result (λ s. bytes.now ≡ compact_text (side_data (record { bound = fraction_parts s.bound; values = s.values.items }))
+        ++ s.rest.now) }
     ensures small { IfOk result (λ s. All (λ z. unsigned_abs z < 2 ^ 90) s.values.items) }
 {
     let rest = behind(bytes, b"{\"bound\":\"")?;

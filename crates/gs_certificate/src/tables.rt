@@ -30,6 +30,7 @@ fn sums_in(
     ensures { let f = frame_of side.now.form.now in let lists = lists_of side.now.form.now in
         IfOk result (ArePaid f lists side.now.player (class_plan f lists side.now.other.now)) }
 {
+    // called only for what its contract says
     let _rounds = round_total(side.form);
     let ends = end_total(side.form);
     let mut starts = Vec::with_capacity(alloc, ends as usize)?;

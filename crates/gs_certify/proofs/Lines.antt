@@ -46,7 +46,14 @@ module _ (f : Frame) (lists : ClassLists) (x y : Plan) where
 
   same_sound : (c d : Certificate) → certificate_view c ≡ certificate_view d → IsSound f lists x y c → IsSound f lists x y d
   same_sound c d e h =
-      let here : Both (certificate_view c) = (record { long = h.first.long; certificate = h.first.certificate }, record { long = h.second.long; certificate = h.second.certificate }) in
+      let here : Both (certificate_view c) = (
+        record { long = h.first.long; certificate = h.first.certificate },
+        record {
+          long = h.second.long;
+          certificate =
+              h.second.certificate;
+        },
+      ) in
       let there : Both (certificate_view d) = subst Both e here in
       record {
         first = record { long = there.0.long; certificate = there.0.certificate };
@@ -74,13 +81,15 @@ not_large s (Cells count) small h = omega (arith, small.cells, h.1, h.2)
 not_large s (Table_numbers count) small h = h
 not_large s (Raw_cells count) small h = h
 
-module _ (s : Strategy) (c d : Certificate) (confirmed : IsConfirmed s) (sound : IsSound (frame_of s) s.classes (raw_plan s s.one) (raw_plan s s.two) c) (same : certificate_view c ≡ certificate_view d) where
+module _ (s : Strategy) (c d : Certificate) (confirmed : IsConfirmed s) (sound : IsSound (frame_of s) s.classes (raw_plan s s.one) (raw_plan s s.two) c)
+    (same : certificate_view c ≡ certificate_view d) where
   printed_only : (reply : Reply) → SaysChecked s d reply → IsPrinted reply
   printed_only (Prints text) h = (text, refl)
   printed_only (Refuses (Unlike_pair round one two)) h = absurd (h.not_lossless confirmed.lossless)
   printed_only (Refuses (Too_large limit)) h = absurd (not_large s limit confirmed.small h.passed)
   printed_only (Refuses (Bad_certificate text)) h =
-      absurd (faults_exclude (frame_of s) s.classes (raw_plan s s.one) (raw_plan s s.two) d h.why (same_sound (frame_of s) s.classes (raw_plan s s.one) (raw_plan s s.two) c d same sound) h.fault)
+      absurd (faults_exclude (frame_of s) s.classes (raw_plan s s.one) (raw_plan s s.two) d h.why
+      (same_sound (frame_of s) s.classes (raw_plan s s.one) (raw_plan s s.two) c d same sound) h.fault)
   printed_only (Refuses (Bad_game why)) h = absurd h
   printed_only (Refuses (Overflows at)) h = absurd h
   printed_only (Refuses Many_pivots) h = absurd h
@@ -89,22 +98,28 @@ module _ (s : Strategy) (c d : Certificate) (confirmed : IsConfirmed s) (sound :
   printed_only (Refuses (Bad_query why)) h = absurd h
   printed_only (Refuses Other_game) h = absurd h
 
-second_line : (s : Strategy) (c : Certificate) (reply : Reply) → IsConfirmed s → AreSmall c → IsSound (frame_of s) s.classes (raw_plan s s.one) (raw_plan s s.two) c
+second_line : (s : Strategy) (c : Certificate) (reply : Reply) → IsConfirmed s → AreSmall c
+    → IsSound (frame_of s) s.classes (raw_plan s s.one) (raw_plan s s.two) c
     → SaysVerified (certificate_text (certificate_view c)) s reply → IsPrinted reply
-second_line s c reply confirmed small sound (inl bad) = absurd (clash bad.why (certificate_view c) (certificate_only (certificate_view c) (Err bad.why) (stated c small) bad.reads))
+second_line s c reply confirmed small sound (inl bad) = absurd (clash bad.why (certificate_view c)
+    (certificate_only (certificate_view c) (Err bad.why) (stated c small) bad.reads))
 second_line s c reply confirmed small sound (inr h) =
     let same = one_certificate (certificate_view c) (certificate_view h.0) (stated c small) (stated h.0 h.1.small) h.1.text in
     printed_only s c h.0 confirmed sound same reply h.2
 
-first_line_is : (s : Strategy) (bytes : List ℕ) (reply : Reply) → IsStrategy Two s → OfStrategy (SaysVerified bytes) (strategy_text Two s) reply → SaysVerified bytes s reply
+first_line_is : (s : Strategy) (bytes : List ℕ) (reply : Reply) → IsStrategy Two s → OfStrategy (SaysVerified bytes) (strategy_text Two s) reply
+    → SaysVerified bytes s reply
 first_line_is s bytes reply is h =
     let read : h.read ≡ Ok s = only Two s h.read is h.reads in
     subst (λ (r : ReadResult). OfRead (SaysVerified bytes) r reply) read h.said
 
-pub lines_verified : (s : Strategy) (text : List ℕ) (reply : Reply) → IsStrategy Two s → IsConfirmed s → IsCertified s text → Verifies text reply → IsPrinted reply
+pub lines_verified : (s : Strategy) (text : List ℕ) (reply : Reply) → IsStrategy Two s → IsConfirmed s → IsCertified s text → Verifies text reply
+    → IsPrinted reply
 lines_verified s text reply is confirmed h v =
     let c = h.certificate in
     let line = certificate_text (certificate_view c) in
-    let parted : first_line text ≡ (strategy_text Two s, line) = ap first_line h.printed ∙ line_parted (strategy_data Two s) line (has_line Two s is.written).canonical in
-    let here : OfStrategy (SaysVerified line) (strategy_text Two s) reply = subst (λ (p : List ℕ × List ℕ). OfStrategy (SaysVerified p.1) p.0 reply) parted v in
+    let parted : first_line text ≡ (strategy_text Two s, line) = ap first_line h.printed
+    ∙ line_parted (strategy_data Two s) line (has_line Two s is.written).canonical in
+    let here : OfStrategy (SaysVerified line) (strategy_text Two s) reply =
+    subst (λ (p : List ℕ × List ℕ). OfStrategy (SaysVerified p.1) p.0 reply) parted v in
     second_line s c reply confirmed h.holds.small h.holds.sound (first_line_is s line reply is here)

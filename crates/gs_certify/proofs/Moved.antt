@@ -21,7 +21,8 @@ use Rattle.gs_certify.specs.Verifying.{SaysChecked}
 use Rattle.gs_certify.specs.declared.task.Task.{Task}
 use Rattle.gs_certify.specs.declared.task.Task.TheVariants.{Certify, Verify}
 
-pub moved : (P : Frame → ClassLists → Type 0) (l : Lossless) (s : Stored) → Holds l s → P (frame_in l.signals.now.game.now) l.classes.now.lists → P (frame_in s.game) s.classes.lists
+pub moved : (P : Frame → ClassLists → Type 0) (l : Lossless) (s : Stored) → Holds l s → P (frame_in l.signals.now.game.now) l.classes.now.lists
+    → P (frame_in s.game) s.classes.lists
 moved P l s h x = subst (λ k. P (frame_in s.game) k.lists) h.classes (subst (λ g. P (frame_in g) l.classes.now.lists) h.game x)
 
 -- an unlike pair, and a game that is too large, are told by both commands

@@ -27,7 +27,8 @@ number_line words p = words ++ fraction_text p.0 p.1 ++ codes "\n"
 
 -- the value of the plans, and each player's bound
 abbrev pub bounds_text : Parts → Stated → List ℕ
-bounds_text value c = number_line (codes "value ") value ++ number_line (codes "player1 at most ") c.one.bound ++ number_line (codes "player2 at most ") c.two.bound
+bounds_text value c = number_line (codes "value ") value ++ number_line (codes "player1 at most ") c.one.bound
+    ++ number_line (codes "player2 at most ") c.two.bound
 
 -- the classes are lossless, the certificate holds of the plans, and these are their value and the bounds
 pub record IsVerified (s : Strategy) (c : Certificate) (text : List ℕ) : Type 0 where

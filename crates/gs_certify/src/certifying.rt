@@ -21,6 +21,7 @@ pub(crate) fn certified_text(
     requires { Holds form.now.lossless.now stored.now }
     ensures { IfOk result (λ text. IsCertified (stored_view stored.now) text.items) }
 {
+    // called only for what its contract says
     let _rounds = round_total(form);
     let c = make_certificate(alloc, form, &stored.one, &stored.two)?;
     let line = certificate_text(alloc, &c)?;

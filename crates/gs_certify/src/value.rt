@@ -25,10 +25,12 @@ fn scale_of(weight: u64, one: u64, two: u64) -> u128
 pub fn value_of(form: &Abstract, one: &Plan, two: &Plan, paid: i128) -> Fraction
     requires one { IsPlanOf (frame_of form.now) (lists_of form.now) 1 one.now }
     requires two { IsPlanOf (frame_of form.now) (lists_of form.now) 2 two.now }
-    requires paid { paid ≡ raw_payoff (frame_of form.now) (lifted (frame_of form.now) (lists_of form.now) one.now) (lifted (frame_of form.now) (lists_of form.now) two.now) }
+    requires paid { paid ≡ raw_payoff (frame_of form.now) (lifted (frame_of form.now) (lists_of form.now) one.now)
+        (lifted (frame_of form.now) (lists_of form.now) two.now) }
     ensures { let f = frame_of form.now in let lists = lists_of form.now in
         IsValue f (lifted f lists one.now) (lifted f lists two.now) (parts result).0 (parts result).1 }
 {
+    // called only for what its contract says
     let _rounds = round_total(form);
     let scale = scale_of(deal_weight(form), one.total, two.total);
     fraction(paid, scale as i128)

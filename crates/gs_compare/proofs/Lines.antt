@@ -6,7 +6,8 @@ use Rattle.std.proofs.lemmas.List.{append-nil}
 use Rattle.gs_model.proofs.Sparse.{range_append}
 
 -- one more line
-pub lines_more : (line : ℕ → List ℕ) (text new : List ℕ) (n : ℕ) → text ≡ flat_map line (range_with_len 0 n) → new ≡ text ++ line n → new ≡ flat_map line (range_with_len 0 (n + 1))
+pub lines_more : (line : ℕ → List ℕ) (text new : List ℕ) (n : ℕ) → text ≡ flat_map line (range_with_len 0 n) → new ≡ text ++ line n
+    → new ≡ flat_map line (range_with_len 0 (n + 1))
 lines_more line text new n so is =
     let at : 0 + n ≡ n = omega arith in
     is ∙ ap (λ (t : List ℕ). t ++ line n) so

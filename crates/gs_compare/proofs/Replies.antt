@@ -21,7 +21,8 @@ use Rattle.gs_compare.specs.Commands.{OfFile, OnRawCards}
 -- ---- the files
 
 -- what is said of a strategy is said of the file that holds it
-pub held : (which : Which) (says : Strategy → Reply → Type 0) (bytes : List ℕ) (s : Strategy) (a : Answer) → Reads bytes (Ok s) → Answers (says s) a → Answers (OfFile which says bytes) a
+pub held : (which : Which) (says : Strategy → Reply → Type 0) (bytes : List ℕ) (s : Strategy) (a : Answer) → Reads bytes (Ok s) → Answers (says s) a
+    → Answers (OfFile which says bytes) a
 held which says bytes s a reads = answers_more (says s) (OfFile which says bytes) (λ r p. record { read = Ok s; reads = reads; said = p }) a
 
 -- a fault that is no want of memory is the first one that reading meets
@@ -43,7 +44,8 @@ named bytes told ne h =
     (m.0, m.1)
 
 -- and the file is refused for it
-pub refused : (which : Which) (says : Strategy → Reply → Type 0) (bytes : List ℕ) (told : StoreFault) (a : Answer) → told ≢ fault.Memory → FailsSo told (Reads bytes) → ((why : Fault) → IsFault told why → Tells a (Bad_strategy which why))
+pub refused : (which : Which) (says : Strategy → Reply → Type 0) (bytes : List ℕ) (told : StoreFault) (a : Answer) → told ≢ fault.Memory
+    → FailsSo told (Reads bytes) → ((why : Fault) → IsFault told why → Tells a (Bad_strategy which why))
     → Answers (OfFile which says bytes) a
 refused which says bytes told a ne h line =
     let m = met bytes told ne h in
@@ -51,7 +53,8 @@ refused which says bytes told a ne h line =
 
 -- ---- raw cells
 
-pub too_many : (f : Frame) (one two : Strategy) (says : Numbers → Reply → Type 0) (count : ℕ) (stop : RawStop) (a : Answer) → f ≡ frame_of one → stop ≡ TooManyCells count → IsRawStopOf f stop
+pub too_many : (f : Frame) (one two : Strategy) (says : Numbers → Reply → Type 0) (count : ℕ) (stop : RawStop) (a : Answer) → f ≡ frame_of one
+    → stop ≡ TooManyCells count → IsRawStopOf f stop
     → Tells a (Too_large (Raw_cells count)) → Answers (OnRawCards says one two) a
 too_many f one two says count stop a same is h line =
     let m = subst (IsRawStopOf f) is h in

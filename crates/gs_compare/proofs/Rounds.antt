@@ -22,4 +22,5 @@ module _ {X Y : Type 0} (f : X → Y) (xs ys : List X) where
   same_all long h = same_lists (map f xs) (map f ys) (length-map xs f ∙ long ∙ sym (length-map ys f)) (λ k d l. h k d (omega (arith, l, length-map xs f)))
 
   pub one_same : (n : ℕ) (x y : X) → n < length xs → n < length ys → x ≡ get_or xs n x → y ≡ get_or ys n y → map f xs ≡ map f ys → f x ≡ f y
-  one_same n x y lx ly ix iy e = ap f ix ∙ sym (get_or-map f xs n x (f x) lx) ∙ ap (λ (l : List Y). get_or l n (f x)) e ∙ get_or-map f ys n y (f x) ly ∙ ap f (sym iy)
+  one_same n x y lx ly ix iy e = ap f ix ∙ sym (get_or-map f xs n x (f x) lx) ∙ ap (λ (l : List Y). get_or l n (f x)) e ∙ get_or-map f ys n y (f x) ly
+      ∙ ap f (sym iy)

@@ -36,7 +36,8 @@ SaysJudged s = OnRawCards (λ n reply. reply ≡ Prints (verdict_text n)) s s
 
 -- the value and the gaps of two strategies, and what each raw signal of round 1 is worth, a line each
 abbrev pub SaysHands : Strategy → Strategy → Reply → Type 0
-SaysHands one two = OnRawCards (λ n reply. (hands : List Parts) × AreHands one two hands × (reply ≡ Prints (verdict_text n ++ hands_text one.game.deck (rules_of one.game) hands))) one two
+SaysHands one two = OnRawCards (λ n reply. (hands : List Parts) × AreHands one two hands
+    × (reply ≡ Prints (verdict_text n ++ hands_text one.game.deck (rules_of one.game) hands))) one two
 
 -- two strategies of two games are refused
 abbrev pub SaysDuel : Strategy → Strategy → Reply → Type 0

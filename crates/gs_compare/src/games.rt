@@ -66,7 +66,8 @@ fn same_ranking(one: Ranking, two: Ranking) -> bool
 
 // Whether two games are the same but for their rounds.
 fn same_terms(one: &Game, two: &Game) -> bool
-    ensures { IsTrue result ↔ ((one.now.deck ≡ two.now.deck) × (ranking_of one.now.ranking ≡ ranking_of two.now.ranking) × (one.now.bonus.items ≡ two.now.bonus.items) × (one.now.ante ≡ two.now.ante)) }
+    ensures { IsTrue result ↔ ((one.now.deck ≡ two.now.deck) × (ranking_of one.now.ranking ≡ ranking_of two.now.ranking)
+        × (one.now.bonus.items ≡ two.now.bonus.items) × (one.now.ante ≡ two.now.ante)) }
 {
     same_deck(&one.deck, &two.deck)
         && same_ranking(one.ranking, two.ranking)

@@ -19,8 +19,10 @@ fn push_hand(
     value: &Fraction,
 ) -> Result<(), AllocError>
     requires { signal < length (signals_in (rules_of signals.now) 1) }
-    ensures { OnOk result (string_bytes text.new ≡ string_bytes text.old ++ hand_line (deck_of signals.now) (rules_of signals.now) signal (parts_of value.now)) }
+    ensures { OnOk result (string_bytes text.new ≡ string_bytes text.old
+        ++ hand_line (deck_of signals.now) (rules_of signals.now) signal (parts_of value.now)) }
 {
+    // called only for what its contract says
     let _rounds = signals.rounds();
     text.push_str("hand ")?;
     text.push_str(signals.text(alloc, 1, signal)?.as_str())?;

@@ -41,5 +41,6 @@ answers_map P Q f (answer.Prints text) h = f (Prints text.items) h
 answers_map P Q f (answer.Refuses kind line) h = (h.0, f (Refuses h.0) h.1, h.2)
 
 -- what is said of the strategy that was read is what a command answers
-pub of_read : (says : Strategy → Reply → Type 0) (bytes : List ℕ) (s : Strategy) (a : Answer) → Reads bytes (Ok s) → Answers (says s) a → Answers (OfStrategy says bytes) a
+pub of_read : (says : Strategy → Reply → Type 0) (bytes : List ℕ) (s : Strategy) (a : Answer) → Reads bytes (Ok s) → Answers (says s) a
+    → Answers (OfStrategy says bytes) a
 of_read says bytes s a reads h = answers_map (says s) (OfStrategy says bytes) (λ r said. record { read = Ok s; reads = reads; said = said }) a h

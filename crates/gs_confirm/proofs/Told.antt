@@ -37,11 +37,14 @@ unlike_refused says s a h = answers_more (SaysUnlike s) (OfConfirmed says s) (λ
 
 -- the first unlike pair of a strategy's classes, by the texts of its signals
 pub pair_told : (w : ValidGame) (s : Stored) (round named first second : ℕ) (a : Answer) → w ≡ s.game
-    → IsFirstUnlike (frame_in w) s.classes.lists round named second → (IsLossless (frame_in w) s.classes.lists → ⊥) → first ≡ first_member s.classes.lists round (class_of s.classes.lists round second)
-    → Tells a (Unlike_pair round (signal_text w.game.deck (signal_at (game_of w.game) round first)) (signal_text w.game.deck (signal_at (game_of w.game) round second))) → Answers (SaysUnlike (stored_view s)) a
+    → IsFirstUnlike (frame_in w) s.classes.lists round named second → (IsLossless (frame_in w) s.classes.lists → ⊥)
+    → first ≡ first_member s.classes.lists round (class_of s.classes.lists round second)
+    → Tells a (Unlike_pair round (signal_text w.game.deck (signal_at (game_of w.game) round first))
+    (signal_text w.game.deck (signal_at (game_of w.game) round second))) → Answers (SaysUnlike (stored_view s)) a
 pair_told w s round named first second a e unlike not is t =
     let same : named ≡ first = unlike.member ∙ sym is in
-    let here : IsFirstUnlike (frame_in w) s.classes.lists round first second = subst (λ n. IsFirstUnlike (frame_in w) s.classes.lists round n second) same unlike in
+    let here : IsFirstUnlike (frame_in w) s.classes.lists round first second =
+    subst (λ n. IsFirstUnlike (frame_in w) s.classes.lists round n second) same unlike in
     let told = tells_answer (SaysUnlike (strategy_of w s.classes s.one s.two s.verdict)) a (Unlike_pair round _ _)
     (round, _, _, record { first = first; second = second; unlike = here; not_lossless = not; first_text = refl; second_text = refl }, refl) t in
     subst (λ (x : ValidGame). Answers (SaysUnlike (strategy_of x s.classes s.one s.two s.verdict)) a) e told
@@ -52,7 +55,8 @@ pub record IsPairIn (g : Game) (round first second : ℕ) : Type 0 where
   pub first_in : first < length (signals g round)
   pub second_in : second < length (signals g round)
 
-pub pair_in : (g : Game) (parents : List (List ℕ)) (lists : ClassLists) (round named first second : ℕ) → parents ≡ (rules_frame g).parents → IsClasses parents lists → IsFirstUnlike (rules_frame g) lists round named second
+pub pair_in : (g : Game) (parents : List (List ℕ)) (lists : ClassLists) (round named first second : ℕ) → parents ≡ (rules_frame g).parents
+    → IsClasses parents lists → IsFirstUnlike (rules_frame g) lists round named second
     → first < length (list_of lists round) → IsPairIn g round first second
 pair_in g parents lists round named first second e h unlike within =
     let some : 0 < round = unlike.round_in.0 in
@@ -69,27 +73,34 @@ pair_in g parents lists round named first second e h unlike within =
 -- ---- sizes
 
 -- a stop of the game in sequence form is one of the strategy's
-pub stop_is : (s : Stored) (w : ValidGame) (k : Filter) (stop named : SeqStop) → w ≡ s.game → k ≡ s.classes → stop ≡ named → IsStopOf (frame_in w) k.lists stop → IsStopOf (frame_of (stored_view s)) s.classes.lists named
+pub stop_is : (s : Stored) (w : ValidGame) (k : Filter) (stop named : SeqStop) → w ≡ s.game → k ≡ s.classes → stop ≡ named
+    → IsStopOf (frame_in w) k.lists stop → IsStopOf (frame_of (stored_view s)) s.classes.lists named
 stop_is s w k stop named e f same h =
     let at_game = subst (λ (x : ValidGame). IsStopOf (frame_in x) k.lists stop) e h in
     let at_classes = subst (λ (x : Filter). IsStopOf (frame_in s.game) x.lists stop) f at_game in
     subst (λ (x : SeqStop). IsStopOf (frame_in s.game) s.classes.lists x) same at_classes
 
-pub large_told : (s : Strategy) (limit : Limit) (a : Answer) → IsLossless (frame_of s) s.classes → Passes s limit → Tells a (Too_large limit) → Answers (SaysLarge s) a
+pub large_told : (s : Strategy) (limit : Limit) (a : Answer) → IsLossless (frame_of s) s.classes → Passes s limit → Tells a (Too_large limit)
+    → Answers (SaysLarge s) a
 large_told s limit a lossless passed t = tells_answer (SaysLarge s) a (Too_large limit) (limit, record { lossless = lossless; passed = passed }, refl) t
 
 -- ---- numbers
 
 -- the verdict on the plans over a game and classes, which are those of the strategy
 pub numbers_are : (s : Stored) (w : ValidGame) (k : Filter) (n : Verdict) → w ≡ s.game → k ≡ s.classes
-    → IsVerdict (frame_in w) (lifted (frame_in w) k.lists s.one) (lifted (frame_in w) k.lists s.two) (parts n.value) (parts n.gap1) (parts n.gap2) → AreNumbersOf (stored_view s) (numbers_of n)
+    → IsVerdict (frame_in w) (lifted (frame_in w) k.lists s.one) (lifted (frame_in w) k.lists s.two) (parts n.value) (parts n.gap1) (parts n.gap2)
+    → AreNumbersOf (stored_view s) (numbers_of n)
 numbers_are s w k n e f h =
-    let at_game = subst (λ (x : ValidGame). IsVerdict (frame_in x) (lifted (frame_in x) k.lists s.one) (lifted (frame_in x) k.lists s.two) (parts n.value) (parts n.gap1) (parts n.gap2)) e h in
-    let at_classes = subst (λ (x : Filter). IsVerdict (frame_in s.game) (lifted (frame_in s.game) x.lists s.one) (lifted (frame_in s.game) x.lists s.two) (parts n.value) (parts n.gap1) (parts n.gap2)) f at_game in
+    let at_game = subst (λ (x : ValidGame). IsVerdict (frame_in x) (lifted (frame_in x) k.lists s.one) (lifted (frame_in x) k.lists s.two) (parts n.value)
+    (parts n.gap1) (parts n.gap2)) e h in
+    let at_classes = subst (λ (x : Filter). IsVerdict (frame_in s.game) (lifted (frame_in s.game) x.lists s.one) (lifted (frame_in s.game) x.lists s.two)
+    (parts n.value) (parts n.gap1) (parts n.gap2)) f at_game in
     record { value = n.value.reduced; gap1 = n.gap1.reduced; gap2 = n.gap2.reduced; verdict = at_classes }
 
-pub wrong_told : (s : Stored) (n : Verdict) (name : List ℕ) (stated found : Parts) (a : Answer) → IsLossless (frame_of (stored_view s)) s.classes.lists → IsSmall (frame_of (stored_view s)) s.classes.lists
-    → AreNumbersOf (stored_view s) (numbers_of n) → IsFirstWrong (numbers_of s.verdict) (numbers_of n) name stated found → Tells a (Wrong_number name stated found) → Answers (SaysWrong (stored_view s)) a
+pub wrong_told : (s : Stored) (n : Verdict) (name : List ℕ) (stated found : Parts) (a : Answer) → IsLossless (frame_of (stored_view s)) s.classes.lists
+    → IsSmall (frame_of (stored_view s)) s.classes.lists
+    → AreNumbersOf (stored_view s) (numbers_of n) → IsFirstWrong (numbers_of s.verdict) (numbers_of n) name stated found
+    → Tells a (Wrong_number name stated found) → Answers (SaysWrong (stored_view s)) a
 wrong_told s n name stated found a lossless small are first t =
     tells_answer (SaysWrong (stored_view s)) a (Wrong_number name stated found)
     (name, stated, found, record { lossless = lossless; small = small; numbers = numbers_of n; are = are; first = first }, refl) t

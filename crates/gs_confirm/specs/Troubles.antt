@@ -37,7 +37,8 @@ abbrev pub IsFirstWrong : Numbers → Numbers → List ℕ → Parts → Parts �
 IsFirstWrong stated found name one other =
     ((name ≡ codes "value") × (one ≡ stated.value) × (other ≡ found.value) × (stated.value ≢ found.value))
     ⊎ (((name ≡ codes "gap1") × (one ≡ stated.gap1) × (other ≡ found.gap1) × (stated.value ≡ found.value) × (stated.gap1 ≢ found.gap1))
-    ⊎ ((name ≡ codes "gap2") × (one ≡ stated.gap2) × (other ≡ found.gap2) × (stated.value ≡ found.value) × (stated.gap1 ≡ found.gap1) × (stated.gap2 ≢ found.gap2)))
+    ⊎ ((name ≡ codes "gap2") × (one ≡ stated.gap2) × (other ≡ found.gap2) × (stated.value ≡ found.value) × (stated.gap1 ≡ found.gap1)
+    × (stated.gap2 ≢ found.gap2)))
 
 -- the classes are lossless, the game is small, and a number is not that of the plans
 pub record IsWrongNumber (s : Strategy) (name : List ℕ) (stated found : Parts) : Type 0 where
@@ -66,4 +67,5 @@ SaysLarge s reply = (limit : Limit) × IsTooLarge s limit × (reply ≡ Refuses 
 
 -- the first wrong number of a strategy
 abbrev pub SaysWrong : Strategy → Reply → Type 0
-SaysWrong s reply = (name : List ℕ) × (stated : Parts) × (found : Parts) × IsWrongNumber s name stated found × (reply ≡ Refuses (Wrong_number name stated found))
+SaysWrong s reply = (name : List ℕ) × (stated : Parts) × (found : Parts) × IsWrongNumber s name stated found
+    × (reply ≡ Refuses (Wrong_number name stated found))

@@ -30,6 +30,7 @@ pub fn lossless_of<'a>(
     ensures unlike { IfOk result (λ found. IfErr found (Answers (SaysUnlike (stored_view stored.entry.now)))) }
 {
     let classes = &stored.classes;
+    // called only for what its contract says
     let _rounds = classes.rounds();
     match check(alloc, signals, classes) {
         Ok(lossless) => Ok(Ok(lossless)),

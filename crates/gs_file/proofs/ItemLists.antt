@@ -11,10 +11,12 @@ list_of-view [] = refl
 list_of-view (v ∷ vs) = ap (λ ds. view v ∷ ds) (list_of-view vs)
 
 -- an array of tables, and one of integers, by its values
-pub tables_are : (place : Place) (d : Data) (vs : List Value) → array_in place d ≡ Ok (items_view vs) → tables_in place d ≡ each (λ n. table_in place) 1 (map view vs)
+pub tables_are : (place : Place) (d : Data) (vs : List Value) → array_in place d ≡ Ok (items_view vs)
+    → tables_in place d ≡ each (λ n. table_in place) 1 (map view vs)
 unfolding tables_in
 tables_are place d vs e = rw (e, list_of-view vs) refl
 
-pub numbers_are : (place : Place) (d : Data) (vs : List Value) → array_in place d ≡ Ok (items_view vs) → whole_numbers_in place d ≡ each (λ n. whole_number place) 1 (map view vs)
+pub numbers_are : (place : Place) (d : Data) (vs : List Value) → array_in place d ≡ Ok (items_view vs)
+    → whole_numbers_in place d ≡ each (λ n. whole_number place) 1 (map view vs)
 unfolding whole_numbers_in
 numbers_are place d vs e = rw (e, list_of-view vs) refl

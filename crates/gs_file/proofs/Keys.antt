@@ -9,9 +9,11 @@ use Rattle.gs_file.specs.declared.fault.Key.{Key}
 use Rattle.gs_file.specs.declared.form.Form.{Form}
 use Rattle.gs_file.specs.Keys.{is_among, has_only}
 
-has_only_entries : (form : Form) (known : List Key) (es : List (String Global × Value)) → list_all (λ k. is_among form known (string_bytes k)) (keys_of es) ≡ has_only form known (members_view es)
+has_only_entries : (form : Form) (known : List Key) (es : List (String Global × Value))
+    → list_all (λ k. is_among form known (string_bytes k)) (keys_of es) ≡ has_only form known (members_view es)
 has_only_entries form known [] = refl
 has_only_entries form known (e ∷ es) = ap (λ b. is_among form known (string_bytes e.0) && b) (has_only_entries form known es)
 
-pub has_only_keys : (form : Form) (known : List Key) (table : BTreeMap (String Global) Value) → list_all (λ k. is_among form known (string_bytes k)) (keys table) ≡ has_only form known (table_view table)
+pub has_only_keys : (form : Form) (known : List Key) (table : BTreeMap (String Global) Value)
+    → list_all (λ k. is_among form known (string_bytes k)) (keys table) ≡ has_only form known (table_view table)
 has_only_keys form known table = has_only_entries form known table.entries

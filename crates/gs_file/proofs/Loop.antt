@@ -14,7 +14,8 @@ use Rattle.gs_file.specs.Tables.{each}
 abbrev pub with_front : {B : Type 0} → List B → Result (List B) Fault → Result (List B) Fault
 with_front front read = read >>= λ others. Ok (front ++ others)
 
-regroup : {B : Type 0} (front : List B) (y : B) (read : Result (List B) Fault) → with_front front (read >>= λ ys. Ok (y ∷ ys)) ≡ with_front (front ++ y ∷ []) read
+regroup : {B : Type 0} (front : List B) (y : B) (read : Result (List B) Fault)
+    → with_front front (read >>= λ ys. Ok (y ∷ ys)) ≡ with_front (front ++ y ∷ []) read
 regroup front y (Ok ys) = ap (λ zs. Ok zs) (simp append_assoc)
 regroup front y (Err f) = refl
 
@@ -22,14 +23,16 @@ drop_one : {A : Type 0} (xs : List A) (i : ℕ) (x : A) → i < length xs → dr
 drop_one xs i x lt = rw add-one (drop-cons xs i x lt)
 
 -- one more member
-pub goes_on : {A C B : Type 0} (read : ℕ → C → Result B Fault) (seen : A → C) (front : List B) (xs : List A) (i n : ℕ) (x : A) (y : B) (total : Result (List B) Fault) → i < length xs → read n (seen (get_or xs i x)) ≡ Ok y
+pub goes_on : {A C B : Type 0} (read : ℕ → C → Result B Fault) (seen : A
+    → C) (front : List B) (xs : List A) (i n : ℕ) (x : A) (y : B) (total : Result (List B) Fault) → i < length xs → read n (seen (get_or xs i x)) ≡ Ok y
     → with_front front (each read n (map seen (drop i xs))) ≡ total → with_front (front ++ y ∷ []) (each read (n + 1) (map seen (drop (i + 1) xs))) ≡ total
 goes_on read seen front xs i n x y total lt h so_far =
     let one : with_front front (each read n (map seen (drop i xs))) ≡ with_front (front ++ y ∷ []) (each read (n + 1) (map seen (drop (i + 1) xs))) =
     rw (drop_one xs i x lt, h) (regroup front y (each read (n + 1) (map seen (drop (i + 1) xs)))) in
     sym one ∙ so_far
 
-rules_so : {X Y : Type 0} → (g : GameFault) (one : Result X Fault) (other : Result Y Fault) → FailsByRules g one → ((f : Fault) → one ≡ Err f → other ≡ Err f) → FailsByRules g other
+rules_so : {X Y : Type 0} → (g : GameFault) (one : Result X Fault) (other : Result Y Fault) → FailsByRules g one → ((f : Fault) → one ≡ Err f → other ≡ Err f)
+    → FailsByRules g other
 rules_so (rules.Rounds count) one other h f = f _ h
 rules_so rules.NoPrivate one other h f = f _ h
 rules_so (rules.RankingCards own all) one other h f = f _ h
@@ -44,7 +47,8 @@ rules_so rules.TooManyDeals one other h f = f _ h
 rules_so rules.Memory one other h f = h
 
 -- a fault of one reading is a fault of another, where the other has each fault of the one
-pub fails_so : {X Y : Type 0} → (e : FileFault) (one : Result X Fault) (other : Result Y Fault) → Fails e one → ((f : Fault) → one ≡ Err f → other ≡ Err f) → Fails e other
+pub fails_so : {X Y : Type 0} → (e : FileFault) (one : Result X Fault) (other : Result Y Fault) → Fails e one → ((f : Fault) → one ≡ Err f → other ≡ Err f)
+    → Fails e other
 fails_so fault.NotText one other h f = f _ h
 fails_so fault.NotToml one other h f = f _ h
 fails_so (fault.MissingKey p) one other h f = f _ h
@@ -58,12 +62,15 @@ fails_so (fault.Game g) one other h f = rules_so g one other h f
 fails_so fault.Memory one other h f = tt
 
 -- a member that fails
-pub breaks_off : {A C B : Type 0} (read : ℕ → C → Result B Fault) (seen : A → C) (e : FileFault) (front : List B) (xs : List A) (i n : ℕ) (x : A) (total : Result (List B) Fault) → i < length xs → Fails e (read n (seen (get_or xs i x)))
+pub breaks_off : {A C B : Type 0} (read : ℕ → C → Result B Fault) (seen : A
+    → C) (e : FileFault) (front : List B) (xs : List A) (i n : ℕ) (x : A) (total : Result (List B) Fault) → i < length xs
+    → Fails e (read n (seen (get_or xs i x)))
     → with_front front (each read n (map seen (drop i xs))) ≡ total → Fails e total
 breaks_off read seen e front xs i n x total lt h so_far = fails_so e (read n (seen (get_or xs i x))) total h
     (λ f r. let one : with_front front (each read n (map seen (drop i xs))) ≡ Err f = rw (drop_one xs i x lt, r) refl in sym so_far ∙ one)
 
-pub is_done : {A C B : Type 0} (read : ℕ → C → Result B Fault) (seen : A → C) (front : List B) (xs : List A) (i n : ℕ) (total : Result (List B) Fault) → length xs ≤ i → with_front front (each read n (map seen (drop i xs))) ≡ total → total ≡ Ok front
+pub is_done : {A C B : Type 0} (read : ℕ → C → Result B Fault) (seen : A → C) (front : List B) (xs : List A) (i n : ℕ) (total : Result (List B) Fault)
+    → length xs ≤ i → with_front front (each read n (map seen (drop i xs))) ≡ total → total ≡ Ok front
 is_done read seen front xs i n total le so_far =
     let one : with_front front (each read n (map seen (drop i xs))) ≡ Ok front = rw (drop_all i xs le) (ap (λ ys. Ok ys) (append-nil front)) in
     sym so_far ∙ one

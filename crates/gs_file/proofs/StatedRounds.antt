@@ -29,13 +29,15 @@ pub same_bytes : (xs ys : List ℕ) → bytes_eq xs ys ≡ true → xs ≡ ys
 same_bytes xs ys e = (bytes_eq-Decides xs ys).0 e
 
 -- a key that is none of those that may stand in a table does not stand there
-pub absent : (keys : List Key) (k : Key) (table : Members) → HasOnly table keys → is_among File keys (key_in File k) ≡ false → get_member (key_in File k) table ≡ None
+pub absent : (keys : List Key) (k : Key) (table : Members) → HasOnly table keys → is_among File keys (key_in File k) ≡ false
+    → get_member (key_in File k) table ≡ None
 absent keys k no_members o n = refl
 absent keys k (member name d rest) o n =
     let (here, more) = and_parts (is_among File keys name) (has_only File keys rest) o in
     by (slice_cmp nat_cmp (key_in File k) name) refl here (absent keys k rest more n)
   where
-    by : (c : Ordering) → slice_cmp nat_cmp (key_in File k) name ≡ c → is_among File keys name ≡ true → get_member (key_in File k) rest ≡ None → match_ordering c (get_member (key_in File k) rest) (Some d) (get_member (key_in File k) rest) ≡ None
+    by : (c : Ordering) → slice_cmp nat_cmp (key_in File k) name ≡ c → is_among File keys name ≡ true → get_member (key_in File k) rest ≡ None
+        → match_ordering c (get_member (key_in File k) rest) (Some d) (get_member (key_in File k) rest) ≡ None
     by Less e here none = none
     by Greater e here none = none
     by Equal e here none =
@@ -55,16 +57,28 @@ pub record RoundHas (r : Round ℤ) (table : Members) : Type 0 where
   pub play : PlayHas r.play table
 
 -- a key that has to be there, with a value of its type
-whole_has : (n : ℕ) (k : Key) (table : Members) (d : Data) (z : ℤ) → required File table (within_round n k) ≡ Ok d → whole_number (within_round n k) d ≡ Ok z → Has table k (IsWhole z)
-whole_has n k table d z ed ez = (d, found_ok (get_member (key_in File k) table) (missing_key (within_round n k)) d ed, found_ok (as_integer d) (wrong_type (within_round n k)) z ez)
+whole_has : (n : ℕ) (k : Key) (table : Members) (d : Data) (z : ℤ) → required File table (within_round n k) ≡ Ok d → whole_number (within_round n k) d ≡ Ok z
+    → Has table k (IsWhole z)
+whole_has n k table d z ed ez = (
+  d,
+  found_ok (get_member (key_in File k) table) (missing_key (within_round n k)) d ed,
+  found_ok (as_integer d) (wrong_type (within_round n k)) z ez,
+)
 
-play_ok : (by_tree : Bool) (n : ℕ) (table : Members) (values : PlayValues) (play : Play ℤ) → HasOnly table (round_keys by_tree) → play_values File n table by_tree ≡ Ok values → play_typed n values ≡ Ok play → PlayHas play table
+play_ok : (by_tree : Bool) (n : ℕ) (table : Members) (values : PlayValues) (play : Play ℤ) → HasOnly table (round_keys by_tree)
+    → play_values File n table by_tree ≡ Ok values → play_typed n values ≡ Ok play → PlayHas play table
 play_ok true n table values play o ev ep =
     let (t, et, e1) = after (required File table (within_round n key.Tree)) (λ tree. Ok (Tree_value tree)) values ev in
     let typed : play_typed n (Tree_value t) ≡ Ok play = ap (play_typed n) (same_ok (Tree_value t) values e1) ∙ ep in
     let (words, ew, e2) = after (text (within_round n key.Tree) t) (λ words. Ok (Tree_text words)) play typed in
-    subst (λ p. PlayHas p table) (same_ok (Tree_text words) play e2)
-    (o, (t, found_ok (get_member (key_in File key.Tree) table) (missing_key (within_round n key.Tree)) t et, found_ok (as_str t) (wrong_type (within_round n key.Tree)) words ew))
+    subst (λ p. PlayHas p table) (same_ok (Tree_text words) play e2) (
+      o,
+      (
+        t,
+        found_ok (get_member (key_in File key.Tree) table) (missing_key (within_round n key.Tree)) t et,
+        found_ok (as_str t) (wrong_type (within_round n key.Tree)) words ew,
+      ),
+    )
 play_ok false n table values play o ev ep =
     let (b, eb, e1) = after (required File table (within_round n key.Bet)) _ values ev in
     let (c, ec, e2) = after (required File table (within_round n key.Cap)) _ values e1 in
@@ -126,7 +140,10 @@ play_in_ok n (Limit_of b c) w e =
 
 pub play_in_is : (n : ℕ) (play : Play ℤ) (w : Play ℕ) → PlayIn w play → play_within n play ≡ Ok w
 play_in_is n play (Tree_text text) h = rw h refl
-play_in_is n play (Limit_of bet cap) (same, lb, hb, lc, hc) = rw same (rw (within_is (within_round n key.Bet) 1 2048 bet lb hb, within_is (within_round n key.Cap) 0 8 cap lc hc) refl)
+play_in_is n play (Limit_of bet cap) (same, lb, hb, lc, hc) = rw same (rw (
+  within_is (within_round n key.Bet) 1 2048 bet lb hb,
+  within_is (within_round n key.Cap) 0 8 cap lc hc,
+) refl)
 
 pub round_in_ok : (n : ℕ) (r : Round ℤ) (w : Round ℕ) → round_within n r ≡ Ok w → RoundIn w r
 unfolding round_within
@@ -145,7 +162,11 @@ unfolding round_within
 round_in_is n r w h =
     let (sp, lp, hp) = h.private in
     let (sq, lq, hq) = h.public in
-    rw (sp, sq) (rw (within_is (within_round n key.Private) 0 2 w.private lp hp, within_is (within_round n key.Public) 0 3 w.public lq hq, play_in_is n r.play w.play h.play) refl)
+    rw (sp, sq) (rw (
+      within_is (within_round n key.Private) 0 2 w.private lp hp,
+      within_is (within_round n key.Public) 0 3 w.public lq hq,
+      play_in_is n r.play w.play h.play,
+    ) refl)
 
 -- the round with its tree
 abbrev pub PlayMade : Bet → Play ℕ → Type 0

@@ -21,7 +21,8 @@ IsVersion v d = IsNumber (version_number v) (version_number v) (version_number v
 abbrev pub VersionHas : Option Data → Members → Type 0
 VersionHas bonus table =
     (HasOnly table (top_keys One) × Has table key.Version (IsVersion One) × (bonus ≡ None))
-    ⊎ ((d : Data) × HasOnly table (top_keys Two) × Has table key.Version (IsVersion Two) × (get_member (key_in File key.Bonus) table ≡ Some d) × (bonus ≡ Some d))
+    ⊎ ((d : Data) × HasOnly table (top_keys Two) × Has table key.Version (IsVersion Two) × (get_member (key_in File key.Bonus) table ≡ Some d)
+    × (bonus ≡ Some d))
 
 pub record TopHas (v : TopValues) (table : Members) : Type 0 where
   pub version : VersionHas v.bonus table
@@ -48,7 +49,8 @@ version_ok table v e =
     let whole = found_ok (as_integer d) (wrong_type (top key.Version)) z ez in
     (d, found, (whole ∙ ap Some (which_version z v e2), omega arith, omega arith))
 
-pub bonus_ok : (v : Version) (table : Members) (bonus : Option Data) → bonus_value File v table ≡ Ok bonus → HasOnly table (top_keys v) → Has table key.Version (IsVersion v) → VersionHas bonus table
+pub bonus_ok : (v : Version) (table : Members) (bonus : Option Data) → bonus_value File v table ≡ Ok bonus → HasOnly table (top_keys v)
+    → Has table key.Version (IsVersion v) → VersionHas bonus table
 bonus_ok One table bonus e o h = inl (o, h, sym (same_ok None bonus e))
 bonus_ok Two table bonus e o h =
     let (d, ed, e1) = after (required File table (top key.Bonus)) (λ d. Ok (Some d)) bonus e in
@@ -143,4 +145,12 @@ typed_ok v t e =
 pub typed_is : (v : TopValues) (t : Top) → TypedHas t v → typed_at v ≡ Ok t
 unfolding typed_at
 typed_is v t h =
-    rw (h.ranks, h.suits, copies_is v.copies t.copies h.copies, h.ranking, typed_numbers v.bonus t.bonus h.bonus, h.ante, (tables_are (top key.Round) v.rounds t.rounds).1 h.rounds) refl
+    rw (
+      h.ranks,
+      h.suits,
+      copies_is v.copies t.copies h.copies,
+      h.ranking,
+      typed_numbers v.bonus t.bonus h.bonus,
+      h.ante,
+      (tables_are (top key.Round) v.rounds t.rounds).1 h.rounds,
+    ) refl

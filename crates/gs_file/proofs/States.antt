@@ -82,7 +82,8 @@ unfolding bonus_at
 bonus_in_ok r None bonus e = sym (same_ok (replicate (categories r) 1) bonus e)
 bonus_in_ok r (Some zs) bonus e = by (length zs == categories r) refl e
   where
-    by : (b : Bool) → (length zs == categories r) ≡ b → (if b then each (λ n. within (top key.Bonus) 1 9) 1 zs else Err (range (top key.Bonus))) ≡ Ok bonus → BonusIn r bonus (Some zs)
+    by : (b : Bool) → (length zs == categories r) ≡ b → (if b then each (λ n. within (top key.Bonus) 1 9) 1 zs else Err (range (top key.Bonus))) ≡ Ok bonus
+        → BonusIn r bonus (Some zs)
     by false same e = absurd (never (range (top key.Bonus)) bonus e)
     by true same e =
         let all = each_ok (λ n. within (top key.Bonus) 1 9) (IsIn 1 9) (λ n z m. within_ok (top key.Bonus) 1 9 z m) 1 zs bonus e in
@@ -144,21 +145,38 @@ lawful_ok g None h e = (refl, same_ok g h e)
 lawful_ok g (Some why) h e = absurd (never (game why) h e)
 
 -- what stands at the top says how the bonuses are stated
-bonus_states : (r : Ranking) (bonus : List ℕ) (numbers : Option (List ℤ)) (d : Option Data) (table : Members) → VersionHas d table → BonusTyped numbers d → BonusIn r bonus numbers → StatesBonus r bonus table
+bonus_states : (r : Ranking) (bonus : List ℕ) (numbers : Option (List ℤ)) (d : Option Data) (table : Members) → VersionHas d table → BonusTyped numbers d
+    → BonusIn r bonus numbers → StatesBonus r bonus table
 bonus_states r bonus numbers None table (inl (o, h, e)) t i = let none : numbers ≡ None = t in inl (o, h, subst (BonusIn r bonus) none i)
 bonus_states r bonus numbers None table (inr (d, o, h, m, e)) t i = absurd (none_some d e)
 bonus_states r bonus numbers (Some d) table (inl (o, h, e)) t i = absurd (none_some d (sym e))
 bonus_states r bonus numbers (Some d) table (inr (b, o, h, m, e)) (zs, same, (items, found, whole)) i =
     let (long, all) = subst (BonusIn r bonus) same i in
-    inr (o, h, (d, m ∙ sym e, (items, found, through (IsIn 1 9) IsWhole (IsNumber 1 9) (λ n z x i w. (w ∙ ap Some i.0, i.1, i.2)) bonus zs (list_of items) all whole)), long)
+    inr (
+      o,
+      h,
+      (
+        d,
+        m ∙ sym e,
+        (
+          items,
+          found,
+          through (IsIn 1 9) IsWhole (IsNumber 1 9) (λ n z x i w. (w ∙ ap Some i.0, i.1, i.2)) bonus zs
+              (list_of items) all whole,
+        ),
+      ),
+      long,
+    )
 
-bonus_stages : (r : Ranking) (bonus : List ℕ) (table : Members) → StatesBonus r bonus table → (d : Option Data) × (numbers : Option (List ℤ)) × VersionHas d table × BonusTyped numbers d × BonusIn r bonus numbers
+bonus_stages : (r : Ranking) (bonus : List ℕ) (table : Members) → StatesBonus r bonus table
+    → (d : Option Data) × (numbers : Option (List ℤ)) × VersionHas d table × BonusTyped numbers d × BonusIn r bonus numbers
 bonus_stages r bonus table (inl (o, h, ones)) = (None, None, inl (o, h, refl), refl, ones)
 bonus_stages r bonus table (inr (o, h, (d, m, (items, found, all)), long)) =
     let (zs, i, w) = between (IsIn 1 9) IsWhole (IsNumber 1 9) (λ n x g. (pos n, (refl, g.1, g.2), g.0)) bonus (list_of items) all in
     (Some d, Some zs, inr (d, o, h, m, refl), (zs, refl, (items, found, w)), (long, i))
 
-copies_states : (copies : List ℕ) (d : Option Data) (table : Members) → get_member (key_in File key.Copies) table ≡ d → CopiesTyped copies d → StatesCopies copies table
+copies_states : (copies : List ℕ) (d : Option Data) (table : Members) → get_member (key_in File key.Copies) table ≡ d → CopiesTyped copies d
+    → StatesCopies copies table
 copies_states copies None table m t = inl (m, t)
 copies_states copies (Some d) table m t = inr (d, m, t)
 
@@ -178,8 +196,10 @@ betting_states t (Limit_of bet cap) r table made (same, lb, hb, lc, hc) has =
 
 round_states : (b : Rules) (w : Round ℕ) (table : Members) → RoundMade b w → RoundRead w table → StatesRound b table
 round_states b w table made (r, ranged, has) = record {
-  private = subst (λ n. Has table key.Private (IsNumber 0 2 n)) (sym made.private) (number_states 0 2 w.private key.Private table r.private ranged.private has.private);
-  public = subst (λ n. Has table key.Public (IsNumber 0 3 n)) (sym made.public) (number_states 0 3 w.public key.Public table r.public ranged.public has.public);
+  private = subst (λ n. Has table key.Private (IsNumber 0 2 n)) (sym made.private)
+      (number_states 0 2 w.private key.Private table r.private ranged.private has.private);
+  public = subst (λ n. Has table key.Public (IsNumber 0 3 n)) (sym made.public)
+      (number_states 0 3 w.public key.Public table r.public ranged.public has.public);
   betting = betting_states b.tree w.play r.play table made.tree ranged.play has.play;
 }
 
@@ -195,7 +215,11 @@ round_stages b table h =
     let (q, mq, nq) = h.public in (
       record { private = b.private; public = b.public; play = w },
       record { private = refl; public = refl; tree = made },
-      (record { private = pos b.private; public = pos b.public; play = r }, record { private = (refl, np.1, np.2); public = (refl, nq.1, nq.2); play = ranged }, record { private = (p, mp, np.0); public = (q, mq, nq.0); play = has }),
+      (
+        record { private = pos b.private; public = pos b.public; play = r },
+        record { private = (refl, np.1, np.2); public = (refl, nq.1, nq.2); play = ranged },
+        record { private = (p, mp, np.0); public = (q, mq, nq.0); play = has },
+      ),
     )
 
 -- what is accepted is stated
@@ -244,12 +268,38 @@ table_is table g h =
     let (bonus, numbers, version, typed, ranged) = bonus_stages g.ranking g.bonus table h.bonus in
     let (ts, states, tables) = between StatesRound IsTable IsRound (λ b d i. (i.0, i.2, i.1)) g.rounds (list_of items) all in
     let (ws, made, reads) = between RoundMade RoundRead StatesRound (λ b x i. round_stages b x i) g.rounds ts states in
-    let v : TopValues = record { ranks = ranks; suits = suits; copies = get_member (key_in File key.Copies) table; ranking = ranking; bonus = bonus; ante = ante; rounds = rounds } in
-    let t : Top = record { ranks = g.deck.ranks; suits = g.deck.suits; copies = h.deck.copies; ranking = ranking_text g.ranking; bonus = numbers; ante = pos g.ante; rounds = ts } in
+    let v : TopValues = record {
+      ranks = ranks;
+      suits = suits;
+      copies = get_member (key_in File key.Copies) table;
+      ranking = ranking;
+      bonus = bonus;
+      ante =
+          ante;
+      rounds = rounds;
+    } in
+    let t : Top = record {
+      ranks = g.deck.ranks;
+      suits = g.deck.suits;
+      copies = h.deck.copies;
+      ranking = ranking_text g.ranking;
+      bonus = numbers;
+      ante =
+          pos g.ante;
+      rounds = ts;
+    } in
     let s : Stated = record { ranking = g.ranking; bonus = g.bonus; ante = g.ante; rounds = ws } in
     let long : length ts ≡ length g.rounds = sym (one_length StatesRound g.rounds ts states) in
     let values = top_is table v (record { version = version; ranks = mr; suits = ms; copies = refl; ranking = mk; ante = ma; rounds = mn }) in
-    let types = typed_is v t (record { ranks = ir; suits = is; copies = copies_stages h.deck.copies table h.deck.copies_are; ranking = ik; bonus = typed; ante = ia.0; rounds = (items, found, tables) }) in
+    let types = typed_is v t (record {
+      ranks = ir;
+      suits = is;
+      copies = copies_stages h.deck.copies table h.deck.copies_are;
+      ranking = ik;
+      bonus = typed;
+      ante = ia.0;
+      rounds = (items, found, tables);
+    }) in
     let stated = stated_is t s (counted_is g ts h.lawful long) (record { ranking = refl; bonus = ranged; ante = (refl, ia.1, ia.2); rounds = reads }) in
     let built = each_is round_built RoundMade (λ n w b i. round_made_is n w b i) 1 ws g.rounds made in
     let cards : deck_at g.deck.ranks g.deck.suits h.deck.copies ≡ Ok g.deck = rw h.deck.good (ap (λ (d : DeckValue). Ok d) (sym h.deck.made)) in

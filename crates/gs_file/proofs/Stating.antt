@@ -60,7 +60,8 @@ within_is place low high n a b = rw (le-leb low n a, le-leb n high b) refl
 -- ---- lists
 
 -- each member of a list is read as what goes with it
-pub each_ok : {A B : Type 0} (read : ℕ → A → Result B Fault) (R : B → A → Type 0) → ((n : ℕ) (x : A) (y : B) → read n x ≡ Ok y → R y x) → (n : ℕ) (xs : List A) (ys : List B) → each read n xs ≡ Ok ys → OneByOne R ys xs
+pub each_ok : {A B : Type 0} (read : ℕ → A → Result B Fault) (R : B → A → Type 0) → ((n : ℕ) (x : A) (y : B) → read n x ≡ Ok y → R y x)
+    → (n : ℕ) (xs : List A) (ys : List B) → each read n xs ≡ Ok ys → OneByOne R ys xs
 each_ok read R h n [] [] e = tt
 each_ok read R h n [] (y ∷ ys) e = cc
 each_ok read R h n (x ∷ xs) ys e =
@@ -68,7 +69,8 @@ each_ok read R h n (x ∷ xs) ys e =
     let (others, eo, e2) = after (each read (n + 1) xs) (λ others. Ok (first ∷ others)) ys e1 in
     subst (λ l. OneByOne R l (x ∷ xs)) (same_ok (first ∷ others) ys e2) (h n x first ef, each_ok read R h (n + 1) xs others eo)
 
-pub each_is : {A B : Type 0} (read : ℕ → A → Result B Fault) (R : B → A → Type 0) → ((n : ℕ) (x : A) (y : B) → R y x → read n x ≡ Ok y) → (n : ℕ) (xs : List A) (ys : List B) → OneByOne R ys xs → each read n xs ≡ Ok ys
+pub each_is : {A B : Type 0} (read : ℕ → A → Result B Fault) (R : B → A → Type 0) → ((n : ℕ) (x : A) (y : B) → R y x → read n x ≡ Ok y)
+    → (n : ℕ) (xs : List A) (ys : List B) → OneByOne R ys xs → each read n xs ≡ Ok ys
 each_is read R h n [] [] g = refl
 each_is read R h n [] (y ∷ ys) g = absurd g
 each_is read R h n (x ∷ xs) [] g = absurd g
@@ -78,13 +80,15 @@ each_is read R h n (x ∷ xs) (y ∷ ys) g =
     rw (first, rest) refl
 
 -- an array is read item by item
-pub array_ok : {B : Type 0} (read : ℕ → Data → Result B Fault) (R : B → Data → Type 0) → ((n : ℕ) (x : Data) (y : B) → read n x ≡ Ok y → R y x) → (place : Place) (d : Data) (ys : List B)
+pub array_ok : {B : Type 0} (read : ℕ → Data → Result B Fault) (R : B → Data → Type 0) → ((n : ℕ) (x : Data) (y : B) → read n x ≡ Ok y → R y x)
+    → (place : Place) (d : Data) (ys : List B)
     → (array_in place d >>= (λ items. each read 1 (list_of items))) ≡ Ok ys → IsList R ys d
 array_ok read R h place d ys e =
     let (items, ei, e1) = after (array_in place d) (λ items. each read 1 (list_of items)) ys e in
     (items, found_ok (as_array d) (wrong_type place) items ei, each_ok read R h 1 (list_of items) ys e1)
 
-pub array_is : {B : Type 0} (read : ℕ → Data → Result B Fault) (R : B → Data → Type 0) → ((n : ℕ) (x : Data) (y : B) → R y x → read n x ≡ Ok y) → (place : Place) (d : Data) (ys : List B)
+pub array_is : {B : Type 0} (read : ℕ → Data → Result B Fault) (R : B → Data → Type 0) → ((n : ℕ) (x : Data) (y : B) → R y x → read n x ≡ Ok y)
+    → (place : Place) (d : Data) (ys : List B)
     → IsList R ys d → (array_in place d >>= (λ items. each read 1 (list_of items))) ≡ Ok ys
 array_is read R h place d ys g =
     let (items, found, one) = g in
@@ -100,11 +104,17 @@ IsWhole z d = as_integer d ≡ Some z
 -- the tables of an array, and its whole numbers
 pub tables_are : (place : Place) (d : Data) (ts : List Members) → (tables_in place d ≡ Ok ts) ↔ IsList IsTable ts d
 unfolding tables_in
-tables_are place d ts = (array_ok (λ n. table_in place) IsTable (λ n x y r. found_ok (as_table x) (wrong_type place) y r) place d ts, array_is (λ n. table_in place) IsTable (λ n x y r. rw r refl) place d ts)
+tables_are place d ts = (
+  array_ok (λ n. table_in place) IsTable (λ n x y r. found_ok (as_table x) (wrong_type place) y r) place d ts,
+  array_is (λ n. table_in place) IsTable (λ n x y r. rw r refl) place d ts,
+)
 
 pub numbers_are : (place : Place) (d : Data) (zs : List ℤ) → (whole_numbers_in place d ≡ Ok zs) ↔ IsList IsWhole zs d
 unfolding whole_numbers_in
-numbers_are place d zs = (array_ok (λ n. whole_number place) IsWhole (λ n x y r. found_ok (as_integer x) (wrong_type place) y r) place d zs, array_is (λ n. whole_number place) IsWhole (λ n x y r. rw r refl) place d zs)
+numbers_are place d zs = (
+  array_ok (λ n. whole_number place) IsWhole (λ n x y r. found_ok (as_integer x) (wrong_type place) y r) place d zs,
+  array_is (λ n. whole_number place) IsWhole (λ n x y r. rw r refl) place d zs,
+)
 
 -- ---- lists that go together through a third
 

@@ -42,7 +42,8 @@ one_mistake : (text : List ℕ) (a b : ℕ) (m k : Mistake) → IsMistake text a
 one_mistake text a b m k x y =
     let e : a ≡ b = same_longest text a b x.longest y.longest in
     let p : x.place ≡ y.place = one_cut x.place y.place x.is y.is (x.reached ∙ ap (λ (n : ℕ). take n text) e ∙ sym y.reached) in
-    let same : m ≡ k = x.mistake ∙ ap (λ (c : Cut). mistake_at c (slice_get text a)) p ∙ ap (λ (n : ℕ). mistake_at y.place (slice_get text n)) e ∙ sym y.mistake in
+    let same : m ≡ k = x.mistake ∙ ap (λ (c : Cut). mistake_at c (slice_get text a)) p ∙ ap (λ (n : ℕ). mistake_at y.place (slice_get text n)) e
+    ∙ sym y.mistake in
     ap (λ (q : Mistake). fault_of q a) same ∙ ap (λ (n : ℕ). fault_of k n) e
 
 -- the tree whose text it is
@@ -54,14 +55,17 @@ reads_tree n text t is e = by_answer (all_of text) refl
     by_answer (Err (m, rest)) a = absurd (refuses text m (length rest) t (rest, a, refl) is e)
 
 -- the mistake of a text that is no tree's
-reads_mistake : (n : ℕ) (text : List ℕ) (at : ℕ) (m : Mistake) → ((t : Bet) → IsTrue (is_tree t) → text ≡ tree_text t → ⊥) → IsMistake text at m → tree_at n text ≡ Err (tree_fault n (fault_of m at))
+reads_mistake : (n : ℕ) (text : List ℕ) (at : ℕ) (m : Mistake) → ((t : Bet) → IsTrue (is_tree t) → text ≡ tree_text t → ⊥) → IsMistake text at m
+    → tree_at n text ≡ Err (tree_fault n (fault_of m at))
 reads_mistake n text at m none is = by_answer (all_of text) refl
   where
     by_answer : (r : Read Bet) → all_of text ≡ r → tree_read n text r ≡ Err (tree_fault n (fault_of m at))
     by_answer (Ok (u, rest)) a = let f = found text u (leaves_none text u rest a) in absurd (none u f.1 f.0)
-    by_answer (Err (k, rest)) a = ap (λ (f : TreeFault). Err (tree_fault n f)) (one_mistake text (length text - length rest) at k m (mistaken text k (length rest) (rest, a, refl)) is)
+    by_answer (Err (k, rest)) a = ap (λ (f : TreeFault). Err (tree_fault n f))
+        (one_mistake text (length text - length rest) at k m (mistaken text k (length rest) (rest, a, refl)) is)
 
-pub reads_fault : (n : ℕ) (text : List ℕ) (f : TreeFault) → ((t : Bet) → IsTrue (is_tree t) → text ≡ tree_text t → ReadsAs (Err f) t) → IsFaultOf text f → Fails (of_tree n f) (tree_at n text)
+pub reads_fault : (n : ℕ) (text : List ℕ) (f : TreeFault) → ((t : Bet) → IsTrue (is_tree t) → text ≡ tree_text t → ReadsAs (Err f) t) → IsFaultOf text f
+    → Fails (of_tree n f) (tree_at n text)
 reads_fault n text (tree.RepeatedLetter at) none is = reads_mistake n text at RepeatedLetter none is
 reads_fault n text (tree.TooDeep at) none is = reads_mistake n text at TooDeep none is
 reads_fault n text (tree.Syntax at) none is = reads_mistake n text at Syntax none is

@@ -20,7 +20,12 @@ rounds_told : (rs : List Round) → All IsSmall (map round_of rs) → All IsRoun
 rounds_told [] h = All-nil IsRoundTold
 rounds_told (r ∷ rs) h =
     let here = All-head IsSmall (round_of r) (map round_of rs) h in
-    All-cons IsRoundTold (round_of r) (map round_of rs) (record { private = here.0; public = here.1; tree = r.tree.sound }) (rounds_told rs (All-tail IsSmall (round_of r) (map round_of rs) h))
+    All-cons IsRoundTold (round_of r) (map round_of rs) (record {
+      private =
+          here.0;
+      public = here.1;
+      tree = r.tree.sound;
+    }) (rounds_told rs (All-tail IsSmall (round_of r) (map round_of rs) h))
 
 pub valid_told : (version : Version) (v : ValidGame) → IsDeck v.game.deck → TellsBonus version v.game.bonus.items → IsTold version (valid_view v)
 valid_told version v deck tells = record {
@@ -34,5 +39,6 @@ valid_told version v deck tells = record {
 }
 
 -- and so it is read back
-pub valid_read : (version : Version) (v : ValidGame) → IsDeck v.game.deck → TellsBonus version v.game.bonus.items → json_game_at version (game_data version (valid_view v)) ≡ Ok (valid_view v)
+pub valid_read : (version : Version) (v : ValidGame) → IsDeck v.game.deck → TellsBonus version v.game.bonus.items
+    → json_game_at version (game_data version (valid_view v)) ≡ Ok (valid_view v)
 valid_read version v deck tells = reads_back version (valid_view v) (valid_told version v deck tells)

@@ -24,7 +24,8 @@ module _ (parents above list : List ℕ) (tallies : List Tally) (ready : AreRead
   first_is d =
       let n = own_class in
       let t = get_or tallies (get_or list s 0 - 1) d in
-      ap (λ (t : Tally). t.first) (tally_read list tallies (get_or list s 0) ready.tallied n.0 n.1 t (get_or_default tallies (get_or list s 0 - 1) d t class_within))
+      ap (λ (t : Tally). t.first) (tally_read list tallies (get_or list s 0) ready.tallied n.0 n.1 t
+      (get_or_default tallies (get_or list s 0 - 1) d t class_within))
 
   pub first_within : first_beside list s < length parents
   first_within = let n = own_class in let f = first_in list (get_or list s 0) ready.numbered n.0 n.1 in omega (arith, ready.long)
@@ -37,8 +38,10 @@ module _ (parents above list : List ℕ) (tallies : List Tally) (ready : AreRead
 
 -- ---- rounds
 
-module _ (parents : List (List ℕ)) (lists : ClassLists) (tallies : List (Vec Tally Global)) (forest : AreParents parents) (agree : Agree parents lists) (numbered : AllNumbered lists) (tallied : rows tallies ≡ map tallies_of lists) where
-  pub ready_at : (round : ℕ) (ps above list : List ℕ) (ts : List Tally) (v : Vec Tally Global) → 1 < round → round ≤ length lists → ps ≡ list_of parents round → above ≡ list_of lists (round - 1) → list ≡ list_of lists round
+module _ (parents : List (List ℕ)) (lists : ClassLists) (tallies : List (Vec Tally Global)) (forest : AreParents parents) (agree : Agree parents lists)
+    (numbered : AllNumbered lists) (tallied : rows tallies ≡ map tallies_of lists) where
+  pub ready_at : (round : ℕ) (ps above list : List ℕ) (ts : List Tally) (v : Vec Tally Global) → 1 < round → round ≤ length lists → ps ≡ list_of parents round
+      → above ≡ list_of lists (round - 1) → list ≡ list_of lists round
       → v ≡ get_or tallies (round - 1) v → ts ≡ v.items → AreReady ps above list ts
   ready_at round ps above list ts v some top p a l is t =
       let both = agree.rounds in
@@ -49,13 +52,15 @@ module _ (parents : List (List ℕ)) (lists : ClassLists) (tallies : List (Vec T
       let k = ap length l in record {
         long = omega arith;
         short = (let s = forest.short round (omega arith) (omega arith) in omega arith);
-        in_range = λ s h. subst (λ (x : List ℕ). get_or x s 0 < length above) (sym p) (let r = forest.in_range round s some (omega arith) (omega arith) in omega arith);
+        in_range = λ s h. subst (λ (x : List ℕ). get_or x s 0 < length above) (sym p) (let r = forest.in_range round s some (omega arith) (omega arith) in
+            omega arith);
         numbered = subst IsNumbered (sym l) (numbered round (omega arith) top);
         tallied = t ∙ round_tallies lists tallies tallied round v (omega arith) top is ∙ ap tallies_of (sym l);
       }
 
 -- lists that break no rule are classes
-pub classes_from : (parents : List (List ℕ)) (lists : ClassLists) → Agree parents lists → AllNumbered lists → AllTogether parents lists → IsClasses parents lists
+pub classes_from : (parents : List (List ℕ)) (lists : ClassLists) → Agree parents lists → AllNumbered lists → AllTogether parents lists
+    → IsClasses parents lists
 classes_from parents lists agree numbered together = record {
   rounds = agree.rounds;
   lengths = agree.lengths;

@@ -38,20 +38,24 @@ module _ (f : Filter) (sound : IsSound f) (round : ℕ) (some : 0 < round) (top 
       let r = sound.forest.in_range round s more (omega arith) (omega arith) in
       omega arith
 
-  pub parent_class_is : 1 < round → (class : ℕ) → IsClass f.lists round class → IsParentClass f round class (class_of f.lists (round - 1) (get_or (list_of f.parents round) (first_member f.lists round class) 0))
+  pub parent_class_is : 1 < round → (class : ℕ) → IsClass f.lists round class
+      → IsParentClass f round class (class_of f.lists (round - 1) (get_or (list_of f.parents round) (first_member f.lists round class) 0))
   parent_class_is more class is s l same =
       let e = sound.classes.rounds in
       let long = long_at in
       let k : round - 1 + 1 ≡ round = omega arith in
       let within = first_within class is in
       let both : class_of f.lists round s ≡ class_of f.lists round (first_member f.lists round class) = same ∙ sym (first_own class is) in
-      let P : ℕ → Type 0 = λ r. s < length (list_of f.parents r) → first_member f.lists round class < length (list_of f.parents r) → class_of f.lists r s ≡ class_of f.lists r (first_member f.lists round class)
-      → class_of f.lists (round - 1) (get_or (list_of f.parents r) s 0) ≡ class_of f.lists (round - 1) (get_or (list_of f.parents r) (first_member f.lists round class) 0) in
+      let P : ℕ → Type 0 = λ r. s < length (list_of f.parents r) → first_member f.lists round class < length (list_of f.parents r)
+      → class_of f.lists r s ≡ class_of f.lists r (first_member f.lists round class)
+      → class_of f.lists (round - 1) (get_or (list_of f.parents r) s 0) ≡ class_of f.lists (round - 1)
+      (get_or (list_of f.parents r) (first_member f.lists round class) 0) in
       subst P k (sound.classes.filter (round - 1) s (first_member f.lists round class) (omega arith) (omega arith)) (omega arith) (omega arith) both
 
 -- ---- each signal a class of its own
 
-pub single_at : (parents : List (List ℕ)) (round : ℕ) → 0 < round → round ≤ length parents → list_of (single_classes parents) round ≡ range_with_len 1 (length (list_of parents round))
+pub single_at : (parents : List (List ℕ)) (round : ℕ) → 0 < round → round ≤ length parents
+    → list_of (single_classes parents) round ≡ range_with_len 1 (length (list_of parents round))
 single_at parents round some top = get_or-map (λ (l : List ℕ). range_with_len 1 (length l)) parents (round - 1) [] [] (omega arith)
 
 counts : (n : ℕ) → IsNumbered (range_with_len 1 n)
@@ -78,7 +82,8 @@ single_are_classes parents = record {
   filter = λ round s t some top ls lt same.
       let n = length (list_of parents (round + 1)) in
       let e = single_at parents (round + 1) (omega arith) (omega arith) in
-      let is : (u : ℕ) → u < n → class_of (single_classes parents) (round + 1) u ≡ 1 + u = λ u lu. ap (λ (l : List ℕ). get_or l u 0) e ∙ get_or-range_with_len 1 n u 0 lu in
+      let is : (u : ℕ) → u < n → class_of (single_classes parents) (round + 1) u ≡ 1 + u =
+      λ u lu. ap (λ (l : List ℕ). get_or l u 0) e ∙ get_or-range_with_len 1 n u 0 lu in
       let a = is s ls in
       let b = is t lt in
       let st : s ≡ t = omega arith in
@@ -99,4 +104,5 @@ greatest_within : (xs : List ℕ) → IsNumbered xs → greatest xs ≤ length x
 greatest_within xs h = subst (λ l. greatest l ≤ length xs) (whole xs) (greatest_before xs h (length xs) (omega arith))
 
 pub count_fits : (f : Filter) → IsSound f → (round : ℕ) → 0 < round → round ≤ length f.lists → class_count f.lists round < 2 ^ 32
-count_fits f sound round some top = let g = greatest_within (list_of f.lists round) (numbered_at f sound round some top) in let s = short_at f sound round some top in omega arith
+count_fits f sound round some top = let g = greatest_within (list_of f.lists round) (numbered_at f sound round some top) in
+    let s = short_at f sound round some top in omega arith

@@ -83,10 +83,12 @@ tally_other xs y c h some top ne =
     let z = none_of (y == c) n in
     let a : count_by (λ x. x == c) (xs ++ y ∷ []) ≡ count_by (λ x. x == c) xs = omega arith in
     let b = first_kept p xs y (first_in xs c h some top) in
-    ap (λ s. let t : Tally = record { size = s; first = position_or_len p (xs ++ y ∷ []) } in t) a ∙ ap (λ f. let t : Tally = record { size = count_by p xs; first = f } in t) b
+    ap (λ s. let t : Tally = record { size = s; first = position_or_len p (xs ++ y ∷ []) } in t) a
+    ∙ ap (λ f. let t : Tally = record { size = count_by p xs; first = f } in t) b
 
 -- the class that it is of
-tally_own : (xs : List ℕ) (y : ℕ) → IsNumbered xs → 0 < y → y ≤ greatest xs → tally_of (xs ++ y ∷ []) y ≡ record { size = (tally_of xs y).size + 1; first = (tally_of xs y).first }
+tally_own : (xs : List ℕ) (y : ℕ) → IsNumbered xs → 0 < y → y ≤ greatest xs
+    → tally_of (xs ++ y ∷ []) y ≡ record { size = (tally_of xs y).size + 1; first = (tally_of xs y).first }
 tally_own xs y h some top =
     let p : ℕ → Bool = λ x. x == y in
     let n : (y == y) ≡ true = eq-eqb y y refl in
@@ -94,7 +96,8 @@ tally_own xs y h some top =
     let z = one_of (y == y) n in
     let a : count_by (λ x. x == y) (xs ++ y ∷ []) ≡ count_by (λ x. x == y) xs + 1 = omega arith in
     let b = first_kept p xs y (first_in xs y h some top) in
-    ap (λ s. let t : Tally = record { size = s; first = position_or_len p (xs ++ y ∷ []) } in t) a ∙ ap (λ f. let t : Tally = record { size = count_by p xs + 1; first = f } in t) b
+    ap (λ s. let t : Tally = record { size = s; first = position_or_len p (xs ++ y ∷ []) } in t) a
+    ∙ ap (λ f. let t : Tally = record { size = count_by p xs + 1; first = f } in t) b
 
 -- a new class
 tally_new : (xs : List ℕ) (y : ℕ) → greatest xs < y → tally_of (xs ++ y ∷ []) y ≡ record { size = 1; first = length xs }
@@ -108,9 +111,11 @@ tally_new xs y up =
     let a : count_by (λ x. x == y) (xs ++ y ∷ []) ≡ 1 = omega arith in
     let b : position_or_len p (xs ++ y ∷ []) ≡ length xs =
     position_or_len_push p xs y ∙ cond-true _ _ _ (eq-eqb (position_or_len p xs) (length xs) far) ∙ (let z = behind (y == y) n in omega arith) in
-    ap (λ s. let t : Tally = record { size = s; first = position_or_len p (xs ++ y ∷ []) } in t) a ∙ ap (λ f. let t : Tally = record { size = 1; first = f } in t) b
+    ap (λ s. let t : Tally = record { size = s; first = position_or_len p (xs ++ y ∷ []) } in t) a
+    ∙ ap (λ f. let t : Tally = record { size = 1; first = f } in t) b
 
-pub tallies_more-new : (xs : List ℕ) (y : ℕ) → IsNumbered xs → y ≡ 1 + greatest xs → tallies_of (xs ++ y ∷ []) ≡ tallies_of xs ++ record { size = 1; first = length xs } ∷ []
+pub tallies_more-new : (xs : List ℕ) (y : ℕ) → IsNumbered xs → y ≡ 1 + greatest xs
+    → tallies_of (xs ++ y ∷ []) ≡ tallies_of xs ++ record { size = 1; first = length xs } ∷ []
 tallies_more-new xs y h is =
     let ys = xs ++ y ∷ [] in
     let g : greatest ys ≡ greatest xs + 1 = (let p = greatest_push xs y in omega arith) in
@@ -119,7 +124,8 @@ tallies_more-new xs y h is =
     (length-map-range_with_len (tally_of ys) 1 (greatest xs) ∙ sym (length-map-range_with_len (tally_of xs) 1 (greatest xs)))
     (λ k d l.
     let in' : k < greatest xs = (let q = length-map-range_with_len (tally_of ys) 1 (greatest xs) in omega arith) in
-    get_or-map-range_with_len (tally_of ys) 1 (greatest xs) k (1 + k) d in' refl ∙ tally_other xs y (1 + k) h (omega arith) (omega arith) (λ q. absurd (omega arith))
+    get_or-map-range_with_len (tally_of ys) 1 (greatest xs) k (1 + k) d in' refl
+    ∙ tally_other xs y (1 + k) h (omega arith) (omega arith) (λ q. absurd (omega arith))
     ∙ sym (get_or-map-range_with_len (tally_of xs) 1 (greatest xs) k (1 + k) d in' refl)) in
     ap (λ n. map (tally_of ys) (range_with_len 1 n)) g ∙ map-range_with_len_more (tally_of ys) 1 (greatest xs) y e ∙ ap (λ l. l ++ tally_of ys y ∷ []) same
     ∙ ap (λ t. tallies_of xs ++ t ∷ []) (tally_new xs y (omega arith))
@@ -138,28 +144,34 @@ tallies_more-old xs y h some top =
     get_or-map-range_with_len (tally_of ys) 1 (greatest xs) k (1 + k) d in' refl ∙ ⊎_elim
     (λ (e : k ≡ y - 1).
     let f : 1 + k ≡ y = omega arith in
-    ap (tally_of ys) f ∙ tally_own xs y h some top ∙ sym (get_or-set_same (tallies_of xs) (y - 1) new d (omega arith)) ∙ ap (λ i. get_or (set (tallies_of xs) (y - 1) new) i d) (sym e))
-    (λ ne. tally_other xs y (1 + k) h (omega arith) (omega arith) (λ q. ne (omega arith)) ∙ sym (get_or-map-range_with_len (tally_of xs) 1 (greatest xs) k (1 + k) d in' refl)
+    ap (tally_of ys) f ∙ tally_own xs y h some top ∙ sym (get_or-set_same (tallies_of xs) (y - 1) new d (omega arith))
+    ∙ ap (λ i. get_or (set (tallies_of xs) (y - 1) new) i d) (sym e))
+    (λ ne. tally_other xs y (1 + k) h (omega arith) (omega arith) (λ q. ne (omega arith))
+    ∙ sym (get_or-map-range_with_len (tally_of xs) 1 (greatest xs) k (1 + k) d in' refl)
     ∙ sym (get_or-set_other (tallies_of xs) (y - 1) k new d ne))
     (cases_eq k (y - 1)))
 
 -- ---- a turn of the loop over a list
 
-module _ (list : List ℕ) (at : ℕ) (ts : List Tally) (within : at < length list) (tallied : ts ≡ tallies_of (take at list)) (counted : (k : ℕ) → k < at → IsNextNumber list k) where
+module _ (list : List ℕ) (at : ℕ) (ts : List Tally) (within : at < length list) (tallied : ts ≡ tallies_of (take at list)) (counted : (k : ℕ) → k < at
+    → IsNextNumber list k) where
   classes_so_far : length ts ≡ greatest (take at list)
   classes_so_far = ap length tallied ∙ length-tallies_of (take at list)
 
   so_far : IsNumbered (take at list)
   so_far = numbered_before list at (omega arith) counted
 
-  pub turn_new : length ts < get_or list at 0 → get_or list at 0 ≤ length ts + 1 → ts ++ record { size = 1; first = at } ∷ [] ≡ tallies_of (take (at + 1) list)
+  pub turn_new : length ts < get_or list at 0 → get_or list at 0 ≤ length ts + 1
+      → ts ++ record { size = 1; first = at } ∷ [] ≡ tallies_of (take (at + 1) list)
   turn_new low high =
       let g = classes_so_far in
       let n : length (take at list) ≡ at = length-take-le at list (omega arith) in
-      ap (λ l. l ++ record { size = 1; first = at } ∷ []) tallied ∙ ap (λ i. let t : Tally = record { size = 1; first = i } in tallies_of (take at list) ++ t ∷ []) (sym n)
+      ap (λ l. l ++ record { size = 1; first = at } ∷ []) tallied ∙ ap (λ i. let t : Tally = record { size = 1; first = i } in
+      tallies_of (take at list) ++ t ∷ []) (sym n)
       ∙ sym (tallies_more-new (take at list) (get_or list at 0) so_far (omega arith)) ∙ ap tallies_of (sym (take_more list at 0 within))
 
-  pub read_tally : (t : Tally) → 0 < get_or list at 0 → get_or list at 0 ≤ length ts → t ≡ get_or ts (get_or list at 0 - 1) t → t ≡ tally_of (take at list) (get_or list at 0)
+  pub read_tally : (t : Tally) → 0 < get_or list at 0 → get_or list at 0 ≤ length ts → t ≡ get_or ts (get_or list at 0 - 1) t
+      → t ≡ tally_of (take at list) (get_or list at 0)
   read_tally t low high is =
       let g = classes_so_far in
       let e : 1 + (get_or list at 0 - 1) ≡ get_or list at 0 = omega arith in
@@ -178,7 +190,11 @@ module _ (list : List ℕ) (at : ℕ) (ts : List Tally) (within : at < length li
   turn_old t low high is =
       let g = classes_so_far in
       ap (λ (t : Tally). let u : Tally = record { size = t.size + 1; first = t.first } in set ts (get_or list at 0 - 1) u) (read_tally t low high is)
-      ∙ ap (λ l. let u : Tally = record { size = (tally_of (take at list) (get_or list at 0)).size + 1; first = (tally_of (take at list) (get_or list at 0)).first } in set l (get_or list at 0 - 1) u) tallied
+      ∙ ap (λ l. let u : Tally = record {
+        size = (tally_of (take at list) (get_or list at 0)).size + 1;
+        first =
+            (tally_of (take at list) (get_or list at 0)).first;
+      } in set l (get_or list at 0 - 1) u) tallied
       ∙ sym (tallies_more-old (take at list) (get_or list at 0) so_far low (omega arith)) ∙ ap tallies_of (sym (take_more list at 0 within))
 
   pub counted_more : 0 < get_or list at 0 → get_or list at 0 ≤ length ts + 1 → (k : ℕ) → k < at + 1 → IsNextNumber list k
@@ -187,7 +203,8 @@ module _ (list : List ℕ) (at : ℕ) (ts : List Tally) (within : at < length li
 -- ---- the tallies of a whole list
 
 -- what a read of the tallies gives
-pub tally_read : (list : List ℕ) (ts : List Tally) (class : ℕ) → ts ≡ tallies_of list → 0 < class → class ≤ greatest list → (t : Tally) → t ≡ get_or ts (class - 1) t → t ≡ tally_of list class
+pub tally_read : (list : List ℕ) (ts : List Tally) (class : ℕ) → ts ≡ tallies_of list → 0 < class → class ≤ greatest list → (t : Tally)
+    → t ≡ get_or ts (class - 1) t → t ≡ tally_of list class
 tally_read list ts class tallied low high t is =
     let e : 1 + (class - 1) ≡ class = omega arith in
     is ∙ ap (λ l. get_or l (class - 1) t) tallied ∙ get_or-map-range_with_len (tally_of list) 1 (greatest list) (class - 1) class t (omega arith) e
@@ -197,12 +214,15 @@ pub number_in : (list : List ℕ) (s : ℕ) → IsNumbered list → s < length l
 number_in list s h l = ((h s l).0, le_greatest list s l)
 
 -- a place whose number has been told apart from the others
-pub first_member_of : (list : List ℕ) (class : ℕ) → IsNumbered list → 0 < class → class ≤ greatest list → get_or list (position_or_len (λ x. x == class) list) 0 ≡ class
+pub first_member_of : (list : List ℕ) (class : ℕ) → IsNumbered list → 0 < class → class ≤ greatest list
+    → get_or list (position_or_len (λ x. x == class) list) 0 ≡ class
 first_member_of list class h low high = eqb-true _ class (passes_at_first (λ x. x == class) list 0 (first_in list class h low high))
 
 -- the tallies of a round
-pub round_tallies : (lists : ClassLists) (tallies : List (Vec Tally Global)) → rows tallies ≡ map tallies_of lists → (round : ℕ) (v : Vec Tally Global) → 0 < round → round ≤ length lists → v ≡ get_or tallies (round - 1) v
+pub round_tallies : (lists : ClassLists) (tallies : List (Vec Tally Global)) → rows tallies ≡ map tallies_of lists → (round : ℕ) (v : Vec Tally Global)
+    → 0 < round → round ≤ length lists → v ≡ get_or tallies (round - 1) v
     → v.items ≡ tallies_of (list_of lists round)
 round_tallies lists tallies tallied round v some top is =
     let n : length tallies ≡ length lists = sym (length-rows tallies) ∙ ap length tallied ∙ length-map lists tallies_of in
-    row_read tallies (round - 1) v (omega arith) is ∙ ap (λ (l : List (List Tally)). get_or l (round - 1) []) tallied ∙ get_or-map tallies_of lists (round - 1) [] [] (omega arith)
+    row_read tallies (round - 1) v (omega arith) is ∙ ap (λ (l : List (List Tally)). get_or l (round - 1) []) tallied
+    ∙ get_or-map tallies_of lists (round - 1) [] [] (omega arith)

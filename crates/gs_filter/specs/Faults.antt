@@ -67,7 +67,8 @@ pub record AreFirstApartIn (parents above list : List ℕ) (a b : ℕ) : Type 0 
 
 -- so in every round from the second
 abbrev pub AllTogether : List (List ℕ) → ClassLists → Type 0
-AllTogether parents lists = (round : ℕ) → 1 < round → round ≤ length lists → AreTogether (list_of parents round) (list_of lists (round - 1)) (list_of lists round)
+AllTogether parents lists = (round : ℕ) → 1 < round → round ≤ length lists
+    → AreTogether (list_of parents round) (list_of lists (round - 1)) (list_of lists round)
 
 -- the first two, by round
 pub record AreFirstApart (parents : List (List ℕ)) (lists : ClassLists) (round a b : ℕ) : Type 0 where

@@ -16,7 +16,8 @@ AreShort lists = (round : ℕ) → 0 < round → round ≤ length lists → leng
 pub record AreParents (parents : List (List ℕ)) : Type 0 where
   pub few : length parents ≤ 4
   pub short : AreShort parents
-  pub in_range : (round s : ℕ) → 1 < round → round ≤ length parents → s < length (list_of parents round) → get_or (list_of parents round) s 0 < length (list_of parents (round - 1))
+  pub in_range : (round s : ℕ) → 1 < round → round ≤ length parents → s < length (list_of parents round)
+      → get_or (list_of parents round) s 0 < length (list_of parents (round - 1))
 
 -- what holds of every value: the parents are parents, and the lists are classes over them
 pub record IsSound (f : Filter) : Type 0 where
@@ -26,7 +27,8 @@ pub record IsSound (f : Filter) : Type 0 where
 -- the class of the parents of a class's members, all of which have parents of one class
 abbrev pub IsParentClass : Filter → ℕ → ℕ → ℕ → Type 0
 IsParentClass f round class above =
-    (s : ℕ) → s < length (list_of f.lists round) → class_of f.lists round s ≡ class → class_of f.lists (round - 1) (get_or (list_of f.parents round) s 0) ≡ above
+    (s : ℕ) → s < length (list_of f.lists round) → class_of f.lists round s ≡ class
+    → class_of f.lists (round - 1) (get_or (list_of f.parents round) s 0) ≡ above
 
 -- each signal a class of its own
 abbrev pub single_classes : List (List ℕ) → ClassLists

@@ -7,4 +7,5 @@ use Rattle.gs_filter.specs.declared.fault.ClassFault.TheVariants.{Memory}
 
 -- lists that are classes have no fault: the rules exclude every fault but want of memory
 abbrev pub ClassesHaveNoFault : Type 0
-ClassesHaveNoFault = (parents : List (List ℕ)) (lists : ClassLists) (why : ClassFault) → IsClasses parents lists → (why ≢ Memory) → ¬ IsFaultOf parents lists why
+ClassesHaveNoFault = (parents : List (List ℕ)) (lists : ClassLists) (why : ClassFault) → IsClasses parents lists → (why ≢ Memory)
+    → ¬ IsFaultOf parents lists why

@@ -71,8 +71,10 @@ scaled_within (suc turns) n a b some lt =
           let low : a % b < b = omega arith in
           let split : n * b * (a / b) + n * (a % b) ≡ n * a = spread n b (a / b) (a % b) ∙ ap (λ k. n * k) (div-add-mod a b) in
           let below : n * (a % b) < n * b = grows n (a % b) b some low in
-          let rest : n * a % (n * b) ≡ n * (a % b) = ap (λ k. k % (n * b)) (sym split) ∙ mul-add-mod_self_left (n * b) (a / b) (n * (a % b)) ∙ mod-eq_of_lt below in
-          rw (ne_eqb b 0 ne) (IsGcd-from_mod (n * a) (n * b) (n * gcd_within turns b (a % b)) (subst (λ r. IsGcd (n * b) r (n * gcd_within turns b (a % b))) (sym rest) (scaled_within turns n b (a % b) some (omega arith))))
+          let rest : n * a % (n * b) ≡ n * (a % b) = ap (λ k. k % (n * b)) (sym split) ∙ mul-add-mod_self_left (n * b) (a / b) (n * (a % b))
+          ∙ mod-eq_of_lt below in
+          rw (ne_eqb b 0 ne) (IsGcd-from_mod (n * a) (n * b) (n * gcd_within turns b (a % b))
+          (subst (λ r. IsGcd (n * b) r (n * gcd_within turns b (a % b))) (sym rest) (scaled_within turns n b (a % b) some (omega arith))))
     ]
   where
     spread : (n b q r : ℕ) → n * b * q + n * r ≡ n * (b * q + r)

@@ -13,7 +13,8 @@ unfolding limit
 wide negative n d (inl h) = rw (le-ltb n (2 ^ 127) h) refl
 wide negative n d (inr h) = rw (and_right (ltb n (2 ^ 127)) (ltb d (2 ^ 127)) (le-ltb d (2 ^ 127) h)) refl
 
-narrow : (negative : Bool) (n d : ℕ) → n < 2 ^ 127 → d < 2 ^ 127 → reduced_fraction negative n d ≡ cond (ltb 0 d && eqb (gcd_of n d) 1) (Ok (number_of negative n, pos d)) (Err NotReduced)
+narrow : (negative : Bool) (n d : ℕ) → n < 2 ^ 127 → d < 2 ^ 127 → reduced_fraction negative n d
+    ≡ cond (ltb 0 d && eqb (gcd_of n d) 1) (Ok (number_of negative n, pos d)) (Err NotReduced)
 unfolding limit
 narrow negative n d few low = rw (lt-ltb n (2 ^ 127) few, lt-ltb d (2 ^ 127) low) refl
 
@@ -21,7 +22,8 @@ pub unreduced : (negative : Bool) (n d : ℕ) → n < 2 ^ 127 → d < 2 ^ 127 �
 unreduced negative n d few low (inl e) = narrow negative n d few low ∙ rw e refl
 unreduced negative n d few low (inr ne) = narrow negative n d few low ∙ rw (and_right (ltb 0 d) (eqb (gcd_of n d) 1) (ne_eqb (gcd_of n d) 1 ne)) refl
 
-pub reduces : (negative : Bool) (n d : ℕ) → n < 2 ^ 127 → d < 2 ^ 127 → 0 < d → gcd_of n d ≡ 1 → reduced_fraction negative n d ≡ Ok (number_of negative n, pos d)
+pub reduces : (negative : Bool) (n d : ℕ) → n < 2 ^ 127 → d < 2 ^ 127 → 0 < d → gcd_of n d ≡ 1
+    → reduced_fraction negative n d ≡ Ok (number_of negative n, pos d)
 reduces negative n d few low some one = narrow negative n d few low ∙ rw (lt-ltb 0 d some, one) refl
 
 pub size_of : (negative : Bool) (n : ℕ) → unsigned_abs (number_of negative n) ≡ n
@@ -55,16 +57,19 @@ cap_reduced negative n d =
       | inr ge ↦ wide negative _ _ (inl (omega arith)) ∙ sym (wide negative n d (inl ge))
     ]
 
-pub not_numerals : (negative : Bool) (ds right : List ℕ) → (is_numeral ds ≡ false) ⊎ (is_numeral right ≡ false) → fraction_between (negative, ds) right ≡ Err NotFraction
+pub not_numerals : (negative : Bool) (ds right : List ℕ) → (is_numeral ds ≡ false) ⊎ (is_numeral right ≡ false)
+    → fraction_between (negative, ds) right ≡ Err NotFraction
 not_numerals negative ds right (inl h) = rw h refl
 not_numerals negative ds right (inr h) = rw (and_right (is_numeral ds) (is_numeral right) h) refl
 
-pub minus_zero : (negative : Bool) (ds right : List ℕ) → (negative && eqb (min (digits_value 10 ds) (2 ^ 127)) 0) ≡ true → fraction_between (negative, ds) right ≡ Err NotFraction
+pub minus_zero : (negative : Bool) (ds right : List ℕ) → (negative && eqb (min (digits_value 10 ds) (2 ^ 127)) 0) ≡ true
+    → fraction_between (negative, ds) right ≡ Err NotFraction
 minus_zero negative ds right h =
     let z : (negative && eqb (digits_value 10 ds) 0) ≡ true = rw cap_zero at h in
     elim (cases_Bool (is_numeral ds && is_numeral right)) [ inl e ↦ rw (e, z) refl | inr e ↦ rw e refl ]
 
-pub between_is : (negative : Bool) (ds right : List ℕ) → is_numeral ds ≡ true → is_numeral right ≡ true → (negative && eqb (min (digits_value 10 ds) (2 ^ 127)) 0) ≡ false
+pub between_is : (negative : Bool) (ds right : List ℕ) → is_numeral ds ≡ true → is_numeral right ≡ true
+    → (negative && eqb (min (digits_value 10 ds) (2 ^ 127)) 0) ≡ false
     → fraction_between (negative, ds) right ≡ reduced_fraction negative (min (digits_value 10 ds) (2 ^ 127)) (min (digits_value 10 right) (2 ^ 127))
 between_is negative ds right left_is right_is h =
     let z : (negative && eqb (digits_value 10 ds) 0) ≡ false = rw cap_zero at h in

@@ -18,7 +18,8 @@ cross (pos m) n d below e =
 cross (negsuc m) n d below e = neg_times n d ∙ ap (λ k. neg_ℤ (pos k)) e
 
 -- both parts divided by their greatest common divisor
-pub crossed : (num den above under : ℤ) (n d g : ℕ) → n ≡ unsigned_abs num → den ≡ pos d → Reduced n d g → above ≡ number_of (int_lt num (pos 0)) (n / g) → under ≡ pos (d / g) → above *ℤ den ≡ num *ℤ under
+pub crossed : (num den above under : ℤ) (n d g : ℕ) → n ≡ unsigned_abs num → den ≡ pos d → Reduced n d g → above ≡ number_of (int_lt num (pos 0)) (n / g)
+    → under ≡ pos (d / g) → above *ℤ den ≡ num *ℤ under
 crossed num den above under n d g size below parts is_above is_under =
     let e : n / g * d ≡ unsigned_abs num * (d / g) = parts.cross ∙ ap (λ k. k * (d / g)) size in
     ap (λ z. above *ℤ z) below ∙ ap (λ z. z *ℤ pos d) is_above ∙ cross num (n / g) d (d / g) e ∙ ap (λ z. num *ℤ z) (sym is_under)

@@ -43,8 +43,10 @@ has_reduced negative ds right ds_is right_is z =
         | inl low ↦ elim (cases_Bool (ltb 0 d && eqb (gcd_of n d) 1)) [
           | inr fails ↦ rw (lt-ltb n (2 ^ 127) few, lt-ltb d (2 ^ 127) low, fails) tt
           | inl holds ↦
-              let left : signed_decimal (number_of negative n) ≡ with_sign negative ds = signed_text negative n z ∙ ap (with_sign negative) (decimal_of_value ds ds_is (omega arith)) in
-              let text : with_sign negative ds ++ 47 ∷ right ≡ fraction_text (number_of negative n) (pos d) = rw (left, decimal_of_value right right_is (omega arith)) refl in
+              let left : signed_decimal (number_of negative n) ≡ with_sign negative ds =
+              signed_text negative n z ∙ ap (with_sign negative) (decimal_of_value ds ds_is (omega arith)) in
+              let text : with_sign negative ds ++ 47 ∷ right ≡ fraction_text (number_of negative n) (pos d) =
+              rw (left, decimal_of_value right right_is (omega arith)) refl in
               rw (lt-ltb n (2 ^ 127) few, lt-ltb d (2 ^ 127) low, holds) text
         ]
       ]
@@ -59,7 +61,8 @@ has_between negative ds right =
           elim (cases_Bool (negative && eqb (digits_value 10 ds) 0)) [
             | inl z ↦ rw (holds, z) tt
             | inr z ↦
-                let so : fraction_between (negative, ds) right ≡ reduced_fraction negative (digits_value 10 ds) (digits_value 10 right) = rw (holds, z) refl in
+                let so : fraction_between (negative, ds) right ≡ reduced_fraction negative (digits_value 10 ds) (digits_value 10 right) =
+                rw (holds, z) refl in
                 subst (HasText (with_sign negative ds ++ 47 ∷ right)) (sym so) (has_reduced negative ds right p.0 p.1 z)
           ]
     ]
@@ -78,7 +81,11 @@ more_joined b bytes (Some p) h = ap (λ (x : List ℕ). b ∷ x) h
 
 sides_join : (text : List ℕ) → joined (sides text) text
 sides_join [] = tt
-sides_join (b ∷ bytes) = elim (cases_Bool (eqb b 47)) [ inl e ↦ rw (e, eqb-true b 47 e) refl | inr e ↦ rw e (more_joined b bytes (sides bytes) (sides_join bytes)) ]
+sides_join (b ∷ bytes) = elim (cases_Bool (eqb b 47)) [
+  | inl e ↦ rw (e, eqb-true b 47 e) refl
+  | inr e ↦ rw e
+      (more_joined b bytes (sides bytes) (sides_join bytes))
+]
 
 has_from : (text : List ℕ) (o : Option (List ℕ × List ℕ)) → joined o text → HasText text (fraction_from o)
 has_from text None h = tt
@@ -105,14 +112,17 @@ unsigned (d ∷ ds) h =
     let r = digit_in (d ∷ ds) 0 h (omega arith) in
     rw (ne_eqb d 45 (λ e. omega (arith, r.0))) refl
 
-read_back : (negative : Bool) (n d : ℕ) → n < 2 ^ 127 → d < 2 ^ 127 → 0 < d → gcd_of n d ≡ 1 → (negative && eqb n 0) ≡ false → fraction_of (with_sign negative (decimal n) ++ 47 ∷ decimal d) ≡ Ok (number_of negative n, pos d)
+read_back : (negative : Bool) (n d : ℕ) → n < 2 ^ 127 → d < 2 ^ 127 → 0 < d → gcd_of n d ≡ 1 → (negative && eqb n 0) ≡ false
+    → fraction_of (with_sign negative (decimal n) ++ 47 ∷ decimal d) ≡ Ok (number_of negative n, pos d)
 read_back negative n d few low some one z =
     let num = numeral_of_decimal n (omega arith) in
     let den = numeral_of_decimal d (omega arith) in
-    let between : fraction_between (negative, decimal n) (decimal d) ≡ Ok (number_of negative n, pos d) = rw (num.0, den.0, num.1, den.1, z) (reduces negative n d few low some one) in
+    let between : fraction_between (negative, decimal n) (decimal d) ≡ Ok (number_of negative n, pos d) =
+    rw (num.0, den.0, num.1, den.1, z) (reduces negative n d few low some one) in
     go negative (digits_of_decimal n (omega arith)) between
   where
-    go : (negative : Bool) → all_ascii_digits (decimal n) ≡ true → fraction_between (negative, decimal n) (decimal d) ≡ Ok (number_of negative n, pos d) → fraction_of (with_sign negative (decimal n) ++ 47 ∷ decimal d) ≡ Ok (number_of negative n, pos d)
+    go : (negative : Bool) → all_ascii_digits (decimal n) ≡ true → fraction_between (negative, decimal n) (decimal d) ≡ Ok (number_of negative n, pos d)
+        → fraction_of (with_sign negative (decimal n) ++ 47 ∷ decimal d) ≡ Ok (number_of negative n, pos d)
     go false digits h = rw (sides_digits, unsigned) h
     go true digits h = let e = sides_digits (decimal n) (decimal d) digits in rw e h
 
@@ -136,6 +146,7 @@ pub found : (r : Result Fraction FracFault) (text : List ℕ) → Gives r (fract
 found (Ok f) text h = subst (HasText text) h (has_text text)
 found (Err e) text h = tt
 
-pub only : (r : Result Fraction FracFault) (text : List ℕ) (num den : ℤ) → Gives r (fraction_of text) → IsTrue (is_fraction num den) → text ≡ fraction_text num den → Gives r (Ok (num, den))
+pub only : (r : Result Fraction FracFault) (text : List ℕ) (num den : ℤ) → Gives r (fraction_of text) → IsTrue (is_fraction num den)
+    → text ≡ fraction_text num den → Gives r (Ok (num, den))
 only (Ok f) text num den h is e = sym (reads_text num den is) ∙ ap fraction_of (sym e) ∙ h
 only (Err f) text num den h is e = sym (reads_text num den is) ∙ ap fraction_of (sym e) ∙ h

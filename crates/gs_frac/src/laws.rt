@@ -10,5 +10,6 @@ pub fn gcd_is_greatest()
 
 /// Reduced fractions that are equal crosswise have equal parts, so `==` compares values.
 pub fn reduced_form_is_one()
-    ensures { (num den num' den' : ℤ) → IsTrue (is_fraction num den) → IsTrue (is_fraction num' den') → num *ℤ den' ≡ num' *ℤ den → (num ≡ num') × (den ≡ den') }
+    ensures { (num den num' den' : ℤ) → IsTrue (is_fraction num den) → IsTrue (is_fraction num' den') → num *ℤ den' ≡ num' *ℤ den
+        → (num ≡ num') × (den ≡ den') }
 {}

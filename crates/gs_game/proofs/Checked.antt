@@ -88,13 +88,16 @@ bonus-least r bonus h = least-one bonus (omega (arith, h.each, some-category r))
 
 put-within : (g : Rules) → put_refusal g ≡ None → most_in (trees_of g) g.ante g.ante * greatest g.bonus ≤ 4096
 unfolding put_refusal
-put-within g h = not-over 4096 (most_in (trees_of g) g.ante g.ante * greatest g.bonus) (put_too_large (most_in (trees_of g) g.ante g.ante * greatest g.bonus)) _ (λ o. rw o refl) h
+put-within g h = not-over 4096 (most_in (trees_of g) g.ante g.ante * greatest g.bonus)
+    (put_too_large (most_in (trees_of g) g.ante g.ante * greatest g.bonus)) _ (λ o. rw o refl) h
 
 lines-within : (g : Rules) → lines_refusal g ≡ None → length (walk g.ante (trees_of g)).ends ≤ 8192
 unfolding lines_refusal
-lines-within g h = not-over 8192 (length (walk g.ante (trees_of g)).ends) (too_many_lines (min (length (walk g.ante (trees_of g)).ends) (2 ^ 128 - 1))) _ (λ o. rw o refl) h
+lines-within g h = not-over 8192 (length (walk g.ante (trees_of g)).ends) (too_many_lines (min (length (walk g.ante (trees_of g)).ends) (2 ^ 128 - 1))) _
+    (λ o. rw o refl) h
 
-pub walkable : (game : Game) → All HasFewCards game.rounds.items → IsBonus (ranking_of game.ranking) game.bonus.items → card_refusal (game_of game) ≡ None → betting_refusal (game_of game) ≡ None
+pub walkable : (game : Game) → All HasFewCards game.rounds.items → IsBonus (ranking_of game.ranking) game.bonus.items → card_refusal (game_of game) ≡ None
+    → betting_refusal (game_of game) ≡ None
     → RoundsWalkable (plain_trees game.rounds.items) (walk_start game.ante)
 unfolding betting_refusal
 walkable game few bonus c b =
@@ -105,7 +108,8 @@ walkable game few bonus c b =
     let cards = cards_pass game few c in
     let put = rw (trees_are game) at (put-within g three.0) in
     let lines = rw (trees_are game, ends_are game.ante (plain_trees game.rounds.items)) at (lines-within g three.1) in
-    let times = mul-le-mul_left (most_in (plain_trees game.rounds.items) game.ante game.ante) (bonus-least (ranking_of game.ranking) game.bonus.items bonus) in
+    let times = mul-le-mul_left (most_in (plain_trees game.rounds.items) game.ante game.ante)
+    (bonus-least (ranking_of game.ranking) game.bonus.items bonus) in
     let long : length (plain_trees game.rounds.items) ≡ length game.rounds.items = length-map game.rounds.items _ in
     record {
       round = omega (arith, long, cards.few);
@@ -139,7 +143,8 @@ deals-few : (g : Rules) → deals_refusal g ≡ None → length (deals g) ≤ 80
 unfolding deals_refusal
 deals-few g h = not-over 8000000 (length (deals g)) too_many_deals _ (λ o. rw o refl) h
 
-pub limits : (game : Game) → All HasFewCards game.rounds.items → card_refusal (game_of game) ≡ None → deal_refusal (game_of game) ≡ None → IsWithinLimits (game_of game)
+pub limits : (game : Game) → All HasFewCards game.rounds.items → card_refusal (game_of game) ≡ None → deal_refusal (game_of game) ≡ None
+    → IsWithinLimits (game_of game)
 unfolding deal_refusal
 limits game few c d =
     let g = game_of game in
@@ -159,15 +164,18 @@ small-rounds : (rs : List Round) → AllByRecursion HasFewCards rs → AllByRecu
 small-rounds [] h = tt
 small-rounds (r ∷ rs) h = let few = h.0 in ((few.private, few.public), small-rounds rs h.1)
 
-pub is_dealable : (game : Game) → All HasFewCards game.rounds.items → IsBonus (ranking_of game.ranking) game.bonus.items → card_refusal (game_of game) ≡ None → IsDealable (game_of game)
+pub is_dealable : (game : Game) → All HasFewCards game.rounds.items → IsBonus (ranking_of game.ranking) game.bonus.items → card_refusal (game_of game) ≡ None
+    → IsDealable (game_of game)
 is_dealable game few bonus c = record {
-  small = All-from_recursion (λ (r : RoundRules). (r.private ≤ 2) × (r.public ≤ 3)) (map round_of game.rounds.items) (small-rounds game.rounds.items (recursion_from_All HasFewCards game.rounds.items few));
+  small = All-from_recursion (λ (r : RoundRules). (r.private ≤ 2) × (r.public ≤ 3)) (map round_of game.rounds.items)
+      (small-rounds game.rounds.items (recursion_from_All HasFewCards game.rounds.items few));
   ranked = (cards_pass game few c).ranked;
   bonuses = bonus;
 }
 
 pub is_walk : (game : Game) (points : List Point) (ends : List End) (start : StoredTarget)
-    → Grows [] points [] ends start (walk_start game.ante) (walk_rounds (plain_trees game.rounds.items) (walk_start game.ante)) → IsWalkOf (game_of game) points ends start
+    → Grows [] points [] ends start (walk_start game.ante) (walk_rounds (plain_trees game.rounds.items) (walk_start game.ante))
+    → IsWalkOf (game_of game) points ends start
 is_walk game points ends start h =
     record { points_are = rw (trees_are game) h.points_are; ends_are = rw (trees_are game) h.ends_are; start_is = rw (trees_are game) h.root_is }
 

@@ -26,7 +26,8 @@ left-skip kind card (c ∷ cs) g l =
     let r = left-skip (suc kind) card cs g (omega arith) in
     cc (ap (λ (k : ℕ). c - k) t, r)
 
-left-card : (kind card all : ℕ) (left g : List ℕ) → all ≡ kind + card → left_from kind left (all ∷ g) ≡ left_from kind (slice_set left card (slice_index left card - 1)) g
+left-card : (kind card all : ℕ) (left g : List ℕ) → all ≡ kind + card → left_from kind left (all ∷ g)
+    ≡ left_from kind (slice_set left card (slice_index left card - 1)) g
 left-card kind card all [] g e = refl
 left-card kind zero all (c ∷ cs) g e =
     let here : all ≡ kind = omega arith in
@@ -36,7 +37,8 @@ left-card kind zero all (c ∷ cs) g e =
 left-card kind (suc card) all (c ∷ cs) g e =
     let n : all ≢ kind = λ f. absurd (omega (arith, e, f)) in
     let t : c - count_by (λ x. x == kind) (all ∷ g) ≡ c - count_by (λ x. x == kind) g = ap (λ (k : ℕ). c - k) (times-other kind all g n) in
-    let r : left_from (suc kind) cs (all ∷ g) ≡ left_from (suc kind) (slice_set cs card (slice_index cs card - 1)) g = left-card (suc kind) card all cs g (omega (arith, e)) in
+    let r : left_from (suc kind) cs (all ∷ g) ≡ left_from (suc kind) (slice_set cs card (slice_index cs card - 1)) g =
+    left-card (suc kind) card all cs g (omega (arith, e)) in
     cc (t, r)
 
 -- taking a card and then a group is taking both
@@ -49,25 +51,31 @@ sum-mapped f g h e (x ∷ xs) = omega (arith, sum_by-cons f (g x) (map g xs), su
 
 -- the sequences whose first group begins with a card
 pub with_card : (later left lower : List ℕ) (size card : ℕ) → 0 < slice_index left card → lower ≡ slice_set left card (slice_index left card - 1)
-    → sum_by (λ g. count_sequences (left_after left g) later) (groups_with (groups_above size) left card) ≡ sum_by (λ g. count_sequences (left_after lower g) later) (groups_above size lower card)
+    → sum_by (λ g. count_sequences (left_after left g) later) (groups_with (groups_above size) left card)
+    ≡ sum_by (λ g. count_sequences (left_after lower g) later) (groups_above size lower card)
 with_card later left lower size card some e =
     let there : nat_lt 0 (slice_index left card) ≡ true = lt-ltb 0 (slice_index left card) some in
     rw (there, e)
-    (sum-mapped (λ g. count_sequences (left_after left g) later) (λ g. card ∷ g) (λ g. count_sequences (left_after (slice_set left card (slice_index left card - 1)) g) later)
+    (sum-mapped (λ g. count_sequences (left_after left g) later) (λ g. card ∷ g)
+    (λ g. count_sequences (left_after (slice_set left card (slice_index left card - 1)) g) later)
     (λ g. ap (λ (l : List ℕ). count_sequences l later) (taken card left g)) (groups_above size (slice_set left card (slice_index left card - 1)) card))
 
-pub without_card : (later left : List ℕ) (size card : ℕ) → slice_index left card ≡ 0 → sum_by (λ g. count_sequences (left_after left g) later) (groups_with (groups_above size) left card) ≡ 0
+pub without_card : (later left : List ℕ) (size card : ℕ) → slice_index left card ≡ 0
+    → sum_by (λ g. count_sequences (left_after left g) later) (groups_with (groups_above size) left card) ≡ 0
 without_card later left size card none = rw none refl
 
 -- the sequences whose first group begins with a card of the kinds from one on
 abbrev pub count_rest : List ℕ → List ℕ → ℕ → ℕ → ℕ
-count_rest later left size card = sum_by (λ g. count_sequences (left_after left g) later) (flat_map (groups_with (groups_above size) left) (range_with_len card (length left - card)))
+count_rest later left size card = sum_by (λ g. count_sequences (left_after left g) later)
+    (flat_map (groups_with (groups_above size) left) (range_with_len card (length left - card)))
 
 pub rest_more : (later left : List ℕ) (size card : ℕ) → card < length left
-    → count_rest later left size card ≡ sum_by (λ g. count_sequences (left_after left g) later) (groups_with (groups_above size) left card) + count_rest later left size (card + 1)
+    → count_rest later left size card ≡ sum_by (λ g. count_sequences (left_after left g) later) (groups_with (groups_above size) left card)
+    + count_rest later left size (card + 1)
 rest_more later left size card h =
     let n : length left - card ≡ suc (length left - (card + 1)) = omega arith in
-    rw n (sum_by-append (λ g. count_sequences (left_after left g) later) (groups_with (groups_above size) left card) (flat_map (groups_with (groups_above size) left) (range_with_len (card + 1) (length left - (card + 1)))))
+    rw n (sum_by-append (λ g. count_sequences (left_after left g) later) (groups_with (groups_above size) left card)
+    (flat_map (groups_with (groups_above size) left) (range_with_len (card + 1) (length left - (card + 1)))))
 
 pub rest_none : (later left : List ℕ) (size card : ℕ) → length left ≤ card → count_rest later left size card ≡ 0
 rest_none later left size card h = let n : length left - card ≡ 0 = omega arith in rw n refl
@@ -82,12 +90,14 @@ pub after-none : (kind : ℕ) (left : List ℕ) → left_from kind left [] ≡ l
 after-none kind [] = refl
 after-none kind (c ∷ cs) = let t : c - 0 ≡ c = omega arith in cc (t, after-none (suc kind) cs)
 
-pub no_cards : (later left : List ℕ) (least : ℕ) → sum_by (λ g. count_sequences (left_after left g) later) (groups_above 0 left least) ≡ count_sequences left later
+pub no_cards : (later left : List ℕ) (least : ℕ) → sum_by (λ g. count_sequences (left_after left g) later) (groups_above 0 left least)
+    ≡ count_sequences left later
 no_cards later left least = let e = ap (λ (l : List ℕ). count_sequences l later) (after-none 0 left) in omega (arith, e)
 
 -- the next group's size
 pub next_group : (later rest left : List ℕ) (least size next : ℕ) → size ≡ 0 → later ≡ next ∷ rest
-    → sum_by (λ g. count_sequences (left_after left g) later) (groups_above size left least) ≡ sum_by (λ g. count_sequences (left_after left g) rest) (groups_above next left 0)
+    → sum_by (λ g. count_sequences (left_after left g) later) (groups_above size left least)
+    ≡ sum_by (λ g. count_sequences (left_after left g) rest) (groups_above next left 0)
 next_group later rest left least size next e f = rw (e, f) (no_cards (next ∷ rest) left least)
 
 -- a count that was lowered is raised again
@@ -132,6 +142,8 @@ last_kinds later left least h l = go (length left - least) least (omega arith)
         let one = one_kind later left card (slice_index left card) h refl in
         let rest = go n (card + 1) (omega arith) in
         let next : suc card ≡ card + 1 = omega arith in
-        let first : drop card left ≡ slice_index left card ∷ drop (card + 1) left = drop-cons left card 0 (omega arith) ∙ ap (λ k. slice_index left card ∷ drop k left) next in
-        let count = ap (λ (l : List ℕ). count_by (λ copies. nat_lt 0 copies) l) first ∙ sum_by-cons (λ copies. cond (nat_lt 0 copies) 1 0) (slice_index left card) (drop (card + 1) left) in
+        let first : drop card left ≡ slice_index left card ∷ drop (card + 1) left =
+        drop-cons left card 0 (omega arith) ∙ ap (λ k. slice_index left card ∷ drop k left) next in
+        let count = ap (λ (l : List ℕ). count_by (λ copies. nat_lt 0 copies) l) first
+        ∙ sum_by-cons (λ copies. cond (nat_lt 0 copies) 1 0) (slice_index left card) (drop (card + 1) left) in
         omega (arith, more, one, rest, count)

@@ -52,7 +52,8 @@ pub record SignalsSeen (g : Rules) (n count : ℕ) : Type 0 where
   pub over : 200000 < count → nat_lt 200000 (length (signals g n)) ≡ true
   pub within : count ≤ 200000 → nat_lt 200000 (length (signals g n)) ≡ false
 
-pub signals_seen : (game : Game) (left sizes shown : List ℕ) (n count : ℕ) → left ≡ game.deck.counts → sizes ≡ deal_sizes (map round_of game.rounds.items) → shown ≡ take (2 * n) sizes
+pub signals_seen : (game : Game) (left sizes shown : List ℕ) (n count : ℕ) → left ≡ game.deck.counts → sizes ≡ deal_sizes (map round_of game.rounds.items)
+    → shown ≡ take (2 * n) sizes
     → n ≤ length game.rounds.items → count ≡ min (count_sequences left shown) 200001 → SignalsSeen (game_of game) n count
 signals_seen game left sizes shown n count l s t h c =
     let g = game_of game in
@@ -60,13 +61,17 @@ signals_seen game left sizes shown n count l s t h c =
     let front : shown ≡ seen_sizes (take n g.rounds) = t ∙ ap (take (2 * n)) s ∙ sizes_front g.rounds n few in
     let same : count_sequences left shown ≡ length (signals g n) = rw (l, front) (sym (signals_counted g n few)) in
     let counted : count ≡ min (length (signals g n)) 200001 = c ∙ ap (λ (k : ℕ). min k 200001) same in
-    record { over = λ o. lt-ltb 200000 (length (signals g n)) (omega (arith, counted, o)); within = λ w. le-ltb 200000 (length (signals g n)) (omega (arith, counted, w)) }
+    record {
+      over = λ o. lt-ltb 200000 (length (signals g n)) (omega (arith, counted, o));
+      within = λ w. le-ltb 200000 (length (signals g n)) (omega (arith, counted, w));
+    }
 
 pub signals_stop : (g : Rules) (left n : ℕ) → 0 < left → nat_lt 200000 (length (signals g n)) ≡ true → signals_from g left n ≡ Some (too_many_signals n)
 signals_stop g zero n h e = absurd (omega arith)
 signals_stop g (suc left) n h e = rw e refl
 
-pub signals_go : (g : Rules) (left next n : ℕ) → left ≡ suc next → nat_lt 200000 (length (signals g n)) ≡ false → signals_from g next (n + 1) ≡ signals_from g left n
+pub signals_go : (g : Rules) (left next n : ℕ) → left ≡ suc next → nat_lt 200000 (length (signals g n)) ≡ false
+    → signals_from g next (n + 1) ≡ signals_from g left n
 signals_go g left next n h e = rw (h, e) refl
 
 -- ---- what the tests of cards leave
@@ -94,7 +99,12 @@ sizes-sum (r ∷ rs) =
 
 public-most : (rs : List Round) → AllByRecursion HasFewCards rs → public_cards (map round_of rs) ≤ 3 * length rs
 public-most [] h = omega arith
-public-most (r ∷ rs) h = let few = h.0 in omega (arith, sum_by-cons (λ (q : RoundRules). q.public) (round_of r) (map round_of rs), public-most rs h.1, few.public)
+public-most (r ∷ rs) h = let few = h.0 in omega (
+  arith,
+  sum_by-cons (λ (q : RoundRules). q.public) (round_of r) (map round_of rs),
+  public-most rs h.1,
+  few.public,
+)
 
 rounds-pass : (g : Rules) → rounds_refusal g ≡ None → (1 ≤ length g.rounds) × (length g.rounds ≤ 4)
 unfolding rounds_refusal
@@ -141,7 +151,8 @@ cards_pass game few h =
       ranked = ranking-pass g three.0;
     }
 
-sizes-few : (rs : List Round) → AllByRecursion HasFewCards rs → AllByRecursion (λ k. k ≤ 3) (seen_sizes (map round_of rs)) × AllByRecursion (λ k. k ≤ 3) (privates (map round_of rs))
+sizes-few : (rs : List Round) → AllByRecursion HasFewCards rs → AllByRecursion (λ k. k ≤ 3) (seen_sizes (map round_of rs))
+    × AllByRecursion (λ k. k ≤ 3) (privates (map round_of rs))
 sizes-few [] h = (tt, tt)
 sizes-few (r ∷ rs) h =
     let few = h.0 in
@@ -152,7 +163,8 @@ sizes-few (r ∷ rs) h =
 pub sizes_few : (rs : List Round) → All HasFewCards rs → All (λ k. k ≤ 3) (deal_sizes (map round_of rs))
 sizes_few rs h =
     let few = sizes-few rs (recursion_from_All HasFewCards rs h) in
-    All-from_recursion (λ k. k ≤ 3) (deal_sizes (map round_of rs)) (every-append (λ k. k ≤ 3) (seen_sizes (map round_of rs)) (privates (map round_of rs)) few.0 few.1)
+    All-from_recursion (λ k. k ≤ 3) (deal_sizes (map round_of rs)) (every-append (λ k. k
+    ≤ 3) (seen_sizes (map round_of rs)) (privates (map round_of rs)) few.0 few.1)
 
 pub copies_few : (counts : List ℕ) → length counts ≤ 52 → All (λ n. n ≤ 9) counts → sum counts ≤ 468
 copies_few counts short h =
@@ -161,7 +173,8 @@ copies_few counts short h =
 
 -- ---- the refusals on deals, in order
 
-pub weight_over : (game : Game) (copies weight : ℕ) (sizes : List ℕ) → copies ≡ sum game.deck.counts → sizes ≡ deal_sizes (map round_of game.rounds.items) → weight ≡ draws copies sizes
+pub weight_over : (game : Game) (copies weight : ℕ) (sizes : List ℕ) → copies ≡ sum game.deck.counts → sizes ≡ deal_sizes (map round_of game.rounds.items)
+    → weight ≡ draws copies sizes
     → 67108864 < weight → deal_refusal (game_of game) ≡ Some (too_heavy weight)
 unfolding deal_refusal weight_refusal
 weight_over game copies weight sizes c s w h =
@@ -172,37 +185,46 @@ pub record WeightPass (game : Game) (weight : ℕ) : Type 0 where
   pub passes : weight_refusal (game_of game) ≡ None
   pub weighs : weight ≡ total_weight (frame_of (game_of game))
 
-pub weight_within : (game : Game) (copies weight : ℕ) (sizes : List ℕ) → copies ≡ sum game.deck.counts → sizes ≡ deal_sizes (map round_of game.rounds.items) → weight ≡ draws copies sizes
+pub weight_within : (game : Game) (copies weight : ℕ) (sizes : List ℕ) → copies ≡ sum game.deck.counts → sizes ≡ deal_sizes (map round_of game.rounds.items)
+    → weight ≡ draws copies sizes
     → weight ≤ 67108864 → WeightPass game weight
 unfolding weight_refusal
 weight_within game copies weight sizes c s w h =
     let is : total_weight (frame_of (game_of game)) ≡ weight = weight_drawn (game_of game) ∙ sym (w ∙ rw (c, s) refl) in
     record { passes = rw (is, le-ltb 67108864 weight h) refl; weighs = sym is }
 
-pub counts_fault : (game : Game) (f : GameFault) → weight_refusal (game_of game) ≡ None → Answers (first_of (signals_refusal (game_of game)) (deals_refusal (game_of game))) f → Answers (deal_refusal (game_of game)) f
+pub counts_fault : (game : Game) (f : GameFault) → weight_refusal (game_of game) ≡ None
+    → Answers (first_of (signals_refusal (game_of game)) (deals_refusal (game_of game))) f → Answers (deal_refusal (game_of game)) f
 unfolding deal_refusal
 counts_fault game f w h = fault_second (weight_refusal (game_of game)) _ f w h
 
-pub counts_within : (game : Game) → weight_refusal (game_of game) ≡ None → first_of (signals_refusal (game_of game)) (deals_refusal (game_of game)) ≡ None → deal_refusal (game_of game) ≡ None
+pub counts_within : (game : Game) → weight_refusal (game_of game) ≡ None → first_of (signals_refusal (game_of game)) (deals_refusal (game_of game)) ≡ None
+    → deal_refusal (game_of game) ≡ None
 unfolding deal_refusal
 counts_within game w h = rw w h
 
-pub signals_fault : (game : Game) (f : GameFault) → Answers (signals_refusal (game_of game)) f → Answers (first_of (signals_refusal (game_of game)) (deals_refusal (game_of game))) f
+pub signals_fault : (game : Game) (f : GameFault) → Answers (signals_refusal (game_of game)) f
+    → Answers (first_of (signals_refusal (game_of game)) (deals_refusal (game_of game))) f
 signals_fault game f h = fault_first (signals_refusal (game_of game)) (deals_refusal (game_of game)) f h
 
-deals-same : (game : Game) (left sizes : List ℕ) (count : ℕ) → left ≡ game.deck.counts → sizes ≡ deal_sizes (map round_of game.rounds.items) → count ≡ min (count_sequences left sizes) 8000001
+deals-same : (game : Game) (left sizes : List ℕ) (count : ℕ) → left ≡ game.deck.counts → sizes ≡ deal_sizes (map round_of game.rounds.items)
+    → count ≡ min (count_sequences left sizes) 8000001
     → count ≡ min (length (deals (game_of game))) 8000001
 deals-same game left sizes count l s c = c ∙ ap (λ (k : ℕ). min k 8000001) (rw (l, s) (sym (deals_counted (game_of game))))
 
-pub deals_over : (game : Game) (left sizes : List ℕ) (count : ℕ) → signals_refusal (game_of game) ≡ None → left ≡ game.deck.counts → sizes ≡ deal_sizes (map round_of game.rounds.items)
-    → count ≡ min (count_sequences left sizes) 8000001 → 8000000 < count → first_of (signals_refusal (game_of game)) (deals_refusal (game_of game)) ≡ Some too_many_deals
+pub deals_over : (game : Game) (left sizes : List ℕ) (count : ℕ) → signals_refusal (game_of game) ≡ None → left ≡ game.deck.counts
+    → sizes ≡ deal_sizes (map round_of game.rounds.items)
+    → count ≡ min (count_sequences left sizes) 8000001 → 8000000 < count
+    → first_of (signals_refusal (game_of game)) (deals_refusal (game_of game)) ≡ Some too_many_deals
 unfolding deals_refusal
 deals_over game left sizes count g l s c h =
     let over : nat_lt 8000000 (length (deals (game_of game))) ≡ true = lt-ltb _ _ (omega (arith, deals-same game left sizes count l s c, h)) in
     rw (g, over) refl
 
-pub deals_within : (game : Game) (left sizes : List ℕ) (count : ℕ) → signals_refusal (game_of game) ≡ None → left ≡ game.deck.counts → sizes ≡ deal_sizes (map round_of game.rounds.items)
-    → count ≡ min (count_sequences left sizes) 8000001 → count ≤ 8000000 → (first_of (signals_refusal (game_of game)) (deals_refusal (game_of game)) ≡ None) × (count ≡ length (deals (game_of game)))
+pub deals_within : (game : Game) (left sizes : List ℕ) (count : ℕ) → signals_refusal (game_of game) ≡ None → left ≡ game.deck.counts
+    → sizes ≡ deal_sizes (map round_of game.rounds.items)
+    → count ≡ min (count_sequences left sizes) 8000001 → count ≤ 8000000
+    → (first_of (signals_refusal (game_of game)) (deals_refusal (game_of game)) ≡ None) × (count ≡ length (deals (game_of game)))
 unfolding deals_refusal
 deals_within game left sizes count g l s c h =
     let within : nat_lt 8000000 (length (deals (game_of game))) ≡ false = le-ltb _ _ (omega (arith, deals-same game left sizes count l s c, h)) in

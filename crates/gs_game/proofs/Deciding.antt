@@ -46,7 +46,8 @@ trees_are g = same_trees g.rounds.items
 pub ends_are : (ante : ℕ) (ts : List Bet) → length (walk ante ts).ends ≡ ends_in ts
 ends_are ante ts = (rounds_count ts).ends_are (walk_start ante)
 
-pub lines_over : (g : Game) (n : ℕ) → n ≡ min (ends_in (plain_trees g.rounds.items)) (2 ^ 128 - 1) → 8192 < n → lines_refusal (game_of g) ≡ Some (too_many_lines n)
+pub lines_over : (g : Game) (n : ℕ) → n ≡ min (ends_in (plain_trees g.rounds.items)) (2 ^ 128 - 1) → 8192 < n
+    → lines_refusal (game_of g) ≡ Some (too_many_lines n)
 unfolding lines_refusal
 lines_over g n is h =
     let over : nat_lt 8192 (ends_in (plain_trees g.rounds.items)) ≡ true = lt-ltb _ _ (omega arith) in
@@ -79,7 +80,8 @@ uneven_fine : (g : Game) (rs : List Round) → rs ≡ g.rounds.items → uneven_
 unfolding uneven_refusal
 uneven_fine g rs e h = rw (trees_are g, sym e) h
 
-pub evens_fault : (g : Game) (rs : List Round) (f : GameFault) → rs ≡ g.rounds.items → Answers (no_even_from 1 (plain_trees rs)) f → Answers (betting_refusal (game_of g)) f
+pub evens_fault : (g : Game) (rs : List Round) (f : GameFault) → rs ≡ g.rounds.items → Answers (no_even_from 1 (plain_trees rs)) f
+    → Answers (betting_refusal (game_of g)) f
 unfolding betting_refusal even_refusal
 evens_fault g rs f e h = fault_first (even_refusal (game_of g)) _ f (rw (trees_are g, sym e) h)
 
@@ -94,17 +96,21 @@ pub record EvensPass (g : Game) : Type 0 where
   pub evens : even_refusal (game_of g) ≡ None
   pub uneven : uneven_refusal (game_of g) ≡ None
 
-pub evens_pass : (g : Game) (rs ss : List Round) → rs ≡ g.rounds.items → no_even_from 1 (plain_trees rs) ≡ None → ss ≡ g.rounds.items → uneven_from 1 (plain_trees ss) ≡ None → EvensPass g
+pub evens_pass : (g : Game) (rs ss : List Round) → rs ≡ g.rounds.items → no_even_from 1 (plain_trees rs) ≡ None → ss ≡ g.rounds.items
+    → uneven_from 1 (plain_trees ss) ≡ None → EvensPass g
 evens_pass g rs ss d fine e also = record { evens = evens_fine g rs d fine; uneven = uneven_fine g ss e also }
 
 pub put_fault : (g : Game) (f : GameFault) → EvensPass g → Answers (put_refusal (game_of g)) f → Answers (betting_refusal (game_of g)) f
 unfolding betting_refusal
-put_fault g f p h = fault_second (even_refusal (game_of g)) _ f p.evens (fault_second (uneven_refusal (game_of g)) _ f p.uneven (fault_first (put_refusal (game_of g)) _ f h))
+put_fault g f p h = fault_second (even_refusal (game_of g)) _ f p.evens (fault_second (uneven_refusal (game_of g)) _ f p.uneven
+    (fault_first (put_refusal (game_of g)) _ f h))
 
-pub lines_fault : (g : Game) (f : GameFault) → EvensPass g → put_refusal (game_of g) ≡ None → Answers (lines_refusal (game_of g)) f → Answers (betting_refusal (game_of g)) f
+pub lines_fault : (g : Game) (f : GameFault) → EvensPass g → put_refusal (game_of g) ≡ None → Answers (lines_refusal (game_of g)) f
+    → Answers (betting_refusal (game_of g)) f
 unfolding betting_refusal
 lines_fault g f p put h =
-    fault_second (even_refusal (game_of g)) _ f p.evens (fault_second (uneven_refusal (game_of g)) _ f p.uneven (fault_second (put_refusal (game_of g)) _ f put h))
+    fault_second (even_refusal (game_of g)) _ f p.evens (fault_second (uneven_refusal (game_of g)) _ f p.uneven
+    (fault_second (put_refusal (game_of g)) _ f put h))
 
 pub betting_fine : (g : Game) → EvensPass g → put_refusal (game_of g) ≡ None → lines_refusal (game_of g) ≡ None → betting_refusal (game_of g) ≡ None
 unfolding betting_refusal
@@ -112,6 +118,7 @@ betting_fine g p put lines = rw (p.evens, p.uneven, put, lines) refl
 
 -- the last test decides
 pub lines_decide : (g : Game) (r : Result (Unit {0}) GameFault) → EvensPass g → put_refusal (game_of g) ≡ None
-    → MatchResult r (λ _. lines_refusal (game_of g) ≡ None) (Answers (lines_refusal (game_of g))) → MatchResult r (λ _. betting_refusal (game_of g) ≡ None) (Answers (betting_refusal (game_of g)))
+    → MatchResult r (λ _. lines_refusal (game_of g) ≡ None) (Answers (lines_refusal (game_of g)))
+    → MatchResult r (λ _. betting_refusal (game_of g) ≡ None) (Answers (betting_refusal (game_of g)))
 lines_decide g (Ok x) p put h = betting_fine g p put h
 lines_decide g (Err f) p put h = lines_fault g f p put h

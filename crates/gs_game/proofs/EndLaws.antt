@@ -24,13 +24,15 @@ pub record HasCounts (go_on : Place → Walked) (points ends : ℕ) : Type 0 whe
   pub points_are : (p : Place) → length (go_on p).points ≡ points
 
 mutual
-  pub tree_counts : (t : Bet) (go_on : Place → Walked) (points ends : ℕ) → HasCounts go_on points ends → (p : Place) → (length (walk_tree go_on t p).ends ≡ ends_of ends t) × (length (walk_tree go_on t p).points ≡ points_of points t)
+  pub tree_counts : (t : Bet) (go_on : Place → Walked) (points ends : ℕ) → HasCounts go_on points ends → (p : Place)
+      → (length (walk_tree go_on t p).ends ≡ ends_of ends t) × (length (walk_tree go_on t p).points ≡ points_of points t)
   tree_counts (act player ms) g m n h p = let e = moves_counts ms g m n h player p.point 0 (record p { point = p.point + 1 }) in (e.0, omega (arith, e.1))
   tree_counts fold g m n h p = (refl, refl)
   tree_counts even g m n h p = (h.ends_are p, h.points_are p)
 
   moves_counts : (ms : Moves) (go_on : Place → Walked) (points ends : ℕ) → HasCounts go_on points ends → (player point choice : ℕ) (p : Place)
-      → (length (walk_moves go_on ms player point choice p).walked.ends ≡ move_ends ends ms) × (length (walk_moves go_on ms player point choice p).walked.points ≡ move_points points ms)
+      → (length (walk_moves go_on ms player point choice p).walked.ends ≡ move_ends ends ms)
+      × (length (walk_moves go_on ms player point choice p).walked.points ≡ move_points points ms)
   moves_counts none g m n h player point choice p = (refl, refl)
   moves_counts (move letter chips next ms) g m n h player point choice p =
       let here = after_move player point choice chips p in
@@ -38,11 +40,15 @@ mutual
       let there : Place = record p { point = p.point + length first.points; end = p.end + length first.ends } in
       let others = walk_moves g ms player point (choice + 1) there in
       let one = tree_counts next g m n h here in
-      let rest = moves_counts ms g m n h player point (choice + 1) there in
-      (omega (arith, length-append first.ends others.walked.ends, one.0, rest.0), omega (arith, length-append first.points others.walked.points, one.1, rest.1))
+      let rest = moves_counts ms g m n h player point (choice + 1) there in (
+        omega (arith, length-append first.ends others.walked.ends, one.0, rest.0),
+        omega (arith, length-append first.points others.walked.points, one.1, rest.1),
+      )
 
 pub rounds_count : (ts : List Bet) → HasCounts (walk_rounds ts) (points_in ts) (ends_in ts)
 rounds_count [] = record { ends_are = λ p. refl; points_are = λ p. refl }
 rounds_count (t ∷ ts) =
-    let c : (p : Place) → (length (walk_tree (walk_rounds ts) t p).ends ≡ ends_in (t ∷ ts)) × (length (walk_tree (walk_rounds ts) t p).points ≡ points_in (t ∷ ts)) = tree_counts t (walk_rounds ts) (points_in ts) (ends_in ts) (rounds_count ts) in
+    let c : (p : Place) → (length (walk_tree (walk_rounds ts) t p).ends ≡ ends_in (t ∷ ts))
+    × (length (walk_tree (walk_rounds ts) t p).points ≡ points_in (t ∷ ts)) =
+    tree_counts t (walk_rounds ts) (points_in ts) (ends_in ts) (rounds_count ts) in
     record { ends_are = λ p. (c (record p { round = p.round + 1 })).0; points_are = λ p. (c (record p { round = p.round + 1 })).1 }

@@ -33,12 +33,14 @@ two_shift player chips p two = elim (cases_Bool (player == 1)) [ inl e ↦ rw e 
 abbrev pub Adds : (ℕ → ℕ → ℕ) → ℕ → Type 0
 Adds go_on above = (q : ℕ) → go_on q q ≡ q + above
 
-moved : (go_on : ℕ → ℕ → ℕ) (p one two player chips : ℕ) (t : Bet) (x : ℕ) → most_put go_on (p + one_after player chips one) (p + two_after player chips two) t ≡ x
+moved : (go_on : ℕ → ℕ → ℕ) (p one two player chips : ℕ) (t : Bet) (x : ℕ)
+    → most_put go_on (p + one_after player chips one) (p + two_after player chips two) t ≡ x
     → most_put go_on (one_after player chips (p + one)) (two_after player chips (p + two)) t ≡ x
 moved g p one two player chips t x h = rw (one_shift player chips p one, two_shift player chips p two) h
 
 mutual
-  shift : (t : Bet) (left : ℕ) (go_on : ℕ → ℕ → ℕ) (above : ℕ) (path : List ℕ) (p one two : ℕ) → Adds go_on above → is_sound left t ≡ true → uneven_path path one two t ≡ None
+  shift : (t : Bet) (left : ℕ) (go_on : ℕ → ℕ → ℕ) (above : ℕ) (path : List ℕ) (p one two : ℕ) → Adds go_on above → is_sound left t ≡ true
+      → uneven_path path one two t ≡ None
       → most_put go_on (p + one) (p + two) t ≡ p + most_put (put_above above) one two t
   shift (act player none) left g above path p one two adds sound h = let s = sound_act left player none sound in absurd (no_moves s.0 s.3)
     where
@@ -47,8 +49,10 @@ mutual
   shift (act player (move letter chips next ms)) left g above path p one two adds sound h =
       let s = sound_act left player (move letter chips next ms) sound in
       let m = sound_move s.0 letter chips next ms s.2 in
-      let both = neither (uneven_path (path ++ letter ∷ []) (one_after player chips one) (two_after player chips two) next) (uneven_move path one two player ms) h in
-      let first = moved g p one two player chips next _ (shift next s.0 g above (path ++ letter ∷ []) p (one_after player chips one) (two_after player chips two) adds m.next both.0) in
+      let both = neither (uneven_path (path ++ letter ∷ []) (one_after player chips one) (two_after player chips two) next)
+      (uneven_move path one two player ms) h in
+      let first = moved g p one two player chips next _ (shift next s.0 g above (path
+      ++ letter ∷ []) p (one_after player chips one) (two_after player chips two) adds m.next both.0) in
       let others = shift_moves ms s.0 g above path p one two player adds m.others both.1 in
       omega (arith, first, others)
   shift fold left g above path p one two adds sound h = omega arith
@@ -57,13 +61,16 @@ mutual
       let f : g (p + one) (p + two) ≡ p + one + above = rw (sym e) (adds (p + one)) in
       omega (arith, e, f)
 
-  shift_moves : (ms : Moves) (left : ℕ) (go_on : ℕ → ℕ → ℕ) (above : ℕ) (path : List ℕ) (p one two player : ℕ) → Adds go_on above → are_sound left ms ≡ true → uneven_move path one two player ms ≡ None
+  shift_moves : (ms : Moves) (left : ℕ) (go_on : ℕ → ℕ → ℕ) (above : ℕ) (path : List ℕ) (p one two player : ℕ) → Adds go_on above → are_sound left ms ≡ true
+      → uneven_move path one two player ms ≡ None
       → max p (most_moved go_on (p + one) (p + two) player ms) ≡ p + most_moved (put_above above) one two player ms
   shift_moves none left g above path p one two player adds sound h = omega arith
   shift_moves (move letter chips next ms) left g above path p one two player adds sound h =
       let m = sound_move left letter chips next ms sound in
-      let both = neither (uneven_path (path ++ letter ∷ []) (one_after player chips one) (two_after player chips two) next) (uneven_move path one two player ms) h in
-      let first = moved g p one two player chips next _ (shift next left g above (path ++ letter ∷ []) p (one_after player chips one) (two_after player chips two) adds m.next both.0) in
+      let both = neither (uneven_path (path ++ letter ∷ []) (one_after player chips one) (two_after player chips two) next)
+      (uneven_move path one two player ms) h in
+      let first = moved g p one two player chips next _ (shift next left g above (path
+      ++ letter ∷ []) p (one_after player chips one) (two_after player chips two) adds m.next both.0) in
       let others = shift_moves ms left g above path p one two player adds m.others both.1 in
       omega (arith, first, others)
 
@@ -73,7 +80,8 @@ mapped_none f None h = refl
 
 -- the first of some rounds is even, and so are the others
 pub first_even : (round : ℕ) (t : Bet) (ts : List Bet) → uneven_from round (t ∷ ts) ≡ None → uneven_path [] 0 0 t ≡ None
-first_even round t ts h = mapped_none (uneven round) (uneven_path [] 0 0 t) (neither (option_map (uneven round) (uneven_path [] 0 0 t)) (uneven_from (round + 1) ts) h).0
+first_even round t ts h = mapped_none (uneven round) (uneven_path [] 0 0 t)
+    (neither (option_map (uneven round) (uneven_path [] 0 0 t)) (uneven_from (round + 1) ts) h).0
 
 from_any : (n m : ℕ) (ts : List Bet) → uneven_from n ts ≡ None → uneven_from m ts ≡ None
 from_any n m [] h = refl

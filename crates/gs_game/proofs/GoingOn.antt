@@ -46,8 +46,10 @@ ways_swap k (c ∷ cs) g h =
 
 -- two groups, and what follows them
 turned : (left g own : List ℕ) (h : List ℕ → ℕ)
-    → ways left g * (ways (left_after left g) own * h (left_after (left_after left g) own)) ≡ ways left own * (ways (left_after left own) g * h (left_after (left_after left own) g))
-turned left g own h = join (ways left g) (ways (left_after left g) own) (ways left own) (ways (left_after left own) g) (h (left_after (left_after left g) own)) (h (left_after (left_after left own) g))
+    → ways left g * (ways (left_after left g) own * h (left_after (left_after left g) own))
+    ≡ ways left own * (ways (left_after left own) g * h (left_after (left_after left own) g))
+turned left g own h = join (ways left g) (ways (left_after left g) own) (ways left own) (ways (left_after left own) g)
+    (h (left_after (left_after left g) own)) (h (left_after (left_after left own) g))
     (ways_swap 0 left g own) (ap h (left_swap 0 left g own))
   where
     join : (a b c d n m : ℕ) → a * b ≡ c * d → n ≡ m → a * (b * n) ≡ c * (d * m)
@@ -83,7 +85,8 @@ no_ways : (w n : ℕ) → nat_lt 0 w ≡ false → w * n ≡ 0
 no_ways w n e = let z : w ≡ 0 = grind (arith, e) in let o : 0 * n ≡ 0 = omega arith in ap (λ (k : ℕ). k * n) z ∙ o
 
 -- of the groups of all copies those count that what is left after a group allows
-of_left : (left g : List ℕ) (size : ℕ) (h : List ℕ → ℕ) → total (λ own. ways (left_after left g) own * h own) (groups left size) ≡ total (λ own. ways (left_after left g) own * h own) (groups (left_after left g) size)
+of_left : (left g : List ℕ) (size : ℕ) (h : List ℕ → ℕ) → total (λ own. ways (left_after left g) own * h own) (groups left size)
+    ≡ total (λ own. ways (left_after left g) own * h own) (groups (left_after left g) size)
 of_left left g size h =
     let f = λ (own : List ℕ). ways (left_after left g) own * h own in
     sym (total-passed f (λ own. nat_lt 0 (ways (left_after left g) own)) (λ own e. no_ways (ways (left_after left g) own) (h own) e) (groups left size))
@@ -99,21 +102,27 @@ abbrev pub beside_sum : (Signal → ℕ) → List ℕ → List Round → Signal 
 beside_sum f left rs s = total (λ (v : ℕ × Signal). v.0 * f v.1) (facing left rs s)
 
 step : (f : Signal → ℕ) (left : List ℕ) (r : Round) (rs : List Round) (p : Seen) (s : Signal)
-    → beside_sum f left (r ∷ rs) (p ∷ s) ≡ total (λ own. ways left own * beside_sum (λ t. f (seen own p.public ∷ t)) (left_after left own) rs s) (groups left r.private)
+    → beside_sum f left (r ∷ rs) (p ∷ s) ≡ total (λ own. ways left own * beside_sum (λ t. f (seen own p.public ∷ t)) (left_after left own) rs s)
+    (groups left r.private)
 step f left r rs p s =
-    total-flat_map (λ (v : ℕ × Signal). v.0 * f v.1) (λ own. map {B = ℕ × Signal} (λ w. (ways left own * w.0, seen own p.public ∷ w.1)) (facing (left_after left own) rs s)) (groups left r.private)
-    ∙ total-same _ (λ own. ways left own * beside_sum (λ t. f (seen own p.public ∷ t)) (left_after left own) rs s) (λ own. each own (facing (left_after left own) rs s)) (groups left r.private)
+    total-flat_map (λ (v : ℕ × Signal). v.0 * f v.1) (λ own. map {B = ℕ × Signal} (λ w. (ways left own * w.0, seen own p.public ∷ w.1))
+    (facing (left_after left own) rs s)) (groups left r.private)
+    ∙ total-same _ (λ own. ways left own * beside_sum (λ t. f (seen own p.public ∷ t)) (left_after left own) rs s)
+    (λ own. each own (facing (left_after left own) rs s)) (groups left r.private)
   where
     each : (own : List ℕ) (ws : List (ℕ × Signal))
-        → total (λ (v : ℕ × Signal). v.0 * f v.1) (map {B = ℕ × Signal} (λ w. (ways left own * w.0, seen own p.public ∷ w.1)) ws) ≡ ways left own * total (λ (w : ℕ × Signal). w.0 * f (seen own p.public ∷ w.1)) ws
+        → total (λ (v : ℕ × Signal). v.0 * f v.1) (map {B = ℕ × Signal} (λ w. (ways left own * w.0, seen own p.public ∷ w.1)) ws)
+        ≡ ways left own * total (λ (w : ℕ × Signal). w.0 * f (seen own p.public ∷ w.1)) ws
     each own [] = omega arith
     each own (w ∷ ws) = omega (arith, each own ws)
 
 -- ---- a group that is taken before the opponent's, or after them
 
 after_own : (left own : List ℕ) (k a n : ℕ) (h : List ℕ → ℕ) → sum (left_after left own) + a ≡ sum left
-    → total (λ g. ways (left_after left own) g * h (left_after (left_after left own) g)) (groups (left_after left own) k) ≡ choose (sum (left_after left own) - n) k * h (left_after left own)
-    → total (λ g. ways left g * (ways (left_after left g) own * h (left_after (left_after left g) own))) (groups left k) ≡ choose (sum left - (a + n)) k * (ways left own * h (left_after left own))
+    → total (λ g. ways (left_after left own) g * h (left_after (left_after left own) g)) (groups (left_after left own) k)
+    ≡ choose (sum (left_after left own) - n) k * h (left_after left own)
+    → total (λ g. ways left g * (ways (left_after left g) own * h (left_after (left_after left g) own))) (groups left k)
+    ≡ choose (sum left - (a + n)) k * (ways left own * h (left_after left own))
 after_own left own k a n h e i =
     let m : sum (left_after left own) - n ≡ sum left - (a + n) = omega (arith, e) in
     let c = ap (λ (x : ℕ). choose x k) m in
@@ -137,7 +146,8 @@ exchange [] left s k f =
   where
     last : (x y : ℕ) → x * y ≡ y * (1 * x + 0)
     last x y = omega arith
-exchange (r ∷ rs) left [] k f = total-none (λ g. ways left g * 0) (λ g. omega arith) (groups left k) ∙ nothing (choose (sum left - (r.private + own_cards_of rs)) k)
+exchange (r ∷ rs) left [] k f = total-none (λ g. ways left g * 0) (λ g. omega arith) (groups left k)
+    ∙ nothing (choose (sum left - (r.private + own_cards_of rs)) k)
   where
     nothing : (n : ℕ) → 0 ≡ n * 0
     nothing n = omega arith
@@ -145,12 +155,16 @@ exchange (r ∷ rs) left (p ∷ s) k f =
     let below = λ (own l : List ℕ). beside_sum (λ t. f (seen own p.public ∷ t)) l rs s in
     let c = choose (sum left - (r.private + own_cards_of rs)) k in
     total-same _ (λ g. total (λ own. ways left g * (ways (left_after left g) own * below own (left_after (left_after left g) own))) (groups left r.private))
-    (λ g. ap (λ (n : ℕ). ways left g * n) (step f (left_after left g) r rs p s ∙ sym (of_left left g r.private (λ own. below own (left_after (left_after left g) own))))
-    ∙ sym (total-times (ways left g) (λ own. ways (left_after left g) own * below own (left_after (left_after left g) own)) (groups left r.private))) (groups left k)
-    ∙ total-exchanged (λ g own. ways left g * (ways (left_after left g) own * below own (left_after (left_after left g) own))) (groups left k) (groups left r.private)
+    (λ g. ap (λ (n : ℕ). ways left g * n) (step f (left_after left g) r rs p s
+    ∙ sym (of_left left g r.private (λ own. below own (left_after (left_after left g) own))))
+    ∙ sym (total-times (ways left g) (λ own. ways (left_after left g) own * below own (left_after (left_after left g) own)) (groups left r.private)))
+    (groups left k)
+    ∙ total-exchanged (λ g own. ways left g * (ways (left_after left g) own * below own (left_after (left_after left g) own))) (groups left k)
+    (groups left r.private)
     ∙ total-same_every _ (λ own. c * (ways left own * below own (left_after left own))) (groups left r.private)
     (every-weaker (λ own. sum (left_after left own) + r.private ≡ sum left) _
-    (λ own e. after_own left own k r.private (own_cards_of rs) (below own) e (exchange rs (left_after left own) s k (λ t. f (seen own p.public ∷ t)))) (groups left r.private) (leaves_sum left r.private))
+    (λ own e. after_own left own k r.private (own_cards_of rs) (below own) e (exchange rs (left_after left own) s k (λ t. f (seen own p.public ∷ t))))
+    (groups left r.private) (leaves_sum left r.private))
     ∙ total-times c (λ own. ways left own * below own (left_after left own)) (groups left r.private)
     ∙ ap (λ (n : ℕ). c * n) (sym (step f left r rs p s))
 
@@ -170,12 +184,14 @@ onward_same h i e left [] = e left
 onward_same h i e left (k ∷ ks) = total-same _ _ (λ g. ap (λ (n : ℕ). ways left g * n) (onward_same h i e (left_after left g) ks)) (groups left k)
 
 -- the opponent's signals are as many ways beside each of them
-pub onward_sum : (ks left : List ℕ) (rs : List Round) (s : Signal) (f : Signal → ℕ) → onward (λ l. beside_sum f l rs s) left ks ≡ draws (sum left - own_cards_of rs) ks * beside_sum f left rs s
+pub onward_sum : (ks left : List ℕ) (rs : List Round) (s : Signal) (f : Signal → ℕ)
+    → onward (λ l. beside_sum f l rs s) left ks ≡ draws (sum left - own_cards_of rs) ks * beside_sum f left rs s
 onward_sum [] left rs s f = omega arith
 onward_sum (k ∷ ks) left rs s f =
     let d = draws (sum left - own_cards_of rs - k) ks in
     total-same_every _ (λ g. d * (ways left g * beside_sum f (left_after left g) rs s)) (groups left k)
-    (every-weaker (λ g. sum (left_after left g) + k ≡ sum left) _ (λ g e. one g e (onward_sum ks (left_after left g) rs s f)) (groups left k) (leaves_sum left k))
+    (every-weaker (λ g. sum (left_after left g) + k ≡ sum left) _ (λ g e. one g e (onward_sum ks (left_after left g) rs s f)) (groups left k)
+    (leaves_sum left k))
     ∙ total-times d (λ g. ways left g * beside_sum f (left_after left g) rs s) (groups left k)
     ∙ ap (λ (n : ℕ). d * n) (exchange rs left s k f)
     ∙ across d (choose (sum left - own_cards_of rs) k) (beside_sum f left rs s)
@@ -186,8 +202,10 @@ onward_sum (k ∷ ks) left rs s f =
     turn : (x y z : ℕ) → x * (y * z) ≡ y * (x * z)
     turn x y z = omega arith
 
-    one : (g : List ℕ) → sum (left_after left g) + k ≡ sum left → onward (λ l. beside_sum f l rs s) (left_after left g) ks ≡ draws (sum (left_after left g) - own_cards_of rs) ks * beside_sum f (left_after left g) rs s
-        → ways left g * onward (λ l. beside_sum f l rs s) (left_after left g) ks ≡ draws (sum left - own_cards_of rs - k) ks * (ways left g * beside_sum f (left_after left g) rs s)
+    one : (g : List ℕ) → sum (left_after left g) + k ≡ sum left → onward (λ l. beside_sum f l rs s) (left_after left g) ks
+        ≡ draws (sum (left_after left g) - own_cards_of rs) ks * beside_sum f (left_after left g) rs s
+        → ways left g * onward (λ l. beside_sum f l rs s) (left_after left g) ks
+        ≡ draws (sum left - own_cards_of rs - k) ks * (ways left g * beside_sum f (left_after left g) rs s)
     one g e i =
         let m : sum (left_after left g) - own_cards_of rs ≡ sum left - own_cards_of rs - k = omega (arith, e) in
         ap (λ (n : ℕ). ways left g * n) (i ∙ ap (λ (n : ℕ). draws n ks * beside_sum f (left_after left g) rs s) m)
@@ -216,11 +234,13 @@ first_sum (r ∷ rs) qs left (p ∷ s) u f e l =
     step (λ t. f (take (length (r ∷ rs)) t)) left r (rs ++ qs) p (s ++ u)
     ∙ total-same_every _ (λ own. d * (ways left own * below own)) (groups left r.private)
     (every-weaker (λ own. sum (left_after left own) + r.private ≡ sum left) _
-    (λ own h. one own (below own) h (first_sum rs qs (left_after left own) s u (λ t. f (seen own p.public ∷ t)) (omega (arith, e)) l)) (groups left r.private) (leaves_sum left r.private))
+    (λ own h. one own (below own) h (first_sum rs qs (left_after left own) s u (λ t. f (seen own p.public ∷ t)) (omega (arith, e)) l)) (groups left r.private)
+    (leaves_sum left r.private))
     ∙ total-times d (λ own. ways left own * below own) (groups left r.private)
     ∙ ap (λ (n : ℕ). d * n) (sym (step f left r rs p s))
   where
-    one : (own : List ℕ) (b : ℕ) {x : ℕ} → sum (left_after left own) + r.private ≡ sum left → x ≡ draws (sum (left_after left own) - own_cards_of rs) (privates qs) * b
+    one : (own : List ℕ) (b : ℕ) {x : ℕ} → sum (left_after left own) + r.private ≡ sum left
+        → x ≡ draws (sum (left_after left own) - own_cards_of rs) (privates qs) * b
         → ways left own * x ≡ draws (sum left - (r.private + own_cards_of rs)) (privates qs) * (ways left own * b)
     one own b h i =
         let m : sum (left_after left own) - own_cards_of rs ≡ sum left - (r.private + own_cards_of rs) = omega (arith, h) in
@@ -233,21 +253,26 @@ first_sum (r ∷ rs) qs left (p ∷ s) u f e l =
 -- ---- signals as first rounds and further ones
 
 listed_total : (f : Signal → ℕ) (left : List ℕ) (r : Round) (rs : List Round)
-    → total f (listed left (r ∷ rs)) ≡ total (λ own. total (λ public. total (λ t. f (seen own public ∷ t)) (listed (left_after (left_after left own) public) rs)) (groups (left_after left own) r.public)) (groups left r.private)
+    → total f (listed left (r ∷ rs)) ≡ total (λ own. total (λ public. total (λ t. f (seen own public ∷ t))
+    (listed (left_after (left_after left own) public) rs)) (groups (left_after left own) r.public)) (groups left r.private)
 listed_total f left r rs =
     let tail = λ (own public : List ℕ). map (λ t. seen own public ∷ t) (listed (left_after (left_after left own) public) rs) in
     total-flat_map f (λ own. flat_map (tail own) (groups (left_after left own) r.public)) (groups left r.private)
     ∙ total-same _ _ (λ own. total-flat_map f (tail own) (groups (left_after left own) r.public)
-    ∙ total-same _ _ (λ public. total-map f (λ t. seen own public ∷ t) (listed (left_after (left_after left own) public) rs)) (groups (left_after left own) r.public)) (groups left r.private)
+    ∙ total-same _ _ (λ public. total-map f (λ t. seen own public ∷ t) (listed (left_after (left_after left own) public) rs))
+    (groups (left_after left own) r.public)) (groups left r.private)
 
-listed_more : (rs qs : List Round) (left : List ℕ) (f : Signal → ℕ) → total f (listed left (rs ++ qs)) ≡ total (λ s. total (λ u. f (s ++ u)) (listed (left_by left s) qs)) (listed left rs)
+listed_more : (rs qs : List Round) (left : List ℕ) (f : Signal → ℕ) → total f (listed left (rs ++ qs))
+    ≡ total (λ s. total (λ u. f (s ++ u)) (listed (left_by left s) qs)) (listed left rs)
 listed_more [] qs left f = omega arith
 listed_more (r ∷ rs) qs left f =
     listed_total f left r (rs ++ qs)
-    ∙ total-same _ _ (λ own. total-same _ _ (λ public. listed_more rs qs (left_after (left_after left own) public) (λ t. f (seen own public ∷ t))) (groups (left_after left own) r.public)) (groups left r.private)
+    ∙ total-same _ _ (λ own. total-same _ _ (λ public. listed_more rs qs (left_after (left_after left own) public) (λ t. f (seen own public ∷ t)))
+    (groups (left_after left own) r.public)) (groups left r.private)
     ∙ sym (listed_total (λ s. total (λ u. f (s ++ u)) (listed (left_by left s) qs)) left r rs)
 
-listed_onward : (qs : List Round) (left : List ℕ) (h : List ℕ → ℕ) → total (λ u. path_weight left u * h (left_by left u)) (listed left qs) ≡ onward h left (seen_sizes qs)
+listed_onward : (qs : List Round) (left : List ℕ) (h : List ℕ → ℕ) → total (λ u. path_weight left u * h (left_by left u)) (listed left qs)
+    ≡ onward h left (seen_sizes qs)
 listed_onward [] left h = omega arith
 listed_onward (r ∷ qs) left h =
     listed_total (λ u. path_weight left u * h (left_by left u)) left r qs
@@ -294,7 +319,8 @@ pub record IsShown (left : List ℕ) (rs : List Round) (s : Signal) : Type 0 whe
 listed_shown : (rs : List Round) (left : List ℕ) → AllByRecursion (IsShown left rs) (listed left rs)
 listed_shown [] left = (record { long = refl; leaves = omega arith }, tt)
 listed_shown (r ∷ rs) left =
-    every-flat_map (IsShown left (r ∷ rs)) (λ own. flat_map (λ public. map (λ t. seen own public ∷ t) (listed (left_after (left_after left own) public) rs)) (groups (left_after left own) r.public))
+    every-flat_map (IsShown left (r ∷ rs)) (λ own. flat_map (λ public. map (λ t. seen own public ∷ t) (listed (left_after (left_after left own) public) rs))
+    (groups (left_after left own) r.public))
     (λ own. sum (left_after left own) + r.private ≡ sum left)
     (λ own e.
     every-flat_map (IsShown left (r ∷ rs)) (λ public. map (λ t. seen own public ∷ t) (listed (left_after (left_after left own) public) rs))
@@ -313,7 +339,8 @@ pair_sum f left rs = total (λ s. path_weight left s * beside_sum (f s) (left_by
 
 -- of a number of the first rounds of both signals all pairs below add up to that of the first rounds, times the ways to go on
 pub going_on : (rs qs : List Round) (left : List ℕ) (f : Signal → Signal → ℕ)
-    → pair_sum (λ s t. f (take (length rs) s) (take (length rs) t)) left (rs ++ qs) ≡ draws (sum left - cards_shown rs - own_cards_of rs) (deal_sizes qs) * pair_sum f left rs
+    → pair_sum (λ s t. f (take (length rs) s) (take (length rs) t)) left (rs ++ qs)
+    ≡ draws (sum left - cards_shown rs - own_cards_of rs) (deal_sizes qs) * pair_sum f left rs
 going_on rs qs left f =
     let d = draws (sum left - cards_shown rs - own_cards_of rs) (deal_sizes qs) in
     listed_more rs qs left (λ s. path_weight left s * beside_sum (λ t. f (take (length rs) s) (take (length rs) t)) (left_by left s) (rs ++ qs) s)
@@ -332,14 +359,19 @@ going_on rs qs left f =
         ≡ path_weight left s * (path_weight (left_by left s) u * onward (λ l. beside_sum (f s) l rs s) (left_by (left_by left s) u) (privates qs))
     both s u ls lu =
         let l = left_by (left_by left s) u in
-        ap (λ (n : ℕ). n * beside_sum (λ t. f (take (length rs) (s ++ u)) (take (length rs) t)) (left_by left (s ++ u)) (rs ++ qs) (s ++ u)) (path_more left s u)
-        ∙ ap (λ (m : List ℕ). (path_weight left s * path_weight (left_by left s) u) * beside_sum (λ t. f (take (length rs) (s ++ u)) (take (length rs) t)) m (rs ++ qs) (s ++ u)) (left_more left s u)
-        ∙ ap (λ (x : Signal). (path_weight left s * path_weight (left_by left s) u) * beside_sum (λ t. f x (take (length rs) t)) l (rs ++ qs) (s ++ u)) (front (length rs) s u ls)
-        ∙ ap (λ (n : ℕ). (path_weight left s * path_weight (left_by left s) u) * n) (first_sum rs qs l s u (f s) ls lu ∙ sym (onward_sum (privates qs) l rs s (f s)))
+        ap (λ (n : ℕ). n * beside_sum (λ t. f (take (length rs) (s ++ u)) (take (length rs) t)) (left_by left (s ++ u)) (rs ++ qs) (s ++ u))
+        (path_more left s u)
+        ∙ ap (λ (m : List ℕ). (path_weight left s * path_weight (left_by left s) u)
+        * beside_sum (λ t. f (take (length rs) (s ++ u)) (take (length rs) t)) m (rs ++ qs) (s ++ u)) (left_more left s u)
+        ∙ ap (λ (x : Signal). (path_weight left s * path_weight (left_by left s) u) * beside_sum (λ t. f x (take (length rs) t)) l (rs ++ qs) (s ++ u))
+        (front (length rs) s u ls)
+        ∙ ap (λ (n : ℕ). (path_weight left s * path_weight (left_by left s) u) * n) (first_sum rs qs l s u (f s) ls lu
+        ∙ sym (onward_sum (privates qs) l rs s (f s)))
         ∙ assoc (path_weight left s) (path_weight (left_by left s) u) (onward (λ m. beside_sum (f s) m rs s) l (privates qs))
 
     first : (s : Signal) → IsShown left rs s
-        → total (λ u. path_weight left (s ++ u) * beside_sum (λ t. f (take (length rs) (s ++ u)) (take (length rs) t)) (left_by left (s ++ u)) (rs ++ qs) (s ++ u)) (listed (left_by left s) qs)
+        → total (λ u. path_weight left (s ++ u) * beside_sum (λ t. f (take (length rs) (s ++ u)) (take (length rs) t)) (left_by left (s ++ u)) (rs ++ qs) (s
+        ++ u)) (listed (left_by left s) qs)
         ≡ draws (sum left - cards_shown rs - own_cards_of rs) (deal_sizes qs) * (path_weight left s * beside_sum (f s) (left_by left s) rs s)
     first s k =
         let l = left_by left s in
@@ -348,6 +380,7 @@ going_on rs qs left f =
         total-same_every _ (λ u. path_weight left s * (path_weight l u * h (left_by l u))) (listed l qs)
         (every-weaker (IsShown l qs) _ (λ u i. both s u k.long i.long) (listed l qs) (listed_shown qs l))
         ∙ total-times (path_weight left s) (λ u. path_weight l u * h (left_by l u)) (listed l qs)
-        ∙ ap (λ (n : ℕ). path_weight left s * n) (listed_onward qs l h ∙ onward_more (λ m. beside_sum (f s) m rs s) l (seen_sizes qs) (privates qs) ∙ onward_sum (deal_sizes qs) l rs s (f s)
+        ∙ ap (λ (n : ℕ). path_weight left s * n) (listed_onward qs l h ∙ onward_more (λ m. beside_sum (f s) m rs s) l (seen_sizes qs) (privates qs)
+        ∙ onward_sum (deal_sizes qs) l rs s (f s)
         ∙ ap (λ (n : ℕ). draws n (deal_sizes qs) * beside_sum (f s) l rs s) e)
         ∙ turn (path_weight left s) (draws (sum left - cards_shown rs - own_cards_of rs) (deal_sizes qs)) (beside_sum (f s) l rs s)

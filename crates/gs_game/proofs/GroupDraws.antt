@@ -20,9 +20,11 @@ above-more size left least h = let n : length left - least ≡ suc (length left 
 
 -- what holds of the groups of one card less, with the first card put before them, holds of the groups that begin with it
 every-with : (P : List ℕ → Type 0) (others : List ℕ → ℕ → List (List ℕ)) (left : List ℕ) (card : ℕ)
-    → (0 < slice_index left card → AllByRecursion (λ g. P (card ∷ g)) (others (slice_set left card (slice_index left card - 1)) card)) → AllByRecursion P (groups_with others left card)
+    → (0 < slice_index left card → AllByRecursion (λ g. P (card ∷ g)) (others (slice_set left card (slice_index left card - 1)) card))
+    → AllByRecursion P (groups_with others left card)
 every-with P others left card h = elim (cases_lt 0 (slice_index left card)) [
-  | inl some ↦ rw (lt-ltb 0 (slice_index left card) some) (every-map P (λ g. card ∷ g) (others (slice_set left card (slice_index left card - 1)) card) (h some))
+  | inl some ↦ rw (lt-ltb 0 (slice_index left card) some) (every-map P (λ g. card ∷ g) (others (slice_set left card (slice_index left card - 1)) card)
+      (h some))
   | inr none ↦ rw (le-ltb 0 (slice_index left card) none) tt
 ]
 
@@ -30,7 +32,8 @@ from-least : (a n m : ℕ) → m ≤ a → AllByRecursion (λ card. m ≤ card) 
 from-least a zero m h = tt
 from-least a (suc n) m h = (h, from-least (a + 1) n m (omega arith))
 
-weaker : (kind card : ℕ) (gs : List (List ℕ)) → kind < card → AllByRecursion (λ g. count_by (λ x. x == kind) g ≡ 0) gs → AllByRecursion (λ g. count_by (λ x. x == kind) (card ∷ g) ≡ 0) gs
+weaker : (kind card : ℕ) (gs : List (List ℕ)) → kind < card → AllByRecursion (λ g. count_by (λ x. x == kind) g ≡ 0) gs
+    → AllByRecursion (λ g. count_by (λ x. x == kind) (card ∷ g) ≡ 0) gs
 weaker kind card [] h a = tt
 weaker kind card (g ∷ gs) h a = (times-other kind card g (λ e. absurd (omega (arith, e, h))) ∙ a.0, weaker kind card gs h a.1)
 
@@ -40,7 +43,8 @@ high zero left least kind h = (refl, tt)
 high (suc size) left least kind h =
     every-flat_map (λ g. count_by (λ x. x == kind) g ≡ 0) (groups_with (groups_above size) left) (λ card. least ≤ card)
     (λ card low. every-with (λ g. count_by (λ x. x == kind) g ≡ 0) (groups_above size) left card
-    (λ some. weaker kind card (groups_above size (slice_set left card (slice_index left card - 1)) card) (omega (arith, low, h)) (high size (slice_set left card (slice_index left card - 1)) card kind (omega (arith, low, h)))))
+    (λ some. weaker kind card (groups_above size (slice_set left card (slice_index left card - 1)) card) (omega (arith, low, h))
+    (high size (slice_set left card (slice_index left card - 1)) card kind (omega (arith, low, h)))))
     (range_with_len least (length left - least)) (from-least least (length left - least) least (omega arith))
 
 -- ---- their ways
@@ -59,7 +63,8 @@ ways-skip kind card (c ∷ cs) g h =
 
 -- all ways to take a group of the kinds from k on, of lists of this length
 abbrev pub Draws : ℕ → ℕ → Type 0
-Draws k len = (left : List ℕ) (size : ℕ) → length left ≡ len → total (λ g. ways_from k (drop k left) g) (groups_above size left k) ≡ choose (sum (drop k left)) size
+Draws k len = (left : List ℕ) (size : ℕ) → length left ≡ len → total (λ g. ways_from k (drop k left) g) (groups_above size left k)
+    ≡ choose (sum (drop k left)) size
 
 -- where t copies of the kind `least` are taken already, of n
 abbrev weight_from : ℕ → ℕ → ℕ → List ℕ → List ℕ → ℕ
@@ -70,7 +75,8 @@ weight-here n t least above g =
     let e : t + count_by (λ x. x == least) (least ∷ g) ≡ t + 1 + count_by (λ x. x == least) g = omega (arith, times-here least g) in
     rw (e, ways-skip (least + 1) least above g (omega arith)) refl
 
-weight-none : (n t least : ℕ) (above g : List ℕ) → count_by (λ x. x == least) g ≡ 0 → weight_from n t least above g ≡ choose n t * ways_from (least + 1) above g
+weight-none : (n t least : ℕ) (above g : List ℕ) → count_by (λ x. x == least) g ≡ 0
+    → weight_from n t least above g ≡ choose n t * ways_from (least + 1) above g
 weight-none n t least above g h = let e : t + count_by (λ x. x == least) g ≡ t = omega (arith, h) in rw e refl
 
 every-none : (n t least : ℕ) (above : List ℕ) (gs : List (List ℕ)) → AllByRecursion (λ g. count_by (λ x. x == least) g ≡ 0) gs
@@ -82,7 +88,8 @@ drop-lower : (left : List ℕ) (least y : ℕ) → drop (least + 1) (slice_set l
 drop-lower left least y = drop-set-lt (least + 1) left least y (omega arith)
 
 begun : (size : ℕ) (left : List ℕ) (least len n t : ℕ) → length left ≡ len → least < len → n ≡ t + slice_index left least
-    → ((l : List ℕ) (m u : ℕ) → length l ≡ len → m ≡ u + slice_index l least → total (weight_from m u least (drop (least + 1) l)) (groups_above size l least) ≡ mixed m u (sum (drop (least + 1) l)) size)
+    → ((l : List ℕ) (m u : ℕ) → length l ≡ len → m ≡ u + slice_index l least
+    → total (weight_from m u least (drop (least + 1) l)) (groups_above size l least) ≡ mixed m u (sum (drop (least + 1) l)) size)
     → total (weight_from n t least (drop (least + 1) left)) (groups_with (groups_above size) left least) ≡ mixed n (t + 1) (sum (drop (least + 1) left)) size
 begun size left least len n t long within all others = elim (cases_lt 0 (slice_index left least)) [
   | inl some ↦
@@ -93,7 +100,8 @@ begun size left least len n t long within all others = elim (cases_lt 0 (slice_i
       let rest = rw (drop-lower left least v) at (others lower n (t + 1) long' (omega (arith, all, here, some))) in
       rw (lt-ltb 0 (slice_index left least) some)
       (total-map (weight_from n t least (drop (least + 1) left)) (λ g. least ∷ g) (groups_above size lower least)
-      ∙ total-same (λ g. weight_from n t least (drop (least + 1) left) (least ∷ g)) (weight_from n (t + 1) least (drop (least + 1) left)) (weight-here n t least (drop (least + 1) left)) (groups_above size lower least)
+      ∙ total-same (λ g. weight_from n t least (drop (least + 1) left) (least ∷ g)) (weight_from n (t + 1) least (drop (least + 1) left))
+      (weight-here n t least (drop (least + 1) left)) (groups_above size lower least)
       ∙ rest)
   | inr none ↦ rw (le-ltb 0 (slice_index left least) none) (sym (mixed-none n (t + 1) (sum (drop (least + 1) left)) size (omega (arith, all, none))))
 ]
@@ -142,7 +150,8 @@ draws-from zero k len h left size long = draws-past k len (omega arith) left siz
 draws-from (suc d) k len h left size long = elim (cases_lt k len) [
   | inl within ↦
       let x = slice_index left k in
-      let same = total-same (λ g. ways_from k (drop k left) g) (weight_from x 0 k (drop (k + 1) left)) (λ g. weights-same k left g (omega (arith, long))) (groups_above size left k) in
+      let same = total-same (λ g. ways_from k (drop k left) g) (weight_from x 0 k (drop (k + 1) left)) (λ g. weights-same k left g (omega (arith, long)))
+      (groups_above size left k) in
       let mix = mixed-from size left k len x 0 (draws-from d (k + 1) len (omega arith)) long within (omega arith) in
       same ∙ mix ∙ mixed-choose x (sum (drop (k + 1) left)) size ∙ ap (λ (n : ℕ). choose n size) (sym (sum-drop k left (omega (arith, long))))
   | inr past ↦ draws-past k len past left size long
@@ -156,12 +165,18 @@ all_ways left size = draws-from (length left) 0 (length left) (omega arith) left
 lowered : (left : List ℕ) (card : ℕ) → 0 < slice_index left card → sum (slice_set left card (slice_index left card - 1)) + 1 ≡ sum left
 lowered [] card h = absurd (omega arith)
 lowered (c ∷ cs) zero h = omega (arith, sum_by-cons (λ (x : ℕ). x) (c - 1) cs, sum_by-cons (λ (x : ℕ). x) c cs)
-lowered (c ∷ cs) (suc card) h = omega (arith, sum_by-cons (λ (x : ℕ). x) c (slice_set cs card (slice_index cs card - 1)), sum_by-cons (λ (x : ℕ). x) c cs, lowered cs card h)
+lowered (c ∷ cs) (suc card) h = omega (
+  arith,
+  sum_by-cons (λ (x : ℕ). x) c (slice_set cs card (slice_index cs card - 1)),
+  sum_by-cons (λ (x : ℕ). x) c cs,
+  lowered cs card h,
+)
 
 abbrev Leaves : ℕ → List ℕ → List ℕ → Type 0
 Leaves size left g = sum (left_after left g) + size ≡ sum left
 
-one-taken : (size card : ℕ) (left : List ℕ) (gs : List (List ℕ)) → 0 < slice_index left card → AllByRecursion (Leaves size (slice_set left card (slice_index left card - 1))) gs
+one-taken : (size card : ℕ) (left : List ℕ) (gs : List (List ℕ)) → 0 < slice_index left card
+    → AllByRecursion (Leaves size (slice_set left card (slice_index left card - 1))) gs
     → AllByRecursion (λ g. Leaves (suc size) left (card ∷ g)) gs
 one-taken size card left [] h a = tt
 one-taken size card left (g ∷ gs) h a =
@@ -171,7 +186,8 @@ leaves-above : (size : ℕ) (left : List ℕ) (least : ℕ) → AllByRecursion (
 leaves-above zero left least = (rw (after-none 0 left) (omega arith), tt)
 leaves-above (suc size) left least =
     every-flat_map (Leaves (suc size) left) (groups_with (groups_above size) left) (λ card. Unit {0})
-    (λ card u. every-with (Leaves (suc size) left) (groups_above size) left card (λ some. one-taken size card left _ some (leaves-above size (slice_set left card (slice_index left card - 1)) card)))
+    (λ card u. every-with (Leaves (suc size) left) (groups_above size) left card
+    (λ some. one-taken size card left _ some (leaves-above size (slice_set left card (slice_index left card - 1)) card)))
     (range_with_len least (length left - least)) (every-any (λ card. Unit {0}) (λ card. tt) (range_with_len least (length left - least)))
 
 pub leaves_sum : (left : List ℕ) (size : ℕ) → AllByRecursion (λ g. sum (left_after left g) + size ≡ sum left) (groups left size)

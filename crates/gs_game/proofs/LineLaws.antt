@@ -52,7 +52,8 @@ pub in_first : (p e : ℕ) (x y : Texts) (at : Target) (s : List ℕ) → Stands
 in_first p e x y (at_point q) s h = (h.0, h.1, get_left x.points y.points h.0 s h.2)
 in_first p e x y (at_end z) s h = (h.0, h.1, get_left x.ends y.ends h.0 s h.2)
 
-pub in_second : (p e p' e' : ℕ) (x y : Texts) (at : Target) (s : List ℕ) → p' ≡ p + length x.points → e' ≡ e + length x.ends → StandsAt p' e' y at s → StandsAt p e (both x y) at s
+pub in_second : (p e p' e' : ℕ) (x y : Texts) (at : Target) (s : List ℕ) → p' ≡ p + length x.points → e' ≡ e + length x.ends → StandsAt p' e' y at s
+    → StandsAt p e (both x y) at s
 in_second p e p' e' x y (at_point q) s f g h = (length x.points + h.0, omega (arith, f, h.1), get_right x.points y.points h.0 ∙ h.2)
 in_second p e p' e' x y (at_end z) s f g h = (length x.ends + h.0, omega (arith, g, h.1), get_right x.ends y.ends h.0 ∙ h.2)
 
@@ -77,15 +78,18 @@ pub record GoesOn (texts_on : List ℕ → Texts) (mp me : ℕ) (follow_on : ℕ
   pub points_are : (before : List ℕ) → length (texts_on before).points ≡ mp
   pub ends_are : (before : List ℕ) → length (texts_on before).ends ≡ me
   pub leads : (before text : List ℕ) (p e : ℕ) (at : Target) → follow_on p e text ≡ Some at → StandsAt p e (texts_on before) at (before ++ text)
-  pub name : (before : List ℕ) (p e : ℕ) (at : Target) (x : List ℕ) → StandsAt p e (texts_on before) at x → (text : List ℕ) × (x ≡ before ++ text) × (follow_on p e text ≡ Some at)
+  pub name : (before : List ℕ) (p e : ℕ) (at : Target) (x : List ℕ) → StandsAt p e (texts_on before) at x
+      → (text : List ℕ) × (x ≡ before ++ text) × (follow_on p e text ≡ Some at)
 
 mutual
-  pub lines_counted : (t : Bet) (f : List ℕ → Texts) (mp me : ℕ) (g : ℕ → ℕ → List ℕ → Option Target) → GoesOn f mp me g → (before : List ℕ) → (length (tree_lines f before t).points ≡ points_of mp t) × (length (tree_lines f before t).ends ≡ ends_of me t)
+  pub lines_counted : (t : Bet) (f : List ℕ → Texts) (mp me : ℕ) (g : ℕ → ℕ → List ℕ → Option Target) → GoesOn f mp me g → (before : List ℕ)
+      → (length (tree_lines f before t).points ≡ points_of mp t) × (length (tree_lines f before t).ends ≡ ends_of me t)
   lines_counted (act player ms) f mp me g on before = let r = move_lines_counted ms f mp me g on before in (omega (arith, r.0), r.1)
   lines_counted fold f mp me g on before = (refl, refl)
   lines_counted even f mp me g on before = (on.points_are before, on.ends_are before)
 
-  move_lines_counted : (ms : Moves) (f : List ℕ → Texts) (mp me : ℕ) (g : ℕ → ℕ → List ℕ → Option Target) → GoesOn f mp me g → (before : List ℕ) → (length (move_lines f before ms).points ≡ move_points mp ms) × (length (move_lines f before ms).ends ≡ move_ends me ms)
+  move_lines_counted : (ms : Moves) (f : List ℕ → Texts) (mp me : ℕ) (g : ℕ → ℕ → List ℕ → Option Target) → GoesOn f mp me g → (before : List ℕ)
+      → (length (move_lines f before ms).points ≡ move_points mp ms) × (length (move_lines f before ms).ends ≡ move_ends me ms)
   move_lines_counted none f mp me g on before = (refl, refl)
   move_lines_counted (move l c t ms) f mp me g on before =
       let one = lines_counted t f mp me g on (before ++ l ∷ []) in
@@ -96,14 +100,19 @@ mutual
 
 -- ---- a text leads to the position whose text it is
 
-at_itself : (p : ℕ) (e : ℕ) (before : List ℕ) (xs ends : List (List ℕ)) (at : Target) → some (at_point p) ≡ some at → StandsAt p e (record { points = before ∷ xs; ends = ends }) at (before ++ [])
-at_itself p e before xs ends at h = subst (λ (a : Target). StandsAt p e (record { points = before ∷ xs; ends = ends }) a (before ++ [])) (some_is (at_point p) at h) (0, omega arith, ap some (sym (append-nil before)))
+at_itself : (p : ℕ) (e : ℕ) (before : List ℕ) (xs ends : List (List ℕ)) (at : Target) → some (at_point p) ≡ some at
+    → StandsAt p e (record { points = before ∷ xs; ends = ends }) at (before ++ [])
+at_itself p e before xs ends at h = subst (λ (a : Target). StandsAt p e (record { points = before ∷ xs; ends = ends }) a (before ++ []))
+    (some_is (at_point p) at h) (0, omega arith, ap some (sym (append-nil before)))
 
-at_its_end : (p : ℕ) (e : ℕ) (before : List ℕ) (points : List (List ℕ)) (at : Target) → some (at_end e) ≡ some at → StandsAt p e (record { points = points; ends = before ∷ [] }) at (before ++ [])
-at_its_end p e before points at h = subst (λ (a : Target). StandsAt p e (record { points = points; ends = before ∷ [] }) a (before ++ [])) (some_is (at_end e) at h) (0, omega arith, ap some (sym (append-nil before)))
+at_its_end : (p : ℕ) (e : ℕ) (before : List ℕ) (points : List (List ℕ)) (at : Target) → some (at_end e) ≡ some at
+    → StandsAt p e (record { points = points; ends = before ∷ [] }) at (before ++ [])
+at_its_end p e before points at h = subst (λ (a : Target). StandsAt p e (record { points = points; ends = before ∷ [] }) a (before ++ []))
+    (some_is (at_end e) at h) (0, omega arith, ap some (sym (append-nil before)))
 
 -- behind a point
-behind : (p e : ℕ) (before : List ℕ) (x : Texts) (at : Target) (s : List ℕ) → StandsAt (p + 1) e x at s → StandsAt p e (record { points = before ∷ x.points; ends = x.ends }) at s
+behind : (p e : ℕ) (before : List ℕ) (x : Texts) (at : Target) (s : List ℕ) → StandsAt (p + 1) e x at s
+    → StandsAt p e (record { points = before ∷ x.points; ends = x.ends }) at s
 behind p e before x (at_point q) s h = (suc h.0, omega (arith, h.1), h.2)
 behind p e before x (at_end z) s h = h
 
@@ -114,12 +123,14 @@ mutual
   leads : (t : Bet) (f : List ℕ → Texts) (mp me : ℕ) (g : ℕ → ℕ → List ℕ → Option Target) → GoesOn f mp me g → (before text : List ℕ) (p e : ℕ) (at : Target)
       → follow g mp me p e t text ≡ Some at → StandsAt p e (tree_lines f before t) at (before ++ text)
   leads (act player ms) f mp me g on before [] p e at h = at_itself p e before (move_lines f before ms).points (move_lines f before ms).ends at h
-  leads (act player ms) f mp me g on before (b ∷ text) p e at h = behind p e before (move_lines f before ms) at (before ++ (b ∷ text)) (leads_moves ms f mp me g on before b text (p + 1) e at h)
+  leads (act player ms) f mp me g on before (b ∷ text) p e at h = behind p e before (move_lines f before ms) at (before
+      ++ (b ∷ text)) (leads_moves ms f mp me g on before b text (p + 1) e at h)
   leads fold f mp me g on before [] p e at h = at_its_end p e before [] at h
   leads fold f mp me g on before (b ∷ text) p e at h = absurd cc
   leads even f mp me g on before text p e at h = on.leads before text p e at h
 
-  leads_moves : (ms : Moves) (f : List ℕ → Texts) (mp me : ℕ) (g : ℕ → ℕ → List ℕ → Option Target) → GoesOn f mp me g → (before : List ℕ) (b : ℕ) (text : List ℕ) (p e : ℕ) (at : Target)
+  leads_moves : (ms : Moves) (f : List ℕ → Texts) (mp me : ℕ) (g : ℕ → ℕ → List ℕ → Option Target) → GoesOn f mp me g
+      → (before : List ℕ) (b : ℕ) (text : List ℕ) (p e : ℕ) (at : Target)
       → follow_moves g mp me p e ms b text ≡ Some at → StandsAt p e (move_lines f before ms) at (before ++ (b ∷ text))
   leads_moves none f mp me g on before b text p e at h = absurd cc
   leads_moves (move l c t ms) f mp me g on before b text p e at h =
@@ -127,17 +138,20 @@ mutual
       elim (cases_Bool (eqb l b)) [
         | inl same ↦
             let there = leads t f mp me g on (before ++ l ∷ []) text p e at (rw same at h) in
-            let whole : (before ++ l ∷ []) ++ text ≡ before ++ (b ∷ text) = append_assoc before (l ∷ []) text ∙ ap (λ (i : ℕ). before ++ (i ∷ text)) (eqb-true l b same) in
+            let whole : (before ++ l ∷ []) ++ text ≡ before ++ (b ∷ text) =
+            append_assoc before (l ∷ []) text ∙ ap (λ (i : ℕ). before ++ (i ∷ text)) (eqb-true l b same) in
             in_first p e first (move_lines f before ms) at (before ++ (b ∷ text)) (with_text p e first at _ _ whole there)
         | inr other ↦
             let there = leads_moves ms f mp me g on before b text (p + points_of mp t) (e + ends_of me t) at (rw other at h) in
             in_second p e (p + points_of mp t) (e + ends_of me t) first (move_lines f before ms) at (before ++ (b ∷ text))
-            (ap (λ (n : ℕ). p + n) (sym (lines_counted t f mp me g on (before ++ l ∷ [])).0)) (ap (λ (n : ℕ). e + n) (sym (lines_counted t f mp me g on (before ++ l ∷ [])).1)) there
+            (ap (λ (n : ℕ). p + n) (sym (lines_counted t f mp me g on (before ++ l ∷ [])).0))
+            (ap (λ (n : ℕ). e + n) (sym (lines_counted t f mp me g on (before ++ l ∷ [])).1)) there
       ]
 
 -- ---- each position is named by its text
 
-has_from : (ms : Moves) (g : ℕ → ℕ → List ℕ → Option Target) (mp me p e b : ℕ) (text : List ℕ) (at : Target) → follow_moves g mp me p e ms b text ≡ Some at → has_letter ms b ≡ true
+has_from : (ms : Moves) (g : ℕ → ℕ → List ℕ → Option Target) (mp me p e b : ℕ) (text : List ℕ) (at : Target) → follow_moves g mp me p e ms b text ≡ Some at
+    → has_letter ms b ≡ true
 has_from none g mp me p e b text at h = absurd cc
 has_from (move l c t ms) g mp me p e b text at h =
     elim (cases_Bool (eqb l b)) [
@@ -163,11 +177,13 @@ differs left l c t ms h =
     not-true (has_letter ms l) (and_parts (is_letter l) (not (has_letter ms l)) p.0).1
 
 -- a position of a choice is its point, or stands behind it
-point-or-behind : (k q p e : ℕ) (before : List ℕ) (x : Texts) (s : List ℕ) → q ≡ p + k → slice_get (before ∷ x.points) k ≡ Some s → ((at_point q ≡ at_point p) × (s ≡ before)) ⊎ StandsAt (p + 1) e x (at_point q) s
+point-or-behind : (k q p e : ℕ) (before : List ℕ) (x : Texts) (s : List ℕ) → q ≡ p + k → slice_get (before ∷ x.points) k ≡ Some s
+    → ((at_point q ≡ at_point p) × (s ≡ before)) ⊎ StandsAt (p + 1) e x (at_point q) s
 point-or-behind zero q p e before x s f h = inl (ap at_point (omega (arith, f)), sym (some_is before s h))
 point-or-behind (suc k) q p e before x s f h = inr (k, omega (arith, f), h)
 
-split_act : (p e : ℕ) (before : List ℕ) (x : Texts) (at : Target) (s : List ℕ) → StandsAt p e (record { points = before ∷ x.points; ends = x.ends }) at s → ((at ≡ at_point p) × (s ≡ before)) ⊎ StandsAt (p + 1) e x at s
+split_act : (p e : ℕ) (before : List ℕ) (x : Texts) (at : Target) (s : List ℕ) → StandsAt p e (record { points = before ∷ x.points; ends = x.ends }) at s
+    → ((at ≡ at_point p) × (s ≡ before)) ⊎ StandsAt (p + 1) e x at s
 split_act p e before x (at_point q) s h = point-or-behind h.0 q p e before x s h.1 h.2
 split_act p e before x (at_end z) s h = inr h
 
@@ -178,7 +194,8 @@ only-end (suc k) z e before s f h = absurd cc
 abbrev no_texts : List (List ℕ)
 no_texts = []
 
-split_end : (p e : ℕ) (before : List ℕ) (at : Target) (s : List ℕ) → StandsAt p e (record { points = []; ends = before ∷ [] }) at s → (at ≡ at_end e) × (s ≡ before)
+split_end : (p e : ℕ) (before : List ℕ) (at : Target) (s : List ℕ) → StandsAt p e (record { points = []; ends = before ∷ [] }) at s
+    → (at ≡ at_end e) × (s ≡ before)
 split_end p e before (at_point q) s h = absurd (nothing h.0 s h.2)
   where
     nothing : (k : ℕ) (s : List ℕ) → slice_get no_texts k ≡ Some s → ⊥
@@ -186,7 +203,8 @@ split_end p e before (at_point q) s h = absurd (nothing h.0 s h.2)
 split_end p e before (at_end z) s h = only-end h.0 z e before s h.1 h.2
 
 mutual
-  name : (t : Bet) (left : ℕ) (f : List ℕ → Texts) (mp me : ℕ) (g : ℕ → ℕ → List ℕ → Option Target) → GoesOn f mp me g → (before : List ℕ) (p e : ℕ) (at : Target) (x : List ℕ)
+  name : (t : Bet) (left : ℕ) (f : List ℕ → Texts) (mp me : ℕ) (g : ℕ → ℕ → List ℕ → Option Target) → GoesOn f mp me g
+      → (before : List ℕ) (p e : ℕ) (at : Target) (x : List ℕ)
       → is_sound left t ≡ true → StandsAt p e (tree_lines f before t) at x → Named g mp me p e t before at x
   name (act player ms) left f mp me g on before p e at x sound h =
       let s = sound_act left player ms sound in
@@ -201,7 +219,8 @@ mutual
       record { text = []; is = m.1 ∙ sym (append-nil before); leads_to = ap some (sym m.0) }
   name even left f mp me g on before p e at x sound h = let m = on.name before p e at x h in record { text = m.0; is = m.1; leads_to = m.2 }
 
-  name_moves : (ms : Moves) (left : ℕ) (f : List ℕ → Texts) (mp me : ℕ) (g : ℕ → ℕ → List ℕ → Option Target) → GoesOn f mp me g → (before : List ℕ) (p e : ℕ) (at : Target) (x : List ℕ)
+  name_moves : (ms : Moves) (left : ℕ) (f : List ℕ → Texts) (mp me : ℕ) (g : ℕ → ℕ → List ℕ → Option Target) → GoesOn f mp me g
+      → (before : List ℕ) (p e : ℕ) (at : Target) (x : List ℕ)
       → are_sound left ms ≡ true → StandsAt p e (move_lines f before ms) at x → NamedMove g mp me p e ms before at x
   name_moves none left f mp me g on before p e at x sound h = absurd (nowhere at h)
     where
@@ -215,7 +234,8 @@ mutual
       let m = sound_move left l c t ms sound in
       let first = tree_lines f (before ++ l ∷ []) t in
       elim (in_either p e (p + points_of mp t) (e + ends_of me t) first (move_lines f before ms) at x
-      (ap (λ (n : ℕ). p + n) (sym (lines_counted t f mp me g on (before ++ l ∷ [])).0)) (ap (λ (n : ℕ). e + n) (sym (lines_counted t f mp me g on (before ++ l ∷ [])).1)) h) [
+      (ap (λ (n : ℕ). p + n) (sym (lines_counted t f mp me g on (before ++ l ∷ [])).0))
+      (ap (λ (n : ℕ). e + n) (sym (lines_counted t f mp me g on (before ++ l ∷ [])).1)) h) [
         | inl here ↦
             let n = name t left f mp me g on (before ++ l ∷ []) p e at x m.next here in
             record { letter = l; text = n.text; is = n.is ∙ append_assoc before (l ∷ []) n.text; leads_to = rw (eq-eqb l l refl) n.leads_to }
@@ -232,7 +252,8 @@ last_leads : (before text : List ℕ) (p e : ℕ) (at : Target) → follow_from 
 last_leads before [] p e at h = at_its_end p e before [] at h
 last_leads before (b ∷ text) p e at h = absurd cc
 
-last_name : (before : List ℕ) (p e : ℕ) (at : Target) (x : List ℕ) → StandsAt p e (lines_from [] before) at x → (text : List ℕ) × (x ≡ before ++ text) × (follow_from [] p e text ≡ Some at)
+last_name : (before : List ℕ) (p e : ℕ) (at : Target) (x : List ℕ) → StandsAt p e (lines_from [] before) at x
+    → (text : List ℕ) × (x ≡ before ++ text) × (follow_from [] p e text ≡ Some at)
 last_name before p e at x h = let m = split_end p e before at x h in ([], m.1 ∙ sym (append-nil before), ap some (sym m.0))
 
 none_not : (at : Target) → None ≡ some at → ⊥
@@ -245,7 +266,8 @@ round_leads t ts on before (b ∷ text) p e at h =
     elim (cases_Bool (eqb b 47)) [
       | inl slash ↦
           let there = leads t (lines_from ts) (points_in ts) (ends_in ts) (follow_from ts) on (before ++ 47 ∷ []) text p e at (rw slash at h) in
-          let whole : (before ++ 47 ∷ []) ++ text ≡ before ++ (b ∷ text) = append_assoc before (47 ∷ []) text ∙ ap (λ (i : ℕ). before ++ (i ∷ text)) (sym (eqb-true b 47 slash)) in
+          let whole : (before ++ 47 ∷ []) ++ text ≡ before ++ (b ∷ text) =
+          append_assoc before (47 ∷ []) text ∙ ap (λ (i : ℕ). before ++ (i ∷ text)) (sym (eqb-true b 47 slash)) in
           with_text p e (lines_from (t ∷ ts) before) at _ _ whole there
       | inr other ↦ absurd (none_not at (rw other at h))
     ]
@@ -272,10 +294,12 @@ to_zero x (at_point q) s h = (q, omega arith, h)
 to_zero x (at_end z) s h = (z, omega arith, h)
 
 -- a text leads to the position whose text it is, and to no other
-pub names : (ts : List Bet) (text : List ℕ) (at : Target) → AllByRecursion (λ t. is_sound 16 t ≡ true) ts → follow_from ts 0 0 text ≡ Some at → text_at (lines ts) at ≡ Some text
+pub names : (ts : List Bet) (text : List ℕ) (at : Target) → AllByRecursion (λ t. is_sound 16 t ≡ true) ts → follow_from ts 0 0 text ≡ Some at
+    → text_at (lines ts) at ≡ Some text
 names ts text at sound h = from_zero (lines ts) at text ((rounds ts sound).leads [] text 0 0 at h)
 
-pub named : (ts : List Bet) (text : List ℕ) (at : Target) → AllByRecursion (λ t. is_sound 16 t ≡ true) ts → text_at (lines ts) at ≡ Some text → follow_from ts 0 0 text ≡ Some at
+pub named : (ts : List Bet) (text : List ℕ) (at : Target) → AllByRecursion (λ t. is_sound 16 t ≡ true) ts → text_at (lines ts) at ≡ Some text
+    → follow_from ts 0 0 text ≡ Some at
 named ts text at sound h = let m = (rounds ts sound).name [] 0 0 at text (to_zero (lines ts) at text h) in rw m.1 m.2
 
 -- ---- the program's answers
@@ -284,9 +308,11 @@ pub all_sound : (rs : List Round) → AllByRecursion (λ t. is_sound 16 t ≡ tr
 all_sound [] = tt
 all_sound (r ∷ rs) = (tree_sound (plain r.tree.tree) r.tree.sound, all_sound rs)
 
-pub line_found : (rs : List Round) (text : List ℕ) (r : Option StoredTarget) → option_map target_of r ≡ follow_from (plain_trees rs) 0 0 text → IfSome r (λ at. text_at (lines (plain_trees rs)) (target_of at) ≡ Some text)
+pub line_found : (rs : List Round) (text : List ℕ) (r : Option StoredTarget) → option_map target_of r ≡ follow_from (plain_trees rs) 0 0 text
+    → IfSome r (λ at. text_at (lines (plain_trees rs)) (target_of at) ≡ Some text)
 line_found rs text None e = tt
 line_found rs text (Some at) e = names (plain_trees rs) text (target_of at) (all_sound rs) (sym e)
 
-pub line_only : (rs : List Round) (text : List ℕ) (r : Option StoredTarget) (at : Target) → option_map target_of r ≡ follow_from (plain_trees rs) 0 0 text → text_at (lines (plain_trees rs)) at ≡ Some text → option_map target_of r ≡ Some at
+pub line_only : (rs : List Round) (text : List ℕ) (r : Option StoredTarget) (at : Target) → option_map target_of r ≡ follow_from (plain_trees rs) 0 0 text
+    → text_at (lines (plain_trees rs)) at ≡ Some text → option_map target_of r ≡ Some at
 line_only rs text r at e h = e ∙ named (plain_trees rs) text at (all_sound rs) h

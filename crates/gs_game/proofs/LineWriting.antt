@@ -17,11 +17,13 @@ use Rattle.gs_game.specs.Lines.{Texts, TreeFollows, MovesFollow, IsAmong, IsPast
 use Rattle.gs_game.specs.declared.game.Round.{Round}
 use Rattle.gs_game.proofs.LineLaws.{rounds, all_sound, get_within, get_right, lines_counted}
 
-text-first : (x y : Texts) (at : Target) → IsAmong (length x.points) (length x.ends) at → text_at (record { points = x.points ++ y.points; ends = x.ends ++ y.ends }) at ≡ text_at x at
+text-first : (x y : Texts) (at : Target) → IsAmong (length x.points) (length x.ends) at
+    → text_at (record { points = x.points ++ y.points; ends = x.ends ++ y.ends }) at ≡ text_at x at
 text-first x y (at_point q) h = get_within x.points y.points q h
 text-first x y (at_end z) h = get_within x.ends y.ends z h
 
-text-second : (x y : Texts) (at further : Target) → IsPast (length x.points) (length x.ends) at further → text_at (record { points = x.points ++ y.points; ends = x.ends ++ y.ends }) at ≡ text_at y further
+text-second : (x y : Texts) (at further : Target) → IsPast (length x.points) (length x.ends) at further
+    → text_at (record { points = x.points ++ y.points; ends = x.ends ++ y.ends }) at ≡ text_at y further
 text-second x y (at_point q) further h =
     let n : length x.points + (q - length x.points) ≡ q = omega (arith, h.0) in
     rw h.1 (ap (slice_get (x.points ++ y.points)) (sym n) ∙ get_right x.points y.points (q - length x.points))
@@ -39,7 +41,8 @@ among_none (at_point q) h = omega arith
 among_none (at_end z) h = omega arith
 
 -- where the moves begin with one, a position is among what it leads to, or behind that
-pub text_here : (rs : List Round) (before : List ℕ) (letter chips mp me : ℕ) (t : Bet) (ms all : Moves) (at : Target) → mp ≡ points_in (plain_trees rs) → me ≡ ends_in (plain_trees rs) → all ≡ move letter chips t ms
+pub text_here : (rs : List Round) (before : List ℕ) (letter chips mp me : ℕ) (t : Bet) (ms all : Moves) (at : Target) → mp ≡ points_in (plain_trees rs)
+    → me ≡ ends_in (plain_trees rs) → all ≡ move letter chips t ms
     → IsAmong (points_of mp t) (ends_of me t) at
     → text_at (move_lines (lines_from (plain_trees rs)) before all) at ≡ text_at (tree_lines (lines_from (plain_trees rs)) (before ++ letter ∷ []) t) at
 text_here rs before letter chips mp me t ms all at p e is h =
@@ -49,7 +52,8 @@ text_here rs before letter chips mp me t ms all at p e is h =
     let h' : IsAmong (length x.points) (length x.ends) at = rw (n.0, n.1) (rw (p, e) at h) in
     rw is (text-first x (move_lines (lines_from (plain_trees rs)) before ms) at h')
 
-pub text_further : (rs : List Round) (before : List ℕ) (letter chips mp me : ℕ) (t : Bet) (ms all : Moves) (at further : Target) → mp ≡ points_in (plain_trees rs) → me ≡ ends_in (plain_trees rs) → all ≡ move letter chips t ms
+pub text_further : (rs : List Round) (before : List ℕ) (letter chips mp me : ℕ) (t : Bet) (ms all : Moves) (at further : Target)
+    → mp ≡ points_in (plain_trees rs) → me ≡ ends_in (plain_trees rs) → all ≡ move letter chips t ms
     → IsPast (points_of mp t) (ends_of me t) at further
     → text_at (move_lines (lines_from (plain_trees rs)) before all) at ≡ text_at (move_lines (lines_from (plain_trees rs)) before ms) further
 text_further rs before letter chips mp me t ms all at further p e is h =
@@ -77,14 +81,16 @@ behind-point : (q : ℕ) (before : List ℕ) (xs : List (List ℕ)) → 1 ≤ q 
 behind-point zero before xs h = absurd (omega arith)
 behind-point (suc q) before xs h = let e : suc q - 1 ≡ q = omega arith in rw e refl
 
-pub act_text : (f : List ℕ → Texts) (before : List ℕ) (player : ℕ) (ms : Moves) (at further : Target) → IsPast 1 0 at further → text_at (tree_lines f before (act player ms)) at ≡ text_at (move_lines f before ms) further
+pub act_text : (f : List ℕ → Texts) (before : List ℕ) (player : ℕ) (ms : Moves) (at further : Target) → IsPast 1 0 at further
+    → text_at (tree_lines f before (act player ms)) at ≡ text_at (move_lines f before ms) further
 act_text f before player ms (at_point q) further h = rw h.1 (behind-point q before (move_lines f before ms).points h.0)
 act_text f before player ms (at_end z) further h = let e : z - 0 ≡ z = omega arith in rw (h.1, e) refl
 
 pub act_room : (ts : List Bet) (player : ℕ) (ms : Moves) → TreeFollows ts (act player ms) 0 0 → MovesFollow ts ms 0 0
 act_room ts player ms h = record { evens = h.evens; few_points = omega (arith, h.few_points); few_ends = h.few_ends }
 
-pub others_room : (ts : List Bet) (letter chips : ℕ) (t : Bet) (ms all : Moves) → MovesFollow ts all 0 0 → all ≡ move letter chips t ms → MovesFollow ts ms 0 0
+pub others_room : (ts : List Bet) (letter chips : ℕ) (t : Bet) (ms all : Moves) → MovesFollow ts all 0 0 → all ≡ move letter chips t ms
+    → MovesFollow ts ms 0 0
 others_room ts letter chips t ms all h e =
     let h' : MovesFollow ts (move letter chips t ms) 0 0 = rw e at h in
     record { evens = h'.evens; few_points = omega (arith, h'.few_points); few_ends = omega (arith, h'.few_ends) }

@@ -37,7 +37,8 @@ after_most p chips x h = elim (cases_Bool (p == 1)) [ inl e ↦ rw e (omega arit
 after_other : (p chips x : ℕ) → chips ≤ 4096 → two_after p chips x ≤ x + 4096
 after_other p chips x h = elim (cases_Bool (p == 1)) [ inl e ↦ rw e (omega arith) | inr e ↦ rw e (omega arith) ]
 
-pub fits_first : (one two p letter chips : ℕ) (t : Bet) (ms : Moves) → MovesFit one two (move letter chips t ms) → Fits (one_after p chips one) (two_after p chips two) t
+pub fits_first : (one two p letter chips : ℕ) (t : Bet) (ms : Moves) → MovesFit one two (move letter chips t ms)
+    → Fits (one_after p chips one) (two_after p chips two) t
 fits_first one two p letter chips t ms h =
     let s = sound_move h.left letter chips t ms h.sound in
     record {
@@ -52,7 +53,8 @@ fits_rest one two letter chips t ms h =
     record { left = h.left; sound = (sound_move h.left letter chips t ms h.sound).others; room_one = h.room_one; room_two = h.room_two }
 
 -- the same where the amounts after the move have names of their own
-pub fits_after : (one two p letter chips : ℕ) (t : Bet) (ms all : Moves) (one' two' : ℕ) → MovesFit one two all → all ≡ move letter chips t ms → one' ≡ one_after p chips one → two' ≡ two_after p chips two → Fits one' two' t
+pub fits_after : (one two p letter chips : ℕ) (t : Bet) (ms all : Moves) (one' two' : ℕ) → MovesFit one two all → all ≡ move letter chips t ms
+    → one' ≡ one_after p chips one → two' ≡ two_after p chips two → Fits one' two' t
 fits_after one two p letter chips t ms all one' two' h is e f = rw (e, f) (fits_first one two p letter chips t ms (rw is at h))
 
 pub fits_behind : (one two letter chips : ℕ) (t : Bet) (ms all : Moves) → MovesFit one two all → all ≡ move letter chips t ms → MovesFit one two ms
@@ -63,8 +65,10 @@ pub most_step : (go_on : ℕ → ℕ → ℕ) (one two p letter chips : ℕ) (t 
     → total ≡ max most (most_moved go_on one two p all) → all ≡ move letter chips t ms → here ≡ most_put go_on one' two' t
     → one' ≡ one_after p chips one → two' ≡ two_after p chips two → new ≡ max here most → total ≡ max new (most_moved go_on one two p ms)
 most_step go_on one two p letter chips t ms all total most here new one' two' so_far is at e f greater =
-    let parts : max most (most_moved go_on one two p all) ≡ max most (max (most_put go_on (one_after p chips one) (two_after p chips two) t) (most_moved go_on one two p ms)) = ap (λ (x : Moves). max most (most_moved go_on one two p x)) is in
-    let first : here ≡ most_put go_on (one_after p chips one) (two_after p chips two) t = at ∙ ap (λ (x : ℕ). most_put go_on x two' t) e ∙ ap (λ (x : ℕ). most_put go_on (one_after p chips one) x t) f in
+    let parts : max most (most_moved go_on one two p all) ≡ max most (max (most_put go_on (one_after p chips one) (two_after p chips two) t)
+    (most_moved go_on one two p ms)) = ap (λ (x : Moves). max most (most_moved go_on one two p x)) is in
+    let first : here ≡ most_put go_on (one_after p chips one) (two_after p chips two) t =
+    at ∙ ap (λ (x : ℕ). most_put go_on x two' t) e ∙ ap (λ (x : ℕ). most_put go_on (one_after p chips one) x t) f in
     omega (arith, so_far, parts, first, greater)
 
 -- a well-formed tree has at most sixteen acts within each other

@@ -47,18 +47,21 @@ mutual
   tree-within even g most h p = h p
 
   moves-within : (ms : Moves) (go_on : Place → Walked) (most : ℕ → ℕ → ℕ) → ((p : Place) → AllByRecursion (Within (most p.put_one p.put_two)) (go_on p).ends)
-      → (player point choice : ℕ) (p : Place) → AllByRecursion (Within (most_moved most p.put_one p.put_two player ms)) (walk_moves go_on ms player point choice p).walked.ends
+      → (player point choice : ℕ) (p : Place) → AllByRecursion (Within (most_moved most p.put_one p.put_two player ms))
+      (walk_moves go_on ms player point choice p).walked.ends
   moves-within none g most h player point choice p = tt
   moves-within (move letter chips next ms) g most h player point choice p =
       let here = after_move player point choice chips p in
       let first = walk_tree g next here in
       let there : Place = record p { point = p.point + length first.points; end = p.end + length first.ends } in
       let one = most_put most here.put_one here.put_two next in
-      let same : one ≡ most_put most (one_after player chips p.put_one) (two_after player chips p.put_two) next = rw (after_put_one player point choice chips p, after_put_two player point choice chips p) refl in
+      let same : one ≡ most_put most (one_after player chips p.put_one) (two_after player chips p.put_two) next =
+      rw (after_put_one player point choice chips p, after_put_two player point choice chips p) refl in
       let both = most_moved most p.put_one p.put_two player (move letter chips next ms) in
       every-append (Within both) first.ends (walk_moves g ms player point (choice + 1) there).walked.ends
       (every-weaker (Within one) (Within both) (λ z w. omega (arith, w, same)) first.ends (tree-within next g most h here))
-      (every-weaker (Within (most_moved most p.put_one p.put_two player ms)) (Within both) (λ z w. omega (arith, w)) (walk_moves g ms player point (choice + 1) there).walked.ends
+      (every-weaker (Within (most_moved most p.put_one p.put_two player ms)) (Within both) (λ z w. omega (arith, w))
+      (walk_moves g ms player point (choice + 1) there).walked.ends
       (moves-within ms g most h player point (choice + 1) there))
 
 rounds-within : (ts : List Bet) (p : Place) → AllByRecursion (Within (most_in ts p.put_one p.put_two)) (walk_rounds ts p).ends

@@ -47,12 +47,14 @@ mutual
   moves-bound none left d mp me sound b = omega arith
   moves-bound (move letter chips next ms) left d mp me sound b =
       let m = sound_move left letter chips next ms sound in
-      joined (points_of mp next) (move_points mp ms) (ends_of me next) (move_ends me ms) (left + d) (tree-bound next left d mp me m.next b).few (moves-bound ms left d mp me m.others b)
+      joined (points_of mp next) (move_points mp ms) (ends_of me next) (move_ends me ms) (left + d) (tree-bound next left d mp me m.next b).few
+      (moves-bound ms left d mp me m.others b)
 
 rounds-bound : (rs : List Round) → Bounded (points_in (plain_trees rs)) (ends_in (plain_trees rs)) (16 * length rs)
 rounds-bound [] = record { few = omega arith; some = omega arith }
 rounds-bound (r ∷ rs) =
-    let b = tree-bound (plain r.tree.tree) 16 (16 * length rs) (points_in (plain_trees rs)) (ends_in (plain_trees rs)) (tree_sound (plain r.tree.tree) r.tree.sound) (rounds-bound rs) in
+    let b = tree-bound (plain r.tree.tree) 16 (16 * length rs) (points_in (plain_trees rs)) (ends_in (plain_trees rs))
+    (tree_sound (plain r.tree.tree) r.tree.sound) (rounds-bound rs) in
     record { few = wider _ (16 + 16 * length rs) (16 * length (r ∷ rs)) _ b.few (omega arith); some = b.some }
 
 pub few_points : (rs : List Round) → length rs ≤ 4 → ends_in (plain_trees rs) ≤ 8192 → points_in (plain_trees rs) < 2 ^ 32

@@ -67,7 +67,8 @@ power-add b (suc m) n =
 product : (a b c d : ℕ) → a ≤ c → b ≤ d → a * b ≤ c * d
 product a b c d h k = grind arith
 
-pub draws_bound : (n size : ℕ) (sizes : List ℕ) (first rest : ℕ) → n ≤ 468 → first ≡ choose n size → rest ≤ power 468 (sum sizes) → first * rest ≤ power 468 (sum (size ∷ sizes))
+pub draws_bound : (n size : ℕ) (sizes : List ℕ) (first rest : ℕ) → n ≤ 468 → first ≡ choose n size → rest ≤ power 468 (sum sizes)
+    → first * rest ≤ power 468 (sum (size ∷ sizes))
 draws_bound n size sizes first rest h e r =
     let s : sum (size ∷ sizes) ≡ size + sum sizes = sum_by-cons (λ (x : ℕ). x) size sizes in
     rw (s, power-add 468 size (sum sizes)) (product first rest (power 468 size) (power 468 (sum sizes)) (rw e (choose-power 468 size n h)) r)

@@ -10,7 +10,8 @@ use Rattle.gs_game.proofs.Sequencing.{counted, drawn, once, sequences}
 use Rattle.gs_game.proofs.Totals.{total-same_every}
 use Rattle.gs_game.proofs.Ways.{Single, single_after, ways_one}
 
-each_once : (left : List ℕ) (f h : List ℕ → ℕ) → Single left → ((g : List ℕ) → f g ≡ h g) → (gs : List (List ℕ)) → AllByRecursion (λ g. 0 < ways left g) gs → AllByRecursion (λ g. 1 * f g ≡ ways left g * h g) gs
+each_once : (left : List ℕ) (f h : List ℕ → ℕ) → Single left → ((g : List ℕ) → f g ≡ h g) → (gs : List (List ℕ)) → AllByRecursion (λ g. 0 < ways left g) gs
+    → AllByRecursion (λ g. 1 * f g ≡ ways left g * h g) gs
 each_once left f h single e [] a = tt
 each_once left f h single e (g ∷ gs) a =
     let some : 0 < ways left g = a.0 in
@@ -22,7 +23,8 @@ once_ways : (sizes left : List ℕ) → Single left → sequences once left size
 once_ways [] left h = refl
 once_ways (size ∷ sizes) left h =
     total-same_every (λ g. 1 * sequences once (left_after left g) sizes) (λ g. ways left g * sequences ways (left_after left g) sizes) (groups left size)
-    (each_once left (λ g. sequences once (left_after left g) sizes) (λ g. sequences ways (left_after left g) sizes) h (λ g. once_ways sizes (left_after left g) (single_after left g h)) (groups left size) (groups_taken left size))
+    (each_once left (λ g. sequences once (left_after left g) sizes) (λ g. sequences ways (left_after left g) sizes) h
+    (λ g. once_ways sizes (left_after left g) (single_after left g h)) (groups left size) (groups_taken left size))
 
 pub single_drawn : (sizes left : List ℕ) → Single left → count_sequences left sizes ≡ draws (sum left) sizes
 single_drawn sizes left h = counted sizes left ∙ once_ways sizes left h ∙ drawn sizes left

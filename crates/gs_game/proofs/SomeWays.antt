@@ -21,7 +21,12 @@ some_draws n (k ∷ ks) h =
 
 seen_sum : (rs : List Round) → sum (seen_sizes rs) ≡ cards_shown rs
 seen_sum [] = refl
-seen_sum (r ∷ rs) = omega (arith, seen_sum rs, sum_by-cons (λ (x : ℕ). x) r.private (r.public ∷ seen_sizes rs), sum_by-cons (λ (x : ℕ). x) r.public (seen_sizes rs))
+seen_sum (r ∷ rs) = omega (
+  arith,
+  seen_sum rs,
+  sum_by-cons (λ (x : ℕ). x) r.private (r.public ∷ seen_sizes rs),
+  sum_by-cons (λ (x : ℕ). x) r.public (seen_sizes rs),
+)
 
 own_sum : (rs : List Round) → sum (privates rs) ≡ own_cards_of rs
 own_sum [] = refl

@@ -43,7 +43,8 @@ total-length [] = refl
 total-length (x ∷ xs) = omega (arith, total-length xs)
 
 -- a sum over a list is a sum over its places
-places-from : {X : Type 0} (f : X → ℕ) (d : X) (a : ℕ) (front xs : List X) → length front ≡ a → total f xs ≡ total (λ i. f (get_or (front ++ xs) i d)) (range_with_len a (length xs))
+places-from : {X : Type 0} (f : X → ℕ) (d : X) (a : ℕ) (front xs : List X) → length front ≡ a
+    → total f xs ≡ total (λ i. f (get_or (front ++ xs) i d)) (range_with_len a (length xs))
 places-from f d a front [] e = refl
 places-from f d a front (x ∷ xs) e =
     let here : get_or (front ++ x ∷ xs) a d ≡ x = at_end front x xs d a e in
@@ -89,7 +90,8 @@ pub total-two : {X : Type 0} (f g : X → ℕ) (xs : List X) → total (λ x. f 
 total-two f g [] = refl
 total-two f g (x ∷ xs) = omega (arith, total-two f g xs)
 
-kept-one : {X : Type 0} (f : X → ℕ) (key : X → ℕ) (i : ℕ) (x : X) (xs : List X) → total f (filter (λ y. key y == i) (x ∷ xs)) ≡ cond (eqb (key x) i) (f x) 0 + total f (filter (λ y. key y == i) xs)
+kept-one : {X : Type 0} (f : X → ℕ) (key : X → ℕ) (i : ℕ) (x : X) (xs : List X)
+    → total f (filter (λ y. key y == i) (x ∷ xs)) ≡ cond (eqb (key x) i) (f x) 0 + total f (filter (λ y. key y == i) xs)
 kept-one f key i x xs = elim (cases_eq (key x) i) [
   | inl e ↦ rw (eq-eqb (key x) i e) refl
   | inr e ↦ rw (ne_eqb (key x) i e) (omega arith)
@@ -103,6 +105,7 @@ total-keys f key n [] h = sym (nothing (range_with_len 0 n))
     nothing [] = refl
     nothing (i ∷ is) = let r = nothing is in omega (arith, r)
 total-keys f key n (x ∷ xs) h =
-    let split = total-same (λ i. total f (filter (λ y. key y == i) (x ∷ xs))) (λ i. cond (eqb (key x) i) (f x) 0 + total f (filter (λ y. key y == i) xs)) (λ i. kept-one f key i x xs) (range_with_len 0 n) in
+    let split = total-same (λ i. total f (filter (λ y. key y == i) (x ∷ xs))) (λ i. cond (eqb (key x) i) (f x) 0 + total f (filter (λ y. key y == i) xs))
+    (λ i. kept-one f key i x xs) (range_with_len 0 n) in
     let two = total-two (λ i. cond (eqb (key x) i) (f x) 0) (λ i. total f (filter (λ y. key y == i) xs)) (range_with_len 0 n) in
     omega (arith, split, two, one-key (f x) (key x) 0 n (omega arith) (below (key x) n h.0), total-keys f key n xs h.1)

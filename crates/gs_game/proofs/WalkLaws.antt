@@ -25,7 +25,8 @@ pub record Going (go_on : Place → Walked) (player number : ℕ) (p : Place) (m
   pub arrows_are : arrows ++ (walk_moves go_on ms player number (length arrows) (at p (length points) (length ends))).arrows ≡ all_arrows
 
 -- one move more
-pub going_step : (go_on : Place → Walked) (player number letter chips : ℕ) (p here : Place) (t : Bet) (ms : Moves) (points new_points all_points : List OwnPoint) (ends new_ends all_ends : List End)
+pub going_step : (go_on : Place → Walked) (player number letter chips : ℕ) (p here : Place) (t : Bet) (ms : Moves)
+    (points new_points all_points : List OwnPoint) (ends new_ends all_ends : List End)
     (arrows new_arrows all_arrows : List Arrow) (to : Target)
     → Going go_on player number p (move letter chips t ms) points ends arrows all_points all_ends all_arrows
     → here ≡ after_move player number (length arrows) chips (at p (length points) (length ends))
@@ -35,7 +36,8 @@ pub going_step : (go_on : Place → Walked) (player number letter chips : ℕ) (
 going_step g player number letter chips p here t ms ps ps' all es es' alle ars ars' alla to h is ps_is es_is to_is as_is =
     let w = walk_tree g t here in
     let o = walk_moves g ms player number (length ars + 1) (at p (length ps + length w.points) (length es + length w.ends)) in
-    let e1 : length ps' ≡ length ps + length w.points = ap length ps_is ∙ length-append ps (map own_point w.points) ∙ ap (λ (n : ℕ). length ps + n) (length-map w.points own_point) in
+    let e1 : length ps' ≡ length ps + length w.points = ap length ps_is ∙ length-append ps (map own_point w.points)
+    ∙ ap (λ (n : ℕ). length ps + n) (length-map w.points own_point) in
     let e2 : length es' ≡ length es + length w.ends = ap length es_is ∙ length-append es w.ends in
     let e3 : length ars' ≡ length ars + 1 = ap length as_is ∙ length-append ars (record { letter = letter; to = to } ∷ []) in
     let same : walk_moves g ms player number (length ars') (at p (length ps') (length es')) ≡ o = rw (e1, e2, e3) refl in
@@ -44,7 +46,8 @@ going_step g player number letter chips p here t ms ps ps' all es es' alle ars a
     let whole_ends : es ++ (w.ends ++ o.walked.ends) ≡ alle = rw is h'.ends_are in
     let whole_arrows : ars ++ (record { letter = letter; to = root here w.points } ∷ o.arrows) ≡ alla = rw is h'.arrows_are in
     record {
-      points_are = rw same (ap (λ (x : List OwnPoint). x ++ map own_point o.walked.points) ps_is ∙ append_assoc ps (map own_point w.points) (map own_point o.walked.points)
+      points_are = rw same (ap (λ (x : List OwnPoint). x ++ map own_point o.walked.points) ps_is
+          ∙ append_assoc ps (map own_point w.points) (map own_point o.walked.points)
           ∙ ap (λ (x : List OwnPoint). ps ++ x) (sym (map-append own_point w.points o.walked.points)) ∙ whole_points);
       ends_are = rw same (ap (λ (x : List End). x ++ o.walked.ends) es_is ∙ append_assoc es w.ends o.walked.ends ∙ whole_ends);
       arrows_are = rw same (ap (λ (x : List Arrow). x ++ o.arrows) as_is ∙ append_assoc ars (record { letter = letter; to = to } ∷ []) o.arrows
@@ -52,12 +55,14 @@ going_step g player number letter chips p here t ms ps ps' all es es' alle ars a
     }
 
 -- no move is left
-pub record Gone (points : List OwnPoint) (ends : List End) (arrows : List Arrow) (all_points : List OwnPoint) (all_ends : List End) (all_arrows : List Arrow) : Type 0 where
+pub record Gone (points : List OwnPoint) (ends : List End) (arrows : List Arrow) (all_points : List OwnPoint) (all_ends : List End)
+    (all_arrows : List Arrow) : Type 0 where
   pub points_are : points ≡ all_points
   pub ends_are : ends ≡ all_ends
   pub arrows_are : arrows ≡ all_arrows
 
-pub going_done : (go_on : Place → Walked) (player number : ℕ) (p : Place) (ms : Moves) (points all_points : List OwnPoint) (ends all_ends : List End) (arrows all_arrows : List Arrow)
+pub going_done : (go_on : Place → Walked) (player number : ℕ) (p : Place) (ms : Moves) (points all_points : List OwnPoint) (ends all_ends : List End)
+    (arrows all_arrows : List Arrow)
     → Going go_on player number p ms points ends arrows all_points all_ends all_arrows → ms ≡ none → Gone points ends arrows all_points all_ends all_arrows
 going_done g player number p ms ps all es alle ars alla h e =
     let h' : Going g player number p none ps es ars all alle alla = rw e at h in
@@ -70,8 +75,14 @@ going_done g player number p ms ps all es alle ars alla h e =
 -- ---- the point's moves are written at the end
 
 patch_here : (y : StoredPoint) (v : StoredPoint) (arrows : Vec StoredArrow) (hole : OwnPoint) → v ≡ y → point_of y ≡ hole
-    → point_of (record { player = v.player; round = v.round; own = v.own; moves = arrows }) ≡ record { player = hole.player; round = hole.round; own = hole.own; moves = map arrow_of arrows.items }
-patch_here y v arrows hole e h = rw e (ap (λ (x : OwnPoint). let q : OwnPoint = record { player = x.player; round = x.round; own = x.own; moves = map arrow_of arrows.items } in q) h)
+    → point_of (record { player = v.player; round = v.round; own = v.own; moves = arrows })
+    ≡ record { player = hole.player; round = hole.round; own = hole.own; moves = map arrow_of arrows.items }
+patch_here y v arrows hole e h = rw e (ap (λ (x : OwnPoint). let q : OwnPoint = record {
+  player = x.player;
+  round = x.round;
+  own = x.own;
+  moves = map arrow_of arrows.items;
+} in q) h)
 
 heads : {A : Type 0} (x y : A) (xs ys : List A) → x ∷ xs ≡ y ∷ ys → x ≡ y
 heads x y xs ys h = cc

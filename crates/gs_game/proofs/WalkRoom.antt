@@ -24,7 +24,8 @@ more_two : (player chips two : ℕ) → two ≤ two_after player chips two
 more_two player chips two = elim (cases_Bool (player == 1)) [ inl e ↦ rw e (omega arith) | inr e ↦ rw e (omega arith) ]
 
 -- what both have put before a tree is no more than the most that is put in it
-least_put : (t : Bet) (left : ℕ) (go_on : ℕ → ℕ → ℕ) (one two : ℕ) → is_sound left t ≡ true → ((a b : ℕ) → max a b ≤ go_on a b) → max one two ≤ most_put go_on one two t
+least_put : (t : Bet) (left : ℕ) (go_on : ℕ → ℕ → ℕ) (one two : ℕ) → is_sound left t ≡ true → ((a b : ℕ) → max a b ≤ go_on a b)
+    → max one two ≤ most_put go_on one two t
 least_put (act player none) left g one two sound h = let s = sound_act left player none sound in absurd (no_moves s.3)
   where
     no_moves : has_move none ≡ true → ⊥
@@ -46,7 +47,8 @@ pub record MoveFits (player chips one two : ℕ) : Type 0 where
   pub one_in : one_after player chips one < 2 ^ 16
   pub two_in : two_after player chips two < 2 ^ 16
 
-pub move_fits : (rs : List Round) (player letter chips : ℕ) (t : Bet) (ms all : Moves) (p : Place) → AreWalkable (plain_trees rs) player all p → all ≡ move letter chips t ms
+pub move_fits : (rs : List Round) (player letter chips : ℕ) (t : Bet) (ms all : Moves) (p : Place) → AreWalkable (plain_trees rs) player all p
+    → all ≡ move letter chips t ms
     → MoveFits player chips p.put_one p.put_two
 move_fits rs player letter chips t ms all p h e =
     let h' : AreWalkable (plain_trees rs) player (move letter chips t ms) p = rw e at h in
@@ -62,10 +64,12 @@ pub after_put_two : (player number choice chips : ℕ) (p : Place) → (after_mo
 after_put_two player number choice chips p = elim (cases_Bool (player == 1)) [ inl e ↦ rw e refl | inr e ↦ rw e refl ]
 
 after_rest : (player number choice chips : ℕ) (p : Place)
-    → ((after_move player number choice chips p).round ≡ p.round) × ((after_move player number choice chips p).point ≡ p.point) × ((after_move player number choice chips p).end ≡ p.end)
+    → ((after_move player number choice chips p).round ≡ p.round) × ((after_move player number choice chips p).point ≡ p.point)
+    × ((after_move player number choice chips p).end ≡ p.end)
 after_rest player number choice chips p = elim (cases_Bool (player == 1)) [ inl e ↦ rw e (refl, refl, refl) | inr e ↦ rw e (refl, refl, refl) ]
 
-pub walkable_first : (rest : List Bet) (player number choice letter chips : ℕ) (t : Bet) (ms all : Moves) (p here : Place) → AreWalkable rest player all p → all ≡ move letter chips t ms
+pub walkable_first : (rest : List Bet) (player number choice letter chips : ℕ) (t : Bet) (ms all : Moves) (p here : Place) → AreWalkable rest player all p
+    → all ≡ move letter chips t ms
     → here ≡ after_move player number choice chips p → IsWalkable rest t here
 walkable_first rest player number choice letter chips t ms all p here h e is =
     let h' : AreWalkable rest player (move letter chips t ms) p = rw e at h in
@@ -81,7 +85,8 @@ walkable_first rest player number choice letter chips t ms all p here h e is =
     })
 
 -- and the others can still be walked behind it
-pub walkable_rest : (rest : List Bet) (player letter chips points ends : ℕ) (t : Bet) (ms all : Moves) (p here : Place) → AreWalkable rest player all p → all ≡ move letter chips t ms
+pub walkable_rest : (rest : List Bet) (player letter chips points ends : ℕ) (t : Bet) (ms all : Moves) (p here : Place) → AreWalkable rest player all p
+    → all ≡ move letter chips t ms
     → points ≡ p.point + length (walk_tree (walk_rounds rest) t here).points → ends ≡ p.end + length (walk_tree (walk_rounds rest) t here).ends
     → AreWalkable rest player ms (at p points ends)
 walkable_rest rest player letter chips points ends t ms all p here h e f g =
@@ -98,7 +103,8 @@ walkable_rest rest player letter chips points ends t ms all p here h e f g =
     }
 
 -- a point's moves can be walked once its number is given
-pub walkable_moves : (rest : List Bet) (player : ℕ) (ms : Moves) (p : Place) → IsWalkable rest (act player ms) p → AreWalkable rest player ms (at p (p.point + 1) p.end)
+pub walkable_moves : (rest : List Bet) (player : ℕ) (ms : Moves) (p : Place) → IsWalkable rest (act player ms) p
+    → AreWalkable rest player ms (at p (p.point + 1) p.end)
 walkable_moves rest player ms p h =
     let s = sound_act h.left player ms h.sound in
     record {

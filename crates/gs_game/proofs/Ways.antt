@@ -98,4 +98,5 @@ ways_one left g h = go 0 left h
   where
     go : (kind : ℕ) (left : List ℕ) → Single left → ways_from kind left g ≤ 1
     go kind [] h = omega arith
-    go kind (c ∷ cs) h = one_product (choose c (times kind g)) (ways_from (suc kind) cs g) (choose_one c (times kind g) (h 0)) (go (suc kind) cs (λ i. h (suc i)))
+    go kind (c ∷ cs) h = one_product (choose c (times kind g)) (ways_from (suc kind) cs g) (choose_one c (times kind g) (h 0))
+        (go (suc kind) cs (λ i. h (suc i)))

@@ -49,5 +49,6 @@ SomeGoOn = (g : Game) (round : ℕ) → first_refusal g ≡ None → 0 < ways_on
 -- what a signal of a round weighs against a class is what it weighs where the game stops after that round, times the ways to go on
 abbrev pub RoundsGoOn : Type 0
 RoundsGoOn =
-    (g h : Game) (round : ℕ) (lists others : ClassLists) → 0 < round → round ≤ round_count g → StopsAfter g round h → list_of others round ≡ list_of lists round
+    (g h : Game) (round : ℕ) (lists others : ClassLists) → 0 < round → round ≤ round_count g → StopsAfter g round h
+    → list_of others round ≡ list_of lists round
     → (s c : ℕ) → weight_against (frame_of g) lists round s c ≡ ways_on g round * weight_against (frame_of h) others round s c

@@ -113,7 +113,8 @@ fn check_counts(game: &Game, left: &mut [u8], sizes: &[u8], weight: u64) -> Resu
     requires left { left.old ≡ game.now.deck.counts }
     requires sizes { sizes.now ≡ deal_sizes (map round_of game.now.rounds.items) }
     requires weight { weight ≡ draws (sum game.now.deck.counts) sizes.now }
-    ensures { MatchResult result (λ count. (first_of (signals_refusal (game_of game.now)) (deals_refusal (game_of game.now)) ≡ None) × (count ≡ length (deals (game_of game.now)))) (Answers (first_of (signals_refusal (game_of game.now)) (deals_refusal (game_of game.now)))) }
+    ensures { MatchResult result (λ count. (first_of (signals_refusal (game_of game.now)) (deals_refusal (game_of game.now)) ≡ None)
+        × (count ≡ length (deals (game_of game.now)))) (Answers (first_of (signals_refusal (game_of game.now)) (deals_refusal (game_of game.now)))) }
 {
     check_signals(game, left, sizes)?;
     let count = count_deals(left, sizes, weight);
@@ -134,7 +135,8 @@ pub struct DealTotals {
 pub fn check_deals(alloc: Global, game: &Game) -> Result<DealTotals, GameFault>
     requires cards { All HasFewCards game.now.rounds.items }
     requires checked { card_refusal (game_of game.now) ≡ None }
-    ensures { MatchResult result (λ totals. (deal_refusal (game_of game.now) ≡ None) × (totals.weight ≡ total_weight (frame_of (game_of game.now))) × (totals.count ≡ length (deals (game_of game.now)))) (Answers (deal_refusal (game_of game.now))) }
+    ensures { MatchResult result (λ totals. (deal_refusal (game_of game.now) ≡ None) × (totals.weight ≡ total_weight (frame_of (game_of game.now)))
+        × (totals.count ≡ length (deals (game_of game.now)))) (Answers (deal_refusal (game_of game.now))) }
 {
     let counts = game.deck.counts();
     let mut left = Vec::from_slice(alloc, counts)?;

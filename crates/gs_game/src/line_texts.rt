@@ -15,7 +15,8 @@ use std::alloc::{AllocError, Global};
 
 /// A position behind so many others, by its number behind them; none where it is among them.
 fn past(at: Target, others: Numbers) -> Option<Target>
-    ensures { MatchOption result (IsAmong others.points others.ends (target_of at)) (λ further. IsPast others.points others.ends (target_of at) (target_of further)) }
+    ensures { MatchOption result (IsAmong others.points others.ends (target_of at))
+        (λ further. IsPast others.points others.ends (target_of at) (target_of further)) }
 {
     match at {
         Target::Point(number) => {
@@ -63,7 +64,8 @@ fn push_below(
     requires room { TreeFollows (plain_trees rest.now) (plain tree.now) 0 0 }
     requires sound { (left : ℕ) × (is_sound left (plain tree.now) ≡ true) }
     requires within { IsAmong (points_of more.points (plain tree.now)) (ends_of more.ends (plain tree.now)) (target_of at) }
-    ensures { OnOk result (text_at (tree_lines (lines_from (plain_trees rest.now)) (string_bytes out.old) (plain tree.now)) (target_of at) ≡ Some (string_bytes out.new)) }
+    ensures { OnOk result (text_at (tree_lines (lines_from (plain_trees rest.now)) (string_bytes out.old) (plain tree.now)) (target_of at)
+        ≡ Some (string_bytes out.new)) }
 {
     match tree {
         Tree::Act(act) => match past(at, Numbers { points: 1, ends: 0 }) {
@@ -88,8 +90,10 @@ fn push_act(
     requires ends { more.ends ≡ ends_in (plain_trees rest.now) }
     requires room { MovesFollow (plain_trees rest.now) (plain_moves (out-Act act.now).moves.items) 0 0 }
     requires sound { (left : ℕ) × (are_sound left (plain_moves (out-Act act.now).moves.items) ≡ true) }
-    requires within { IsAmong (move_points more.points (plain_moves (out-Act act.now).moves.items)) (move_ends more.ends (plain_moves (out-Act act.now).moves.items)) (target_of at) }
-    ensures { OnOk result (text_at (move_lines (lines_from (plain_trees rest.now)) (string_bytes out.old) (plain_moves (out-Act act.now).moves.items)) (target_of at) ≡ Some (string_bytes out.new)) }
+    requires within { IsAmong (move_points more.points (plain_moves (out-Act act.now).moves.items))
+        (move_ends more.ends (plain_moves (out-Act act.now).moves.items)) (target_of at) }
+    ensures { OnOk result (text_at (move_lines (lines_from (plain_trees rest.now)) (string_bytes out.old) (plain_moves (out-Act act.now).moves.items))
+        (target_of at) ≡ Some (string_bytes out.new)) }
 {
     let mut at = at;
     for next in &act.moves {

@@ -93,7 +93,8 @@ fn follow_below(
     requires points { more.points ≡ points_in (plain_trees rest.now) }
     requires ends { more.ends ≡ ends_in (plain_trees rest.now) }
     requires room { TreeFollows (plain_trees rest.now) (plain tree.now) before.points before.ends }
-    ensures { option_map target_of result ≡ follow (follow_from (plain_trees rest.now)) more.points more.ends before.points before.ends (plain tree.now) text.now }
+    ensures { option_map target_of result ≡ follow (follow_from (plain_trees rest.now)) more.points more.ends before.points before.ends
+        (plain tree.now) text.now }
 {
     match tree {
         Tree::Act(act) => match text {
@@ -124,7 +125,8 @@ fn follow_act(
     requires points { more.points ≡ points_in (plain_trees rest.now) }
     requires ends { more.ends ≡ ends_in (plain_trees rest.now) }
     requires room { MovesFollow (plain_trees rest.now) (plain_moves (out-Act act.now).moves.items) before.points before.ends }
-    ensures { option_map target_of result ≡ follow_moves (follow_from (plain_trees rest.now)) more.points more.ends before.points before.ends (plain_moves (out-Act act.now).moves.items) letter text.now }
+    ensures { option_map target_of result ≡ follow_moves (follow_from (plain_trees rest.now)) more.points more.ends before.points before.ends
+        (plain_moves (out-Act act.now).moves.items) letter text.now }
 {
     let mut before = before;
     for next in &act.moves {

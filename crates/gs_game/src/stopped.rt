@@ -37,7 +37,8 @@ fn push_round(
 /// Rounds that deal as these do, and then one that deals no cards.
 fn stopped_rounds(alloc: Global, rounds: &[Round]) -> Result<Vec<Round>, AllocError>
     requires { All HasFewCards rounds.now }
-    ensures rounds { IfOk result (λ v. map round_of v.items ≡ map (λ (r : RoundRules). unbet r.private r.public) (map round_of rounds.now) ++ unbet 0 0 ∷ []) }
+    ensures rounds { IfOk result (λ v. map round_of v.items ≡ map (λ (r : RoundRules). unbet r.private r.public) (map round_of rounds.now)
+        ++ unbet 0 0 ∷ []) }
     ensures sizes { IfOk result (λ v. seen_sizes (map round_of v.items) ≡ seen_sizes (map round_of rounds.now) ++ 0 ∷ 0 ∷ []) }
     ensures few { IfOk result (λ v. All HasFewCards v.items) }
 {
@@ -60,7 +61,8 @@ impl ValidGame {
         requires { round ≤ round_count (game_of self.now.game) }
         ensures stops { IfOk result (λ o. IfSome o (λ v. StopsAfter (game_of self.now.game) round (game_of v.game))) }
         // It is given exactly where no rule refuses it.
-        ensures whenever { IfOk result (λ o. MatchOption o (first_refusal (stopped_game (game_of self.now.game) round) ≢ None) (λ v. game_of v.game ≡ stopped_game (game_of self.now.game) round)) }
+        ensures whenever { IfOk result (λ o. MatchOption o (first_refusal (stopped_game (game_of self.now.game) round) ≢ None) (λ v. game_of v.game
+            ≡ stopped_game (game_of self.now.game) round)) }
     {
         let game = self.game();
         let rounds = stopped_rounds(alloc, &game.rounds[..usize::from(round)])?;

@@ -33,7 +33,8 @@ lists_of g parents lists e h =
           omega (arith, l, at, p);
     }
 
-pub is_checked : (grouping : Grouping) (summary : Bool) (v : FileGame) (g : Game) (d : DeckValue) (lists : ClassLists) (text : List ℕ) → g ≡ rules_of v → d ≡ v.deck → IsGrouping grouping g lists → IsLossless (frame_of g) lists
+pub is_checked : (grouping : Grouping) (summary : Bool) (v : FileGame) (g : Game) (d : DeckValue) (lists : ClassLists) (text : List ℕ) → g ≡ rules_of v
+    → d ≡ v.deck → IsGrouping grouping g lists → IsLossless (frame_of g) lists
     → text ≡ told summary d g lists → IsChecked grouping summary v text
 is_checked grouping summary v g d lists text of_game of_deck are lossless printed = record {
   classes = lists;
@@ -43,7 +44,8 @@ is_checked grouping summary v g d lists text of_game of_deck are lossless printe
 }
 
 -- coarsest classes are lossless, and so are signals by themselves
-pub always_lossless : (grouping : Grouping) (g : Game) (lists : ClassLists) → (grouping ≡ Coarsest) ⊎ (grouping ≡ Single) → IsGrouping grouping g lists → IsLossless (frame_of g) lists
+pub always_lossless : (grouping : Grouping) (g : Game) (lists : ClassLists) → (grouping ≡ Coarsest) ⊎ (grouping ≡ Single) → IsGrouping grouping g lists
+    → IsLossless (frame_of g) lists
 always_lossless grouping g lists one are = ⊎_elim
     (λ e. let h = subst (λ (x : Grouping). IsGrouping x g lists) e are in h.2.lossless)
     (λ e.
@@ -53,16 +55,31 @@ always_lossless grouping g lists one are = ⊎_elim
 
 -- an unlike pair of a grouping's classes, by texts of the two signals
 unlike_so : (grouping : Grouping) (v : FileGame) (lists : ClassLists) (round first second : ℕ) (one two : List ℕ) → IsGrouping grouping (rules_of v) lists
-    → (lists ≡ single_classes (frame_of (rules_of v)).parents → ⊥) → (IsLossless (frame_of (rules_of v)) lists → ⊥) → IsFirstUnlike (frame_of (rules_of v)) lists round first second
-    → one ≡ signal_text v.deck (signal_at (rules_of v) round first) → two ≡ signal_text v.deck (signal_at (rules_of v) round second) → (grouping ≡ Isomorphism) × IsUnlikePair v round one two
-unlike_so Isomorphism v lists round first second one two are single lossless unlike is_one is_two =
-    (refl, record { classes = lists; are = are; first = first; second = second; unlike = unlike; not_lossless = lossless; first_text = is_one; second_text = is_two })
+    → (lists ≡ single_classes (frame_of (rules_of v)).parents → ⊥) → (IsLossless (frame_of (rules_of v)) lists → ⊥)
+    → IsFirstUnlike (frame_of (rules_of v)) lists round first second
+    → one ≡ signal_text v.deck (signal_at (rules_of v) round first) → two ≡ signal_text v.deck (signal_at (rules_of v) round second)
+    → (grouping ≡ Isomorphism) × IsUnlikePair v round one two
+unlike_so Isomorphism v lists round first second one two are single lossless unlike is_one is_two = (
+  refl,
+  record {
+    classes = lists;
+    are = are;
+    first = first;
+    second = second;
+    unlike = unlike;
+    not_lossless = lossless;
+    first_text = is_one;
+    second_text = is_two;
+  },
+)
 unlike_so Coarsest v lists round first second one two are single lossless unlike is_one is_two = absurd (lossless are.2.lossless)
 unlike_so Single v lists round first second one two are single lossless unlike is_one is_two = absurd (single are)
 
 -- the first unlike pair of a grouping's classes, as it is said of the game that they are of
-pub is_unlike : (grouping : Grouping) (v : FileGame) (g : Game) (d : DeckValue) (lists : ClassLists) (parents : List (List ℕ)) (round named first second : ℕ) → g ≡ rules_of v → d ≡ v.deck
-    → IsGrouping grouping g lists → parents ≡ (frame_of g).parents → (lists ≡ single_classes parents → ⊥) → (IsLossless (frame_of g) lists → ⊥) → IsFirstUnlike (frame_of g) lists round named second → first ≡ first_member lists round (class_of lists round second)
+pub is_unlike : (grouping : Grouping) (v : FileGame) (g : Game) (d : DeckValue) (lists : ClassLists) (parents : List (List ℕ)) (round named first second : ℕ)
+    → g ≡ rules_of v → d ≡ v.deck
+    → IsGrouping grouping g lists → parents ≡ (frame_of g).parents → (lists ≡ single_classes parents → ⊥) → (IsLossless (frame_of g) lists → ⊥)
+    → IsFirstUnlike (frame_of g) lists round named second → first ≡ first_member lists round (class_of lists round second)
     → (grouping ≡ Isomorphism) × IsUnlikePair v round (signal_text d (signal_at g round first)) (signal_text d (signal_at g round second))
 is_unlike grouping v g d lists parents round named first second of_game of_deck are of_parents single lossless unlike is_first =
     let same : named ≡ first = unlike.member ∙ sym is_first in

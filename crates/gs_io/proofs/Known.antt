@@ -10,8 +10,10 @@ to_end : (w : ℕ) (bytes : List ℕ) → take (length bytes - w) (drop w bytes)
 to_end w bytes = take_all (length bytes - w) (drop w bytes) (simp length-drop (omega arith))
 
 -- a sink that took the first w bytes, and then n of the rest, took the first w + n
-pub appends_more : (old mid new : Option (List ℕ)) (w n : ℕ) (bytes : List ℕ) → Appends old mid (take w bytes) → Appends mid new (take n (take (length bytes - w) (drop w bytes))) → Appends old new (take (w + n) bytes)
+pub appends_more : (old mid new : Option (List ℕ)) (w n : ℕ) (bytes : List ℕ) → Appends old mid (take w bytes)
+    → Appends mid new (take n (take (length bytes - w) (drop w bytes))) → Appends old new (take (w + n) bytes)
 appends_more None mid new w n bytes p q = tt
 appends_more (Some a) None new w n bytes p q = absurd p
 appends_more (Some a) (Some b) None w n bytes p q = absurd q
-appends_more (Some a) (Some b) (Some c) w n bytes p q = rw (take-add w n bytes, ← append_assoc) (rw (to_end w bytes) at q ∙ ap (λ zs. zs ++ take n (drop w bytes)) p)
+appends_more (Some a) (Some b) (Some c) w n bytes p q = rw (take-add w n bytes, ← append_assoc) (rw (to_end w bytes) at q
+    ∙ ap (λ zs. zs ++ take n (drop w bytes)) p)

@@ -16,7 +16,8 @@ pub record AreBecoming (g : Game) (keys : List ℕ) (seen : List (Vec ℕ Global
   pub alike : (i : ℕ) → signal ≤ i → i < last_count g → AreAlike g keys i (get_or numbers i 0)
   pub done : AreNumbered nat_eq Decides-eqb (IsLeafSignature g) seen (take signal numbers) signal
 
-pub becoming_none : (g : Game) (keys : List ℕ) (seen : List (Vec ℕ Global)) (firsts : List ℕ) → AreStandIns g keys firsts → seen ≡ [] → AreBecoming g keys seen firsts 0
+pub becoming_none : (g : Game) (keys : List ℕ) (seen : List (Vec ℕ Global)) (firsts : List ℕ) → AreStandIns g keys firsts → seen ≡ []
+    → AreBecoming g keys seen firsts 0
 becoming_none g keys seen firsts h none = record {
   long = h.long;
   before = λ i _ l. h.before i l;
@@ -25,11 +26,14 @@ becoming_none g keys seen firsts h none = record {
 }
 
 -- the next signal's number is written
-pub becoming_more : (g : Game) (keys : List ℕ) (seen more : List (Vec ℕ Global)) (numbers : List ℕ) (signal n : ℕ) → AreBecoming g keys seen numbers signal → signal < last_count g
-    → (take (signal + 1) (set numbers signal n) ≡ take signal numbers ++ n ∷ [] → AreNumbered nat_eq Decides-eqb (IsLeafSignature g) more (take (signal + 1) (set numbers signal n)) (signal + 1))
+pub becoming_more : (g : Game) (keys : List ℕ) (seen more : List (Vec ℕ Global)) (numbers : List ℕ) (signal n : ℕ) → AreBecoming g keys seen numbers signal
+    → signal < last_count g
+    → (take (signal + 1) (set numbers signal n) ≡ take signal numbers ++ n ∷ []
+    → AreNumbered nat_eq Decides-eqb (IsLeafSignature g) more (take (signal + 1) (set numbers signal n)) (signal + 1))
     → AreBecoming g keys more (set numbers signal n) (signal + 1)
 becoming_more g keys seen more numbers signal n h l next =
-    let same : (i : ℕ) → signal + 1 ≤ i → get_or numbers i 0 ≡ get_or (set numbers signal n) i 0 = λ i above. sym (get_or-set_other numbers signal i n 0 (omega (arith, above))) in
+    let same : (i : ℕ) → signal + 1 ≤ i → get_or numbers i 0 ≡ get_or (set numbers signal n) i 0 =
+    λ i above. sym (get_or-set_other numbers signal i n 0 (omega (arith, above))) in
     record {
       long = length-set numbers signal n ∙ h.long;
       before = λ i above in'. subst (λ k. k ≤ i) (same i above) (h.before i (omega (arith, above)) in');

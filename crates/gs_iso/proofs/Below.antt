@@ -36,7 +36,8 @@ rounds_after g round l =
     let e : suc round - 1 ≡ round = omega arith in
     drop-cons g.rounds round no_round l ∙ ap (λ n. slice_index_or g.rounds n no_round ∷ drop (suc round) g.rounds) (sym e)
 
-isomorphic_before : (g : Game) (round : ℕ) → round < round_count g → (s t : Signal) → Isomorphic g round s t ≡ IsomorphicFor g (round_at g (suc round) ∷ drop (suc round) g.rounds) s t
+isomorphic_before : (g : Game) (round : ℕ) → round < round_count g → (s t : Signal)
+    → Isomorphic g round s t ≡ IsomorphicFor g (round_at g (suc round) ∷ drop (suc round) g.rounds) s t
 isomorphic_before g round l s t = ap (λ rs. IsomorphicFor g rs s t) (rounds_after g round l)
 
 -- children are signals of the next round
@@ -60,19 +61,22 @@ take_run xs a (suc n) l =
     ∙ sym (map-range_with_len_more at a n (a + n) refl)
     ∙ ap (λ k. map at (range_with_len a k)) (sym e)
 
-pub slice_run : (xs : List ℕ) (first end n : ℕ) → first + n ≡ end → end ≤ length xs → slice_range xs first end ≡ map (λ x. get_or xs x 0) (range_with_len first n)
+pub slice_run : (xs : List ℕ) (first end n : ℕ) → first + n ≡ end → end ≤ length xs
+    → slice_range xs first end ≡ map (λ x. get_or xs x 0) (range_with_len first n)
 slice_run xs first end n e l =
     let k : end - first ≡ n = omega (arith, e) in
     ap (λ k. take k (drop first xs)) k ∙ take_run xs first n (omega (arith, e, l))
 
 -- the children of a signal are in the next round
-run_in : (g : Game) (round i : ℕ) → i < length (signals g round) → All (λ x. x < length (signals g (suc round))) (range_with_len (first_child g round i) (child_count g round i))
+run_in : (g : Game) (round i : ℕ) → i < length (signals g round) → All (λ x. x
+    < length (signals g (suc round))) (range_with_len (first_child g round i) (child_count g round i))
 run_in g round i l k d lk =
     let n = length-range_with_len (first_child g round i) (child_count g round i) in
     let x = get_or-range_with_len (first_child g round i) (child_count g round i) k d (omega (arith, lk, n)) in
     omega (arith, x, lk, n, children_in g round i l)
 
-module _ (g : Game) (round : ℕ) (l : round < round_count g) (numbers marks : List ℕ) (n : IsNumbering g (suc round) numbers) (m : AreMarks g (suc round) numbers marks) where
+module _ (g : Game) (round : ℕ) (l : round < round_count g) (numbers marks : List ℕ) (n : IsNumbering g (suc round) numbers)
+    (m : AreMarks g (suc round) numbers marks) where
   abbrev child : ℕ → ℕ × Signal
   child x = (last_edge g.copies (signal_at g (suc round) x), signal_at g (suc round) x)
 
@@ -95,7 +99,8 @@ module _ (g : Game) (round : ℕ) (l : round < round_count g) (numbers marks : L
       )
 
   -- equal signatures are isomorphism, where equal numbers are that in the next round
-  pub mark_law : (i j : ℕ) → i < length (signals g round) → j < length (signals g round) → (a b : List ℕ) → IsSignature mark_lt (marks_under g round marks i) a → IsSignature mark_lt (marks_under g round marks j) b
+  pub mark_law : (i j : ℕ) → i < length (signals g round) → j < length (signals g round) → (a b : List ℕ)
+      → IsSignature mark_lt (marks_under g round marks i) a → IsSignature mark_lt (marks_under g round marks j) b
       → (a ≡ b) ↔ Isomorphic g round (signal_at g round i) (signal_at g round j)
   mark_law i j li lj a b ha hb =
       let r = round_at g (suc round) in
@@ -117,18 +122,22 @@ module _ (g : Game) (round : ℕ) (l : round < round_count g) (numbers marks : L
       )
 
 -- the same for a number of the next round that is not written as a successor
-pub mark_law_at : (g : Game) (round next : ℕ) → suc round ≡ next → round < round_count g → (numbers marks : List ℕ) → IsNumbering g next numbers → AreMarks g next numbers marks
+pub mark_law_at : (g : Game) (round next : ℕ) → suc round ≡ next → round < round_count g → (numbers marks : List ℕ) → IsNumbering g next numbers
+    → AreMarks g next numbers marks
     → (i j : ℕ) → i < length (signals g round) → j < length (signals g round) → (a b : List ℕ)
-    → IsSignature mark_lt (marks_under g round marks i) a → IsSignature mark_lt (marks_under g round marks j) b → (a ≡ b) ↔ Isomorphic g round (signal_at g round i) (signal_at g round j)
+    → IsSignature mark_lt (marks_under g round marks i) a → IsSignature mark_lt (marks_under g round marks j) b
+    → (a ≡ b) ↔ Isomorphic g round (signal_at g round i) (signal_at g round j)
 mark_law_at g round next e l numbers marks n m =
     mark_law g round l numbers marks (subst (λ r. IsNumbering g r numbers) (sym e) n) (subst (λ r. AreMarks g r numbers marks) (sym e) m)
 
 -- where each edge weighs 1, numbers are marks
-pub marks_light : (g : Game) (round : ℕ) (numbers : List ℕ) → IsNumbering g round numbers → ((i : ℕ) → i < length (signals g round) → last_edge g.copies (signal_at g round i) ≡ 1) → AreMarks g round numbers numbers
+pub marks_light : (g : Game) (round : ℕ) (numbers : List ℕ) → IsNumbering g round numbers
+    → ((i : ℕ) → i < length (signals g round) → last_edge g.copies (signal_at g round i) ≡ 1) → AreMarks g round numbers numbers
 marks_light g round numbers n light = record {
   long = n.long;
   same = λ x y lx ly. (
-    (λ e. pairs (child_part g round numbers x) (child_part g round numbers y) (light x (omega (arith, lx, n.long)) ∙ sym (light y (omega (arith, ly, n.long)))) e),
+    (λ e. pairs (child_part g round numbers x) (child_part g round numbers y) (light x (omega (arith, lx, n.long))
+        ∙ sym (light y (omega (arith, ly, n.long)))) e),
     (λ e. ap (λ (p : ℕ × ℕ). p.1) e),
   );
 }
@@ -141,7 +150,8 @@ AreRoundClasses g round classes = IsClassesOf (λ i j. SameClass g round (signal
 
 -- by the classes of a round and the numbers of the next, the classes of equal keys are those of the next round
 pub next_classes : (g : Game) (round : ℕ) (above numbers classes : List ℕ) → length above ≡ length (signals g round) → AreRoundClasses g round above
-    → IsNumbering g (suc round) numbers → length classes ≡ length numbers → IsKeyClasses (class_key above (parents g (suc round)) numbers) classes → AreRoundClasses g (suc round) classes
+    → IsNumbering g (suc round) numbers → length classes ≡ length numbers → IsKeyClasses (class_key above (parents g (suc round)) numbers) classes
+    → AreRoundClasses g (suc round) classes
 next_classes g round above numbers classes la ha n long h =
     classes_like (λ i j. key i ≡ key j) (λ i j. SameClass g (suc round) (signal_at g (suc round) i) (signal_at g (suc round) j)) classes like h
   where
@@ -157,12 +167,15 @@ next_classes g round above numbers classes la ha n long h =
     at : (i : ℕ) → i < length classes → take round (signal_at g (suc round) i) ≡ signal_at g round (parent i)
     at i l = before_last g round i (omega (arith, l, long, n.long))
 
-    like : (i j : ℕ) → i < length classes → j < length classes → (key i ≡ key j) ↔ SameClass g (suc round) (signal_at g (suc round) i) (signal_at g (suc round) j)
+    like : (i j : ℕ) → i < length classes → j < length classes → (key i ≡ key j)
+        ↔ SameClass g (suc round) (signal_at g (suc round) i) (signal_at g (suc round) j)
     like i j li lj =
         let a = n.same i j (omega (arith, li, long)) (omega (arith, lj, long)) in
         let b = ha.same (parent i) (parent j) (below i li) (below j lj) in
-        let there : SameClass g round (take round (signal_at g (suc round) i)) (take round (signal_at g (suc round) j)) ≡ SameClass g round (signal_at g round (parent i)) (signal_at g round (parent j)) =
-        ap (λ s. SameClass g round s (take round (signal_at g (suc round) j))) (at i li) ∙ ap (λ s. SameClass g round (signal_at g round (parent i)) s) (at j lj) in (
+        let there : SameClass g round (take round (signal_at g (suc round) i)) (take round (signal_at g (suc round) j))
+        ≡ SameClass g round (signal_at g round (parent i)) (signal_at g round (parent j)) =
+        ap (λ s. SameClass g round s (take round (signal_at g (suc round) j))) (at i li)
+        ∙ ap (λ s. SameClass g round (signal_at g round (parent i)) s) (at j lj) in (
           (λ e. (a.0 (ap (λ (p : ℕ × ℕ). p.1) e), subst (λ (P : Type 0). P) (sym there) (b.0 (ap (λ (p : ℕ × ℕ). p.0) e)))),
           (λ s.
               let m : get_or numbers i 0 ≡ get_or numbers j 0 = a.1 s.0 in

@@ -18,4 +18,5 @@ within_all (x ∷ xs) (suc k) d l = let all = sum_by-cons weight x xs in let res
 
 pub deals_light : (g : Game) (i : ℕ) → IsWithinLimits g → All (λ (d : Deal). d.weight < 2 ^ 32) (filter (λ (d : Deal). d.one == i) (deals g))
 deals_light g i limits =
-    All-filter (λ (d : Deal). d.one == i) (λ (d : Deal). d.weight < 2 ^ 32) (deals g) (λ k d l. let here = within_all (deals g) k d l in let most = limits.weight_in in omega (arith, here, most))
+    All-filter (λ (d : Deal). d.one == i) (λ (d : Deal). d.weight < 2 ^ 32) (deals g) (λ k d l. let here = within_all (deals g) k d l in
+    let most = limits.weight_in in omega (arith, here, most))

@@ -16,7 +16,8 @@ use Rattle.gs_iso.proofs.Below.{AreRoundClasses, next_classes}
 use Rattle.gs_model.proofs.Extends.{parents_below}
 
 -- what holds of each list and of one more
-pub rows_more : (P : ℕ → List ℕ → Type 0) (vs : List (Vec ℕ Global)) (v : Vec ℕ Global) → ((k : ℕ) → k < length vs → P k (get_or (rows vs) k [])) → P (length vs) v.items
+pub rows_more : (P : ℕ → List ℕ → Type 0) (vs : List (Vec ℕ Global)) (v : Vec ℕ Global) → ((k : ℕ) → k < length vs → P k (get_or (rows vs) k []))
+    → P (length vs) v.items
     → (k : ℕ) → k < length (vs ++ v ∷ []) → P k (get_or (rows (vs ++ v ∷ [])) k [])
 rows_more P [] v old here zero l = here
 rows_more P [] v old here (suc k) l = absurd (omega (arith, l))
@@ -44,21 +45,26 @@ root_class g = record { long = refl; grouped = record { numbered = numbered; sam
     same zero (suc j) li lj = absurd (omega (arith, lj))
     same (suc i) j li lj = absurd (omega (arith, li))
 
-pub above_classes : (g : Game) (lists : List (List ℕ)) → ((k : ℕ) → k < length lists → AreClassesIn g (suc k) (get_or lists k [])) → AreClassesIn g (length lists) (classes_above lists)
+pub above_classes : (g : Game) (lists : List (List ℕ)) → ((k : ℕ) → k < length lists → AreClassesIn g (suc k) (get_or lists k []))
+    → AreClassesIn g (length lists) (classes_above lists)
 above_classes g [] h = root_class g
 above_classes g (x ∷ xs) h = h (length xs) (omega arith)
 
-pub above_in : (g : Game) (vs : List (Vec ℕ Global)) (done : ℕ) (above : List ℕ) → length vs ≡ done → above ≡ classes_above (rows vs) → ((k : ℕ) → k < length vs → AreClassesIn g (suc k) (get_or (rows vs) k []))
+pub above_in : (g : Game) (vs : List (Vec ℕ Global)) (done : ℕ) (above : List ℕ) → length vs ≡ done → above ≡ classes_above (rows vs)
+    → ((k : ℕ) → k < length vs → AreClassesIn g (suc k) (get_or (rows vs) k []))
     → AreClassesIn g done above
 above_in g vs done above long is each =
     let n = length-rows vs in
-    subst (AreClassesIn g done) (sym is) (subst (λ n. AreClassesIn g n (classes_above (rows vs))) (n ∙ long) (above_classes g (rows vs) (λ k l. each k (omega (arith, l, n)))))
+    subst (AreClassesIn g done) (sym is) (subst (λ n. AreClassesIn g n (classes_above (rows vs))) (n
+    ∙ long) (above_classes g (rows vs) (λ k l. each k (omega (arith, l, n)))))
 
 -- numbers of a round by their place
-pub numbers_in : (g : Game) (all : List (List ℕ)) (i round : ℕ) (numbers : List ℕ) → AreNumberings g all → i < length all → round_count g - i ≡ round → numbers ≡ get_or all i [] → IsNumbering g round numbers
+pub numbers_in : (g : Game) (all : List (List ℕ)) (i round : ℕ) (numbers : List ℕ) → AreNumberings g all → i < length all → round_count g - i ≡ round
+    → numbers ≡ get_or all i [] → IsNumbering g round numbers
 numbers_in g all i round numbers h l e is = subst (IsNumbering g round) (sym is) (subst (λ r. IsNumbering g r (get_or all i [])) e (h.each i l))
 
-pub numbers_below : (g : Game) (all : List (Vec ℕ Global)) (round i : ℕ) (v : Vec ℕ Global) (numbers : List ℕ) → AreNumberings g (rows all) → i + round + 1 ≡ round_count g → v ≡ get_or all i v → numbers ≡ v.items
+pub numbers_below : (g : Game) (all : List (Vec ℕ Global)) (round i : ℕ) (v : Vec ℕ Global) (numbers : List ℕ) → AreNumberings g (rows all)
+    → i + round + 1 ≡ round_count g → v ≡ get_or all i v → numbers ≡ v.items
     → IsNumbering g (round + 1) numbers
 numbers_below g all round i v numbers h e is same =
     let n = length-rows all in
@@ -71,24 +77,28 @@ pub record AreReady (above ps numbers : List ℕ) : Type 0 where
   pub few : length numbers + 1 < 2 ^ 32
   pub in_range : All (λ p. p < length above) ps
 
-pub ready : (g : Game) (round : ℕ) (above ps numbers : List ℕ) → IsWithinLimits g → round < round_count g → AreClassesIn g round above → ps ≡ parents g (suc round) → IsNumbering g (suc round) numbers
+pub ready : (g : Game) (round : ℕ) (above ps numbers : List ℕ) → IsWithinLimits g → round < round_count g → AreClassesIn g round above
+    → ps ≡ parents g (suc round) → IsNumbering g (suc round) numbers
     → AreReady above ps numbers
 ready g round above ps numbers limits l a is n = record {
   all = ap length is ∙ length-parents g (suc round) ∙ sym n.long;
   few = omega (arith, n.long, limits.signals_in (suc round) (omega (arith, l)));
-  in_range = subst (λ ps. All (λ p. p < length above) ps) (sym is) (subst (λ k. All (λ p. p < k) (parents g (suc round))) (sym a.long) (parents_below g round));
+  in_range = subst (λ ps. All (λ p. p < length above) ps) (sym is) (subst (λ k. All (λ p. p < k) (parents g (suc round))) (sym a.long)
+      (parents_below g round));
 }
 
 -- with the classes of a round, those of the next
 pub classes_next : (g : Game) (round : ℕ) (above numbers classes : List ℕ) → AreClassesIn g round above → IsNumbering g (suc round) numbers
-    → length classes ≡ length numbers → (ps : List ℕ) → ps ≡ parents g (suc round) → IsKeyClasses (class_key above ps numbers) classes → AreClassesIn g (suc round) classes
+    → length classes ≡ length numbers → (ps : List ℕ) → ps ≡ parents g (suc round) → IsKeyClasses (class_key above ps numbers) classes
+    → AreClassesIn g (suc round) classes
 classes_next g round above numbers classes a n long ps is h = record {
   long = long ∙ n.long;
   grouped = next_classes g round above numbers classes a.long a.grouped n long (subst (λ ps. IsKeyClasses (class_key above ps numbers) classes) is h);
 }
 
 -- the lists of all rounds are signal classes
-pub all_classes : (g : Game) (lists : List (List ℕ)) → length lists ≡ round_count g → ((k : ℕ) → k < length lists → AreClassesIn g (suc k) (get_or lists k [])) → IsSignalClasses g lists
+pub all_classes : (g : Game) (lists : List (List ℕ)) → length lists ≡ round_count g
+    → ((k : ℕ) → k < length lists → AreClassesIn g (suc k) (get_or lists k [])) → IsSignalClasses g lists
 all_classes g lists all h = record {
   rounds = all;
   lengths = λ round some le. (at round some le).long;

@@ -25,23 +25,27 @@ use Rattle.gs_iso.proofs.Rounds.{drop_whole}
 abbrev Answers : {Y : Type 0} → (Y → Y → Type 0) → List Y → List Y → Option (List ℕ) → Type 0
 Answers S us vs m = MatchOption m (Matched S us vs → ⊥) (λ to. Matched S us vs × IsPairingOf S us vs to)
 
-paired_from : {X Y : Type 0} (eq : X → X → Bool) (S : Y → Y → Type 0) (d : X) (e : Y) (xs ys : List X) (us vs : List Y) → length xs ≡ length us → length ys ≡ length vs
+paired_from : {X Y : Type 0} (eq : X → X → Bool) (S : Y → Y → Type 0) (d : X) (e : Y) (xs ys : List X) (us vs : List Y) → length xs ≡ length us
+    → length ys ≡ length vs
     → ((k j : ℕ) → k < length xs → j < length ys → (eq (get_or xs k d) (get_or ys j d) ≡ true) ↔ S (get_or us k e) (get_or vs j e))
     → (m : Option (List ℕ)) → IsPairingAnswer eq xs ys m → Answers S us vs m
 paired_from eq S d e xs ys us vs p q like None h = λ iso.
     let w = pairing_from_matched S us vs iso in
-    h w.0 (pairing_like S (λ x y. eq x y ≡ true) e d us vs xs ys (sym p) (sym q) (λ k j l m. (like k j (omega (arith, l, p)) (omega (arith, m, q))).1) w.0 w.1)
+    h w.0 (pairing_like S (λ x y. eq x y ≡ true) e d us vs xs ys (sym p) (sym q)
+    (λ k j l m. (like k j (omega (arith, l, p)) (omega (arith, m, q))).1) w.0 w.1)
 paired_from eq S d e xs ys us vs p q like (Some to) h =
     let w = pairing_like (λ x y. eq x y ≡ true) S d e xs ys us vs p q (λ k j l m. (like k j l m).0) to h in
     (matched_from_pairing S us vs to w, w)
 
-as_paired : (g : Game) (rest : List Round) (s t : Signal) (m : Option (List ℕ)) → MatchOption m (IsomorphicFor g rest s t → ⊥) (λ to. IsomorphicFor g rest s t × IsPairingFor g rest s t to) → IsPairedFor g rest s t m
+as_paired : (g : Game) (rest : List Round) (s t : Signal) (m : Option (List ℕ))
+    → MatchOption m (IsomorphicFor g rest s t → ⊥) (λ to. IsomorphicFor g rest s t × IsPairingFor g rest s t to) → IsPairedFor g rest s t m
 as_paired g rest s t None h = h
 as_paired g rest s t (Some to) h = h
 
 -- ---- in the last round
 
-pub leaf_answer : (g : Game) (s t : Signal) (ones twos : List (ℕ × ℤ)) → ones ≡ leaves g s → twos ≡ leaves g t → (m : Option (List ℕ)) → IsPairingAnswer leaf_eq ones twos m → IsPaired g (round_count g) s t m
+pub leaf_answer : (g : Game) (s t : Signal) (ones twos : List (ℕ × ℤ)) → ones ≡ leaves g s → twos ≡ leaves g t → (m : Option (List ℕ))
+    → IsPairingAnswer leaf_eq ones twos m → IsPaired g (round_count g) s t m
 leaf_answer g s t ones twos is js m h =
     let start : ℕ × ℤ = (0, pos 0) in
     let both = paired_from leaf_eq (λ (a : ℕ × ℤ) (b : ℕ × ℤ). a ≡ b) start start (leaves g s) (leaves g t) (leaves g s) (leaves g t) refl refl
@@ -80,7 +84,8 @@ module _ (g : Game) (round : ℕ) (l : round < round_count g) (numbers : List �
   places i = range_with_len (first_child g round i) (child_count g round i)
 
   -- equal parts are alike children
-  alike : (x y : ℕ) → x < length (signals g (suc round)) → y < length (signals g (suc round)) → (child_eq (part x) (part y) ≡ true) ↔ Alike (child x) (child y)
+  alike : (x y : ℕ) → x < length (signals g (suc round)) → y < length (signals g (suc round))
+      → (child_eq (part x) (part y) ≡ true) ↔ Alike (child x) (child y)
   alike x y lx ly =
       let both = n.same x y (omega (arith, lx, n.long)) (omega (arith, ly, n.long)) in
       let exact = child_exact (part x) (part y) in (
@@ -88,14 +93,16 @@ module _ (g : Game) (round : ℕ) (l : round < round_count g) (numbers : List �
         (λ a. exact.1 (pairs (part x) (part y) a.0 (both.1 a.1))),
       )
 
-  child_paired : (i j : ℕ) → i < length (signals g round) → j < length (signals g round) → (m : Option (List ℕ)) → IsPairingAnswer child_eq (map part (places i)) (map part (places j)) m
+  child_paired : (i j : ℕ) → i < length (signals g round) → j < length (signals g round) → (m : Option (List ℕ))
+      → IsPairingAnswer child_eq (map part (places i)) (map part (places j)) m
       → IsPaired g round (signal_at g round i) (signal_at g round j) m
   child_paired i j li lj m h =
       let start : ℕ × ℕ = (0, 0) in
       let root : ℕ × Signal = (0, []) in
       let long = λ (k : ℕ). length-map-range_with_len part (first_child g round k) (child_count g round k) in
       let long' = λ (k : ℕ). length-map-range_with_len child (first_child g round k) (child_count g round k) in
-      let both = paired_from child_eq Alike start root (map part (places i)) (map part (places j)) (map child (places i)) (map child (places j)) (long i ∙ sym (long' i)) (long j ∙ sym (long' j))
+      let both = paired_from child_eq Alike start root (map part (places i)) (map part (places j)) (map child (places i)) (map child (places j)) (long i
+      ∙ sym (long' i)) (long j ∙ sym (long' j))
       (λ a b la lb.
       let fa : a < child_count g round i = omega (arith, la, long i) in
       let fb : b < child_count g round j = omega (arith, lb, long j) in
@@ -113,14 +120,17 @@ module _ (g : Game) (round : ℕ) (l : round < round_count g) (numbers : List �
       let t = signal_at g round j in
       subst (λ rs. IsPairedFor g rs s t m) (sym (rounds_after g round l))
       (as_paired g (r ∷ drop (suc round) g.rounds) s t m
-      (subst (λ us. Answers Alike us (children g r t) m) (sym (children-run g round i li)) (subst (λ vs. Answers Alike (map child (places i)) vs m) (sym (children-run g round j lj)) both)))
+      (subst (λ us. Answers Alike us (children g r t) m) (sym (children-run g round i li))
+      (subst (λ vs. Answers Alike (map child (places i)) vs m) (sym (children-run g round j lj)) both)))
 
 -- the children's parts, by the numbers of the next round
 abbrev pub child_parts : Game → ℕ → ℕ → List ℕ → ℕ → List (ℕ × ℕ)
 child_parts g round next numbers i = map (child_part g next numbers) (range_with_len (first_child g round i) (child_count g round i))
 
-pub child_answer : (g : Game) (round next : ℕ) → suc round ≡ next → round < round_count g → (numbers : List ℕ) → IsNumbering g next numbers → (i j : ℕ) → i < length (signals g round) → j < length (signals g round)
-    → (ones twos : List (ℕ × ℕ)) → ones ≡ child_parts g round next numbers i → twos ≡ child_parts g round next numbers j → (m : Option (List ℕ)) → IsPairingAnswer child_eq ones twos m
+pub child_answer : (g : Game) (round next : ℕ) → suc round ≡ next → round < round_count g → (numbers : List ℕ) → IsNumbering g next numbers → (i j : ℕ)
+    → i < length (signals g round) → j < length (signals g round)
+    → (ones twos : List (ℕ × ℕ)) → ones ≡ child_parts g round next numbers i → twos ≡ child_parts g round next numbers j → (m : Option (List ℕ))
+    → IsPairingAnswer child_eq ones twos m
     → IsPaired g round (signal_at g round i) (signal_at g round j) m
 child_answer g round next e l numbers n i j li lj ones twos is js m h =
     child_paired g round l numbers (subst (λ r. IsNumbering g r numbers) (sym e) n) i j li lj m
@@ -128,6 +138,12 @@ child_answer g round next e l numbers n i j li lj ones twos is js m h =
     (subst (λ xs. IsPairingAnswer child_eq xs (child_parts g round next numbers j) m) is (subst (λ ys. IsPairingAnswer child_eq ones ys m) js h)))
 
 -- a signal has no more children than the next round has signals
-pub children_few : (g : Game) (round next i : ℕ) (numbers : List ℕ) → IsWithinLimits g → round < round_count g → i < length (signals g round) → length (child_parts g round next numbers i) < 2 ^ 32
+pub children_few : (g : Game) (round next i : ℕ) (numbers : List ℕ) → IsWithinLimits g → round < round_count g → i < length (signals g round)
+    → length (child_parts g round next numbers i) < 2 ^ 32
 children_few g round next i numbers h l li =
-    omega (arith, length-map-range_with_len (child_part g next numbers) (first_child g round i) (child_count g round i), children_in g round i li, h.signals_in (suc round) (omega (arith, l)))
+    omega (
+      arith,
+      length-map-range_with_len (child_part g next numbers) (first_child g round i) (child_count g round i),
+      children_in g round i li,
+      h.signals_in (suc round) (omega (arith, l)),
+    )

@@ -41,7 +41,8 @@ joins_kept edges e a b h =
 joins_last : (edges : List (ℕ × ℕ)) (a b : ℕ) → joins (edges ++ (a, b) ∷ []) a b ≡ true
 joins_last edges a b =
     let p = λ (e : ℕ × ℕ). cond (e.0 == a) (e.1 == b) false in
-    list_any_at p (edges ++ (a, b) ∷ []) (length edges) (a, b) (omega (arith, length-append edges ((a, b) ∷ []))) (ap p (get_or_push edges (a, b) (a, b) (length edges) refl) ∙ same)
+    list_any_at p (edges ++ (a, b) ∷ []) (length edges) (a, b) (omega (arith, length-append edges ((a, b) ∷ [])))
+    (ap p (get_or_push edges (a, b) (a, b) (length edges) refl) ∙ same)
   where
     same : cond (a == a) (b == b) false ≡ true
     same = ap (λ t. cond t (b == b) false) ((Decides-eqb a a).1 refl) ∙ (Decides-eqb b b).1 refl
@@ -53,13 +54,15 @@ some (x ∷ xs) a l = x
 
 module _ {X : Type 0} (eq : X → X → Bool) (xs ys : List X) where
   -- a perfect matching along edges of equal members is a pairing of equal members
-  pub pairing_from_perfect : (g : Edges) (to : List ℕ) → IsEqualGraph eq xs ys g → g.left ≡ g.right → IsPerfect g to → IsPairingOf (λ x y. eq x y ≡ true) xs ys to
+  pub pairing_from_perfect : (g : Edges) (to : List ℕ) → IsEqualGraph eq xs ys g → g.left ≡ g.right → IsPerfect g to
+      → IsPairingOf (λ x y. eq x y ≡ true) xs ys to
   pairing_from_perfect g to h sides p = record {
     as_many = sym h.right ∙ sym sides ∙ h.left;
     one_each = p.one_each ∙ h.left;
     in_range = subst (λ n. All (λ k. k < n) to) h.right p.in_range;
     differ = p.differ;
-    related = λ k d l. joined (λ a b. eq (get_or xs a d) (get_or ys b d) ≡ true) g.edges (λ i e m. (h.edges.only i e m).2 d) k (get_or to k 0) (p.along k (omega (arith, l, h.left)));
+    related = λ k d l. joined (λ a b. eq (get_or xs a d) (get_or ys b d)
+        ≡ true) g.edges (λ i e m. (h.edges.only i e m).2 d) k (get_or to k 0) (p.along k (omega (arith, l, h.left)));
   }
 
   -- and each such pairing is one
@@ -81,8 +84,10 @@ module _ {X : Type 0} (eq : X → X → Bool) (xs ys : List X) where
     pub row : (b : ℕ) (d : X) → b < done → eq (get_or xs left d) (get_or ys b d) ≡ true → joins edges left b ≡ true
 
   -- members that are read, at any default
-  read : (left right : ℕ) (x y d : X) → left < length xs → right < length ys → x ≡ get_or xs left x → y ≡ get_or ys right y → eq (get_or xs left d) (get_or ys right d) ≡ eq x y
-  read left right x y d lx ly hx hy = ap (λ z. eq z (get_or ys right d)) (sym (get_or_read xs left x lx hx d)) ∙ ap (λ z. eq x z) (sym (get_or_read ys right y ly hy d))
+  read : (left right : ℕ) (x y d : X) → left < length xs → right < length ys → x ≡ get_or xs left x → y ≡ get_or ys right y
+      → eq (get_or xs left d) (get_or ys right d) ≡ eq x y
+  read left right x y d lx ly hx hy = ap (λ z. eq z (get_or ys right d)) (sym (get_or_read xs left x lx hx d))
+      ∙ ap (λ z. eq x z) (sym (get_or_read ys right y ly hy d))
 
   pub row_apart : (left right : ℕ) (edges : List (ℕ × ℕ)) (x y : X) → left < length xs → right < length ys → x ≡ get_or xs left x → y ≡ get_or ys right y
       → eq x y ≡ false → AreRowEdges left right edges → AreRowEdges left (right + 1) edges
@@ -132,14 +137,16 @@ places_differ n to h i j l m e =
     eqb_flips a b = grind arith
 
 places_below : (n : ℕ) (to : List ℕ) → IsPermutation (range_with_len 0 n) to → All (λ k. k < n) to
-places_below n to h = All-permutation (λ k. k < n) (range_with_len 0 n) to h (λ k d l. let long = length-range_with_len 0 n in let r = get_or-range_with_len 0 n k d (omega (arith, l, long)) in omega (arith, r, l, long))
+places_below n to h = All-permutation (λ k. k < n) (range_with_len 0 n) to h (λ k d l. let long = length-range_with_len 0 n in
+    let r = get_or-range_with_len 0 n k d (omega (arith, l, long)) in omega (arith, r, l, long))
 
 module _ {X : Type 0} (R : X → X → Type 0) where
   matched_at : (d : X) (xs ys : List X) (to : List ℕ) → IsPairingOf R xs ys to → Matched R xs ys
   matched_at d xs ys to p =
       let at : ℕ → X = λ k. get_or ys k d in
       let ws = map at to in
-      let moved : IsPermutation ys ws = subst (λ l. IsPermutation l ws) (whole ys d) (IsPermutation-map at (range_with_len 0 (length ys)) to (places_in_order to (length ys) (p.one_each ∙ sym p.as_many) p.differ p.in_range)) in
+      let moved : IsPermutation ys ws = subst (λ l. IsPermutation l ws) (whole ys d)
+      (IsPermutation-map at (range_with_len 0 (length ys)) to (places_in_order to (length ys) (p.one_each ∙ sym p.as_many) p.differ p.in_range)) in
       let zip = AllZip-from_get_or R xs ws (sym p.one_each ∙ sym (length-map to at)) (λ k e f l.
       let lt : k < length to = omega (arith, l, p.one_each) in
       subst (λ y. R (get_or xs k e) y)
@@ -172,18 +179,29 @@ module _ {X : Type 0} (R : X → X → Type 0) where
           related = λ k e lt.
               let lk : k < length to = omega (arith, lt, n, m', long) in
               subst (λ y. R (get_or xs k e) y)
-              (ap (λ l. get_or l k e) (sym l.keys) ∙ get_or-map at to k 0 e lk ∙ get_or_default ys (get_or to k 0) d e (places_below (length ys) to l.moved k 0 lk))
+              (ap (λ l. get_or l k e) (sym l.keys) ∙ get_or-map at to k 0 e lk
+              ∙ get_or_default ys (get_or to k 0) d e (places_below (length ys) to l.moved k 0 lk))
               (AllZip-get_or R xs ws k e e w.2 lt);
         },
       )
 
   pub pairing_from_matched : (xs ys : List X) → Matched R xs ys → (to : List ℕ) × IsPairingOf R xs ys to
-  pairing_from_matched [] [] m = ([], record { as_many = refl; one_each = refl; in_range = λ k d l. absurd (omega (arith, l)); differ = λ i j l m e. omega (arith, l, m); related = λ k d l. absurd (omega (arith, l)) })
+  pairing_from_matched [] [] m = (
+    [],
+    record {
+      as_many = refl;
+      one_each = refl;
+      in_range = λ k d l. absurd (omega (arith, l));
+      differ = λ i j l m e. omega (arith, l, m);
+      related = λ k d l. absurd (omega (arith, l));
+    },
+  )
   pairing_from_matched [] (y ∷ ys) m = pairing_at y [] (y ∷ ys) m
   pairing_from_matched (x ∷ xs) ys m = pairing_at x (x ∷ xs) ys m
 
 -- pairings of two pairs of lists whose members are related alike
-pub pairing_like : {X Y : Type 0} (R : X → X → Type 0) (S : Y → Y → Type 0) (d : X) (e : Y) (xs ys : List X) (us vs : List Y) → length xs ≡ length us → length ys ≡ length vs
+pub pairing_like : {X Y : Type 0} (R : X → X → Type 0) (S : Y → Y → Type 0) (d : X) (e : Y) (xs ys : List X) (us vs : List Y) → length xs ≡ length us
+    → length ys ≡ length vs
     → ((k j : ℕ) → k < length xs → j < length ys → R (get_or xs k d) (get_or ys j d) → S (get_or us k e) (get_or vs j e))
     → (to : List ℕ) → IsPairingOf R xs ys to → IsPairingOf S us vs to
 pairing_like R S d e xs ys us vs m n like to p = record {

@@ -34,7 +34,8 @@ are_parents g h = record {
       let n = parents_long g in
       let j = round - 1 in
       let i : suc j ≡ round = omega (arith, some) in
-      let here : list_of (all_parents g) round ≡ parents g (suc j) = parents_at g round (omega (arith, some)) (omega (arith, le, n)) ∙ ap (parents g) (sym i) in
+      let here : list_of (all_parents g) round ≡ parents g (suc j) = parents_at g round (omega (arith, some)) (omega (arith, le, n))
+      ∙ ap (parents g) (sym i) in
       let above : list_of (all_parents g) j ≡ parents g j = parents_at g j (omega (arith, some)) (omega (arith, le, n, some)) in
       let e = ap length here in
       let f = ap length above in
@@ -62,7 +63,8 @@ are_classes g lists h =
     kept round s t some lt ls lt' same =
         let n = parents_long g in
         let one : round + 1 ≡ suc round = omega arith in
-        let here : list_of (all_parents g) (round + 1) ≡ parents g (suc round) = ap (list_of (all_parents g)) one ∙ parents_at g (suc round) (omega arith) (omega (arith, lt, n)) in
+        let here : list_of (all_parents g) (round + 1) ≡ parents g (suc round) =
+        ap (list_of (all_parents g)) one ∙ parents_at g (suc round) (omega arith) (omega (arith, lt, n)) in
         let e = ap length here in
         let p = length-parents g (suc round) in
         let ins : s < length (parents g (suc round)) = omega (arith, ls, e) in
@@ -78,5 +80,6 @@ are_classes g lists h =
         let rs = parents_below g round s 0 ins in
         let rt = parents_below g round t 0 inst in
         let u = h.lengths round some (omega (arith, lt, n)) in
-        let equal : class_of lists round ps ≡ class_of lists round pt = ((h.classes round some (omega (arith, lt, n))).same ps pt (omega (arith, rs, u)) (omega (arith, rt, u))).1 up in
+        let equal : class_of lists round ps ≡ class_of lists round pt = ((h.classes round some (omega (arith, lt, n))).same ps pt (omega (arith, rs, u))
+        (omega (arith, rt, u))).1 up in
         ap (λ (l : List ℕ). class_of lists round (get_or l s 0)) here ∙ equal ∙ sym (ap (λ (l : List ℕ). class_of lists round (get_or l t 0)) here)

@@ -11,7 +11,8 @@ use Rattle.gs_iso.specs.Orders.{leaf_mark, mark_lt}
 -- numbers of the signals of a round that are equal exactly where the signals are isomorphic
 pub record IsNumbering (g : Game) (round : ℕ) (numbers : List ℕ) : Type 0 where
   pub long : length numbers ≡ length (signals g round)
-  pub same : (i j : ℕ) → i < length numbers → j < length numbers → (get_or numbers i 0 ≡ get_or numbers j 0) ↔ Isomorphic g round (signal_at g round i) (signal_at g round j)
+  pub same : (i j : ℕ) → i < length numbers → j < length numbers → (get_or numbers i 0 ≡ get_or numbers j 0)
+      ↔ Isomorphic g round (signal_at g round i) (signal_at g round j)
 
 -- what tells the classes of a round apart: the class of a signal's parent, and the signal's number. `above` has the classes of the round before
 abbrev pub class_key : List ℕ → List ℕ → List ℕ → ℕ → ℕ × ℕ
@@ -28,7 +29,8 @@ child_part g round numbers x = (last_edge g.copies (signal_at g round x), get_or
 -- marks of the signals of a round that are equal exactly where the signals are the same as children: by the edges to them, and by their numbers
 pub record AreMarks (g : Game) (round : ℕ) (numbers marks : List ℕ) : Type 0 where
   pub long : length marks ≡ length (signals g round)
-  pub same : (x y : ℕ) → x < length marks → y < length marks → (get_or marks x 0 ≡ get_or marks y 0) ↔ (child_part g round numbers x ≡ child_part g round numbers y)
+  pub same : (x y : ℕ) → x < length marks → y < length marks → (get_or marks x 0 ≡ get_or marks y 0)
+      ↔ (child_part g round numbers x ≡ child_part g round numbers y)
 
 -- the marks of the children of a signal, by their places
 abbrev pub marks_under : Game → ℕ → List ℕ → ℕ → List ℕ

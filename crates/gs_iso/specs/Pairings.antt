@@ -17,7 +17,8 @@ pub record IsPairingOf {X : Type 0} (R : X → X → Type 0) (xs ys : List X) (t
 -- for two signals that the rounds `rest` follow: children of equal edge weight that are isomorphic; in the last round, leaves of equal edge weight and outcome
 abbrev pub IsPairingFor : Game → List Round → Signal → Signal → List ℕ → Type 0
 IsPairingFor g [] s t to = IsPairingOf (λ (a : ℕ × ℤ) (b : ℕ × ℤ). a ≡ b) (leaves g s) (leaves g t) to
-IsPairingFor g (r ∷ rs) s t to = IsPairingOf (λ (a : ℕ × Signal) (b : ℕ × Signal). (a.0 ≡ b.0) × IsomorphicFor g rs a.1 b.1) (children g r s) (children g r t) to
+IsPairingFor g (r ∷ rs) s t to = IsPairingOf (λ (a : ℕ × Signal) (b : ℕ × Signal). (a.0 ≡ b.0)
+    × IsomorphicFor g rs a.1 b.1) (children g r s) (children g r t) to
 
 -- what a search for one answers: none, exactly where the two signals are not isomorphic
 abbrev pub IsPairedFor : Game → List Round → Signal → Signal → Option (List ℕ) → Type 0

@@ -104,13 +104,15 @@ mutual
 
   items_none : (b : Bool) (ds : Items) → ItemsAreCanonical ds → has_none (items_text b ds) ≡ true
   items_none b no_items h = refl
-  items_none b (item d ds) h = both (comma_if b) (compact_text d ++ items_text true ds) (comma b) (both (compact_text d) (items_text true ds) (value_none d h.0) (items_none true ds h.1))
+  items_none b (item d ds) h = both (comma_if b) (compact_text d ++ items_text true ds) (comma b)
+      (both (compact_text d) (items_text true ds) (value_none d h.0) (items_none true ds h.1))
 
   members_none : (b : Bool) (ms : Members) → MembersAreCanonical ms → has_none (members_text b ms) ≡ true
   members_none b no_members h = refl
   members_none b (member k d ms) h =
       let rest = both (compact_text d) (members_text true ms) (value_none d h.1) (members_none true ms h.2) in
-      both (comma_if b) (quoted k ++ 58 ∷ (compact_text d ++ members_text true ms)) (comma b) (both (quoted k) (58 ∷ (compact_text d ++ members_text true ms)) (quotes k) rest)
+      both (comma_if b) (quoted k ++ 58 ∷ (compact_text d ++ members_text true ms)) (comma b)
+      (both (quoted k) (58 ∷ (compact_text d ++ members_text true ms)) (quotes k) rest)
 
 -- the first line of a canonical value's line and what stands behind it
 pub line_parted : (d : Data) (rest : List ℕ) → IsCanonical d → first_line (line_text d ++ rest) ≡ (line_text d, rest)

@@ -16,5 +16,6 @@ listed : (vs : List Value) → list_of (items_view vs) ≡ map view vs
 listed [] = refl
 listed (v ∷ vs) = ap (λ ds. view v ∷ ds) (listed vs)
 
-pub list_is : {B : Type 0} (each : List Data → Option B) (d : Data) (vs : List Value) → as_array d ≡ Some (items_view vs) → option_and_then (λ ds. each (list_of ds)) (as_array d) ≡ each (map view vs)
+pub list_is : {B : Type 0} (each : List Data → Option B) (d : Data) (vs : List Value) → as_array d ≡ Some (items_view vs)
+    → option_and_then (λ ds. each (list_of ds)) (as_array d) ≡ each (map view vs)
 list_is each d vs e = rw (e, listed vs) refl

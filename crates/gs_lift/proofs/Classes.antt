@@ -24,8 +24,10 @@ pub record InRound (a : Abstract) (c : Filter) (q s round : ℕ) : Type 0 where
   pub same : round ≡ round_of (frame_of a) (at_point q)
   pub lists : c.lists ≡ lists_of a
 
-pub in_round : (a : Abstract) (lossless : Lossless) (signals : Signals) (game : ValidGame) (c : Filter) (ps : List StoredPoint) (p : StoredPoint) (q s : ℕ) → lossless ≡ a.lossless.now → signals ≡ lossless.signals.now → game ≡ signals.game.now
-    → c ≡ lossless.classes.now → c.parents ≡ (frame (rules_of lossless.signals.now)).parents → IsSound c → map point_of ps ≡ map own_point (frame_in game).points → p ≡ get_or ps q p → q < point_count (frame_of a)
+pub in_round : (a : Abstract) (lossless : Lossless) (signals : Signals) (game : ValidGame) (c : Filter) (ps : List StoredPoint) (p : StoredPoint) (q s : ℕ)
+    → lossless ≡ a.lossless.now → signals ≡ lossless.signals.now → game ≡ signals.game.now
+    → c ≡ lossless.classes.now → c.parents ≡ (frame (rules_of lossless.signals.now)).parents → IsSound c
+    → map point_of ps ≡ map own_point (frame_in game).points → p ≡ get_or ps q p → q < point_count (frame_of a)
     → s < signal_count (frame_of a) (round_of (frame_of a) (at_point q)) → InRound a c q s p.round
 in_round a lossless signals game c ps p q s form held played classed over sound points is l m =
     let g = a.lossless.now.signals.now.game.now in

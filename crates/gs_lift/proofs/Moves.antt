@@ -17,7 +17,8 @@ use Rattle.gs_tree.specs.declared.signals.Signals.{Signals}
 use Rattle.gs_lift.proofs.Held.{game_held}
 
 -- the moves of a point of the program are those of the frame's point
-pub moves_read : (g : ValidGame) (ps : List StoredPoint) (q : ℕ) (p : StoredPoint) → map point_of ps ≡ map own_point (frame_in g).points → q < point_count (frame_in g) → p ≡ get_or ps q p
+pub moves_read : (g : ValidGame) (ps : List StoredPoint) (q : ℕ) (p : StoredPoint) → map point_of ps ≡ map own_point (frame_in g).points
+    → q < point_count (frame_in g) → p ≡ get_or ps q p
     → map arrow_of p.moves.items ≡ (point (frame_in g) q).moves
 moves_read g ps q p e l is =
     let f = frame_in g in
@@ -34,11 +35,13 @@ letters_kept [] = refl
 letters_kept (x ∷ xs) = ap (λ l. x.letter ∷ l) (letters_kept xs)
 
 -- and so are their letters
-pub letters_read : (f : Frame) (q : ℕ) (p : StoredPoint) → map arrow_of p.moves.items ≡ (point f q).moves → map (λ (a : StoredArrow). a.letter) p.moves.items ≡ map (λ (a : Arrow). a.letter) (point f q).moves
+pub letters_read : (f : Frame) (q : ℕ) (p : StoredPoint) → map arrow_of p.moves.items ≡ (point f q).moves
+    → map (λ (a : StoredArrow). a.letter) p.moves.items ≡ map (λ (a : Arrow). a.letter) (point f q).moves
 letters_read f q p e = letters_kept p.moves.items ∙ ap (λ (l : List Arrow). map (λ (a : Arrow). a.letter) l) e
 
 -- the letter of one of some moves
-pub small_at : (moves : List StoredArrow) (m : ℕ) (d : StoredArrow) → AreSmall (map (λ (a : StoredArrow). a.letter) moves) → m < length moves → (get_or moves m d).letter < 128
+pub small_at : (moves : List StoredArrow) (m : ℕ) (d : StoredArrow) → AreSmall (map (λ (a : StoredArrow). a.letter) moves) → m < length moves
+    → (get_or moves m d).letter < 128
 small_at [] m d h l = absurd (omega arith)
 small_at (x ∷ xs) zero d h l = h.0
 small_at (x ∷ xs) (suc m) d h l = small_at xs m d h.1 (omega arith)
@@ -50,7 +53,8 @@ pub record Moves (a : Abstract) (q : ℕ) (moves : List StoredArrow) : Type 0 wh
   pub small : AreSmall (map (λ (m : StoredArrow). m.letter) moves)
   pub letters : map (λ (m : StoredArrow). m.letter) moves ≡ map (λ (m : Arrow). m.letter) (point (frame_of a) q).moves
 
-pub moves_at : (a : Abstract) (lossless : Lossless) (signals : Signals) (game : ValidGame) (ps : List StoredPoint) (p : StoredPoint) (q : ℕ) → lossless ≡ a.lossless.now → signals ≡ lossless.signals.now → game ≡ signals.game.now
+pub moves_at : (a : Abstract) (lossless : Lossless) (signals : Signals) (game : ValidGame) (ps : List StoredPoint) (p : StoredPoint) (q : ℕ)
+    → lossless ≡ a.lossless.now → signals ≡ lossless.signals.now → game ≡ signals.game.now
     → map point_of ps ≡ map own_point (frame_in game).points → p ≡ get_or ps q p → q < point_count (frame_of a) → Moves a q p.moves.items
 moves_at a lossless signals game ps p q form held played points is l =
     let g = a.lossless.now.signals.now.game.now in

@@ -60,7 +60,8 @@ whole num den w r =
 -- ---- shares
 
 -- a weight in what all weights add up to, where that is some
-pub share_of : (f : Frame) (x : Plan) (q s m w t : ℕ) (r : Fraction) → w ≡ x.number q s m → t ≡ sum_by (λ c. x.number q s c) (choices_at f q) → 0 < t → r.num *ℤ pos t ≡ pos w *ℤ r.den → IsShareOf f x q s m r
+pub share_of : (f : Frame) (x : Plan) (q s m w t : ℕ) (r : Fraction) → w ≡ x.number q s m → t ≡ sum_by (λ c. x.number q s c) (choices_at f q) → 0 < t
+    → r.num *ℤ pos t ≡ pos w *ℤ r.den → IsShareOf f x q s m r
 share_of f x q s m w t r is all some same =
     let k = ratio r.num r.den w t r.reduced some same in
     record {
@@ -77,7 +78,8 @@ share_of f x q s m w t r is all some same =
     }
 
 -- where they add up to 0: the whole for the first move, nothing for the others
-pub share_none : (f : Frame) (x : Plan) (q s m w : ℕ) (r : Fraction) → w ≡ cond (eqb m 0) 1 0 → sum_by (λ c. x.number q s c) (choices_at f q) ≡ 0 → r.num *ℤ pos 1 ≡ pos w *ℤ r.den → IsShareOf f x q s m r
+pub share_none : (f : Frame) (x : Plan) (q s m w : ℕ) (r : Fraction) → w ≡ cond (eqb m 0) 1 0 → sum_by (λ c. x.number q s c) (choices_at f q) ≡ 0
+    → r.num *ℤ pos 1 ≡ pos w *ℤ r.den → IsShareOf f x q s m r
 share_none f x q s m w r is all same =
     let k = ratio r.num r.den w 1 r.reduced (omega arith) same in
     let e = whole r.num r.den w k in

@@ -41,11 +41,14 @@ pub point_in : (g : ValidGame) (line : List ℕ) (q : ℕ) → NamesPoint g line
 point_in g line q h = omega (arith, slice_get_within (lines (trees_of (game_of g.game))).points q line h, lines_long g)
 
 -- where the look-up of a line finds nothing, or an end, it names no point
-pub no_point : (g : ValidGame) (line : List ℕ) (r : Option StoredTarget) → ((at : Target) → text_at (lines (trees_of (game_of g.game))) at ≡ Some line → option_map target_of r ≡ Some at) → r ≡ None → (q : ℕ) → NamesPoint g line q → ⊥
+pub no_point : (g : ValidGame) (line : List ℕ) (r : Option StoredTarget)
+    → ((at : Target) → text_at (lines (trees_of (game_of g.game))) at ≡ Some line → option_map target_of r ≡ Some at) → r ≡ None → (q : ℕ)
+    → NamesPoint g line q → ⊥
 no_point g line None only e q h = let bad : None ≡ Some (at_point q) = only (at_point q) h in cc
 no_point g line (Some x) only e q h = cc
 
-pub no_point_end : (g : ValidGame) (line : List ℕ) (r : Option StoredTarget) (z : ℕ) → ((at : Target) → text_at (lines (trees_of (game_of g.game))) at ≡ Some line → option_map target_of r ≡ Some at) → r ≡ Some (End z)
+pub no_point_end : (g : ValidGame) (line : List ℕ) (r : Option StoredTarget) (z : ℕ)
+    → ((at : Target) → text_at (lines (trees_of (game_of g.game))) at ≡ Some line → option_map target_of r ≡ Some at) → r ≡ Some (End z)
     → (q : ℕ) → NamesPoint g line q → ⊥
 no_point_end g line r z only e q h =
     let bad : Some (at_end z) ≡ Some (at_point q) = sym (ap (option_map target_of) e) ∙ only (at_point q) h in
@@ -58,7 +61,8 @@ pub record PointAt (s : Signals) (player : ℕ) (line : List ℕ) (q round : ℕ
   pub top : round ≤ round_count (rules_of s)
   pub same : round ≡ round_of (frame_in s.game.now) (at_point q)
 
-pub point_at : (s : Signals) (g : ValidGame) (ps : List StoredPoint) (p : StoredPoint) (player : ℕ) (line : List ℕ) (q : ℕ) → g ≡ s.game.now → map point_of ps ≡ map own_point (frame_in g).points
+pub point_at : (s : Signals) (g : ValidGame) (ps : List StoredPoint) (p : StoredPoint) (player : ℕ) (line : List ℕ) (q : ℕ) → g ≡ s.game.now
+    → map point_of ps ≡ map own_point (frame_in g).points
     → p ≡ get_or ps q p → NamesOwnPoint g player line q → PointAt s player line q (get_or ps q p).round
 point_at s g ps p player line q e points is h =
     let f = frame_in s.game.now in
@@ -75,7 +79,8 @@ point_at s g ps p player line q e points is h =
     }
 
 -- a fault of the line is the fault of both texts
-pub line_fault : (s : Signals) (g : ValidGame) (player : ℕ) (line text : List ℕ) (e : QueryFault) → g ≡ s.game.now → IsPointFault g player line e → IsFaultOf s player line text e
+pub line_fault : (s : Signals) (g : ValidGame) (player : ℕ) (line text : List ℕ) (e : QueryFault) → g ≡ s.game.now → IsPointFault g player line e
+    → IsFaultOf s player line text e
 line_fault s g player line text Line is h = subst (λ (v : ValidGame). IsPointFault v player line Line) is h
 line_fault s g player line text Player is h = subst (λ (v : ValidGame). IsPointFault v player line Player) is h
 line_fault s g player line text Signal is h = absurd h
@@ -87,7 +92,8 @@ pub names_found : (s : Signals) (round i : ℕ) (text : List ℕ) → 0 < round 
 names_found s round i text some top h = record { in_range = omega (arith, h.0, signal_count_is (rules_of s) round some top); named = h.1 }
 
 pub names_none : (s : Signals) (round : ℕ) (text : List ℕ) (r : Option ℕ) → 0 < round → round ≤ round_count (rules_of s)
-    → ((i : ℕ) → i < length (signals (rules_of s) round) → text ≡ signal_text (deck_of s) (signal_at (rules_of s) round i) → r ≡ Some i) → r ≡ None → (i : ℕ) → NamesSignal s round text i → ⊥
+    → ((i : ℕ) → i < length (signals (rules_of s) round) → text ≡ signal_text (deck_of s) (signal_at (rules_of s) round i) → r ≡ Some i) → r ≡ None → (i : ℕ)
+    → NamesSignal s round text i → ⊥
 names_none s round text r some top only none i h =
     let e : r ≡ Some i = only i (omega (arith, h.in_range, signal_count_is (rules_of s) round some top)) h.named in
     let bad : None ≡ Some i = sym none ∙ e in

@@ -50,7 +50,8 @@ IsFaultOf s player line text Line = (q : ℕ) → NamesPoint s.game.now line q �
 IsFaultOf s player line text Player = (q : ℕ) × NamesPoint s.game.now line q × (player_at (frame_in s.game.now) q ≢ player)
 IsFaultOf s player line text Signal = (q : ℕ) × NamesOwnPoint s.game.now player line q × (NamesSomeSignal s text → ⊥)
 IsFaultOf s player line text Round =
-    (q : ℕ) × NamesOwnPoint s.game.now player line q × NamesSomeSignal s text × ((i : ℕ) → NamesSignal s (round_of (frame_in s.game.now) (at_point q)) text i → ⊥)
+    (q : ℕ) × NamesOwnPoint s.game.now player line q × NamesSomeSignal s text
+    × ((i : ℕ) → NamesSignal s (round_of (frame_in s.game.now) (at_point q)) text i → ⊥)
 
 -- ---- of private functions
 

@@ -83,7 +83,8 @@ run_start g p round s l =
       back = λ x lo hi. (let e : x ≡ s = omega arith in h.itself round x ∙ e);
     }
 
-module _ (g : Game) (p : IsPlayable g) (at round s first end : ℕ) (some : 0 < round) (le : round ≤ at) (l : at < round_count g) (h : IsRunIn (frame_of g) at round s first end) where
+module _ (g : Game) (p : IsPlayable g) (at round s first end : ℕ) (some : 0 < round) (le : round ≤ at) (l : at
+    < round_count g) (h : IsRunIn (frame_of g) at round s first end) where
   here : signal_count (frame_of g) at ≡ length (signals g at)
   here = signal_count_is g at (omega arith) (omega arith)
 
@@ -99,7 +100,8 @@ module _ (g : Game) (p : IsPlayable g) (at round s first end : ℕ) (some : 0 < 
   parent_in : (x : ℕ) → x < signal_count (frame_of g) (suc at) → ancestor (frame_of g) (suc at) at x < length (signals g at)
   parent_in x lx = let k = (tabled g p).kept (suc at) at x (omega arith) (omega arith) lx in omega (arith, k, here)
 
-  beside : (x : ℕ) → x < signal_count (frame_of g) (suc at) → let a = ancestor (frame_of g) (suc at) at x in (first_child g at a ≤ x) × (x < first_child g at (a + 1))
+  beside : (x : ℕ) → x < signal_count (frame_of g) (suc at) → let a = ancestor (frame_of g) (suc at) at x in
+      (first_child g at a ≤ x) × (x < first_child g at (a + 1))
   beside x lx =
       let a = ancestor (frame_of g) (suc at) at x in
       let up : at + 1 ≡ suc at = omega arith in
@@ -128,8 +130,10 @@ module _ (g : Game) (p : IsPlayable g) (at round s first end : ℕ) (some : 0 < 
         let lx : x < signal_count (frame_of g) (suc at) = omega (arith, hi, top, last, there) in
         let b = beside x lx in
         let k = parent_in x lx in
-        let low : first ≤ a = ⊎_elim (λ under. absurd (let m = first_le g at (a + 1) first (omega (arith, under)) (omega (arith, h.ordered, within')) in omega (arith, m, b.1, lo))) (λ over. over) (cases_lt a first) in
-        let high : a < end = ⊎_elim (λ under. under) (λ over. absurd (let m = first_le g at end a over (omega (arith, k)) in omega (arith, m, b.0, hi))) (cases_lt a end) in
+        let low : first ≤ a = ⊎_elim (λ under. absurd (let m = first_le g at (a + 1) first (omega (arith, under)) (omega (arith, h.ordered, within')) in
+        omega (arith, m, b.1, lo))) (λ over. over) (cases_lt a first) in
+        let high : a < end = ⊎_elim (λ under. under) (λ over. absurd (let m = first_le g at end a over (omega (arith, k)) in
+        omega (arith, m, b.0, hi))) (cases_lt a end) in
         sym (chained x) ∙ h.back a low high);
   }
 
@@ -138,12 +142,15 @@ module _ (g : Game) (p : IsPlayable g) (at round s first end : ℕ) (some : 0 < 
   run_more = let e : suc at ≡ at + 1 = omega arith in subst (λ k. IsRunIn (frame_of g) k round s (first_child g at first) (first_child g at end)) e run_suc
 
 -- one step up to a signal's parent
-pub climb : (g : Game) → IsPlayable g → (round at place : ℕ) → 0 < round → round < at → at ≤ round_count g → ancestor (frame_of g) (at - 1) round (get_or (parents g at) place 0) ≡ ancestor (frame_of g) at round place
+pub climb : (g : Game) → IsPlayable g → (round at place : ℕ) → 0 < round → round < at → at ≤ round_count g
+    → ancestor (frame_of g) (at - 1) round (get_or (parents g at) place 0) ≡ ancestor (frame_of g) at round place
 climb g p round at place some l m =
     let e : at - 1 + 1 ≡ at = omega arith in
-    ap (ancestor (frame_of g) (at - 1) round) (sym (parent_is g (at - 1) at place e m)) ∙ (tabled g p).chain at (at - 1) round place (omega arith) (omega arith)
+    ap (ancestor (frame_of g) (at - 1) round) (sym (parent_is g (at - 1) at place e m))
+    ∙ (tabled g p).chain at (at - 1) round place (omega arith) (omega arith)
 
-pub climb_in : (g : Game) → IsPlayable g → (at place : ℕ) → 1 < at → at ≤ round_count g → place < length (signals g at) → get_or (parents g at) place 0 < length (signals g (at - 1))
+pub climb_in : (g : Game) → IsPlayable g → (at place : ℕ) → 1 < at → at ≤ round_count g → place < length (signals g at)
+    → get_or (parents g at) place 0 < length (signals g (at - 1))
 climb_in g p at place some m l =
     let e : at - 1 + 1 ≡ at = omega arith in
     let k = (tabled g p).kept at (at - 1) place (omega arith) (omega arith) (let n = signal_count_is g at (omega arith) m in omega (arith, n, l)) in
@@ -166,13 +173,16 @@ pub deals_light : (g : Game) → IsWithinLimits g → All (λ (d : Deal). d.weig
 deals_light g limits = λ k d l. omega (arith, get_or-le-sum_by (λ (x : Deal). x.weight) (deals g) k d l, limits.weight_in)
 
 -- the lists of classes over a game's parents are as long as its rounds
-pub list_long : (g : Game) (l : Filter) → l.parents ≡ (frame_of g).parents → IsSound l → (round : ℕ) → 0 < round → round ≤ round_count g → length (list_of l.lists round) ≡ length (signals g round)
+pub list_long : (g : Game) (l : Filter) → l.parents ≡ (frame_of g).parents → IsSound l → (round : ℕ) → 0 < round → round ≤ round_count g
+    → length (list_of l.lists round) ≡ length (signals g round)
 list_long g l e s round some le =
     let n = ap (λ (ps : List (List ℕ)). length ps) e in
     s.classes.lengths round some (omega (arith, n, last_is g)) ∙ ap (λ (ps : List (List ℕ)). length (list_of ps round)) e ∙ signal_count_is g round some le
 
-pub keys_long : (g : Game) (l : Filter) → l.parents ≡ (frame_of g).parents → IsSound l → IsPlayable g → (side : Side) (round : ℕ) → HasSide (frame_of g) side round → length (keys_of (frame_of g) l.lists side round) ≡ key_count g side round
-keys_long g l e s p Deals round h = length-map-range_with_len (λ x. class_of l.lists round (at_round (frame_of g) round x)) 0 (signal_count (frame_of g) (last_round (frame_of g))) ∙ count_last g p
+pub keys_long : (g : Game) (l : Filter) → l.parents ≡ (frame_of g).parents → IsSound l → IsPlayable g → (side : Side) (round : ℕ)
+    → HasSide (frame_of g) side round → length (keys_of (frame_of g) l.lists side round) ≡ key_count g side round
+keys_long g l e s p Deals round h = length-map-range_with_len (λ x. class_of l.lists round (at_round (frame_of g) round x)) 0
+    (signal_count (frame_of g) (last_round (frame_of g))) ∙ count_last g p
 keys_long g l e s p Children round h = list_long g l e s (round + 1) (omega arith) (omega (arith, h.1, last_is g))
 
 -- the children of a signal are a run of the next round
@@ -190,6 +200,7 @@ are_parents s =
     let h = s.game.now.limits in
     record {
       few = omega (arith, last_is g, h.few_rounds);
-      short = λ round some le. (let n = signal_count_is g round some (omega (arith, le, last_is g)) in let m = h.signals_in round (omega (arith, le, last_is g)) in omega (arith, n, m));
+      short = λ round some le. (let n = signal_count_is g round some (omega (arith, le, last_is g)) in
+          let m = h.signals_in round (omega (arith, le, last_is g)) in omega (arith, n, m));
       in_range = λ round x some le l. (in_range g (playable s)).parents round x some l;
     }

@@ -84,7 +84,8 @@ further p q [] e h = tt
 further p q (r ∷ rs) e h = (total.trans p q r e h.0, further p q rs e h.1)
 
 -- the first part of one list does not come before all of the other
-not_before : (x y : Part) (xs ys : List Part) → Rises (x ∷ xs) → Rises (y ∷ ys) → sum_at (x ∷ xs) x.class x.outcome ≡ sum_at (y ∷ ys) x.class x.outcome → key_cmp x y ≡ Less → ⊥
+not_before : (x y : Part) (xs ys : List Part) → Rises (x ∷ xs) → Rises (y ∷ ys) → sum_at (x ∷ xs) x.class x.outcome ≡ sum_at (y ∷ ys) x.class x.outcome
+    → key_cmp x y ≡ Less → ⊥
 not_before x y xs ys a b h e =
     let none = no_weight x (y ∷ ys) (e, further x y ys e b.1) in
     let own = first_weight x xs a.1 in
@@ -95,7 +96,8 @@ heads x y xs ys a b h = by (key_cmp x y) refl
   where
     same : (x.class ≡ y.class) × (x.outcome ≡ y.outcome) → x ≡ y
     same e = part_is x y e.0 e.1
-        (sym (first_weight x xs a.1) ∙ h x.class x.outcome ∙ ap (λ c. sum_at (y ∷ ys) c x.outcome) e.0 ∙ ap (sum_at (y ∷ ys) y.class) e.1 ∙ first_weight y ys b.1)
+        (sym (first_weight x xs a.1) ∙ h x.class x.outcome ∙ ap (λ c. sum_at (y ∷ ys) c x.outcome) e.0 ∙ ap (sum_at (y ∷ ys) y.class) e.1
+        ∙ first_weight y ys b.1)
 
     by : (r : Ordering) → key_cmp x y ≡ r → x ≡ y
     by Less e = absurd (not_before x y xs ys a b (h x.class x.outcome) e)
@@ -109,7 +111,8 @@ one_list [] (y ∷ ys) a b h = absurd (omega (arith, h y.class y.outcome, first_
 one_list (x ∷ xs) [] a b h = absurd (omega (arith, h x.class x.outcome, first_weight x xs a.1, a.0))
 one_list (x ∷ xs) (y ∷ ys) a b h =
     let e = heads x y xs ys a b h in
-    let rest = one_list xs ys a.2 b.2 (λ c o. omega (arith, h c o, sum_by-cons (weight_at c o) x xs, sum_by-cons (weight_at c o) y ys, ap (weight_at c o) e)) in
+    let rest = one_list xs ys a.2 b.2 (λ c o. omega (arith, h c o, sum_by-cons (weight_at c o) x xs, sum_by-cons (weight_at c o) y ys, ap (weight_at c o) e))
+    in
     ap (λ p. p ∷ xs) e ∙ ap (λ ps. y ∷ ps) rest
 
 -- ---- joining neighbours
@@ -119,7 +122,8 @@ add_in true true m n = omega arith
 add_in true false m n = refl
 add_in false b m n = refl
 
-put-weight : (f : Part → ℕ) (p : Part) (qs : List Part) → ((q : Part) → is_at q p ≡ true → f (record q { weight = q.weight + p.weight }) ≡ f p + f q) → sum_by f (put p qs) ≡ f p + sum_by f qs
+put-weight : (f : Part → ℕ) (p : Part) (qs : List Part) → ((q : Part) → is_at q p ≡ true → f (record q { weight = q.weight + p.weight }) ≡ f p + f q)
+    → sum_by f (put p qs) ≡ f p + sum_by f qs
 put-weight f p [] h = sum_by-cons f p []
 put-weight f p (q ∷ qs) h = by (is_at q p) refl
   where
@@ -127,7 +131,8 @@ put-weight f p (q ∷ qs) h = by (is_at q p) refl
     by true e = omega (arith, sum_by-cons f (record q { weight = q.weight + p.weight }) qs, sum_by-cons f q qs, h q e)
     by false e = sum_by-cons f p (q ∷ qs)
 
-merged-weight : (f : Part → ℕ) → ((p q : Part) → is_at q p ≡ true → f (record q { weight = q.weight + p.weight }) ≡ f p + f q) → (ps : List Part) → sum_by f (merged ps) ≡ sum_by f ps
+merged-weight : (f : Part → ℕ) → ((p q : Part) → is_at q p ≡ true → f (record q { weight = q.weight + p.weight }) ≡ f p + f q) → (ps : List Part)
+    → sum_by f (merged ps) ≡ sum_by f ps
 merged-weight f h [] = refl
 merged-weight f h (p ∷ ps) = omega (arith, put-weight f p (merged ps) (h p), merged-weight f h ps, sum_by-cons f p ps)
 
@@ -192,7 +197,8 @@ rises_put p (q ∷ qs) w a l = by (is_at q p) refl
 rises_merged : (ps : List Part) → IsSortedList ps → AllByRecursion (λ p. 0 < p.weight) ps → Rises (merged ps)
 rises_merged [] s w = tt
 rises_merged (p ∷ []) s w = (w.0, tt, tt)
-rises_merged (p ∷ q ∷ ps) s w = rises_put p (merged (q ∷ ps)) w.0 (rises_merged (q ∷ ps) s.1 w.1) (head_below p q (merged (q ∷ ps)) (head_put q (merged ps)) s.0)
+rises_merged (p ∷ q ∷ ps) s w = rises_put p (merged (q ∷ ps)) w.0 (rises_merged (q ∷ ps) s.1 w.1)
+    (head_below p q (merged (q ∷ ps)) (head_put q (merged ps)) s.0)
 
 -- the order by which parts are sorted, weights last
 abbrev pub part_lt : Part → Part → Bool
@@ -215,7 +221,8 @@ sorted_list (p ∷ q ∷ ps) s = (
       subst (λ j. part_lt (get_or (p ∷ q ∷ ps) j d) (get_or (p ∷ q ∷ ps) (suc k) d) ≡ false) e (s (suc k) d (omega arith) (omega arith))),
 )
 
-pub sums_from : (parts sorted : List Part) → IsPermutation parts sorted → IsSortedBy part_lt sorted → All (λ p. 0 < p.weight) sorted → AreSumsOf parts (merged sorted)
+pub sums_from : (parts sorted : List Part) → IsPermutation parts sorted → IsSortedBy part_lt sorted → All (λ p. 0 < p.weight) sorted
+    → AreSumsOf parts (merged sorted)
 sums_from parts sorted m s w = record {
   rises = rises_merged sorted (sorted_list sorted s) (recursion_from_All (λ p. 0 < p.weight) sorted w);
   sum = λ c o. merged-sum c o sorted ∙ sum_by-IsPermutation (weight_at c o) parts sorted m;
@@ -251,20 +258,23 @@ sum_by-reverse f [] = refl
 sum_by-reverse f (x ∷ xs) = ap (sum_by f) (reverse-append (x ∷ []) xs) ∙ omega (arith, sum_by_push f (reverse xs) x, sum_by-reverse f xs, sum_by-cons f x xs)
 
 -- the next part fits beside what was added up
-pub fits_more : (parts sorted sums : List Part) (top : ℕ) (p : Part) → IsPermutation parts sorted → 0 < top → top ≤ length sorted → p ≡ get_or sorted (top - 1) p → reverse sums ≡ merged (drop top sorted)
+pub fits_more : (parts sorted sums : List Part) (top : ℕ) (p : Part) → IsPermutation parts sorted → 0 < top → top ≤ length sorted
+    → p ≡ get_or sorted (top - 1) p → reverse sums ≡ merged (drop top sorted)
     → sum_by (λ (p : Part). p.weight) sums + p.weight ≤ sum_by (λ (p : Part). p.weight) parts
 fits_more parts sorted sums top p m some l e j =
     let w : Part → ℕ = λ p. p.weight in
     let at = top - 1 in
     let up : at + 1 ≡ top = omega arith in
-    let a : sum_by w sums ≡ sum_by w (drop (at + 1) sorted) = sym (sum_by-reverse w sums) ∙ ap (sum_by w) j ∙ merged-total (drop top sorted) ∙ ap (λ k. sum_by w (drop k sorted)) (sym up) in
+    let a : sum_by w sums ≡ sum_by w (drop (at + 1) sorted) = sym (sum_by-reverse w sums) ∙ ap (sum_by w) j ∙ merged-total (drop top sorted)
+    ∙ ap (λ k. sum_by w (drop k sorted)) (sym up) in
     let t = sum_by-IsPermutation w parts sorted m in
     let i : p.weight ≡ (get_or sorted at p).weight = ap w e in
     let more = sum_by-drop_more w sorted at p (omega arith) in
     let whole = sum_by-take-drop w sorted at in
     omega (arith, a, t, i, more, whole)
 
-pub merge_more : (sorted sums next : List Part) (top : ℕ) (p : Part) → 0 < top → top ≤ length sorted → p ≡ get_or sorted (top - 1) p → reverse sums ≡ merged (drop top sorted)
+pub merge_more : (sorted sums next : List Part) (top : ℕ) (p : Part) → 0 < top → top ≤ length sorted → p ≡ get_or sorted (top - 1) p
+    → reverse sums ≡ merged (drop top sorted)
     → reverse next ≡ put p (reverse sums) → reverse next ≡ merged (drop (top - 1) sorted)
 merge_more sorted sums next top p some l e j n =
     let at = top - 1 in

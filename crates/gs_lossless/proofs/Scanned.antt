@@ -35,18 +35,23 @@ pub side_signals : (g : Game) (side : Side) (round : ℕ) → HasSide (frame_of 
 side_signals g side round h = signal_count_is g round (side_in (frame_of g) side round h).0 (side_top g side round h)
 
 -- and by the lists of classes over the game's parents
-pub side_classes : (g : Game) (l : Filter) → l.parents ≡ (frame_of g).parents → IsSound l → (side : Side) (round : ℕ) → HasSide (frame_of g) side round → length (list_of l.lists round) ≡ length (signals g round)
+pub side_classes : (g : Game) (l : Filter) → l.parents ≡ (frame_of g).parents → IsSound l → (side : Side) (round : ℕ) → HasSide (frame_of g) side round
+    → length (list_of l.lists round) ≡ length (signals g round)
 side_classes g l e sound side round h = list_long g l e sound round (side_in (frame_of g) side round h).0 (side_top g side round h)
 
 -- ---- sums that are kept
 
 -- a class whose first member is a signal is that signal's
-class_is : (lists : ClassLists) (round signal k : ℕ) → IsNumbered (list_of lists round) → 0 < k → k ≤ class_count lists round → first_member lists round k ≡ signal → k ≡ class_of lists round signal
+class_is : (lists : ClassLists) (round signal k : ℕ) → IsNumbered (list_of lists round) → 0 < k → k ≤ class_count lists round
+    → first_member lists round k ≡ signal → k ≡ class_of lists round signal
 class_is lists round signal k n a b e = sym (first_member_of (list_of lists round) k n a b) ∙ ap (class_of lists round) e
 
-module _ (f : Frame) (lists : ClassLists) (side : Side) (round signal : ℕ) (kept : List (Vec Part Global)) (n : IsNumbered (list_of lists round)) (h : StoredBelow f lists side round signal kept) where
-  stored_skip : ((k : ℕ) → 0 < k → k ≤ class_count lists round → first_member lists round k ≡ signal → class_size lists round k ≢ 1 → ⊥) → StoredBelow f lists side round (signal + 1) kept
-  stored_skip bad = λ k d a b l m. ⊎_elim (λ under. h k d a b under m) (λ over. absurd (let e : first_member lists round k ≡ signal = omega (arith, l, over) in bad k a b e m)) (cases_lt (first_member lists round k) signal)
+module _ (f : Frame) (lists : ClassLists) (side : Side) (round signal : ℕ) (kept : List (Vec Part Global)) (n : IsNumbered (list_of lists round))
+    (h : StoredBelow f lists side round signal kept) where
+  stored_skip : ((k : ℕ) → 0 < k → k ≤ class_count lists round → first_member lists round k ≡ signal → class_size lists round k ≢ 1 → ⊥)
+      → StoredBelow f lists side round (signal + 1) kept
+  stored_skip bad = λ k d a b l m. ⊎_elim (λ under. h k d a b under m) (λ over. absurd (let e : first_member lists round k
+      ≡ signal = omega (arith, l, over) in bad k a b e m)) (cases_lt (first_member lists round k) signal)
 
   -- past the one member of a class
   pub stored_single : class_size lists round (class_of lists round signal) ≡ 1 → StoredBelow f lists side round (signal + 1) kept
@@ -57,42 +62,55 @@ module _ (f : Frame) (lists : ClassLists) (side : Side) (round signal : ℕ) (ke
   stored_later later = stored_skip (λ k a b e m. later (ap (first_member lists round) (sym (class_is lists round signal k n a b e)) ∙ e))
 
   -- past the first member, whose sums are kept
-  pub stored_first : (sums : Vec Part Global) → class_of lists round signal - 1 < length kept → 0 < class_of lists round signal → first_member lists round (class_of lists round signal) ≡ signal
-      → AreAmounts f lists side round signal (reverse sums.items) → StoredBelow f lists side round (signal + 1) (set kept (class_of lists round signal - 1) sums)
+  pub stored_first : (sums : Vec Part Global) → class_of lists round signal - 1 < length kept → 0 < class_of lists round signal
+      → first_member lists round (class_of lists round signal) ≡ signal
+      → AreAmounts f lists side round signal (reverse sums.items) → StoredBelow f lists side round (signal + 1)
+      (set kept (class_of lists round signal - 1) sums)
   stored_first sums l some first here = λ k d a b m many. ⊎_elim
       (λ same.
-      let read : get_or (set kept (class_of lists round signal - 1) sums) (k - 1) d ≡ sums = ap (λ j. get_or (set kept (class_of lists round signal - 1) sums) (j - 1) d) same ∙ get_or-set_same kept (class_of lists round signal - 1) sums d l in
+      let read : get_or (set kept (class_of lists round signal - 1) sums) (k - 1) d ≡ sums =
+      ap (λ j. get_or (set kept (class_of lists round signal - 1) sums) (j - 1) d) same
+      ∙ get_or-set_same kept (class_of lists round signal - 1) sums d l in
       let own : first_member lists round k ≡ signal = ap (first_member lists round) same ∙ first in
       subst (λ (v : Vec Part Global). AreAmounts f lists side round (first_member lists round k) (reverse v.items)) (sym read)
       (subst (λ x. AreAmounts f lists side round x (reverse sums.items)) (sym own) here))
       (λ other.
       let apart : k - 1 ≢ class_of lists round signal - 1 = λ e. other (omega (arith, e, a, some)) in
-      let read : get_or (set kept (class_of lists round signal - 1) sums) (k - 1) d ≡ get_or kept (k - 1) d = get_or-set_other kept (class_of lists round signal - 1) (k - 1) sums d apart in
-      let under : first_member lists round k < signal = ⊎_elim (λ u. u) (λ o. absurd (let e : first_member lists round k ≡ signal = omega (arith, m, o) in other (class_is lists round signal k n a b e))) (cases_lt (first_member lists round k) signal) in
+      let read : get_or (set kept (class_of lists round signal - 1) sums) (k - 1) d ≡ get_or kept (k - 1) d =
+      get_or-set_other kept (class_of lists round signal - 1) (k - 1) sums d apart in
+      let under : first_member lists round k < signal = ⊎_elim (λ u. u) (λ o. absurd (let e : first_member lists round k ≡ signal = omega (arith, m, o) in
+      other (class_is lists round signal k n a b e))) (cases_lt (first_member lists round k) signal) in
       subst (λ (v : Vec Part Global). AreAmounts f lists side round (first_member lists round k) (reverse v.items)) (sym read) (h k d a b under many))
       (cases_eq k (class_of lists round signal))
 
-pub agree_more : (f : Frame) (lists : ClassLists) (side : Side) (round signal : ℕ) → AgreeBelow f lists side round signal → AgreesWithFirst f lists side round signal → AgreeBelow f lists side round (signal + 1)
-agree_more f lists side round signal h here s l = ⊎_elim (λ under. h s under) (λ over. let e : signal ≡ s = omega (arith, l, over) in subst (AgreesWithFirst f lists side round) e here) (cases_lt s signal)
+pub agree_more : (f : Frame) (lists : ClassLists) (side : Side) (round signal : ℕ) → AgreeBelow f lists side round signal
+    → AgreesWithFirst f lists side round signal → AgreeBelow f lists side round (signal + 1)
+agree_more f lists side round signal h here s l = ⊎_elim (λ under. h s under) (λ over. let e : signal ≡ s = omega (arith, l, over) in
+    subst (AgreesWithFirst f lists side round) e here) (cases_lt s signal)
 
 -- the first member agrees with itself
-pub agree_self : (f : Frame) (lists : ClassLists) (side : Side) (round signal : ℕ) → first_member lists round (class_of lists round signal) ≡ signal → AgreesWithFirst f lists side round signal
+pub agree_self : (f : Frame) (lists : ClassLists) (side : Side) (round signal : ℕ) → first_member lists round (class_of lists round signal) ≡ signal
+    → AgreesWithFirst f lists side round signal
 agree_self f lists side round signal e = subst (λ x. Agree f lists side round x signal) (sym e) (λ c o. refl)
 
 -- ---- rounds
 
 -- no signal is apart: all agree
-pub none_apart : (f : Frame) (lists : ClassLists) (side : Side) (round end : ℕ) (r : Option ℕ) → is_some r ≡ false → IsFirstApart f lists side round end r → AgreeBelow f lists side round end
+pub none_apart : (f : Frame) (lists : ClassLists) (side : Side) (round end : ℕ) (r : Option ℕ) → is_some r ≡ false → IsFirstApart f lists side round end r
+    → AgreeBelow f lists side round end
 none_apart f lists side round end None e h = h
 none_apart f lists side round end (Some s) e h = absurd (true≢false e)
 
-pub children_from : (f : Frame) (lists : ClassLists) (round end : ℕ) (r : Option ℕ) → round < last_round f → IsFirstApart f lists Children round end r → IsChildrenApart f lists round end r
+pub children_from : (f : Frame) (lists : ClassLists) (round end : ℕ) (r : Option ℕ) → round < last_round f → IsFirstApart f lists Children round end r
+    → IsChildrenApart f lists round end r
 children_from f lists round end None l h = λ _. h
 children_from f lists round end (Some s) l h = (l, h)
 
-pub unlike_from : (f : Frame) (lists : ClassLists) (round : ℕ) → 0 < round → (apart r : Option ℕ) → IsFirstApart f lists Deals round (signal_count f round) apart
+pub unlike_from : (f : Frame) (lists : ClassLists) (round : ℕ) → 0 < round → (apart r : Option ℕ)
+    → IsFirstApart f lists Deals round (signal_count f round) apart
     → IsChildrenApart f lists round (unwrap_or apart (signal_count f round)) r → MatchUnlike f lists round (option_or r apart)
-unlike_from f lists round some None None h k = λ s l. alike_from f lists round (first_member lists round (class_of lists round s)) s some (h s l) (λ b. k b s l)
+unlike_from f lists round some None None h k = λ s l. alike_from f lists round (first_member lists round (class_of lists round s)) s some (h s l)
+    (λ b. k b s l)
 unlike_from f lists round some (Some t) None h k = (
   h.0,
   (λ s l. alike_from f lists round (first_member lists round (class_of lists round s)) s some (h.1 s l) (λ b. k b s l)),
@@ -109,8 +127,10 @@ unlike_from f lists round some (Some t) (Some u) h k = (
   (λ a. k.1.2 (agree_children f lists round (first_member lists round (class_of lists round u)) u k.0 a)),
 )
 
-pub first_unlike_from : (f : Frame) (lists : ClassLists) (before first second class : ℕ) → before + 1 ≤ last_round f → MatchUnlike f lists (before + 1) (Some second) → class ≡ class_of lists (before + 1) second
-    → first ≡ first_member lists (before + 1) class → ((r : ℕ) → 0 < r → r ≤ before → AreAlikeBelow f lists r (signal_count f r)) → IsFirstUnlike f lists (before + 1) first second
+pub first_unlike_from : (f : Frame) (lists : ClassLists) (before first second class : ℕ) → before + 1 ≤ last_round f
+    → MatchUnlike f lists (before + 1) (Some second) → class ≡ class_of lists (before + 1) second
+    → first ≡ first_member lists (before + 1) class → ((r : ℕ) → 0 < r → r ≤ before → AreAlikeBelow f lists r (signal_count f r))
+    → IsFirstUnlike f lists (before + 1) first second
 first_unlike_from f lists before first second class top h e g below =
     let own : first ≡ first_member lists (before + 1) (class_of lists (before + 1) second) = g ∙ ap (first_member lists (before + 1)) e in
     record {
@@ -122,20 +142,25 @@ first_unlike_from f lists before first second class top h e g below =
           (λ same. subst (λ (k : ℕ). Alike f lists k (first_member lists k (class_of lists k s)) s) (sym same.0) (h.1 s same.1)) or;
     }
 
-pub alike_more : (f : Frame) (lists : ClassLists) (before : ℕ) → ((r : ℕ) → 0 < r → r ≤ before → AreAlikeBelow f lists r (signal_count f r)) → MatchUnlike f lists (before + 1) None
+pub alike_more : (f : Frame) (lists : ClassLists) (before : ℕ) → ((r : ℕ) → 0 < r → r ≤ before → AreAlikeBelow f lists r (signal_count f r))
+    → MatchUnlike f lists (before + 1) None
     → (r : ℕ) → 0 < r → r ≤ before + 1 → AreAlikeBelow f lists r (signal_count f r)
-alike_more f lists before h here r some l = ⊎_elim (λ under. h r some (omega (arith, under))) (λ over. let e : before + 1 ≡ r = omega (arith, l, over) in subst (λ (k : ℕ). AreAlikeBelow f lists k (signal_count f k)) e here) (cases_lt r (before + 1))
+alike_more f lists before h here r some l = ⊎_elim (λ under. h r some (omega (arith, under))) (λ over. let e : before + 1 ≡ r = omega (arith, l, over) in
+    subst (λ (k : ℕ). AreAlikeBelow f lists k (signal_count f k)) e here) (cases_lt r (before + 1))
 
 -- a first unlike pair refutes losslessness, and single signals have none
-pub refuted : (f : Frame) (l : Filter) → l.parents ≡ f.parents → IsSound l → (round first second : ℕ) → IsFirstUnlike f l.lists round first second → IsLossless f l.lists → ⊥
+pub refuted : (f : Frame) (l : Filter) → l.parents ≡ f.parents → IsSound l → (round first second : ℕ) → IsFirstUnlike f l.lists round first second
+    → IsLossless f l.lists → ⊥
 refuted f l e s round first second = not_lossless f l.lists round first second (over f l e s.classes)
 
-pub not_single : (f : Frame) (l : Filter) → l.parents ≡ f.parents → IsSound l → (round first second : ℕ) → IsFirstUnlike f l.lists round first second → l.lists ≡ single_classes l.parents → ⊥
+pub not_single : (f : Frame) (l : Filter) → l.parents ≡ f.parents → IsSound l → (round first second : ℕ) → IsFirstUnlike f l.lists round first second
+    → l.lists ≡ single_classes l.parents → ⊥
 not_single f l e s round first second u g =
     refuted f l e s round first second u (subst (IsLossless f) (sym (g ∙ ap single_classes e)) (singles f (single_are_classes f.parents)))
 
 -- the end of the second scan of a round
-pub end_in : (f : Frame) (lists : ClassLists) (round count : ℕ) (apart : Option ℕ) → IsFirstApart f lists Deals round count apart → unwrap_or apart count ≤ count
+pub end_in : (f : Frame) (lists : ClassLists) (round count : ℕ) (apart : Option ℕ) → IsFirstApart f lists Deals round count apart
+    → unwrap_or apart count ≤ count
 end_in f lists round count None h = omega arith
 end_in f lists round count (Some t) h = omega (arith, h.0)
 

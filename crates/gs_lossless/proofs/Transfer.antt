@@ -18,7 +18,8 @@ use Rattle.gs_lossless.specs.Scans.{IsFirstApart}
 use Rattle.gs_lossless.specs.declared.sides.Side.TheVariants.{Deals}
 
 -- before the last round no outcome counts
-by_class : (f : Frame) (lists : ClassLists) (round x c : ℕ) (o : ℤ) → round < last_round f → amount f lists Deals round x c o ≡ cond (int_eq (pos 0) o) (weight_against f lists round x c) 0
+by_class : (f : Frame) (lists : ClassLists) (round x c : ℕ) (o : ℤ) → round < last_round f
+    → amount f lists Deals round x c o ≡ cond (int_eq (pos 0) o) (weight_against f lists round x c) 0
 by_class f lists round x c o l =
     let other : round ≢ last_round f = λ e. absurd (omega (arith, e, l)) in
     ap (λ (b : Bool). cond b (weight_with f lists x c o) (cond (int_eq (pos 0) o) (weight_against f lists round x c) 0)) (ne_eqb round (last_round f) other)
@@ -39,7 +40,8 @@ agrees_by f lists round s l h c o =
 same_factor : (w a b : ℕ) → 0 < w → w * a ≡ w * b → a ≡ b
 same_factor w a b some e = sym (mul-div_cancel_left a some) ∙ ap (λ (n : ℕ). n / w) e ∙ mul-div_cancel_left b some
 
-module _ (g h : Game) (round : ℕ) (lists others : ClassLists) (some : 0 < round) (before : round < round_count g) (valid : first_refusal g ≡ None) (stops : StopsAfter g round h)
+module _ (g h : Game) (round : ℕ) (lists others : ClassLists) (some : 0 < round) (before : round < round_count g) (valid : first_refusal g
+    ≡ None) (stops : StopsAfter g round h)
     (same : list_of others round ≡ list_of lists round) where
   top : round ≤ round_count g
   top = omega arith
@@ -63,7 +65,8 @@ module _ (g h : Game) (round : ℕ) (lists others : ClassLists) (some : 0 < roun
 
   agrees_here : (s : ℕ) → AgreesWithFirst (frame_of g) lists Deals round s → AgreesWithFirst (frame_of h) others Deals round s
   agrees_here s a = agrees_by (frame_of h) others round s less (λ c.
-      same_factor (ways_on g round) (weight_against (frame_of h) others round (first_of others round s) c) (weight_against (frame_of h) others round s c) (some_ways g round valid)
+      same_factor (ways_on g round) (weight_against (frame_of h) others round (first_of others round s) c) (weight_against (frame_of h) others round s c)
+      (some_ways g round valid)
       (sym (goes_on (first_of others round s) c) ∙ ap (λ (x : ℕ). weight_against (frame_of g) lists round x c) (first_same s)
       ∙ weights_of (frame_of g) lists round s one_less a c ∙ goes_on s c))
 

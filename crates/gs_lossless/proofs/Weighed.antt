@@ -45,7 +45,8 @@ sum_by-passed : {X Y : Type 0} (h : Y → ℕ) (k : X → Y) (t : X → Bool) (x
 sum_by-passed h k t [] = refl
 sum_by-passed {X} h k t (x ∷ xs) = by (t x) (sum_by-passed h k t xs) ∙ sym (sum_by-cons (λ x. cond (t x) (h (k x)) 0) x xs)
   where
-    by : (b : Bool) → sum_by h (map k (filter t xs)) ≡ sum_by (λ x. cond (t x) (h (k x)) 0) xs → sum_by h (map k (cond b (x ∷ filter t xs) (filter t xs))) ≡ cond b (h (k x)) 0 + sum_by (λ x. cond (t x) (h (k x)) 0) xs
+    by : (b : Bool) → sum_by h (map k (filter t xs)) ≡ sum_by (λ x. cond (t x) (h (k x)) 0) xs
+        → sum_by h (map k (cond b (x ∷ filter t xs) (filter t xs))) ≡ cond b (h (k x)) 0 + sum_by (λ x. cond (t x) (h (k x)) 0) xs
     by true e = omega (arith, sum_by-cons h (k x) (map k (filter t xs)), e)
     by false e = omega (arith, e)
 
@@ -73,7 +74,8 @@ in_between first n x l m = grind (arith, nat_tests)
 -- the sum over the items whose own places are those of a run
 run_sum : {X Y : Type 0} (h : Y → ℕ) (k : X → Y) (own : X → ℕ) (xs : List X) (first n : ℕ)
     → sum_by h (flat_map (λ x. map k (filter (λ d. own d == x) xs)) (range_with_len first n)) ≡ sum_by (λ d. cond (between first n (own d)) (h (k d)) 0) xs
-run_sum h k own xs first zero = sym (sum_by-none (λ d. cond (between first 0 (own d)) (h (k d)) 0) xs (every-any (λ d. cond (between first 0 (own d)) (h (k d)) 0 ≡ 0) (λ d. none_between first (own d) (h (k d))) xs))
+run_sum h k own xs first zero = sym (sum_by-none (λ d. cond (between first 0 (own d)) (h (k d)) 0) xs
+    (every-any (λ d. cond (between first 0 (own d)) (h (k d)) 0 ≡ 0) (λ d. none_between first (own d) (h (k d))) xs))
 run_sum {X} {Y} h k own xs first (suc n) =
     let at : ℕ → List Y = λ x. map k (filter (λ d. own d == x) xs) in
     let e : suc n ≡ n + 1 = omega arith in
@@ -81,9 +83,11 @@ run_sum {X} {Y} h k own xs first (suc n) =
     ∙ ap (λ l. sum_by h (flat_map at l)) (range_append first n 1)
     ∙ ap (sum_by h) (flat_map-append at (range_with_len first n) ((first + n) ∷ []))
     ∙ sum_by-append h (flat_map at (range_with_len first n)) (flat_map at ((first + n) ∷ []))
-    ∙ ap (λ m. sum_by h (flat_map at (range_with_len first n)) + m) (ap (sum_by h) (append-nil (at (first + n))) ∙ sum_by-passed h k (λ d. own d == first + n) xs)
+    ∙ ap (λ m. sum_by h (flat_map at (range_with_len first n)) + m) (ap (sum_by h) (append-nil (at (first + n)))
+    ∙ sum_by-passed h k (λ d. own d == first + n) xs)
     ∙ ap (λ m. m + sum_by (λ d. cond (own d == first + n) (h (k d)) 0) xs) (run_sum h k own xs first n)
-    ∙ sym (sum_by-two (λ d. cond (between first n (own d)) (h (k d)) 0) (λ d. cond (own d == first + n) (h (k d)) 0) (λ d. cond (between first (n + 1) (own d)) (h (k d)) 0) (λ d. between_more first n (own d) (h (k d))) xs)
+    ∙ sym (sum_by-two (λ d. cond (between first n (own d)) (h (k d)) 0) (λ d. cond (own d == first + n) (h (k d)) 0)
+    (λ d. cond (between first (n + 1) (own d)) (h (k d)) 0) (λ d. between_more first n (own d) (h (k d))) xs)
     ∙ ap (λ m. sum_by (λ d. cond (between first m (own d)) (h (k d)) 0) xs) (sym e)
 
 -- ---- deals
@@ -104,21 +108,27 @@ module _ (g : Game) (p : IsPlayable g) (lists : ClassLists) (round s first end :
 
   term : (d : Deal) (out : ℤ) → d.one < signal_count (frame_of g) (last_round (frame_of g)) → d.two < signal_count (frame_of g) (last_round (frame_of g))
       → cond (between first (end - first) d.one) (cond (int_eq out o) (cond (get_or (keys_of (frame_of g) lists Deals round) d.two 0 == c) d.weight 0) 0) 0
-      ≡ cond (int_eq out o) (cond (class_of lists round (at_round (frame_of g) round d.two) == c) (cond (at_round (frame_of g) round d.one == s) d.weight 0) 0) 0
+      ≡ cond (int_eq out o) (cond (class_of lists round (at_round (frame_of g) round d.two) == c)
+      (cond (at_round (frame_of g) round d.one == s) d.weight 0) 0) 0
   term d out l m =
       let f = frame_of g in
       ap (λ b. cond b (cond (int_eq out o) (cond (get_or (keys_of f lists Deals round) d.two 0 == c) d.weight 0) 0) 0) (own_is d.one l)
-      ∙ ap (λ n. cond (at_round f round d.one == s) (cond (int_eq out o) (cond (n == c) d.weight 0) 0) 0) (get_or-map-range_with_len (λ x. class_of lists round (at_round f round x)) 0 (signal_count f (last_round f)) d.two d.two 0 m (omega arith))
+      ∙ ap (λ n. cond (at_round f round d.one == s) (cond (int_eq out o) (cond (n == c) d.weight 0) 0) 0)
+      (get_or-map-range_with_len (λ x. class_of lists round (at_round f round x)) 0 (signal_count f (last_round f)) d.two d.two 0 m (omega arith))
       ∙ swap3 (at_round f round d.one == s) (int_eq out o) (class_of lists round (at_round f round d.two) == c) d.weight
 
   terms : (out : Deal → ℤ)
-      → sum_by (λ (d : Deal). cond (between first (end - first) d.one) (cond (int_eq (out d) o) (cond (get_or (keys_of (frame_of g) lists Deals round) d.two 0 == c) d.weight 0) 0) 0) (deals g)
-      ≡ sum_by (λ (d : Deal). cond (int_eq (out d) o) (cond (class_of lists round (at_round (frame_of g) round d.two) == c) (cond (at_round (frame_of g) round d.one == s) d.weight 0) 0) 0) (deals g)
+      → sum_by (λ (d : Deal). cond (between first (end - first) d.one) (cond (int_eq (out d) o)
+      (cond (get_or (keys_of (frame_of g) lists Deals round) d.two 0 == c) d.weight 0) 0) 0) (deals g)
+      ≡ sum_by (λ (d : Deal). cond (int_eq (out d) o) (cond (class_of lists round (at_round (frame_of g) round d.two) == c)
+      (cond (at_round (frame_of g) round d.one == s) d.weight 0) 0) 0) (deals g)
   terms out =
       let f = frame_of g in
       let q = in_range g p in
-      let here : Deal → ℕ = λ d. cond (between first (end - first) d.one) (cond (int_eq (out d) o) (cond (get_or (keys_of f lists Deals round) d.two 0 == c) d.weight 0) 0) 0 in
-      let there : Deal → ℕ = λ d. cond (int_eq (out d) o) (cond (class_of lists round (at_round f round d.two) == c) (cond (at_round f round d.one == s) d.weight 0) 0) 0 in
+      let here : Deal → ℕ = λ d. cond (between first (end - first) d.one)
+      (cond (int_eq (out d) o) (cond (get_or (keys_of f lists Deals round) d.two 0 == c) d.weight 0) 0) 0 in
+      let there : Deal → ℕ = λ d. cond (int_eq (out d) o) (cond (class_of lists round (at_round f round d.two) == c)
+      (cond (at_round f round d.one == s) d.weight 0) 0) 0 in
       sum_by-like here there (deals g) (recursion_from_All (λ (d : Deal). here d ≡ there d) (deals g)
       (λ k d l. term (get_or (deals g) k d) (out (get_or (deals g) k d)) (q.ones k d l) (q.twos k d l)))
 
@@ -129,33 +139,39 @@ module _ (g : Game) (p : IsPlayable g) (lists : ClassLists) (round s first end :
       let same : round ≡ last_round f = (Decides-eqb round (last_round f)).0 (sym e) in
       run_sum (weight_at c o) (deal_part (keys_of f lists Deals round) true) (λ (d : Deal). d.one) (deals g) first (end - first)
       ∙ terms (λ d. d.outcome)
-      ∙ ap (λ r. sum_by (λ (d : Deal). cond (int_eq d.outcome o) (cond (class_of lists r (at_round f r d.two) == c) (cond (at_round f r d.one == s) d.weight 0) 0) 0) (deals g)) same
+      ∙ ap (λ r. sum_by (λ (d : Deal). cond (int_eq d.outcome o) (cond (class_of lists r (at_round f r d.two) == c)
+      (cond (at_round f r d.one == s) d.weight 0) 0) 0) (deals g)) same
       ∙ ap (λ b. cond b (weight_with f lists s c o) (cond (int_eq (pos 0) o) (weight_against f lists round s c) 0)) e
   deals_amount false e =
       let f = frame_of g in
       run_sum (weight_at c o) (deal_part (keys_of f lists Deals round) false) (λ (d : Deal). d.one) (deals g) first (end - first)
       ∙ terms (λ d. pos 0)
-      ∙ out_of (int_eq (pos 0) o) (λ (d : Deal). cond (class_of lists round (at_round f round d.two) == c) (cond (at_round f round d.one == s) d.weight 0) 0) (deals g)
+      ∙ out_of (int_eq (pos 0) o) (λ (d : Deal). cond (class_of lists round (at_round f round d.two) == c) (cond (at_round f round d.one == s) d.weight 0) 0)
+      (deals g)
       ∙ ap (λ b. cond b (weight_with f lists s c o) (cond (int_eq (pos 0) o) (weight_against f lists round s c) 0)) e
 
 -- the parts of deals have weight, and no more than all deals
-pub deals_some : (g : Game) (keys : List ℕ) (by_outcome : Bool) (first end : ℕ) → All (λ (q : Part). 0 < q.weight) (deal_parts (deals g) keys by_outcome first end)
+pub deals_some : (g : Game) (keys : List ℕ) (by_outcome : Bool) (first end : ℕ)
+    → All (λ (q : Part). 0 < q.weight) (deal_parts (deals g) keys by_outcome first end)
 deals_some g keys by_outcome first end =
     let at : ℕ → List Part = λ x. map (deal_part keys by_outcome) (filter (λ (d : Deal). d.one == x) (deals g)) in
     All-from_recursion (λ (q : Part). 0 < q.weight) (flat_map at (range_with_len first (end - first)))
     (every-flat_map (λ (q : Part). 0 < q.weight) at (λ _. Unit {0})
     (λ x _. every-map (λ (q : Part). 0 < q.weight) (deal_part keys by_outcome) (filter (λ (d : Deal). d.one == x) (deals g))
-    (recursion_from_All (λ (d : Deal). 0 < d.weight) (filter (λ (d : Deal). d.one == x) (deals g)) (All-filter (λ (d : Deal). d.one == x) (λ (d : Deal). 0 < d.weight) (deals g) (deals_weigh g))))
+    (recursion_from_All (λ (d : Deal). 0 < d.weight) (filter (λ (d : Deal). d.one == x) (deals g))
+    (All-filter (λ (d : Deal). d.one == x) (λ (d : Deal). 0 < d.weight) (deals g) (deals_weigh g))))
     (range_with_len first (end - first)) (every-any (λ _. Unit {0}) (λ _. tt) (range_with_len first (end - first))))
 
 no_more : (b : Bool) (v : ℕ) → cond b v 0 ≤ v
 no_more true v = omega arith
 no_more false v = omega arith
 
-pub deals_total : (g : Game) (keys : List ℕ) (by_outcome : Bool) (first end : ℕ) → sum_by (λ (q : Part). q.weight) (deal_parts (deals g) keys by_outcome first end) ≤ total_weight (frame_of g)
+pub deals_total : (g : Game) (keys : List ℕ) (by_outcome : Bool) (first end : ℕ)
+    → sum_by (λ (q : Part). q.weight) (deal_parts (deals g) keys by_outcome first end) ≤ total_weight (frame_of g)
 deals_total g keys by_outcome first end =
     let r = run_sum (λ (q : Part). q.weight) (deal_part keys by_outcome) (λ (d : Deal). d.one) (deals g) first (end - first) in
-    let l = sum_by-le-sum_by (λ (d : Deal). cond (between first (end - first) d.one) d.weight 0) (λ (d : Deal). d.weight) (deals g) (λ d. no_more (between first (end - first) d.one) d.weight) in
+    let l = sum_by-le-sum_by (λ (d : Deal). cond (between first (end - first) d.one) d.weight 0) (λ (d : Deal). d.weight) (deals g)
+    (λ d. no_more (between first (end - first) d.one) d.weight) in
     omega (arith, r, l)
 
 -- ---- children
@@ -165,19 +181,24 @@ on_range P a zero h = tt
 on_range P a (suc n) h = (h a (omega arith) (omega arith), on_range P (a + 1) n (λ x l m. h x (omega arith) (omega arith)))
 
 -- of a range only a run in it counts
-range_sum : (f h : ℕ → ℕ) (count first n : ℕ) → first + n ≤ count → ((x : ℕ) → x < count → first ≤ x → x < first + n → f x ≡ h x) → ((x : ℕ) → x < count → (x < first → f x ≡ 0) × (first + n ≤ x → f x ≡ 0))
+range_sum : (f h : ℕ → ℕ) (count first n : ℕ) → first + n ≤ count → ((x : ℕ) → x < count → first ≤ x → x < first + n → f x ≡ h x)
+    → ((x : ℕ) → x < count → (x < first → f x ≡ 0) × (first + n ≤ x → f x ≡ 0))
     → sum_by f (range_with_len 0 count) ≡ sum_by h (range_with_len first n)
 range_sum f h count first n l inside outside =
     let rest = count - (first + n) in
     let e : count ≡ first + (n + rest) = omega arith in
-    let low : sum_by f (range_with_len 0 first) ≡ 0 = sum_by-none f (range_with_len 0 first) (on_range (λ x. f x ≡ 0) 0 first (λ x a b. (outside x (omega arith)).0 (omega arith))) in
-    let mid : sum_by f (range_with_len first n) ≡ sum_by h (range_with_len first n) = sum_by-like f h (range_with_len first n) (on_range (λ x. f x ≡ h x) first n (λ x a b. inside x (omega arith) a b)) in
-    let high : sum_by f (range_with_len (first + n) rest) ≡ 0 = sum_by-none f (range_with_len (first + n) rest) (on_range (λ x. f x ≡ 0) (first + n) rest (λ x a b. (outside x (omega arith)).1 a)) in
+    let low : sum_by f (range_with_len 0 first) ≡ 0 = sum_by-none f (range_with_len 0 first)
+    (on_range (λ x. f x ≡ 0) 0 first (λ x a b. (outside x (omega arith)).0 (omega arith))) in
+    let mid : sum_by f (range_with_len first n) ≡ sum_by h (range_with_len first n) =
+    sum_by-like f h (range_with_len first n) (on_range (λ x. f x ≡ h x) first n (λ x a b. inside x (omega arith) a b)) in
+    let high : sum_by f (range_with_len (first + n) rest) ≡ 0 = sum_by-none f (range_with_len (first + n) rest)
+    (on_range (λ x. f x ≡ 0) (first + n) rest (λ x a b. (outside x (omega arith)).1 a)) in
     ap (λ m. sum_by f (range_with_len 0 m)) e
     ∙ ap (sum_by f) (range_append 0 first (n + rest))
     ∙ sum_by-append f (range_with_len 0 first) (range_with_len (0 + first) (n + rest))
     ∙ ap (λ m. sum_by f (range_with_len 0 first) + sum_by f (range_with_len m (n + rest))) (let z : 0 + first ≡ first = omega arith in z)
-    ∙ ap (λ m. sum_by f (range_with_len 0 first) + m) (ap (sum_by f) (range_append first n rest) ∙ sum_by-append f (range_with_len first n) (range_with_len (first + n) rest))
+    ∙ ap (λ m. sum_by f (range_with_len 0 first) + m) (ap (sum_by f) (range_append first n rest)
+    ∙ sum_by-append f (range_with_len first n) (range_with_len (first + n) rest))
     ∙ omega (arith, low, mid, high)
 
 unmet : (a b : Bool) (v : ℕ) → b ≡ false → cond a (cond b v 0) 0 ≡ 0
@@ -220,5 +241,6 @@ pub children_total : (keys : List ℕ) (first n : ℕ) → sum_by (λ (q : Part)
 children_total keys first n =
     let l = sum_by-le (λ (q : Part). q.weight) 1 (map (child_part keys) (range_with_len first n))
     (All-from_recursion (λ (q : Part). q.weight ≤ 1) (map (child_part keys) (range_with_len first n))
-    (every-map (λ (q : Part). q.weight ≤ 1) (child_part keys) (range_with_len first n) (every-any (λ _. 1 ≤ 1) (λ _. omega arith) (range_with_len first n)))) in
+    (every-map (λ (q : Part). q.weight ≤ 1) (child_part keys) (range_with_len first n) (every-any (λ _. 1 ≤ 1) (λ _. omega arith) (range_with_len first n))))
+    in
     omega (arith, l, length-map-range_with_len (child_part keys) first n)

@@ -26,7 +26,8 @@ AreAlikeBelow f lists round end = (s : ℕ) → s < end → Alike f lists round 
 -- the first signal of a round that is not like the first member of its class, or none
 abbrev pub MatchUnlike : Frame → ClassLists → ℕ → Option ℕ → Type 0
 MatchUnlike f lists round None = AreAlikeBelow f lists round (signal_count f round)
-MatchUnlike f lists round (Some s) = (s < signal_count f round) × AreAlikeBelow f lists round s × (Alike f lists round (first_member lists round (class_of lists round s)) s → ⊥)
+MatchUnlike f lists round (Some s) = (s < signal_count f round) × AreAlikeBelow f lists round s
+    × (Alike f lists round (first_member lists round (class_of lists round s)) s → ⊥)
 
 -- what a stop prints
 abbrev pub stop_text : CheckStop → List ℕ

@@ -58,6 +58,7 @@ impl<'a> Lossless<'a> {
 fn settles(alloc: Global, grouped: &Grouped<'_>) -> Result<bool, AllocError>
     ensures { IfOk result (λ b. IsTrue b → IsLossless (frame_of (rules_of grouped.now.signals.now)) grouped.now.classes.now.lists) }
 {
+    // called only for what its contract says
     let _rounds = grouped.classes.rounds();
     let last = grouped.signals.rounds();
     for round in 1..last {

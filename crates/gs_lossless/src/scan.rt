@@ -36,6 +36,7 @@ pub(crate) fn first_apart(
     ensures { IfOk result (IsFirstApart (frame_of (rules_of grouped.now.signals.now)) grouped.now.classes.now.lists side round end) }
 {
     let Grouped { signals, classes } = *grouped;
+    // called only for what its contract says
     let _rounds = classes.rounds();
     let keys = side_keys(alloc, signals, classes, side, round)?;
     let mut kept = empty_lists(alloc, classes.classes(round))?;

@@ -33,12 +33,14 @@ round_view r = (r.private, r.public, r.bet)
 
 -- the lines of a round, behind an empty line
 unfoldable pub round_text : ℕ → ℕ × ℕ × ℕ → List ℕ
-round_text cap r = codes "\n[[round]]\nprivate = " ++ decimal r.0 ++ codes "\npublic = " ++ decimal r.1 ++ codes "\nbet = " ++ decimal r.2 ++ codes "\ncap = " ++ decimal cap ++ codes "\n"
+round_text cap r = codes "\n[[round]]\nprivate = " ++ decimal r.0 ++ codes "\npublic = " ++ decimal r.1 ++ codes "\nbet = " ++ decimal r.2 ++ codes "\ncap = "
+    ++ decimal cap ++ codes "\n"
 
 -- the lines before the rounds, of the ranks, the suits, the ranking and the ante
 unfoldable pub head_text : (ranks suits ranking : List ℕ) → ℕ → List ℕ
 head_text ranks suits ranking ante =
-    codes "version = 1\nranks = \"" ++ ranks ++ codes "\"\nsuits = \"" ++ suits ++ codes "\"\nranking = \"" ++ ranking ++ codes "\"\nante = " ++ decimal ante ++ codes "\n"
+    codes "version = 1\nranks = \"" ++ ranks ++ codes "\"\nsuits = \"" ++ suits ++ codes "\"\nranking = \"" ++ ranking ++ codes "\"\nante = " ++ decimal ante
+    ++ codes "\n"
 
 -- the whole game file: the highest ranks, the first suits
 abbrev pub made_game : Kind → ℕ → ℕ → ℕ → List ℕ

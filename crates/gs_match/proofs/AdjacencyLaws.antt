@@ -9,7 +9,8 @@ use Rattle.gs_match.specs.Rows.{rows}
 use Rattle.gs_match.specs.Adjacency.{row_of, AreNeighbours, Near}
 
 -- one more empty list
-pub empty_more : (vs : List (Vec ℕ Global)) (v : Vec ℕ Global) → v.items ≡ [] → ((k : ℕ) → row_of (rows vs) k ≡ []) → (k : ℕ) → row_of (rows (vs ++ v ∷ [])) k ≡ []
+pub empty_more : (vs : List (Vec ℕ Global)) (v : Vec ℕ Global) → v.items ≡ [] → ((k : ℕ) → row_of (rows vs) k ≡ []) → (k : ℕ)
+    → row_of (rows (vs ++ v ∷ [])) k ≡ []
 empty_more vs v e old k =
     let m : rows (vs ++ v ∷ []) ≡ rows vs ++ v.items ∷ [] = map_push (λ (x : Vec ℕ Global). x.items) vs v in
     ap (λ (l : List (List ℕ)). get_or l k []) m ∙ ⊎_elim
@@ -21,7 +22,8 @@ empty_more vs v e old k =
     (cases_lt k (length (rows vs)))
 
 -- no edges
-pub neighbours_none : (left right : ℕ) (adjacent : List (List ℕ)) → length adjacent ≡ left → ((k : ℕ) → row_of adjacent k ≡ []) → AreNeighbours (record { left = left; right = right; edges = [] }) adjacent
+pub neighbours_none : (left right : ℕ) (adjacent : List (List ℕ)) → length adjacent ≡ left → ((k : ℕ) → row_of adjacent k ≡ [])
+    → AreNeighbours (record { left = left; right = right; edges = [] }) adjacent
 neighbours_none left right adjacent long empty = record {
   long = long;
   same = λ a b l. ap (λ (row : List ℕ). list_any (λ x. x == b) row) (empty a);
@@ -69,12 +71,14 @@ module _ (left right : ℕ) (edges : List (ℕ × ℕ)) (adjacent : List (List �
         ∙ ap (λ k. list_any (λ x. cond (x.0 == k) (x.1 == b) false) (edges ++ e ∷ [])) (sym s))
         (λ ne.
         ap (λ (row : List ℕ). list_any (λ x. x == b) row) (row_other a ne) ∙ old.same a b l
-        ∙ sym (any_push (λ x. cond (x.0 == a) (x.1 == b) false) edges e ∙ ap (λ t. has_edge (record { left = left; right = right; edges = edges }) a b || cond t (e.1 == b) false) (ne_eqb e.0 a (λ q. ne (sym q)))
+        ∙ sym (any_push (λ x. cond (x.0 == a) (x.1 == b) false) edges e ∙ ap (λ t. has_edge (record { left = left; right = right; edges = edges }) a b
+        || cond t (e.1 == b) false) (ne_eqb e.0 a (λ q. ne (sym q)))
         ∙ or_false (has_edge (record { left = left; right = right; edges = edges }) a b)))
         (cases_eq a e.0);
     in_range = λ a k l. ⊎_elim
         (λ (s : a ≡ e.0).
-        let n : length (row_of lists a) ≡ length (row_of adjacent e.0) + 1 = ap (λ m. length (row_of lists m)) s ∙ ap length row_same ∙ length_push (row_of adjacent e.0) e.1 in
+        let n : length (row_of lists a) ≡ length (row_of adjacent e.0) + 1 =
+        ap (λ m. length (row_of lists m)) s ∙ ap length row_same ∙ length_push (row_of adjacent e.0) e.1 in
         let v : get_or (row_of lists a) k 0 ≡ get_or grown k 0 = ap (λ m. get_or (row_of lists m) k 0) s ∙ ap (λ (row : List ℕ). get_or row k 0) row_same in
         ⊎_elim
         (λ within. let w = get_or_append_left (row_of adjacent e.0) (e.1 ∷ []) 0 k within in let r = old.in_range e.0 k within in omega arith)

@@ -22,7 +22,8 @@ some_same a b o x y = cc
 some_none : (a : ℕ) (o : Option ℕ) → o ≡ Some a → o ≡ None → ⊥
 some_none a o x y = cc
 
-pub shift_start : (adjacent : List (List ℕ)) (holders : List (Option ℕ)) (root : ℕ) (visits : List Visit) (place right : ℕ) → IsMatching adjacent holders root → IsPath adjacent holders visits place right
+pub shift_start : (adjacent : List (List ℕ)) (holders : List (Option ℕ)) (root : ℕ) (visits : List Visit) (place right : ℕ) → IsMatching adjacent holders root
+    → IsPath adjacent holders visits place right
     → IsShift adjacent holders root visits place right
 shift_start adjacent holders root visits place right m p =
     let w = p.within in record {
@@ -32,11 +33,16 @@ shift_start adjacent holders root visits place right m p =
         once = λ b c a nb nc hb hc. m.once b c a (held_not_last holders b a hb) (held_not_last holders c a hc) hb hc;
         along = λ b a nb hb. m.along b a (held_not_last holders b a hb) hb;
         below = λ b a nb hb. m.below b a (held_not_last holders b a hb) hb;
-        all = λ a l. let h = m.all a l in record { at = h.at; is = h.is; other = λ e. some_none a (holder holders right) (ap (λ k. holder holders k) (sym e) ∙ h.is) p.free };
+        all = λ a l. let h = m.all a l in record {
+          at = h.at;
+          is = h.is;
+          other = λ e. some_none a (holder holders right) (ap (λ k. holder holders k) (sym e) ∙ h.is) p.free;
+        };
       };
       near = p.near;
       waiting = λ j some low. (p.tree.linked j some (omega arith)).held;
-      apart = λ j some low e. some_none (visit visits j).left (holder holders right) (ap (λ k. holder holders k) (sym e) ∙ (p.tree.linked j some (omega arith)).held) p.free;
+      apart = λ j some low e. some_none (visit visits j).left (holder holders right) (ap (λ k. holder holders k) (sym e)
+          ∙ (p.tree.linked j some (omega arith)).held) p.free;
     }
 
 -- a right node is given to a left node
@@ -120,10 +126,12 @@ module _ (adjacent : List (List ℕ)) (before holders : List (Option ℕ)) (reac
         waiting = λ j pos low. there (visit visits j).right (s.apart j pos (omega arith)) ∙ s.waiting j pos (omega arith);
         apart = λ j pos low e.
             let q = s.waiting j pos (omega arith) in
-            t.differ j place (omega arith) s.within (some_same (visit visits j).left left (holder holders next) (ap (λ k. holder holders k) (sym e) ∙ q) held);
+            t.differ j place (omega arith) s.within (some_same (visit visits j).left left (holder holders next) (ap (λ k. holder holders k) (sym e)
+            ∙ q) held);
       }
 
-module _ (adjacent : List (List ℕ)) (holders : List (Option ℕ)) (root : ℕ) (visits : List Visit) (right : ℕ) (s : IsShift adjacent holders root visits 0 right) (first : (visit visits 0).left ≡ root) where
+module _ (adjacent : List (List ℕ)) (holders : List (Option ℕ)) (root : ℕ) (visits : List Visit) (right : ℕ)
+    (s : IsShift adjacent holders root visits 0 right) (first : (visit visits 0).left ≡ root) where
   abbrev full : List (Option ℕ)
   full = set holders right (Some root)
 
@@ -142,7 +150,8 @@ module _ (adjacent : List (List ℕ)) (holders : List (Option ℕ)) (root : ℕ)
       let inside = s.right_in in record {
         once = λ b c a nb nc hb hc. ⊎_elim
             (λ (eb : b ≡ right). ⊎_elim (λ (ec : c ≡ right). eb ∙ sym ec) (λ dc. absurd (not_root c a (root_at b a eb hb) dc hc)) (cases_eq c right))
-            (λ db. ⊎_elim (λ (ec : c ≡ right). absurd (not_root b a (root_at c a ec hc) db hb)) (λ dc. s.but.once b c a db dc (sym (there_root b db) ∙ hb) (sym (there_root c dc) ∙ hc)) (cases_eq c right))
+            (λ db. ⊎_elim (λ (ec : c ≡ right). absurd (not_root b a (root_at c a ec hc) db hb)) (λ dc. s.but.once b c a db dc (sym (there_root b db)
+            ∙ hb) (sym (there_root c dc) ∙ hc)) (cases_eq c right))
             (cases_eq b right);
         along = λ b a nb hb. ⊎_elim
             (λ (eb : b ≡ right). subst (λ k. Near adjacent a k) (sym eb) (subst (λ k. Near adjacent k right) (first ∙ sym (root_at b a eb hb)) s.near))
@@ -153,7 +162,13 @@ module _ (adjacent : List (List ℕ)) (holders : List (Option ℕ)) (root : ℕ)
             (λ db. let l = s.but.below b a db (sym (there_root b db) ∙ hb) in omega arith)
             (cases_eq b right);
         all = λ a l. ⊎_elim
-            (λ (e : a ≡ root). record { at = right; is = given_here holders right root s.right_in ∙ ap (λ k. Some k) (sym e); other = λ q. absurd (omega arith) })
-            (λ ne. let h = s.but.all a (omega arith) in let k = held_in holders h.at a h.is in record { at = h.at; is = there_root h.at h.other ∙ h.is; other = λ q. absurd (omega arith) })
+            (λ (e : a ≡ root). record {
+              at = right;
+              is = given_here holders right root s.right_in ∙ ap (λ k. Some k) (sym e);
+              other =
+                  λ q. absurd (omega arith);
+            })
+            (λ ne. let h = s.but.all a (omega arith) in let k = held_in holders h.at a h.is in
+            record { at = h.at; is = there_root h.at h.other ∙ h.is; other = λ q. absurd (omega arith) })
             (cases_eq a root);
       }

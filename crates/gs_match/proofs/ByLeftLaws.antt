@@ -15,10 +15,12 @@ same_some : (a b : ℕ) (o : Option ℕ) → o ≡ Some a → o ≡ Some b → a
 same_some a b o x y = cc
 
 module _ (holders : List (Option ℕ)) (to : List ℕ) (right : ℕ) (old : (b a : ℕ) → b < right → holder holders b ≡ Some a → get_or to a 0 ≡ b) where
-  pub by_left-some : (left : ℕ) → left < length to → holder holders right ≡ Some left → ((b c a : ℕ) → holder holders b ≡ Some a → holder holders c ≡ Some a → b ≡ c)
+  pub by_left-some : (left : ℕ) → left < length to → holder holders right ≡ Some left
+      → ((b c a : ℕ) → holder holders b ≡ Some a → holder holders c ≡ Some a → b ≡ c)
       → (b a : ℕ) → b < right + 1 → holder holders b ≡ Some a → get_or (set to left right) a 0 ≡ b
   by_left-some left within here once b a lt h = ⊎_elim
-      (λ (e : a ≡ left). ap (λ k. get_or (set to left right) k 0) e ∙ get_or-set_same to left right 0 within ∙ once right b left here (h ∙ ap (λ k. Some k) e))
+      (λ (e : a ≡ left). ap (λ k. get_or (set to left right) k 0) e ∙ get_or-set_same to left right 0 within
+      ∙ once right b left here (h ∙ ap (λ k. Some k) e))
       (λ ne. get_or-set_other to left a right 0 ne ∙ old b a (⊎_elim
       (λ (e : b ≡ right). absurd (ne (same_some a left (holder holders right) (ap (λ k. holder holders k) (sym e) ∙ h) here)))
       (λ nb. omega arith)
@@ -26,4 +28,5 @@ module _ (holders : List (Option ℕ)) (to : List ℕ) (right : ℕ) (old : (b a
       (cases_eq a left)
 
   pub by_left-none : holder holders right ≡ None → (b a : ℕ) → b < right + 1 → holder holders b ≡ Some a → get_or to a 0 ≡ b
-  by_left-none none b a lt h = old b a (⊎_elim (λ (e : b ≡ right). absurd (impossible a (holder holders right) (ap (λ k. holder holders k) (sym e) ∙ h) none)) (λ nb. omega arith) (cases_eq b right)) h
+  by_left-none none b a lt h = old b a (⊎_elim (λ (e : b ≡ right). absurd (impossible a (holder holders right) (ap (λ k. holder holders k) (sym e) ∙ h) none))
+      (λ nb. omega arith) (cases_eq b right)) h

@@ -33,12 +33,14 @@ counted_twice (x ∷ y ∷ ys) (suc k) l e =
     omega arith
 
 -- if each number that passes is marked, no more pass than are marked
-counted_within : (p : ℕ → Bool) (bs : List Bool) (a : ℕ) → ((b : ℕ) → b < length bs → p (a + b) ≡ true → get_or bs b false ≡ true) → count_by p (range_with_len a (length bs)) ≤ count_by (λ x. x) bs
+counted_within : (p : ℕ → Bool) (bs : List Bool) (a : ℕ) → ((b : ℕ) → b < length bs → p (a + b) ≡ true → get_or bs b false ≡ true)
+    → count_by p (range_with_len a (length bs)) ≤ count_by (λ x. x) bs
 counted_within p [] a h = omega arith
 counted_within p (x ∷ bs) a h =
     let r = counted_within p bs (a + 1) (λ b l e. let s : a + 1 + b ≡ a + (b + 1) = omega arith in let t : suc b ≡ b + 1 = omega arith in
     ap (λ k. get_or (x ∷ bs) k false) t ∙ h (b + 1) (omega arith) (ap p (sym s) ∙ e)) in
-    let u : count_by p (range_with_len a (length (x ∷ bs))) ≡ cond (p a) 1 0 + count_by p (range_with_len (a + 1) (length bs)) = sum_by-cons (λ k. cond (p k) 1 0) a (range_with_len (a + 1) (length bs)) in
+    let u : count_by p (range_with_len a (length (x ∷ bs))) ≡ cond (p a) 1 0 + count_by p (range_with_len (a + 1) (length bs)) =
+    sum_by-cons (λ k. cond (p k) 1 0) a (range_with_len (a + 1) (length bs)) in
     let v : count_by (λ x. x) (x ∷ bs) ≡ cond x 1 0 + count_by (λ x. x) bs = sum_by-cons (λ (k : Bool). cond k 1 0) x bs in
     ⊎_elim
     (λ e.
@@ -64,12 +66,14 @@ module _ (g : Edges) (adjacent : List (List ℕ)) (holders : List (Option ℕ)) 
 
   left_in : (k : ℕ) → k < length visits → (visit visits k).left < g.left
   left_in k l = ⊎_elim
-      (λ some. let link = tree.linked k some l in let b = m.below (visit visits k).right (visit visits k).left (held_not_last holders (visit visits k).right (visit visits k).left link.held) link.held in omega arith)
+      (λ some. let link = tree.linked k some l in let b = m.below (visit visits k).right (visit visits k).left
+      (held_not_last holders (visit visits k).right (visit visits k).left link.held) link.held in omega arith)
       (λ first. let z : k ≡ 0 = omega arith in let e : (visit visits k).left ≡ root = ap (λ j. (visit visits j).left) z ∙ found.0 in omega arith)
       (cases_lt 0 k)
 
   differ : AllDiffer (lefts visits)
-  differ i j lt l e = tree.differ i j lt (let q = long in omega arith) (sym (left_at i (let q = long in omega arith)) ∙ e ∙ left_at j (let q = long in omega arith))
+  differ i j lt l e = tree.differ i j lt (let q = long in omega arith) (sym (left_at i (let q = long in omega arith)) ∙ e
+      ∙ left_at j (let q = long in omega arith))
 
   reached_neighbour : (b : ℕ) → is_neighbour g set b ≡ true → is_reached (found.1).reached b ≡ true
   reached_neighbour b h =
@@ -89,7 +93,8 @@ module _ (g : Edges) (adjacent : List (List ℕ)) (holders : List (Option ℕ)) 
             (λ (e : get_or set k 0 ≡ get_or set (k + 1) 0).
             let two = counted_twice set k l e in
             let one = differ_once (lefts visits) differ (get_or set k 0) in
-            let perm : count_by (eqb (get_or set k 0)) set ≡ count_by (eqb (get_or set k 0)) (lefts visits) = sum_by-IsPermutation (λ v. cond (eqb (get_or set k 0) v) 1 0) (lefts visits) set same in
+            let perm : count_by (eqb (get_or set k 0)) set ≡ count_by (eqb (get_or set k 0)) (lefts visits) =
+            sum_by-IsPermutation (λ v. cond (eqb (get_or set k 0) v) 1 0) (lefts visits) set same in
             absurd (omega arith))
             (λ ne. omega arith)
             (cases_eq (get_or set k 0) (get_or set (k + 1) 0));
@@ -100,7 +105,9 @@ module _ (g : Edges) (adjacent : List (List ℕ)) (holders : List (Option ℕ)) 
             let w = tree.wide in
             let r = (found.1).reached in
             let right_is : length r ≡ g.right = omega arith in
-            let few : count_by (is_neighbour g set) (range_with_len 0 (length r)) ≤ count_by (λ x. x) r = counted_within (is_neighbour g set) r 0 (λ b l e. let z : b ≡ 0 + b = omega arith in reached_neighbour b (ap (is_neighbour g set) z ∙ e)) in
-            let few' : count_by (is_neighbour g set) (range_with_len 0 g.right) ≤ count_by (λ x. x) r = subst (λ k. count_by (is_neighbour g set) (range_with_len 0 k) ≤ count_by (λ x. x) r) right_is few in
+            let few : count_by (is_neighbour g set) (range_with_len 0 (length r)) ≤ count_by (λ x. x) r =
+            counted_within (is_neighbour g set) r 0 (λ b l e. let z : b ≡ 0 + b = omega arith in reached_neighbour b (ap (is_neighbour g set) z ∙ e)) in
+            let few' : count_by (is_neighbour g set) (range_with_len 0 g.right) ≤ count_by (λ x. x) r =
+            subst (λ k. count_by (is_neighbour g set) (range_with_len 0 k) ≤ count_by (λ x. x) r) right_is few in
             omega arith);
       }

@@ -22,7 +22,8 @@ matching_none adjacent holders none = record {
   all = λ a l. absurd (omega arith);
 }
 
-pub perfect_from : (g : Edges) (adjacent : List (List ℕ)) (holders : List (Option ℕ)) (to : List ℕ) → AreNeighbours g adjacent → length holders ≡ g.right → g.left ≡ g.right → IsMatching adjacent holders g.left
+pub perfect_from : (g : Edges) (adjacent : List (List ℕ)) (holders : List (Option ℕ)) (to : List ℕ) → AreNeighbours g adjacent → length holders ≡ g.right
+    → g.left ≡ g.right → IsMatching adjacent holders g.left
     → length to ≡ length holders → ((b a : ℕ) → holder holders b ≡ Some a → get_or to a 0 ≡ b) → IsPerfect g to
 perfect_from g adjacent holders to n wide sides m long each = record {
   one_each = long ∙ wide ∙ sym sides;
@@ -36,5 +37,6 @@ perfect_from g adjacent holders to n wide sides m long each = record {
       absurd (omega arith);
   along = λ a l.
       let h = m.all a l in
-      subst (λ r. has_edge g a r ≡ true) (sym (each h.at a h.is)) (edge_from_near g adjacent n a h.at l (m.along h.at a (held_not_last holders h.at a h.is) h.is));
+      subst (λ r. has_edge g a r ≡ true) (sym (each h.at a h.is)) (edge_from_near g adjacent n a h.at l
+      (m.along h.at a (held_not_last holders h.at a h.is) h.is));
 }

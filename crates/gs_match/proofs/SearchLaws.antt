@@ -9,7 +9,8 @@ use Rattle.gs_match.specs.Search.{holder, IsMatching, visit, is_reached, IsLinke
 
 -- a right node that is held is in range
 pub held_in : (holders : List (Option ℕ)) (b a : ℕ) → holder holders b ≡ Some a → b < length holders
-held_in holders b a h = ⊎_elim (λ within. within) (λ past. let e : None ≡ Some a = sym (get_or_past holders b None past) ∙ h in cc) (cases_lt b (length holders))
+held_in holders b a h = ⊎_elim (λ within. within) (λ past. let e : None ≡ Some a = sym (get_or_past holders b None past) ∙ h in
+    cc) (cases_lt b (length holders))
 
 pub held_not_last : (holders : List (Option ℕ)) (b a : ℕ) → holder holders b ≡ Some a → b ≢ length holders
 held_not_last holders b a h e = let l = held_in holders b a h in absurd (omega arith)
@@ -22,7 +23,8 @@ mark_kept reached right b l h = ⊎_elim
     (cases_eq b right)
 
 module _ (adjacent : List (List ℕ)) (holders : List (Option ℕ)) (visits : List Visit) (reached : List Bool) (place left right : ℕ)
-    (m : IsMatching adjacent holders (visit visits 0).left) (t : IsTree adjacent holders visits reached) (within : place < length visits) (near : Near adjacent (visit visits place).left right)
+    (m : IsMatching adjacent holders (visit visits 0).left) (t : IsTree adjacent holders visits reached) (within : place
+    < length visits) (near : Near adjacent (visit visits place).left right)
     (in' : right < length holders) (new : is_reached reached right ≡ false) (held : holder holders right ≡ Some left) where
   abbrev added : Visit
   added = record { left = left; right = right; from = place }
@@ -54,7 +56,8 @@ module _ (adjacent : List (List ℕ)) (holders : List (Option ℕ)) (visits : Li
         earlier = subst (λ (w : Visit). w.from < k) (sym e) link.earlier;
         held = subst (λ (w : Visit). holder holders w.right ≡ Some w.left) (sym e) link.held;
         marked = subst (λ (w : Visit). is_reached marks w.right ≡ true) (sym e) (mark_kept reached right (visit visits k).right right_in link.marked);
-        near = subst (λ (w : Visit). Near adjacent (visit more w.from).left w.right) (sym e) (subst (λ (u : Visit). Near adjacent u.left (visit visits k).right) (sym ef) link.near);
+        near = subst (λ (w : Visit). Near adjacent (visit more w.from).left w.right) (sym e)
+            (subst (λ (u : Visit). Near adjacent u.left (visit visits k).right) (sym ef) link.near);
       }
 
   link_new : IsLinked adjacent holders more marks (length visits)
@@ -64,7 +67,8 @@ module _ (adjacent : List (List ℕ)) (holders : List (Option ℕ)) (visits : Li
         earlier = subst (λ (w : Visit). w.from < length visits) (sym e) within;
         held = subst (λ (w : Visit). holder holders w.right ≡ Some w.left) (sym e) held;
         marked = subst (λ (w : Visit). is_reached marks w.right ≡ true) (sym e) (get_or-set_same reached right true false right_in);
-        near = subst (λ (w : Visit). Near adjacent (visit more w.from).left w.right) (sym e) (subst (λ (u : Visit). Near adjacent u.left right) (sym ef) near);
+        near = subst (λ (w : Visit). Near adjacent (visit more w.from).left w.right) (sym e)
+            (subst (λ (u : Visit). Near adjacent u.left right) (sym ef) near);
       }
 
   fresh : (i : ℕ) → i < length visits → (visit visits i).left ≢ left
@@ -72,7 +76,8 @@ module _ (adjacent : List (List ℕ)) (holders : List (Option ℕ)) (visits : Li
       (λ some.
       let link = t.linked i some l in
       let h : holder holders (visit visits i).right ≡ Some left = link.held ∙ ap (λ k. Some k) e in
-      let same = m.once (visit visits i).right right left (held_not_last holders (visit visits i).right left h) (held_not_last holders right left held) h held in
+      let same = m.once (visit visits i).right right left (held_not_last holders (visit visits i).right left h)
+      (held_not_last holders right left held) h held in
       true≢false (sym link.marked ∙ ap (λ b. is_reached reached b) same ∙ new))
       (λ first.
       let z : i ≡ 0 = omega arith in
@@ -87,15 +92,19 @@ module _ (adjacent : List (List ℕ)) (holders : List (Option ℕ)) (visits : Li
       let s = t.some in record {
         some = omega arith;
         wide = length-set reached right true ∙ t.wide;
-        linked = λ k some l. ⊎_elim (λ e. subst (IsLinked adjacent holders more marks) (sym e) link_new) (λ ne. link_old k some (omega arith)) (cases_eq k (length visits));
+        linked = λ k some l. ⊎_elim (λ e. subst (IsLinked adjacent holders more marks) (sym e) link_new) (λ ne. link_old k some (omega arith))
+            (cases_eq k (length visits));
         counted =
             (let c = t.counted in
-            let u : count_by (λ x. x) marks + cond (is_reached reached right) 1 0 ≡ count_by (λ x. x) reached + 1 = sum_by-set (λ x. cond x 1 0) reached right true false right_in in
+            let u : count_by (λ x. x) marks + cond (is_reached reached right) 1 0 ≡ count_by (λ x. x) reached + 1 =
+            sum_by-set (λ x. cond x 1 0) reached right true false right_in in
             let z : cond {A = ℕ} (is_reached reached right) 1 0 ≡ 0 = ap (λ b. cond {A = ℕ} b 1 0) new in
             omega arith);
         differ = λ i j lt l. ⊎_elim
-            (λ e ends. fresh i (omega arith) (ap (λ (w : Visit). w.left) (sym (old_visit i (omega arith))) ∙ ends ∙ ap (λ k. (visit more k).left) e ∙ ap (λ (w : Visit). w.left) new_visit))
-            (λ ne ends. t.differ i j lt (omega arith) (ap (λ (w : Visit). w.left) (sym (old_visit i (omega arith))) ∙ ends ∙ ap (λ (w : Visit). w.left) (old_visit j (omega arith))))
+            (λ e ends. fresh i (omega arith) (ap (λ (w : Visit). w.left) (sym (old_visit i (omega arith))) ∙ ends ∙ ap (λ k. (visit more k).left) e
+            ∙ ap (λ (w : Visit). w.left) new_visit))
+            (λ ne ends. t.differ i j lt (omega arith) (ap (λ (w : Visit). w.left) (sym (old_visit i (omega arith))) ∙ ends
+            ∙ ap (λ (w : Visit). w.left) (old_visit j (omega arith))))
             (cases_eq j (length visits));
       }
 
@@ -106,15 +115,22 @@ module _ (adjacent : List (List ℕ)) (holders : List (Option ℕ)) (visits : Li
   marked_more = get_or-set_same reached right true false right_in
 
 -- no more visits than right nodes and one
-pub visits_few : (adjacent : List (List ℕ)) (holders : List (Option ℕ)) (visits : List Visit) (reached : List Bool) → IsTree adjacent holders visits reached → length visits ≤ length holders + 1
+pub visits_few : (adjacent : List (List ℕ)) (holders : List (Option ℕ)) (visits : List Visit) (reached : List Bool) → IsTree adjacent holders visits reached
+    → length visits ≤ length holders + 1
 visits_few adjacent holders visits reached t = let c = t.counted in let w = t.wide in let n = count_by-le-length (λ (x : Bool). x) reached in omega arith
 
 pub extends_refl : (visits : List Visit) (reached : List Bool) → Extends visits reached visits reached
 extends_refl visits reached = record { longer = omega arith; kept = λ k l. refl; marks = λ b h. h }
 
-pub extends_trans : (vs : List Visit) (rs : List Bool) (vs' : List Visit) (rs' : List Bool) (vs'' : List Visit) (rs'' : List Bool) → Extends vs rs vs' rs' → Extends vs' rs' vs'' rs'' → Extends vs rs vs'' rs''
+pub extends_trans : (vs : List Visit) (rs : List Bool) (vs' : List Visit) (rs' : List Bool) (vs'' : List Visit) (rs'' : List Bool) → Extends vs rs vs' rs'
+    → Extends vs' rs' vs'' rs'' → Extends vs rs vs'' rs''
 extends_trans vs rs vs' rs' vs'' rs'' a b =
-    let la = a.longer in let lb = b.longer in record { longer = omega arith; kept = λ k l. b.kept k (omega arith) ∙ a.kept k l; marks = λ r h. b.marks r (a.marks r h) }
+    let la = a.longer in let lb = b.longer in record {
+      longer = omega arith;
+      kept = λ k l. b.kept k (omega arith) ∙ a.kept k l;
+      marks = λ r h. b.marks r (a.marks r h);
+    }
 
-pub explored_more : (adjacent : List (List ℕ)) (vs : List Visit) (rs : List Bool) (vs' : List Visit) (rs' : List Bool) (n : ℕ) → n ≤ length vs → Extends vs rs vs' rs' → AreExplored adjacent vs rs n → AreExplored adjacent vs' rs' n
+pub explored_more : (adjacent : List (List ℕ)) (vs : List Visit) (rs : List Bool) (vs' : List Visit) (rs' : List Bool) (n : ℕ) → n ≤ length vs
+    → Extends vs rs vs' rs' → AreExplored adjacent vs rs n → AreExplored adjacent vs' rs' n
 explored_more adjacent vs rs vs' rs' n l e h k b lt near = e.marks b (h k b lt (subst (λ (w : Visit). Near adjacent w.left b) (e.kept k (omega arith)) near))

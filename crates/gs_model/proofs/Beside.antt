@@ -87,9 +87,11 @@ beside-part left p s own public t =
 
 -- the signals that begin with one own group
 abbrev pub begun : List ℕ → Round → List Round → List ℕ → List Signal
-begun more r rs own = flat_map (λ public. map (λ t. seen own public ∷ t) (listed (left_after (left_after more own) public) rs)) (groups (left_after more own) r.public)
+begun more r rs own = flat_map (λ public. map (λ t. seen own public ∷ t) (listed (left_after (left_after more own) public) rs))
+    (groups (left_after more own) r.public)
 
-room-next : (fewer more : List ℕ) (p : Seen) (s : Signal) (own : List ℕ) → nat_lt 0 (ways fewer own) ≡ true → IsRoom fewer more (p ∷ s) → IsRoom (left_after fewer own) (left_after (left_after more own) p.public) s
+room-next : (fewer more : List ℕ) (p : Seen) (s : Signal) (own : List ℕ) → nat_lt 0 (ways fewer own) ≡ true → IsRoom fewer more (p ∷ s)
+    → IsRoom (left_after fewer own) (left_after (left_after more own) p.public) s
 room-next fewer more p s own e room =
     let l = length-after fewer own in let m = length-after (left_after more own) p.public in let n = length-after more own in let q = room.lengths in
     record {
@@ -100,45 +102,60 @@ room-next fewer more p s own e room =
           omega arith;
     }
 
-room-public : (fewer more : List ℕ) (p : Seen) (s : Signal) (own : List ℕ) → nat_lt 0 (ways fewer own) ≡ true → IsRoom fewer more (p ∷ s) → fits_from 0 (left_after more own) p.public ≡ true
+room-public : (fewer more : List ℕ) (p : Seen) (s : Signal) (own : List ℕ) → nat_lt 0 (ways fewer own) ≡ true → IsRoom fewer more (p ∷ s)
+    → fits_from 0 (left_after more own) p.public ≡ true
 room-public fewer more p s own e room =
     let n = length-after more own in let q = room.lengths in
-    counts-fit_all (left_after more own) p.public (λ k lt. let a = room.each k (omega arith) in let b = taken-counts fewer own e k (omega arith) in let f = left_at more own k in omega arith)
+    counts-fit_all (left_after more own) p.public (λ k lt. let a = room.each k (omega arith) in let b = taken-counts fewer own e k (omega arith) in
+    let f = left_at more own k in omega arith)
 
-one-own : (r : Round) (rs : List Round) (fewer more : List ℕ) (p : Seen) (s : Signal) (own : List ℕ) → IsRow r.public (length more) 0 p.public → IsRoom fewer more (p ∷ s)
-    → (IsRoom (left_after fewer own) (left_after (left_after more own) p.public) s → filter (beside (left_after fewer own) s) (listed (left_after (left_after more own) p.public) rs) ≡ map (λ (w : ℕ × Signal). w.1) (facing (left_after fewer own) rs s))
-    → filter (beside fewer (p ∷ s)) (begun more r rs own) ≡ cond (nat_lt 0 (ways fewer own)) (map (λ t. seen own p.public ∷ t) (map (λ (w : ℕ × Signal). w.1) (facing (left_after fewer own) rs s))) []
+one-own : (r : Round) (rs : List Round) (fewer more : List ℕ) (p : Seen) (s : Signal) (own : List ℕ) → IsRow r.public (length more) 0 p.public
+    → IsRoom fewer more (p ∷ s)
+    → (IsRoom (left_after fewer own) (left_after (left_after more own) p.public) s
+    → filter (beside (left_after fewer own) s) (listed (left_after (left_after more own) p.public) rs)
+    ≡ map (λ (w : ℕ × Signal). w.1) (facing (left_after fewer own) rs s))
+    → filter (beside fewer (p ∷ s)) (begun more r rs own) ≡ cond (nat_lt 0 (ways fewer own))
+    (map (λ t. seen own p.public ∷ t) (map (λ (w : ℕ × Signal). w.1) (facing (left_after fewer own) rs s))) []
 one-own r rs fewer more p s own row room rest = go (nat_lt 0 (ways fewer own)) refl
   where
-    go : (t : Bool) → nat_lt 0 (ways fewer own) ≡ t → filter (beside fewer (p ∷ s)) (begun more r rs own) ≡ cond t (map (λ t. seen own p.public ∷ t) (map (λ (w : ℕ × Signal). w.1) (facing (left_after fewer own) rs s))) []
+    go : (t : Bool) → nat_lt 0 (ways fewer own) ≡ t → filter (beside fewer (p ∷ s)) (begun more r rs own)
+        ≡ cond t (map (λ t. seen own p.public ∷ t) (map (λ (w : ℕ × Signal). w.1) (facing (left_after fewer own) rs s))) []
     go false e =
         let f = λ (public : List ℕ). map (λ t. seen own public ∷ t) (listed (left_after (left_after more own) public) rs) in
         filter-flat_map (beside fewer (p ∷ s)) f (groups (left_after more own) r.public)
         ∙ flat_map-nothing (λ public. filter (beside fewer (p ∷ s)) (f public))
         (λ public. filter-map_none (beside fewer (p ∷ s)) (λ t. seen own public ∷ t)
-        (λ t. beside-part fewer p s own public t ∙ ap (λ b. same_cards p.public public && (b && beside (left_after fewer own) s t)) e ∙ ap (λ b. same_cards p.public public && b) (no_and (beside (left_after fewer own) s t)) ∙ and_none (same_cards p.public public))
+        (λ t. beside-part fewer p s own public t ∙ ap (λ b. same_cards p.public public && (b && beside (left_after fewer own) s t)) e
+        ∙ ap (λ b. same_cards p.public public && b) (no_and (beside (left_after fewer own) s t)) ∙ and_none (same_cards p.public public))
         (listed (left_after (left_after more own) public) rs)) (groups (left_after more own) r.public)
     go true e =
         let f = λ (public : List ℕ). map (λ t. seen own public ∷ t) (listed (left_after (left_after more own) public) rs) in
-        let h = λ (public : List ℕ). map (λ t. seen own public ∷ t) (filter (beside (left_after fewer own) s) (listed (left_after (left_after more own) public) rs)) in
+        let h = λ (public : List ℕ). map (λ t. seen own public ∷ t) (filter (beside (left_after fewer own) s)
+        (listed (left_after (left_after more own) public) rs)) in
         let n : length more ≡ length (left_after more own) = sym (length-after more own) in
         filter-flat_map (beside fewer (p ∷ s)) f (groups (left_after more own) r.public)
-        ∙ flat_map-same (λ public. filter (beside fewer (p ∷ s)) (f public)) (λ public. cond (same_cards p.public public) (h public) []) (λ public. inner public (same_cards p.public public) refl) (groups (left_after more own) r.public)
+        ∙ flat_map-same (λ public. filter (beside fewer (p ∷ s)) (f public)) (λ public. cond (same_cards p.public public) (h public) [])
+        (λ public. inner public (same_cards p.public public) refl) (groups (left_after more own) r.public)
         ∙ flat_map-filter (same_cards p.public) h (groups (left_after more own) r.public)
-        ∙ ap (flat_map h) (once r.public (left_after more own) 0 p.public (subst (λ m. IsRow r.public m 0 p.public) n row) (room-public fewer more p s own e room))
+        ∙ ap (flat_map h) (once r.public (left_after more own) 0 p.public (subst (λ m. IsRow r.public m 0 p.public) n row)
+        (room-public fewer more p s own e room))
         ∙ append-nil (h p.public)
         ∙ ap (map (λ t. seen own p.public ∷ t)) (rest (room-next fewer more p s own e room))
       where
         inner : (public : List ℕ) (b : Bool) → same_cards p.public public ≡ b
-            → filter (beside fewer (p ∷ s)) (map (λ t. seen own public ∷ t) (listed (left_after (left_after more own) public) rs)) ≡ cond b (map (λ t. seen own public ∷ t) (filter (beside (left_after fewer own) s) (listed (left_after (left_after more own) public) rs))) []
+            → filter (beside fewer (p ∷ s)) (map (λ t. seen own public ∷ t) (listed (left_after (left_after more own) public) rs))
+            ≡ cond b (map (λ t. seen own public ∷ t) (filter (beside (left_after fewer own) s) (listed (left_after (left_after more own) public) rs))) []
         inner public true i = filter-map_of (beside fewer (p ∷ s)) (beside (left_after fewer own) s) (λ t. seen own public ∷ t)
-            (λ t. beside-part fewer p s own public t ∙ ap (λ b. b && (nat_lt 0 (ways fewer own) && beside (left_after fewer own) s t)) i ∙ ap (λ b. b && beside (left_after fewer own) s t) e)
+            (λ t. beside-part fewer p s own public t ∙ ap (λ b. b && (nat_lt 0 (ways fewer own) && beside (left_after fewer own) s t)) i
+            ∙ ap (λ b. b && beside (left_after fewer own) s t) e)
             (listed (left_after (left_after more own) public) rs)
         inner public false i = filter-map_none (beside fewer (p ∷ s)) (λ t. seen own public ∷ t)
-            (λ t. beside-part fewer p s own public t ∙ ap (λ b. b && (nat_lt 0 (ways fewer own) && beside (left_after fewer own) s t)) i ∙ no_and (nat_lt 0 (ways fewer own) && beside (left_after fewer own) s t))
+            (λ t. beside-part fewer p s own public t ∙ ap (λ b. b && (nat_lt 0 (ways fewer own) && beside (left_after fewer own) s t)) i
+            ∙ no_and (nat_lt 0 (ways fewer own) && beside (left_after fewer own) s t))
             (listed (left_after (left_after more own) public) rs)
 
-facing-whole : (rs : List Round) (fewer more : List ℕ) (s : Signal) → HasRows (length more) rs s → IsRoom fewer more s → filter (beside fewer s) (listed more rs) ≡ map (λ (w : ℕ × Signal). w.1) (facing fewer rs s)
+facing-whole : (rs : List Round) (fewer more : List ℕ) (s : Signal) → HasRows (length more) rs s → IsRoom fewer more s
+    → filter (beside fewer s) (listed more rs) ≡ map (λ (w : ℕ × Signal). w.1) (facing fewer rs s)
 facing-whole [] fewer more [] h room = refl
 facing-whole [] fewer more (p ∷ s) h room = absurd h
 facing-whole (r ∷ rs) fewer more [] h room = absurd h
@@ -154,7 +171,8 @@ facing-whole (r ∷ rs) fewer more (p ∷ s) h room =
     ∙ flat_map-filter (λ own. nat_lt 0 (ways fewer own)) out (groups more r.private)
     ∙ ap (flat_map out) (groups_of_fewer fewer more r.private room.lengths (room-less fewer more (p ∷ s) room))
     ∙ flat_map-same out (λ own. map snd (map (longer own) (facing (left_after fewer own) rs s)))
-    (λ own. map-map (λ t. seen own p.public ∷ t) snd (facing (left_after fewer own) rs s) ∙ sym (map-map snd (longer own) (facing (left_after fewer own) rs s))) (groups fewer r.private)
+    (λ own. map-map (λ t. seen own p.public ∷ t) snd (facing (left_after fewer own) rs s)
+    ∙ sym (map-map snd (longer own) (facing (left_after fewer own) rs s))) (groups fewer r.private)
     ∙ sym (map-flat_map snd (λ own. map (longer own) (facing (left_after fewer own) rs s)) (groups fewer r.private))
 
 -- ---- what is known of a last-round signal
@@ -181,16 +199,19 @@ listed-known (r ∷ rs) bound left e =
     (λ own taken.
     let l = left_after left own in
     let n : length l ≡ bound = length-after left own ∙ e in
-    every-flat_map (IsListed bound left (r ∷ rs)) (λ public. map (λ t. seen own public ∷ t) (listed (left_after l public) rs)) (λ public. (0 < ways l public) × IsRow r.public (length l) 0 public)
+    every-flat_map (IsListed bound left (r ∷ rs)) (λ public. map (λ t. seen own public ∷ t) (listed (left_after l public) rs)) (λ public. (0 < ways l public)
+    × IsRow r.public (length l) 0 public)
     (λ public known.
     every-map (IsListed bound left (r ∷ rs)) (λ t. seen own public ∷ t) (listed (left_after l public) rs)
     (every-weaker (IsListed bound (left_after l public) rs) (λ t. IsListed bound left (r ∷ rs) (seen own public ∷ t))
     (λ t k. record {
       rows = (subst (λ m. IsRow r.public m 0 public) n known.1, k.rows);
-      weighs = some-product (ways left own * ways l public) (path_weight (left_after l public) t) (some-product (ways left own) (ways l public) taken known.0) k.weighs;
+      weighs = some-product (ways left own * ways l public) (path_weight (left_after l public) t)
+          (some-product (ways left own) (ways l public) taken known.0) k.weighs;
     })
     (listed (left_after l public) rs) (listed-known rs bound (left_after l public) (length-after l public ∙ n))))
-    (groups l r.public) (every-both (λ public. 0 < ways l public) (IsRow r.public (length l) 0) (groups l r.public) (groups_taken l r.public) (rows-listed r.public l 0)))
+    (groups l r.public) (every-both (λ public. 0 < ways l public) (IsRow r.public (length l) 0) (groups l r.public) (groups_taken l r.public)
+    (rows-listed r.public l 0)))
     (groups left r.private) (groups_taken left r.private)
 
 pub signal-known : (g : Game) (i : ℕ) → i < length (signals g (round_count g)) → IsListed (length g.copies) g.copies g.rounds (signal_at g (round_count g) i)
@@ -219,7 +240,8 @@ room-start left (p ∷ s) h k l =
 
 length-left_by : (left : List ℕ) (s : Signal) → length (left_by left s) ≡ length left
 length-left_by left [] = refl
-length-left_by left (p ∷ s) = length-left_by (left_after (left_after left p.own) p.public) s ∙ length-after (left_after left p.own) p.public ∙ length-after left p.own
+length-left_by left (p ∷ s) = length-left_by (left_after (left_after left p.own) p.public) s ∙ length-after (left_after left p.own) p.public
+    ∙ length-after left p.own
 
 -- the signals that some deal has beside a signal are those that face it, in order
 pub signals-beside : (g : Game) (i : ℕ) → i < length (signals g (round_count g)) →
@@ -234,6 +256,7 @@ signals-beside g i l =
     ∙ ap (filter (beside (left_by g.copies s) s)) (sym (listed-all g))
     ∙ facing-whole g.rounds (left_by g.copies s) g.copies s k.rows (record { lengths = length-left_by g.copies s; each = room-start g.copies s k.weighs })
   where
-    same : (s t : Signal) → nat_lt 0 (path_weight g.copies s) ≡ true → (b : Bool) → nat_lt 0 (cond b (path_weight g.copies s * own_ways (left_by g.copies s) t) 0) ≡ (b && nat_lt 0 (own_ways (left_by g.copies s) t))
+    same : (s t : Signal) → nat_lt 0 (path_weight g.copies s) ≡ true → (b : Bool)
+        → nat_lt 0 (cond b (path_weight g.copies s * own_ways (left_by g.copies s) t) 0) ≡ (b && nat_lt 0 (own_ways (left_by g.copies s) t))
     same s t e true = some-times (path_weight g.copies s) (own_ways (left_by g.copies s) t) ∙ ap (λ b. b && nat_lt 0 (own_ways (left_by g.copies s) t)) e
     same s t e false = let z : nat_lt 0 0 ≡ false = grind arith in z ∙ sym (no_and (nat_lt 0 (own_ways (left_by g.copies s) t)))

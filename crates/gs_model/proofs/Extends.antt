@@ -22,7 +22,8 @@ owners_in {X} {Y} f n (x ∷ xs) =
 
 pub parents_below : (g : Game) (round : ℕ) → All (λ p. p < length (signals g round)) (parents g (suc round))
 parents_below g round k d l =
-    let r = All-from_recursion (λ k. k < 0 + length (signals g round)) (parents g (suc round)) (owners_in (λ s. children g (round_at g (suc round)) s) 0 (signals g round)) k d l in omega (arith, r)
+    let r = All-from_recursion (λ k. k < 0 + length (signals g round)) (parents g (suc round))
+    (owners_in (λ s. children g (round_at g (suc round)) s) 0 (signals g round)) k d l in omega (arith, r)
 
 pub parent_below : (g : Game) (round x : ℕ) → x < length (signals g (suc round)) → get_or (parents g (suc round)) x 0 < length (signals g round)
 parent_below g round x l = parents_below g round x 0 (omega (arith, l, length-parents g (suc round)))
@@ -36,7 +37,8 @@ all_extend : (left : List ℕ) (s : Signal) (ps : List Seen) → AllByRecursion 
 all_extend left s [] = tt
 all_extend left s (p ∷ ps) = (record { seen = p; is = refl }, all_extend left s ps)
 
-pub child_extends : (g : Game) (round x : ℕ) → x < length (signals g (suc round)) → Extends (signal_at g round (get_or (parents g (suc round)) x 0)) (signal_at g (suc round) x)
+pub child_extends : (g : Game) (round x : ℕ) → x < length (signals g (suc round))
+    → Extends (signal_at g round (get_or (parents g (suc round)) x 0)) (signal_at g (suc round) x)
 child_extends g round x l =
     let i = get_or (parents g (suc round)) x 0 in
     let in' : i < length (signals g round) = parent_below g round x l in
@@ -67,9 +69,11 @@ signal_long g (suc round) x l =
     omega (arith, a, b, h)
 
 -- a signal without its last round is its parent
-pub before_last : (g : Game) (round x : ℕ) → x < length (signals g (suc round)) → take round (signal_at g (suc round) x) ≡ signal_at g round (get_or (parents g (suc round)) x 0)
+pub before_last : (g : Game) (round x : ℕ) → x < length (signals g (suc round))
+    → take round (signal_at g (suc round) x) ≡ signal_at g round (get_or (parents g (suc round)) x 0)
 before_last g round x l =
     let e = child_extends g round x l in
     let p = get_or (parents g (suc round)) x 0 in
     let h = signal_long g round p (parent_below g round x l) in
-    ap (take round) e.is ∙ take-append-le round (signal_at g round p) (e.seen ∷ []) (omega (arith, h)) ∙ take_all round (signal_at g round p) (omega (arith, h))
+    ap (take round) e.is ∙ take-append-le round (signal_at g round p) (e.seen ∷ []) (omega (arith, h))
+    ∙ take_all round (signal_at g round p) (omega (arith, h))

@@ -21,7 +21,8 @@ pub flat_map-filter : {X Y : Type 0} (b : X → Bool) (h : X → List Y) (xs : L
 flat_map-filter b h [] = refl
 flat_map-filter b h (x ∷ xs) = go (b x) (flat_map-filter b h xs)
   where
-    go : (t : Bool) → flat_map (λ x. cond (b x) (h x) []) xs ≡ flat_map h (filter b xs) → cond t (h x) [] ++ flat_map (λ x. cond (b x) (h x) []) xs ≡ flat_map h (cond t (x ∷ filter b xs) (filter b xs))
+    go : (t : Bool) → flat_map (λ x. cond (b x) (h x) []) xs ≡ flat_map h (filter b xs)
+        → cond t (h x) [] ++ flat_map (λ x. cond (b x) (h x) []) xs ≡ flat_map h (cond t (x ∷ filter b xs) (filter b xs))
     go true e = ap (λ l. h x ++ l) e
     go false e = e
 
@@ -41,11 +42,13 @@ pub map-same_every : {X Y : Type 0} (f g : X → Y) (xs : List X) → AllByRecur
 map-same_every f g [] h = refl
 map-same_every f g (x ∷ xs) h = let a = h.0 in cc (a, map-same_every f g xs h.1)
 
-pub filter-map_of : {X Y : Type 0} (p : Y → Bool) (q : X → Bool) (f : X → Y) → ((x : X) → p (f x) ≡ q x) → (xs : List X) → filter p (map f xs) ≡ map f (filter q xs)
+pub filter-map_of : {X Y : Type 0} (p : Y → Bool) (q : X → Bool) (f : X → Y) → ((x : X) → p (f x) ≡ q x) → (xs : List X)
+    → filter p (map f xs) ≡ map f (filter q xs)
 filter-map_of p q f h [] = refl
 filter-map_of p q f h (x ∷ xs) = ap (λ b. cond b (f x ∷ filter p (map f xs)) (filter p (map f xs))) (h x) ∙ go (q x) (filter-map_of p q f h xs)
   where
-    go : (t : Bool) → filter p (map f xs) ≡ map f (filter q xs) → cond t (f x ∷ filter p (map f xs)) (filter p (map f xs)) ≡ map f (cond t (x ∷ filter q xs) (filter q xs))
+    go : (t : Bool) → filter p (map f xs) ≡ map f (filter q xs) → cond t (f x ∷ filter p (map f xs)) (filter p (map f xs))
+        ≡ map f (cond t (x ∷ filter q xs) (filter q xs))
     go true e = ap (λ l. f x ∷ l) e
     go false e = e
 
@@ -72,7 +75,8 @@ range-none f a (suc n) h = ap (λ l. l ++ flat_map f (range_with_len (a + 1) n))
 range-pick : {X : Type 0} (f : ℕ → List X) (a n c : ℕ) → a ≤ c → c < a + n → ((k : ℕ) → k ≢ c → f k ≡ []) → flat_map f (range_with_len a n) ≡ f c
 range-pick f a zero c lo hi h = absurd (omega arith)
 range-pick f a (suc n) c lo hi h = ⊎_elim
-    (λ e. ap (λ k. f k ++ flat_map f (range_with_len (a + 1) n)) e ∙ ap (λ l. f c ++ l) (range-none f (a + 1) n (λ k l. h k (λ q. absurd (omega (arith, q, e))))) ∙ append-nil (f c))
+    (λ e. ap (λ k. f k ++ flat_map f (range_with_len (a + 1) n)) e ∙ ap (λ l. f c
+    ++ l) (range-none f (a + 1) n (λ k l. h k (λ q. absurd (omega (arith, q, e))))) ∙ append-nil (f c))
     (λ ne. ap (λ l. l ++ flat_map f (range_with_len (a + 1) n)) (h a ne) ∙ range-pick f (a + 1) n c (omega (arith, ne)) (omega arith) h)
     (cases_eq a c)
 
@@ -98,9 +102,13 @@ rows-listed zero left least = (tt, tt)
 rows-listed (suc size) left least =
     every-flat_map (IsRow (suc size) (length left) least) (groups_with (groups_above size) left) (λ k. (least ≤ k) × (k < length left))
     (λ k h. one k h.0 h.1 (rows-listed size (slice_set left k (slice_index left k - 1)) k) (nat_lt 0 (slice_index left k)))
-    (range_with_len least (length left - least)) (every-range (λ k. (least ≤ k) × (k < length left)) least (length left - least) (λ k lo hi. (lo, omega arith)))
+    (range_with_len least (length left - least)) (every-range (λ k. (least ≤ k)
+    × (k < length left)) least (length left - least) (λ k lo hi. (lo, omega arith)))
   where
-    one : (k : ℕ) → least ≤ k → k < length left → AllByRecursion (IsRow size (length (slice_set left k (slice_index left k - 1))) k) (groups_above size (slice_set left k (slice_index left k - 1)) k) → (t : Bool) → AllByRecursion (IsRow (suc size) (length left) least) (cond t (map (λ g. k ∷ g) (groups_above size (slice_set left k (slice_index left k - 1)) k)) [])
+    one : (k : ℕ) → least ≤ k → k < length left → AllByRecursion (IsRow size (length (slice_set left k (slice_index left k - 1))) k)
+        (groups_above size (slice_set left k (slice_index left k - 1)) k) → (t : Bool)
+        → AllByRecursion (IsRow (suc size) (length left) least) (cond t
+        (map (λ g. k ∷ g) (groups_above size (slice_set left k (slice_index left k - 1)) k)) [])
     one k lo hi rows true =
         let rest = slice_set left k (slice_index left k - 1) in
         every-map (IsRow (suc size) (length left) least) (λ g. k ∷ g) (groups_above size rest k)
@@ -108,13 +116,15 @@ rows-listed (suc size) left least =
         (λ g r. (lo, hi, subst (λ n. IsRow size n k g) (length-set left k (slice_index left k - 1)) r)) (groups_above size rest k) rows)
     one k lo hi rows false = tt
 
-pub once : (size : ℕ) (left : List ℕ) (least : ℕ) (h : List ℕ) → IsRow size (length left) least h → fits_from 0 left h ≡ true → filter (same_cards h) (groups_above size left least) ≡ h ∷ []
+pub once : (size : ℕ) (left : List ℕ) (least : ℕ) (h : List ℕ) → IsRow size (length left) least h → fits_from 0 left h ≡ true
+    → filter (same_cards h) (groups_above size left least) ≡ h ∷ []
 once zero left least [] r f = refl
 once zero left least (c ∷ h) r f = absurd r
 once (suc size) left least [] r f = absurd r
 once (suc size) left least (c ∷ h) r f =
     filter-flat_map (same_cards (c ∷ h)) (groups_with (groups_above size) left) (range_with_len least (length left - least))
-    ∙ range-pick (λ k. filter (same_cards (c ∷ h)) (groups_with (groups_above size) left k)) least (length left - least) c r.0 (let a = r.0 in let b = r.1 in omega arith) (λ k n. other k n (nat_lt 0 (slice_index left k)) (groups_above size (slice_set left k (slice_index left k - 1)) k))
+    ∙ range-pick (λ k. filter (same_cards (c ∷ h)) (groups_with (groups_above size) left k)) least (length left - least) c r.0 (let a = r.0 in let b = r.1 in
+    omega arith) (λ k n. other k n (nat_lt 0 (slice_index left k)) (groups_above size (slice_set left k (slice_index left k - 1)) k))
     ∙ here (once size (slice_set left c (get_or left c 0 - 1)) c h (subst (λ n. IsRow size n c h) (sym (length-set left c (get_or left c 0 - 1))) r.2))
   where
     other : (k : ℕ) → k ≢ c → (t : Bool) (gs : List (List ℕ)) → filter (same_cards (c ∷ h)) (cond t (map (λ g. k ∷ g) gs) []) ≡ []
@@ -123,16 +133,20 @@ once (suc size) left least (c ∷ h) r f =
         none_filter (same_cards (c ∷ h)) k (λ g. ap (λ b. b && same_cards h g) e) gs
     other k n false gs = refl
 
-    here : (fits_from 0 (slice_set left c (get_or left c 0 - 1)) h ≡ true → filter (same_cards h) (groups_above size (slice_set left c (get_or left c 0 - 1)) c) ≡ h ∷ []) → filter (same_cards (c ∷ h)) (groups_with (groups_above size) left c) ≡ (c ∷ h) ∷ []
+    here : (fits_from 0 (slice_set left c (get_or left c 0 - 1)) h ≡ true
+        → filter (same_cards h) (groups_above size (slice_set left c (get_or left c 0 - 1)) c) ≡ h ∷ [])
+        → filter (same_cards (c ∷ h)) (groups_with (groups_above size) left c) ≡ (c ∷ h) ∷ []
     here rest =
         let z : 0 + c ≡ c = omega arith in
         let v = get_or left c 0 - 1 in
         ⊎_elim
         (λ some.
         let a : nat_lt 0 (get_or left c 0) ≡ true = grind (arith, some) in
-        let g : fits_from 0 left (c ∷ h) ≡ fits_from 0 (slice_set left c v) h = ap (λ x. fits_from 0 left (x ∷ h)) (sym z) ∙ fits-one 0 c v left h r.1 (pred_of (get_or left c 0) some) in
+        let g : fits_from 0 left (c ∷ h) ≡ fits_from 0 (slice_set left c v) h =
+        ap (λ x. fits_from 0 left (x ∷ h)) (sym z) ∙ fits-one 0 c v left h r.1 (pred_of (get_or left c 0) some) in
         ap (λ t. filter (same_cards (c ∷ h)) (cond t (map (λ g. c ∷ g) (groups_above size (slice_set left c v) c)) [])) a
-        ∙ map-same_filter (same_cards (c ∷ h)) (same_cards h) c (λ g. ap (λ b. b && same_cards h g) ((Decides-eqb c c).1 refl)) (groups_above size (slice_set left c v) c)
+        ∙ map-same_filter (same_cards (c ∷ h)) (same_cards h) c (λ g. ap (λ b. b && same_cards h g) ((Decides-eqb c c).1 refl))
+        (groups_above size (slice_set left c v) c)
         ∙ ap (map (λ g. c ∷ g)) (rest (sym g ∙ f)))
         (λ none.
         let e : get_or left c 0 ≡ 0 = omega arith in
@@ -178,10 +192,12 @@ counts-fit kind (c ∷ cs) g h =
     let e : kind + zero ≡ kind = omega arith in
     let a : times kind g ≤ c = subst (λ m. times m g ≤ c) e (h zero (omega arith)) in
     let b : nat_lt (times kind g) (suc c) ≡ true = grind (arith, a) in
-    ap (λ t. t && fits_from (suc kind) cs g) b ∙ counts-fit (suc kind) cs g (λ k l. let s : kind + suc k ≡ suc kind + k = omega arith in subst (λ m. times m g ≤ get_or cs k 0) s (h (suc k) (omega arith)))
+    ap (λ t. t && fits_from (suc kind) cs g) b ∙ counts-fit (suc kind) cs g (λ k l. let s : kind + suc k ≡ suc kind + k = omega arith in
+    subst (λ m. times m g ≤ get_or cs k 0) s (h (suc k) (omega arith)))
 
 pub taken-counts : (left g : List ℕ) → nat_lt 0 (ways left g) ≡ true → (k : ℕ) → k < length left → times k g ≤ get_or left k 0
-taken-counts left g e k l = let z : 0 + k ≡ k = omega arith in subst (λ m. times m g ≤ get_or left k 0) z (fits-counts 0 left g (sym (fits-ways 0 left g) ∙ e) k l)
+taken-counts left g e k l = let z : 0 + k ≡ k = omega arith in subst (λ m. times m g
+    ≤ get_or left k 0) z (fits-counts 0 left g (sym (fits-ways 0 left g) ∙ e) k l)
 
 pub counts-fit_all : (left g : List ℕ) → ((k : ℕ) → k < length left → times k g ≤ get_or left k 0) → fits_from 0 left g ≡ true
 counts-fit_all left g h = counts-fit 0 left g (λ k l. let z : k ≡ 0 + k = omega arith in subst (λ m. times m g ≤ get_or left k 0) z (h k l))
@@ -194,13 +210,16 @@ seen own public = record { own = own; public = public }
 abbrev pub listed : List ℕ → List Round → List Signal
 listed left [] = [] ∷ []
 listed left (r ∷ rs) =
-    flat_map (λ own. flat_map (λ public. map (λ t. seen own public ∷ t) (listed (left_after (left_after left own) public) rs)) (groups (left_after left own) r.public)) (groups left r.private)
+    flat_map (λ own. flat_map (λ public. map (λ t. seen own public ∷ t) (listed (left_after (left_after left own) public) rs))
+    (groups (left_after left own) r.public)) (groups left r.private)
 
-listed-showings : (left : List ℕ) (r : Round) (rs : List Round) → listed left (r ∷ rs) ≡ flat_map (λ p. map (λ t. p ∷ t) (listed (left_after (left_after left p.own) p.public) rs)) (showings left r)
+listed-showings : (left : List ℕ) (r : Round) (rs : List Round) → listed left (r ∷ rs)
+    ≡ flat_map (λ p. map (λ t. p ∷ t) (listed (left_after (left_after left p.own) p.public) rs)) (showings left r)
 listed-showings left r rs =
     let q = λ (p : Seen). map (λ t. p ∷ t) (listed (left_after (left_after left p.own) p.public) rs) in
     sym (flat_map-nested q (λ own. map (λ public. seen own public) (groups (left_after left own) r.public)) (groups left r.private)
-    ∙ flat_map-same (λ own. flat_map q (map (λ public. seen own public) (groups (left_after left own) r.public))) (λ own. flat_map (λ public. q (seen own public)) (groups (left_after left own) r.public))
+    ∙ flat_map-same (λ own. flat_map q (map (λ public. seen own public) (groups (left_after left own) r.public)))
+    (λ own. flat_map (λ public. q (seen own public)) (groups (left_after left own) r.public))
     (λ own. flat_map-map q (λ public. seen own public) (groups (left_after left own) r.public)) (groups left r.private))
 
 left_by-more : (left : List ℕ) (s : Signal) (p : Seen) → left_by left (s ++ p ∷ []) ≡ left_after (left_after (left_by left s) p.own) p.public
@@ -213,7 +232,8 @@ ends-none (s ∷ xs) = let a : s ++ [] ≡ s = append-nil s in cc (a, ends-none 
 
 -- one more round behind a signal
 one_more : (copies : List ℕ) (r : Round) (rs : List Round) (s : Signal)
-    → map (λ t. s ++ t) (listed (left_by copies s) (r ∷ rs)) ≡ flat_map (λ s. map (λ t. s ++ t) (listed (left_by copies s) rs)) (map (λ (c : ℕ × Signal). c.1) (map (λ p. (edge (left_by copies s) p, s ++ p ∷ [])) (showings (left_by copies s) r)))
+    → map (λ t. s ++ t) (listed (left_by copies s) (r ∷ rs)) ≡ flat_map (λ s. map (λ t. s ++ t) (listed (left_by copies s) rs))
+    (map (λ (c : ℕ × Signal). c.1) (map (λ p. (edge (left_by copies s) p, s ++ p ∷ [])) (showings (left_by copies s) r)))
 one_more copies r rs s =
     let k = λ (s : Signal). map (λ t. s ++ t) (listed (left_by copies s) rs) in
     let snd = λ (c : ℕ × Signal). c.1 in
@@ -224,11 +244,13 @@ one_more copies r rs s =
     ∙ map-flat_map (λ t. s ++ t) inner ps
     ∙ flat_map-same (λ p. map (λ t. s ++ t) (inner p)) (λ p. k (s ++ p ∷ []))
     (λ p. map-map (λ t. s ++ t) (λ t. p ∷ t) (listed (left_after (left_after (left_by copies s) p.own) p.public) rs)
-    ∙ map-same (λ t. s ++ (p ∷ t)) (λ t. (s ++ p ∷ []) ++ t) (λ t. sym (append_assoc s (p ∷ []) t)) (listed (left_after (left_after (left_by copies s) p.own) p.public) rs)
+    ∙ map-same (λ t. s ++ (p ∷ t)) (λ t. (s ++ p ∷ []) ++ t) (λ t. sym (append_assoc s (p ∷ []) t))
+    (listed (left_after (left_after (left_by copies s) p.own) p.public) rs)
     ∙ ap (λ l. map (λ t. (s ++ p ∷ []) ++ t) (listed l rs)) (sym (left_by-more copies s p))) ps
     ∙ sym (flat_map-map k snd (map child ps) ∙ flat_map-map (λ (c : ℕ × Signal). k c.1) child ps)
 
-pub signals-listed : (g : Game) (rest : List Round) (k m : ℕ) (d : Round) → k + length rest ≡ m → ((j : ℕ) → j < length rest → get_or rest j d ≡ round_at g (suc (k + j)))
+pub signals-listed : (g : Game) (rest : List Round) (k m : ℕ) (d : Round) → k + length rest ≡ m
+    → ((j : ℕ) → j < length rest → get_or rest j d ≡ round_at g (suc (k + j)))
     → flat_map (λ s. map (λ t. s ++ t) (listed (left_by g.copies s) rest)) (signals g k) ≡ signals g m
 signals-listed g [] k m d e h = let i : k ≡ m = omega arith in ends-none (signals g k) ∙ ap (signals g) i
 signals-listed g (r ∷ rs) k m d e h =
@@ -239,7 +261,8 @@ signals-listed g (r ∷ rs) k m d e h =
     flat_map-same (λ s. map (λ t. s ++ t) (listed (left_by g.copies s) (r ∷ rs))) (λ s. flat_map f (next s))
     (λ s. one_more g.copies r rs s ∙ ap (λ r. flat_map f (map (λ (c : ℕ × Signal). c.1) (children g r s))) here) (signals g k)
     ∙ sym (flat_map-nested f next (signals g k))
-    ∙ signals-listed g rs (suc k) m d (omega arith) (λ j l. let i : k + suc j ≡ suc k + j = omega arith in h (suc j) (omega arith) ∙ ap (λ j. round_at g (suc j)) i)
+    ∙ signals-listed g rs (suc k) m d (omega arith) (λ j l. let i : k + suc j ≡ suc k + j = omega arith in
+    h (suc j) (omega arith) ∙ ap (λ j. round_at g (suc j)) i)
 
 pub map-itself : (xs : List Signal) → map (λ t. [] ++ t) xs ≡ xs
 map-itself [] = refl
@@ -249,4 +272,9 @@ pub listed-all : (g : Game) → listed g.copies g.rounds ≡ signals g (round_co
 listed-all g =
     let d : Round = round_at g 0 in
     sym (append-nil (map (λ t. [] ++ t) (listed g.copies g.rounds)) ∙ map-itself (listed g.copies g.rounds))
-    ∙ signals-listed g g.rounds 0 (round_count g) (record { private = 0; public = 0; tree = Rattle.gs_model.specs.Betting.even }) (omega arith) (λ j l. let i : j ≡ suc (0 + j) - 1 = omega arith in ap (λ j. get_or g.rounds j (record { private = 0; public = 0; tree = Rattle.gs_model.specs.Betting.even })) i)
+    ∙ signals-listed g g.rounds 0 (round_count g) (record {
+      private = 0;
+      public = 0;
+      tree = Rattle.gs_model.specs.Betting.even;
+    }) (omega arith) (λ j l. let i : j ≡ suc (0 + j) - 1 = omega arith in
+    ap (λ j. get_or g.rounds j (record { private = 0; public = 0; tree = Rattle.gs_model.specs.Betting.even })) i)

@@ -55,7 +55,8 @@ module _ {K : Type 0} (eq : K → K → Bool) (exact : (x y : K) → Decides (eq
   flips x y e = (exact y x).1 (sym ((exact x y).0 e))
 
   -- one more item, with the class of an earlier one that has the same key
-  pub first_again : (keys : List K) (classes : List ℕ) (j n : ℕ) → AreFirstSeen keys classes → j < length classes → get_or classes j 0 ≡ n → key j ≡ key (length classes) → AreFirstSeen keys (classes ++ n ∷ [])
+  pub first_again : (keys : List K) (classes : List ℕ) (j n : ℕ) → AreFirstSeen keys classes → j < length classes → get_or classes j 0 ≡ n
+      → key j ≡ key (length classes) → AreFirstSeen keys (classes ++ n ∷ [])
   first_again keys classes j n old lj is like =
       let stands : slice_get keys (n - 1) ≡ Some (key j) = ap (λ m. slice_get keys (m - 1)) (sym is) ∙ old.leads j lj in
       let w = slice_get_within keys (n - 1) (key j) stands in
@@ -70,8 +71,10 @@ module _ {K : Type 0} (eq : K → K → Bool) (exact : (x y : K) → Decides (eq
             (λ ne. let lt : i < length classes = omega (arith, l, span, ne) in let a = at_old classes n i lt in let o = old.some i lt in omega (arith, a, o))
             (cases_eq i (length classes));
         leads = λ i l. ⊎_elim
-            (λ e. let a = ap (λ j. get_or (classes ++ n ∷ []) j 0) e ∙ at_new classes n in ap (λ v. slice_get keys (v - 1)) a ∙ stands ∙ ap Some (like ∙ ap key (sym e)))
-            (λ ne. let lt : i < length classes = omega (arith, l, span, ne) in let a = at_old classes n i lt in ap (λ v. slice_get keys (v - 1)) a ∙ old.leads i lt)
+            (λ e. let a = ap (λ j. get_or (classes ++ n ∷ []) j 0) e ∙ at_new classes n in
+            ap (λ v. slice_get keys (v - 1)) a ∙ stands ∙ ap Some (like ∙ ap key (sym e)))
+            (λ ne. let lt : i < length classes = omega (arith, l, span, ne) in let a = at_old classes n i lt in
+            ap (λ v. slice_get keys (v - 1)) a ∙ old.leads i lt)
             (cases_eq i (length classes));
         grouped = classes_push (λ i j. key i ≡ key j) classes n (λ i. refl) (λ i j e. sym e) old.grouped some (omega (arith, t, w)) (λ i l.
             let both = old.grouped.same i j l lj in (
@@ -81,12 +84,14 @@ module _ {K : Type 0} (eq : K → K → Bool) (exact : (x y : K) → Decides (eq
       }
 
   module _ (keys more : List K) (classes : List ℕ) (n : ℕ) (k : K) (old : AreFirstSeen keys classes) (distinct : IsDistinct eq more)
-      (grown : more ≡ insert_key eq keys (key (length classes))) (some : 0 < n) (stands : slice_get more (n - 1) ≡ Some k) (same : eq (key (length classes)) k ≡ true) where
+      (grown : more ≡ insert_key eq keys (key (length classes))) (some : 0 < n) (stands : slice_get more (n - 1) ≡ Some k) (same : eq (key (length classes)) k
+      ≡ true) where
     here : slice_get more (n - 1) ≡ Some (key (length classes))
     here = stands ∙ ap Some (sym ((exact (key (length classes)) k).0 same))
 
     kept : (i : ℕ) → i < length classes → slice_get more (get_or classes i 0 - 1) ≡ Some (key i)
-    kept i l = ap (λ ks. slice_get ks (get_or classes i 0 - 1)) grown ∙ slice_get-insert eq keys (key (length classes)) (get_or classes i 0 - 1) (key i) (old.leads i l)
+    kept i l = ap (λ ks. slice_get ks (get_or classes i 0 - 1)) grown ∙ slice_get-insert eq keys (key (length classes)) (get_or classes i 0 - 1) (key i)
+        (old.leads i l)
 
     bound : n ≤ 1 + length keys
     bound =
@@ -105,8 +110,10 @@ module _ {K : Type 0} (eq : K → K → Bool) (exact : (x y : K) → Decides (eq
         let m = ap length g in omega (arith, m, w, some)
     long false e =
         let g : more ≡ keys ++ key (length classes) ∷ [] = grown ∙ ap (λ t. cond t keys (keys ++ key (length classes) ∷ [])) e in
-        let last : slice_get more (length keys) ≡ Some (key (length classes)) = ap (λ ks. slice_get ks (length keys)) g ∙ slice_get-last keys (key (length classes)) in
-        let at : n - 1 ≡ length keys = one_place eq flips more distinct (n - 1) (length keys) (key (length classes)) (key (length classes)) here last ((exact (key (length classes)) (key (length classes))).1 refl) in
+        let last : slice_get more (length keys) ≡ Some (key (length classes)) =
+        ap (λ ks. slice_get ks (length keys)) g ∙ slice_get-last keys (key (length classes)) in
+        let at : n - 1 ≡ length keys = one_place eq flips more distinct (n - 1) (length keys) (key (length classes)) (key (length classes)) here last
+        ((exact (key (length classes)) (key (length classes))).1 refl) in
         let m = ap length g ∙ length-append keys (key (length classes) ∷ []) in omega (arith, m, at, some)
 
     pub first_more : AreFirstSeen more (classes ++ n ∷ [])
@@ -120,20 +127,25 @@ module _ {K : Type 0} (eq : K → K → Bool) (exact : (x y : K) → Decides (eq
           top = (let g = greatest_push classes n in omega (arith, g, m, t));
           some = λ i l. ⊎_elim
               (λ e. let a = ap (λ j. get_or (classes ++ n ∷ []) j 0) e ∙ at_new classes n in omega (arith, a, some))
-              (λ ne. let lt : i < length classes = omega (arith, l, span, ne) in let a = at_old classes n i lt in let o = old.some i lt in omega (arith, a, o))
+              (λ ne. let lt : i < length classes = omega (arith, l, span, ne) in let a = at_old classes n i lt in let o = old.some i lt in
+              omega (arith, a, o))
               (cases_eq i (length classes));
           leads = λ i l. ⊎_elim
-              (λ e. let a = ap (λ j. get_or (classes ++ n ∷ []) j 0) e ∙ at_new classes n in ap (λ v. slice_get more (v - 1)) a ∙ here ∙ ap (λ j. Some (key j)) (sym e))
-              (λ ne. let lt : i < length classes = omega (arith, l, span, ne) in let a = at_old classes n i lt in ap (λ v. slice_get more (v - 1)) a ∙ kept i lt)
+              (λ e. let a = ap (λ j. get_or (classes ++ n ∷ []) j 0) e ∙ at_new classes n in
+              ap (λ v. slice_get more (v - 1)) a ∙ here ∙ ap (λ j. Some (key j)) (sym e))
+              (λ ne. let lt : i < length classes = omega (arith, l, span, ne) in let a = at_old classes n i lt in
+              ap (λ v. slice_get more (v - 1)) a ∙ kept i lt)
               (cases_eq i (length classes));
-          grouped = classes_push (λ i j. key i ≡ key j) classes n (λ i. refl) (λ i j e. sym e) old.grouped some (let q = bound in omega (arith, t, q)) related;
+          grouped = classes_push (λ i j. key i ≡ key j) classes n (λ i. refl) (λ i j e. sym e) old.grouped some (let q = bound in
+              omega (arith, t, q)) related;
         }
       where
         related : (i : ℕ) → i < length classes → (get_or classes i 0 ≡ n) ↔ (key i ≡ key (length classes))
         related i l = (
           (λ e. let one : Some (key i) ≡ Some (key (length classes)) = sym (kept i l) ∙ ap (λ v. slice_get more (v - 1)) e ∙ here in cc),
           (λ e.
-              let place : get_or classes i 0 - 1 ≡ n - 1 = one_place eq flips more distinct (get_or classes i 0 - 1) (n - 1) (key i) (key (length classes)) (kept i l) here ((exact (key i) (key (length classes))).1 e) in
+              let place : get_or classes i 0 - 1 ≡ n - 1 = one_place eq flips more distinct (get_or classes i 0 - 1) (n - 1) (key i) (key (length classes))
+              (kept i l) here ((exact (key i) (key (length classes))).1 e) in
               let o = old.some i l in omega (arith, place, o, some)),
         )
 
@@ -153,7 +165,8 @@ module _ {K : Type 0} (eq : K → K → Bool) (exact : (x y : K) → Decides (eq
       }
 
   -- the next item has the class of an earlier one
-  pub seen_again : (keys : List K) (classes pushed : List ℕ) (item n : ℕ) (k : K) → AreSeen keys classes item → key item ≡ k → HasClassOf key classes k n → pushed ≡ classes ++ n ∷ []
+  pub seen_again : (keys : List K) (classes pushed : List ℕ) (item n : ℕ) (k : K) → AreSeen keys classes item → key item ≡ k → HasClassOf key classes k n
+      → pushed ≡ classes ++ n ∷ []
       → AreSeen keys pushed (item + 1)
   seen_again keys classes pushed item n k old is has e =
       let span = ap length e ∙ length-append classes (n ∷ []) in
@@ -165,7 +178,8 @@ module _ {K : Type 0} (eq : K → K → Bool) (exact : (x y : K) → Decides (eq
       }
 
   -- the next item has the number of its key
-  pub seen_more : (keys more : List K) (classes pushed : List ℕ) (item n : ℕ) (k : K) → AreSeen keys classes item → key item ≡ k → ((found : K) × (slice_get more (n - 1) ≡ Some found) × (eq k found ≡ true))
+  pub seen_more : (keys more : List K) (classes pushed : List ℕ) (item n : ℕ) (k : K) → AreSeen keys classes item → key item ≡ k
+      → ((found : K) × (slice_get more (n - 1) ≡ Some found) × (eq k found ≡ true))
       → more ≡ insert_key eq keys k → length more ≤ length keys + 1 → IsDistinct eq more → 0 < n → pushed ≡ classes ++ n ∷ [] → AreSeen more pushed (item + 1)
   seen_more keys more classes pushed item n k old is stored grown few distinct some e =
       let span = ap length e ∙ length-append classes (n ∷ []) in

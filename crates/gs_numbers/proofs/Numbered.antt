@@ -17,7 +17,8 @@ slice_get-append [] ys i x e = absurd (cc)
 slice_get-append (z ∷ zs) ys zero x e = e
 slice_get-append (z ∷ zs) ys (suc i) x e = slice_get-append zs ys i x e
 
-pub slice_get-insert : {X : Type 0} (eq : X → X → Bool) (xs : List X) (k : X) (i : ℕ) (x : X) → slice_get xs i ≡ Some x → slice_get (insert_key eq xs k) i ≡ Some x
+pub slice_get-insert : {X : Type 0} (eq : X → X → Bool) (xs : List X) (k : X) (i : ℕ) (x : X) → slice_get xs i ≡ Some x
+    → slice_get (insert_key eq xs k) i ≡ Some x
 slice_get-insert eq xs k i x e = go (list_any (eq k) xs)
   where
     go : (b : Bool) → slice_get (cond b xs (xs ++ k ∷ [])) i ≡ Some x
@@ -74,18 +75,31 @@ module _ {X : Type 0} (eq : X → X → Bool) (exact : (x y : X) → Decides (eq
       let lt : i < length numbers = omega (arith, length-append numbers (n ∷ [])) in
       let old = leads i lt in
       let at : get_or (numbers ++ n ∷ []) i 0 ≡ get_or numbers i 0 = grind (arith, elements) in
-      let h : HasKey sign more i (get_or numbers i 0) = record { some = old.some; key = old.key; stands = stay (get_or numbers i 0 - 1) old.key old.stands; signs = old.signs } in
+      let h : HasKey sign more i (get_or numbers i 0) = record {
+        some = old.some;
+        key = old.key;
+        stands =
+            stay (get_or numbers i 0 - 1) old.key old.stands;
+        signs = old.signs;
+      } in
       subst (λ m. HasKey sign more i m) (sym at) h)
       (cases_eq i (length numbers))
 
   -- one more item, with the number of an earlier one that has the same keys
-  pub leads_again : (sign : ℕ → List X → Type 0) (keys : List (Vec X Global)) (numbers : List ℕ) (j n : ℕ) → LeadToKeys sign keys numbers → j < length numbers → n ≡ get_or numbers j 0
+  pub leads_again : (sign : ℕ → List X → Type 0) (keys : List (Vec X Global)) (numbers : List ℕ) (j n : ℕ) → LeadToKeys sign keys numbers → j < length numbers
+      → n ≡ get_or numbers j 0
       → ((a : List X) → sign j a → sign (length numbers) a) → LeadToKeys sign keys (numbers ++ n ∷ [])
   leads_again sign keys numbers j n leads lj is like i l = ⊎_elim
       (λ e.
       let at : get_or (numbers ++ n ∷ []) i 0 ≡ get_or numbers j 0 = ap (λ k. get_or (numbers ++ n ∷ []) k 0) e ∙ at_end numbers n ∙ is in
       let old = leads j lj in
-      let h : HasKey sign keys i (get_or numbers j 0) = record { some = old.some; key = old.key; stands = old.stands; signs = subst (λ k. sign k old.key.items) (sym e) (like old.key.items old.signs) } in
+      let h : HasKey sign keys i (get_or numbers j 0) = record {
+        some = old.some;
+        key = old.key;
+        stands = old.stands;
+        signs =
+            subst (λ k. sign k old.key.items) (sym e) (like old.key.items old.signs);
+      } in
       subst (λ m. HasKey sign keys i m) (sym at) h)
       (λ ne.
       let lt : i < length numbers = omega (arith, length-append numbers (n ∷ [])) in
@@ -94,7 +108,8 @@ module _ {X : Type 0} (eq : X → X → Bool) (exact : (x y : X) → Decides (eq
       (cases_eq i (length numbers))
 
   -- for items that belong together, equal numbers are equal keys
-  pub numbers_are : (sign : ℕ → List X → Type 0) (keys : List (Vec X Global)) (numbers : List ℕ) → IsDistinct (same_parts eq) keys → LeadToKeys sign keys numbers
+  pub numbers_are : (sign : ℕ → List X → Type 0) (keys : List (Vec X Global)) (numbers : List ℕ) → IsDistinct (same_parts eq) keys
+      → LeadToKeys sign keys numbers
       → (P R : ℕ → ℕ → Type 0) → ((i j : ℕ) (a b : List X) → i < length numbers → j < length numbers → P i j → sign i a → sign j b → (a ≡ b) ↔ R i j)
       → (i j : ℕ) → i < length numbers → j < length numbers → P i j → (get_or numbers i 0 ≡ get_or numbers j 0) ↔ R i j
   numbers_are sign keys numbers distinct leads P R law i j li lj p =
@@ -110,7 +125,8 @@ module _ {X : Type 0} (eq : X → X → Bool) (exact : (x y : X) → Decides (eq
             let items : a.key.items ≡ b.key.items = both.1 r in
             let same : same_parts eq a.key b.key ≡ true = (items_decide a.key.items b.key.items).1 items in
             let flips = λ (x y : Vec X Global) (e : same_parts eq x y ≡ true). (items_decide y.items x.items).1 (sym ((items_decide x.items y.items).0 e)) in
-            let place : get_or numbers i 0 - 1 ≡ get_or numbers j 0 - 1 = one_place (same_parts eq) flips keys distinct (get_or numbers i 0 - 1) (get_or numbers j 0 - 1) a.key b.key a.stands b.stands same in
+            let place : get_or numbers i 0 - 1 ≡ get_or numbers j 0 - 1 =
+            one_place (same_parts eq) flips keys distinct (get_or numbers i 0 - 1) (get_or numbers j 0 - 1) a.key b.key a.stands b.stands same in
             let some_a = a.some in let some_b = b.some in
             omega arith),
       )
@@ -136,7 +152,8 @@ module _ {X : Type 0} (eq : X → X → Bool) (exact : (x y : X) → Decides (eq
         }
 
     -- the next item has the number of its list
-    pub numbered_more : (keys more : List (Vec X Global)) (numbers pushed : List ℕ) (parts : List X) (item n : ℕ) → AreNumbered keys numbers item → sign item parts → StayIn keys more → IsNumberOf eq more parts n
+    pub numbered_more : (keys more : List (Vec X Global)) (numbers pushed : List ℕ) (parts : List X) (item n : ℕ) → AreNumbered keys numbers item
+        → sign item parts → StayIn keys more → IsNumberOf eq more parts n
         → length more ≤ length keys + 1 → IsDistinct (same_parts eq) more → pushed ≡ numbers ++ n ∷ [] → AreNumbered more pushed (item + 1)
     numbered_more keys more numbers pushed parts item n old signs stay number few distinct e =
         let span = ap length e ∙ length-append numbers (n ∷ []) in
@@ -144,11 +161,13 @@ module _ {X : Type 0} (eq : X → X → Bool) (exact : (x y : X) → Decides (eq
           few = omega (arith, old.few, few);
           long = omega (arith, span, old.long);
           distinct = distinct;
-          leads = subst (LeadToKeys sign more) (sym e) (leads_more sign keys more numbers parts n old.leads stay number (subst (λ i. sign i parts) (sym old.long) signs));
+          leads = subst (LeadToKeys sign more) (sym e) (leads_more sign keys more numbers parts n old.leads stay number
+              (subst (λ i. sign i parts) (sym old.long) signs));
         }
 
     -- the next item has the number of an earlier one, whose lists are its own too
-    pub numbered_again : (keys : List (Vec X Global)) (numbers pushed : List ℕ) (item j n : ℕ) → AreNumbered keys numbers item → j < item → n ≡ get_or numbers j n → ((a : List X) → sign j a → sign item a)
+    pub numbered_again : (keys : List (Vec X Global)) (numbers pushed : List ℕ) (item j n : ℕ) → AreNumbered keys numbers item → j < item
+        → n ≡ get_or numbers j n → ((a : List X) → sign j a → sign item a)
         → pushed ≡ numbers ++ n ∷ [] → AreNumbered keys pushed (item + 1)
     numbered_again keys numbers pushed item j n old before is like e =
         let span = ap length e ∙ length-append numbers (n ∷ []) in
@@ -157,5 +176,6 @@ module _ {X : Type 0} (eq : X → X → Bool) (exact : (x y : X) → Decides (eq
           few = omega (arith, old.few);
           long = omega (arith, span, old.long);
           distinct = old.distinct;
-          leads = subst (LeadToKeys sign keys) (sym e) (leads_again sign keys numbers j n old.leads lj (get_or_read numbers j n lj is 0) (λ a h. subst (λ i. sign i a) (sym old.long) (like a h)));
+          leads = subst (LeadToKeys sign keys) (sym e) (leads_again sign keys numbers j n old.leads lj (get_or_read numbers j n lj is 0)
+              (λ a h. subst (λ i. sign i a) (sym old.long) (like a h)));
         }

@@ -35,33 +35,46 @@ least_of a b least e = record {
 }
 
 -- for fewer turns it stays too
-pub stays_less : (f : Frame) (lists : ClassLists) (player : ℕ) (y more answer : Plan) (times less : ℕ) → less ≤ times → AnswerStays f lists player y more answer times → AnswerStays f lists player y more answer less
+pub stays_less : (f : Frame) (lists : ClassLists) (player : ℕ) (y more answer : Plan) (times less : ℕ) → less ≤ times
+    → AnswerStays f lists player y more answer times → AnswerStays f lists player y more answer less
 stays_less f lists player y more answer times less l s = λ k z soon alike. s k z (omega arith) alike
 
 -- the plan that puts all on the chosen moves, by its number at each of them
-at_moves : (f : Frame) (lists : ClassLists) (player total : ℕ) (weights : List ℕ) (move : ℕ → ℕ → ℕ) → total ≡ 1 → ArePutBefore f lists player move weights (point_count f)
+at_moves : (f : Frame) (lists : ClassLists) (player total : ℕ) (weights : List ℕ) (move : ℕ → ℕ → ℕ) → total ≡ 1
+    → ArePutBefore f lists player move weights (point_count f)
     → (q c m : ℕ) → q < point_count f → player_at f q ≡ player → IsClass lists (round_of f (at_point q)) c → m < move_count f q
-    → get_or weights (slot_of f lists q c m) 0 ≡ (if m == move q c then number_before f (lift f lists (plan_of f lists total weights)) (last_step f player (at_point q)) (round_of f (at_point q)) (first_member lists (round_of f (at_point q)) c) else 0)
+    → get_or weights (slot_of f lists q c m) 0 ≡ (if m == move q c then number_before f (lift f lists (plan_of f lists total weights))
+    (last_step f player (at_point q)) (round_of f (at_point q)) (first_member lists (round_of f (at_point q)) c) else 0)
 at_moves f lists player total weights move one puts q c m lq own lc lm =
-    subst (λ t. get_or weights (slot_of f lists q c m) 0 ≡ (if m == move q c then number_before f (lift f lists (plan_of f lists t weights)) (last_step f player (at_point q)) (round_of f (at_point q)) (first_member lists (round_of f (at_point q)) c) else 0))
+    subst (λ t. get_or weights (slot_of f lists q c m) 0 ≡ (if m == move q c
+    then number_before f (lift f lists (plan_of f lists t weights)) (last_step f player (at_point q)) (round_of f (at_point q))
+    (first_member lists (round_of f (at_point q)) c) else 0))
     (sym one) (puts q c lq own lc m lm)
 
 -- the answer with all on the chosen moves stays
-pub put_stays : (f : Frame) → InRange f → (lists : ClassLists) → IsClasses f.parents lists → IsLossless f lists → (player : ℕ) → IsWalked f player → IsWalked f (other_player player) → (y more : Plan) (total : ℕ) (weights : List ℕ) (v d : Values) (move : ℕ → ℕ → ℕ) (times : ℕ)
-    → AreBestTotals f lists player y v move → IsFollowed f lists player more d move → AreBeforeChange f lists player v d move times → total ≡ 1 → ArePutBefore f lists player move weights (point_count f)
+pub put_stays : (f : Frame) → InRange f → (lists : ClassLists) → IsClasses f.parents lists → IsLossless f lists → (player : ℕ) → IsWalked f player
+    → IsWalked f (other_player player) → (y more : Plan) (total : ℕ) (weights : List ℕ) (v d : Values) (move : ℕ → ℕ → ℕ) (times : ℕ)
+    → AreBestTotals f lists player y v move → IsFollowed f lists player more d move → AreBeforeChange f lists player v d move times → total ≡ 1
+    → ArePutBefore f lists player move weights (point_count f)
     → AnswerStays f lists player y more (plan_of f lists total weights) times
 put_stays f r lists k lossless player w other y more total weights v d move times best rise within one puts =
-    answer_stays f r lists k lossless player w other y more (plan_of f lists total weights) v d move times best rise within one (at_moves f lists player total weights move one puts)
+    answer_stays f r lists k lossless player w other y more (plan_of f lists total weights) v d move times best rise within one
+    (at_moves f lists player total weights move one puts)
 
 -- and for one turn as it is
-pub put_stays_once : (f : Frame) → InRange f → (lists : ClassLists) → IsClasses f.parents lists → IsLossless f lists → (player : ℕ) → IsWalked f player → IsWalked f (other_player player) → (y more : Plan) (total : ℕ) (weights : List ℕ) (v : Values) (move : ℕ → ℕ → ℕ)
-    → AreBestTotals f lists player y v move → total ≡ 1 → ArePutBefore f lists player move weights (point_count f) → AnswerStays f lists player y more (plan_of f lists total weights) 1
+pub put_stays_once : (f : Frame) → InRange f → (lists : ClassLists) → IsClasses f.parents lists → IsLossless f lists → (player : ℕ) → IsWalked f player
+    → IsWalked f (other_player player) → (y more : Plan) (total : ℕ) (weights : List ℕ) (v : Values) (move : ℕ → ℕ → ℕ)
+    → AreBestTotals f lists player y v move → total ≡ 1 → ArePutBefore f lists player move weights (point_count f)
+    → AnswerStays f lists player y more (plan_of f lists total weights) 1
 put_stays_once f r lists k lossless player w other y more total weights v move best one puts =
-    answer_stays_once f r lists k lossless player w other y more (plan_of f lists total weights) v move best one (at_moves f lists player total weights move one puts)
+    answer_stays_once f r lists k lossless player w other y more (plan_of f lists total weights) v move best one
+    (at_moves f lists player total weights move one puts)
 
 -- what ends pay against the other's new plan
-pub paid_on : (f : Frame) → InRange f → (lists : ClassLists) → IsClasses f.parents lists → (player : ℕ) → IsWalked f (other_player player) → (y b z : Plan) (times : ℕ) (old steps new : List ℤ)
-    → AreEndSums f lists player y old → AreEndSums f lists player b steps → AreAlike f lists (other_player player) z (plus_times y times b) → AreEndLines f lists old steps times new → AreEndSums f lists player z new
+pub paid_on : (f : Frame) → InRange f → (lists : ClassLists) → IsClasses f.parents lists → (player : ℕ) → IsWalked f (other_player player)
+    → (y b z : Plan) (times : ℕ) (old steps new : List ℤ)
+    → AreEndSums f lists player y old → AreEndSums f lists player b steps → AreAlike f lists (other_player player) z (plus_times y times b)
+    → AreEndLines f lists old steps times new → AreEndSums f lists player z new
 paid_on f r lists k player w y b z times old steps new paid added alike lines e c le lc =
     let at = end_start f lists e + (c - 1) in
     lines e c le lc
@@ -71,19 +84,24 @@ paid_on f r lists k player w y b z times old steps new paid added alike lines e 
     ∙ sym (kept_alike f r lists k (other_player player) w (payoff_to f player e) z (plus_times y times b) alike e c le)
 
 -- class totals that have moved on with the turns, position by position
-moved : (f : Frame) (lists : ClassLists) (player : ℕ) (y b z : Plan) (times : ℕ) (old steps new : List ℤ) (move : ℕ → ℕ → ℕ) → AreBestTotals f lists player z (tables_after (totals_of f lists player y old) (totals_of f lists player b steps) times) move
+moved : (f : Frame) (lists : ClassLists) (player : ℕ) (y b z : Plan) (times : ℕ) (old steps new : List ℤ) (move : ℕ → ℕ → ℕ)
+    → AreBestTotals f lists player z (tables_after (totals_of f lists player y old) (totals_of f lists player b steps) times) move
     → ArePointLines f lists old steps times new → (t : Target) (c : ℕ) → IsInside f t → IsClass lists (round_of f t) c
     → totals_of f lists player z new t c ≡ tables_after (totals_of f lists player y old) (totals_of f lists player b steps) times t c
 moved f lists player y b z times old steps new move later lines (at_point q) c inside lc = lines q c inside lc
 moved f lists player y b z times old steps new move later lines (at_end e) c inside lc = sym (later.followed.at_ends e c inside lc)
 
 -- they are best against the other's new plan, where the choices last for more turns than are taken
-pub best_on : (f : Frame) → InRange f → (lists : ClassLists) → IsClasses f.parents lists → (player : ℕ) → IsWalked f player → IsWalked f (other_player player) → (y b z : Plan) (times lasts : ℕ) (old steps new : List ℤ) (move : ℕ → ℕ → ℕ)
+pub best_on : (f : Frame) → InRange f → (lists : ClassLists) → IsClasses f.parents lists → (player : ℕ) → IsWalked f player → IsWalked f (other_player player)
+    → (y b z : Plan) (times lasts : ℕ) (old steps new : List ℤ) (move : ℕ → ℕ → ℕ)
     → AreBestTotals f lists player y (totals_of f lists player y old) move → IsFollowed f lists player b (totals_of f lists player b steps) move
-    → AreBeforeChange f lists player (totals_of f lists player y old) (totals_of f lists player b steps) move lasts → times < lasts → AreAlike f lists (other_player player) z (plus_times y times b) → ArePointLines f lists old steps times new
+    → AreBeforeChange f lists player (totals_of f lists player y old) (totals_of f lists player b steps) move lasts → times < lasts
+    → AreAlike f lists (other_player player) z (plus_times y times b) → ArePointLines f lists old steps times new
     → AreBestTotals f lists player z (totals_of f lists player z new) move
 best_on f r lists k player w other y b z times lasts old steps new move best rise within soon alike lines =
     let v = totals_of f lists player y old in
     let d = totals_of f lists player b steps in
-    let later = best_alike f r lists k player other z (plus_times y times b) alike (tables_after v d times) move (choices_stay f lists player y b v d move lasts times best rise within soon) in
-    best_same f lists player w (tables_after v d times) (totals_of f lists player z new) (moved f lists player y b z times old steps new move later lines) z move later
+    let later = best_alike f r lists k player other z (plus_times y times b) alike (tables_after v d times) move
+    (choices_stay f lists player y b v d move lasts times best rise within soon) in
+    best_same f lists player w (tables_after v d times) (totals_of f lists player z new)
+    (moved f lists player y b z times old steps new move later lines) z move later

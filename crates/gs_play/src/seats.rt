@@ -105,7 +105,8 @@ fn find(
     requires two { player ≤ 2 }
     requires placed { IsPlaced (frame_of form.now) (lists_of form.now) places.now }
     requires rows { HasRows (frame_of form.now) (lists_of form.now) totals.old }
-    requires paid { AreEndSums (frame_of form.now) (lists_of form.now) player (class_plan (frame_of form.now) (lists_of form.now) other.now) totals.old.ends.items }
+    requires paid { AreEndSums (frame_of form.now) (lists_of form.now) player
+        (class_plan (frame_of form.now) (lists_of form.now) other.now) totals.old.ends.items }
     requires picks { start_of (frame_of form.now) (lists_of form.now) (point_count (frame_of form.now)) ≤ length picks.old }
     requires long { length weights.old ≡ slot_count (frame_of form.now) (lists_of form.now) player }
     requires other { IsPlanOf (frame_of form.now) (lists_of form.now) (other_player player) other.now }
@@ -115,7 +116,8 @@ fn find(
     ensures paid { totals.new.ends ≡ totals.old.ends }
     ensures best { let f = frame_of form.now in let lists = lists_of form.now in let y = class_plan f lists other.now in
         AreBestTotals f lists player y (totals_of f lists player y totals.new.points.items) (moves_of f lists picks.new) }
-    ensures puts { let f = frame_of form.now in let lists = lists_of form.now in ArePutBefore f lists player (moves_of f lists picks.new) weights.new (point_count f) }
+    ensures puts { let f = frame_of form.now in let lists = lists_of form.now in
+        ArePutBefore f lists player (moves_of f lists picks.new) weights.new (point_count f) }
 {
     let side = Deviator {
         form,
@@ -159,6 +161,7 @@ fn answer_anew(
     ensures next { seat.new.next.items ≡ seat.old.answer.weights.items }
     ensures same { IsTrue result ↔ (seat.new.answer.weights.items ≡ seat.old.answer.weights.items) }
 {
+    // called only for what its contract says
     let _rounds = round_total(form);
     find(
         form,
@@ -187,7 +190,8 @@ pub(crate) fn answer(
     requires two { player ≤ 2 }
     requires placed { IsPlaced (frame_of form.now) (lists_of form.now) places.now }
     requires seat { IsSeat (frame_of form.now) (lists_of form.now) player (class_plan (frame_of form.now) (lists_of form.now) other.now) seat.old }
-    requires known { IsTrue seat.old.is_answered → HasAnswered (frame_of form.now) (lists_of form.now) player (class_plan (frame_of form.now) (lists_of form.now) other.now) seat.old }
+    requires known { IsTrue seat.old.is_answered → HasAnswered (frame_of form.now) (lists_of form.now) player
+        (class_plan (frame_of form.now) (lists_of form.now) other.now) seat.old }
     requires other { IsPlanOf (frame_of form.now) (lists_of form.now) (other_player player) other.now }
     requires scratch { HasScratch (frame_of form.now) (lists_of form.now) scratch.old }
     ensures scratch { HasScratch (frame_of form.now) (lists_of form.now) scratch.new }
@@ -220,7 +224,8 @@ pub(crate) fn read_steps(
     requires scratch { HasScratch (frame_of form.now) (lists_of form.now) scratch.old }
     ensures scratch { HasScratch (frame_of form.now) (lists_of form.now) scratch.new }
     ensures rows { HasRows (frame_of form.now) (lists_of form.now) steps.new }
-    ensures paid { AreEndSums (frame_of form.now) (lists_of form.now) player (class_plan (frame_of form.now) (lists_of form.now) more.now) steps.new.ends.items }
+    ensures paid { AreEndSums (frame_of form.now) (lists_of form.now) player
+        (class_plan (frame_of form.now) (lists_of form.now) more.now) steps.new.ends.items }
 {
     let side = Deviator {
         form,
@@ -251,11 +256,14 @@ pub(crate) fn renew(
     requires before { length other.now.next.items ≡ slot_count (frame_of form.now) (lists_of form.now) (other_player player) }
     requires rows { HasRows (frame_of form.now) (lists_of form.now) steps.old }
     requires scratch { HasScratch (frame_of form.now) (lists_of form.now) scratch.old }
-    requires kept { IsTrue same → AreEndSums (frame_of form.now) (lists_of form.now) player (class_plan (frame_of form.now) (lists_of form.now) other.now.answer) steps.old.ends.items }
-    requires paid { same ≡ false → AreEndSums (frame_of form.now) (lists_of form.now) player (plan_of (frame_of form.now) (lists_of form.now) other.now.answer.total other.now.next.items) steps.old.ends.items }
+    requires kept { IsTrue same → AreEndSums (frame_of form.now) (lists_of form.now) player
+        (class_plan (frame_of form.now) (lists_of form.now) other.now.answer) steps.old.ends.items }
+    requires paid { same ≡ false → AreEndSums (frame_of form.now) (lists_of form.now) player
+        (plan_of (frame_of form.now) (lists_of form.now) other.now.answer.total other.now.next.items) steps.old.ends.items }
     ensures scratch { HasScratch (frame_of form.now) (lists_of form.now) scratch.new }
     ensures rows { HasRows (frame_of form.now) (lists_of form.now) steps.new }
-    ensures paid { AreEndSums (frame_of form.now) (lists_of form.now) player (class_plan (frame_of form.now) (lists_of form.now) other.now.answer) steps.new.ends.items }
+    ensures paid { AreEndSums (frame_of form.now) (lists_of form.now) player
+        (class_plan (frame_of form.now) (lists_of form.now) other.now.answer) steps.new.ends.items }
 {
     if same {
         return;
@@ -289,11 +297,13 @@ fn rise(
     requires moves { let f = frame_of form.now in let lists = lists_of form.now in AreInMoves f lists player (moves_of f lists seat.now.picks.items) }
     requires more { IsPlanOf (frame_of form.now) (lists_of form.now) (other_player player) more.now }
     requires rows { HasRows (frame_of form.now) (lists_of form.now) steps.old }
-    requires paid { AreEndSums (frame_of form.now) (lists_of form.now) player (class_plan (frame_of form.now) (lists_of form.now) more.now) steps.old.ends.items }
+    requires paid { AreEndSums (frame_of form.now) (lists_of form.now) player
+        (class_plan (frame_of form.now) (lists_of form.now) more.now) steps.old.ends.items }
     requires scratch { HasScratch (frame_of form.now) (lists_of form.now) scratch.old }
     ensures scratch { HasScratch (frame_of form.now) (lists_of form.now) scratch.new }
     ensures rows { HasRows (frame_of form.now) (lists_of form.now) steps.new }
-    ensures rises { HasRises (frame_of form.now) (lists_of form.now) player (class_plan (frame_of form.now) (lists_of form.now) more.now) seat.now.picks.items steps.new }
+    ensures rises { HasRises (frame_of form.now) (lists_of form.now) player
+        (class_plan (frame_of form.now) (lists_of form.now) more.now) seat.now.picks.items steps.new }
 {
     let side = Deviator {
         form,
@@ -327,7 +337,8 @@ fn lasts(
     requires other { IsPlanOf (frame_of form.now) (lists_of form.now) (other_player player) other.now }
     requires more { IsPlanOf (frame_of form.now) (lists_of form.now) (other_player player) more.now }
     requires rows { HasRows (frame_of form.now) (lists_of form.now) steps.now }
-    requires rises { HasRises (frame_of form.now) (lists_of form.now) player (class_plan (frame_of form.now) (lists_of form.now) more.now) seat.now.picks.items steps.now }
+    requires rises { HasRises (frame_of form.now) (lists_of form.now) player
+        (class_plan (frame_of form.now) (lists_of form.now) more.now) seat.now.picks.items steps.now }
     requires scratch { HasScratch (frame_of form.now) (lists_of form.now) scratch.old }
     ensures scratch { HasScratch (frame_of form.now) (lists_of form.now) scratch.new }
     ensures lasts { let f = frame_of form.now in let lists = lists_of form.now in
@@ -369,15 +380,18 @@ pub(crate) fn stays(
     requires other { IsPlanOf (frame_of form.now) (lists_of form.now) (other_player player) other.now }
     requires more { IsPlanOf (frame_of form.now) (lists_of form.now) (other_player player) more.now }
     requires rows { HasRows (frame_of form.now) (lists_of form.now) steps.old }
-    requires paid { AreEndSums (frame_of form.now) (lists_of form.now) player (class_plan (frame_of form.now) (lists_of form.now) more.now) steps.old.ends.items }
+    requires paid { AreEndSums (frame_of form.now) (lists_of form.now) player
+        (class_plan (frame_of form.now) (lists_of form.now) more.now) steps.old.ends.items }
     requires scratch { HasScratch (frame_of form.now) (lists_of form.now) scratch.old }
     requires left { 0 < times }
     ensures scratch { HasScratch (frame_of form.now) (lists_of form.now) scratch.new }
     ensures rows { HasRows (frame_of form.now) (lists_of form.now) steps.new }
-    ensures paid { AreEndSums (frame_of form.now) (lists_of form.now) player (class_plan (frame_of form.now) (lists_of form.now) more.now) steps.new.ends.items }
+    ensures paid { AreEndSums (frame_of form.now) (lists_of form.now) player
+        (class_plan (frame_of form.now) (lists_of form.now) more.now) steps.new.ends.items }
     ensures stays { let f = frame_of form.now in let lists = lists_of form.now in
         AnswerStays f lists player (class_plan f lists other.now) (class_plan f lists more.now) (class_plan f lists seat.now.answer) result }
-    ensures rises { 1 < result → HasRises (frame_of form.now) (lists_of form.now) player (class_plan (frame_of form.now) (lists_of form.now) more.now) seat.now.picks.items steps.new }
+    ensures rises { 1 < result → HasRises (frame_of form.now) (lists_of form.now) player
+        (class_plan (frame_of form.now) (lists_of form.now) more.now) seat.now.picks.items steps.new }
     ensures lasts { let f = frame_of form.now in let lists = lists_of form.now in
         1 < result → AreBeforeChange f lists player (totals_of f lists player (class_plan f lists other.now) seat.now.totals.points.items)
         (totals_of f lists player (class_plan f lists more.now) steps.new.points.items) (moves_of f lists seat.now.picks.items) result }
@@ -425,7 +439,8 @@ pub(crate) fn move_on(
         AreAlike f lists player (class_plan f lists seat.new.plan) (plus_times (class_plan f lists seat.old.plan) times (class_plan f lists seat.old.answer)) }
     ensures lines { AreEndLines (frame_of form.now) (lists_of form.now) seat.old.totals.ends.items steps.now.ends.items times seat.new.totals.ends.items }
     ensures lasting { IsTrue seat.new.is_answered → times < lasts }
-    ensures points { times < lasts → ArePointLines (frame_of form.now) (lists_of form.now) seat.old.totals.points.items steps.now.points.items times seat.new.totals.points.items }
+    ensures points { times < lasts → ArePointLines (frame_of form.now) (lists_of form.now) seat.old.totals.points.items steps.now.points.items times
+        seat.new.totals.points.items }
 {
     advance(form, &mut seat.totals, steps, times, lasts);
     add_times(form, player, &mut seat.plan, &seat.answer, times);

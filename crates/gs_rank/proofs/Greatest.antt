@@ -12,7 +12,10 @@ abbrev chosen : Bool → Bool → Bool → Bool → Bool → ℕ
 chosen s f e p q = cond (s && f) 5 (cond e 4 (cond s 3 (cond f 2 (cond p 1 (cond q 1 0)))))
 
 chosen_is : (high middle low : ℕ) (s f e p q : Bool) → high < 64 → middle < 64 → low < 64 →
-    cond (s && f) (5 * 262144 + high * 4096) (cond e (4 * 262144 + high * 4096) (cond s (3 * 262144 + high * 4096) (cond f (2 * 262144 + high * 4096 + middle * 64 + low) (cond p (262144 + high * 4096 + low * 64) (cond q (262144 + middle * 4096 + high * 64) (high * 4096 + middle * 64 + low)))))) / 262144 ≡ chosen s f e p q
+    cond (s && f) (5 * 262144 + high * 4096) (cond e (4 * 262144 + high * 4096)
+    (cond s (3 * 262144 + high * 4096) (cond f (2 * 262144 + high * 4096 + middle * 64 + low)
+    (cond p (262144 + high * 4096 + low * 64) (cond q (262144 + middle * 4096 + high * 64) (high * 4096 + middle * 64 + low)))))) / 262144
+    ≡ chosen s f e p q
 chosen_is h m l true true e p q a b c = omega arith
 chosen_is h m l true false true p q a b c = omega arith
 chosen_is h m l true false false p q a b c = omega arith
@@ -29,7 +32,8 @@ record InOrder (x y z high middle low : ℕ) : Type 0 where
   between : middle ≡ x + y + z - high - low
 
 either : (a b c d e f : ℕ) → ((a ≡ d → ⊥) → (b ≡ e → ⊥) → (c ≡ f → ⊥) → ⊥) → (a ≡ d) ⊎ (b ≡ e) ⊎ (c ≡ f)
-either a b c d e f k = ⊎_elim inl (λ p. ⊎_elim (λ x. inr (inl x)) (λ q. ⊎_elim (λ x. inr (inr x)) (λ r. absurd (k p q r)) (cases_eq c f)) (cases_eq b e)) (cases_eq a d)
+either a b c d e f k = ⊎_elim inl (λ p. ⊎_elim (λ x. inr (inl x)) (λ q. ⊎_elim (λ x. inr (inr x)) (λ r. absurd (k p q r)) (cases_eq c f)) (cases_eq b e))
+    (cases_eq a d)
 
 -- some rank of three is this one
 abbrev Some : ℕ → ℕ → ℕ → ℕ → Type 0
@@ -46,7 +50,8 @@ ranks_straight : (x y z : ℕ) (h m l low : ℕ) → InOrder x y z h m l → Som
 ranks_straight x y z h m l low o a b c = (grind (arith, o.top, o.bottom, o.between, a, b, c), grind (arith, o.top, o.bottom, o.between, a, b, c))
 
 some_pair : (x y z : ℕ) (h m l : ℕ) → InOrder x y z h m l → (h ≡ m) ⊎ (m ≡ l) → (x ≡ y) ⊎ (y ≡ z) ⊎ (x ≡ z)
-some_pair x y z h m l o e = either x y x y z z (λ (p : x ≢ y) (q : y ≢ z) (r : x ≢ z). ⊎_elim (λ (k : h ≡ m). absurd (omega arith)) (λ (k : m ≡ l). absurd (omega arith)) e)
+some_pair x y z h m l o e = either x y x y z z (λ (p : x ≢ y) (q : y ≢ z) (r : x
+    ≢ z). ⊎_elim (λ (k : h ≡ m). absurd (omega arith)) (λ (k : m ≡ l). absurd (omega arith)) e)
 
 pair_some : (x y z : ℕ) (h m l : ℕ) → InOrder x y z h m l → (x ≡ y) ⊎ (y ≡ z) ⊎ (x ≡ z) → (h ≡ m) ⊎ (m ≡ l)
 pair_some x y z h m l o e =
@@ -91,7 +96,8 @@ all_agree ThreeOfAKind = refl
 all_agree StraightFlush = refl
 
 module _ (c : Category) (s f e p q : Bool) where
-  agree : (cond (number c == chosen s f e p q) (says c s f e p q) true ≡ true) × (cond (says c s f e p q) (nat_lt (number c) (suc (chosen s f e p q))) true ≡ true)
+  agree : (cond (number c == chosen s f e p q) (says c s f e p q) true ≡ true)
+      × (cond (says c s f e p q) (nat_lt (number c) (suc (chosen s f e p q))) true ≡ true)
   agree =
       let a = at_each (λ s. each (λ f. each (λ e. each (λ p. each (λ q. agrees c s f e p q))))) (all_agree c) s in
       let b = at_each (λ f. each (λ e. each (λ p. each (λ q. agrees c s f e p q)))) a f in
@@ -108,7 +114,8 @@ module _ (c : Category) (s f e p q : Bool) where
       grind (arith, l)
 
 -- the category is the greatest that applies
-pub is_greatest : (suits : ℕ) (h : Cards) → rank_of suits h.first < 64 → rank_of suits h.second < 64 → rank_of suits h.third < 64 → IsGreatest suits h (category Three (three_strength suits h.first h.second h.third))
+pub is_greatest : (suits : ℕ) (h : Cards) → rank_of suits h.first < 64 → rank_of suits h.second < 64 → rank_of suits h.third < 64
+    → IsGreatest suits h (category Three (three_strength suits h.first h.second h.third))
 is_greatest suits h a b c =
     let x = rank_of suits h.first in
     let y = rank_of suits h.second in
@@ -122,18 +129,27 @@ is_greatest suits h a b c =
     let p = high == middle in
     let q = middle == low in
     let o : InOrder x y z high middle low = record { top = refl; bottom = refl; between = refl } in
-    let is : category Three (three_strength suits h.first h.second h.third) ≡ chosen s f e p q = chosen_is high middle low s f e p q (omega arith) (omega arith) (omega arith) in
-    let straight : s ≡ true → IsStraight suits h = λ t. let k = and_parts (high == middle + 1) (middle == low + 1) t in let r = straight_ranks x y z high middle low o (eqb-true _ _ k.0) (eqb-true _ _ k.1) in (low, r.0, r.1, r.2) in
-    let straight_back : IsStraight suits h → s ≡ true = λ t. let k = ranks_straight x y z high middle low t.0 o t.1 t.2 t.3 in and_from (high == middle + 1) (middle == low + 1) (eq-eqb _ _ k.0) (eq-eqb _ _ k.1) in
-    let flush : f ≡ true → IsFlush suits h = λ t. let k = and_parts (suit_of suits h.first == suit_of suits h.second) (suit_of suits h.second == suit_of suits h.third) t in (eqb-true _ _ k.0, eqb-true _ _ k.1) in
-    let flush_back : IsFlush suits h → f ≡ true = λ t. and_from (suit_of suits h.first == suit_of suits h.second) (suit_of suits h.second == suit_of suits h.third) (eq-eqb _ _ t.0) (eq-eqb _ _ t.1) in
+    let is : category Three (three_strength suits h.first h.second h.third) ≡ chosen s f e p q =
+    chosen_is high middle low s f e p q (omega arith) (omega arith) (omega arith) in
+    let straight : s ≡ true → IsStraight suits h = λ t. let k = and_parts (high == middle + 1) (middle == low + 1) t in
+    let r = straight_ranks x y z high middle low o (eqb-true _ _ k.0) (eqb-true _ _ k.1) in (low, r.0, r.1, r.2) in
+    let straight_back : IsStraight suits h → s ≡ true = λ t. let k = ranks_straight x y z high middle low t.0 o t.1 t.2 t.3 in
+    and_from (high == middle + 1) (middle == low + 1) (eq-eqb _ _ k.0) (eq-eqb _ _ k.1) in
+    let flush : f ≡ true → IsFlush suits h = λ t. let k = and_parts (suit_of suits h.first == suit_of suits h.second) (suit_of suits h.second
+    == suit_of suits h.third) t in (eqb-true _ _ k.0, eqb-true _ _ k.1) in
+    let flush_back : IsFlush suits h → f ≡ true = λ t. and_from (suit_of suits h.first == suit_of suits h.second) (suit_of suits h.second
+    == suit_of suits h.third) (eq-eqb _ _ t.0) (eq-eqb _ _ t.1) in
     let three : e ≡ true → IsThreeOfAKind suits h = λ t. all_same x y z high middle low o (eqb-true _ _ t) in
     let three_back : IsThreeOfAKind suits h → e ≡ true = λ t. eq-eqb _ _ (same_all x y z high middle low o t) in
-    let pair : (p ≡ true) ⊎ (q ≡ true) → IsPair suits h = λ t. some_pair x y z high middle low o (⊎_elim (λ (k : p ≡ true). inl (eqb-true _ _ k)) (λ (k : q ≡ true). inr (eqb-true _ _ k)) t) in
-    let pair_back : IsPair suits h → (p ≡ true) ⊎ (q ≡ true) = λ t. ⊎_elim (λ (k : high ≡ middle). inl (eq-eqb _ _ k)) (λ (k : middle ≡ low). inr (eq-eqb _ _ k)) (pair_some x y z high middle low o t) in
+    let pair : (p ≡ true) ⊎ (q ≡ true) → IsPair suits h = λ t. some_pair x y z high middle low o
+    (⊎_elim (λ (k : p ≡ true). inl (eqb-true _ _ k)) (λ (k : q ≡ true). inr (eqb-true _ _ k)) t) in
+    let pair_back : IsPair suits h → (p ≡ true) ⊎ (q ≡ true) = λ t. ⊎_elim (λ (k : high ≡ middle). inl (eq-eqb _ _ k))
+    (λ (k : middle ≡ low). inr (eq-eqb _ _ k)) (pair_some x y z high middle low o t) in
     rw is (by suits h s f e p q straight straight_back flush flush_back three three_back pair pair_back)
   where
-    by : (suits : ℕ) (h : Cards) (s f e p q : Bool) → (s ≡ true → IsStraight suits h) → (IsStraight suits h → s ≡ true) → (f ≡ true → IsFlush suits h) → (IsFlush suits h → f ≡ true) → (e ≡ true → IsThreeOfAKind suits h) → (IsThreeOfAKind suits h → e ≡ true) → ((p ≡ true) ⊎ (q ≡ true) → IsPair suits h) → (IsPair suits h → (p ≡ true) ⊎ (q ≡ true)) → IsGreatest suits h (chosen s f e p q)
+    by : (suits : ℕ) (h : Cards) (s f e p q : Bool) → (s ≡ true → IsStraight suits h) → (IsStraight suits h → s ≡ true) → (f ≡ true → IsFlush suits h)
+        → (IsFlush suits h → f ≡ true) → (e ≡ true → IsThreeOfAKind suits h) → (IsThreeOfAKind suits h → e ≡ true)
+        → ((p ≡ true) ⊎ (q ≡ true) → IsPair suits h) → (IsPair suits h → (p ≡ true) ⊎ (q ≡ true)) → IsGreatest suits h (chosen s f e p q)
     by suits h s f e p q straight straight_back flush flush_back three three_back pair pair_back = record { applies = applies; greatest = greatest }
       where
         told : (c : Category) → says c s f e p q ≡ true → Applies suits h c

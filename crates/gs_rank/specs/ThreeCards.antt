@@ -33,7 +33,8 @@ number StraightFlush = 5
 
 -- two cards of one rank
 abbrev pub IsPair : ℕ → Cards → Type 0
-IsPair suits h = (rank_of suits h.first ≡ rank_of suits h.second) ⊎ (rank_of suits h.second ≡ rank_of suits h.third) ⊎ (rank_of suits h.first ≡ rank_of suits h.third)
+IsPair suits h = (rank_of suits h.first ≡ rank_of suits h.second) ⊎ (rank_of suits h.second ≡ rank_of suits h.third)
+    ⊎ (rank_of suits h.first ≡ rank_of suits h.third)
 
 -- three cards of one suit
 abbrev pub IsFlush : ℕ → Cards → Type 0

@@ -24,12 +24,15 @@ pub record AreOver (a : Abstract) (first : Filter) (one : Plan) (second : Filter
   pub second_parents : second.parents ≡ (frame_of a).parents
   pub two_plan : IsPlanOf (frame_of a) second.lists 2 two
 
-pub are_over : (a : Abstract) (l : Lossless) (s : Signals) (alone first : Filter) (one : Plan) (second : Filter) (two : Plan) → a.lossless.now ≡ l → l.signals.now ≡ s → l.classes.now ≡ alone
-    → alone.lists ≡ single_classes (frame_in s.game.now).parents → first.parents ≡ (frame_in s.game.now).parents → IsPlanOf (frame_in s.game.now) first.lists 1 one → second.parents ≡ (frame_in s.game.now).parents
+pub are_over : (a : Abstract) (l : Lossless) (s : Signals) (alone first : Filter) (one : Plan) (second : Filter) (two : Plan) → a.lossless.now ≡ l
+    → l.signals.now ≡ s → l.classes.now ≡ alone
+    → alone.lists ≡ single_classes (frame_in s.game.now).parents → first.parents ≡ (frame_in s.game.now).parents
+    → IsPlanOf (frame_in s.game.now) first.lists 1 one → second.parents ≡ (frame_in s.game.now).parents
     → IsPlanOf (frame_in s.game.now) second.lists 2 two → AreOver a first one second two
 are_over a l s alone first one second two held signals classes singles parents plan parents2 plan2 =
     let back = sym (same_frame a l s held signals) in
-    let lists : lists_of a ≡ single_classes (frame_in s.game.now).parents = ap (λ (x : Lossless). x.classes.now.lists) held ∙ ap (λ (x : Filter). x.lists) classes ∙ singles in
+    let lists : lists_of a ≡ single_classes (frame_in s.game.now).parents =
+    ap (λ (x : Lossless). x.classes.now.lists) held ∙ ap (λ (x : Filter). x.lists) classes ∙ singles in
     record {
       singles = subst (λ (h : Frame). lists_of a ≡ single_classes h.parents) back lists;
       first_parents = subst (λ (h : Frame). first.parents ≡ h.parents) back parents;
@@ -39,6 +42,8 @@ are_over a l s alone first one second two held signals classes singles parents p
     }
 
 -- a stop of the form is a stop of the game
-pub stopped : {X : Type 0} (l : Lossless) (s : Signals) (r : Result X RawStop) (e stop : RawStop) → r ≡ Err e → e ≡ stop → l.signals.now ≡ s → IsRawStopOf (frame_in l.signals.now.game.now) stop → IfErr r (IsRawStopOf (frame_in s.game.now))
+pub stopped : {X : Type 0} (l : Lossless) (s : Signals) (r : Result X RawStop) (e stop : RawStop) → r ≡ Err e → e ≡ stop → l.signals.now ≡ s
+    → IsRawStopOf (frame_in l.signals.now.game.now) stop → IfErr r (IsRawStopOf (frame_in s.game.now))
 stopped l s r e stop is same held h =
-    let f = frame_in s.game.now in subst (λ r. IfErr r (IsRawStopOf f)) (sym is) (subst (IsRawStopOf f) (sym same) (subst (λ (x : Signals). IsRawStopOf (frame_in x.game.now) stop) held h))
+    let f = frame_in s.game.now in subst (λ r. IfErr r (IsRawStopOf f)) (sym is)
+    (subst (IsRawStopOf f) (sym same) (subst (λ (x : Signals). IsRawStopOf (frame_in x.game.now) stop) held h))

@@ -47,7 +47,8 @@ own_before w a b p =
     ap (λ n. pos n *ℤ p) (mul_left_comm w a b) ∙ ap (λ v. v *ℤ p) (sym (plain_product a (w * b))) ∙ mul_assoc_z (pos a) (pos (w * b)) p
 
 -- what a plan's own number at a signal has to do with a deal of it
-one_deal : (n : ℕ → ℕ) (k s w b : ℕ) (p : ℤ) (t : Bool) → (k == s) ≡ t → cond t (pos (w * (n k * b)) *ℤ p) (pos 0) ≡ pos (n s) *ℤ cond t (pos (w * b) *ℤ p) (pos 0)
+one_deal : (n : ℕ → ℕ) (k s w b : ℕ) (p : ℤ) (t : Bool) → (k == s) ≡ t → cond t (pos (w * (n k * b)) *ℤ p) (pos 0)
+    ≡ pos (n s) *ℤ cond t (pos (w * b) *ℤ p) (pos 0)
 one_deal n k s w b p true e = own_before w (n k) b p ∙ ap (λ m. pos (n m) *ℤ (pos (w * b) *ℤ p)) ((Decides-eqb k s).0 e)
 one_deal n k s w b p false e = sym (*ℤ-zero (pos (n s)))
 
@@ -57,8 +58,10 @@ signal_share f x y z s =
     let r = round_of f (at_end z) in
     let worth = λ (d : Deal). pos (d.weight * number_at_end f 2 y z (at_round f r d.two)) *ℤ payoff_to f 1 z d.outcome in
     filter_sum (deal_pays f x y z) (λ (d : Deal). at_round f r d.one == s) f.deals
-    ∙ sum_z-same (λ (d : Deal). cond (at_round f r d.one == s) (deal_pays f x y z d) (pos 0)) (λ d. pos (number_at_end f 1 x z s) *ℤ cond (at_round f r d.one == s) (worth d) (pos 0))
-    (λ d. one_deal (number_at_end f 1 x z) (at_round f r d.one) s d.weight (number_at_end f 2 y z (at_round f r d.two)) (payoff_to f 1 z d.outcome) (at_round f r d.one == s) refl) f.deals
+    ∙ sum_z-same (λ (d : Deal). cond (at_round f r d.one == s) (deal_pays f x y z d) (pos 0))
+    (λ d. pos (number_at_end f 1 x z s) *ℤ cond (at_round f r d.one == s) (worth d) (pos 0))
+    (λ d. one_deal (number_at_end f 1 x z) (at_round f r d.one) s d.weight (number_at_end f 2 y z (at_round f r d.two)) (payoff_to f 1 z d.outcome)
+    (at_round f r d.one == s) refl) f.deals
     ∙ sum_z-mul (pos (number_at_end f 1 x z s)) (λ (d : Deal). cond (at_round f r d.one == s) (worth d) (pos 0)) f.deals
 
 -- ---- sizes
@@ -73,7 +76,8 @@ deal_small w a b p la lb lp =
 
 module _ (f : Frame) (r : InRange f) (m : IsModest f) where
   -- a plan's number at a signal is at most its total
-  pub raw_few : (p : ℕ) → (w : IsWalked f p) → (x : Plan) → IsClassPlan f (single_classes f.parents) p x → (z s : ℕ) → z < end_count f → s < signal_count f (round_of f (at_end z))
+  pub raw_few : (p : ℕ) → (w : IsWalked f p) → (x : Plan) → IsClassPlan f (single_classes f.parents) p x → (z s : ℕ) → z < end_count f
+      → s < signal_count f (round_of f (at_end z))
       → number_at_end f p (lift f (single_classes f.parents) x) z s ≤ 2 ^ 36
   raw_few p w x plan z s lz ls =
       let round = round_of f (at_end z) in
@@ -86,7 +90,8 @@ module _ (f : Frame) (r : InRange f) (m : IsModest f) where
       let less = number_few f singles p x z (s + 1) r w (single_are_classes f.parents) plan lz here in
       omega (arith, less, plan.total_in.1, ap (number_at_end f p (lift f singles x) z) is)
 
-  module _ (w1 : IsWalked f 1) (w2 : IsWalked f 2) (x y : Plan) (px : IsClassPlan f (single_classes f.parents) 1 x) (py : IsClassPlan f (single_classes f.parents) 2 y) (z : ℕ) (lz : z < end_count f) where
+  module _ (w1 : IsWalked f 1) (w2 : IsWalked f 2) (x y : Plan) (px : IsClassPlan f (single_classes f.parents) 1 x)
+      (py : IsClassPlan f (single_classes f.parents) 2 y) (z : ℕ) (lz : z < end_count f) where
     abbrev own : Plan
     own = lift f (single_classes f.parents) x
 
@@ -110,7 +115,8 @@ module _ (f : Frame) (r : InRange f) (m : IsModest f) where
     signal_small s =
         let test = λ (d : Deal). at_round f (round_of f (at_end z)) d.one == s in
         let t = deal_pays f own other z in
-        let a = abs_all t (λ d. (2 ^ 84) * d.weight) (filter test f.deals) (All-filter test (λ (d : Deal). unsigned_abs (t d) ≤ (2 ^ 84) * d.weight) f.deals deals_small) in
+        let a = abs_all t (λ d. (2 ^ 84) * d.weight) (filter test f.deals)
+        (All-filter test (λ (d : Deal). unsigned_abs (t d) ≤ (2 ^ 84) * d.weight) f.deals deals_small) in
         omega (arith, a, times_sum (2 ^ 84) (λ (d : Deal). d.weight) (filter test f.deals))
 
 -- the deals of a signal weigh no more than all
@@ -123,7 +129,8 @@ signals_weigh_le f z first count = run_weight_le (λ (d : Deal). at_round f (rou
 
 -- ---- a run of signals
 
-module _ (f : Frame) (r : InRange f) (w : IsWalked f 1) (z s first end : ℕ) (lz : z < end_count f) (run : IsRunIn f (round_of f (at_end z)) 1 s first end) where
+module _ (f : Frame) (r : InRange f) (w : IsWalked f 1) (z s first end : ℕ) (lz : z
+    < end_count f) (run : IsRunIn f (round_of f (at_end z)) 1 s first end) where
   -- a deal's signal of the end's round is in the run where its signal of round 1 is this one
   dealt : All (λ (d : Deal). IsInRun (at_round f (round_of f (at_end z)) d.one) first (end - first) (at_round f 1 d.one == s)) f.deals
   dealt k e l =
@@ -145,7 +152,8 @@ module _ (f : Frame) (r : InRange f) (w : IsWalked f 1) (z s first end : ℕ) (l
 
   -- what the run's signals pay at an end is what the raw signal of round 1 does
   pub run_pays_hand : (x y : Plan) → signals_pay f x y first (end - first) z ≡ hand_pays_at f x y s z
-  run_pays_hand x y = run_sum (λ (d : Deal). at_round f (round_of f (at_end z)) d.one) (λ (d : Deal). at_round f 1 d.one == s) (deal_pays f x y z) first (end - first) f.deals dealt
+  run_pays_hand x y = run_sum (λ (d : Deal). at_round f (round_of f (at_end z)) d.one) (λ (d : Deal). at_round f 1 d.one == s) (deal_pays f x y z) first (end
+      - first) f.deals dealt
 
 -- ---- of a game in sequence form over single signals
 
@@ -157,7 +165,8 @@ signal_few a round some top =
     omega (arith, signal_count_is g round some (omega (arith, top, n)), (game_in a).limits.signals_in round (omega (arith, top, n)))
 
 -- the class of a signal, and that signal as its first member
-pub single_at : (a : Abstract) (lists : ClassLists) → lists ≡ single_classes (frame_of a).parents → (round s : ℕ) → 0 < round → round ≤ last_round (frame_of a) → s < signal_count (frame_of a) round
+pub single_at : (a : Abstract) (lists : ClassLists) → lists ≡ single_classes (frame_of a).parents → (round s : ℕ) → 0 < round
+    → round ≤ last_round (frame_of a) → s < signal_count (frame_of a) round
     → (IsClass lists round (s + 1)) × (first_member lists round (s + 1) ≡ s)
 single_at a lists e round s some top ls =
     let f = frame_of a in
@@ -167,8 +176,10 @@ single_at a lists e round s some top ls =
     (subst (λ ls. IsClass ls round (s + 1)) (sym e) here, ap (λ ls. first_member ls round (s + 1)) e ∙ is)
 
 -- so is a signal of an end's round, and there are few
-pub single_end : (a : Abstract) → lists_of a ≡ single_classes (frame_of a).parents → (z s : ℕ) → z < end_count (frame_of a) → s < signal_count (frame_of a) (round_of (frame_of a) (at_end z))
-    → IsClass (lists_of a) (round_of (frame_of a) (at_end z)) (s + 1) × (first_member (lists_of a) (round_of (frame_of a) (at_end z)) (s + 1) ≡ s) × (s < 200000)
+pub single_end : (a : Abstract) → lists_of a ≡ single_classes (frame_of a).parents → (z s : ℕ) → z < end_count (frame_of a)
+    → s < signal_count (frame_of a) (round_of (frame_of a) (at_end z))
+    → IsClass (lists_of a) (round_of (frame_of a) (at_end z)) (s + 1) × (first_member (lists_of a) (round_of (frame_of a) (at_end z)) (s + 1) ≡ s)
+    × (s < 200000)
 single_end a e z s l ls =
     let w = form_walked a 1 (omega arith) (omega arith) in
     let round = round_of (frame_of a) (at_end z) in
@@ -176,7 +187,8 @@ single_end a e z s l ls =
     (h.0, h.1, omega (arith, ls, signal_few a round (w.end_round z l) (w.end_in z l)))
 
 -- what the deals of a signal pay is small beside what they weigh
-pub small_of : (a : Abstract) (lists : ClassLists) → lists ≡ single_classes (frame_of a).parents → (one two : StoredPlan) → IsPlanOf (frame_of a) lists 1 one → IsPlanOf (frame_of a) lists 2 two → (z s : ℕ) → z < end_count (frame_of a)
+pub small_of : (a : Abstract) (lists : ClassLists) → lists ≡ single_classes (frame_of a).parents → (one two : StoredPlan) → IsPlanOf (frame_of a) lists 1 one
+    → IsPlanOf (frame_of a) lists 2 two → (z s : ℕ) → z < end_count (frame_of a)
     → unsigned_abs (signal_pays (frame_of a) (lifted (frame_of a) lists one) (lifted (frame_of a) lists two) z s) ≤ (2 ^ 84) * signal_weighs (frame_of a) z s
 small_of a lists e one two p q z s lz =
     let f = frame_of a in
@@ -184,7 +196,8 @@ small_of a lists e one two p q z s lz =
     let p' = subst (λ ls. IsPlanOf f ls 1 one) e p in
     let q' = subst (λ ls. IsPlanOf f ls 2 two) e q in
     subst (λ ls. unsigned_abs (signal_pays f (lifted f ls one) (lifted f ls two) z s) ≤ (2 ^ 84) * signal_weighs f z s) (sym e)
-    (signal_small f (form_in_range a) (form_modest a) (form_walked a 1 (omega arith) (omega arith)) (form_walked a 2 (omega arith) (omega arith)) (class_plan f singles one) (class_plan f singles two) p'.plan.plan q'.plan.plan z lz s)
+    (signal_small f (form_in_range a) (form_modest a) (form_walked a 1 (omega arith) (omega arith)) (form_walked a 2 (omega arith) (omega arith))
+    (class_plan f singles one) (class_plan f singles two) p'.plan.plan q'.plan.plan z lz s)
 
 -- ---- hands one behind another
 
@@ -198,11 +211,13 @@ module _ (f : Frame) (first : ClassLists) (x : StoredPlan) (second : ClassLists)
   hands_none = record { long = refl; each = λ s d l. absurd (omega arith) }
 
   -- one hand more
-  pub hands_more : (n : ℕ) (xs ys : List Fraction) (v : Fraction) → HandsTo f first x second y n xs → ys ≡ xs ++ v ∷ [] → IsHandValueOf f first x second y n v → HandsTo f first x second y (n + 1) ys
+  pub hands_more : (n : ℕ) (xs ys : List Fraction) (v : Fraction) → HandsTo f first x second y n xs → ys ≡ xs ++ v ∷ [] → IsHandValueOf f first x second y n v
+      → HandsTo f first x second y (n + 1) ys
   hands_more n xs ys v h is hand = subst (HandsTo f first x second y (n + 1)) (sym is) (record {
     long = omega (arith, length-append xs (v ∷ []), h.long);
     each = λ s d l. ⊎_elim
-        (λ (here : s ≡ n). subst (λ k. IsHandValueOf f first x second y k (get_or (xs ++ v ∷ []) k d)) (sym here) (subst (IsHandValueOf f first x second y n) (sym (get_or_at xs v [] d n h.long)) hand))
+        (λ (here : s ≡ n). subst (λ k. IsHandValueOf f first x second y k (get_or (xs ++ v ∷ []) k d)) (sym here)
+        (subst (IsHandValueOf f first x second y n) (sym (get_or_at xs v [] d n h.long)) hand))
         (λ other.
         let under : s < n = omega (arith, l, other) in
         subst (IsHandValueOf f first x second y s) (sym (get_or_append_left xs (v ∷ []) d s (omega (arith, under, h.long)))) (h.each s d under))

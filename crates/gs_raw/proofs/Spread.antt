@@ -36,8 +36,10 @@ pub spread_none : (f : Frame) (lists : ClassLists) (q : ℕ) (weights before : L
 spread_none f lists q weights before = record { long = omega arith; kept = λ k l. refl; row = λ s m ls lm. absurd (omega arith) }
 
 -- one signal more
-pub spread_more : (f : Frame) (lists : ClassLists) (q s start moves : ℕ) (weights before mid after : List ℕ) → moves ≡ move_count f q → start ≡ slot_of f lists q (class_of lists (round_of f (at_point q)) s) 0
-    → start + moves ≤ length weights → after ≡ mid ++ take moves (drop start weights) → IsSpreadBehind f lists q s weights before mid → IsSpreadBehind f lists q (s + 1) weights before after
+pub spread_more : (f : Frame) (lists : ClassLists) (q s start moves : ℕ) (weights before mid after : List ℕ) → moves ≡ move_count f q
+    → start ≡ slot_of f lists q (class_of lists (round_of f (at_point q)) s) 0
+    → start + moves ≤ length weights → after ≡ mid ++ take moves (drop start weights) → IsSpreadBehind f lists q s weights before mid
+    → IsSpreadBehind f lists q (s + 1) weights before after
 spread_more f lists q s start moves weights before mid after many at room is h =
     let n = move_count f q in
     let row = take moves (drop start weights) in
@@ -49,7 +51,8 @@ spread_more f lists q s start moves weights before mid after many at room is h =
       row = λ t m lt lm. ⊎_elim
           (λ (here : t ≡ s).
           let slot : length before + (t * n + m) ≡ length mid + m = omega (arith, h.long, ap (λ k. k * n) here) in
-          let from : start + m ≡ slot_of f lists q (class_of lists (round_of f (at_point q)) t) m = omega (arith, at, ap (λ k. (class_of lists (round_of f (at_point q)) k - 1) * n) here) in
+          let from : start + m ≡ slot_of f lists q (class_of lists (round_of f (at_point q)) t) m =
+          omega (arith, at, ap (λ k. (class_of lists (round_of f (at_point q)) k - 1) * n) here) in
           ap (λ (xs : List ℕ). get_or xs (length before + (t * n + m)) 0) is
           ∙ ap (λ k. get_or (mid ++ row) k 0) slot
           ∙ get_or-append-add mid row m 0
@@ -76,10 +79,12 @@ module _ (f : Frame) (round : ℕ) (some : 0 < round) (top : round ≤ last_roun
       ap (λ (xs : List ℕ). get_or xs s 0) (single_at f.parents round some top) ∙ get_or-range_with_len 1 (signal_count f round) s 0 l ∙ e
 
   pub single_class : (s : ℕ) → s < signal_count f round → IsClass (single_classes f.parents) round (s + 1)
-  single_class s l = subst (IsClass (single_classes f.parents) round) (single_number s l) (class_in f (single_classes f.parents) (single_are_classes f.parents) round s some top l)
+  single_class s l = subst (IsClass (single_classes f.parents) round) (single_number s l)
+      (class_in f (single_classes f.parents) (single_are_classes f.parents) round s some top l)
 
   -- and each class is that of its one signal
-  pub single_member : (c : ℕ) → IsClass (single_classes f.parents) round c → (first_member (single_classes f.parents) round c < signal_count f round) × (c ≡ first_member (single_classes f.parents) round c + 1)
+  pub single_member : (c : ℕ) → IsClass (single_classes f.parents) round c
+      → (first_member (single_classes f.parents) round c < signal_count f round) × (c ≡ first_member (single_classes f.parents) round c + 1)
   single_member c l =
       let lists = single_classes f.parents in
       let k = single_are_classes f.parents in
@@ -106,7 +111,8 @@ module _ (f : Frame) (round : ℕ) (some : 0 < round) (top : round ≤ last_roun
 pub before_none : (f : Frame) (lists : ClassLists) (player : ℕ) (weights spread : List ℕ) → AreSpreadBefore f lists player weights spread 0
 before_none f lists player weights spread p s m l own ls lm = absurd (omega arith)
 
-module _ (f : Frame) (lists : ClassLists) (player : ℕ) (w : IsWalked f player) (weights before : List ℕ) (q : ℕ) (lq : q < point_count f) (long : length before ≡ slots_before f (single_classes f.parents) player q) (h : AreSpreadBefore f lists player weights before q) where
+module _ (f : Frame) (lists : ClassLists) (player : ℕ) (w : IsWalked f player) (weights before : List ℕ) (q : ℕ) (lq : q
+    < point_count f) (long : length before ≡ slots_before f (single_classes f.parents) player q) (h : AreSpreadBefore f lists player weights before q) where
   -- one point more
   pub before_more : (after : List ℕ) → player_at f q ≡ player → IsSpreadBehind f lists q (signal_count f (round_of f (at_point q))) weights before after
       → (length after ≡ slots_before f (single_classes f.parents) player (q + 1)) × AreSpreadBefore f lists player weights after (q + 1)
@@ -124,38 +130,46 @@ module _ (f : Frame) (lists : ClassLists) (player : ℕ) (w : IsWalked f player)
             subst P (sym same)
             (λ ls lm.
             let less : s + 1 - 1 ≡ s = omega arith in
-            let slot : slot_of f singles q (s + 1) m ≡ length before + (s * n + m) = omega (arith, long, ap (λ v. slots_before f singles v q) own, ap (λ v. v * n) less) in
+            let slot : slot_of f singles q (s + 1) m ≡ length before + (s * n + m) =
+            omega (arith, long, ap (λ v. slots_before f singles v q) own, ap (λ v. v * n) less) in
             ap (λ v. get_or after v 0) slot ∙ b.row s m ls lm) ls lm)
             (λ other.
             let earlier : p < q = omega (arith, lp, other) in
             let in_points : p < point_count f = omega (arith, earlier, lq) in
-            let under = slot_before f singles player p (s + 1) m q hp (single_class f (round_of f (at_point p)) (w.some_round p in_points) (w.point_in p in_points) s ls) lm earlier in
+            let under = slot_before f singles player p (s + 1) m q hp (single_class f (round_of f (at_point p)) (w.some_round p in_points)
+            (w.point_in p in_points) s ls) lm earlier in
             b.kept (slot_of f singles p (s + 1) m) (omega (arith, long, under, ap (λ v. slots_before f singles v p) hp))
             ∙ h p s m earlier hp ls lm)
             (cases_eq p q),
       )
 
   -- a point of the other player
-  pub before_same : (player_at f q ≡ player → ⊥) → (length before ≡ slots_before f (single_classes f.parents) player (q + 1)) × AreSpreadBefore f lists player weights before (q + 1)
+  pub before_same : (player_at f q ≡ player → ⊥) → (length before ≡ slots_before f (single_classes f.parents) player (q + 1))
+      × AreSpreadBefore f lists player weights before (q + 1)
   before_same other = (
     omega (arith, long, slots_none f (single_classes f.parents) player q other),
-    λ p s m lp hp ls lm. h p s m (⊎_elim (λ (same : p ≡ q). absurd (other (sym (ap (player_at f) same) ∙ hp))) (λ ne. omega (arith, lp, ne)) (cases_eq p q)) hp ls lm,
+    λ p s m lp hp ls lm. h p s m (⊎_elim (λ (same : p ≡ q). absurd (other (sym (ap (player_at f) same) ∙ hp))) (λ ne. omega (arith, lp, ne)) (cases_eq p q))
+        hp ls lm,
   )
 
 -- ---- all points
 
-module _ (f : Frame) (lists : ClassLists) (player total : ℕ) (weights spread : List ℕ) (r : InRange f) (w : IsWalked f player) (k : IsClasses f.parents lists) (p : IsPlan f lists player total weights)
+module _ (f : Frame) (lists : ClassLists) (player total : ℕ) (weights spread : List ℕ) (r : InRange f) (w : IsWalked f player) (k : IsClasses f.parents lists)
+    (p : IsPlan f lists player total weights)
     (long : length spread ≡ slot_count f (single_classes f.parents) player) (h : AreSpreadBefore f lists player weights spread (point_count f)) where
   -- the raw plans are the same
-  pub spread_same : AreSame f player (lift f lists (plan_of f lists total weights)) (lift f (single_classes f.parents) (plan_of f (single_classes f.parents) total spread))
+  pub spread_same : AreSame f player (lift f lists (plan_of f lists total weights))
+      (lift f (single_classes f.parents) (plan_of f (single_classes f.parents) total spread))
   spread_same = record {
     total = refl;
     number = λ q s m lq own ls lm. (let singles = single_classes f.parents in
-        sym (ap (λ c. get_or spread (slot_of f singles q c m) 0) (single_number f (round_of f (at_point q)) (w.some_round q lq) (w.point_in q lq) s ls) ∙ h q s m lq own ls lm));
+        sym (ap (λ c. get_or spread (slot_of f singles q c m) 0) (single_number f (round_of f (at_point q)) (w.some_round q lq) (w.point_in q lq) s ls)
+        ∙ h q s m lq own ls lm));
   }
 
   came : (q s : ℕ) → q < point_count f → s < signal_count f (round_of f (at_point q)) → (o : Option Step) → last_step f player (at_point q) ≡ o
-      → number_before f (lift f lists (plan_of f lists total weights)) o (round_of f (at_point q)) s ≡ number_before f (lift f (single_classes f.parents) (plan_of f (single_classes f.parents) total spread)) o (round_of f (at_point q)) s
+      → number_before f (lift f lists (plan_of f lists total weights)) o (round_of f (at_point q)) s
+      ≡ number_before f (lift f (single_classes f.parents) (plan_of f (single_classes f.parents) total spread)) o (round_of f (at_point q)) s
   came q s lq ls None e = refl
   came q s lq ls (Some u) e =
       let before = w.earlier q u lq e in
@@ -167,7 +181,8 @@ module _ (f : Frame) (lists : ClassLists) (player total : ℕ) (weights spread :
       spread_same.number u.point (ancestor f j i s) u.choice in_points his.0 above his.1
 
   raw : IsRawPlan f player (lift f lists (plan_of f lists total weights))
-  raw = lift_is_raw_plan f (is_table f r) lists (keeps_from f lists k.filter) (firsts_from f lists k) player (known_from f player r w) (plan_of f lists total weights) w.point_in (plan_by f lists player (plan_of f lists total weights) w k p.plan)
+  raw = lift_is_raw_plan f (is_table f r) lists (keeps_from f lists k.filter) (firsts_from f lists k) player (known_from f player r w)
+      (plan_of f lists total weights) w.point_in (plan_by f lists player (plan_of f lists total weights) w k p.plan)
 
   pub spread_plan : IsPlan f (single_classes f.parents) player total spread
   spread_plan = record {
@@ -179,7 +194,8 @@ module _ (f : Frame) (lists : ClassLists) (player total : ℕ) (weights spread :
           let round = round_of f (at_point q) in
           let only = single_member f round (w.some_round q lq) (w.point_in q lq) c lc in
           let s = first_member singles round c in
-          sum-same_range (λ m. get_or spread (slot_of f singles q c m) 0) (λ m. get_or weights (slot_of f lists q (class_of lists round s) m) 0) (move_count f q)
+          sum-same_range (λ m. get_or spread (slot_of f singles q c m) 0) (λ m. get_or weights (slot_of f lists q (class_of lists round s) m) 0)
+          (move_count f q)
           (λ m lm. ap (λ v. get_or spread (slot_of f singles q v m) 0) only.1 ∙ h q s m lq own only.0 lm)
           ∙ raw.flow q s lq own only.0
           ∙ came q s lq only.0 (last_step f player (at_point q)) refl);
@@ -196,7 +212,8 @@ pub record PointFacts (g : ValidGame) (c : Filter) (q round moves : ℕ) : Type 
   pub top : round ≤ length c.lists
   pub wide : length (list_of c.lists round) ≡ signal_count (frame_in g) (round_of (frame_in g) (at_point q))
 
-pub point_facts : (g : ValidGame) (c : Filter) (ps : List StoredPoint) (q : ℕ) (p : StoredPoint) → c.parents ≡ (frame_in g).parents → IsSound c → map point_of ps ≡ map own_point (frame_in g).points
+pub point_facts : (g : ValidGame) (c : Filter) (ps : List StoredPoint) (q : ℕ) (p : StoredPoint) → c.parents ≡ (frame_in g).parents → IsSound c
+    → map point_of ps ≡ map own_point (frame_in g).points
     → q < point_count (frame_in g) → p ≡ get_or ps q p → PointFacts g c q p.round (length p.moves.items)
 point_facts g c ps q p parents sound points lq is =
     let f = frame_in g in
@@ -218,7 +235,8 @@ pub record RoomFacts (f : Frame) (lists : ClassLists) (player q class first move
   pub slot : first + (class - 1) * moves ≡ slot_of f lists q class 0
   pub room : first + (class - 1) * moves + moves ≤ slot_count f lists player
 
-pub room_facts : (f : Frame) (lists : ClassLists) (player q class first moves : ℕ) → player_at f q ≡ player → moves ≡ move_count f q → first ≡ slots_before f lists player q → q < point_count f
+pub room_facts : (f : Frame) (lists : ClassLists) (player q class first moves : ℕ) → player_at f q ≡ player → moves ≡ move_count f q
+    → first ≡ slots_before f lists player q → q < point_count f
     → IsClass lists (round_of f (at_point q)) class → RoomFacts f lists player q class first moves
 room_facts f lists player q class first moves own many at lq k = record {
   slot = omega (arith, at, ap (λ p. slots_before f lists p q) own, ap (λ n. (class - 1) * n) many);
@@ -233,21 +251,25 @@ pub record IsSpreadTo (f : Frame) (lists : ClassLists) (player : ℕ) (weights s
   pub first_is : first ≡ slots_before f lists player q
   pub rows : AreSpreadBefore f lists player weights spread q
 
-pub slots_here : (f : Frame) (lists : ClassLists) (player q count moves : ℕ) → player_at f q ≡ player → count ≡ class_count lists (round_of f (at_point q)) → moves ≡ move_count f q
+pub slots_here : (f : Frame) (lists : ClassLists) (player q count moves : ℕ) → player_at f q ≡ player → count ≡ class_count lists (round_of f (at_point q))
+    → moves ≡ move_count f q
     → slots_before f lists player (q + 1) ≡ slots_before f lists player q + count * moves
 slots_here f lists player q count moves own e n =
     let test : (player_at f q == player) ≡ true = (Decides-eqb (player_at f q) player).1 own in
     let here : slots_at f lists player q ≡ class_count lists (round_of f (at_point q)) * move_count f q = rw test refl in
     omega (arith, slots_more f lists player q, here, ap (λ k. k * moves) e, ap (λ k. class_count lists (round_of f (at_point q)) * k) n)
 
-pub own_point_more : (f : Frame) (lists : ClassLists) (player : ℕ) → IsWalked f player → (weights before after : List ℕ) (first q count moves : ℕ) → q < point_count f → player_at f q ≡ player
+pub own_point_more : (f : Frame) (lists : ClassLists) (player : ℕ) → IsWalked f player → (weights before after : List ℕ) (first q count moves : ℕ)
+    → q < point_count f → player_at f q ≡ player
     → count ≡ class_count lists (round_of f (at_point q)) → moves ≡ move_count f q → IsSpreadTo f lists player weights before first q
-    → IsSpreadBehind f lists q (signal_count f (round_of f (at_point q))) weights before after → IsSpreadTo f lists player weights after (first + count * moves) (q + 1)
+    → IsSpreadBehind f lists q (signal_count f (round_of f (at_point q))) weights before after
+    → IsSpreadTo f lists player weights after (first + count * moves) (q + 1)
 own_point_more f lists player w weights before after first q count moves lq own e n h b =
     let more = before_more f lists player w weights before q lq h.long h.rows after own b in
     record { long = more.0; first_is = omega (arith, slots_here f lists player q count moves own e n, h.first_is); rows = more.1 }
 
-pub other_point_more : (f : Frame) (lists : ClassLists) (player : ℕ) → IsWalked f player → (weights before : List ℕ) (first q : ℕ) → q < point_count f → (player_at f q ≡ player → ⊥)
+pub other_point_more : (f : Frame) (lists : ClassLists) (player : ℕ) → IsWalked f player → (weights before : List ℕ) (first q : ℕ) → q < point_count f
+    → (player_at f q ≡ player → ⊥)
     → IsSpreadTo f lists player weights before first q → IsSpreadTo f lists player weights before first (q + 1)
 other_point_more f lists player w weights before first q lq other h =
     let same = before_same f lists player w weights before q lq h.long h.rows other in

@@ -39,7 +39,10 @@ in_range Leduc = (
 )
 in_range Rhode = (
   record { private = omega arith; public = omega arith; bet = (omega arith, omega arith) },
-  (record { private = omega arith; public = omega arith; bet = (omega arith, omega arith) }, (record { private = omega arith; public = omega arith; bet = (omega arith, omega arith) }, tt)),
+  (
+    record { private = omega arith; public = omega arith; bet = (omega arith, omega arith) },
+    (record { private = omega arith; public = omega arith; bet = (omega arith, omega arith) }, tt),
+  ),
 )
 
 ante_in : (kind : Kind) → (1 ≤ ante_of kind) × (ante_of kind ≤ 4096)
@@ -53,9 +56,11 @@ ranking_is Leduc = refl
 ranking_is Rhode = refl
 
 -- the lines of all rounds
-rounds_written : (cap : ℕ) (rs : List (ℕ × ℕ × ℕ)) → cap ≤ 8 → AllInRange rs → IsLinesText false true (flat_map (round_lines cap) rs) (flat_map (round_text cap) rs)
+rounds_written : (cap : ℕ) (rs : List (ℕ × ℕ × ℕ)) → cap ≤ 8 → AllInRange rs
+    → IsLinesText false true (flat_map (round_lines cap) rs) (flat_map (round_text cap) rs)
 rounds_written cap [] small few = refl
-rounds_written cap (r ∷ rs) small few = round_written cap r (flat_map (round_text cap) rs) (flat_map (round_lines cap) rs) small few.0 (rounds_written cap rs small few.1)
+rounds_written cap (r ∷ rs) small few = round_written cap r (flat_map (round_text cap) rs) (flat_map (round_lines cap) rs) small few.0
+    (rounds_written cap rs small few.1)
 
 -- the lines of a made file
 abbrev file_lines : Kind → (ranks suits : List ℕ) → ℕ → List Expression
@@ -63,7 +68,8 @@ file_lines kind ranks suits cap = head_lines ranks suits (ranking_of kind) (ante
 
 -- the table of a round, and of the file
 abbrev round_table : ℕ → ℕ × ℕ × ℕ → Data
-round_table cap r = table (member (codes "bet") (integer (pos r.2)) (member (codes "cap") (integer (pos cap)) (member (codes "private") (integer (pos r.0)) (member (codes "public") (integer (pos r.1)) no_members))))
+round_table cap r = table (member (codes "bet") (integer (pos r.2)) (member (codes "cap") (integer (pos cap))
+    (member (codes "private") (integer (pos r.0)) (member (codes "public") (integer (pos r.1)) no_members))))
 
 abbrev items_of : ℕ → List (ℕ × ℕ × ℕ) → Items
 items_of cap [] = no_items
@@ -72,10 +78,12 @@ items_of cap (r ∷ rs) = item (round_table cap r) (items_of cap rs)
 abbrev file_table : Kind → (ranks suits : List ℕ) → ℕ → Members
 file_table kind ranks suits cap =
     member (codes "ante") (integer (pos (ante_of kind))) (member (codes "ranking") (string (ranking_of kind)) (member (codes "ranks") (string ranks)
-    (member (codes "round") (array (items_of cap (rounds_of kind))) (member (codes "suits") (string suits) (member (codes "version") (integer (pos 1)) no_members)))))
+    (member (codes "round") (array (items_of cap (rounds_of kind))) (member (codes "suits") (string suits)
+    (member (codes "version") (integer (pos 1)) no_members)))))
 
 -- the lines define the table
-defined : (kind : Kind) (ranks suits : List ℕ) (cap : ℕ) → option_map (λ (doc : Document). close doc.0) (run (no_nodes, []) (file_lines kind ranks suits cap)) ≡ Some (file_table kind ranks suits cap)
+defined : (kind : Kind) (ranks suits : List ℕ) (cap : ℕ) → option_map (λ (doc : Document). close doc.0) (run (no_nodes, []) (file_lines kind ranks suits cap))
+    ≡ Some (file_table kind ranks suits cap)
 unfolding define at_key along_dots along_header
 defined Kuhn ranks suits cap = refl
 defined Leduc ranks suits cap = refl
@@ -88,8 +96,16 @@ rounds_printed cap (r ∷ rs) =
     (omega arith, ((refl, omega arith, refl), ((refl, omega arith, refl), ((refl, omega arith, refl), ((refl, omega arith, refl), rounds_printed cap rs)))))
 
 lines_printed : (kind : Kind) (ranks suits : List ℕ) (cap : ℕ) → AllPrinted (file_lines kind ranks suits cap)
-lines_printed kind ranks suits cap =
-    ((refl, omega arith, refl), ((refl, omega arith, refl), ((refl, omega arith, refl), ((refl, omega arith, refl), ((refl, omega arith, refl), rounds_printed cap (rounds_of kind))))))
+lines_printed kind ranks suits cap = (
+  (refl, omega arith, refl),
+  (
+    (refl, omega arith, refl),
+    (
+      (refl, omega arith, refl),
+      ((refl, omega arith, refl), ((refl, omega arith, refl), rounds_printed cap (rounds_of kind))),
+    ),
+  ),
+)
 
 abbrev file_text : Kind → (ranks suits : List ℕ) → ℕ → List ℕ
 file_text kind ranks suits cap = head_text ranks suits (ranking_of kind) (ante_of kind) ++ flat_map (round_text cap) (rounds_of kind)
@@ -98,17 +114,20 @@ no_mark : (kind : Kind) (ranks suits : List ℕ) (cap : ℕ) → skip_bom (file_
 unfolding skip_bom head_text
 no_mark kind ranks suits cap = refl
 
-document_of : (o : Option Document) (t : Members) → option_map (λ (doc : Document). close doc.0) o ≡ Some t → (doc : Document) × (o ≡ Some doc) × (close doc.0 ≡ t)
+document_of : (o : Option Document) (t : Members) → option_map (λ (doc : Document). close doc.0) o ≡ Some t
+    → (doc : Document) × (o ≡ Some doc) × (close doc.0 ≡ t)
 document_of None t e = cc
 document_of (Some doc) t e = (doc, refl, same_Some (close doc.0) t e)
 
-parsed : (kind : Kind) (ranks suits : List ℕ) (cap : ℕ) → IsPlain ranks → IsPlain suits → cap ≤ 8 → parse_document (file_text kind ranks suits cap) ≡ Some (file_table kind ranks suits cap)
+parsed : (kind : Kind) (ranks suits : List ℕ) (cap : ℕ) → IsPlain ranks → IsPlain suits → cap ≤ 8
+    → parse_document (file_text kind ranks suits cap) ≡ Some (file_table kind ranks suits cap)
 parsed kind ranks suits cap pr ps small =
     let es = file_lines kind ranks suits cap in
     let bytes = file_text kind ranks suits cap in
     let ante = ante_in kind in
     let rounds = rounds_written cap (rounds_of kind) small (in_range kind) in
-    let written = head_written ranks suits (ranking_of kind) (ante_of kind) (flat_map (round_text cap) (rounds_of kind)) (flat_map (round_lines cap) (rounds_of kind)) pr ps (ranking_plain kind) (omega (arith, ante)) rounds in
+    let written = head_written ranks suits (ranking_of kind) (ante_of kind) (flat_map (round_text cap) (rounds_of kind))
+    (flat_map (round_lines cap) (rounds_of kind)) pr ps (ranking_plain kind) (omega (arith, ante)) rounds in
     let read = read_lines false false es bytes bytes (no_nodes, []) (suc (length bytes)) written (lines_printed kind ranks suits cap) refl (omega arith) in
     let (doc, ran, same) = document_of (run (no_nodes, []) es) (file_table kind ranks suits cap) (defined kind ranks suits cap) in
     let whole = ap (λ t. lines (suc (length bytes)) (no_nodes, []) t) (no_mark kind ranks suits cap) ∙ read ∙ ran in
@@ -126,17 +145,22 @@ round_ascii cap r small few =
     let t_public = decimal r.1 ++ (codes "\nbet = " ++ t_bet) in
     let t_private = decimal r.0 ++ (codes "\npublic = " ++ t_public) in
     let a_cap : IsAscii t_cap = IsAscii-append (decimal cap) (codes "\n") (IsAscii-decimal cap (omega (arith, small))) (ascii (codes "\n") refl) in
-    let a_bet : IsAscii t_bet = joined (decimal r.2) (codes "\ncap = ") t_cap (IsAscii-decimal r.2 (omega (arith, few.bet))) (ascii (codes "\ncap = ") refl) a_cap in
-    let a_public : IsAscii t_public = joined (decimal r.1) (codes "\nbet = ") t_bet (IsAscii-decimal r.1 (omega (arith, few.public))) (ascii (codes "\nbet = ") refl) a_bet in
-    let a_private : IsAscii t_private = joined (decimal r.0) (codes "\npublic = ") t_public (IsAscii-decimal r.0 (omega (arith, few.private))) (ascii (codes "\npublic = ") refl) a_public in
+    let a_bet : IsAscii t_bet = joined (decimal r.2) (codes "\ncap = ") t_cap (IsAscii-decimal r.2 (omega (arith, few.bet)))
+    (ascii (codes "\ncap = ") refl) a_cap in
+    let a_public : IsAscii t_public = joined (decimal r.1) (codes "\nbet = ") t_bet (IsAscii-decimal r.1 (omega (arith, few.public)))
+    (ascii (codes "\nbet = ") refl) a_bet in
+    let a_private : IsAscii t_private = joined (decimal r.0) (codes "\npublic = ") t_public (IsAscii-decimal r.0 (omega (arith, few.private)))
+    (ascii (codes "\npublic = ") refl) a_public in
     let same : codes "\n[[round]]\nprivate = " ++ t_private ≡ round_text cap r = simp append_assoc refl in
     subst IsAscii same (IsAscii-append (codes "\n[[round]]\nprivate = ") t_private (ascii (codes "\n[[round]]\nprivate = ") refl) a_private)
 
 rounds_ascii : (cap : ℕ) (rs : List (ℕ × ℕ × ℕ)) → cap ≤ 8 → AllInRange rs → IsAscii (flat_map (round_text cap) rs)
 rounds_ascii cap [] small few = ascii [] refl
-rounds_ascii cap (r ∷ rs) small few = IsAscii-append (round_text cap r) (flat_map (round_text cap) rs) (round_ascii cap r small few.0) (rounds_ascii cap rs small few.1)
+rounds_ascii cap (r ∷ rs) small few = IsAscii-append (round_text cap r) (flat_map (round_text cap) rs) (round_ascii cap r small few.0)
+    (rounds_ascii cap rs small few.1)
 
-head_ascii : (ranks suits ranking : List ℕ) (ante : ℕ) → IsPlain ranks → IsPlain suits → IsPlain ranking → ante ≤ 4096 → IsAscii (head_text ranks suits ranking ante)
+head_ascii : (ranks suits ranking : List ℕ) (ante : ℕ) → IsPlain ranks → IsPlain suits → IsPlain ranking → ante ≤ 4096
+    → IsAscii (head_text ranks suits ranking ante)
 unfolding head_text
 head_ascii ranks suits ranking ante pr ps pk small =
     let t_ante = decimal ante ++ codes "\n" in
@@ -156,18 +180,27 @@ rounds_state cap [] small few = tt
 rounds_state cap (r ∷ rs) small few =
     let here = few.0 in (
       (
-        member (codes "bet") (integer (pos r.2)) (member (codes "cap") (integer (pos cap)) (member (codes "private") (integer (pos r.0)) (member (codes "public") (integer (pos r.1)) no_members))),
+        member (codes "bet") (integer (pos r.2)) (member (codes "cap") (integer (pos cap))
+            (member (codes "private") (integer (pos r.0)) (member (codes "public") (integer (pos r.1)) no_members))),
         refl,
         record {
           private = (integer (pos r.0), refl, (refl, omega arith, here.private));
           public = (integer (pos r.1), refl, (refl, omega arith, here.public));
-          betting = inr (r.2, cap, refl, (integer (pos r.2), refl, (refl, here.bet.0, here.bet.1)), (integer (pos cap), refl, (refl, omega arith, small)), refl);
+          betting = inr (
+            r.2,
+            cap,
+            refl,
+            (integer (pos r.2), refl, (refl, here.bet.0, here.bet.1)),
+            (integer (pos cap), refl, (refl, omega arith, small)),
+            refl,
+          );
         },
       ),
       rounds_state cap rs small few.1,
     )
 
-states : (kind : Kind) (n m cap : ℕ) → 1 ≤ n → n ≤ 13 → 1 ≤ m → m ≤ 4 → cap ≤ 8 → first_refusal (rules_of (game_for kind n m cap)) ≡ None → StatesGame (game_for kind n m cap) (file_table kind (ranks_text n) (suits_text m) cap)
+states : (kind : Kind) (n m cap : ℕ) → 1 ≤ n → n ≤ 13 → 1 ≤ m → m ≤ 4 → cap ≤ 8 → first_refusal (rules_of (game_for kind n m cap)) ≡ None
+    → StatesGame (game_for kind n m cap) (file_table kind (ranks_text n) (suits_text m) cap)
 states kind n m cap ln hn lm hm small keeps =
     let ranks = ranks_are n ln hn in
     let suits = suits_are m lm hm in
@@ -194,7 +227,15 @@ read_back kind n m cap ln hn lm hm small keeps =
     let suits = suits_are m lm hm in
     let text = file_text kind (ranks_text n) (suits_text m) cap in
     let ante = ante_in kind in
-    let is_ascii = IsAscii-append (head_text (ranks_text n) (suits_text m) (ranking_of kind) (ante_of kind)) (flat_map (round_text cap) (rounds_of kind)) (head_ascii (ranks_text n) (suits_text m) (ranking_of kind) (ante_of kind) ranks.plain suits.plain (ranking_plain kind) ante.1)
+    let is_ascii = IsAscii-append (head_text (ranks_text n) (suits_text m) (ranking_of kind) (ante_of kind)) (flat_map (round_text cap) (rounds_of kind))
+    (head_ascii (ranks_text n) (suits_text m) (ranking_of kind) (ante_of kind) ranks.plain suits.plain (ranking_plain kind) ante.1)
     (rounds_ascii cap (rounds_of kind) small (in_range kind)) in
     let utf8 = is_utf8-from_IsUtf8 text (IsUtf8-from_ascii text is_ascii) in
-    states_is text (game_for kind n m cap) (utf8, (file_table kind (ranks_text n) (suits_text m) cap, parsed kind (ranks_text n) (suits_text m) cap ranks.plain suits.plain small, states kind n m cap ln hn lm hm small keeps))
+    states_is text (game_for kind n m cap) (
+      utf8,
+      (
+        file_table kind (ranks_text n) (suits_text m) cap,
+        parsed kind (ranks_text n) (suits_text m) cap ranks.plain suits.plain small,
+        states kind n m cap ln hn lm hm small keeps,
+      ),
+    )

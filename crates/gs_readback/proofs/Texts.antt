@@ -16,7 +16,8 @@ pair_line started k v rest d es bare is more =
     (k ++ (codes " = " ++ (v ++ 10 ∷ [])), rest, simp append_assoc refl, (v, ap (λ key. key ++ (codes " = " ++ (v ++ 10 ∷ []))) (sym bare), is), more)
 
 -- a header of an element of an array of tables, before others
-header_line : (k rest : List ℕ) (es : List Expression) → key_text k ≡ k → IsLinesText false true es rest → IsLinesText false true ((([], k), array_table) ∷ es) (codes "\n[[" ++ (k ++ (codes "]]\n" ++ rest)))
+header_line : (k rest : List ℕ) (es : List Expression) → key_text k ≡ k → IsLinesText false true es rest
+    → IsLinesText false true ((([], k), array_table) ∷ es) (codes "\n[[" ++ (k ++ (codes "]]\n" ++ rest)))
 header_line k rest es bare more =
     (codes "\n[[" ++ (k ++ codes "]]\n"), rest, simp append_assoc refl, ap (λ key. codes "\n[[" ++ (key ++ codes "]]\n")) (sym bare), more)
 
@@ -58,7 +59,8 @@ private_text cap r rest = codes "private" ++ (codes " = " ++ (decimal r.0 ++ 10 
 abbrev pair : List ℕ → ℕ → Expression
 pair k n = (([], k), key_value (integer (pos n)))
 
-pub round_written : (cap : ℕ) (r : ℕ × ℕ × ℕ) (rest : List ℕ) (es : List Expression) → cap ≤ 8 → IsInRange r → IsLinesText false true es rest → IsLinesText false true (round_lines cap r ++ es) (round_text cap r ++ rest)
+pub round_written : (cap : ℕ) (r : ℕ × ℕ × ℕ) (rest : List ℕ) (es : List Expression) → cap ≤ 8 → IsInRange r → IsLinesText false true es rest
+    → IsLinesText false true (round_lines cap r ++ es) (round_text cap r ++ rest)
 unfolding round_text key_text
 round_written cap r rest es small few more =
     let e_cap = pair (codes "cap") cap ∷ es in
@@ -67,8 +69,10 @@ round_written cap r rest es small few more =
     let e_private = pair (codes "private") r.0 ∷ e_public in
     let end = pair_line true (codes "cap") (decimal cap) rest (integer (pos cap)) es refl (number_is cap (omega (arith, small))) more in
     let bet = pair_line true (codes "bet") (decimal r.2) (cap_text cap rest) (integer (pos r.2)) e_cap refl (number_is r.2 (omega (arith, few.bet))) end in
-    let public = pair_line true (codes "public") (decimal r.1) (bet_text cap r.2 rest) (integer (pos r.1)) e_bet refl (number_is r.1 (omega (arith, few.public))) bet in
-    let private = pair_line true (codes "private") (decimal r.0) (public_text cap r.2 r.1 rest) (integer (pos r.0)) e_public refl (number_is r.0 (omega (arith, few.private))) public in
+    let public = pair_line true (codes "public") (decimal r.1) (bet_text cap r.2 rest) (integer (pos r.1)) e_bet refl
+    (number_is r.1 (omega (arith, few.public))) bet in
+    let private = pair_line true (codes "private") (decimal r.0) (public_text cap r.2 r.1 rest) (integer (pos r.0)) e_public refl
+    (number_is r.0 (omega (arith, few.private))) public in
     let all = header_line (codes "round") (private_text cap r rest) e_private refl private in
     simp append_assoc all
 
@@ -94,15 +98,19 @@ word_is k text rest p =
     ap (λ t. k ++ (codes " = " ++ t)) (ap (λ t. t ++ 10 ∷ rest) p.written ∙ ap (λ t. 34 ∷ t) (append_assoc text (34 ∷ []) (10 ∷ rest)))
 
 head_is : (ranks suits ranking : List ℕ) (ante : ℕ) (rest : List ℕ) → IsPlain ranks → IsPlain suits → IsPlain ranking
-    → (codes "version = 1\n" ++ word_line (codes "ranks") ranks (word_line (codes "suits") suits (word_line (codes "ranking") ranking (ante_line ante rest)))) ≡ head_text ranks suits ranking ante ++ rest
+    → (codes "version = 1\n" ++ word_line (codes "ranks") ranks (word_line (codes "suits") suits (word_line (codes "ranking") ranking (ante_line ante rest))))
+    ≡ head_text ranks suits ranking ante ++ rest
 unfolding head_text
 head_is ranks suits ranking ante rest pr ps pk =
     let t_ranking = word_is (codes "ranking") ranking (ante_line ante rest) pk in
-    let t_suits = word_is (codes "suits") suits (word_line (codes "ranking") ranking (ante_line ante rest)) ps ∙ ap (quoted_line (codes "suits") suits) t_ranking in
-    let t_ranks = word_is (codes "ranks") ranks (word_line (codes "suits") suits (word_line (codes "ranking") ranking (ante_line ante rest))) pr ∙ ap (quoted_line (codes "ranks") ranks) t_suits in
+    let t_suits = word_is (codes "suits") suits (word_line (codes "ranking") ranking (ante_line ante rest)) ps
+    ∙ ap (quoted_line (codes "suits") suits) t_ranking in
+    let t_ranks = word_is (codes "ranks") ranks (word_line (codes "suits") suits (word_line (codes "ranking") ranking (ante_line ante rest))) pr
+    ∙ ap (quoted_line (codes "ranks") ranks) t_suits in
     ap (λ t. codes "version = 1\n" ++ t) t_ranks ∙ simp append_assoc refl
 
-pub head_written : (ranks suits ranking : List ℕ) (ante : ℕ) (rest : List ℕ) (es : List Expression) → IsPlain ranks → IsPlain suits → IsPlain ranking → ante < 2 ^ 63 → IsLinesText false true es rest
+pub head_written : (ranks suits ranking : List ℕ) (ante : ℕ) (rest : List ℕ) (es : List Expression) → IsPlain ranks → IsPlain suits → IsPlain ranking
+    → ante < 2 ^ 63 → IsLinesText false true es rest
     → IsLinesText false false (head_lines ranks suits ranking ante ++ es) (head_text ranks suits ranking ante ++ rest)
 unfolding head_text key_text
 head_written ranks suits ranking ante rest es pr ps pk small more =

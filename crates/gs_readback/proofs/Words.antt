@@ -37,18 +37,54 @@ pub ranks_are : (n : ℕ) → 1 ≤ n → n ≤ 13 → AreLetters n (ranks_text 
 unfolding string_text encoding_of escaped needs_escape quotes_after
 ranks_are zero low high = absurd (omega arith)
 ranks_are (suc zero) low high = record { plain = record { written = refl; is_ascii = ascii (ranks_text 1) refl }; long = refl; letters = refl; differ = refl }
-ranks_are (suc (suc zero)) low high = record { plain = record { written = refl; is_ascii = ascii (ranks_text 2) refl }; long = refl; letters = refl; differ = refl }
-ranks_are (suc (suc (suc zero))) low high = record { plain = record { written = refl; is_ascii = ascii (ranks_text 3) refl }; long = refl; letters = refl; differ = refl }
-ranks_are (suc (suc (suc (suc zero)))) low high = record { plain = record { written = refl; is_ascii = ascii (ranks_text 4) refl }; long = refl; letters = refl; differ = refl }
-ranks_are (suc (suc (suc (suc (suc zero))))) low high = record { plain = record { written = refl; is_ascii = ascii (ranks_text 5) refl }; long = refl; letters = refl; differ = refl }
-ranks_are (suc (suc (suc (suc (suc (suc zero)))))) low high = record { plain = record { written = refl; is_ascii = ascii (ranks_text 6) refl }; long = refl; letters = refl; differ = refl }
-ranks_are (suc (suc (suc (suc (suc (suc (suc zero))))))) low high = record { plain = record { written = refl; is_ascii = ascii (ranks_text 7) refl }; long = refl; letters = refl; differ = refl }
-ranks_are (suc (suc (suc (suc (suc (suc (suc (suc zero)))))))) low high = record { plain = record { written = refl; is_ascii = ascii (ranks_text 8) refl }; long = refl; letters = refl; differ = refl }
-ranks_are (suc (suc (suc (suc (suc (suc (suc (suc (suc zero))))))))) low high = record { plain = record { written = refl; is_ascii = ascii (ranks_text 9) refl }; long = refl; letters = refl; differ = refl }
-ranks_are (suc (suc (suc (suc (suc (suc (suc (suc (suc (suc zero)))))))))) low high = record { plain = record { written = refl; is_ascii = ascii (ranks_text 10) refl }; long = refl; letters = refl; differ = refl }
-ranks_are (suc (suc (suc (suc (suc (suc (suc (suc (suc (suc (suc zero))))))))))) low high = record { plain = record { written = refl; is_ascii = ascii (ranks_text 11) refl }; long = refl; letters = refl; differ = refl }
-ranks_are (suc (suc (suc (suc (suc (suc (suc (suc (suc (suc (suc (suc zero)))))))))))) low high = record { plain = record { written = refl; is_ascii = ascii (ranks_text 12) refl }; long = refl; letters = refl; differ = refl }
-ranks_are (suc (suc (suc (suc (suc (suc (suc (suc (suc (suc (suc (suc (suc zero))))))))))))) low high = record { plain = record { written = refl; is_ascii = ascii (ranks_text 13) refl }; long = refl; letters = refl; differ = refl }
+ranks_are (suc (suc zero)) low high = record {
+  plain = record { written = refl; is_ascii = ascii (ranks_text 2) refl };
+  long = refl;
+  letters = refl;
+  differ = refl;
+}
+ranks_are (suc (suc (suc zero))) low high = record {
+  plain = record { written = refl; is_ascii = ascii (ranks_text 3) refl };
+  long = refl;
+  letters = refl;
+  differ = refl;
+}
+ranks_are (suc (suc (suc (suc zero)))) low high = record {
+  plain = record { written = refl; is_ascii = ascii (ranks_text 4) refl };
+  long = refl;
+  letters = refl;
+  differ = refl;
+}
+ranks_are (suc (suc (suc (suc (suc zero))))) low high = record {
+  plain = record { written = refl; is_ascii = ascii (ranks_text 5) refl };
+  long = refl;
+  letters = refl;
+  differ = refl;
+}
+ranks_are (suc (suc (suc (suc (suc (suc zero)))))) low high = record {
+  plain = record { written = refl; is_ascii = ascii (ranks_text 6) refl };
+  long = refl;
+  letters = refl;
+  differ = refl;
+}
+ranks_are (suc (suc (suc (suc (suc (suc (suc zero))))))) low high = record {
+  plain = record { written = refl; is_ascii = ascii (ranks_text 7) refl };
+  long = refl;
+  letters = refl;
+  differ = refl;
+}
+ranks_are (suc (suc (suc (suc (suc (suc (suc (suc zero)))))))) low high =
+    record { plain = record { written = refl; is_ascii = ascii (ranks_text 8) refl }; long = refl; letters = refl; differ = refl }
+ranks_are (suc (suc (suc (suc (suc (suc (suc (suc (suc zero))))))))) low high =
+    record { plain = record { written = refl; is_ascii = ascii (ranks_text 9) refl }; long = refl; letters = refl; differ = refl }
+ranks_are (suc (suc (suc (suc (suc (suc (suc (suc (suc (suc zero)))))))))) low high =
+    record { plain = record { written = refl; is_ascii = ascii (ranks_text 10) refl }; long = refl; letters = refl; differ = refl }
+ranks_are (suc (suc (suc (suc (suc (suc (suc (suc (suc (suc (suc zero))))))))))) low high =
+    record { plain = record { written = refl; is_ascii = ascii (ranks_text 11) refl }; long = refl; letters = refl; differ = refl }
+ranks_are (suc (suc (suc (suc (suc (suc (suc (suc (suc (suc (suc (suc zero)))))))))))) low high =
+    record { plain = record { written = refl; is_ascii = ascii (ranks_text 12) refl }; long = refl; letters = refl; differ = refl }
+ranks_are (suc (suc (suc (suc (suc (suc (suc (suc (suc (suc (suc (suc (suc zero))))))))))))) low high =
+    record { plain = record { written = refl; is_ascii = ascii (ranks_text 13) refl }; long = refl; letters = refl; differ = refl }
 ranks_are (suc (suc (suc (suc (suc (suc (suc (suc (suc (suc (suc (suc (suc (suc n)))))))))))))) low high = absurd (omega arith)
 
 pub suits_are : (n : ℕ) → 1 ≤ n → n ≤ 4 → AreLetters n (suits_text n)
@@ -77,4 +113,12 @@ no_fault n m ranks suits a b ln hn lm hm =
     let small : length ranks * length suits ≤ 52 = rw (a.long, b.long) (few_kinds n m hn hm) in
     let some = a.long in
     let more = b.long in
-    rw (ne_eqb (length ranks) 0 (λ e. omega (arith, e, some)), ne_eqb (length suits) 0 (λ e. omega (arith, e, more)), a.letters, b.letters, a.differ, b.differ, le-ltb 52 (length ranks * length suits) small) refl
+    rw (
+      ne_eqb (length ranks) 0 (λ e. omega (arith, e, some)),
+      ne_eqb (length suits) 0 (λ e. omega (arith, e, more)),
+      a.letters,
+      b.letters,
+      a.differ,
+      b.differ,
+      le-ltb 52 (length ranks * length suits) small,
+    ) refl

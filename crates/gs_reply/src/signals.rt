@@ -21,7 +21,8 @@ pub fn unlike(
     requires last { round ≤ round_count (rules_of signals.now) }
     requires first { first < length (signals_in (rules_of signals.now) round) }
     requires second { second < length (signals_in (rules_of signals.now) round) }
-    ensures { IfOk result (λ a. Tells a (Unlike_pair round (signal_text (deck_of signals.now) (signal_at (rules_of signals.now) round first)) (signal_text (deck_of signals.now) (signal_at (rules_of signals.now) round second)))) }
+    ensures { IfOk result (λ a. Tells a (Unlike_pair round (signal_text (deck_of signals.now) (signal_at (rules_of signals.now) round first))
+        (signal_text (deck_of signals.now) (signal_at (rules_of signals.now) round second)))) }
 {
     let mut line = format!(in alloc; "unlike: round {round} ")?;
     line.push_str(signals.text(alloc, round, first)?.as_str())?;

@@ -19,12 +19,15 @@ pub enters_same : (p : Program) (l : Listing) (R S : ℕ → ℕ → ℤ) (a b :
 enters_same p l R S a b e f ag u w = elim (cases_order e f) [
   | inl s ↦ s
   | inr x ↦ elim x [
-    | inl less ↦ (let y : b e ≤ℤ pos 0 = w.least e less u.unlisted in let z : a e ≡ b e = ag.aim e (omega (arith, u.column)) in let r : pos 0 <ℤ a e = u.rises in absurd (omega (arith, linear)))
-    | inr more ↦ (let y : a f ≤ℤ pos 0 = u.least f more w.unlisted in let z : a f ≡ b f = ag.aim f (omega (arith, w.column)) in let r : pos 0 <ℤ b f = w.rises in absurd (omega (arith, linear)))
+    | inl less ↦ (let y : b e ≤ℤ pos 0 = w.least e less u.unlisted in let z : a e ≡ b e = ag.aim e (omega (arith, u.column)) in
+        let r : pos 0 <ℤ a e = u.rises in absurd (omega (arith, linear)))
+    | inr more ↦ (let y : a f ≤ℤ pos 0 = u.least f more w.unlisted in let z : a f ≡ b f = ag.aim f (omega (arith, w.column)) in
+        let r : pos 0 <ℤ b f = w.rises in absurd (omega (arith, linear)))
   ]
 ]
 
-pub leaves_same : (p : Program) (l : Listing) (R S : ℕ → ℕ → ℤ) (a b : ℕ → ℤ) (e r c s d : ℕ) → IsList p l → e < p.cols → Agree p R S a b → Leaves p l R e r c → Leaves p l S e s d → (r ≡ s) × (c ≡ d)
+pub leaves_same : (p : Program) (l : Listing) (R S : ℕ → ℕ → ℤ) (a b : ℕ → ℤ) (e r c s d : ℕ) → IsList p l → e < p.cols → Agree p R S a b → Leaves p l R e r c
+    → Leaves p l S e s d → (r ≡ s) × (c ≡ d)
 leaves_same p l R S a b e r c s d il en ag u w =
     let rm : r < p.rows = il.row_inside r c u.listed in let sm : s < p.rows = il.row_inside s d w.listed in
     let re : R r e ≡ S r e = ag.rows r e rm (omega arith) in let se : R s e ≡ S s e = ag.rows s e sm (omega arith) in
@@ -40,13 +43,16 @@ leaves_same p l R S a b e r c s d il en ag u w =
     let e2 : c ≡ d = omega arith in
     (il.one_row r s d (let P : ℕ → Type 0 = λ t. IsListed l r t in subst P e2 u.listed) w.listed, e2)
 
-pub turn_same : (p : Program) (l : Listing) (R S : ℕ → ℕ → ℤ) (a b : ℕ → ℤ) (n1 n2 : Listing) (e c f d : ℕ) → IsList p l → IsOnce l → Agree p R S a b → IsPivot p l R a n1 e c → IsPivot p l S b n2 f d → n1 ≡ n2
+pub turn_same : (p : Program) (l : Listing) (R S : ℕ → ℕ → ℤ) (a b : ℕ → ℤ) (n1 n2 : Listing) (e c f d : ℕ) → IsList p l → IsOnce l → Agree p R S a b
+    → IsPivot p l R a n1 e c → IsPivot p l S b n2 f d → n1 ≡ n2
 turn_same p l R S a b n1 n2 e c f d il once ag u w =
     let ef : e ≡ f = enters_same p l R S a b e f ag u.enters w.enters in
     let w4 : Leaves p l S e w.place.1 d = (let P : ℕ → Type 0 = λ t. Leaves p l S t w.place.1 d in subst P (sym ef) w.place.4) in
     let rs = leaves_same p l R S a b e u.place.1 c w.place.1 d il u.enters.column ag u.place.4 w4 in
-    let q : u.place.0 ≡ w.place.0 = once.place u.place.0 w.place.0 u.place.2 w.place.2 (ap (λ (t : ℕ × ℕ). t.0) u.place.3 ∙ ap (λ t. t + 1) rs.0 ∙ sym (ap (λ (t : ℕ × ℕ). t.0) w.place.3)) in
-    u.place.5 ∙ ap (λ t. slice_set l t (u.place.1 + 1, e + 1)) q ∙ ap (λ t. slice_set l w.place.0 (t + 1, e + 1)) rs.0 ∙ ap (λ t. slice_set l w.place.0 (w.place.1 + 1, t + 1)) ef ∙ sym w.place.5
+    let q : u.place.0 ≡ w.place.0 = once.place u.place.0 w.place.0 u.place.2 w.place.2 (ap (λ (t : ℕ × ℕ). t.0) u.place.3 ∙ ap (λ t. t + 1) rs.0
+    ∙ sym (ap (λ (t : ℕ × ℕ). t.0) w.place.3)) in
+    u.place.5 ∙ ap (λ t. slice_set l t (u.place.1 + 1, e + 1)) q ∙ ap (λ t. slice_set l w.place.0 (t + 1, e + 1)) rs.0
+    ∙ ap (λ t. slice_set l w.place.0 (w.place.1 + 1, t + 1)) ef ∙ sym w.place.5
 
 -- a row is listed or not
 row_or_not : (p : Program) (l : Listing) → IsFull p l → (i : ℕ) → (RowListed l i) ⊎ (RowListed l i → ⊥)
@@ -57,8 +63,10 @@ rows_agree p l R S a b f u w =
     let z = rows_same p l R S a b f.is_list f.regular (λ i. row_or_not p l f i) u w in record { rows = z.0; aim = z.1 }
 
 -- two paths of one opening have the same lists as far as both go
-pub lists_same : (p : Program) (o : Listing) (t t' : ℕ) (lists lists' : ℕ → Listing) (R R' : ℕ → ℕ → ℕ → ℤ) (a a' : ℕ → ℕ → ℤ) (e e' c c' : ℕ → ℕ) → IsOpening p o
-    → IsPath p o t (states lists R a e c) → IsPath p o t' (states lists' R' a' e' c') → (d : ℕ) → length o + d ≤ t → length o + d ≤ t' → lists (length o + d) ≡ lists' (length o + d)
+pub lists_same : (p : Program) (o : Listing) (t t' : ℕ) (lists lists' : ℕ → Listing) (R R' : ℕ → ℕ → ℕ → ℤ) (a a' : ℕ → ℕ → ℤ) (e e' c c' : ℕ → ℕ)
+    → IsOpening p o
+    → IsPath p o t (states lists R a e c) → IsPath p o t' (states lists' R' a' e' c') → (d : ℕ) → length o + d ≤ t → length o + d ≤ t'
+    → lists (length o + d) ≡ lists' (length o + d)
 lists_same p o t t' lists lists' R R' a a' e e' c c' u w w' zero h h' =
     let k : length o + 0 ≤ length o = omega arith in
     w.opens (length o + 0) h k ∙ sym (w'.opens (length o + 0) h' k)
@@ -71,12 +79,15 @@ lists_same p o t t' lists lists' R R' a a' e e' c c' u w w' (suc d) h h' =
     let ag = rows_agree p (lists k) (R k) (R' k) (a k) (a' k) f (w.rows k (omega arith)) r' in
     let Q : Listing → Type 0 = λ x. IsPivot p x (R' k) (a' k) (lists' (suc k)) (e' k) (c' k) in
     let t' = subst Q (sym s) (w'.pivots k (omega arith) (omega arith)) in
-    let n : lists (suc k) ≡ lists' (suc k) = turn_same p (lists k) (R k) (R' k) (a k) (a' k) (lists (suc k)) (lists' (suc k)) (e k) (c k) (e' k) (c' k) f.is_list f.once ag (w.pivots k (omega arith) (omega arith)) t' in
+    let n : lists (suc k) ≡ lists' (suc k) = turn_same p (lists k) (R k) (R' k) (a k) (a' k) (lists (suc k)) (lists' (suc k)) (e k) (c k) (e' k)
+    (c' k) f.is_list f.once ag (w.pivots k (omega arith) (omega arith)) t' in
     let q : suc k ≡ length o + suc d = omega arith in let T : ℕ → Type 0 = λ x. lists x ≡ lists' x in subst T q n
 
 -- and the same rows
-pub paths_agree : (p : Program) (o : Listing) (t t' : ℕ) (lists lists' : ℕ → Listing) (R R' : ℕ → ℕ → ℕ → ℤ) (a a' : ℕ → ℕ → ℤ) (e e' c c' : ℕ → ℕ) → IsOpening p o
-    → IsPath p o t (states lists R a e c) → IsPath p o t' (states lists' R' a' e' c') → (d : ℕ) → length o + d ≤ t → length o + d ≤ t' → Agree p (R (length o + d)) (R' (length o + d)) (a (length o + d)) (a' (length o + d))
+pub paths_agree : (p : Program) (o : Listing) (t t' : ℕ) (lists lists' : ℕ → Listing) (R R' : ℕ → ℕ → ℕ → ℤ) (a a' : ℕ → ℕ → ℤ) (e e' c c' : ℕ → ℕ)
+    → IsOpening p o
+    → IsPath p o t (states lists R a e c) → IsPath p o t' (states lists' R' a' e' c') → (d : ℕ) → length o + d ≤ t → length o + d ≤ t'
+    → Agree p (R (length o + d)) (R' (length o + d)) (a (length o + d)) (a' (length o + d))
 paths_agree p o t t' lists lists' R R' a a' e e' c c' u w w' d h h' =
     let k = length o + d in
     let s = lists_same p o t t' lists lists' R R' a a' e e' c c' u w w' d h h' in

@@ -24,7 +24,8 @@ abbrev pub col_of : (p : Program) (l : Listing) → IsFull p l → ℕ → ℕ
 col_of p l f i = elim (cases_lt i p.rows) [ inl h ↦ (f.all i h).0 | inr h ↦ 0 ]
 
 pub col_listed : (p : Program) (l : Listing) (f : IsFull p l) (i : ℕ) → i < p.rows → IsListed l i (col_of p l f i)
-col_listed p l f i im = elim (cases_lt i p.rows) as (λ q. IsListed l i (elim q as (λ w. ℕ) [ inl h ↦ (f.all i h).0 | inr h ↦ 0 ])) [ inl h ↦ (f.all i h).1 | inr h ↦ absurd (omega arith) ]
+col_listed p l f i im = elim (cases_lt i p.rows) as (λ q. IsListed l i (elim q as (λ w. ℕ) [ inl h ↦ (f.all i h).0 | inr h ↦ 0 ]))
+    [ inl h ↦ (f.all i h).1 | inr h ↦ absurd (omega arith) ]
 
 pub col_is : (p : Program) (l : Listing) (f : IsFull p l) (i j : ℕ) → IsListed l i j → col_of p l f i ≡ j
 col_is p l f i j h = f.is_list.one_column i (col_of p l f i) j (col_listed p l f i (f.is_list.row_inside i j h)) h
@@ -48,17 +49,30 @@ table_of p l f R a u = record {
     },
   ));
   regular = record { only = λ z off on. f.regular.only z (λ i im out. absurd (let h = f.all i im in out h)) (λ j cj. on j (in_cols p l f j cj)) };
-  apart = λ i k im km e. f.is_list.one_row i k (col_of p l f i) (col_listed p l f i im) (let P : ℕ → Type 0 = λ x. IsListed l k x in subst P (sym e) (col_listed p l f k km));
+  apart = λ i k im km e. f.is_list.one_row i k (col_of p l f i) (col_listed p l f i im) (let P : ℕ → Type 0 = λ x. IsListed l k x in
+      subst P (sym e) (col_listed p l f k km));
   inside = λ i im. f.is_list.column_inside i (col_of p l f i) (col_listed p l f i im);
 }
 
 abbrev pub RowsFeasible : Program → Listing → (ℕ → ℕ → ℤ) → Type 0
 RowsFeasible p l R = (i j : ℕ) → IsListed l i j → (IsFree p j → ⊥) → pos 0 ≤ℤ R i p.cols
 
-pub state_of : (p : Program) (l : Listing) (f : IsFull p l) (R : ℕ → ℕ → ℤ) (a : ℕ → ℤ) → IsRowsOf p l R a → RowsFeasible p l R → IsState p.rows p.cols (number p) (aim_of p) (IsFree p) (col_of p l f) R a
+pub state_of : (p : Program) (l : Listing) (f : IsFull p l) (R : ℕ → ℕ → ℤ) (a : ℕ → ℤ) → IsRowsOf p l R a → RowsFeasible p l R
+    → IsState p.rows p.cols (number p) (aim_of p) (IsFree p) (col_of p l f) R a
 state_of p l f R a u feas = record {
   table = table_of p l f R a u;
-  aim_row = (let w = u.aim_row in (w.0, w.1, record { multiple = w.2.multiple; positive = w.2.positive; each = w.2.each; side = w.2.side; others = λ k km off. absurd (off km); zeros = λ j cj. w.2.zeros j (from_cols p l f j cj) }));
+  aim_row = (let w = u.aim_row in (
+    w.0,
+    w.1,
+    record {
+      multiple = w.2.multiple;
+      positive = w.2.positive;
+      each = w.2.each;
+      side = w.2.side;
+      others = λ k km off. absurd (off km);
+      zeros = λ j cj. w.2.zeros j (from_cols p l f j cj);
+    },
+  ));
   feasible = λ i im bound. feas i (col_of p l f i) (col_listed p l f i im) bound;
   free_in = λ j jn fr. in_cols p l f j (f.free_in j jn fr);
 }
@@ -80,20 +94,24 @@ turn_of p l next f g R a e c u =
       ratio = λ i h b x. v.ratio i (col_of p l f i) (col_listed p l f i h) b x;
       tie = λ i h b x s. (let w : c ≤ col_of p l f i = v.tie i (col_of p l f i) (col_listed p l f i h) b x s in omega arith);
       entered = col_is p next g r e (let P : Listing → Type 0 = λ k. IsListed k r e in subst P (sym is) (listed_set_here p l q r c e ql at f.is_list f.once));
-      kept = λ i h ne. col_is p next g i (col_of p l f i) (let P : Listing → Type 0 = λ k. IsListed k i (col_of p l f i) in subst P (sym is) (listed_set_old p l q r c e ql at f.is_list f.once i (col_of p l f i) (col_listed p l f i h) ne));
+      kept = λ i h ne. col_is p next g i (col_of p l f i) (let P : Listing → Type 0 = λ k. IsListed k i (col_of p l f i) in
+          subst P (sym is) (listed_set_old p l q r c e ql at f.is_list f.once i (col_of p l f i) (col_listed p l f i h) ne));
     }
 
 -- the row named at each place stays
-same_row : (l : Listing) (q r c e : ℕ) → q < length l → slice_index_or l q (0, 0) ≡ (r + 1, c + 1) → (x : ℕ) → (slice_index_or l x (0, 0)).0 ≡ (slice_index_or (slice_set l q (r + 1, e + 1)) x (0, 0)).0
+same_row : (l : Listing) (q r c e : ℕ) → q < length l → slice_index_or l q (0, 0) ≡ (r + 1, c + 1) → (x : ℕ)
+    → (slice_index_or l x (0, 0)).0 ≡ (slice_index_or (slice_set l q (r + 1, e + 1)) x (0, 0)).0
 same_row l q r c e ql at x = elim (cases_eq x q) [
   | inl s ↦ (let f : slice_index_or (slice_set l q (r + 1, e + 1)) q (0, 0) ≡ (r + 1, e + 1) = get_or-set_same l q (r + 1, e + 1) (0, 0) ql in
-      let g : (slice_index_or l q (0, 0)).0 ≡ (slice_index_or (slice_set l q (r + 1, e + 1)) q (0, 0)).0 = ap (λ (w : ℕ × ℕ). w.0) at ∙ sym (ap (λ (w : ℕ × ℕ). w.0) f) in
+      let g : (slice_index_or l q (0, 0)).0 ≡ (slice_index_or (slice_set l q (r + 1, e + 1)) q (0, 0)).0 =
+      ap (λ (w : ℕ × ℕ). w.0) at ∙ sym (ap (λ (w : ℕ × ℕ). w.0) f) in
       let P : ℕ → Type 0 = λ k. (slice_index_or l k (0, 0)).0 ≡ (slice_index_or (slice_set l q (r + 1, e + 1)) k (0, 0)).0 in subst P (sym s) g)
   | inr ne ↦ ap (λ (w : ℕ × ℕ). w.0) (sym (get_or-set_other l q x (r + 1, e + 1) (0, 0) ne))
 ]
 
 -- a turn keeps a list full
-full_set : (p : Program) (l : Listing) (f : IsFull p l) (R : ℕ → ℕ → ℤ) (a : ℕ → ℤ) (q r c e : ℕ) → q < length l → slice_index_or l q (0, 0) ≡ (r + 1, c + 1) → IsRowsOf p l R a → Enters p l a e → Leaves p l R e r c → IsFull p (slice_set l q (r + 1, e + 1))
+full_set : (p : Program) (l : Listing) (f : IsFull p l) (R : ℕ → ℕ → ℤ) (a : ℕ → ℤ) (q r c e : ℕ) → q < length l → slice_index_or l q (0, 0) ≡ (r + 1, c + 1)
+    → IsRowsOf p l R a → Enters p l a e → Leaves p l R e r c → IsFull p (slice_set l q (r + 1, e + 1))
 full_set p l f R a q r c e ql at u en v =
     let next = slice_set l q (r + 1, e + 1) in
     let ch = turn_changes p l q r c e ql at f.is_list f.once en.column en.unlisted in
@@ -102,13 +120,16 @@ full_set p l f R a q r c e ql at u en v =
         row_inside = ch.row_inside;
         column_inside = λ i j h. ch.inside j (i, h);
         one_column = λ i j k h g. elim (cases_eq i r) [
-          | inl s ↦ (let P : ℕ → Type 0 = λ x. IsListed next x j in let Q : ℕ → Type 0 = λ x. IsListed next x k in ch.one_column j (subst P s h) ∙ sym (ch.one_column k (subst Q s g)))
+          | inl s ↦ (let P : ℕ → Type 0 = λ x. IsListed next x j in let Q : ℕ → Type 0 = λ x. IsListed next x k in
+              ch.one_column j (subst P s h) ∙ sym (ch.one_column k (subst Q s g)))
           | inr ne ↦ f.is_list.one_column i j k (ch.old i j h ne) (ch.old i k g ne)
         ];
         one_row = λ i k j h g. elim (cases_eq j e) [
-          | inl s ↦ (let P : ℕ → Type 0 = λ x. IsListed next i x in let Q : ℕ → Type 0 = λ x. IsListed next k x in ch.one_row i (subst P s h) ∙ sym (ch.one_row k (subst Q s g)))
+          | inl s ↦ (let P : ℕ → Type 0 = λ x. IsListed next i x in let Q : ℕ → Type 0 = λ x. IsListed next k x in
+              ch.one_row i (subst P s h) ∙ sym (ch.one_row k (subst Q s g)))
           | inr ne ↦ (let h2 : IsListed l i j = elim (listed_set_cases p l q r c e ql at f.is_list f.once i j h) [ inl w ↦ absurd (ne w.1) | inr w ↦ w.0 ] in
-              let g2 : IsListed l k j = elim (listed_set_cases p l q r c e ql at f.is_list f.once k j g) [ inl w ↦ absurd (ne w.1) | inr w ↦ w.0 ] in f.is_list.one_row i k j h2 g2)
+              let g2 : IsListed l k j = elim (listed_set_cases p l q r c e ql at f.is_list f.once k j g) [ inl w ↦ absurd (ne w.1) | inr w ↦ w.0 ] in
+              f.is_list.one_row i k j h2 g2)
         ];
       };
       once = record {
@@ -124,16 +145,20 @@ full_set p l f R a q r c e ql at u en v =
       free_in = λ j jn fr. (let h = f.free_in j jn fr in (
         h.0,
         listed_set_old p l q r c e ql at f.is_list f.once h.0 j h.1
-            (λ s. v.not_free (let P : ℕ → Type 0 = λ x. IsFree p x in subst P (f.is_list.one_column r j c (let Q : ℕ → Type 0 = λ x. IsListed l x j in subst Q s h.1) v.listed) fr)),
+            (λ s. v.not_free (let P : ℕ → Type 0 = λ x. IsFree p x in subst P (f.is_list.one_column r j c (let Q : ℕ → Type 0 = λ x. IsListed l x j in
+            subst Q s h.1) v.listed) fr)),
       ));
     }
 
-pub turn_is_full : (p : Program) (l next : Listing) (f : IsFull p l) (R : ℕ → ℕ → ℤ) (a : ℕ → ℤ) (e c : ℕ) → IsRowsOf p l R a → IsPivot p l R a next e c → IsFull p next
+pub turn_is_full : (p : Program) (l next : Listing) (f : IsFull p l) (R : ℕ → ℕ → ℤ) (a : ℕ → ℤ) (e c : ℕ) → IsRowsOf p l R a → IsPivot p l R a next e c
+    → IsFull p next
 turn_is_full p l next f R a e c u t =
-    let P : Listing → Type 0 = λ k. IsFull p k in subst P (sym t.place.5) (full_set p l f R a t.place.0 t.place.1 c e t.place.2 t.place.3 u t.enters t.place.4)
+    let P : Listing → Type 0 = λ k. IsFull p k in subst P (sym t.place.5)
+    (full_set p l f R a t.place.0 t.place.1 c e t.place.2 t.place.3 u t.enters t.place.4)
 
 -- and its rows feasible
-pub turn_is_feasible : (p : Program) (l next : Listing) (f : IsFull p l) (R S : ℕ → ℕ → ℤ) (a b : ℕ → ℤ) (e c : ℕ) → IsRowsOf p l R a → IsRowsOf p next S b → IsPivot p l R a next e c → RowsFeasible p l R → RowsFeasible p next S
+pub turn_is_feasible : (p : Program) (l next : Listing) (f : IsFull p l) (R S : ℕ → ℕ → ℤ) (a b : ℕ → ℤ) (e c : ℕ) → IsRowsOf p l R a → IsRowsOf p next S b
+    → IsPivot p l R a next e c → RowsFeasible p l R → RowsFeasible p next S
 turn_is_feasible p l next f R S a b e c u w t feas i j h bound =
     let g = turn_is_full p l next f R a e c u t in
     let st = state_of p l f R a u feas in
@@ -150,7 +175,8 @@ pub record IsTrail (p : Program) (t : ℕ) (lists : ℕ → Listing) (R : ℕ �
   pub feasible : (k : ℕ) → k ≤ t → RowsFeasible p (lists k) (R k)
   pub turn : (k : ℕ) → k < t → IsPivot p (lists k) (R k) (a k) (lists (suc k)) (e k) (c k)
 
-abbrev row_or_zero : (p : Program) (lists : ℕ → Listing) (R : ℕ → ℕ → ℕ → ℤ) (a : ℕ → ℕ → ℤ) (e c : ℕ → ℕ) (t : ℕ) → IsTrail p t lists R a e c → (k : ℕ) → (k < t) ⊎ (t ≤ k) → ℕ
+abbrev row_or_zero : (p : Program) (lists : ℕ → Listing) (R : ℕ → ℕ → ℕ → ℤ) (a : ℕ → ℕ → ℤ) (e c : ℕ → ℕ) (t : ℕ) → IsTrail p t lists R a e c → (k : ℕ)
+    → (k < t) ⊎ (t ≤ k) → ℕ
 row_or_zero p lists R a e c t w k q = elim q [ inl h ↦ (w.turn k h).place.1 | inr h ↦ 0 ]
 
 pub trail_columns_differ : (p : Program) (t : ℕ) (lists : ℕ → Listing) (R : ℕ → ℕ → ℕ → ℤ) (a : ℕ → ℕ → ℤ) (e c : ℕ → ℕ) → IsTrail p t lists R a e c → 0 < t
@@ -166,13 +192,15 @@ trail_columns_differ p t lists R a e c w turns back forth =
       ];
       turn = λ k kt. elim (cases_lt t k) as (λ q. Turns.IsPivot p.rows p.cols (IsFree p) (pick k q) (R k) (a k) (col (suc k)) (e k) (r k)) [
         | inl h ↦ absurd (omega arith)
-        | inr h ↦ elim (cases_lt t (suc k)) as (λ q. Turns.IsPivot p.rows p.cols (IsFree p) (col_of p (lists k) (w.full k h)) (R k) (a k) (pick (suc k) q) (e k) (r k)) [
-          | inl g ↦ absurd (omega arith)
-          | inr g ↦ elim (cases_lt k t) as (λ q. Turns.IsPivot p.rows p.cols (IsFree p) (col_of p (lists k) (w.full k h)) (R k) (a k) (col_of p (lists (suc k)) (w.full (suc k) g)) (e k) (row_or_zero p lists R a e c t w k q)) [
-            | inl x ↦ turn_of p (lists k) (lists (suc k)) (w.full k h) (w.full (suc k) g) (R k) (a k) (e k) (c k) (w.turn k x)
-            | inr x ↦ absurd (omega arith)
-          ]
-        ]
+        | inr h ↦ elim (cases_lt t (suc k)) as (λ q. Turns.IsPivot p.rows p.cols (IsFree p) (col_of p (lists k) (w.full k h)) (R k) (a k) (pick (suc k) q)
+            (e k) (r k)) [
+              | inl g ↦ absurd (omega arith)
+              | inr g ↦ elim (cases_lt k t) as (λ q. Turns.IsPivot p.rows p.cols (IsFree p) (col_of p (lists k) (w.full k h)) (R k) (a k)
+                  (col_of p (lists (suc k)) (w.full (suc k) g)) (e k) (row_or_zero p lists R a e c t w k q)) [
+                    | inl x ↦ turn_of p (lists k) (lists (suc k)) (w.full k h) (w.full (suc k) g) (R k) (a k) (e k) (c k) (w.turn k x)
+                    | inr x ↦ absurd (omega arith)
+                  ]
+            ]
       ];
     } in
     no_circle t p.rows p.cols (number p) (aim_of p) (IsFree p) col R a e r run

@@ -16,11 +16,13 @@ pub record IsDirection (m n : ℕ) (A : ℕ → ℕ → ℤ) (col : ℕ → ℕ)
   pub answers : (i : ℕ) → i < m → R i (col i) *ℤ u (col i) ≡ neg_ℤ (D *ℤ R i q)
   pub outside : (j : ℕ) → j < n → ((i : ℕ) → i < m → col i ≡ j → ⊥) → j ≢ q → u j ≡ pos 0
 
-pub direction_exists : (m n : ℕ) (A : ℕ → ℕ → ℤ) (col : ℕ → ℕ) (R : ℕ → ℕ → ℤ) (q : ℕ) → IsTable m n A col R → q < n → ((i : ℕ) → i < m → col i ≡ q → ⊥) → (D : ℤ) × (u : ℕ → ℤ) × IsDirection m n A col R q D u
+pub direction_exists : (m n : ℕ) (A : ℕ → ℕ → ℤ) (col : ℕ → ℕ) (R : ℕ → ℕ → ℤ) (q : ℕ) → IsTable m n A col R → q < n → ((i : ℕ) → i < m → col i ≡ q → ⊥)
+    → (D : ℤ) × (u : ℕ → ℤ) × IsDirection m n A col R q D u
 direction_exists m n A col R q T qn q_out =
     let c = common_values m (λ i. R i (col i)) (λ i. R i q) (λ i h. (T.row i h).2.own) in
     let at_col : (j : ℕ) → (InCols m col j) ⊎ ((i : ℕ) → i < m → col i ≡ j → ⊥) → ℤ = λ j f. elim f [ inl g ↦ neg_ℤ (c.1 g.0) | inr none ↦ pos 0 ] in
-    let pick : (j : ℕ) → (j ≡ q) ⊎ (j ≡ q → ⊥) → (j ≡ n) ⊎ (j ≡ n → ⊥) → ℤ = λ j w x. elim w [ inl e ↦ c.0 | inr d ↦ elim x [ inl e ↦ pos 0 | inr d ↦ at_col j (find_col m col j) ] ] in
+    let pick : (j : ℕ) → (j ≡ q) ⊎ (j ≡ q → ⊥) → (j ≡ n) ⊎ (j ≡ n → ⊥) → ℤ =
+    λ j w x. elim w [ inl e ↦ c.0 | inr d ↦ elim x [ inl e ↦ pos 0 | inr d ↦ at_col j (find_col m col j) ] ] in
     let u : ℕ → ℤ = λ j. pick j (cases_eq j q) (cases_eq j n) in
     let at_q : u q ≡ c.0 = elim (cases_eq q q) as (λ w. pick q w (cases_eq q n) ≡ c.0) [ inl e ↦ refl | inr d ↦ absurd (d refl) ] in
     let at_n : u n ≡ pos 0 = elim (cases_eq n q) as (λ w. pick n w (cases_eq n n) ≡ pos 0) [
@@ -37,7 +39,8 @@ direction_exists m n A col R q T qn q_out =
         ]
       ]
     ] in
-    let out : (j : ℕ) → j < n → ((i : ℕ) → i < m → col i ≡ j → ⊥) → j ≢ q → u j ≡ pos 0 = λ j jn none ne. elim (cases_eq j q) as (λ w. pick j w (cases_eq j n) ≡ pos 0) [
+    let out : (j : ℕ) → j < n → ((i : ℕ) → i < m → col i ≡ j → ⊥) → j ≢ q → u j ≡ pos 0 =
+    λ j jn none ne. elim (cases_eq j q) as (λ w. pick j w (cases_eq j n) ≡ pos 0) [
       | inl e ↦ absurd (ne e)
       | inr d ↦ elim (cases_eq j n) as (λ x. pick j (inr d) x ≡ pos 0) [
         | inl e ↦ refl
@@ -51,7 +54,8 @@ direction_exists m n A col R q T qn q_out =
       record {
         killed = table_solves m n A col R u T (λ i im.
             let r = T.row i im in
-            let s : sum_to n (λ j. R i j *ℤ u j) ≡ R i (col i) *ℤ u (col i) +ℤ R i q *ℤ u q = sum_two n (λ j. R i j *ℤ u j) (col i) q (T.inside i im) qn (λ w. q_out i im w)
+            let s : sum_to n (λ j. R i j *ℤ u j) ≡ R i (col i) *ℤ u (col i) +ℤ R i q *ℤ u q =
+            sum_two n (λ j. R i j *ℤ u j) (col i) q (T.inside i im) qn (λ w. q_out i im w)
             (λ j jn d g. elim (find_col m col j) [
               | inl f ↦ (ap (λ t. t *ℤ u j) (r.2.zeros j f d) ∙ zero_times (u j))
               | inr none ↦ (ap (λ t. R i j *ℤ t) (out j jn none g) ∙ times_zero (R i j))
@@ -69,7 +73,8 @@ direction_exists m n A col R q T qn q_out =
     )
 
 -- ---- a run of t turns
-pub record IsRun (t m n : ℕ) (A : ℕ → ℕ → ℤ) (aim : ℕ → ℤ) (Free : ℕ → Type 0) (col : ℕ → ℕ → ℕ) (R : ℕ → ℕ → ℕ → ℤ) (a : ℕ → ℕ → ℤ) (e r : ℕ → ℕ) : Type 0 where
+pub record IsRun (t m n : ℕ) (A : ℕ → ℕ → ℤ) (aim : ℕ → ℤ) (Free : ℕ → Type 0) (col : ℕ → ℕ → ℕ) (R : ℕ → ℕ → ℕ → ℤ) (a : ℕ → ℕ → ℤ) (e r : ℕ
+    → ℕ) : Type 0 where
   pub state : (k : ℕ) → k ≤ t → IsState m n A aim Free (col k) (R k) (a k)
   pub turn : (k : ℕ) → k < t → IsPivot m n Free (col k) (R k) (a k) (col (suc k)) (e k) (r k)
 
@@ -84,7 +89,8 @@ carried t P Q one (suc d) k h f = elim (one k (omega arith) f) [
   ]
 ]
 
-module _ (t m n : ℕ) (A : ℕ → ℕ → ℤ) (aim : ℕ → ℤ) (Free : ℕ → Type 0) (col : ℕ → ℕ → ℕ) (R : ℕ → ℕ → ℕ → ℤ) (a : ℕ → ℕ → ℤ) (e r : ℕ → ℕ) (run : IsRun t m n A aim Free col R a e r) where
+module _ (t m n : ℕ) (A : ℕ → ℕ → ℤ) (aim : ℕ → ℤ) (Free : ℕ → Type 0) (col : ℕ → ℕ → ℕ) (R : ℕ → ℕ → ℕ → ℤ) (a : ℕ → ℕ → ℤ) (e r : ℕ
+    → ℕ) (run : IsRun t m n A aim Free col R a e r) where
   abbrev In : ℕ → ℕ → Type 0
   In k j = InCols m (col k) j
 
@@ -146,7 +152,8 @@ module _ (t m n : ℕ) (A : ℕ → ℕ → ℤ) (aim : ℕ → ℤ) (Free : ℕ
     enters_too : (k : ℕ) → k < t → (l : ℕ) × (l < t) × (e l ≡ left k)
     enters_too k kt =
         let u = run.turn k kt in
-        elim (stays_out (t - suc k) (suc k) (omega arith) (left k) (left_out m n A Free (col k) (R k) (a k) (col (suc k)) (e k) (r k) (run.state k (omega arith)).table u)) [
+        elim (stays_out (t - suc k) (suc k) (omega arith) (left k) (left_out m n A Free (col k) (R k) (a k) (col (suc k)) (e k) (r k)
+        (run.state k (omega arith)).table u)) [
           | inr w ↦ w
           | inl g ↦ (let P : ℕ → Type 0 = λ x. Out x (left k) in let h : Out t (left k) = subst P (omega arith) g in
               elim (stays_out k 0 (omega arith) (left k) (λ i im q. (let f = forth (left k) (i, im, q) in h f.0 f.1 f.2))) [
@@ -164,7 +171,12 @@ greatest zero P dec j jn p = absurd (omega arith)
 greatest (suc n) P dec j jn p = elim (dec n) [
   | inl y ↦ (n, omega arith, y, λ i h x. omega arith)
   | inr z ↦ elim (cases_last j n jn) [
-    | inl less ↦ (let w = greatest n P dec j less p in (w.0, omega (arith, w.1), w.2, λ i h x. elim (cases_last i n h) [ inl l ↦ w.3 i l x | inr q ↦ absurd (z (subst P q x)) ]))
+    | inl less ↦ (let w = greatest n P dec j less p in (
+      w.0,
+      omega (arith, w.1),
+      w.2,
+      λ i h x. elim (cases_last i n h) [ inl l ↦ w.3 i l x | inr q ↦ absurd (z (subst P q x)) ],
+    ))
     | inr q ↦ absurd (z (subst P q p))
   ]
 ]
@@ -199,16 +211,20 @@ factors a b h = elim (sign_of a) [
 ]
 
 -- the direction of one turn raises the aim, so some term of it is positive in the aim's row of another list
-pub good_term : (m n : ℕ) (A : ℕ → ℕ → ℤ) (aim : ℕ → ℤ) (Free : ℕ → Type 0) (col : ℕ → ℕ) (R : ℕ → ℕ → ℤ) (a : ℕ → ℤ) (next : ℕ → ℕ) (e r : ℕ) (other : ℕ → ℕ) (S : ℕ → ℕ → ℤ) (b : ℕ → ℤ) (D : ℤ) (u : ℕ → ℤ)
-    → IsState m n A aim Free col R a → IsPivot m n Free col R a next e r → IsState m n A aim Free other S b → IsDirection m n A col R e D u → (j : ℕ) × (j < n) × (pos 0 <ℤ (b j *ℤ u j))
+pub good_term : (m n : ℕ) (A : ℕ → ℕ → ℤ) (aim : ℕ → ℤ) (Free : ℕ → Type 0) (col : ℕ → ℕ) (R : ℕ → ℕ → ℤ) (a : ℕ → ℤ) (next : ℕ → ℕ) (e r : ℕ) (other : ℕ
+    → ℕ) (S : ℕ → ℕ → ℤ) (b : ℕ → ℤ) (D : ℤ) (u : ℕ → ℤ)
+    → IsState m n A aim Free col R a → IsPivot m n Free col R a next e r → IsState m n A aim Free other S b → IsDirection m n A col R e D u
+    → (j : ℕ) × (j < n) × (pos 0 <ℤ (b j *ℤ u j))
 good_term m n A aim Free col R a next e r other S b D u st tn st' d =
     let X : ℤ = sum_to n (λ j. aim j *ℤ u j) in
     let side0 : u n ≡ neg_ℤ (pos 0) = d.side in
-    let f : a (suc n) *ℤ X ≡ a e *ℤ u e +ℤ pos 0 *ℤ a n = aim_at_two m n A (AllRows m) col aim st.aim_row.0 st.aim_row.1 a u (pos 0) e st.aim_row.2 d.killed side0 tn.column d.outside in
+    let f : a (suc n) *ℤ X ≡ a e *ℤ u e +ℤ pos 0 *ℤ a n = aim_at_two m n A (AllRows m) col aim st.aim_row.0 st.aim_row.1 a u
+    (pos 0) e st.aim_row.2 d.killed side0 tn.column d.outside in
     let du : u e ≡ D = d.rises in let dp : pos 0 <ℤ D = d.positive in
     let rise : pos 0 <ℤ (a e *ℤ u e) = times_pos (a e) (u e) tn.rises (omega (arith, linear)) in
     let up_X : pos 0 <ℤ X = cancel_pos (a (suc n)) X st.aim_row.2.multiple (omega (arith, linear, zero_times (a n))) in
-    let h : b (suc n) *ℤ X ≡ sum_to n (λ j. b j *ℤ u j) -ℤ b n *ℤ u n = aim_dot m n A (AllRows m) (InCols m other) aim st'.aim_row.0 st'.aim_row.1 b u st'.aim_row.2 d.killed in
+    let h : b (suc n) *ℤ X ≡ sum_to n (λ j. b j *ℤ u j) -ℤ b n *ℤ u n = aim_dot m n A (AllRows m)
+    (InCols m other) aim st'.aim_row.0 st'.aim_row.1 b u st'.aim_row.2 d.killed in
     let z : b n *ℤ u n ≡ pos 0 = ap (λ x. b n *ℤ x) d.side ∙ times_zero (b n) in
     let muX : pos 0 <ℤ (b (suc n) *ℤ X) = times_pos (b (suc n)) X st'.aim_row.2.multiple up_X in
     positive_term n (λ j. b j *ℤ u j) (omega (arith, linear))
@@ -216,7 +232,8 @@ good_term m n A aim Free col R a next e r other S b D u st tn st' d =
 -- column g leaves in one turn and enters in another, as the greatest column that moves, and no value changes: that cannot be
 pub two_turns : (m n : ℕ) (A : ℕ → ℕ → ℤ) (aim : ℕ → ℤ) (Free : ℕ → Type 0) (col : ℕ → ℕ) (R : ℕ → ℕ → ℤ) (a : ℕ → ℤ) (next : ℕ → ℕ) (e r : ℕ)
     (other : ℕ → ℕ) (S : ℕ → ℕ → ℤ) (b : ℕ → ℤ) (next' : ℕ → ℕ) (e' r' : ℕ) (D V : ℤ) (u v : ℕ → ℤ) (j : ℕ)
-    → IsState m n A aim Free col R a → IsPivot m n Free col R a next e r → IsState m n A aim Free other S b → IsPivot m n Free other S b next' e' r' → IsDirection m n A col R e D u → IsBasic m n A col V v
+    → IsState m n A aim Free col R a → IsPivot m n Free col R a next e r → IsState m n A aim Free other S b → IsPivot m n Free other S b next' e' r'
+    → IsDirection m n A col R e D u → IsBasic m n A col V v
     → col r ≡ e' → v (col r) ≡ pos 0 → j < n → pos 0 <ℤ (b j *ℤ u j) → ((i : ℕ) → i < m → other i ≡ j → ⊥) → j ≤ col r → v j ≡ pos 0 → ⊥
 two_turns m n A aim Free col R a next e r other S b next' e' r' D V u v j st tn st' tn' d w g vg jn good out low vj =
     let dp : pos 0 <ℤ D = d.positive in
@@ -224,11 +241,13 @@ two_turns m n A aim Free col R a next e r other S b next' e' r' D V u v j st tn 
     (let own : pos 0 <ℤ R i (col i) = (st.table.row i im).2.own in
     let f : R i (col i) *ℤ u (col i) ≡ neg_ℤ (D *ℤ R i e) = d.answers i im in
     let y : pos 0 <ℤ (D *ℤ R i e) = times_pos D (R i e) dp x in
-    let k : pos 0 <ℤ (R i (col i) *ℤ neg_ℤ (u (col i))) = (let q : R i (col i) *ℤ neg_ℤ (u (col i)) ≡ neg_ℤ (R i (col i) *ℤ u (col i)) = times_neg (R i (col i)) (u (col i)) in omega (arith, linear)) in
+    let k : pos 0 <ℤ (R i (col i) *ℤ neg_ℤ (u (col i))) = (let q : R i (col i) *ℤ neg_ℤ (u (col i)) ≡ neg_ℤ (R i (col i) *ℤ u (col i)) =
+    times_neg (R i (col i)) (u (col i)) in omega (arith, linear)) in
     let l : pos 0 <ℤ neg_ℤ (u (col i)) = cancel_pos (R i (col i)) (neg_ℤ (u (col i))) own k in omega (arith, linear)) in
     elim (factors (b j) (u j) good) [
       | inl both ↦ elim (cases_eq j e') [
-        | inl same ↦ (let x : u (col r) <ℤ pos 0 = at_g r tn.row tn.pivot in let q : u j ≡ u (col r) = ap u (same ∙ sym g) in let y : pos 0 <ℤ u j = both.1 in absurd (omega (arith, linear)))
+        | inl same ↦ (let x : u (col r) <ℤ pos 0 = at_g r tn.row tn.pivot in let q : u j ≡ u (col r) = ap u (same ∙ sym g) in let y : pos 0 <ℤ u j = both.1 in
+            absurd (omega (arith, linear)))
         | inr ne ↦ (let x : b j ≤ℤ pos 0 = tn'.least j (omega arith) out in let y : pos 0 <ℤ b j = both.0 in absurd (omega (arith, linear)))
       ]
       | inr both ↦ (let neg_b : b j <ℤ pos 0 = both.0 in let neg_u : u j <ℤ pos 0 = both.1 in
@@ -245,9 +264,12 @@ two_turns m n A aim Free col R a next e r other S b next' e' r' D V u v j st tn 
                   let k2 : R i (col i) *ℤ neg_ℤ (u (col i)) ≡ neg_ℤ (R i (col i) *ℤ u (col i)) = times_neg (R i (col i)) (u (col i)) in
                   let Rie : pos 0 <ℤ R i e = cancel_pos D (R i e) dp (omega (arith, linear)) in
                   let bound : Free (col i) → ⊥ = λ fr. (let P : ℕ → Type 0 = λ x. Free x in let h = st'.free_in j jn (subst P c.2 fr) in out h.0 h.1 h.2) in
-                  let ri : R i n ≡ pos 0 = cancel_zero V (R i n) w.positive (sym (row_at_basic m n A col R V v st.table w i im) ∙ ap (λ x. R i (col i) *ℤ x) (ap v c.2 ∙ vj) ∙ times_zero (R i (col i))) in
-                  let rr : R r n ≡ pos 0 = cancel_zero V (R r n) w.positive (sym (row_at_basic m n A col R V v st.table w r tn.row) ∙ ap (λ x. R r (col r) *ℤ x) vg ∙ times_zero (R r (col r))) in
-                  let tied : R r n *ℤ R i e ≡ R i n *ℤ R r e = ap (λ x. x *ℤ R i e) rr ∙ zero_times (R i e) ∙ sym (ap (λ x. x *ℤ R r e) ri ∙ zero_times (R r e)) in
+                  let ri : R i n ≡ pos 0 = cancel_zero V (R i n) w.positive (sym (row_at_basic m n A col R V v st.table w i im)
+                  ∙ ap (λ x. R i (col i) *ℤ x) (ap v c.2 ∙ vj) ∙ times_zero (R i (col i))) in
+                  let rr : R r n ≡ pos 0 = cancel_zero V (R r n) w.positive (sym (row_at_basic m n A col R V v st.table w r tn.row)
+                  ∙ ap (λ x. R r (col r) *ℤ x) vg ∙ times_zero (R r (col r))) in
+                  let tied : R r n *ℤ R i e ≡ R i n *ℤ R r e = ap (λ x. x *ℤ R i e) rr ∙ zero_times (R i e)
+                  ∙ sym (ap (λ x. x *ℤ R r e) ri ∙ zero_times (R r e)) in
                   let least : col r ≤ col i = tn.tie i im bound Rie tied in
                   let s : u (col r) <ℤ pos 0 = at_g r tn.row tn.pivot in
                   let je : j ≡ e' = omega (arith, c.2) in
@@ -256,7 +278,8 @@ two_turns m n A aim Free col R a next e r other S b next' e' r' D V u v j st tn 
           ])
     ]
 
-module _ (t m n : ℕ) (A : ℕ → ℕ → ℤ) (aim : ℕ → ℤ) (Free : ℕ → Type 0) (col : ℕ → ℕ → ℕ) (R : ℕ → ℕ → ℕ → ℤ) (a : ℕ → ℕ → ℤ) (e r : ℕ → ℕ) (run : IsRun t m n A aim Free col R a e r) where
+module _ (t m n : ℕ) (A : ℕ → ℕ → ℤ) (aim : ℕ → ℤ) (Free : ℕ → Type 0) (col : ℕ → ℕ → ℕ) (R : ℕ → ℕ → ℕ → ℤ) (a : ℕ → ℕ → ℤ) (e r : ℕ
+    → ℕ) (run : IsRun t m n A aim Free col R a e r) where
   abbrev mu : ℕ → ℤ
   mu k = a k (suc n)
 
@@ -265,17 +288,25 @@ module _ (t m n : ℕ) (A : ℕ → ℕ → ℤ) (aim : ℕ → ℤ) (Free : ℕ
 
   -- the aim's value does not fall along the run
   rises_along : (d k : ℕ) → k + d ≤ t → (a k n *ℤ mu (k + d)) ≤ℤ (a (k + d) n *ℤ mu k)
-  rises_along zero k h = (let P : ℕ → Type 0 = λ x. (a k n *ℤ mu x) ≤ℤ (a x n *ℤ mu k) in let z : P k = omega (arith, linear) in let q : k ≡ k + 0 = omega arith in subst P q z)
+  rises_along zero k h = (let P : ℕ → Type 0 = λ x. (a k n *ℤ mu x) ≤ℤ (a x n *ℤ mu k) in let z : P k = omega (arith, linear) in
+      let q : k ≡ k + 0 = omega arith in subst P q z)
   rises_along (suc d) k h =
-      let f : (a k n *ℤ mu (suc k)) ≤ℤ (a (suc k) n *ℤ mu k) = aim_not_falls m n A aim Free (col k) (R k) (a k) (col (suc k)) (R (suc k)) (a (suc k)) (e k) (r k) (run.state k (omega arith)) (run.turn k (omega arith)) (run.state (suc k) (omega arith)) in
+      let f : (a k n *ℤ mu (suc k)) ≤ℤ (a (suc k) n *ℤ mu k) = aim_not_falls m n A aim Free (col k) (R k) (a k) (col (suc k)) (R (suc k)) (a (suc k)) (e k)
+      (r k) (run.state k (omega arith)) (run.turn k (omega arith)) (run.state (suc k) (omega arith)) in
       let g : (a (suc k) n *ℤ mu (suc k + d)) ≤ℤ (a (suc k + d) n *ℤ mu (suc k)) = rises_along d (suc k) (omega arith) in
       let w : (a k n *ℤ mu (suc k + d)) ≤ℤ (a (suc k + d) n *ℤ mu k) =
-      cross_trans (a k n) (mu k) (a (suc k) n) (mu (suc k)) (a (suc k + d) n) (mu (suc k + d)) (mu_pos k (omega arith)) (mu_pos (suc k) (omega arith)) (mu_pos (suc k + d) (omega arith)) f g in
+      cross_trans (a k n) (mu k) (a (suc k) n) (mu (suc k)) (a (suc k + d) n) (mu (suc k + d)) (mu_pos k (omega arith)) (mu_pos (suc k) (omega arith))
+      (mu_pos (suc k + d) (omega arith)) f g in
       let P : ℕ → Type 0 = λ x. (a k n *ℤ mu x) ≤ℤ (a x n *ℤ mu k) in subst P (omega arith) w
 
   module _ (back : (j : ℕ) → InCols m (col t) j → InCols m (col 0) j) (forth : (j : ℕ) → InCols m (col 0) j → InCols m (col t) j) where
     first_basic : (D : ℤ) (v : ℕ → ℤ) → IsBasic m n A (col t) D v → IsBasic m n A (col 0) D v
-    first_basic D v w = record { killed = w.killed; side = w.side; positive = w.positive; outside = λ j jn none. w.outside j jn (λ i im q. (let f = back j (i, im, q) in none f.0 f.1 f.2)) }
+    first_basic D v w = record {
+      killed = w.killed;
+      side = w.side;
+      positive = w.positive;
+      outside = λ j jn none. w.outside j jn (λ i im q. (let f = back j (i, im, q) in none f.0 f.1 f.2));
+    }
 
     -- the aim's values at both ends are one
     ends_meet : a t n *ℤ mu 0 ≡ a 0 n *ℤ mu t
@@ -295,17 +326,22 @@ module _ (t m n : ℕ) (A : ℕ → ℕ → ℤ) (aim : ℕ → ℤ) (Free : ℕ
     -- so no turn raises it
     level : (k : ℕ) → k < t → (a (suc k) n *ℤ mu k) ≤ℤ (a k n *ℤ mu (suc k))
     level k kt =
-        let u : (a (suc k) n *ℤ mu t) ≤ℤ (a t n *ℤ mu (suc k)) = (let P : ℕ → Type 0 = λ x. (a (suc k) n *ℤ mu x) ≤ℤ (a x n *ℤ mu (suc k)) in subst P (omega arith) (rises_along (t - suc k) (suc k) (omega arith))) in
-        let l : (a 0 n *ℤ mu k) ≤ℤ (a k n *ℤ mu 0) = (let P : ℕ → Type 0 = λ x. (a 0 n *ℤ mu x) ≤ℤ (a x n *ℤ mu 0) in let q : 0 + k ≡ k = omega arith in subst P q (rises_along k 0 (omega arith))) in
+        let u : (a (suc k) n *ℤ mu t) ≤ℤ (a t n *ℤ mu (suc k)) = (let P : ℕ → Type 0 = λ x. (a (suc k) n *ℤ mu x) ≤ℤ (a x n *ℤ mu (suc k)) in
+        subst P (omega arith) (rises_along (t - suc k) (suc k) (omega arith))) in
+        let l : (a 0 n *ℤ mu k) ≤ℤ (a k n *ℤ mu 0) = (let P : ℕ → Type 0 = λ x. (a 0 n *ℤ mu x) ≤ℤ (a x n *ℤ mu 0) in let q : 0 + k ≡ k = omega arith in
+        subst P q (rises_along k 0 (omega arith))) in
         let x : (a (suc k) n *ℤ mu 0) ≤ℤ (a 0 n *ℤ mu (suc k)) =
-        cross_trans (a (suc k) n) (mu (suc k)) (a t n) (mu t) (a 0 n) (mu 0) (mu_pos (suc k) (omega arith)) (mu_pos t (omega arith)) (mu_pos 0 (omega arith)) u (omega (arith, linear, ends_meet)) in
-        cross_trans (a (suc k) n) (mu (suc k)) (a 0 n) (mu 0) (a k n) (mu k) (mu_pos (suc k) (omega arith)) (mu_pos 0 (omega arith)) (mu_pos k (omega arith)) x l
+        cross_trans (a (suc k) n) (mu (suc k)) (a t n) (mu t) (a 0 n) (mu 0) (mu_pos (suc k) (omega arith)) (mu_pos t (omega arith))
+        (mu_pos 0 (omega arith)) u (omega (arith, linear, ends_meet)) in
+        cross_trans (a (suc k) n) (mu (suc k)) (a 0 n) (mu 0) (a k n) (mu k) (mu_pos (suc k) (omega arith)) (mu_pos 0 (omega arith))
+        (mu_pos k (omega arith)) x l
 
     -- so one vector is basic for every list of the run
     basic_all : (D : ℤ) (v : ℕ → ℤ) → IsBasic m n A (col t) D v → (d k : ℕ) → k + d ≡ t → IsBasic m n A (col k) D v
     basic_all D v w zero k h = (let P : ℕ → Type 0 = λ x. IsBasic m n A (col x) D v in subst P (omega arith) w)
     basic_all D v w (suc d) k h =
-        basic_back m n A aim Free (col k) (R k) (a k) (col (suc k)) (R (suc k)) (a (suc k)) (e k) (r k) D v (run.state k (omega arith)) (run.turn k (omega arith)) (run.state (suc k) (omega arith))
+        basic_back m n A aim Free (col k) (R k) (a k) (col (suc k)) (R (suc k)) (a (suc k)) (e k) (r k) D v (run.state k (omega arith))
+        (run.turn k (omega arith)) (run.state (suc k) (omega arith))
         (basic_all D v w d (suc k) (omega arith)) (level k (omega arith))
 
     abbrev moves : ℕ → Type 0
@@ -323,10 +359,12 @@ module _ (t m n : ℕ) (A : ℕ → ℕ → ℤ) (aim : ℕ → ℤ) (Free : ℕ
     -- a column that moves has the value 0
     still : (D : ℤ) (v : ℕ → ℤ) → IsBasic m n A (col t) D v → (j : ℕ) → j < n → moves j → v j ≡ pos 0
     still D v w j jn (inl x) = (basic_all D v w (t - suc x.0) (suc x.0) (omega (arith, x.1))).outside j jn
-        (λ i im s. left_out m n A Free (col x.0) (R x.0) (a x.0) (col (suc x.0)) (e x.0) (r x.0) (run.state x.0 (omega (arith, x.1))).table (run.turn x.0 x.1) i im (s ∙ sym x.2))
+        (λ i im s. left_out m n A Free (col x.0) (R x.0) (a x.0) (col (suc x.0)) (e x.0) (r x.0) (run.state x.0 (omega (arith, x.1))).table
+        (run.turn x.0 x.1) i im (s ∙ sym x.2))
     still D v w j jn (inr x) = (basic_all D v w (t - x.0) x.0 (omega (arith, x.1))).outside j jn (λ i im s. (run.turn x.0 x.1).unlisted i im (s ∙ sym x.2))
 
-    ends : (p q : ℕ) → p < t → q < t → (V : ℤ) (v : ℕ → ℤ) → IsBasic m n A (col t) V v → (D : ℤ) (u : ℕ → ℤ) → IsDirection m n A (col p) (R p) (e p) D u → (j : ℕ) → j < n → pos 0 <ℤ (a q j *ℤ u j)
+    ends : (p q : ℕ) → p < t → q < t → (V : ℤ) (v : ℕ → ℤ) → IsBasic m n A (col t) V v → (D : ℤ) (u : ℕ → ℤ) → IsDirection m n A (col p) (R p) (e p) D u
+        → (j : ℕ) → j < n → pos 0 <ℤ (a q j *ℤ u j)
         → (g : ℕ) → col p (r p) ≡ g → e q ≡ g → ((i : ℕ) → i < n → moves i → i ≤ g) → ⊥
     ends p q pt qt V v w D u d j jn good g leaves enters top =
         let sp = run.state p (omega arith) in let tp = run.turn p pt in let sq = run.state q (omega arith) in let tq = run.turn q qt in
@@ -336,14 +374,18 @@ module _ (t m n : ℕ) (A : ℕ → ℕ → ℤ) (aim : ℕ → ℤ) (Free : ℕ
           | inl s ↦ inr (p, pt, sym s)
           | inr ne ↦ elim (find_col m (col p) j) [
             | inl c ↦ changed t m n A aim Free col R a e r run p q (omega arith) (omega arith) j c out_q
-            | inr none ↦ (let y : u j ≡ pos 0 = d.outside j jn none ne in let y2 : a q j *ℤ u j ≡ pos 0 = ap (λ x. a q j *ℤ x) y ∙ times_zero (a q j) in absurd (omega (arith, linear)))
+            | inr none ↦ (let y : u j ≡ pos 0 = d.outside j jn none ne in let y2 : a q j *ℤ u j ≡ pos 0 = ap (λ x. a q j *ℤ x) y ∙ times_zero (a q j) in
+                absurd (omega (arith, linear)))
           ]
         ] in
-        two_turns m n A aim Free (col p) (R p) (a p) (col (suc p)) (e p) (r p) (col q) (R q) (a q) (col (suc q)) (e q) (r q) D V u v j sp tp sq tq d (basic_all V v w (t - p) p (omega arith))
-        (leaves ∙ sym enters) (still V v w (col p (r p)) (sp.table.inside (r p) tp.row) (inl (p, pt, refl))) jn good out_q (let b : j ≤ g = top j jn mj in omega arith) (still V v w j jn mj)
+        two_turns m n A aim Free (col p) (R p) (a p) (col (suc p)) (e p) (r p) (col q) (R q) (a q) (col (suc q)) (e q) (r q) D V u v j sp tp sq tq d
+        (basic_all V v w (t - p) p (omega arith))
+        (leaves ∙ sym enters) (still V v w (col p (r p)) (sp.table.inside (r p) tp.row) (inl (p, pt, refl))) jn good out_q (let b : j ≤ g = top j jn mj in
+        omega arith) (still V v w j jn mj)
 
     -- g leaves in turn p and enters in turn q, and no column above it moves
-    no_two : (turns : 0 < t) (D : ℤ) (v : ℕ → ℤ) → IsBasic m n A (col t) D v → (g p q : ℕ) → p < t → q < t → col p (r p) ≡ g → e q ≡ g → ((i : ℕ) → i < n → moves i → i ≤ g) → ⊥
+    no_two : (turns : 0 < t) (D : ℤ) (v : ℕ → ℤ) → IsBasic m n A (col t) D v → (g p q : ℕ) → p < t → q < t → col p (r p) ≡ g → e q ≡ g
+        → ((i : ℕ) → i < n → moves i → i ≤ g) → ⊥
     no_two turns D v w g p q pt qt leaves enters top =
         let sp = run.state p (omega arith) in let tp = run.turn p pt in let sq = run.state q (omega arith) in let tq = run.turn q qt in
         let d = direction_exists m n A (col p) (R p) (e p) sp.table tp.column tp.unlisted in
@@ -351,8 +393,10 @@ module _ (t m n : ℕ) (A : ℕ → ℕ → ℤ) (aim : ℕ → ℤ) (Free : ℕ
         ends p q pt qt D v w d.0 d.1 d.2 some.0 some.1 some.2 g leaves enters top
 
     both : (turns : 0 < t) (D : ℤ) (v : ℕ → ℤ) → IsBasic m n A (col t) D v → (g : ℕ) → moves g → ((i : ℕ) → i < n → moves i → i ≤ g) → ⊥
-    both turns D v w g (inl x) top = (let y = enters_too t m n A aim Free col R a e r run turns back forth x.0 x.1 in no_two turns D v w g x.0 y.0 x.1 y.1 x.2 (y.2 ∙ x.2) top)
-    both turns D v w g (inr x) top = (let y = leaves_too t m n A aim Free col R a e r run turns back forth x.0 x.1 in no_two turns D v w g y.0 x.0 y.1 x.1 (y.2 ∙ x.2) x.2 top)
+    both turns D v w g (inl x) top = (let y = enters_too t m n A aim Free col R a e r run turns back forth x.0 x.1 in
+        no_two turns D v w g x.0 y.0 x.1 y.1 x.2 (y.2 ∙ x.2) top)
+    both turns D v w g (inr x) top = (let y = leaves_too t m n A aim Free col R a e r run turns back forth x.0 x.1 in
+        no_two turns D v w g y.0 x.0 y.1 x.1 (y.2 ∙ x.2) x.2 top)
 
     -- no run of at least one turn comes back to the listed columns that it began with
     pub no_circle : 0 < t → ⊥

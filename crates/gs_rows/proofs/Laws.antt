@@ -12,7 +12,8 @@ use Rattle.gs_rows.proofs.Circle.{IsDirection, direction_exists}
 use lib.IntN.{*ℤ_comm}
 
 -- two aim's rows of one list are proportional
-pub aim_proportional : (m n : ℕ) (A : ℕ → ℕ → ℤ) (RowIn ColIn : ℕ → Type 0) (aim : ℕ → ℤ) (s t : ℤ) (y z a b : ℕ → ℤ) → IsRegular m A RowIn ColIn → ((j : ℕ) → ColIn j → j < n)
+pub aim_proportional : (m n : ℕ) (A : ℕ → ℕ → ℤ) (RowIn ColIn : ℕ → Type 0) (aim : ℕ → ℤ) (s t : ℤ) (y z a b : ℕ → ℤ) → IsRegular m A RowIn ColIn
+    → ((j : ℕ) → ColIn j → j < n)
     → IsAimRow m n A RowIn ColIn aim s y a → IsAimRow m n A RowIn ColIn aim t z b → (j : ℕ) → j ≤ suc n → b (suc n) *ℤ a j ≡ a (suc n) *ℤ b j
 aim_proportional m n A RowIn ColIn aim s t y z a b reg inside f g =
     let M : ℤ = b (suc n) in let N : ℤ = a (suc n) in
@@ -23,17 +24,22 @@ aim_proportional m n A RowIn ColIn aim s t y z a b reg inside f g =
     sum_mix m (M *ℤ t) (N *ℤ s) y z (λ i. A i j) ∙ rw (← p, ← q) (simp ring (omega (arith, linear)))) in
     let w : (i : ℕ) → i < m → (M *ℤ t) *ℤ y i -ℤ (N *ℤ s) *ℤ z i ≡ pos 0 = reg.only (λ i. (M *ℤ t) *ℤ y i -ℤ (N *ℤ s) *ℤ z i)
     (λ i im out. let c : y i ≡ pos 0 = f.others i im out in let d : z i ≡ pos 0 = g.others i im out in rw (c, d) (simp ring (omega (arith, linear))))
-    (λ j cj. let c : a j ≡ pos 0 = f.zeros j cj in let d : b j ≡ pos 0 = g.zeros j cj in at j (inside j cj) ∙ rw (c, d) (simp ring (omega (arith, linear)))) in
-    let none : (j : ℕ) → sum_to m (λ i. ((M *ℤ t) *ℤ y i -ℤ (N *ℤ s) *ℤ z i) *ℤ A i j) ≡ pos 0 = λ j. sum_zero m (λ i. ((M *ℤ t) *ℤ y i -ℤ (N *ℤ s) *ℤ z i) *ℤ A i j) (λ i im. ap (λ x. x *ℤ A i j) (w i im) ∙ zero_times (A i j)) in
+    (λ j cj. let c : a j ≡ pos 0 = f.zeros j cj in let d : b j ≡ pos 0 = g.zeros j cj in
+    at j (inside j cj) ∙ rw (c, d) (simp ring (omega (arith, linear)))) in
+    let none : (j : ℕ) → sum_to m (λ i. ((M *ℤ t) *ℤ y i -ℤ (N *ℤ s) *ℤ z i) *ℤ A i j) ≡ pos 0 =
+    λ j. sum_zero m (λ i. ((M *ℤ t) *ℤ y i -ℤ (N *ℤ s) *ℤ z i) *ℤ A i j) (λ i im. ap (λ x. x *ℤ A i j) (w i im) ∙ zero_times (A i j)) in
     λ j jn. elim (cases_eq j (suc n)) [
       | inl e ↦ (let P : ℕ → Type 0 = λ k. M *ℤ a k ≡ N *ℤ b k in subst P (sym e) (*ℤ_comm M N))
       | inr ne ↦ elim (cases_eq j n) [
         | inl e ↦ (let p : s *ℤ a n ≡ sum_to m (λ i. y i *ℤ A i n) = f.side in let q : t *ℤ b n ≡ sum_to m (λ i. z i *ℤ A i n) = g.side in
-            let k : (M *ℤ t) *ℤ (s *ℤ a n) -ℤ (N *ℤ s) *ℤ (t *ℤ b n) ≡ pos 0 = ap (λ x. (M *ℤ t) *ℤ x -ℤ (N *ℤ s) *ℤ (t *ℤ b n)) p ∙ ap (λ x. (M *ℤ t) *ℤ sum_to m (λ i. y i *ℤ A i n) -ℤ (N *ℤ s) *ℤ x) q ∙ sym (sum_mix m (M *ℤ t) (N *ℤ s) y z (λ i. A i n)) ∙ none n in
+            let k : (M *ℤ t) *ℤ (s *ℤ a n) -ℤ (N *ℤ s) *ℤ (t *ℤ b n) ≡ pos 0 =
+            ap (λ x. (M *ℤ t) *ℤ x -ℤ (N *ℤ s) *ℤ (t *ℤ b n)) p ∙ ap (λ x. (M *ℤ t) *ℤ sum_to m (λ i. y i *ℤ A i n) -ℤ (N *ℤ s) *ℤ x) q
+            ∙ sym (sum_mix m (M *ℤ t) (N *ℤ s) y z (λ i. A i n)) ∙ none n in
             let l : (s *ℤ t) *ℤ (M *ℤ a n -ℤ N *ℤ b n) ≡ (M *ℤ t) *ℤ (s *ℤ a n) -ℤ (N *ℤ s) *ℤ (t *ℤ b n) = simp ring in
             let o : M *ℤ a n -ℤ N *ℤ b n ≡ pos 0 = cancel_zero (s *ℤ t) (M *ℤ a n -ℤ N *ℤ b n) st (l ∙ k) in
             let P : ℕ → Type 0 = λ k. M *ℤ a k ≡ N *ℤ b k in subst P (sym e) (omega (arith, linear)))
-        | inr d ↦ (let o : N *ℤ b j -ℤ M *ℤ a j ≡ pos 0 = cancel_zero (s *ℤ t) (N *ℤ b j -ℤ M *ℤ a j) st (sym (at j (omega arith)) ∙ none j) in omega (arith, linear))
+        | inr d ↦ (let o : N *ℤ b j -ℤ M *ℤ a j ≡ pos 0 = cancel_zero (s *ℤ t) (N *ℤ b j -ℤ M *ℤ a j) st (sym (at j (omega arith)) ∙ none j) in
+            omega (arith, linear))
       ]
     ]
 
@@ -90,7 +96,8 @@ unbounded_from m n A aim Free col R a e D C v u st un vb d N =
     let Cp : pos 0 <ℤ C = d.positive in
     let ue : u e ≡ C = d.rises in
     let side0 : u n ≡ neg_ℤ (pos 0) = d.side in
-    let f : a (suc n) *ℤ X ≡ a e *ℤ u e +ℤ pos 0 *ℤ a n = aim_at_two m n A (AllRows m) col aim st.aim_row.0 st.aim_row.1 a u (pos 0) e st.aim_row.2 d.killed side0 un.column d.outside in
+    let f : a (suc n) *ℤ X ≡ a e *ℤ u e +ℤ pos 0 *ℤ a n = aim_at_two m n A (AllRows m) col aim st.aim_row.0 st.aim_row.1 a u
+    (pos 0) e st.aim_row.2 d.killed side0 un.column d.outside in
     let rise : pos 0 <ℤ (a e *ℤ u e) = times_pos (a e) (u e) un.rises (omega (arith, linear)) in
     let Xp : pos 0 <ℤ X = cancel_pos (a (suc n)) X st.aim_row.2.multiple (omega (arith, linear, zero_times (a n))) in
     let h = climb (sum_to n (λ j. aim j *ℤ v j)) (N *ℤ D) X Xp in

@@ -26,22 +26,26 @@ combination_same : (m n : ℕ) (A : ℕ → ℕ → ℤ) (s : ℤ) (y R Q : ℕ 
 combination_same m n A s y R Q u e = record { positive = u.positive; each = λ j jn. ap (λ t. s *ℤ t) (e j jn) ∙ u.each j jn }
 
 -- a listed row divided by a common factor, or renamed
-listed_divided : (m n : ℕ) (A : ℕ → ℕ → ℤ) (RowIn ColIn : ℕ → Type 0) (c : ℕ) (s g : ℤ) (y R Q : ℕ → ℤ) → IsListedRow m n A RowIn ColIn c s y R → pos 0 <ℤ g → c < n → ((j : ℕ) → ColIn j → j < n)
+listed_divided : (m n : ℕ) (A : ℕ → ℕ → ℤ) (RowIn ColIn : ℕ → Type 0) (c : ℕ) (s g : ℤ) (y R Q : ℕ → ℤ) → IsListedRow m n A RowIn ColIn c s y R → pos 0 <ℤ g
+    → c < n → ((j : ℕ) → ColIn j → j < n)
     → ((j : ℕ) → j ≤ n → R j ≡ g *ℤ Q j) → IsListedRow m n A RowIn ColIn c (s *ℤ g) y Q
 listed_divided m n A RowIn ColIn c s g y R Q u gp cn inside e = record {
   combination = combination_divided m n A s g y R Q u.combination gp e;
   own = elim (sign_of (Q c)) [
     | inr x ↦ elim x [
       | inr h ↦ h
-      | inl z ↦ (let f : R c ≡ pos 0 = e c (omega arith) ∙ ap (λ t. g *ℤ t) z ∙ times_zero g in let o : pos 0 <ℤ R c = u.own in absurd (omega (arith, linear)))
+      | inl z ↦ (let f : R c ≡ pos 0 = e c (omega arith) ∙ ap (λ t. g *ℤ t) z ∙ times_zero g in let o : pos 0 <ℤ R c = u.own in
+          absurd (omega (arith, linear)))
     ]
-    | inl h ↦ (let f : R c ≡ g *ℤ Q c = e c (omega arith) in let o : pos 0 <ℤ R c = u.own in let k : pos 0 <ℤ Q c = Rattle.gs_rows.proofs.Ring.cancel_pos g (Q c) gp (omega (arith, linear)) in k)
+    | inl h ↦ (let f : R c ≡ g *ℤ Q c = e c (omega arith) in let o : pos 0 <ℤ R c = u.own in
+        let k : pos 0 <ℤ Q c = Rattle.gs_rows.proofs.Ring.cancel_pos g (Q c) gp (omega (arith, linear)) in k)
   ];
   others = u.others;
   zeros = λ j cj d. cancel_zero g (Q j) gp (sym (e j (omega (arith, inside j cj))) ∙ u.zeros j cj d);
 }
 
-unlisted_divided : (m n : ℕ) (A : ℕ → ℕ → ℤ) (RowIn ColIn : ℕ → Type 0) (r : ℕ) (s g : ℤ) (y R Q : ℕ → ℤ) → IsUnlistedRow m n A RowIn ColIn r s y R → pos 0 <ℤ g → ((j : ℕ) → ColIn j → j < n)
+unlisted_divided : (m n : ℕ) (A : ℕ → ℕ → ℤ) (RowIn ColIn : ℕ → Type 0) (r : ℕ) (s g : ℤ) (y R Q : ℕ → ℤ) → IsUnlistedRow m n A RowIn ColIn r s y R
+    → pos 0 <ℤ g → ((j : ℕ) → ColIn j → j < n)
     → ((j : ℕ) → j ≤ n → R j ≡ g *ℤ Q j) → IsUnlistedRow m n A RowIn ColIn r (s *ℤ g) y Q
 unlisted_divided m n A RowIn ColIn r s g y R Q u gp inside e = record {
   combination = combination_divided m n A s g y R Q u.combination gp e;
@@ -50,7 +54,8 @@ unlisted_divided m n A RowIn ColIn r s g y R Q u gp inside e = record {
   zeros = λ j cj. cancel_zero g (Q j) gp (sym (e j (omega (arith, inside j cj))) ∙ u.zeros j cj);
 }
 
-aim_divided : (m n : ℕ) (A : ℕ → ℕ → ℤ) (RowIn ColIn : ℕ → Type 0) (aim : ℕ → ℤ) (s g : ℤ) (y b : ℕ → ℤ) → IsAimRow m n A RowIn ColIn aim s y (λ j. g *ℤ b j) → pos 0 <ℤ g → IsAimRow m n A RowIn ColIn aim (s *ℤ g) y b
+aim_divided : (m n : ℕ) (A : ℕ → ℕ → ℤ) (RowIn ColIn : ℕ → Type 0) (aim : ℕ → ℤ) (s g : ℤ) (y b : ℕ → ℤ) → IsAimRow m n A RowIn ColIn aim s y (λ j. g *ℤ b j)
+    → pos 0 <ℤ g → IsAimRow m n A RowIn ColIn aim (s *ℤ g) y b
 aim_divided m n A RowIn ColIn aim s g y b u gp = record {
   multiple = Rattle.gs_rows.proofs.Ring.cancel_pos g (b (suc n)) gp u.multiple;
   positive = Rattle.gs_rows.proofs.Ring.times_pos s g u.positive gp;
@@ -75,7 +80,8 @@ pub record IsChange (p : Program) (l next : Listing) (r c : ℕ) : Type 0 where
 
 -- the rows of the next list, given that the pivot row is one of them
 pub rows_after : (p : Program) (l next : Listing) (r c : ℕ) (R Q : ℕ → ℕ → ℤ) (a b : ℕ → ℤ) (t : ℤ) (z : ℕ → ℤ)
-    → IsRowsOf p l R a → IsChange p l next r c → IsEliminated p R a r c Q b → IsListedRow p.rows p.cols (number p) (RowListed next) (ColListed next) c t z (Q r) → IsRowsOf p next Q b
+    → IsRowsOf p l R a → IsChange p l next r c → IsEliminated p R a r c Q b
+    → IsListedRow p.rows p.cols (number p) (RowListed next) (ColListed next) c t z (Q r) → IsRowsOf p next Q b
 rows_after p l next r c R Q a b t z u ch el self = record {
   listed = λ i j h. elim (cases_eq i r) [
     | inl same ↦
@@ -88,30 +94,40 @@ rows_after p l next r c R Q a b t z u ch el self = record {
         let w = u.listed i j o in
         let im : i < p.rows = ch.row_inside i j h in
         let g = el.other i im ne in
-        let m = pivot_listed p.rows p.cols (number p) (RowListed l) (ColListed l) (RowListed next) (ColListed next) j c w.0 t w.1 z (R i) (Q r) w.2 self (λ e. ne (ch.one_row i (let P : ℕ → Type 0 = λ k. IsListed next i k in subst P e h))) (i, h) ch.rows ch.columns in (
+        let m = pivot_listed p.rows p.cols (number p) (RowListed l) (ColListed l) (RowListed next) (ColListed next) j c w.0 t w.1 z (R i) (Q r) w.2 self
+        (λ e. ne (ch.one_row i (let P : ℕ → Type 0 = λ k. IsListed next i k in subst P e h))) (i, h) ch.rows ch.columns in (
           (w.0 *ℤ t) *ℤ g.0,
           λ k. (Q r c *ℤ t) *ℤ w.1 k -ℤ (R i c *ℤ w.0) *ℤ z k,
-          listed_divided p.rows p.cols (number p) (RowListed next) (ColListed next) j (w.0 *ℤ t) g.0 (λ k. (Q r c *ℤ t) *ℤ w.1 k -ℤ (R i c *ℤ w.0) *ℤ z k) (λ k. Q r c *ℤ R i k -ℤ R i c *ℤ Q r k) (Q i) m g.1 (ch.inside j (i, h)) ch.inside g.2,
+          listed_divided p.rows p.cols (number p) (RowListed next) (ColListed next) j (w.0 *ℤ t) g.0 (λ k. (Q r c *ℤ t) *ℤ w.1 k -ℤ (R i c *ℤ w.0) *ℤ z k)
+              (λ k. Q r c *ℤ R i k -ℤ R i c *ℤ Q r k) (Q i) m g.1 (ch.inside j (i, h)) ch.inside g.2,
         ))
   ];
   unlisted = λ i im out.
       let ne : i ≢ r = λ e. out (c, let P : ℕ → Type 0 = λ k. IsListed next k c in subst P (sym e) ch.here) in
       let w = u.unlisted i im (ch.rows i out) in
       let g = el.other i im ne in
-      let m = pivot_unlisted p.rows p.cols (number p) (RowListed l) (ColListed l) (RowListed next) (ColListed next) i c w.0 t w.1 z (R i) (Q r) w.2 self im out ch.rows ch.columns in (
+      let m = pivot_unlisted p.rows p.cols (number p) (RowListed l) (ColListed l) (RowListed next) (ColListed next) i c w.0 t w.1 z (R i)
+      (Q r) w.2 self im out ch.rows ch.columns in (
         (w.0 *ℤ t) *ℤ g.0,
         λ k. (Q r c *ℤ t) *ℤ w.1 k -ℤ (R i c *ℤ w.0) *ℤ z k,
-        unlisted_divided p.rows p.cols (number p) (RowListed next) (ColListed next) i (w.0 *ℤ t) g.0 (λ k. (Q r c *ℤ t) *ℤ w.1 k -ℤ (R i c *ℤ w.0) *ℤ z k) (λ k. Q r c *ℤ R i k -ℤ R i c *ℤ Q r k) (Q i) m g.1 ch.inside g.2,
+        unlisted_divided p.rows p.cols (number p) (RowListed next) (ColListed next) i (w.0 *ℤ t) g.0 (λ k. (Q r c *ℤ t) *ℤ w.1 k -ℤ (R i c *ℤ w.0) *ℤ z k)
+            (λ k. Q r c *ℤ R i k -ℤ R i c *ℤ Q r k) (Q i) m g.1 ch.inside g.2,
       );
   aim_row =
       let w = u.aim_row in let g = el.aim_row in
-      let m = pivot_aim p.rows p.cols (number p) (RowListed l) (ColListed l) (RowListed next) (ColListed next) (aim_of p) c w.0 t w.1 z a (λ j. g.0 *ℤ b j) (Q r) w.2 self ch.rows (λ j h. (ch.inside j h, ch.columns j h)) (λ j jn. sym (g.2 j jn)) (sym g.3) (sym g.4) in
-      ((w.0 *ℤ t) *ℤ g.0, λ k. (Q r c *ℤ t) *ℤ w.1 k -ℤ (neg_ℤ (a c) *ℤ w.0) *ℤ z k, aim_divided p.rows p.cols (number p) (RowListed next) (ColListed next) (aim_of p) (w.0 *ℤ t) g.0 (λ k. (Q r c *ℤ t) *ℤ w.1 k -ℤ (neg_ℤ (a c) *ℤ w.0) *ℤ z k) b m g.1);
+      let m = pivot_aim p.rows p.cols (number p) (RowListed l) (ColListed l) (RowListed next) (ColListed next) (aim_of p) c w.0 t w.1 z a (λ j. g.0 *ℤ b j)
+      (Q r) w.2 self ch.rows (λ j h. (ch.inside j h, ch.columns j h)) (λ j jn. sym (g.2 j jn)) (sym g.3) (sym g.4) in (
+        (w.0 *ℤ t) *ℤ g.0,
+        λ k. (Q r c *ℤ t) *ℤ w.1 k -ℤ (neg_ℤ (a c) *ℤ w.0) *ℤ z k,
+        aim_divided p.rows p.cols (number p) (RowListed next) (ColListed next) (aim_of p) (w.0 *ℤ t) g.0
+            (λ k. (Q r c *ℤ t) *ℤ w.1 k -ℤ (neg_ℤ (a c) *ℤ w.0) *ℤ z k) b m g.1,
+      );
   primitive = el.primitive;
   primitive_aim = el.primitive_aim;
 }
 
-pub listed_renamed : (m n : ℕ) (A : ℕ → ℕ → ℤ) (RowIn ColIn : ℕ → Type 0) (c : ℕ) (s : ℤ) (y R Q : ℕ → ℤ) → IsListedRow m n A RowIn ColIn c s y R → ((j : ℕ) → ColIn j → j < n) → c < n → ((j : ℕ) → j ≤ n → Q j ≡ R j) → IsListedRow m n A RowIn ColIn c s y Q
+pub listed_renamed : (m n : ℕ) (A : ℕ → ℕ → ℤ) (RowIn ColIn : ℕ → Type 0) (c : ℕ) (s : ℤ) (y R Q : ℕ → ℤ) → IsListedRow m n A RowIn ColIn c s y R
+    → ((j : ℕ) → ColIn j → j < n) → c < n → ((j : ℕ) → j ≤ n → Q j ≡ R j) → IsListedRow m n A RowIn ColIn c s y Q
 listed_renamed m n A RowIn ColIn c s y R Q u inside cn e = record {
   combination = combination_same m n A s y R Q u.combination e;
   own = let f : Q c ≡ R c = e c (omega arith) in let o : pos 0 <ℤ R c = u.own in omega (arith, linear);

@@ -15,7 +15,8 @@ use Rattle.gs_rows.proofs.Solutions.{IsBasic, row_at_basic}
 use Rattle.gs_rows.proofs.Bases.{IsFull, IsTrail, RowsFeasible, col_of, col_is, in_cols, table_of, turn_is_full, turn_is_feasible, trail_columns_differ}
 
 -- what stands at a place after a push
-place_push : (l : Listing) (x : ℕ × ℕ) (k : ℕ) → k < length (l ++ x ∷ []) → ((k < length l) × (slice_index_or (l ++ x ∷ []) k (0, 0) ≡ slice_index_or l k (0, 0))) ⊎ ((k ≡ length l) × (slice_index_or (l ++ x ∷ []) k (0, 0) ≡ x))
+place_push : (l : Listing) (x : ℕ × ℕ) (k : ℕ) → k < length (l ++ x ∷ [])
+    → ((k < length l) × (slice_index_or (l ++ x ∷ []) k (0, 0) ≡ slice_index_or l k (0, 0))) ⊎ ((k ≡ length l) × (slice_index_or (l ++ x ∷ []) k (0, 0) ≡ x))
 place_push l x k h =
     let long = length_push l x in
     elim (cases_lt k (length l)) [
@@ -61,7 +62,12 @@ opened_push p l r c w t = record {
 
 pub opened : (p : Program) (o : Listing) → IsTakenInTurn p o → (k : ℕ) → k ≤ length o → IsOpened p (take k o)
 opened p o taken zero h = record {
-  is_list = record { row_inside = λ i j x. absurd (omega (arith, x.1)); column_inside = λ i j x. absurd (omega (arith, x.1)); one_column = λ i j k x y. absurd (omega (arith, x.1)); one_row = λ i k j x y. absurd (omega (arith, x.1)) };
+  is_list = record {
+    row_inside = λ i j x. absurd (omega (arith, x.1));
+    column_inside = λ i j x. absurd (omega (arith, x.1));
+    one_column = λ i j k x y. absurd (omega (arith, x.1));
+    one_row = λ i k j x y. absurd (omega (arith, x.1));
+  };
   once = record { place = λ q k x y s. absurd (omega arith) };
   named = λ k x. absurd (omega arith);
   regular = record { only = λ z off on i im. off i im (λ x. absurd (omega (arith, x.1.1))) };
@@ -70,7 +76,8 @@ opened p o taken (suc k) h =
     let w = opened p o taken k (omega arith) in
     let t = taken k (omega arith) in
     let e : take (k + 1) o ≡ take k o ++ (slice_index_or o k (0, 0) ∷ []) = take_more o k (0, 0) (omega arith) in
-    let f : take (suc k) o ≡ take k o ++ ((t.0 + 1, t.1 + 1) ∷ []) = ap (λ x. take x o) (let q : suc k ≡ k + 1 = omega arith in q) ∙ e ∙ ap (λ x. take k o ++ (x ∷ [])) t.2 in
+    let f : take (suc k) o ≡ take k o ++ ((t.0 + 1, t.1 + 1) ∷ []) = ap (λ x. take x o) (let q : suc k ≡ k + 1 = omega arith in q) ∙ e
+    ∙ ap (λ x. take k o ++ (x ∷ [])) t.2 in
     let P : Listing → Type 0 = λ x. IsOpened p x in
     subst P (sym f) (opened_push p (take k o) t.0 t.1 w t.3)
 
@@ -93,7 +100,9 @@ opening_is_feasible p o R a u w i j h bound =
     let b : IsBasic m n (number p) (col_of p o f) d x = record {
       killed = record {
         row = λ k km.
-            let e : sum_to n (λ c. number p k c *ℤ x c) ≡ d *ℤ number p k n = sum_same n (λ c. number p k c *ℤ x c) (λ c. number p k c *ℤ v c) (λ c cn. ap (λ t. number p k c *ℤ t) (below c cn)) ∙ fs.solution.solves k km in
+            let e : sum_to n (λ c. number p k c *ℤ x c) ≡ d *ℤ number p k n =
+            sum_same n (λ c. number p k c *ℤ x c) (λ c. number p k c *ℤ v c) (λ c cn. ap (λ t. number p k c *ℤ t) (below c cn))
+            ∙ fs.solution.solves k km in
             let g : number p k n *ℤ x n ≡ neg_ℤ (d *ℤ number p k n) = ap (λ t. number p k n *ℤ t) side ∙ simp ring in omega (arith, linear);
       };
       side = side;
@@ -111,11 +120,14 @@ opening_is_feasible p o R a u w i j h bound =
     cancel_nonneg d (R i n) (let q = fs.solution.positive in omega (arith, linear)) (omega (arith, linear))
 
 -- a path from the end of the opening on
-pub path_trail : (p : Program) (o : Listing) (t : ℕ) (lists : ℕ → Listing) (R : ℕ → ℕ → ℕ → ℤ) (a : ℕ → ℕ → ℤ) (e c : ℕ → ℕ) → IsOpening p o → IsPath p o t (states lists R a e c)
+pub path_trail : (p : Program) (o : Listing) (t : ℕ) (lists : ℕ → Listing) (R : ℕ → ℕ → ℕ → ℤ) (a : ℕ → ℕ → ℤ) (e c : ℕ → ℕ) → IsOpening p o
+    → IsPath p o t (states lists R a e c)
     → (d : ℕ) → length o + d ≤ t → (IsFull p (lists (length o + d))) × (RowsFeasible p (lists (length o + d)) (R (length o + d)))
 path_trail p o t lists R a e c u w zero h =
-    let s : lists (length o + 0) ≡ o = ap lists (let q : length o + 0 ≡ length o = omega arith in q) ∙ w.opens (length o) (omega arith) (omega arith) ∙ take-length o in
-    let r : IsRowsOf p o (R (length o + 0)) (a (length o + 0)) = (let P : Listing → Type 0 = λ x. IsRowsOf p x (R (length o + 0)) (a (length o + 0)) in subst P s (w.rows (length o + 0) h)) in
+    let s : lists (length o + 0) ≡ o = ap lists (let q : length o + 0 ≡ length o = omega arith in q) ∙ w.opens (length o) (omega arith) (omega arith)
+    ∙ take-length o in
+    let r : IsRowsOf p o (R (length o + 0)) (a (length o + 0)) = (let P : Listing → Type 0 = λ x. IsRowsOf p x (R (length o + 0)) (a (length o + 0)) in
+    subst P s (w.rows (length o + 0) h)) in
     let P : Listing → Type 0 = λ x. (IsFull p x) × (RowsFeasible p x (R (length o + 0))) in
     subst P (sym s) (opening_is_full p o u, opening_is_feasible p o (R (length o + 0)) (a (length o + 0)) u r)
 path_trail p o t lists R a e c u w (suc d) h =
@@ -123,21 +135,27 @@ path_trail p o t lists R a e c u w (suc d) h =
     let z = path_trail p o t lists R a e c u w d (omega arith) in
     let tn = w.pivots k (omega arith) (omega arith) in
     let full = turn_is_full p (lists k) (lists (suc k)) z.0 (R k) (a k) (e k) (c k) (w.rows k (omega arith)) tn in
-    let feas = turn_is_feasible p (lists k) (lists (suc k)) z.0 (R k) (R (suc k)) (a k) (a (suc k)) (e k) (c k) (w.rows k (omega arith)) (w.rows (suc k) (omega arith)) tn z.1 in
+    let feas = turn_is_feasible p (lists k) (lists (suc k)) z.0 (R k) (R (suc k)) (a k) (a (suc k)) (e k) (c k) (w.rows k (omega arith))
+    (w.rows (suc k) (omega arith)) tn z.1 in
     let P : ℕ → Type 0 = λ x. (IsFull p (lists x)) × (RowsFeasible p (lists x) (R x)) in
     let q : suc k ≡ length o + suc d = omega arith in subst P q (full, feas)
 
 -- NO BASIS TWICE: two steps of a path never list the same columns
-pub bases_differ : (p : Program) (o : Listing) (t : ℕ) (lists : ℕ → Listing) (R : ℕ → ℕ → ℕ → ℤ) (a : ℕ → ℕ → ℤ) (e c : ℕ → ℕ) → IsOpening p o → IsPath p o t (states lists R a e c)
-    → (k l : ℕ) → length o ≤ k → k < l → l ≤ t → ((j : ℕ) → ColListed (lists l) j → ColListed (lists k) j) → ((j : ℕ) → ColListed (lists k) j → ColListed (lists l) j) → ⊥
+pub bases_differ : (p : Program) (o : Listing) (t : ℕ) (lists : ℕ → Listing) (R : ℕ → ℕ → ℕ → ℤ) (a : ℕ → ℕ → ℤ) (e c : ℕ → ℕ) → IsOpening p o
+    → IsPath p o t (states lists R a e c)
+    → (k l : ℕ) → length o ≤ k → k < l → l ≤ t → ((j : ℕ) → ColListed (lists l) j → ColListed (lists k) j)
+    → ((j : ℕ) → ColListed (lists k) j → ColListed (lists l) j) → ⊥
 bases_differ p o t lists R a e c u w k l ok kl lt back forth =
     let at : (x : ℕ) → x ≤ l - k → (IsFull p (lists (x + k))) × (RowsFeasible p (lists (x + k)) (R (x + k))) = λ x h.
-    (let P : ℕ → Type 0 = λ y. (IsFull p (lists y)) × (RowsFeasible p (lists y) (R y)) in let q : length o + (x + k - length o) ≡ x + k = omega arith in subst P q (path_trail p o t lists R a e c u w (x + k - length o) (omega arith))) in
+    (let P : ℕ → Type 0 = λ y. (IsFull p (lists y)) × (RowsFeasible p (lists y) (R y)) in let q : length o + (x + k - length o) ≡ x + k = omega arith in
+    subst P q (path_trail p o t lists R a e c u w (x + k - length o) (omega arith))) in
     let trail : IsTrail p (l - k) (λ x. lists (x + k)) (λ x. R (x + k)) (λ x. a (x + k)) (λ x. e (x + k)) (λ x. c (x + k)) = record {
       full = λ x h. (at x h).0;
       rows = λ x h. w.rows (x + k) (omega arith);
       feasible = λ x h. (at x h).1;
-      turn = λ x h. (let q : suc (x + k) ≡ suc x + k = omega arith in let P : ℕ → Type 0 = λ y. IsPivot p (lists (x + k)) (R (x + k)) (a (x + k)) (lists y) (e (x + k)) (c (x + k)) in subst P q (w.pivots (x + k) (omega arith) (omega arith)));
+      turn = λ x h. (let q : suc (x + k) ≡ suc x + k = omega arith in let P : ℕ
+          → Type 0 = λ y. IsPivot p (lists (x + k)) (R (x + k)) (a (x + k)) (lists y) (e (x + k)) (c (x + k)) in
+          subst P q (w.pivots (x + k) (omega arith) (omega arith)));
     } in
     let last : (l - k) + k ≡ l = omega arith in let first : 0 + k ≡ k = omega arith in
     trail_columns_differ p (l - k) (λ x. lists (x + k)) (λ x. R (x + k)) (λ x. a (x + k)) (λ x. e (x + k)) (λ x. c (x + k)) trail (omega arith)

@@ -54,8 +54,10 @@ pub pair_list_is_list : (p : Program) (l : Listing) → IsPairList p l → IsLis
 pair_list_is_list p l u = record {
   row_inside = λ i j h. (names_are p l u i j h).0;
   column_inside = λ i j h. (names_are p l u i j h).1;
-  one_column = λ i j k h g. (same_place l i j i k h g (u.rows_differ h.0 g.0 h.1 g.1 (ap (λ (w : ℕ × ℕ). w.0) (place_of l i j h) ∙ sym (ap (λ (w : ℕ × ℕ). w.0) (place_of l i k g))))).1;
-  one_row = λ i k j h g. (same_place l i j k j h g (u.columns_differ h.0 g.0 h.1 g.1 (ap (λ (w : ℕ × ℕ). w.1) (place_of l i j h) ∙ sym (ap (λ (w : ℕ × ℕ). w.1) (place_of l k j g))))).0;
+  one_column = λ i j k h g. (same_place l i j i k h g (u.rows_differ h.0 g.0 h.1 g.1 (ap (λ (w : ℕ × ℕ). w.0) (place_of l i j h)
+      ∙ sym (ap (λ (w : ℕ × ℕ). w.0) (place_of l i k g))))).1;
+  one_row = λ i k j h g. (same_place l i j k j h g (u.columns_differ h.0 g.0 h.1 g.1 (ap (λ (w : ℕ × ℕ). w.1) (place_of l i j h)
+      ∙ sym (ap (λ (w : ℕ × ℕ). w.1) (place_of l k j g))))).0;
 }
 
 pub pair_list_is_once : (p : Program) (l : Listing) → IsPairList p l → IsOnce l
@@ -77,9 +79,11 @@ column_decided p l u j = elim (find_col (length l) (λ k. (slice_index_or l k (0
 ]
 
 -- back: what the lists of a path are
-pub is_pair_list : (p : Program) (l : Listing) → IsList p l → IsOnce l → ((k : ℕ) → k < length l → (i : ℕ) × (j : ℕ) × (slice_index_or l k (0, 0) ≡ (i + 1, j + 1))) → IsPairList p l
+pub is_pair_list : (p : Program) (l : Listing) → IsList p l → IsOnce l → ((k : ℕ) → k < length l
+    → (i : ℕ) × (j : ℕ) × (slice_index_or l k (0, 0) ≡ (i + 1, j + 1))) → IsPairList p l
 is_pair_list p l il once named = record {
-  named = λ k h. (let n = named k h in let w : IsListed l n.0 n.1 = listed_at l k n.0 n.1 h n.2 in (n.0, n.1, n.2, il.row_inside n.0 n.1 w, il.column_inside n.0 n.1 w));
+  named = λ k h. (let n = named k h in let w : IsListed l n.0 n.1 = listed_at l k n.0 n.1 h n.2 in
+      (n.0, n.1, n.2, il.row_inside n.0 n.1 w, il.column_inside n.0 n.1 w));
   rows_differ = once.place;
   columns_differ = λ k h kl hl e.
       (let n = named k kl in let m = named h hl in
@@ -94,7 +98,8 @@ pub opened_pair_list : (p : Program) (l : Listing) → IsOpened p l → IsPairLi
 opened_pair_list p l w = is_pair_list p l w.is_list w.once w.named
 
 -- ---- the laws
-pub rows_are_determined_lem : (p : Program) (l : Listing) (R S : ℕ → ℕ → ℤ) (a b : ℕ → ℤ) → IsPairList p l → IsRegularList p l → IsRowsOf p l R a → IsRowsOf p l S b
+pub rows_are_determined_lem : (p : Program) (l : Listing) (R S : ℕ → ℕ → ℤ) (a b : ℕ → ℤ) → IsPairList p l → IsRegularList p l → IsRowsOf p l R a
+    → IsRowsOf p l S b
     → ((i j : ℕ) → i < p.rows → j ≤ p.cols → R i j ≡ S i j) × ((j : ℕ) → j ≤ p.cols + 1 → a j ≡ b j)
 rows_are_determined_lem p l R S a b u reg w v = rows_same p l R S a b (pair_list_is_list p l u) reg (row_decided p l u) w v
 
@@ -110,7 +115,8 @@ taken_has_rows_lem p l u =
     let P : Listing → Type 0 = λ x. (R : ℕ → ℕ → ℤ) × (a : ℕ → ℤ) × IsRowsOf p x R a in subst P (take-length l) w
 
 -- the pair at place q changed
-module _ (p : Program) (l : Listing) (q r c e : ℕ) (ql : q < length l) (at : slice_index_or l q (0, 0) ≡ (r + 1, c + 1)) (u : IsPairList p l) (en : e < p.cols) (out : ColListed l e → ⊥) where
+module _ (p : Program) (l : Listing) (q r c e : ℕ) (ql : q < length l) (at : slice_index_or l q (0, 0) ≡ (r + 1, c + 1)) (u : IsPairList p l) (en : e
+    < p.cols) (out : ColListed l e → ⊥) where
   abbrev next : Listing
   next = slice_set l q (r + 1, e + 1)
 
@@ -155,7 +161,8 @@ module _ (p : Program) (l : Listing) (q r c e : ℕ) (ql : q < length l) (at : s
     ];
   }
 
-pub pivot_keeps_regular_lem : (p : Program) (l : Listing) (R : ℕ → ℕ → ℤ) (a : ℕ → ℤ) (next : Listing) (e c : ℕ) → IsPairList p l → IsRegularList p l → IsRowsOf p l R a → IsPivot p l R a next e c → IsPairList p next × IsRegularList p next
+pub pivot_keeps_regular_lem : (p : Program) (l : Listing) (R : ℕ → ℕ → ℤ) (a : ℕ → ℤ) (next : Listing) (e c : ℕ) → IsPairList p l → IsRegularList p l
+    → IsRowsOf p l R a → IsPivot p l R a next e c → IsPairList p next × IsRegularList p next
 pivot_keeps_regular_lem p l R a next e c u reg w v =
     let q = v.place.0 in let r = v.place.1 in let ql = v.place.2 in let at = v.place.3 in let lv = v.place.4 in
     let P : Listing → Type 0 = λ x. IsPairList p x × IsRegularList p x in
@@ -165,7 +172,8 @@ pivot_keeps_regular_lem p l R a next e c u reg w v =
     )
 
 -- a solution, with minus its denominator at the right side's place
-pub solution_killed : (p : Program) (d : ℤ) (v : ℕ → ℤ) → IsSolution p d v → (x : ℕ → ℤ) × IsKilled p.rows p.cols (number p) x × (x p.cols ≡ neg_ℤ d) × ((j : ℕ) → j < p.cols → x j ≡ v j)
+pub solution_killed : (p : Program) (d : ℤ) (v : ℕ → ℤ) → IsSolution p d v
+    → (x : ℕ → ℤ) × IsKilled p.rows p.cols (number p) x × (x p.cols ≡ neg_ℤ d) × ((j : ℕ) → j < p.cols → x j ≡ v j)
 solution_killed p d v u =
     let n = p.cols in
     let pick : (k : ℕ) → (k ≡ n) ⊎ (k ≡ n → ⊥) → ℤ = λ k q. elim q [ inl e ↦ neg_ℤ d | inr ne ↦ v k ] in
@@ -175,26 +183,30 @@ solution_killed p d v u =
       x,
       record {
         row = λ k km.
-            let e : sum_to n (λ c. number p k c *ℤ x c) ≡ d *ℤ number p k n = sum_same n (λ c. number p k c *ℤ x c) (λ c. number p k c *ℤ v c) (λ c cn. ap (λ t. number p k c *ℤ t) (below c cn)) ∙ u.solves k km in
+            let e : sum_to n (λ c. number p k c *ℤ x c) ≡ d *ℤ number p k n =
+            sum_same n (λ c. number p k c *ℤ x c) (λ c. number p k c *ℤ v c) (λ c cn. ap (λ t. number p k c *ℤ t) (below c cn)) ∙ u.solves k km in
             let g : number p k n *ℤ x n ≡ neg_ℤ (d *ℤ number p k n) = ap (λ t. number p k n *ℤ t) side ∙ simp ring in omega (arith, linear);
       },
       side,
       below,
     )
 
-pub last_number_is_value_lem : (p : Program) (l : Listing) (R : ℕ → ℕ → ℤ) (a : ℕ → ℤ) (d : ℤ) (v : ℕ → ℤ) → IsPairList p l → IsRowsOf p l R a → IsSolution p d v → ((j : ℕ) → j < p.cols → (ColListed l j → ⊥) → v j ≡ pos 0)
+pub last_number_is_value_lem : (p : Program) (l : Listing) (R : ℕ → ℕ → ℤ) (a : ℕ → ℤ) (d : ℤ) (v : ℕ → ℤ) → IsPairList p l → IsRowsOf p l R a
+    → IsSolution p d v → ((j : ℕ) → j < p.cols → (ColListed l j → ⊥) → v j ≡ pos 0)
     → d *ℤ a p.cols ≡ a (suc p.cols) *ℤ sum_to p.cols (λ j. aim_of p j *ℤ v j)
 last_number_is_value_lem p l R a d v u w sol off =
     let n = p.cols in let m = p.rows in
     let k = solution_killed p d v sol in
     let ar = w.aim_row in
-    let f : a (suc n) *ℤ sum_to n (λ j. aim_of p j *ℤ k.0 j) ≡ sum_to n (λ j. a j *ℤ k.0 j) -ℤ a n *ℤ k.0 n = aim_dot m n (number p) (RowListed l) (ColListed l) (aim_of p) ar.0 ar.1 a k.0 ar.2 k.1 in
+    let f : a (suc n) *ℤ sum_to n (λ j. aim_of p j *ℤ k.0 j) ≡ sum_to n (λ j. a j *ℤ k.0 j) -ℤ a n *ℤ k.0 n =
+    aim_dot m n (number p) (RowListed l) (ColListed l) (aim_of p) ar.0 ar.1 a k.0 ar.2 k.1 in
     let g : sum_to n (λ j. a j *ℤ k.0 j) ≡ pos 0 = sum_zero n (λ j. a j *ℤ k.0 j)
     (λ j jn. elim (column_decided p l u j) [
       | inl c ↦ (ap (λ t. t *ℤ k.0 j) (ar.2.zeros j c) ∙ zero_times (k.0 j))
       | inr none ↦ (ap (λ t. a j *ℤ t) (k.3 j jn ∙ off j jn none) ∙ times_zero (a j))
     ]) in
     let h : a n *ℤ k.0 n ≡ neg_ℤ (d *ℤ a n) = ap (λ t. a n *ℤ t) k.2 ∙ simp ring in
-    let s : sum_to n (λ j. aim_of p j *ℤ k.0 j) ≡ sum_to n (λ j. aim_of p j *ℤ v j) = sum_same n (λ j. aim_of p j *ℤ k.0 j) (λ j. aim_of p j *ℤ v j) (λ j jn. ap (λ t. aim_of p j *ℤ t) (k.3 j jn)) in
+    let s : sum_to n (λ j. aim_of p j *ℤ k.0 j) ≡ sum_to n (λ j. aim_of p j *ℤ v j) =
+    sum_same n (λ j. aim_of p j *ℤ k.0 j) (λ j. aim_of p j *ℤ v j) (λ j jn. ap (λ t. aim_of p j *ℤ t) (k.3 j jn)) in
     let q : a (suc n) *ℤ sum_to n (λ j. aim_of p j *ℤ k.0 j) ≡ d *ℤ a n = omega (arith, linear) in
     sym q ∙ ap (λ t. a (suc n) *ℤ t) s

@@ -58,9 +58,11 @@ pub pivot_unlisted : (m n : ℕ) (A : ℕ → ℕ → ℤ) (RowIn ColIn RowIn' C
     → IsUnlistedRow m n A RowIn' ColIn' i (s *ℤ t) (λ k. (S c *ℤ t) *ℤ y k -ℤ (R c *ℤ s) *ℤ z k) (λ j. S c *ℤ R j -ℤ R c *ℤ S j)
 pivot_unlisted m n A RowIn ColIn RowIn' ColIn' i c s t y z R S u p im out rows cols = record {
   combination = combination_mix m n A s t (S c) (R c) y z R S u.combination p.combination;
-  own = let e : z i ≡ pos 0 = p.others i im out in let a : pos 0 <ℤ ((S c *ℤ t) *ℤ y i) = times_pos (S c *ℤ t) (y i) (times_pos (S c) t p.own p.combination.positive) u.own in
+  own = let e : z i ≡ pos 0 = p.others i im out in let a : pos 0 <ℤ ((S c *ℤ t) *ℤ y i) = times_pos (S c *ℤ t) (y i)
+      (times_pos (S c) t p.own p.combination.positive) u.own in
       rw e (omega (arith, linear, times_zero (R c *ℤ s)));
-  others = λ k km off d. let e : z k ≡ pos 0 = p.others k km off in let f : y k ≡ pos 0 = u.others k km (rows k off) d in rw (e, f) (simp ring (omega (arith, linear)));
+  others = λ k km off d. let e : z k ≡ pos 0 = p.others k km off in let f : y k ≡ pos 0 = u.others k km (rows k off) d in
+      rw (e, f) (simp ring (omega (arith, linear)));
   zeros = λ j cj. elim (cases_eq j c) as (λ q. S c *ℤ R j -ℤ R c *ℤ S j ≡ pos 0) [
     | inl e ↦ (rw e (simp ring (omega (arith, linear))))
     | inr d ↦ (let a : R j ≡ pos 0 = u.zeros j (cols j cj d) in let b : S j ≡ pos 0 = p.zeros j cj d in rw (a, b) (simp ring (omega (arith, linear))))
@@ -74,8 +76,10 @@ pub pivot_listed : (m n : ℕ) (A : ℕ → ℕ → ℤ) (RowIn ColIn RowIn' Col
     → IsListedRow m n A RowIn' ColIn' a (s *ℤ t) (λ k. (S c *ℤ t) *ℤ y k -ℤ (R c *ℤ s) *ℤ z k) (λ j. S c *ℤ R j -ℤ R c *ℤ S j)
 pivot_listed m n A RowIn ColIn RowIn' ColIn' a c s t y z R S u p apart ina rows cols = record {
   combination = combination_mix m n A s t (S c) (R c) y z R S u.combination p.combination;
-  own = let e : S a ≡ pos 0 = p.zeros a ina apart in let g : pos 0 <ℤ (S c *ℤ R a) = times_pos (S c) (R a) p.own u.own in rw e (omega (arith, linear, times_zero (R c)));
-  others = λ k km out. let e : z k ≡ pos 0 = p.others k km out in let f : y k ≡ pos 0 = u.others k km (rows k out) in rw (e, f) (simp ring (omega (arith, linear)));
+  own = let e : S a ≡ pos 0 = p.zeros a ina apart in let g : pos 0 <ℤ (S c *ℤ R a) = times_pos (S c) (R a) p.own u.own in
+      rw e (omega (arith, linear, times_zero (R c)));
+  others = λ k km out. let e : z k ≡ pos 0 = p.others k km out in let f : y k ≡ pos 0 = u.others k km (rows k out) in
+      rw (e, f) (simp ring (omega (arith, linear)));
   zeros = λ j cj d. elim (cases_eq j c) as (λ q. S c *ℤ R j -ℤ R c *ℤ S j ≡ pos 0) [
     | inl e ↦ (rw e (simp ring (omega (arith, linear))))
     | inr k ↦ (let f : R j ≡ pos 0 = u.zeros j (cols j cj k) d in let b : S j ≡ pos 0 = p.zeros j cj k in rw (f, b) (simp ring (omega (arith, linear))))
@@ -99,7 +103,8 @@ pivot_aim m n A RowIn ColIn RowIn' ColIn' aim c s t y z a b S u p rows cols bj b
       let e : s *ℤ a n ≡ sum_to m (λ i. y i *ℤ A i n) = u.side in
       let f : t *ℤ S n ≡ sum_to m (λ i. z i *ℤ A i n) = p.combination.each n (omega arith) in
       rw (bn, sum_mix m (S c *ℤ t) (neg_ℤ (a c) *ℤ s) y z (λ i. A i n), ← e, ← f) (simp ring (omega (arith, linear)));
-  others = λ k km out. let e : z k ≡ pos 0 = p.others k km out in let f : y k ≡ pos 0 = u.others k km (rows k out) in rw (e, f) (simp ring (omega (arith, linear)));
+  others = λ k km out. let e : z k ≡ pos 0 = p.others k km out in let f : y k ≡ pos 0 = u.others k km (rows k out) in
+      rw (e, f) (simp ring (omega (arith, linear)));
   zeros = λ j cj. bj j (cols j cj).0 ∙ elim (cases_eq j c) as (λ q. S c *ℤ a j -ℤ a c *ℤ S j ≡ pos 0) [
     | inl e ↦ (rw e (simp ring (omega (arith, linear))))
     | inr k ↦ (let f : a j ≡ pos 0 = u.zeros j ((cols j cj).1 k) in let g : S j ≡ pos 0 = p.zeros j cj k in rw (f, g) (simp ring (omega (arith, linear))))
@@ -107,7 +112,8 @@ pivot_aim m n A RowIn ColIn RowIn' ColIn' aim c s t y z a b S u p rows cols bj b
 }
 
 -- a row divided by a common factor
-pub combination_divided : (m n : ℕ) (A : ℕ → ℕ → ℤ) (s g : ℤ) (y R Q : ℕ → ℤ) → IsCombination m n A s y R → pos 0 <ℤ g → ((j : ℕ) → j ≤ n → R j ≡ g *ℤ Q j) → IsCombination m n A (s *ℤ g) y Q
+pub combination_divided : (m n : ℕ) (A : ℕ → ℕ → ℤ) (s g : ℤ) (y R Q : ℕ → ℤ) → IsCombination m n A s y R → pos 0 <ℤ g → ((j : ℕ) → j ≤ n → R j ≡ g *ℤ Q j)
+    → IsCombination m n A (s *ℤ g) y Q
 combination_divided m n A s g y R Q u gp e = record {
   positive = times_pos s g u.positive gp;
   each = λ j jn. let q : (s *ℤ g) *ℤ Q j ≡ s *ℤ (g *ℤ Q j) = simp ring in q ∙ ap (λ v. s *ℤ v) (sym (e j jn)) ∙ u.each j jn;
@@ -169,16 +175,20 @@ common_row (suc k) n a b h p q R S e = elim (cases_order a b) [
 ]
 
 divides_times : (c : ℕ) (t r : ℤ) → r ≡ pos c *ℤ t → c ∣ unsigned_abs r
-divides_times c t r e = let f : unsigned_abs r ≡ c * unsigned_abs t = ap unsigned_abs e ∙ unsigned_abs-mul (pos c) t in rw f (dvd-mul_right c (unsigned_abs t))
+divides_times c t r e = let f : unsigned_abs r ≡ c * unsigned_abs t = ap unsigned_abs e ∙ unsigned_abs-mul (pos c) t in
+    rw f (dvd-mul_right c (unsigned_abs t))
 
 -- proportional primitive rows are one row
-pub primitive_same : (n : ℕ) (a b : ℤ) → pos 0 <ℤ a → pos 0 <ℤ b → (R S : ℕ → ℤ) → ((j : ℕ) → j ≤ n → a *ℤ R j ≡ b *ℤ S j) → IsPrimitive n R → IsPrimitive n S → (j : ℕ) → j ≤ n → R j ≡ S j
+pub primitive_same : (n : ℕ) (a b : ℤ) → pos 0 <ℤ a → pos 0 <ℤ b → (R S : ℕ → ℤ) → ((j : ℕ) → j ≤ n → a *ℤ R j ≡ b *ℤ S j) → IsPrimitive n R → IsPrimitive n S
+    → (j : ℕ) → j ≤ n → R j ≡ S j
 primitive_same n (negsuc a) b p q R S e f g = absurd (omega (arith, linear, ints))
 primitive_same n (pos a) (negsuc b) p q R S e f g = absurd (omega (arith, linear, ints))
 primitive_same n (pos a) (pos b) p q R S e f g = λ j jn. elim f.form [
-  | inl z ↦ (let u : R j ≡ pos 0 = z j jn in let v : pos b *ℤ S j ≡ pos 0 = sym (e j jn) ∙ ap (λ t. pos a *ℤ t) u ∙ times_zero (pos a) in u ∙ sym (cancel_zero (pos b) (S j) q v))
+  | inl z ↦ (let u : R j ≡ pos 0 = z j jn in let v : pos b *ℤ S j ≡ pos 0 = sym (e j jn) ∙ ap (λ t. pos a *ℤ t) u ∙ times_zero (pos a) in
+      u ∙ sym (cancel_zero (pos b) (S j) q v))
   | inr fd ↦ elim g.form [
-    | inl z ↦ (let u : S j ≡ pos 0 = z j jn in let v : pos a *ℤ R j ≡ pos 0 = e j jn ∙ ap (λ t. pos b *ℤ t) u ∙ times_zero (pos b) in cancel_zero (pos a) (R j) p v ∙ sym u)
+    | inl z ↦ (let u : S j ≡ pos 0 = z j jn in let v : pos a *ℤ R j ≡ pos 0 = e j jn ∙ ap (λ t. pos b *ℤ t) u ∙ times_zero (pos b) in
+        cancel_zero (pos a) (R j) p v ∙ sym u)
     | inr gd ↦ (let w = common_row (a + b) n a b (omega arith) (omega (arith, ints)) (omega (arith, ints)) R S e in
         let d : w.2 ≡ 1 = fd w.2 (λ i h. divides_times w.2 (w.0 i) (R i) (w.5 i h).0) in
         let c : w.1 ≡ 1 = gd w.1 (λ i h. divides_times w.1 (w.0 i) (S i) (w.5 i h).1) in

@@ -22,7 +22,8 @@ not_both : (x : ℤ) → pos 0 <ℤ x → x ≡ pos 0 → ⊥
 not_both x p e = omega (arith, linear)
 
 -- ---- the list of a turn
-module _ (p : Program) (l : Listing) (q r c e : ℕ) (ql : q < length l) (at : slice_index_or l q (0, 0) ≡ (r + 1, c + 1)) (il : IsList p l) (once : IsOnce l) where
+module _ (p : Program) (l : Listing) (q r c e : ℕ) (ql : q < length l) (at : slice_index_or l q (0, 0)
+    ≡ (r + 1, c + 1)) (il : IsList p l) (once : IsOnce l) where
   abbrev next : Listing
   next = slice_set l q (r + 1, e + 1)
 
@@ -34,7 +35,8 @@ module _ (p : Program) (l : Listing) (q r c e : ℕ) (ql : q < length l) (at : s
 
   pub listed_set_old : (i j : ℕ) → IsListed l i j → i ≢ r → IsListed next i j
   listed_set_old i j h ne =
-      let apart : h.0 ≢ q = λ s. ne (let f : (i + 1, j + 1) ≡ (r + 1, c + 1) = sym h.2 ∙ any_default l h.0 (i + 1, j + 1) (0, 0) h.1 ∙ ap (λ k. slice_index_or l k (0, 0)) s ∙ at in
+      let apart : h.0 ≢ q = λ s. ne (let f : (i + 1, j + 1) ≡ (r + 1, c + 1) =
+      sym h.2 ∙ any_default l h.0 (i + 1, j + 1) (0, 0) h.1 ∙ ap (λ k. slice_index_or l k (0, 0)) s ∙ at in
       let g : i + 1 ≡ r + 1 = ap (λ (w : ℕ × ℕ). w.0) f in omega arith) in
       (h.0, (let long = length-set l q (r + 1, e + 1) in omega (arith, long, h.1)), get_or-set_other l q h.0 (r + 1, e + 1) (i + 1, j + 1) apart ∙ h.2)
 
@@ -42,10 +44,15 @@ module _ (p : Program) (l : Listing) (q r c e : ℕ) (ql : q < length l) (at : s
   listed_set_cases i j h =
       let inside : h.0 < length l = (let long = length-set l q (r + 1, e + 1) in omega (arith, long, h.1)) in
       elim (cases_eq h.0 q) [
-        | inl s ↦ (let f : (r + 1, e + 1) ≡ (i + 1, j + 1) = sym (get_or-set_same l q (r + 1, e + 1) (i + 1, j + 1) ql) ∙ ap (λ k. slice_index_or next k (i + 1, j + 1)) (sym s) ∙ h.2 in
+        | inl s ↦ (let f : (r + 1, e + 1) ≡ (i + 1, j + 1) = sym (get_or-set_same l q (r + 1, e + 1) (i + 1, j + 1) ql)
+            ∙ ap (λ k. slice_index_or next k (i + 1, j + 1)) (sym s) ∙ h.2 in
             let g : r + 1 ≡ i + 1 = ap (λ (w : ℕ × ℕ). w.0) f in let g2 : e + 1 ≡ j + 1 = ap (λ (w : ℕ × ℕ). w.1) f in inl (omega arith, omega arith))
         | inr ne ↦ (let f : slice_index_or l h.0 (i + 1, j + 1) ≡ (i + 1, j + 1) = sym (get_or-set_other l q h.0 (r + 1, e + 1) (i + 1, j + 1) ne) ∙ h.2 in
-            inr ((h.0, inside, f), λ s. ne (once.place h.0 q inside ql (ap (λ (w : ℕ × ℕ). w.0) (any_default l h.0 (0, 0) (i + 1, j + 1) inside ∙ f) ∙ (let g : i + 1 ≡ r + 1 = omega arith in g) ∙ sym (ap (λ (w : ℕ × ℕ). w.0) at)))))
+            inr (
+              (h.0, inside, f),
+              λ s. ne (once.place h.0 q inside ql (ap (λ (w : ℕ × ℕ). w.0) (any_default l h.0 (0, 0) (i + 1, j + 1) inside ∙ f)
+                  ∙ (let g : i + 1 ≡ r + 1 = omega arith in g) ∙ sym (ap (λ (w : ℕ × ℕ). w.0) at))),
+            ))
       ]
 
   pub turn_changes : e < p.cols → (ColListed l e → ⊥) → IsChange p l next r e
@@ -66,20 +73,38 @@ module _ (p : Program) (l : Listing) (q r c e : ℕ) (ql : q < length l) (at : s
   }
 
   -- the rows after a turn
-  pub turn_rows : (R Q : ℕ → ℕ → ℤ) (a b : ℕ → ℤ) → e < p.cols → (ColListed l e → ⊥) → pos 0 <ℤ R r e → IsRowsOf p l R a → IsEliminated p R a r e Q b → ((j : ℕ) → j ≤ p.cols → Q r j ≡ R r j) → IsRowsOf p next Q b
+  pub turn_rows : (R Q : ℕ → ℕ → ℤ) (a b : ℕ → ℤ) → e < p.cols → (ColListed l e → ⊥) → pos 0 <ℤ R r e → IsRowsOf p l R a → IsEliminated p R a r e Q b
+      → ((j : ℕ) → j ≤ p.cols → Q r j ≡ R r j) → IsRowsOf p next Q b
   turn_rows R Q a b en out up u el same =
       let ch = turn_changes en out in
       let w = u.listed r c listed_before in
       let m = pivot_self_listed p.rows p.cols (number p) (RowListed l) (ColListed l) (ColListed next) c e w.0 w.1 (R r) w.2 up
-      (λ j h ne. elim (listed_set_cases h.0 j h.1) [ inl x ↦ absurd (ne x.1) | inr x ↦ ((h.0, x.0), λ s. x.1 (il.one_row h.0 r c (let P : ℕ → Type 0 = λ k. IsListed l h.0 k in subst P s x.0) listed_before)) ]) in
+      (λ j h ne. elim (listed_set_cases h.0 j h.1) [
+        | inl x ↦ absurd (ne x.1)
+        | inr x ↦ (
+          (h.0, x.0),
+          λ s. x.1 (il.one_row h.0 r c (let P : ℕ → Type 0 = λ k. IsListed l h.0 k in subst P s x.0) listed_before),
+        )
+      ]) in
       let v = listed_renamed p.rows p.cols (number p) (RowListed l) (ColListed next) e w.0 w.1 (R r) (Q r) m (λ j h. ch.inside j h) en same in
-      rows_after p l next r e R Q a b w.0 w.1 u ch el (record { combination = v.combination; own = v.own; others = λ i im off. v.others i im (ch.rows i off); zeros = v.zeros })
+      rows_after p l next r e R Q a b w.0 w.1 u ch el (record {
+        combination =
+            v.combination;
+        own = v.own;
+        others = λ i im off. v.others i im (ch.rows i off);
+        zeros = v.zeros;
+      })
 
-  pub turn_is_regular : (R : ℕ → ℕ → ℤ) (a : ℕ → ℤ) → e < p.cols → (ColListed l e → ⊥) → pos 0 <ℤ R r e → IsRowsOf p l R a → IsRegularList p l → IsRegularList p next
+  pub turn_is_regular : (R : ℕ → ℕ → ℤ) (a : ℕ → ℤ) → e < p.cols → (ColListed l e → ⊥) → pos 0 <ℤ R r e → IsRowsOf p l R a → IsRegularList p l
+      → IsRegularList p next
   turn_is_regular R a en out up u reg =
       let w = u.listed r c listed_before in
-      let g = regular_swap p.rows p.cols (number p) (RowListed l) (ColListed l) (ColListed next) c e w.0 w.1 (R r) reg w.2 (il.column_inside r c listed_before) en (λ z. not_both (R r e) up z)
-      (λ j h ne. ((h.0, listed_set_old h.0 j h.1 (λ s. ne (il.one_column r j c (let P : ℕ → Type 0 = λ k. IsListed l k j in subst P s h.1) listed_before))), il.column_inside h.0 j h.1)) (r, listed_set_here) in
+      let g = regular_swap p.rows p.cols (number p) (RowListed l) (ColListed l) (ColListed next) c e w.0 w.1 (R r) reg w.2
+      (il.column_inside r c listed_before) en (λ z. not_both (R r e) up z)
+      (λ j h ne. (
+        (h.0, listed_set_old h.0 j h.1 (λ s. ne (il.one_column r j c (let P : ℕ → Type 0 = λ k. IsListed l k j in subst P s h.1) listed_before))),
+        il.column_inside h.0 j h.1,
+      )) (r, listed_set_here) in
       record {
         only = λ z off on. g.only z (λ i im no_row. off i im (λ h. elim (listed_set_cases i h.0 h.1) [
           | inl x ↦ no_row (c, (let P : ℕ → Type 0 = λ k. IsListed l k c in subst P (sym x.0) listed_before))

@@ -42,7 +42,8 @@ over_times g (negsuc n) d = let e : g * (suc n / g) ≡ suc n = mul-div_cancel' 
 
 pub over_abs : (g : ℕ) (z : ℤ) → g ∣ unsigned_abs z → g * unsigned_abs (over g z) ≡ unsigned_abs z
 over_abs g (pos n) d = mul-div_cancel' g d
-over_abs g (negsuc n) d = let e : g * (suc n / g) ≡ suc n = mul-div_cancel' g d in let f : unsigned_abs (neg_ℤ (pos (suc n / g))) ≡ suc n / g = omega (arith, ints) in ap (λ t. g * t) f ∙ e
+over_abs g (negsuc n) d = let e : g * (suc n / g) ≡ suc n = mul-div_cancel' g d in
+    let f : unsigned_abs (neg_ℤ (pos (suc n / g))) ≡ suc n / g = omega (arith, ints) in ap (λ t. g * t) f ∙ e
 
 zero_abs : (z : ℤ) → unsigned_abs z ≡ 0 → z ≡ pos 0
 zero_abs z e = omega (arith, ints)
@@ -52,7 +53,8 @@ pub primitive_exists : (n : ℕ) (R : ℕ → ℤ) → (g : ℤ) × (Q : ℕ →
 primitive_exists n R =
     let w = row_divisor (suc n) R in
     elim (cases_eq w.0 0) [
-      | inl z ↦ (let zeros : (j : ℕ) → j ≤ n → R j ≡ pos 0 = λ j jn. zero_abs (R j) (eq-zero_of_zero-dvd (let P : ℕ → Type 0 = λ t. t ∣ unsigned_abs (R j) in subst P z (w.1 j (omega arith)))) in
+      | inl z ↦ (let zeros : (j : ℕ) → j ≤ n → R j ≡ pos 0 = λ j jn. zero_abs (R j) (eq-zero_of_zero-dvd (let P : ℕ → Type 0 = λ t. t ∣ unsigned_abs (R j) in
+          subst P z (w.1 j (omega arith)))) in
           (pos 1, R, omega (arith, linear), λ j jn. sym (one_times (R j)), record { form = inl zeros }))
       | inr nz ↦ (
         pos w.0,
@@ -61,7 +63,8 @@ primitive_exists n R =
         λ j jn. over_times w.0 (R j) (w.1 j (omega arith)),
         record {
           form = inr (λ d h.
-              let all : w.0 * d ∣ w.0 = w.2 (w.0 * d) (λ j jk. (let P : ℕ → Type 0 = λ t. w.0 * d ∣ t in subst P (over_abs w.0 (R j) (w.1 j jk)) (mul-dvd-mul_left d w.0 (h j (omega arith))))) in
+              let all : w.0 * d ∣ w.0 = w.2 (w.0 * d) (λ j jk. (let P : ℕ → Type 0 = λ t. w.0 * d ∣ t in
+              subst P (over_abs w.0 (R j) (w.1 j jk)) (mul-dvd-mul_left d w.0 (h j (omega arith))))) in
               let one : w.0 * d ∣ w.0 * 1 = (let e : w.0 ≡ w.0 * 1 = omega arith in let P : ℕ → Type 0 = λ t. w.0 * d ∣ t in subst P e all) in
               eq-one_of_dvd-one (dvd_of_mul-dvd-mul_left d (omega arith) one));
         },

@@ -25,7 +25,14 @@ times_times a b c =
     )
 
 pub times_neg : (a b : ℤ) → a *ℤ neg_ℤ b ≡ neg_ℤ (a *ℤ b)
-times_neg a b = omega (arith, ints, ap (λ n. up a * n) (neg_is b).0, ap (λ n. up a * n) (neg_is b).1, ap (λ n. down a * n) (neg_is b).0, ap (λ n. down a * n) (neg_is b).1)
+times_neg a b = omega (
+  arith,
+  ints,
+  ap (λ n. up a * n) (neg_is b).0,
+  ap (λ n. up a * n) (neg_is b).1,
+  ap (λ n. down a * n) (neg_is b).0,
+  ap (λ n. down a * n) (neg_is b).1,
+)
 
 pub neg_times : (a b : ℤ) → neg_ℤ a *ℤ b ≡ neg_ℤ (a *ℤ b)
 neg_times a b = *ℤ_comm (neg_ℤ a) b ∙ times_neg b a ∙ ap neg_ℤ (*ℤ_comm b a)
@@ -46,7 +53,21 @@ pub one_times : (a : ℤ) → pos 1 *ℤ a ≡ a
 one_times a = omega (arith, ints)
 
 -- the normal form: a sum of sorted products
-pub ruleset ring = (times_sum, sum_times, times_neg, neg_times, times_times, *ℤ_comm, times_left, times_zero, zero_times, times_one, one_times, +ℤ_idl, +ℤ_idr)
+pub ruleset ring = (
+  times_sum,
+  sum_times,
+  times_neg,
+  neg_times,
+  times_times,
+  *ℤ_comm,
+  times_left,
+  times_zero,
+  zero_times,
+  times_one,
+  one_times,
+  +ℤ_idl,
+  +ℤ_idr,
+)
 
 -- sums, differences and order, with products as atoms
 pub ruleset linear = (same_out, same_in, sum_is_lem, neg_is, lt_out, le_out, below_in, at_most_in, Apart-out)

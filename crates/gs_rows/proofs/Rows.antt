@@ -6,7 +6,8 @@ use Rattle.gs_rows.proofs.Ring.{ring, linear, times_zero, zero_times, times_pos,
 use Rattle.gs_rows.proofs.Sums.{sum_zero}
 
 -- sum of (a z - b y) A
-pub sum_mix : (m : ℕ) (a b : ℤ) (z y g : ℕ → ℤ) → sum_to m (λ i. (a *ℤ z i -ℤ b *ℤ y i) *ℤ g i) ≡ a *ℤ sum_to m (λ i. z i *ℤ g i) -ℤ b *ℤ sum_to m (λ i. y i *ℤ g i)
+pub sum_mix : (m : ℕ) (a b : ℤ) (z y g : ℕ → ℤ) → sum_to m (λ i. (a *ℤ z i -ℤ b *ℤ y i) *ℤ g i)
+    ≡ a *ℤ sum_to m (λ i. z i *ℤ g i) -ℤ b *ℤ sum_to m (λ i. y i *ℤ g i)
 sum_mix zero a b z y g = simp ring (omega (arith, linear))
 sum_mix (suc m) a b z y g = ap (λ t. t +ℤ (a *ℤ z m -ℤ b *ℤ y m) *ℤ g m) (sum_mix m a b z y g) ∙ simp ring (omega (arith, linear))
 
@@ -20,7 +21,8 @@ combination_mix m n A s t p q y z R S f g = record {
       let a : s *ℤ R j ≡ sum_to m (λ i. y i *ℤ A i j) = f.each j h in
       let b : t *ℤ S j ≡ sum_to m (λ i. z i *ℤ A i j) = g.each j h in
       let e : (s *ℤ t) *ℤ (p *ℤ R j -ℤ q *ℤ S j) ≡ (p *ℤ t) *ℤ (s *ℤ R j) -ℤ (q *ℤ s) *ℤ (t *ℤ S j) = simp ring in
-      e ∙ ap (λ v. (p *ℤ t) *ℤ v -ℤ (q *ℤ s) *ℤ (t *ℤ S j)) a ∙ ap (λ v. (p *ℤ t) *ℤ sum_to m (λ i. y i *ℤ A i j) -ℤ (q *ℤ s) *ℤ v) b ∙ sym (sum_mix m (p *ℤ t) (q *ℤ s) y z (λ i. A i j));
+      e ∙ ap (λ v. (p *ℤ t) *ℤ v -ℤ (q *ℤ s) *ℤ (t *ℤ S j)) a ∙ ap (λ v. (p *ℤ t) *ℤ sum_to m (λ i. y i *ℤ A i j) -ℤ (q *ℤ s) *ℤ v) b
+      ∙ sym (sum_mix m (p *ℤ t) (q *ℤ s) y z (λ i. A i j));
 }
 
 -- a list whose next pair can be taken stays regular
@@ -43,9 +45,12 @@ regular_take m n A RowIn ColIn RowIn' ColIn' r c s y R reg u rm cn ne rows cols 
       sym (sum_mix m (y r) (z r) z y (λ i. A i c)) ∙ sum_zero m (λ i. (y r *ℤ z i -ℤ z r *ℤ y i) *ℤ A i c) (λ i im. rw (w i im) (zero_times (A i c))) in
       let a : s *ℤ R c ≡ sum_to m (λ i. y i *ℤ A i c) = u.combination.each c (omega arith) in
       let d : sum_to m (λ i. z i *ℤ A i c) ≡ pos 0 = on c at_c in
-      let f : s *ℤ (R c *ℤ z r) ≡ pos 0 = (let g : y r *ℤ pos 0 -ℤ z r *ℤ (s *ℤ R c) ≡ pos 0 = rw (d, ← a) at at in let k : z r *ℤ (s *ℤ R c) ≡ pos 0 = omega (arith, linear, times_zero (y r)) in let q : s *ℤ (R c *ℤ z r) ≡ z r *ℤ (s *ℤ R c) = simp ring in q ∙ k) in
+      let f : s *ℤ (R c *ℤ z r) ≡ pos 0 = (let g : y r *ℤ pos 0 -ℤ z r *ℤ (s *ℤ R c) ≡ pos 0 = rw (d, ← a) at at in
+      let k : z r *ℤ (s *ℤ R c) ≡ pos 0 = omega (arith, linear, times_zero (y r)) in let q : s *ℤ (R c *ℤ z r) ≡ z r *ℤ (s *ℤ R c) = simp ring in
+      q ∙ k) in
       let zr : z r ≡ pos 0 = cancel_nonzero (R c) (z r) ne (cancel_zero s (R c *ℤ z r) u.combination.positive f) in
-      λ i im. cancel_zero (y r) (z i) u.own (let k : y r *ℤ z i -ℤ z r *ℤ y i ≡ pos 0 = w i im in let l : y r *ℤ z i -ℤ pos 0 *ℤ y i ≡ pos 0 = rw zr at k in omega (arith, linear, zero_times (y i)));
+      λ i im. cancel_zero (y r) (z i) u.own (let k : y r *ℤ z i -ℤ z r *ℤ y i ≡ pos 0 = w i im in let l : y r *ℤ z i -ℤ pos 0 *ℤ y i ≡ pos 0 = rw zr at k in
+      omega (arith, linear, zero_times (y i)));
 }
 
 -- a pivot of a listed row keeps the list regular: column l leaves, column c enters
@@ -67,13 +72,16 @@ regular_swap m n A RowIn ColIn ColIn' l c s y R reg u ln cn ne cols at_c = recor
             let b : R j ≡ pos 0 = u.zeros j cj d in let o : Z j ≡ pos 0 = on j k.0 in rw (o, ← a, b) (simp ring (omega (arith, linear))))
       ]) in
       let at : (s *ℤ R l) *ℤ Z c -ℤ Z l *ℤ Y c ≡ pos 0 =
-      sym (sum_mix m (s *ℤ R l) (Z l) z y (λ i. A i c)) ∙ sum_zero m (λ i. ((s *ℤ R l) *ℤ z i -ℤ Z l *ℤ y i) *ℤ A i c) (λ i im. rw (w i im) (zero_times (A i c))) in
+      sym (sum_mix m (s *ℤ R l) (Z l) z y (λ i. A i c)) ∙ sum_zero m (λ i. ((s *ℤ R l) *ℤ z i -ℤ Z l *ℤ y i) *ℤ A i c)
+      (λ i im. rw (w i im) (zero_times (A i c))) in
       let o : Z c ≡ pos 0 = on c at_c in
-      let k : Z l *ℤ (s *ℤ R c) ≡ pos 0 = (let g : (s *ℤ R l) *ℤ pos 0 -ℤ Z l *ℤ (s *ℤ R c) ≡ pos 0 = rw (o, ← ac) at at in omega (arith, linear, times_zero (s *ℤ R l))) in
+      let k : Z l *ℤ (s *ℤ R c) ≡ pos 0 = (let g : (s *ℤ R l) *ℤ pos 0 -ℤ Z l *ℤ (s *ℤ R c) ≡ pos 0 = rw (o, ← ac) at at in
+      omega (arith, linear, times_zero (s *ℤ R l))) in
       let q : s *ℤ (R c *ℤ Z l) ≡ Z l *ℤ (s *ℤ R c) = simp ring in
       let zl : Z l ≡ pos 0 = cancel_nonzero (R c) (Z l) ne (cancel_zero s (R c *ℤ Z l) u.combination.positive (q ∙ k)) in
       λ i im. cancel_zero (s *ℤ R l) (z i) (times_pos s (R l) u.combination.positive u.own)
-      (let b : (s *ℤ R l) *ℤ z i -ℤ Z l *ℤ y i ≡ pos 0 = w i im in let e : (s *ℤ R l) *ℤ z i -ℤ pos 0 *ℤ y i ≡ pos 0 = rw zl at b in omega (arith, linear, zero_times (y i)));
+      (let b : (s *ℤ R l) *ℤ z i -ℤ Z l *ℤ y i ≡ pos 0 = w i im in let e : (s *ℤ R l) *ℤ z i -ℤ pos 0 *ℤ y i ≡ pos 0 = rw zl at b in
+      omega (arith, linear, zero_times (y i)));
 }
 
 -- two rows of one listed pair are proportional
@@ -89,7 +97,8 @@ listed_proportional m n A RowIn ColIn c s t y z R S reg inside cn f g j jn =
       | inl e ↦ (rw e (simp ring (omega (arith, linear))))
       | inr d ↦ (let a : R k ≡ pos 0 = f.zeros k ck d in let b : S k ≡ pos 0 = g.zeros k ck d in rw (a, b) (simp ring (omega (arith, linear))))
     ]) in
-    let e : (s *ℤ t) *ℤ (S c *ℤ R j -ℤ R c *ℤ S j) ≡ pos 0 = M.each j jn ∙ sum_zero m (λ i. ((S c *ℤ t) *ℤ y i -ℤ (R c *ℤ s) *ℤ z i) *ℤ A i j) (λ i im. rw (w i im) (zero_times (A i j))) in
+    let e : (s *ℤ t) *ℤ (S c *ℤ R j -ℤ R c *ℤ S j) ≡ pos 0 = M.each j jn
+    ∙ sum_zero m (λ i. ((S c *ℤ t) *ℤ y i -ℤ (R c *ℤ s) *ℤ z i) *ℤ A i j) (λ i im. rw (w i im) (zero_times (A i j))) in
     let o : S c *ℤ R j -ℤ R c *ℤ S j ≡ pos 0 = cancel_zero (s *ℤ t) (S c *ℤ R j -ℤ R c *ℤ S j) M.positive e in omega (arith, linear)
 
 -- two rows of one unlisted program row are proportional, with positive factors
@@ -103,7 +112,8 @@ unlisted_proportional m n A RowIn ColIn r s t y z R S reg inside out f g j jn =
       | inl e ↦ (rw e (simp ring (omega (arith, linear))))
       | inr d ↦ (let a : y i ≡ pos 0 = f.others i im no d in let b : z i ≡ pos 0 = g.others i im no d in rw (a, b) (simp ring (omega (arith, linear))))
     ])
-    (λ k ck. let kn : k ≤ n = omega (arith, inside k ck) in let a : s *ℤ R k ≡ sum_to m (λ i. y i *ℤ A i k) = f.combination.each k kn in let b : t *ℤ S k ≡ sum_to m (λ i. z i *ℤ A i k) = g.combination.each k kn in
+    (λ k ck. let kn : k ≤ n = omega (arith, inside k ck) in let a : s *ℤ R k ≡ sum_to m (λ i. y i *ℤ A i k) = f.combination.each k kn in
+    let b : t *ℤ S k ≡ sum_to m (λ i. z i *ℤ A i k) = g.combination.each k kn in
     let a0 : R k ≡ pos 0 = f.zeros k ck in let b0 : S k ≡ pos 0 = g.zeros k ck in
     sum_mix m (z r) (y r) y z (λ i. A i k) ∙ rw (← a, ← b, a0, b0) (simp ring (omega (arith, linear)))) in
     let a : s *ℤ R j ≡ sum_to m (λ i. y i *ℤ A i j) = f.combination.each j jn in let b : t *ℤ S j ≡ sum_to m (λ i. z i *ℤ A i j) = g.combination.each j jn in

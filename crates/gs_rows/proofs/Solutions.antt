@@ -15,19 +15,23 @@ dot n R v = sum_to n (λ j. R j *ℤ v j)
 pub record IsKilled (m n : ℕ) (A : ℕ → ℕ → ℤ) (v : ℕ → ℤ) : Type 0 where
   pub row : (i : ℕ) → i < m → dot (suc n) (A i) v ≡ pos 0
 
-pub combination_dot : (m n : ℕ) (A : ℕ → ℕ → ℤ) (s : ℤ) (y R v : ℕ → ℤ) → IsCombination m n A s y R → s *ℤ dot (suc n) R v ≡ sum_to m (λ i. y i *ℤ dot (suc n) (A i) v)
+pub combination_dot : (m n : ℕ) (A : ℕ → ℕ → ℤ) (s : ℤ) (y R v : ℕ → ℤ) → IsCombination m n A s y R
+    → s *ℤ dot (suc n) R v ≡ sum_to m (λ i. y i *ℤ dot (suc n) (A i) v)
 combination_dot m n A s y R v u =
     sym (sum_scale (suc n) s (λ j. R j *ℤ v j))
     ∙ sum_same (suc n) (λ j. s *ℤ (R j *ℤ v j)) (λ j. sum_to m (λ i. (y i *ℤ A i j) *ℤ v j))
-    (λ j h. sym (times_times s (R j) (v j)) ∙ ap (λ t. t *ℤ v j) (u.each j (omega arith)) ∙ *ℤ_comm (sum_to m (λ i. y i *ℤ A i j)) (v j) ∙ sym (sum_scale m (v j) (λ i. y i *ℤ A i j))
+    (λ j h. sym (times_times s (R j) (v j)) ∙ ap (λ t. t *ℤ v j) (u.each j (omega arith)) ∙ *ℤ_comm (sum_to m (λ i. y i *ℤ A i j)) (v j)
+    ∙ sym (sum_scale m (v j) (λ i. y i *ℤ A i j))
     ∙ sum_same m (λ i. v j *ℤ (y i *ℤ A i j)) (λ i. (y i *ℤ A i j) *ℤ v j) (λ i k. *ℤ_comm (v j) (y i *ℤ A i j)))
     ∙ sum_swap (suc n) m (λ j i. (y i *ℤ A i j) *ℤ v j)
     ∙ sum_same m (λ i. sum_to (suc n) (λ j. (y i *ℤ A i j) *ℤ v j)) (λ i. y i *ℤ dot (suc n) (A i) v)
-    (λ i h. sum_same (suc n) (λ j. (y i *ℤ A i j) *ℤ v j) (λ j. y i *ℤ (A i j *ℤ v j)) (λ j k. times_times (y i) (A i j) (v j)) ∙ sum_scale (suc n) (y i) (λ j. A i j *ℤ v j))
+    (λ i h. sum_same (suc n) (λ j. (y i *ℤ A i j) *ℤ v j) (λ j. y i *ℤ (A i j *ℤ v j)) (λ j k. times_times (y i) (A i j) (v j))
+    ∙ sum_scale (suc n) (y i) (λ j. A i j *ℤ v j))
 
 pub killed_row : (m n : ℕ) (A : ℕ → ℕ → ℤ) (s : ℤ) (y R v : ℕ → ℤ) → IsCombination m n A s y R → IsKilled m n A v → dot (suc n) R v ≡ pos 0
 killed_row m n A s y R v u k =
-    cancel_zero s (dot (suc n) R v) u.positive (combination_dot m n A s y R v u ∙ sum_zero m (λ i. y i *ℤ dot (suc n) (A i) v) (λ i h. ap (λ t. y i *ℤ t) (k.row i h) ∙ times_zero (y i)))
+    cancel_zero s (dot (suc n) R v) u.positive (combination_dot m n A s y R v u
+    ∙ sum_zero m (λ i. y i *ℤ dot (suc n) (A i) v) (λ i h. ap (λ t. y i *ℤ t) (k.row i h) ∙ times_zero (y i)))
 
 -- ---- a full list: row i is listed with column col i
 abbrev pub AllRows : ℕ → ℕ → Type 0
@@ -43,13 +47,16 @@ pub record IsTable (m n : ℕ) (A : ℕ → ℕ → ℤ) (col : ℕ → ℕ) (R 
   pub inside : (i : ℕ) → i < m → col i < n
 
 -- a vector that every row of the table kills is killed by every combination
-pub table_kills : (k m n : ℕ) (A : ℕ → ℕ → ℤ) (col : ℕ → ℕ) (R : ℕ → ℕ → ℤ) (v : ℕ → ℤ) → IsTable m n A col R → ((i : ℕ) → i < m → dot (suc n) (R i) v ≡ pos 0) → k ≤ m
+pub table_kills : (k m n : ℕ) (A : ℕ → ℕ → ℤ) (col : ℕ → ℕ) (R : ℕ → ℕ → ℤ) (v : ℕ → ℤ) → IsTable m n A col R
+    → ((i : ℕ) → i < m → dot (suc n) (R i) v ≡ pos 0) → k ≤ m
     → (s : ℤ) (z B : ℕ → ℤ) → IsCombination m n A s z B → ((i : ℕ) → k ≤ i → i < m → B (col i) ≡ pos 0) → dot (suc n) B v ≡ pos 0
 table_kills zero m n A col R v T kill km s z B u off =
     let w : (i : ℕ) → i < m → z i ≡ pos 0 = T.regular.only z (λ i h out. absurd (out h))
-    (λ j cj. let jn : j ≤ n = omega (arith, T.inside cj.0 cj.1, cj.2) in sym (u.each j jn) ∙ ap (λ t. s *ℤ t) (ap B (sym cj.2) ∙ off cj.0 (omega arith) cj.1) ∙ times_zero s) in
+    (λ j cj. let jn : j ≤ n = omega (arith, T.inside cj.0 cj.1, cj.2) in
+    sym (u.each j jn) ∙ ap (λ t. s *ℤ t) (ap B (sym cj.2) ∙ off cj.0 (omega arith) cj.1) ∙ times_zero s) in
     sum_zero (suc n) (λ j. B j *ℤ v j) (λ j h.
-    let b : B j ≡ pos 0 = cancel_zero s (B j) u.positive (u.each j (omega arith) ∙ sum_zero m (λ i. z i *ℤ A i j) (λ i q. ap (λ t. t *ℤ A i j) (w i q) ∙ zero_times (A i j))) in
+    let b : B j ≡ pos 0 = cancel_zero s (B j) u.positive (u.each j (omega arith)
+    ∙ sum_zero m (λ i. z i *ℤ A i j) (λ i q. ap (λ t. t *ℤ A i j) (w i q) ∙ zero_times (A i j))) in
     ap (λ t. t *ℤ v j) b ∙ zero_times (v j))
 table_kills (suc k) m n A col R v T kill km s z B u off =
     let km' : k < m = omega arith in
@@ -67,7 +74,8 @@ table_kills (suc k) m n A col R v T kill km s z B u off =
     ]) in
     let split : dot (suc n) (λ j. own *ℤ B j -ℤ b *ℤ R k j) v ≡ own *ℤ dot (suc n) B v -ℤ b *ℤ dot (suc n) (R k) v = sum_mix (suc n) own b B (R k) v in
     let kk : dot (suc n) (R k) v ≡ pos 0 = kill k km' in
-    let e : own *ℤ dot (suc n) B v ≡ pos 0 = (let f : own *ℤ dot (suc n) B v -ℤ b *ℤ pos 0 ≡ pos 0 = ap (λ t. own *ℤ dot (suc n) B v -ℤ b *ℤ t) (sym kk) ∙ sym split ∙ rest in omega (arith, linear, times_zero b)) in
+    let e : own *ℤ dot (suc n) B v ≡ pos 0 = (let f : own *ℤ dot (suc n) B v -ℤ b *ℤ pos 0 ≡ pos 0 =
+    ap (λ t. own *ℤ dot (suc n) B v -ℤ b *ℤ t) (sym kk) ∙ sym split ∙ rest in omega (arith, linear, times_zero b)) in
     cancel_zero own (dot (suc n) B v) r.2.own e
 
 abbrev pub only_at : ℕ → ℕ → ℤ
@@ -82,12 +90,17 @@ only_at_other i k ne = elim (cases_eq k i) as (λ q. elim q as (λ w. ℤ) [ inl
 pub program_row : (m n : ℕ) (A : ℕ → ℕ → ℤ) (i : ℕ) → i < m → IsCombination m n A (pos 1) (only_at i) (A i)
 program_row m n A i im = record {
   positive = omega (arith, linear);
-  each = λ j jn. one_times (A i j) ∙ sym (sum_single m (λ k. only_at i k *ℤ A k j) i im (λ k km ne. ap (λ t. t *ℤ A k j) (only_at_other i k ne) ∙ zero_times (A k j)) ∙ ap (λ t. t *ℤ A i j) (only_at_same i) ∙ one_times (A i j));
+  each = λ j jn. one_times (A i j) ∙ sym (sum_single m (λ k. only_at i k *ℤ A k j) i im (λ k km ne. ap (λ t. t *ℤ A k j) (only_at_other i k ne)
+      ∙ zero_times (A k j)) ∙ ap (λ t. t *ℤ A i j) (only_at_same i) ∙ one_times (A i j));
 }
 
 -- so what solves the table solves the program
-pub table_solves : (m n : ℕ) (A : ℕ → ℕ → ℤ) (col : ℕ → ℕ) (R : ℕ → ℕ → ℤ) (v : ℕ → ℤ) → IsTable m n A col R → ((i : ℕ) → i < m → dot (suc n) (R i) v ≡ pos 0) → IsKilled m n A v
-table_solves m n A col R v T kill = record { row = λ i im. table_kills m m n A col R v T kill (omega arith) (pos 1) (only_at i) (A i) (program_row m n A i im) (λ k mk km. absurd (omega arith)) }
+pub table_solves : (m n : ℕ) (A : ℕ → ℕ → ℤ) (col : ℕ → ℕ) (R : ℕ → ℕ → ℤ) (v : ℕ → ℤ) → IsTable m n A col R → ((i : ℕ) → i < m → dot (suc n) (R i) v ≡ pos 0)
+    → IsKilled m n A v
+table_solves m n A col R v T kill = record {
+  row = λ i im. table_kills m m n A col R v T kill (omega arith) (pos 1) (only_at i) (A i) (program_row m n A i im)
+      (λ k mk km. absurd (omega arith));
+}
 
 -- the column is listed, with its row, or it is not
 pub find_col : (m : ℕ) (col : ℕ → ℕ) (j : ℕ) → (InCols m col j) ⊎ ((i : ℕ) → i < m → col i ≡ j → ⊥)
@@ -110,22 +123,26 @@ pub record IsBasic (m n : ℕ) (A : ℕ → ℕ → ℤ) (col : ℕ → ℕ) (D 
 pub sum_two : (n : ℕ) (f : ℕ → ℤ) (p q : ℕ) → p < n → q < n → p ≢ q → ((j : ℕ) → j < n → j ≢ p → j ≢ q → f j ≡ pos 0) → sum_to n f ≡ f p +ℤ f q
 sum_two zero f p q pn qn ne e = absurd (omega arith)
 sum_two (suc n) f p q pn qn ne e = elim (cases_eq p n) [
-  | inl pe ↦ (let a : sum_to n f ≡ f q = sum_single n f q (omega arith) (λ j jn d. e j (omega arith) (λ (r : j ≡ p). omega arith) d) in let b : f n ≡ f p = ap f (sym pe) in omega (arith, linear))
+  | inl pe ↦ (let a : sum_to n f ≡ f q = sum_single n f q (omega arith) (λ j jn d. e j (omega arith) (λ (r : j ≡ p). omega arith) d) in
+      let b : f n ≡ f p = ap f (sym pe) in omega (arith, linear))
   | inr pd ↦ elim (cases_eq q n) [
-    | inl qe ↦ (let a : sum_to n f ≡ f p = sum_single n f p (omega arith) (λ j jn d. e j (omega arith) d (λ (r : j ≡ q). omega arith)) in let b : f n ≡ f q = ap f (sym qe) in omega (arith, linear))
+    | inl qe ↦ (let a : sum_to n f ≡ f p = sum_single n f p (omega arith) (λ j jn d. e j (omega arith) d (λ (r : j ≡ q). omega arith)) in
+        let b : f n ≡ f q = ap f (sym qe) in omega (arith, linear))
     | inr qd ↦ (let a : sum_to n f ≡ f p +ℤ f q = sum_two n f p q (omega arith) (omega arith) ne (λ j jn d g. e j (omega arith) d g) in
         let b : f n ≡ pos 0 = e n (omega arith) (λ (r : n ≡ p). pd (sym r)) (λ (r : n ≡ q). qd (sym r)) in omega (arith, linear))
   ]
 ]
 
 -- a row at a killed vector that is 0 outside the listed columns and one further column e
-pub row_at_two : (m n : ℕ) (A : ℕ → ℕ → ℤ) (col : ℕ → ℕ) (R : ℕ → ℕ → ℤ) (e : ℕ) (D : ℤ) (v : ℕ → ℤ) → IsTable m n A col R → IsKilled m n A v → v n ≡ neg_ℤ D → e < n → ((i : ℕ) → i < m → col i ≡ e → ⊥)
+pub row_at_two : (m n : ℕ) (A : ℕ → ℕ → ℤ) (col : ℕ → ℕ) (R : ℕ → ℕ → ℤ) (e : ℕ) (D : ℤ) (v : ℕ → ℤ) → IsTable m n A col R → IsKilled m n A v → v n ≡ neg_ℤ D
+    → e < n → ((i : ℕ) → i < m → col i ≡ e → ⊥)
     → ((j : ℕ) → j < n → ((i : ℕ) → i < m → col i ≡ j → ⊥) → j ≢ e → v j ≡ pos 0)
     → (i : ℕ) → i < m → R i (col i) *ℤ v (col i) +ℤ R i e *ℤ v e ≡ D *ℤ R i n
 row_at_two m n A col R e D v T k side en out off i im =
     let r = T.row i im in
     let z : dot (suc n) (R i) v ≡ pos 0 = killed_row m n A r.0 r.1 (R i) v r.2.combination k in
-    let s : sum_to n (λ j. R i j *ℤ v j) ≡ R i (col i) *ℤ v (col i) +ℤ R i e *ℤ v e = sum_two n (λ j. R i j *ℤ v j) (col i) e (T.inside i im) en (λ q. out i im q)
+    let s : sum_to n (λ j. R i j *ℤ v j) ≡ R i (col i) *ℤ v (col i) +ℤ R i e *ℤ v e =
+    sum_two n (λ j. R i j *ℤ v j) (col i) e (T.inside i im) en (λ q. out i im q)
     (λ j jn d g. elim (find_col m col j) [
       | inl f ↦ (ap (λ t. t *ℤ v j) (r.2.zeros j f d) ∙ zero_times (v j))
       | inr none ↦ (ap (λ t. R i j *ℤ t) (off j jn none g) ∙ times_zero (R i j))
@@ -147,7 +164,8 @@ row_at_basic m n A col R D v T u i im =
     omega (arith, linear)
 
 -- quotients over one denominator
-pub common_values : (k : ℕ) (own rhs : ℕ → ℤ) → ((i : ℕ) → i < k → pos 0 <ℤ own i) → (D : ℤ) × (w : ℕ → ℤ) × (pos 0 <ℤ D) × ((i : ℕ) → i < k → own i *ℤ w i ≡ D *ℤ rhs i)
+pub common_values : (k : ℕ) (own rhs : ℕ → ℤ) → ((i : ℕ) → i < k → pos 0 <ℤ own i)
+    → (D : ℤ) × (w : ℕ → ℤ) × (pos 0 <ℤ D) × ((i : ℕ) → i < k → own i *ℤ w i ≡ D *ℤ rhs i)
 common_values zero own rhs p = (pos 1, rhs, omega (arith, linear), λ i h. absurd (omega arith))
 common_values (suc k) own rhs p =
     let c = common_values k own rhs (λ i h. p i (omega arith)) in
@@ -166,7 +184,8 @@ common_values (suc k) own rhs p =
 pub basic_exists : (m n : ℕ) (A : ℕ → ℕ → ℤ) (col : ℕ → ℕ) (R : ℕ → ℕ → ℤ) → IsTable m n A col R → (D : ℤ) × (v : ℕ → ℤ) × IsBasic m n A col D v
 basic_exists m n A col R T =
     let c = common_values m (λ i. R i (col i)) (λ i. R i n) (λ i h. (T.row i h).2.own) in
-    let pick : (j : ℕ) → (j ≡ n) ⊎ (j ≡ n → ⊥) → (InCols m col j) ⊎ ((i : ℕ) → i < m → col i ≡ j → ⊥) → ℤ = λ j q f. elim q [ inl e ↦ neg_ℤ c.0 | inr d ↦ elim f [ inl g ↦ c.1 g.0 | inr none ↦ pos 0 ] ] in
+    let pick : (j : ℕ) → (j ≡ n) ⊎ (j ≡ n → ⊥) → (InCols m col j) ⊎ ((i : ℕ) → i < m → col i ≡ j → ⊥) → ℤ =
+    λ j q f. elim q [ inl e ↦ neg_ℤ c.0 | inr d ↦ elim f [ inl g ↦ c.1 g.0 | inr none ↦ pos 0 ] ] in
     let v : ℕ → ℤ = λ j. pick j (cases_eq j n) (find_col m col j) in
     let side : v n ≡ neg_ℤ c.0 = elim (cases_eq n n) as (λ q. pick n q (find_col m col n) ≡ neg_ℤ c.0) [ inl e ↦ refl | inr d ↦ absurd (d refl) ] in
     let at : (i : ℕ) → i < m → v (col i) ≡ c.1 i = λ i im. elim (cases_eq (col i) n) as (λ q. pick (col i) q (find_col m col (col i)) ≡ c.1 i) [
@@ -176,7 +195,8 @@ basic_exists m n A col R T =
         | inr none ↦ absurd (none i im refl)
       ]
     ] in
-    let out : (j : ℕ) → j < n → ((i : ℕ) → i < m → col i ≡ j → ⊥) → v j ≡ pos 0 = λ j jn none. elim (cases_eq j n) as (λ q. pick j q (find_col m col j) ≡ pos 0) [
+    let out : (j : ℕ) → j < n → ((i : ℕ) → i < m → col i ≡ j → ⊥) → v j ≡ pos 0 =
+    λ j jn none. elim (cases_eq j n) as (λ q. pick j q (find_col m col j) ≡ pos 0) [
       | inl e ↦ absurd (omega arith)
       | inr d ↦ elim (find_col m col j) as (λ f. pick j (inr d) f ≡ pos 0) [ inl g ↦ absurd (none g.0 g.1 g.2) | inr z ↦ refl ]
     ] in (
@@ -200,7 +220,8 @@ basic_exists m n A col R T =
     )
 
 -- ---- the aim
-pub aim_dot : (m n : ℕ) (A : ℕ → ℕ → ℤ) (RowIn ColIn : ℕ → Type 0) (aim : ℕ → ℤ) (s : ℤ) (y a v : ℕ → ℤ) → IsAimRow m n A RowIn ColIn aim s y a → IsKilled m n A v
+pub aim_dot : (m n : ℕ) (A : ℕ → ℕ → ℤ) (RowIn ColIn : ℕ → Type 0) (aim : ℕ → ℤ) (s : ℤ) (y a v : ℕ → ℤ) → IsAimRow m n A RowIn ColIn aim s y a
+    → IsKilled m n A v
     → a (suc n) *ℤ sum_to n (λ j. aim j *ℤ v j) ≡ sum_to n (λ j. a j *ℤ v j) -ℤ a n *ℤ v n
 aim_dot m n A RowIn ColIn aim s y a v u k =
     let T : ℕ → ℤ = λ j. a (suc n) *ℤ aim j -ℤ a j in
@@ -217,12 +238,14 @@ aim_dot m n A RowIn ColIn aim s y a v u k =
     } in
     let z : dot (suc n) whole v ≡ pos 0 = killed_row m n A s y whole v comb k in
     let e : sum_to n (λ j. whole j *ℤ v j) ≡ a (suc n) *ℤ sum_to n (λ j. aim j *ℤ v j) -ℤ pos 1 *ℤ sum_to n (λ j. a j *ℤ v j) =
-    sum_same n (λ j. whole j *ℤ v j) (λ j. (a (suc n) *ℤ aim j -ℤ pos 1 *ℤ a j) *ℤ v j) (λ j jn. ap (λ t. t *ℤ v j) (below j jn ∙ simp ring)) ∙ sum_mix n (a (suc n)) (pos 1) aim a v in
+    sum_same n (λ j. whole j *ℤ v j) (λ j. (a (suc n) *ℤ aim j -ℤ pos 1 *ℤ a j) *ℤ v j) (λ j jn. ap (λ t. t *ℤ v j) (below j jn ∙ simp ring))
+    ∙ sum_mix n (a (suc n)) (pos 1) aim a v in
     let f : whole n *ℤ v n ≡ a n *ℤ v n = ap (λ t. t *ℤ v n) at_side in
     omega (arith, linear, one_times (sum_to n (λ j. a j *ℤ v j)))
 
 -- at a killed vector that is 0 outside the listed columns and one further column e
-pub aim_at_two : (m n : ℕ) (A : ℕ → ℕ → ℤ) (RowIn : ℕ → Type 0) (col : ℕ → ℕ) (aim : ℕ → ℤ) (s : ℤ) (y a v : ℕ → ℤ) (D : ℤ) (e : ℕ) → IsAimRow m n A RowIn (InCols m col) aim s y a → IsKilled m n A v → v n ≡ neg_ℤ D → e < n
+pub aim_at_two : (m n : ℕ) (A : ℕ → ℕ → ℤ) (RowIn : ℕ → Type 0) (col : ℕ → ℕ) (aim : ℕ → ℤ) (s : ℤ) (y a v : ℕ → ℤ) (D : ℤ) (e : ℕ)
+    → IsAimRow m n A RowIn (InCols m col) aim s y a → IsKilled m n A v → v n ≡ neg_ℤ D → e < n
     → ((j : ℕ) → j < n → ((i : ℕ) → i < m → col i ≡ j → ⊥) → j ≢ e → v j ≡ pos 0)
     → a (suc n) *ℤ sum_to n (λ j. aim j *ℤ v j) ≡ a e *ℤ v e +ℤ D *ℤ a n
 aim_at_two m n A RowIn col aim s y a v D e u k side en off =
@@ -235,10 +258,12 @@ aim_at_two m n A RowIn col aim s y a v D e u k side en off =
     let h : a n *ℤ v n ≡ neg_ℤ (D *ℤ a n) = ap (λ t. a n *ℤ t) side ∙ simp ring in
     omega (arith, linear)
 
-pub aim_at_basic : (m n : ℕ) (A : ℕ → ℕ → ℤ) (RowIn : ℕ → Type 0) (col : ℕ → ℕ) (aim : ℕ → ℤ) (s : ℤ) (y a v : ℕ → ℤ) (D : ℤ) → IsAimRow m n A RowIn (InCols m col) aim s y a → IsBasic m n A col D v
+pub aim_at_basic : (m n : ℕ) (A : ℕ → ℕ → ℤ) (RowIn : ℕ → Type 0) (col : ℕ → ℕ) (aim : ℕ → ℤ) (s : ℤ) (y a v : ℕ → ℤ) (D : ℤ)
+    → IsAimRow m n A RowIn (InCols m col) aim s y a → IsBasic m n A col D v
     → a (suc n) *ℤ sum_to n (λ j. aim j *ℤ v j) ≡ D *ℤ a n
 aim_at_basic m n A RowIn col aim s y a v D u b =
-    let f : a (suc n) *ℤ sum_to n (λ j. aim j *ℤ v j) ≡ sum_to n (λ j. a j *ℤ v j) -ℤ a n *ℤ v n = aim_dot m n A RowIn (InCols m col) aim s y a v u b.killed in
+    let f : a (suc n) *ℤ sum_to n (λ j. aim j *ℤ v j) ≡ sum_to n (λ j. a j *ℤ v j) -ℤ a n *ℤ v n =
+    aim_dot m n A RowIn (InCols m col) aim s y a v u b.killed in
     let g : sum_to n (λ j. a j *ℤ v j) ≡ pos 0 = sum_zero n (λ j. a j *ℤ v j)
     (λ j jn. elim (find_col m col j) [
       | inl c ↦ (ap (λ t. t *ℤ v j) (u.zeros j c) ∙ zero_times (v j))

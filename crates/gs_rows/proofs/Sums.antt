@@ -8,7 +8,8 @@ sum_same (suc n) f g e = ap (λ t. t +ℤ f n) (sum_same n f g (λ i h. e i (ome
 
 pub sum_zero : (n : ℕ) (f : ℕ → ℤ) → ((i : ℕ) → i < n → f i ≡ pos 0) → sum_to n f ≡ pos 0
 sum_zero zero f e = refl
-sum_zero (suc n) f e = let a : sum_to n f ≡ pos 0 = sum_zero n f (λ i h. e i (omega arith)) in let b : f n ≡ pos 0 = e n (omega arith) in omega (arith, linear)
+sum_zero (suc n) f e = let a : sum_to n f ≡ pos 0 = sum_zero n f (λ i h. e i (omega arith)) in let b : f n ≡ pos 0 = e n (omega arith) in
+    omega (arith, linear)
 
 pub sum_add : (n : ℕ) (f g : ℕ → ℤ) → sum_to n (λ i. f i +ℤ g i) ≡ sum_to n f +ℤ sum_to n g
 sum_add zero f g = refl
@@ -28,10 +29,13 @@ cases_last i n h = grind arith
 pub sum_single : (n : ℕ) (f : ℕ → ℤ) (k : ℕ) → k < n → ((i : ℕ) → i < n → i ≢ k → f i ≡ pos 0) → sum_to n f ≡ f k
 sum_single zero f k h e = absurd (omega arith)
 sum_single (suc n) f k h e = elim (cases_last k n h) [
-  | inl l ↦ (let a : sum_to n f ≡ f k = sum_single n f k l (λ i p q. e i (omega arith) q) in let b : f n ≡ pos 0 = e n (omega arith) (λ (q : n ≡ k). omega arith) in omega (arith, linear))
-  | inr q ↦ (let a : sum_to n f ≡ pos 0 = sum_zero n f (λ i p. e i (omega arith) (λ (r : i ≡ k). omega arith)) in let b : f n ≡ f k = ap f (sym q) in omega (arith, linear))
+  | inl l ↦ (let a : sum_to n f ≡ f k = sum_single n f k l (λ i p q. e i (omega arith) q) in
+      let b : f n ≡ pos 0 = e n (omega arith) (λ (q : n ≡ k). omega arith) in omega (arith, linear))
+  | inr q ↦ (let a : sum_to n f ≡ pos 0 = sum_zero n f (λ i p. e i (omega arith) (λ (r : i ≡ k). omega arith)) in let b : f n ≡ f k = ap f (sym q) in
+      omega (arith, linear))
 ]
 
 pub sum_nonneg : (n : ℕ) (f : ℕ → ℤ) → ((i : ℕ) → i < n → pos 0 ≤ℤ f i) → pos 0 ≤ℤ sum_to n f
 sum_nonneg zero f e = omega (arith, linear)
-sum_nonneg (suc n) f e = let a : pos 0 ≤ℤ sum_to n f = sum_nonneg n f (λ i h. e i (omega arith)) in let b : pos 0 ≤ℤ f n = e n (omega arith) in omega (arith, linear)
+sum_nonneg (suc n) f e = let a : pos 0 ≤ℤ sum_to n f = sum_nonneg n f (λ i h. e i (omega arith)) in let b : pos 0 ≤ℤ f n = e n (omega arith) in
+    omega (arith, linear)

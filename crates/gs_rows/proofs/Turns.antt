@@ -33,7 +33,8 @@ out_before m n Free col R a next e r u j none ne i im q = elim (cases_eq i r) [
   | inr d ↦ none i im (sym (u.kept i im d) ∙ q)
 ]
 
-pub left_out : (m n : ℕ) (A : ℕ → ℕ → ℤ) (Free : ℕ → Type 0) (col : ℕ → ℕ) (R : ℕ → ℕ → ℤ) (a : ℕ → ℤ) (next : ℕ → ℕ) (e r : ℕ) → IsTable m n A col R → IsPivot m n Free col R a next e r
+pub left_out : (m n : ℕ) (A : ℕ → ℕ → ℤ) (Free : ℕ → Type 0) (col : ℕ → ℕ) (R : ℕ → ℕ → ℤ) (a : ℕ → ℤ) (next : ℕ → ℕ) (e r : ℕ) → IsTable m n A col R
+    → IsPivot m n Free col R a next e r
     → (i : ℕ) → i < m → next i ≡ col r → ⊥
 left_out m n A Free col R a next e r T u i im q = elim (cases_eq i r) [
   | inl same ↦ u.unlisted r u.row (sym q ∙ ap next same ∙ u.entered)
@@ -41,12 +42,14 @@ left_out m n A Free col R a next e r T u i im q = elim (cases_eq i r) [
 ]
 
 -- a basic vector of the next list, seen from this one
-pub next_row : (m n : ℕ) (A : ℕ → ℕ → ℤ) (Free : ℕ → Type 0) (col : ℕ → ℕ) (R : ℕ → ℕ → ℤ) (a : ℕ → ℤ) (next : ℕ → ℕ) (e r : ℕ) (D : ℤ) (v : ℕ → ℤ) → IsTable m n A col R → IsPivot m n Free col R a next e r → IsBasic m n A next D v
+pub next_row : (m n : ℕ) (A : ℕ → ℕ → ℤ) (Free : ℕ → Type 0) (col : ℕ → ℕ) (R : ℕ → ℕ → ℤ) (a : ℕ → ℤ) (next : ℕ → ℕ) (e r : ℕ) (D : ℤ) (v : ℕ → ℤ)
+    → IsTable m n A col R → IsPivot m n Free col R a next e r → IsBasic m n A next D v
     → (i : ℕ) → i < m → R i (col i) *ℤ v (col i) +ℤ R i e *ℤ v e ≡ D *ℤ R i n
 next_row m n A Free col R a next e r D v T u b i im =
     row_at_two m n A col R e D v T b.killed b.side u.column u.unlisted (λ j jn none d. b.outside j jn (out_before m n Free col R a next e r u j none d)) i im
 
-pub next_enter : (m n : ℕ) (A : ℕ → ℕ → ℤ) (Free : ℕ → Type 0) (col : ℕ → ℕ) (R : ℕ → ℕ → ℤ) (a : ℕ → ℤ) (next : ℕ → ℕ) (e r : ℕ) (D : ℤ) (v : ℕ → ℤ) → IsTable m n A col R → IsPivot m n Free col R a next e r → IsBasic m n A next D v
+pub next_enter : (m n : ℕ) (A : ℕ → ℕ → ℤ) (Free : ℕ → Type 0) (col : ℕ → ℕ) (R : ℕ → ℕ → ℤ) (a : ℕ → ℤ) (next : ℕ → ℕ) (e r : ℕ) (D : ℤ) (v : ℕ → ℤ)
+    → IsTable m n A col R → IsPivot m n Free col R a next e r → IsBasic m n A next D v
     → R r e *ℤ v e ≡ D *ℤ R r n
 next_enter m n A Free col R a next e r D v T u b =
     let f : R r (col r) *ℤ v (col r) +ℤ R r e *ℤ v e ≡ D *ℤ R r n = next_row m n A Free col R a next e r D v T u b r u.row in
@@ -54,7 +57,8 @@ next_enter m n A Free col R a next e r D v T u b =
     let g : R r (col r) *ℤ v (col r) ≡ pos 0 = ap (λ t. R r (col r) *ℤ t) z ∙ times_zero (R r (col r)) in omega (arith, linear)
 
 -- the next table is feasible
-pub next_feasible : (m n : ℕ) (A : ℕ → ℕ → ℤ) (aim : ℕ → ℤ) (Free : ℕ → Type 0) (col : ℕ → ℕ) (R : ℕ → ℕ → ℤ) (a : ℕ → ℤ) (next : ℕ → ℕ) (S : ℕ → ℕ → ℤ) (e r : ℕ)
+pub next_feasible : (m n : ℕ) (A : ℕ → ℕ → ℤ) (aim : ℕ → ℤ) (Free : ℕ → Type 0) (col : ℕ → ℕ) (R : ℕ → ℕ → ℤ) (a : ℕ → ℤ) (next : ℕ → ℕ) (S : ℕ → ℕ
+    → ℤ) (e r : ℕ)
     → IsState m n A aim Free col R a → IsPivot m n Free col R a next e r → IsTable m n A next S
     → (i : ℕ) → i < m → (Free (next i) → ⊥) → pos 0 ≤ℤ S i n
 next_feasible m n A aim Free col R a next S e r st u T' i im bound =
@@ -84,7 +88,8 @@ next_feasible m n A aim Free col R a next S e r st u T' i im bound =
                 let g2 : D *ℤ (R i n *ℤ R r e -ℤ R r n *ℤ R i e) ≡ R r e *ℤ (D *ℤ R i n) -ℤ R i e *ℤ (D *ℤ R r n) = simp ring in omega (arith, linear)) in
                 cancel_nonneg (R r e *ℤ R i (col i)) (v (col i)) (times_pos (R r e) (R i (col i)) u.pivot own) (omega (arith, linear)))
             | inr more ↦
-                (let g : pos 0 ≤ℤ (neg_ℤ (R i e) *ℤ v e) = times_nonneg (neg_ℤ (R i e)) (v e) (elim more [ inl z ↦ omega (arith, linear) | inr x ↦ omega (arith, linear) ]) up_e in
+                (let g : pos 0 ≤ℤ (neg_ℤ (R i e) *ℤ v e) = times_nonneg (neg_ℤ (R i e)) (v e)
+                (elim more [ inl z ↦ omega (arith, linear) | inr x ↦ omega (arith, linear) ]) up_e in
                 let h : pos 0 ≤ℤ (D *ℤ R i n) = times_nonneg D (R i n) D0 ri in
                 let k : neg_ℤ (R i e) *ℤ v e ≡ neg_ℤ (R i e *ℤ v e) = simp ring in
                 cancel_nonneg (R i (col i)) (v (col i)) own (omega (arith, linear)))
@@ -96,12 +101,14 @@ next_feasible m n A aim Free col R a next S e r st u T' i im bound =
     cancel_nonneg D (S i n) Dp (omega (arith, linear))
 
 -- the aim's value rises by a multiple of the entering column's value; b is the next aim's row
-pub aim_rise : (m n : ℕ) (A : ℕ → ℕ → ℤ) (aim : ℕ → ℤ) (Free : ℕ → Type 0) (col : ℕ → ℕ) (R : ℕ → ℕ → ℤ) (a : ℕ → ℤ) (next : ℕ → ℕ) (S : ℕ → ℕ → ℤ) (b : ℕ → ℤ) (e r : ℕ) (D : ℤ) (v : ℕ → ℤ)
+pub aim_rise : (m n : ℕ) (A : ℕ → ℕ → ℤ) (aim : ℕ → ℤ) (Free : ℕ → Type 0) (col : ℕ → ℕ) (R : ℕ → ℕ → ℤ) (a : ℕ → ℤ) (next : ℕ → ℕ) (S : ℕ → ℕ → ℤ) (b : ℕ
+    → ℤ) (e r : ℕ) (D : ℤ) (v : ℕ → ℤ)
     → IsState m n A aim Free col R a → IsPivot m n Free col R a next e r → IsState m n A aim Free next S b → IsBasic m n A next D v
     → D *ℤ (a (suc n) *ℤ b n -ℤ b (suc n) *ℤ a n) ≡ b (suc n) *ℤ (a e *ℤ v e)
 aim_rise m n A aim Free col R a next S b e r D v st u st' v_basic =
     let X : ℤ = sum_to n (λ j. aim j *ℤ v j) in
-    let f : a (suc n) *ℤ X ≡ a e *ℤ v e +ℤ D *ℤ a n = aim_at_two m n A (AllRows m) col aim st.aim_row.0 st.aim_row.1 a v D e st.aim_row.2 v_basic.killed v_basic.side u.column
+    let f : a (suc n) *ℤ X ≡ a e *ℤ v e +ℤ D *ℤ a n = aim_at_two m n A (AllRows m) col aim st.aim_row.0 st.aim_row.1 a v D e st.aim_row.2 v_basic.killed
+    v_basic.side u.column
     (λ j jn none d. v_basic.outside j jn (out_before m n Free col R a next e r u j none d)) in
     let g : b (suc n) *ℤ X ≡ D *ℤ b n = aim_at_basic m n A (AllRows m) next aim st'.aim_row.0 st'.aim_row.1 b v D st'.aim_row.2 v_basic in
     let f1 : b (suc n) *ℤ (a (suc n) *ℤ X) ≡ b (suc n) *ℤ (a e *ℤ v e +ℤ D *ℤ a n) = ap (λ t. b (suc n) *ℤ t) f in
@@ -112,7 +119,8 @@ aim_rise m n A aim Free col R a next S b e r D v st u st' v_basic =
     omega (arith, linear)
 
 -- the value of the entering column is not negative
-pub enter_nonneg : (m n : ℕ) (A : ℕ → ℕ → ℤ) (aim : ℕ → ℤ) (Free : ℕ → Type 0) (col : ℕ → ℕ) (R : ℕ → ℕ → ℤ) (a : ℕ → ℤ) (next : ℕ → ℕ) (e r : ℕ) (D : ℤ) (v : ℕ → ℤ)
+pub enter_nonneg : (m n : ℕ) (A : ℕ → ℕ → ℤ) (aim : ℕ → ℤ) (Free : ℕ → Type 0) (col : ℕ → ℕ) (R : ℕ → ℕ → ℤ) (a : ℕ → ℤ) (next : ℕ
+    → ℕ) (e r : ℕ) (D : ℤ) (v : ℕ → ℤ)
     → IsState m n A aim Free col R a → IsPivot m n Free col R a next e r → IsBasic m n A next D v → pos 0 ≤ℤ v e
 enter_nonneg m n A aim Free col R a next e r D v st u b =
     let ve : R r e *ℤ v e ≡ D *ℤ R r n = next_enter m n A Free col R a next e r D v st.table u b in
@@ -121,7 +129,8 @@ enter_nonneg m n A aim Free col R a next e r D v st u b =
     cancel_nonneg (R r e) (v e) u.pivot (omega (arith, linear))
 
 -- the aim's value does not fall
-pub aim_not_falls : (m n : ℕ) (A : ℕ → ℕ → ℤ) (aim : ℕ → ℤ) (Free : ℕ → Type 0) (col : ℕ → ℕ) (R : ℕ → ℕ → ℤ) (a : ℕ → ℤ) (next : ℕ → ℕ) (S : ℕ → ℕ → ℤ) (b : ℕ → ℤ) (e r : ℕ)
+pub aim_not_falls : (m n : ℕ) (A : ℕ → ℕ → ℤ) (aim : ℕ → ℤ) (Free : ℕ → Type 0) (col : ℕ → ℕ) (R : ℕ → ℕ → ℤ) (a : ℕ → ℤ) (next : ℕ → ℕ) (S : ℕ → ℕ
+    → ℤ) (b : ℕ → ℤ) (e r : ℕ)
     → IsState m n A aim Free col R a → IsPivot m n Free col R a next e r → IsState m n A aim Free next S b → (a n *ℤ b (suc n)) ≤ℤ (b n *ℤ a (suc n))
 aim_not_falls m n A aim Free col R a next S b e r st u st' =
     let w = basic_exists m n A next S st'.table in
@@ -129,13 +138,16 @@ aim_not_falls m n A aim Free col R a next S b e r st u st' =
     let f : D *ℤ (a (suc n) *ℤ b n -ℤ b (suc n) *ℤ a n) ≡ b (suc n) *ℤ (a e *ℤ v e) = aim_rise m n A aim Free col R a next S b e r D v st u st' w.2 in
     let ve : pos 0 ≤ℤ v e = enter_nonneg m n A aim Free col R a next e r D v st u w.2 in
     let rises : pos 0 <ℤ a e = u.rises in let mu : pos 0 <ℤ b (suc n) = st'.aim_row.2.multiple in
-    let g : pos 0 ≤ℤ (b (suc n) *ℤ (a e *ℤ v e)) = times_nonneg (b (suc n)) (a e *ℤ v e) (omega (arith, linear)) (times_nonneg (a e) (v e) (omega (arith, linear)) ve) in
+    let g : pos 0 ≤ℤ (b (suc n) *ℤ (a e *ℤ v e)) = times_nonneg (b (suc n)) (a e *ℤ v e) (omega (arith, linear))
+    (times_nonneg (a e) (v e) (omega (arith, linear)) ve) in
     let h : pos 0 ≤ℤ (a (suc n) *ℤ b n -ℤ b (suc n) *ℤ a n) = cancel_nonneg D (a (suc n) *ℤ b n -ℤ b (suc n) *ℤ a n) w.2.positive (omega (arith, linear)) in
     omega (arith, linear, *ℤ_comm (a n) (b (suc n)), *ℤ_comm (b n) (a (suc n)))
 
 -- where it stays, the next list's basic vector is basic for this list too
-pub basic_back : (m n : ℕ) (A : ℕ → ℕ → ℤ) (aim : ℕ → ℤ) (Free : ℕ → Type 0) (col : ℕ → ℕ) (R : ℕ → ℕ → ℤ) (a : ℕ → ℤ) (next : ℕ → ℕ) (S : ℕ → ℕ → ℤ) (b : ℕ → ℤ) (e r : ℕ) (D : ℤ) (v : ℕ → ℤ)
-    → IsState m n A aim Free col R a → IsPivot m n Free col R a next e r → IsState m n A aim Free next S b → IsBasic m n A next D v → (b n *ℤ a (suc n)) ≤ℤ (a n *ℤ b (suc n)) → IsBasic m n A col D v
+pub basic_back : (m n : ℕ) (A : ℕ → ℕ → ℤ) (aim : ℕ → ℤ) (Free : ℕ → Type 0) (col : ℕ → ℕ) (R : ℕ → ℕ → ℤ) (a : ℕ → ℤ) (next : ℕ → ℕ) (S : ℕ → ℕ → ℤ) (b : ℕ
+    → ℤ) (e r : ℕ) (D : ℤ) (v : ℕ → ℤ)
+    → IsState m n A aim Free col R a → IsPivot m n Free col R a next e r → IsState m n A aim Free next S b → IsBasic m n A next D v
+    → (b n *ℤ a (suc n)) ≤ℤ (a n *ℤ b (suc n)) → IsBasic m n A col D v
 basic_back m n A aim Free col R a next S b e r D v st u st' w stays =
     let f : D *ℤ (a (suc n) *ℤ b n -ℤ b (suc n) *ℤ a n) ≡ b (suc n) *ℤ (a e *ℤ v e) = aim_rise m n A aim Free col R a next S b e r D v st u st' w in
     let ve : pos 0 ≤ℤ v e = enter_nonneg m n A aim Free col R a next e r D v st u w in
@@ -145,7 +157,8 @@ basic_back m n A aim Free col R a next S b e r D v st u st' w stays =
       | inr x ↦ elim x [
         | inl q ↦ q
         | inr g ↦ (let p : pos 0 <ℤ (b (suc n) *ℤ (a e *ℤ v e)) = times_pos (b (suc n)) (a e *ℤ v e) mu (times_pos (a e) (v e) rises g) in
-            let h : pos 0 <ℤ (a (suc n) *ℤ b n -ℤ b (suc n) *ℤ a n) = cancel_pos D (a (suc n) *ℤ b n -ℤ b (suc n) *ℤ a n) w.positive (omega (arith, linear)) in
+            let h : pos 0 <ℤ (a (suc n) *ℤ b n -ℤ b (suc n) *ℤ a n) = cancel_pos D (a (suc n) *ℤ b n -ℤ b (suc n) *ℤ a n) w.positive
+            (omega (arith, linear)) in
             absurd (omega (arith, linear, *ℤ_comm (a n) (b (suc n)), *ℤ_comm (b n) (a (suc n)))))
       ]
     ] in

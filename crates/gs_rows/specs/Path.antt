@@ -32,7 +32,8 @@ NoneLeaves p l rows e = (i j : ℕ) → IsListed l i j → ¬ IsFree p j → row
 -- one pivot: the row that leaves is listed with the entering column, at its former place in the list
 pub record IsPivot (p : Program) (l : Listing) (rows : ℕ → ℕ → ℤ) (aim : ℕ → ℤ) (next : Listing) (entering leaving : ℕ) : Type 0 where
   pub enters : Enters p l aim entering
-  pub place : (q : ℕ) × (r : ℕ) × (q < length l) × (slice_index_or l q (0, 0) ≡ (r + 1, leaving + 1)) × (Leaves p l rows entering r leaving) × (next ≡ slice_set l q (r + 1, entering + 1))
+  pub place : (q : ℕ) × (r : ℕ) × (q < length l) × (slice_index_or l q (0, 0) ≡ (r + 1, leaving + 1)) × (Leaves p l rows entering r leaving)
+      × (next ≡ slice_set l q (r + 1, entering + 1))
 
 -- every number of a step's rows, the aim's row and its multiple among them, is below 2^62 in size
 abbrev pub AllNarrow : Program → (ℕ → ℕ → ℤ) → (ℕ → ℤ) → Type 0
@@ -78,9 +79,12 @@ pub data PathStop : Type 0 where
 -- the path stops so after t steps
 abbrev pub Stops : Program → Listing → ℕ → ℕ → States → PathStop → Type 0
 Stops p o limit t s (ends n l) = (IsWhole p o limit t s) × (NoneEnters p (s.lists t) (s.aim t)) × (t ≡ length o + n) × (l ≡ s.lists t)
-Stops p o limit t s (wide step row col z) = (IsPath p o t s) × (0 < t) × (t ≤ length o + limit) × (step ≡ t) × ((i : ℕ) × (j : ℕ) × (row ≡ i + 1) × (col ≡ j + 1) × IsFirstWide p (s.rows t) (s.aim t) i j z)
-Stops p o limit t s pivots = (IsWhole p o limit t s) × (t ≡ length o + limit) × ((e : ℕ) × (r : ℕ) × (c : ℕ) × (Enters p (s.lists t) (s.aim t) e) × (Leaves p (s.lists t) (s.rows t) e r c))
-Stops p o limit t s (unbounded col) = (IsWhole p o limit t s) × ((e : ℕ) × (col ≡ e + 1) × (Enters p (s.lists t) (s.aim t) e) × (NoneLeaves p (s.lists t) (s.rows t) e))
+Stops p o limit t s (wide step row col z) = (IsPath p o t s) × (0 < t) × (t ≤ length o + limit) × (step ≡ t)
+    × ((i : ℕ) × (j : ℕ) × (row ≡ i + 1) × (col ≡ j + 1) × IsFirstWide p (s.rows t) (s.aim t) i j z)
+Stops p o limit t s pivots = (IsWhole p o limit t s) × (t ≡ length o + limit)
+    × ((e : ℕ) × (r : ℕ) × (c : ℕ) × (Enters p (s.lists t) (s.aim t) e) × (Leaves p (s.lists t) (s.rows t) e r c))
+Stops p o limit t s (unbounded col) = (IsWhole p o limit t s) × ((e : ℕ) × (col ≡ e + 1) × (Enters p (s.lists t) (s.aim t) e)
+    × (NoneLeaves p (s.lists t) (s.rows t) e))
 
 -- the path of the program from the opening stops so
 pub record PathStops (p : Program) (opening : Listing) (limit : ℕ) (stop : PathStop) : Type 0 where

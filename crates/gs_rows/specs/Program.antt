@@ -54,8 +54,10 @@ pub record IsPairList (p : Program) (l : Listing) : Type 0 where
 
 -- the rows of a list: row i is that of program row i, listed or not
 pub record IsRowsOf (p : Program) (l : Listing) (rows : ℕ → ℕ → ℤ) (aim : ℕ → ℤ) : Type 0 where
-  pub listed : (i j : ℕ) → IsListed l i j → (scale : ℤ) × (multiplier : ℕ → ℤ) × IsListedRow p.rows p.cols (number p) (RowListed l) (ColListed l) j scale multiplier (rows i)
-  pub unlisted : (i : ℕ) → i < p.rows → ¬ RowListed l i → (scale : ℤ) × (multiplier : ℕ → ℤ) × IsUnlistedRow p.rows p.cols (number p) (RowListed l) (ColListed l) i scale multiplier (rows i)
+  pub listed : (i j : ℕ) → IsListed l i j → (scale : ℤ) × (multiplier : ℕ → ℤ)
+      × IsListedRow p.rows p.cols (number p) (RowListed l) (ColListed l) j scale multiplier (rows i)
+  pub unlisted : (i : ℕ) → i < p.rows → ¬ RowListed l i → (scale : ℤ) × (multiplier : ℕ → ℤ)
+      × IsUnlistedRow p.rows p.cols (number p) (RowListed l) (ColListed l) i scale multiplier (rows i)
   pub aim_row : (scale : ℤ) × (multiplier : ℕ → ℤ) × IsAimRow p.rows p.cols (number p) (RowListed l) (ColListed l) (aim_of p) scale multiplier aim
   pub primitive : (i : ℕ) → i < p.rows → IsPrimitive p.cols (rows i)
   pub primitive_aim : IsPrimitive (p.cols + 1) aim
@@ -70,7 +72,8 @@ pub record CanTake (p : Program) (l : Listing) (r c : ℕ) : Type 0 where
   pub column : c < p.cols
   pub row_free : ¬ RowListed l r
   pub column_free : ¬ ColListed l c
-  pub found : (scale : ℤ) × (multiplier : ℕ → ℤ) × (row : ℕ → ℤ) × (IsUnlistedRow p.rows p.cols (number p) (RowListed l) (ColListed l) r scale multiplier row) × (row c ≢ pos 0)
+  pub found : (scale : ℤ) × (multiplier : ℕ → ℤ) × (row : ℕ → ℤ) × (IsUnlistedRow p.rows p.cols (number p) (RowListed l) (ColListed l) r scale multiplier row)
+      × (row c ≢ pos 0)
 
 -- each pair can be taken after those before it
 abbrev pub IsTakenInTurn : Program → Listing → Type 0

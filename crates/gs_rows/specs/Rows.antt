@@ -43,7 +43,8 @@ pub record IsPrimitive (last : ℕ) (row : ℕ → ℤ) : Type 0 where
 
 -- multipliers of listed program rows that are not all 0 never give 0 in every listed column
 pub record IsRegular (count : ℕ) (number : ℕ → ℕ → ℤ) (RowIn ColIn : ℕ → Type 0) : Type 0 where
-  pub only : (z : ℕ → ℤ) → ((i : ℕ) → i < count → ¬ RowIn i → z i ≡ pos 0) → ((j : ℕ) → ColIn j → sum_to count (λ i. z i *ℤ number i j) ≡ pos 0) → (i : ℕ) → i < count → z i ≡ pos 0
+  pub only : (z : ℕ → ℤ) → ((i : ℕ) → i < count → ¬ RowIn i → z i ≡ pos 0) → ((j : ℕ) → ColIn j → sum_to count (λ i. z i *ℤ number i j) ≡ pos 0) → (i : ℕ)
+      → i < count → z i ≡ pos 0
 
 -- of size below 2^62
 abbrev pub IsNarrow : ℤ → Type 0

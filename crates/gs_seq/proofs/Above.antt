@@ -23,13 +23,19 @@ module _ (c : Filter) (s : IsSound c) (round class : ℕ) (some : 0 < round) (to
       sym (ap (class_of c.lists round) own ∙ first_member_of (list_of c.lists round) class (s.classes.numbered round some in_parents) here.0 here.1)
 
   -- one round up
-  pub above_more : (at above next : ℕ) → 1 < at → at ≤ round → IsClassAbove c round at class above → IsParentClass c at above next → IsClassAbove c round (at - 1) class next
+  pub above_more : (at above next : ℕ) → 1 < at → at ≤ round → IsClassAbove c round at class above → IsParentClass c at above next
+      → IsClassAbove c round (at - 1) class next
   above_more at above next lo hi a p f r e =
       let first = first_member c.lists round class in
       let x = ancestor f round at first in
       let count : (j : ℕ) → signal_count f j ≡ length (list_of c.parents j) = λ j. ap (λ (ps : List (List ℕ)). length (list_of ps j)) e in
       let member : first < signal_count f round =
-      omega (arith, first_in (list_of c.lists round) class (s.classes.numbered round some in_parents) here.0 here.1, s.classes.lengths round some in_parents, count round) in
+      omega (
+        arith,
+        first_in (list_of c.lists round) class (s.classes.numbered round some in_parents) here.0 here.1,
+        s.classes.lengths round some in_parents,
+        count round,
+      ) in
       let inside = (is_table f r).kept round at first (omega arith) hi member in
       let within : x < length (list_of c.lists at) = omega (arith, inside, count at, s.classes.lengths at (omega arith) (omega (arith, hi, in_parents))) in
       let same = p x within (sym (a f r e)) in

@@ -27,7 +27,8 @@ use Rattle.gs_seq.proofs.Singles.{count_is, deals_of, made_row}
 use Rattle.gs_seq.proofs.SlotLaws.{greatest_few, over}
 
 -- each of the last round's signals is a class, and there are no more
-pub single_count : (g : ValidGame) (c : Filter) → c.parents ≡ (frame_in g).parents → IsSound c → IsSingleIn c.lists (last_round (frame_in g)) → class_count c.lists (last_round (frame_in g)) ≡ last_count (game_of g.game)
+pub single_count : (g : ValidGame) (c : Filter) → c.parents ≡ (frame_in g).parents → IsSound c → IsSingleIn c.lists (last_round (frame_in g))
+    → class_count c.lists (last_round (frame_in g)) ≡ last_count (game_of g.game)
 single_count g c e sound single =
     let f = frame_in g in
     let last = last_round f in
@@ -45,7 +46,8 @@ single_count g c e sound single =
     (λ (none : n ≤ 0). omega (arith, most, long, count, none))
     (cases_lt 0 n)
 
-pub by_deals : (g : ValidGame) (c : Filter) (e : c.parents ≡ (frame_in g).parents) (sound : IsSound c) (single : IsSingleIn c.lists (last_round (frame_in g))) (player z : ℕ) (pays : Pays) (numbers : List ℕ)
+pub by_deals : (g : ValidGame) (c : Filter) (e : c.parents ≡ (frame_in g).parents) (sound : IsSound c) (single : IsSingleIn c.lists (last_round (frame_in g)))
+    (player z : ℕ) (pays : Pays) (numbers : List ℕ)
     → (player ≡ 1) ⊎ (player ≡ 2) → IsWalked (frame_in g) player → z < end_count (frame_in g) → round_of (frame_in g) (at_end z) ≡ last_round (frame_in g)
     → InRange (frame_in g) → IsClasses (frame_in g).parents c.lists
     → ((d : Deal) → pos d.weight *ℤ paid pays d.outcome ≡ pair_pays player (end_at (frame_in g) z) (deal_pair d))
@@ -54,10 +56,12 @@ by_deals g c e sound single player z pays numbers either w l last r classes same
     let f = frame_in g in
     let ds = deals_of g c e sound single (k - 1) in
     let row : List Pair = map deal_pair ds in
-    let is : IsRow f c.lists (round_of f (at_end z)) k row = subst (λ x. IsRow f c.lists x k row) (sym last) (made_row g c e sound single k (k - 1) (omega (arith, some))) in
+    let is : IsRow f c.lists (round_of f (at_end z)) k row = subst (λ x. IsRow f c.lists x k row) (sym last)
+    (made_row g c e sound single k (k - 1) (omega (arith, some))) in
     let term : Pair → ℤ = λ p. pos (get_or numbers (p.two - 1) 0) *ℤ pair_pays player (end_at f z) p in
     let place : (d : Deal) → d.two ≡ d.two + 1 - 1 = λ d. omega arith in
     sum_z-same (λ (d : Deal). pos (slice_index numbers d.two) *ℤ (pos d.weight *ℤ paid pays d.outcome)) (λ d. term (deal_pair d))
-    (λ d. ap (λ v. pos (get_or numbers d.two 0) *ℤ v) (same d) ∙ ap (λ n. pos (get_or numbers n 0) *ℤ pair_pays player (end_at f z) (deal_pair d)) (place d)) ds
+    (λ d. ap (λ v. pos (get_or numbers d.two 0) *ℤ v) (same d) ∙ ap (λ n. pos (get_or numbers n 0) *ℤ pair_pays player (end_at f z) (deal_pair d)) (place d))
+    ds
     ∙ sym (sum_z-map term deal_pair ds)
     ∙ row_sum f c.lists player either w z l k row is r classes (λ x. get_or numbers (x - 1) 0)

@@ -12,8 +12,10 @@ pub carried : (g h : ValidGame) (c d : Filter) (P : Frame → ClassLists → Typ
 carried g h c d P same alike p = subst (λ (x : ValidGame). P (frame_in x) d.lists) same (subst (λ (x : Filter). P (frame_in g) x.lists) alike p)
 
 -- what lossless classes hold, and the signals and classes that are read of them
-pub read_of : (s : Lossless) (x : Signals) (k : Filter) (P : Frame → ClassLists → Type 0) → x ≡ s.signals.now → k ≡ s.classes.now → P (frame_in s.signals.now.game.now) s.classes.now.lists → P (frame_in x.game.now) k.lists
+pub read_of : (s : Lossless) (x : Signals) (k : Filter) (P : Frame → ClassLists → Type 0) → x ≡ s.signals.now → k ≡ s.classes.now
+    → P (frame_in s.signals.now.game.now) s.classes.now.lists → P (frame_in x.game.now) k.lists
 read_of s x k P same alike = carried s.signals.now.game.now x.game.now s.classes.now k P (sym (ap (λ (y : Signals). y.game.now) same)) (sym alike)
 
-pub held_by : (s : Lossless) (x : Signals) (k : Filter) (P : Frame → ClassLists → Type 0) → x ≡ s.signals.now → k ≡ s.classes.now → P (frame_in x.game.now) k.lists → P (frame_in s.signals.now.game.now) s.classes.now.lists
+pub held_by : (s : Lossless) (x : Signals) (k : Filter) (P : Frame → ClassLists → Type 0) → x ≡ s.signals.now → k ≡ s.classes.now
+    → P (frame_in x.game.now) k.lists → P (frame_in s.signals.now.game.now) s.classes.now.lists
 held_by s x k P same alike = carried x.game.now s.signals.now.game.now k s.classes.now P (ap (λ (y : Signals). y.game.now) same) alike

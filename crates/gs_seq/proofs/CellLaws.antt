@@ -35,19 +35,22 @@ abbrev pub AreRowsOf : Lossless → ℕ → List (Vec Pair Global) → Type 0
 AreRowsOf s round rows = AreRowsIn (frame_in s.signals.now.game.now) s.classes.now.lists round rows
 
 -- what holds of each item, by place, holds with one more
-pub pushed : {X : Type 0} (P : ℕ → X → Type 0) (xs : List X) (x : X) (n : ℕ) → length xs ≡ n → ((k : ℕ) (d : X) → k < n → P k (get_or xs k d)) → P n x → (k : ℕ) (d : X) → k < n + 1 → P k (get_or (xs ++ x ∷ []) k d)
+pub pushed : {X : Type 0} (P : ℕ → X → Type 0) (xs : List X) (x : X) (n : ℕ) → length xs ≡ n → ((k : ℕ) (d : X) → k < n → P k (get_or xs k d)) → P n x
+    → (k : ℕ) (d : X) → k < n + 1 → P k (get_or (xs ++ x ∷ []) k d)
 pushed P xs x n long before here k d l = ⊎_elim
     (λ under. subst (P k) (sym (get_or_append_left xs (x ∷ []) d k (omega (arith, under, long)))) (before k d under))
     (λ beyond. let e : k ≡ n = omega (arith, beyond, l) in subst (P k) (sym (get_or_push xs x d k (long ∙ sym e))) (subst (λ j. P j x) (sym e) here))
     (cases_lt k n)
 
-pub pushed_to : {X : Type 0} (P : ℕ → X → Type 0) (xs ys : List X) (x : X) (n : ℕ) → ys ≡ xs ++ x ∷ [] → length xs ≡ n → ((k : ℕ) (d : X) → k < n → P k (get_or xs k d)) → P n x → (k : ℕ) (d : X) → k < n + 1 → P k (get_or ys k d)
+pub pushed_to : {X : Type 0} (P : ℕ → X → Type 0) (xs ys : List X) (x : X) (n : ℕ) → ys ≡ xs ++ x ∷ [] → length xs ≡ n
+    → ((k : ℕ) (d : X) → k < n → P k (get_or xs k d)) → P n x → (k : ℕ) (d : X) → k < n + 1 → P k (get_or ys k d)
 pushed_to P xs ys x n put long before here k d l = subst (λ zs. P k (get_or zs k d)) (sym put) (pushed P xs x n long before here k d l)
 
 -- ---- ends
 
 -- an end stands in a round of the game
-pub end_round_in : (g : ValidGame) (es : List StoredEnd) (z : ℕ) (d : StoredEnd) (round : ℕ) → map end_of es ≡ (frame_in g).ends → z < length es → round ≡ (get_or es z d).round → (0 < round) × (round ≤ last_round (frame_in g))
+pub end_round_in : (g : ValidGame) (es : List StoredEnd) (z : ℕ) (d : StoredEnd) (round : ℕ) → map end_of es ≡ (frame_in g).ends → z < length es
+    → round ≡ (get_or es z d).round → (0 < round) × (round ≤ last_round (frame_in g))
 end_round_in g es z d round e l is =
     let f = frame_in g in
     let w = walked g 1 (omega arith) (omega arith) in
@@ -78,9 +81,11 @@ module _ (g : ValidGame) (c : Filter) (e : c.parents ≡ (frame_in g).parents) (
       omega (arith, most, ap (λ k. k * n) long, square, few)
 
   module _ (rows : List (Vec (Vec Pair Global) Global)) (r : AreRows (frame_in g) c.lists rows) where
-    round_pairs : (round : ℕ) (d : Vec (Vec Pair Global) Global) → 0 < round → round ≤ length rows → pairs_of (get_or rows (round - 1) d).items ≡ pair_count (frame_in g) c.lists round
+    round_pairs : (round : ℕ) (d : Vec (Vec Pair Global) Global) → 0 < round → round ≤ length rows
+        → pairs_of (get_or rows (round - 1) d).items ≡ pair_count (frame_in g) c.lists round
     round_pairs round d some top =
-        rows_long (frame_in g) (table g) c.lists (over (frame_in g) c e s) (deals_weigh (game_of g.game)) round some (omega (arith, top, r.most)) (get_or rows (round - 1) d).items (r.in_round round d some top)
+        rows_long (frame_in g) (table g) c.lists (over (frame_in g) c e s) (deals_weigh (game_of g.game)) round some (omega (arith, top, r.most))
+        (get_or rows (round - 1) d).items (r.in_round round d some top)
 
     -- so they can be counted
     pub rows_fit : All (λ (v : Vec (Vec Pair Global) Global). pairs_of v.items < 2 ^ 64) rows
@@ -96,21 +101,25 @@ module _ (g : ValidGame) (c : Filter) (e : c.parents ≡ (frame_in g).parents) (
 
       listed : (round : ℕ) → 0 < round → round ≤ length rows → get_or counts (round - 1) 0 ≡ pair_count (frame_in g) c.lists round
       listed round some top =
-          ap (λ (ns : List ℕ). get_or ns (round - 1) 0) is ∙ at_map (λ (v : Vec (Vec Pair Global) Global). pairs_of v.items) rows (round - 1) (pair_count (frame_in g) c.lists round) (omega (arith, some, top)) (λ d. round_pairs round d some top)
+          ap (λ (ns : List ℕ). get_or ns (round - 1) 0) is ∙ at_map (λ (v : Vec (Vec Pair Global) Global). pairs_of v.items) rows (round - 1)
+          (pair_count (frame_in g) c.lists round) (omega (arith, some, top)) (λ d. round_pairs round d some top)
 
       -- the counts are those of the rounds where all are listed
       pub all_listed : last_round (frame_in g) ≤ length counts → AreCounts (frame_in g) c.lists counts
       all_listed l = record { long = omega (arith, l, counts_long, r.most); count = λ round some top. listed round some (omega (arith, top, l, counts_long)) }
 
       -- and with the deals of the last one where that is not listed
-      pub one_more : length counts < last_round (frame_in g) → (n : ℕ) → n ≡ length (deals (game_of g.game)) → AreCounts (frame_in g) c.lists (counts ++ n ∷ [])
+      pub one_more : length counts < last_round (frame_in g) → (n : ℕ) → n ≡ length (deals (game_of g.game))
+          → AreCounts (frame_in g) c.lists (counts ++ n ∷ [])
       one_more l n are = record {
         long = omega (arith, l, counts_long, r.fewest, length_push counts n);
         count = λ round some top. ⊎_elim
-            (λ (under : round - 1 < length counts). get_or_append_left counts (n ∷ []) 0 (round - 1) under ∙ listed round some (omega (arith, under, counts_long)))
+            (λ (under : round - 1 < length counts). get_or_append_left counts (n ∷ []) 0 (round - 1) under
+            ∙ listed round some (omega (arith, under, counts_long)))
             (λ (past : length counts ≤ round - 1). (let at : round ≡ last_round (frame_in g) = omega (arith, past, top, some, l, counts_long, r.fewest) in
             let place : length counts ≡ round - 1 = omega (arith, past, top, some, l, counts_long, r.fewest) in
-            get_or_push counts n 0 (round - 1) place ∙ are ∙ sym (made_count g c e s (r.single (omega (arith, l, counts_long)))) ∙ ap (pair_count (frame_in g) c.lists) (sym at)))
+            get_or_push counts n 0 (round - 1) place ∙ are ∙ sym (made_count g c e s (r.single (omega (arith, l, counts_long))))
+            ∙ ap (pair_count (frame_in g) c.lists) (sym at)))
             (cases_lt (round - 1) (length counts));
       }
 
@@ -123,7 +132,8 @@ module _ (g : ValidGame) (c : Filter) (e : c.parents ≡ (frame_in g).parents) (
     pub end_inside : (i : ℕ) (d : StoredEnd) (round : ℕ) → i < length es → round ≡ (get_or es i d).round → round - 1 < length counts
     end_inside i d round l at = let r = end_round_in g es i d round ends l at in omega (arith, r.0, r.1, are.long)
 
-    pub end_pairs : (i : ℕ) (d : StoredEnd) (round n : ℕ) → i < length es → round ≡ (get_or es i d).round → n ≡ get_or counts (round - 1) n → n ≡ pair_count (frame_in g) c.lists round
+    pub end_pairs : (i : ℕ) (d : StoredEnd) (round n : ℕ) → i < length es → round ≡ (get_or es i d).round → n ≡ get_or counts (round - 1) n
+        → n ≡ pair_count (frame_in g) c.lists round
     end_pairs i d round n l at read =
         let r = end_round_in g es i d round ends l at in
         get_or_read counts (round - 1) n (omega (arith, r.0, r.1, are.long)) read 0 ∙ are.count round r.0 r.1
@@ -133,7 +143,8 @@ module _ (g : ValidGame) (c : Filter) (e : c.parents ≡ (frame_in g).parents) (
         let r = end_round_in g es i d round ends l at in
         omega (arith, end_pairs i d round n l at read, few_pairs round r.0 r.1)
 
-    pub end_more : (i : ℕ) (d : StoredEnd) (round n count : ℕ) → i < length es → round ≡ (get_or es i d).round → n ≡ get_or counts (round - 1) n → count ≡ cells_of (take i es) → count + n ≡ cells_of (take (i + 1) es)
+    pub end_more : (i : ℕ) (d : StoredEnd) (round n count : ℕ) → i < length es → round ≡ (get_or es i d).round → n ≡ get_or counts (round - 1) n
+        → count ≡ cells_of (take i es) → count + n ≡ cells_of (take (i + 1) es)
     end_more i d round n count l at read so_far =
         let own : StoredEnd → ℕ = λ z. pair_count (frame_in g) c.lists z.round in
         let more : cells_of (take (i + 1) es) ≡ cells_of (take i es) + own (get_or es i d) = sum_by_more own es i d l in
@@ -141,4 +152,5 @@ module _ (g : ValidGame) (c : Filter) (e : c.parents ≡ (frame_in g).parents) (
         omega (arith, more, here, so_far)
 
     pub all_ends : cells_of es ≡ cell_count (frame_in g) c.lists
-    all_ends = sym (sum_by-map (λ (z : End). pair_count (frame_in g) c.lists z.round) end_of es) ∙ ap (sum_by (λ (z : End). pair_count (frame_in g) c.lists z.round)) ends
+    all_ends = sym (sum_by-map (λ (z : End). pair_count (frame_in g) c.lists z.round) end_of es)
+        ∙ ap (sum_by (λ (z : End). pair_count (frame_in g) c.lists z.round)) ends

@@ -22,19 +22,24 @@ use Rattle.gs_seq.specs.Games.{frame_in}
 abbrev HasMove : Point → Type 0
 HasMove p = 0 < length p.moves
 
-arrows_some : (ms : Moves) → has_move ms ≡ true → (go_on : Place → Walked) (player point choice : ℕ) (p : Place) → 0 < length (walk_moves go_on ms player point choice p).arrows
+arrows_some : (ms : Moves) → has_move ms ≡ true → (go_on : Place → Walked) (player point choice : ℕ) (p : Place)
+    → 0 < length (walk_moves go_on ms player point choice p).arrows
 arrows_some none h g player point choice p = absurd cc
 arrows_some (move letter chips next ms) h g player point choice p = omega arith
 
 mutual
-  tree-moves : (t : Bet) (left : ℕ) → is_sound left t ≡ true → (go_on : Place → Walked) → ((p : Place) → AllByRecursion HasMove (go_on p).points) → (p : Place) → AllByRecursion HasMove (walk_tree go_on t p).points
+  tree-moves : (t : Bet) (left : ℕ) → is_sound left t ≡ true → (go_on : Place → Walked) → ((p : Place) → AllByRecursion HasMove (go_on p).points)
+      → (p : Place) → AllByRecursion HasMove (walk_tree go_on t p).points
   tree-moves (act player ms) left s g h p =
-      let a = sound_act left player ms s in
-      (arrows_some ms a.3 g player p.point 0 (record p { point = p.point + 1 }), moves-moves ms a.0 a.2 g h player p.point 0 (record p { point = p.point + 1 }))
+      let a = sound_act left player ms s in (
+        arrows_some ms a.3 g player p.point 0 (record p { point = p.point + 1 }),
+        moves-moves ms a.0 a.2 g h player p.point 0 (record p { point = p.point + 1 }),
+      )
   tree-moves fold left s g h p = tt
   tree-moves even left s g h p = h p
 
-  moves-moves : (ms : Moves) (left : ℕ) → are_sound left ms ≡ true → (go_on : Place → Walked) → ((p : Place) → AllByRecursion HasMove (go_on p).points) → (player point choice : ℕ) (p : Place)
+  moves-moves : (ms : Moves) (left : ℕ) → are_sound left ms ≡ true → (go_on : Place → Walked) → ((p : Place) → AllByRecursion HasMove (go_on p).points)
+      → (player point choice : ℕ) (p : Place)
       → AllByRecursion HasMove (walk_moves go_on ms player point choice p).walked.points
   moves-moves none left s g h player point choice p = tt
   moves-moves (move letter chips next ms) left s g h player point choice p =
@@ -42,7 +47,8 @@ mutual
       let here = after_move player point choice chips p in
       let first = walk_tree g next here in
       let there : Place = record p { point = p.point + length first.points; end = p.end + length first.ends } in
-      every-append HasMove first.points (walk_moves g ms player point (choice + 1) there).walked.points (tree-moves next left m.next g h here) (moves-moves ms left m.others g h player point (choice + 1) there)
+      every-append HasMove first.points (walk_moves g ms player point (choice + 1) there).walked.points (tree-moves next left m.next g h here)
+      (moves-moves ms left m.others g h player point (choice + 1) there)
 
 rounds-moves : (rs : List Round) (p : Place) → AllByRecursion HasMove (walk_rounds (plain_trees rs) p).points
 rounds-moves [] p = tt

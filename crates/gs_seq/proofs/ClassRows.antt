@@ -52,7 +52,8 @@ module _ {X Y K : Type 0} (eq : K → K → Bool) (exact : IsExact eq) (kx : X �
 
   split : (f : Either X Y → ℤ) (xs : List X) (ys : List Y) → sum_z f (both xs ys) ≡ sum_z (λ x. f (left x)) xs +ℤ sum_z (λ y. f (right y)) ys
   split f xs ys =
-      sum_z-append f (map left xs) (map right ys) ∙ ap (λ z. z +ℤ sum_z f (map right ys)) (sum_z-map f left xs) ∙ ap (λ z. sum_z (λ x. f (left x)) xs +ℤ z) (sum_z-map f right ys)
+      sum_z-append f (map left xs) (map right ys) ∙ ap (λ z. z +ℤ sum_z f (map right ys)) (sum_z-map f left xs)
+      ∙ ap (λ z. sum_z (λ x. f (left x)) xs +ℤ z) (sum_z-map f right ys)
 
   split_by : (f : Either X Y → ℕ) (xs : List X) (ys : List Y) → sum_by f (both xs ys) ≡ sum_by (λ x. f (left x)) xs + sum_by (λ y. f (right y)) ys
   split_by f xs ys = omega (arith, sum_by-append f (map left xs) (map right ys), sum_by-map f left xs, sum_by-map f right ys)

@@ -87,7 +87,12 @@ rises_weak (p ∷ q ∷ ps) h w =
 no_signed : (ps : List Part) (e : ℕ) → AllByRecursion IsPlain ps → part_signed ps e ≡ pos 0
 no_signed [] e w = refl
 no_signed (p ∷ ps) e w =
-    let none : (b : Bool) → cond b (pos p.weight *ℤ p.outcome) (pos 0) ≡ pos 0 = λ b. elim b as (λ b. cond b (pos p.weight *ℤ p.outcome) (pos 0) ≡ pos 0) [ true ↦ ap (λ o. pos p.weight *ℤ o) w.0.1 ∙ *ℤ-zero (pos p.weight) | false ↦ refl ] in
+    let none : (b : Bool) → cond b (pos p.weight *ℤ p.outcome) (pos 0) ≡ pos 0 =
+    λ b. elim b as (λ b. cond b (pos p.weight *ℤ p.outcome) (pos 0) ≡ pos 0) [
+      | true ↦ ap (λ o. pos p.weight *ℤ o) w.0.1
+          ∙ *ℤ-zero (pos p.weight)
+      | false ↦ refl
+    ] in
     let here = none (p.class == e) in
     let rest = no_signed ps e w.1 in
     omega (arith, ints)
@@ -98,32 +103,46 @@ both_all : {X : Type 0} (P : X → Type 0) (xs ys : List X) → AllByRecursion P
 both_all P [] ys h k = k
 both_all P (x ∷ xs) ys h k = (h.0, both_all P xs ys h.1 k)
 
-items_at : (rows : List (Vec Pair Global)) (k : ℕ) (P : List Pair → Type 0) → ((d : Vec Pair Global) → P (get_or rows k d).items) → k < length rows → P (get_or (map (λ (v : Vec Pair Global). v.items) rows) k [])
+items_at : (rows : List (Vec Pair Global)) (k : ℕ) (P : List Pair → Type 0) → ((d : Vec Pair Global) → P (get_or rows k d).items) → k < length rows
+    → P (get_or (map (λ (v : Vec Pair Global). v.items) rows) k [])
 items_at [] k P h l = absurd (omega arith)
 items_at (v ∷ vs) zero P h l = h v
 items_at (v ∷ vs) (suc k) P h l = items_at vs k P h (omega arith)
 
 sum-same_all : {X : Type 0} (f g : X → ℕ) (xs : List X) → All (λ x. f x ≡ g x) xs → sum_by f xs ≡ sum_by g xs
 sum-same_all f g [] h = refl
-sum-same_all f g (x ∷ xs) h = omega (arith, sum_by-cons f x xs, sum_by-cons g x xs, h 0 x (omega arith), sum-same_all f g xs (λ i d l. h (suc i) d (omega arith)))
+sum-same_all f g (x ∷ xs) h = omega (
+  arith,
+  sum_by-cons f x xs,
+  sum_by-cons g x xs,
+  h 0 x (omega arith),
+  sum-same_all f g xs (λ i d l. h (suc i) d (omega arith)),
+)
 
 filter_sum : (of : ℕ → Bool) (v : ℕ → ℕ) (xs : List ℕ) → sum_by v (filter of xs) ≡ sum_by (λ k. cond (of k) (v k) 0) xs
 filter_sum of v [] = refl
 filter_sum of v (x ∷ xs) = by (of x) (filter_sum of v xs) ∙ sym (sum_by-cons (λ k. cond (of k) (v k) 0) x xs)
   where
-    by : (b : Bool) → sum_by v (filter of xs) ≡ sum_by (λ k. cond (of k) (v k) 0) xs → sum_by v (cond b (x ∷ filter of xs) (filter of xs)) ≡ cond b (v x) 0 + sum_by (λ k. cond (of k) (v k) 0) xs
+    by : (b : Bool) → sum_by v (filter of xs) ≡ sum_by (λ k. cond (of k) (v k) 0) xs
+        → sum_by v (cond b (x ∷ filter of xs) (filter of xs)) ≡ cond b (v x) 0 + sum_by (λ k. cond (of k) (v k) 0) xs
     by true h = omega (arith, sum_by-cons v x (filter of xs), h)
     by false h = omega (arith, h)
 
 past : (a w b n : ℕ) → a < b → sum_by (λ c. cond (a == c) w 0) (range_with_len b n) ≡ 0
 past a w b zero l = refl
-past a w b (suc n) l = omega (arith, sum_by-cons (λ c. cond (a == c) w 0) b (range_with_len (b + 1) n), ap (λ t. cond {A = ℕ} t w 0) (not_eq a b (λ e. omega arith)), past a w (b + 1) n (omega arith))
+past a w b (suc n) l = omega (
+  arith,
+  sum_by-cons (λ c. cond (a == c) w 0) b (range_with_len (b + 1) n),
+  ap (λ t. cond {A = ℕ} t w 0) (not_eq a b (λ e. omega arith)),
+  past a w (b + 1) n (omega arith),
+)
 
 once : (a w b n : ℕ) → b ≤ a → a < b + n → sum_by (λ c. cond (a == c) w 0) (range_with_len b n) ≡ w
 once a w b zero l m = absurd (omega arith)
 once a w b (suc n) l m = by (a == b) refl (once a w (b + 1) n)
   where
-    by : (t : Bool) → (a == b) ≡ t → (b + 1 ≤ a → a < b + 1 + n → sum_by (λ c. cond (a == c) w 0) (range_with_len (b + 1) n) ≡ w) → sum_by (λ c. cond (a == c) w 0) (b ∷ range_with_len (b + 1) n) ≡ w
+    by : (t : Bool) → (a == b) ≡ t → (b + 1 ≤ a → a < b + 1 + n → sum_by (λ c. cond (a == c) w 0) (range_with_len (b + 1) n) ≡ w)
+        → sum_by (λ c. cond (a == c) w 0) (b ∷ range_with_len (b + 1) n) ≡ w
     by true e more =
         let same = (Decides-eqb a b).0 e in
         omega (arith, sum_by-cons (λ c. cond (a == c) w 0) b (range_with_len (b + 1) n), ap (λ t. cond {A = ℕ} t w 0) e, past a w (b + 1) n (omega arith))
@@ -160,7 +179,8 @@ spread key of w b n (d ∷ ds) h =
     let ks = filter of (range_with_len b n) in
     let one = λ (k : ℕ). cond {A = ℕ} (key d == k) (w d) 0 in
     let rest = λ (k : ℕ). sum_by (λ d. cond (key d == k) (w d) 0) ds in
-    let e : sum_by (λ k. sum_by (λ d. cond (key d == k) (w d) 0) (d ∷ ds)) ks ≡ sum_by (λ k. one k + rest k) ks = sum-same (λ k. sum_by (λ d. cond (key d == k) (w d) 0) (d ∷ ds)) (λ k. one k + rest k) (λ k. sum_by-cons (λ d. cond (key d == k) (w d) 0) d ds) ks in
+    let e : sum_by (λ k. sum_by (λ d. cond (key d == k) (w d) 0) (d ∷ ds)) ks ≡ sum_by (λ k. one k + rest k) ks =
+    sum-same (λ k. sum_by (λ d. cond (key d == k) (w d) 0) (d ∷ ds)) (λ k. one k + rest k) (λ k. sum_by-cons (λ d. cond (key d == k) (w d) 0) d ds) ks in
     let here = h 0 d (omega arith) in
     omega (
       arith,
@@ -180,38 +200,45 @@ times true w = omega (arith, ints, product_is (pos w) (pos 1))
 times false w = *ℤ-zero (pos w)
 
 -- the class above a class is that of its first member's parent
-pub up_is : (f : Filter) → IsSound f → (round k above : ℕ) → 0 < round → round < length f.lists → IsClass f.lists (round + 1) k → IsParentClass f (round + 1) k above → above ≡ class_up f round k
+pub up_is : (f : Filter) → IsSound f → (round k above : ℕ) → 0 < round → round < length f.lists → IsClass f.lists (round + 1) k
+    → IsParentClass f (round + 1) k above → above ≡ class_up f round k
 up_is f s round k above some top h p =
     let next = round + 1 in
     let n = s.classes.numbered next (omega arith) (omega (arith, s.classes.rounds, top)) in
     let first = first_member f.lists next k in
     let back : next - 1 ≡ round = omega arith in
-    sym (p first (first_in (list_of f.lists next) k n h.0 h.1) (first_member_of (list_of f.lists next) k n h.0 h.1)) ∙ ap (λ j. class_of f.lists j (get_or (list_of f.parents next) first 0)) back
+    sym (p first (first_in (list_of f.lists next) k n h.0 h.1) (first_member_of (list_of f.lists next) k n h.0 h.1))
+    ∙ ap (λ j. class_of f.lists j (get_or (list_of f.parents next) first 0)) back
 
 -- ---- lists of the classes below each class
 
-below_next : (c : Filter) (round class n : ℕ) → below_class c round class (n + 1) ≡ below_class c round class n ++ cond (class_up c round (n + 1) == class) ((n + 1) ∷ []) []
+below_next : (c : Filter) (round class n : ℕ) → below_class c round class (n + 1)
+    ≡ below_class c round class n ++ cond (class_up c round (n + 1) == class) ((n + 1) ∷ []) []
 below_next c round class n =
     let of : ℕ → Bool = λ j. class_up c round j == class in
     let same : (m : ℕ) → map (λ (j : ℕ). j) (range_with_len 1 m) ≡ range_with_len 1 m = λ m. map_same (range_with_len 1 m) in
-    ap (filter of) (sym (same (n + 1))) ∙ filter_of_map_range_with_len_more of (λ j. j) 1 n (n + 1) (omega arith) ∙ ap (λ xs. filter of xs ++ cond (of (n + 1)) ((n + 1) ∷ []) []) (same n)
+    ap (filter of) (sym (same (n + 1))) ∙ filter_of_map_range_with_len_more of (λ j. j) 1 n (n + 1) (omega arith)
+    ∙ ap (λ xs. filter of xs ++ cond (of (n + 1)) ((n + 1) ∷ []) []) (same n)
   where
     map_same : (xs : List ℕ) → map (λ (j : ℕ). j) xs ≡ xs
     map_same [] = refl
     map_same (x ∷ xs) = ap (λ ys. x ∷ ys) (map_same xs)
 
 -- one more class of the next round
-pub below_more : (c : Filter) (round n : ℕ) (below : List (Vec ℕ Global)) (old new : Vec ℕ Global) (above : ℕ) → AreBelow c round n below → IsClass c.lists round above → above ≡ class_up c round (n + 1)
+pub below_more : (c : Filter) (round n : ℕ) (below : List (Vec ℕ Global)) (old new : Vec ℕ Global) (above : ℕ) → AreBelow c round n below
+    → IsClass c.lists round above → above ≡ class_up c round (n + 1)
     → old ≡ get_or below (above - 1) old → new.items ≡ old.items ++ (n + 1) ∷ [] → AreBelow c round (n + 1) (set below (above - 1) new)
 below_more c round n below old new above b h up is items = record {
   long = length-set below (above - 1) new ∙ b.long;
   each = λ class d k. ⊎_elim (same class d k) (other class d k) (cases_eq class above);
 }
   where
-    grown : (class : ℕ) (t : Bool) → (class_up c round (n + 1) == class) ≡ t → below_class c round class (n + 1) ≡ below_class c round class n ++ cond t ((n + 1) ∷ []) []
+    grown : (class : ℕ) (t : Bool) → (class_up c round (n + 1) == class) ≡ t
+        → below_class c round class (n + 1) ≡ below_class c round class n ++ cond t ((n + 1) ∷ []) []
     grown class t e = below_next c round class n ∙ ap (λ b. below_class c round class n ++ cond b ((n + 1) ∷ []) []) e
 
-    same : (class : ℕ) (d : Vec ℕ Global) → IsClass c.lists round class → class ≡ above → (get_or (set below (above - 1) new) (class - 1) d).items ≡ below_class c round class (n + 1)
+    same : (class : ℕ) (d : Vec ℕ Global) → IsClass c.lists round class → class ≡ above
+        → (get_or (set below (above - 1) new) (class - 1) d).items ≡ below_class c round class (n + 1)
     same class d k e =
         let low = k.0 in
         let high = k.1 in
@@ -223,7 +250,8 @@ below_more c round n below old new above b h up is items = record {
         ∙ ap (λ xs. xs ++ (n + 1) ∷ []) (ap (λ j. (get_or below (j - 1) old).items) (sym e) ∙ b.each class old k)
         ∙ sym (grown class true test)
 
-    other : (class : ℕ) (d : Vec ℕ Global) → IsClass c.lists round class → class ≢ above → (get_or (set below (above - 1) new) (class - 1) d).items ≡ below_class c round class (n + 1)
+    other : (class : ℕ) (d : Vec ℕ Global) → IsClass c.lists round class → class ≢ above
+        → (get_or (set below (above - 1) new) (class - 1) d).items ≡ below_class c round class (n + 1)
     other class d k e =
         let low = k.0 in
         let least = h.0 in
@@ -234,7 +262,8 @@ below_more c round n below old new above b h up is items = record {
 
 -- ---- the classes below a class
 
-module _ (g : ValidGame) (c : Filter) (e : c.parents ≡ (frame_in g).parents) (s : IsSound c) (round : ℕ) (some : 0 < round) (before : round < last_round (frame_in g)) where
+module _ (g : ValidGame) (c : Filter) (e : c.parents ≡ (frame_in g).parents) (s : IsSound c) (round : ℕ) (some : 0 < round) (before : round
+    < last_round (frame_in g)) where
   k : IsClasses (frame_in g).parents c.lists
   k = over (frame_in g) c e s
 
@@ -250,7 +279,8 @@ module _ (g : ValidGame) (c : Filter) (e : c.parents ≡ (frame_in g).parents) (
   abbrev two : Deal → ℕ
   two d = class_of c.lists (round + 1) (at_round (frame_in g) (round + 1) d.two)
 
-  up_of : (x : ℕ) → x < signal_count (frame_in g) (round + 1) → class_up c round (class_of c.lists (round + 1) x) ≡ class_of c.lists round (ancestor (frame_in g) (round + 1) round x)
+  up_of : (x : ℕ) → x < signal_count (frame_in g) (round + 1) → class_up c round (class_of c.lists (round + 1) x)
+      ≡ class_of c.lists round (ancestor (frame_in g) (round + 1) round x)
   up_of x l =
       let h = firsts_from (frame_in g) c.lists k in
       let first = first_member c.lists (round + 1) (class_of c.lists (round + 1) x) in
@@ -259,7 +289,8 @@ module _ (g : ValidGame) (c : Filter) (e : c.parents ≡ (frame_in g).parents) (
       ∙ ap (class_of c.lists round) (sym (parent_is (frame_in g) round x))
 
   -- the class above that of a signal is its own class in the round
-  up_at : (x : ℕ) → x < signal_count (frame_in g) (last_round (frame_in g)) → class_up c round (class_of c.lists (round + 1) (at_round (frame_in g) (round + 1) x)) ≡ class_of c.lists round (at_round (frame_in g) round x)
+  up_at : (x : ℕ) → x < signal_count (frame_in g) (last_round (frame_in g))
+      → class_up c round (class_of c.lists (round + 1) (at_round (frame_in g) (round + 1) x)) ≡ class_of c.lists round (at_round (frame_in g) round x)
   up_at x l =
       let t = table g in
       up_of (at_round (frame_in g) (round + 1) x) (t.kept (last_round (frame_in g)) (round + 1) x lo hi l)
@@ -269,16 +300,21 @@ module _ (g : ValidGame) (c : Filter) (e : c.parents ≡ (frame_in g).parents) (
   abbrev child_weight : ℕ → ℕ → ℕ
   child_weight j q = sum_by (λ (d : Deal). cond (class_up c round (two d) == q) (cond (one d == j) d.weight 0) 0) (frame_in g).deals
 
-  row_counts : (j : ℕ) (row : List Pair) → IsRow (frame_in g) c.lists (round + 1) j row → (q : ℕ) → part_weight (map (part_up c round) row) q ≡ child_weight j q
+  row_counts : (j : ℕ) (row : List Pair) → IsRow (frame_in g) c.lists (round + 1) j row → (q : ℕ)
+      → part_weight (map (part_up c round) row) q ≡ child_weight j q
   row_counts j row h q =
       let v : ℕ → ℤ = λ m. pos (cond (class_up c round m == q) 1 0) in
       let w : Deal → ℕ = λ d. cond (one d == j) d.weight 0 in
       let a : Pair → ℕ = λ p. cond (class_up c round p.two == q) p.weight 0 in
       let b : Deal → ℕ = λ d. cond (class_up c round (two d) == q) (w d) 0 in
-      let same = alike_lists eqb Decides-eqb (λ (p : Pair). p.two) (λ p. p.weight) two w v row (frame_in g).deals (weight_both (frame_in g) (table g) c.lists k (round + 1) lo hi j row h) in
-      let left = sum_z-same (λ (p : Pair). pos p.weight *ℤ v p.two) (λ p. pos (a p)) (λ p. times (class_up c round p.two == q) p.weight) row ∙ sum_z-pos a row in
-      let right = sum_z-same (λ d. pos (w d) *ℤ v (two d)) (λ d. pos (b d)) (λ d. times (class_up c round (two d) == q) (w d)) (frame_in g).deals ∙ sum_z-pos b (frame_in g).deals in
-      sum_by-map (λ (p : Part). cond (p.class == q) p.weight 0) (part_up c round) row ∙ pos_one (sum_by a row) (sum_by b (frame_in g).deals) (sym left ∙ same ∙ right)
+      let same = alike_lists eqb Decides-eqb (λ (p : Pair). p.two) (λ p. p.weight) two w v row (frame_in g).deals
+      (weight_both (frame_in g) (table g) c.lists k (round + 1) lo hi j row h) in
+      let left = sum_z-same (λ (p : Pair). pos p.weight *ℤ v p.two) (λ p. pos (a p)) (λ p. times (class_up c round p.two == q) p.weight) row
+      ∙ sum_z-pos a row in
+      let right = sum_z-same (λ d. pos (w d) *ℤ v (two d)) (λ d. pos (b d)) (λ d. times (class_up c round (two d) == q) (w d)) (frame_in g).deals
+      ∙ sum_z-pos b (frame_in g).deals in
+      sum_by-map (λ (p : Part). cond (p.class == q) p.weight 0) (part_up c round) row
+      ∙ pos_one (sum_by a row) (sum_by b (frame_in g).deals) (sym left ∙ same ∙ right)
 
   -- over the classes below a class: what its own deals weigh
   below_counts : (class q : ℕ) → sum_by (λ j. child_weight j q) (below_class c round class (class_count c.lists (round + 1)))
@@ -294,17 +330,20 @@ module _ (g : ValidGame) (c : Filter) (e : c.parents ≡ (frame_in g).parents) (
       (λ d. swap (class_up c round (two d) == q) (one d == j) d.weight) (frame_in g).deals) ks in
       let within : All (λ d. (1 ≤ one d) × (one d < 1 + n)) (frame_in g).deals = λ i d l. (
       let x = get_or (frame_in g).deals i d in
-      let here = class_in (frame_in g) c.lists k (round + 1) (at_round (frame_in g) (round + 1) x.one) lo hi (t.kept (last_round (frame_in g)) (round + 1) x.one lo hi (t.dealt i d l)) in
+      let here = class_in (frame_in g) c.lists k (round + 1) (at_round (frame_in g) (round + 1) x.one) lo hi
+      (t.kept (last_round (frame_in g)) (round + 1) x.one lo hi (t.dealt i d l)) in
       let a = here.0 in
       let b = here.1 in
       (omega arith, omega arith)) in
       let out = sum-same_all (λ d. cond (of (one d)) (w d) 0)
-      (λ (d : Deal). cond (class_of c.lists round (at_round (frame_in g) round d.two) == q) (cond (class_of c.lists round (at_round (frame_in g) round d.one) == class) d.weight 0) 0) (frame_in g).deals
+      (λ (d : Deal). cond (class_of c.lists round (at_round (frame_in g) round d.two) == q)
+      (cond (class_of c.lists round (at_round (frame_in g) round d.one) == class) d.weight 0) 0) (frame_in g).deals
       (λ i d l.
       let x = get_or (frame_in g).deals i d in
       ap (λ m. cond (m == class) (w x) 0) (up_at x.one (t.dealt i d l))
       ∙ ap (λ m. cond (class_of c.lists round (at_round (frame_in g) round x.one) == class) (cond (m == q) x.weight 0) 0) (up_at x.two (t.dealt_two i d l))
-      ∙ swap (class_of c.lists round (at_round (frame_in g) round x.one) == class) (class_of c.lists round (at_round (frame_in g) round x.two) == q) x.weight) in
+      ∙ swap (class_of c.lists round (at_round (frame_in g) round x.one) == class) (class_of c.lists round (at_round (frame_in g) round x.two) == q) x.weight)
+      in
       turned ∙ spread one of w 1 n (frame_in g).deals within ∙ out
 
   module _ (rows : List (Vec Pair Global)) (r : AreRowsIn (frame_in g) c.lists (round + 1) rows) where
@@ -332,7 +371,8 @@ module _ (g : ValidGame) (c : Filter) (e : c.parents ≡ (frame_in g).parents) (
           sum_by-cons (λ j. child_weight j q) j ks,
         )
 
-    weighs : (ks : List ℕ) → All (IsClass c.lists (round + 1)) ks → sum_by (λ (p : Part). p.weight) (parts_of ks) ≡ sum_by (class_weight (frame_in g) (table g) c.lists k (round + 1) lo hi) ks
+    weighs : (ks : List ℕ) → All (IsClass c.lists (round + 1)) ks → sum_by (λ (p : Part). p.weight) (parts_of ks)
+        ≡ sum_by (class_weight (frame_in g) (table g) c.lists k (round + 1) lo hi) ks
     weighs [] h = refl
     weighs (j ∷ ks) h =
         let w : Part → ℕ = λ p. p.weight in
@@ -365,12 +405,14 @@ module _ (g : ValidGame) (c : Filter) (e : c.parents ≡ (frame_in g).parents) (
         let at = get_or-range_with_len 1 n i d (omega arith) in
         (omega arith, omega arith))
 
-    module _ (class : ℕ) (parts sorted : List Part) (is : parts ≡ parts_of (below_class c round class (class_count c.lists (round + 1)))) (m : IsPermutation parts sorted) where
+    module _ (class : ℕ) (parts sorted : List Part) (is : parts ≡ parts_of (below_class c round class (class_count c.lists (round + 1))))
+        (m : IsPermutation parts sorted) where
       abbrev ks : List ℕ
       ks = below_class c round class (class_count c.lists (round + 1))
 
       plain_sorted : AllByRecursion IsPlain sorted
-      plain_sorted = recursion_from_All IsPlain sorted (All-permutation IsPlain parts sorted m (subst (All IsPlain) (sym is) (All-from_recursion IsPlain (parts_of ks) (plain ks (classes_in class)))))
+      plain_sorted = recursion_from_All IsPlain sorted (All-permutation IsPlain parts sorted m
+          (subst (All IsPlain) (sym is) (All-from_recursion IsPlain (parts_of ks) (plain ks (classes_in class)))))
 
       -- the parts weigh little
       pub parts_fit : sum_by (λ (p : Part). p.weight) sorted ≤ 67108864
@@ -397,9 +439,17 @@ module _ (g : ValidGame) (c : Filter) (e : c.parents ≡ (frame_in g).parents) (
             let v : Part → ℕ = λ p. cond (p.class == q) p.weight 0 in
             let both = both_weight (frame_in g) (table g) c.lists k round some (omega arith) class q in
             let e : weight_in (gathered 1 sorted) q ≡ both =
-            omega (arith, gathered-weight 1 sorted q, sum_by-IsPermutation v parts sorted m, ap (sum_by v) is, counts ks (classes_in class) q, below_counts class q) in
+            omega (
+              arith,
+              gathered-weight 1 sorted q,
+              sum_by-IsPermutation v parts sorted m,
+              ap (sum_by v) is,
+              counts ks (classes_in class) q,
+              below_counts class q,
+            ) in
             ap pos e ∙ sym (pair_weight_is (frame_in g) (table g) c.lists k round some (omega arith) class q);
         signed = λ q.
             gathered-signed 1 sorted q ∙ ap (λ z. pos 1 *ℤ z) (no_signed sorted q plain_sorted) ∙ *ℤ-zero (pos 1)
-            ∙ sym (ap (λ b. cond b (pair_sum (frame_in g) c.lists c.lists round (λ o. o) class q) (pos 0)) (not_eq round (last_round (frame_in g)) (λ e. omega arith)));
+            ∙ sym (ap (λ b. cond b (pair_sum (frame_in g) c.lists c.lists round (λ o. o) class q) (pos 0))
+            (not_eq round (last_round (frame_in g)) (λ e. omega arith)));
       }

@@ -36,18 +36,22 @@ twice : (z : ℤ) → neg_ℤ (neg_ℤ z) ≡ z
 twice z = omega (arith, ints)
 
 -- a fold pays the same at every outcome
-pub folded : (f : Frame) (player z : ℕ) → (player ≡ 1) ⊎ (player ≡ 2) → (end_at f z).kind ≡ Folded1 → (o : ℤ) → payoff_to f player z o ≡ stake player 1 (end_at f z).put
+pub folded : (f : Frame) (player z : ℕ) → (player ≡ 1) ⊎ (player ≡ 2) → (end_at f z).kind ≡ Folded1 → (o : ℤ)
+    → payoff_to f player z o ≡ stake player 1 (end_at f z).put
 unfolding payoff_to
 folded f player z p k o = ⊎_elim
     (λ one. let t : (player == 1) ≡ true = (Decides-eqb player 1).1 one in rw (t, k) refl)
     (λ two. let t : (player == 1) ≡ false = not_eq player 1 (λ e. omega arith) in rw (t, k) (twice (pos (end_at f z).put)))
     p
 
-pub folded_other : (f : Frame) (player z : ℕ) → (player ≡ 1) ⊎ (player ≡ 2) → (end_at f z).kind ≡ Folded2 → (o : ℤ) → payoff_to f player z o ≡ stake player 2 (end_at f z).put
+pub folded_other : (f : Frame) (player z : ℕ) → (player ≡ 1) ⊎ (player ≡ 2) → (end_at f z).kind ≡ Folded2 → (o : ℤ)
+    → payoff_to f player z o ≡ stake player 2 (end_at f z).put
 unfolding payoff_to
 folded_other f player z p k o = ⊎_elim
-    (λ one. let t : (player == 1) ≡ true = (Decides-eqb player 1).1 one in let s : (player == 2) ≡ false = not_eq player 2 (λ e. omega arith) in rw (t, s, k) refl)
-    (λ two. let t : (player == 1) ≡ false = not_eq player 1 (λ e. omega arith) in let s : (player == 2) ≡ true = (Decides-eqb player 2).1 two in rw (t, s, k) refl)
+    (λ one. let t : (player == 1) ≡ true = (Decides-eqb player 1).1 one in let s : (player == 2) ≡ false = not_eq player 2 (λ e. omega arith) in
+    rw (t, s, k) refl)
+    (λ two. let t : (player == 1) ≡ false = not_eq player 1 (λ e. omega arith) in let s : (player == 2) ≡ true = (Decides-eqb player 2).1 two in
+    rw (t, s, k) refl)
     p
 
 turned : (n : ℕ) (o : ℤ) → neg_ℤ (neg_ℤ o *ℤ pos n) ≡ pos n *ℤ o
@@ -74,7 +78,8 @@ out false a z = sym (*ℤ-zero a)
 
 constant_row : (row : List Pair) (e : ℕ) (a : ℤ) → sum_z (λ (p : Pair). cond (p.two == e) (a *ℤ pos p.weight) (pos 0)) row ≡ a *ℤ pos (weight_in row e)
 constant_row row e a =
-    sum_z-same (λ (p : Pair). cond (p.two == e) (a *ℤ pos p.weight) (pos 0)) (λ p. a *ℤ cond (p.two == e) (pos p.weight) (pos 0)) (λ p. out (p.two == e) a (pos p.weight)) row
+    sum_z-same (λ (p : Pair). cond (p.two == e) (a *ℤ pos p.weight) (pos 0)) (λ p. a *ℤ cond (p.two == e) (pos p.weight) (pos 0))
+    (λ p. out (p.two == e) a (pos p.weight)) row
     ∙ sum_z-mul a (λ (p : Pair). cond (p.two == e) (pos p.weight) (pos 0)) row
     ∙ ap (λ z. a *ℤ z)
     (sum_z-same (λ (p : Pair). cond (p.two == e) (pos p.weight) (pos 0)) (λ p. pos (cond (p.two == e) p.weight 0)) (λ p. plain (p.two == e) p.weight) row
@@ -86,32 +91,41 @@ signed_row row e a =
     ∙ sum_z-mul a (λ (p : Pair). cond (p.two == e) p.signed (pos 0)) row
 
 -- what an end pays in the deals of a pair, from the row
-module _ (f : Frame) (lists : ClassLists) (player : ℕ) (either : (player ≡ 1) ⊎ (player ≡ 2)) (w : IsWalked f player) (z : ℕ) (l : z < end_count f) (c : ℕ) (row : List Pair)
+module _ (f : Frame) (lists : ClassLists) (player : ℕ) (either : (player ≡ 1)
+    ⊎ (player ≡ 2)) (w : IsWalked f player) (z : ℕ) (l : z < end_count f) (c : ℕ) (row : List Pair)
     (h : IsRow f lists (round_of f (at_end z)) c row) where
-  same_constant : (e : ℕ) (a : ℤ) → ((o : ℤ) → payoff_to f player z o ≡ a) → a *ℤ pos (weight_in row e) ≡ pair_sum f lists lists (round_of f (at_end z)) (payoff_to f player z) c e
+  same_constant : (e : ℕ) (a : ℤ) → ((o : ℤ) → payoff_to f player z o ≡ a)
+      → a *ℤ pos (weight_in row e) ≡ pair_sum f lists lists (round_of f (at_end z)) (payoff_to f player z) c e
   same_constant e a k = ap (λ v. a *ℤ v) (h.weights e) ∙ sym (pair_constant f lists lists (round_of f (at_end z)) c e (payoff_to f player z) a k)
 
-  same_shown : (e : ℕ) (put : ℕ) → ((o : ℤ) → payoff_to f player z o ≡ pos put *ℤ o) → pos put *ℤ signed_in row e ≡ pair_sum f lists lists (round_of f (at_end z)) (payoff_to f player z) c e
+  same_shown : (e : ℕ) (put : ℕ) → ((o : ℤ) → payoff_to f player z o ≡ pos put *ℤ o)
+      → pos put *ℤ signed_in row e ≡ pair_sum f lists lists (round_of f (at_end z)) (payoff_to f player z) c e
   same_shown e put k = ap (λ v. pos put *ℤ v) (h.signed e) ∙ by (round_of f (at_end z) == last_round f) refl
     where
       by : (b : Bool) → (round_of f (at_end z) == last_round f) ≡ b
-          → pos put *ℤ cond b (pair_sum f lists lists (round_of f (at_end z)) (λ o. o) c e) (pos 0) ≡ pair_sum f lists lists (round_of f (at_end z)) (payoff_to f player z) c e
+          → pos put *ℤ cond b (pair_sum f lists lists (round_of f (at_end z)) (λ o. o) c e) (pos 0)
+          ≡ pair_sum f lists lists (round_of f (at_end z)) (payoff_to f player z) c e
       by true t = sym (pair_times f lists lists (round_of f (at_end z)) c e (payoff_to f player z) put k)
       by false t =
           let before : round_of f (at_end z) < last_round f =
-          let other : round_of f (at_end z) ≢ last_round f = λ s. (let y = (Decides-eqb (round_of f (at_end z)) (last_round f)).1 s in cc) in omega (arith, w.end_in z l) in
+          let other : round_of f (at_end z) ≢ last_round f = λ s. (let y = (Decides-eqb (round_of f (at_end z)) (last_round f)).1 s in cc) in
+          omega (arith, w.end_in z l) in
           let one : pos put *ℤ pos 1 ≡ pos put *ℤ pos 0 = sym (k (pos 1)) ∙ w.folds z (pos 1) (pos 0) l before ∙ k (pos 0) in
           let none : put ≡ 0 = omega (arith, ints, one, product_is (pos put) (pos 1), product_is (pos put) (pos 0)) in
           let zero_all : (o : ℤ) → payoff_to f player z o ≡ pos 0 = λ o. k o ∙ ap (λ n. pos n *ℤ o) none ∙ omega (arith, ints, product_is (pos 0) o) in
           *ℤ-zero (pos put) ∙ sym (omega (arith, ints, product_is (pos 0) (pos (weight_in row e)))) ∙ same_constant e (pos 0) zero_all
 
-  pays_is : (e : ℕ) → sum_z (λ (p : Pair). cond (p.two == e) (pair_pays player (end_at f z) p) (pos 0)) row ≡ pair_sum f lists lists (round_of f (at_end z)) (payoff_to f player z) c e
+  pays_is : (e : ℕ) → sum_z (λ (p : Pair). cond (p.two == e) (pair_pays player (end_at f z) p) (pos 0)) row
+      ≡ pair_sum f lists lists (round_of f (at_end z)) (payoff_to f player z) c e
   pays_is e = by (end_at f z).kind refl
     where
       by : (k : EndKind) → (end_at f z).kind ≡ k
-          → sum_z (λ (p : Pair). cond (p.two == e) (pair_pays player (end_at f z) p) (pos 0)) row ≡ pair_sum f lists lists (round_of f (at_end z)) (payoff_to f player z) c e
-      by Folded1 k = rw k (constant_row row e (stake player 1 (end_at f z).put) ∙ same_constant e (stake player 1 (end_at f z).put) (folded f player z either k))
-      by Folded2 k = rw k (constant_row row e (stake player 2 (end_at f z).put) ∙ same_constant e (stake player 2 (end_at f z).put) (folded_other f player z either k))
+          → sum_z (λ (p : Pair). cond (p.two == e) (pair_pays player (end_at f z) p) (pos 0)) row
+          ≡ pair_sum f lists lists (round_of f (at_end z)) (payoff_to f player z) c e
+      by Folded1 k = rw k (constant_row row e (stake player 1 (end_at f z).put)
+          ∙ same_constant e (stake player 1 (end_at f z).put) (folded f player z either k))
+      by Folded2 k = rw k (constant_row row e (stake player 2 (end_at f z).put)
+          ∙ same_constant e (stake player 2 (end_at f z).put) (folded_other f player z either k))
       by Show k = rw k (signed_row row e (pos (end_at f z).put) ∙ same_shown e (end_at f z).put (shown f player z either k))
 
   -- over all classes of the other player, each with a number
@@ -121,7 +135,8 @@ module _ (f : Frame) (lists : ClassLists) (player : ℕ) (either : (player ≡ 1
   row_sum r k n =
       let round = round_of f (at_end z) in
       by_ancestor eqb Decides-eqb (λ (p : Pair). p.two) n (pair_pays player (end_at f z)) row (classes_in lists round)
-      (λ i d m. let a = row_class f (is_table f r) lists k round (w.end_round z l) (w.end_in z l) c row h i d m in range_once (get_or row i d).two 1 (class_count lists round) (omega (arith, a.0)) (omega (arith, a.1)))
+      (λ i d m. let a = row_class f (is_table f r) lists k round (w.end_round z l) (w.end_in z l) c row h i d m in
+      range_once (get_or row i d).two 1 (class_count lists round) (omega (arith, a.0)) (omega (arith, a.1)))
       ∙ sum_z-same (λ e. pos (n e) *ℤ sum_z (λ (p : Pair). cond (p.two == e) (pair_pays player (end_at f z) p) (pos 0)) row)
       (λ e. pos (n e) *ℤ pair_sum f lists lists round (payoff_to f player z) c e) (λ e. ap (λ v. pos (n e) *ℤ v) (pays_is e)) (classes_in lists round)
 
@@ -135,15 +150,30 @@ stake_size player folder put = by (player == folder)
     by false = omega (arith, ints, abs_is (pos put))
 
 -- what an end pays is at most nine times its chips a deal
-pub pays_size : (player most : ℕ) (z : End) (p : Pair) → z.put ≤ most → unsigned_abs p.signed ≤ 9 * p.weight → unsigned_abs (pair_pays player z p) ≤ most * (9 * p.weight)
+pub pays_size : (player most : ℕ) (z : End) (p : Pair) → z.put ≤ most → unsigned_abs p.signed ≤ 9 * p.weight
+    → unsigned_abs (pair_pays player z p) ≤ most * (9 * p.weight)
 pays_size player most z p few moderate = by z.kind refl
   where
     once : most * p.weight ≤ most * (9 * p.weight)
     once = mul-le-mul_left most (omega arith)
 
     by : (k : EndKind) → z.kind ≡ k → unsigned_abs (pair_pays player z p) ≤ most * (9 * p.weight)
-    by Folded1 k = rw k (omega (arith, unsigned_abs-mul (stake player 1 z.put) (pos p.weight), abs_is (pos p.weight), mul-le-mul_right p.weight (stake_size player 1 z.put), mul-le-mul_right p.weight few, once))
-    by Folded2 k = rw k (omega (arith, unsigned_abs-mul (stake player 2 z.put) (pos p.weight), abs_is (pos p.weight), mul-le-mul_right p.weight (stake_size player 2 z.put), mul-le-mul_right p.weight few, once))
+    by Folded1 k = rw k (omega (
+      arith,
+      unsigned_abs-mul (stake player 1 z.put) (pos p.weight),
+      abs_is (pos p.weight),
+      mul-le-mul_right p.weight (stake_size player 1 z.put),
+      mul-le-mul_right p.weight few,
+      once,
+    ))
+    by Folded2 k = rw k (omega (
+      arith,
+      unsigned_abs-mul (stake player 2 z.put) (pos p.weight),
+      abs_is (pos p.weight),
+      mul-le-mul_right p.weight (stake_size player 2 z.put),
+      mul-le-mul_right p.weight few,
+      once,
+    ))
     by Show k = rw k (omega (arith, unsigned_abs-mul (pos z.put) p.signed, mul-le-mul_left z.put moderate, mul-le-mul_right (9 * p.weight) few))
 
 -- what a pair adds
@@ -172,7 +202,8 @@ product_few t w l m =
     let a = mul-le-mul_right w up in
     omega (arith, a, m)
 
-module _ (f : Frame) (r : InRange f) (lists : ClassLists) (k : IsClasses f.parents lists) (player : ℕ) (w : IsWalked f player) (few : AreModest f) (z : ℕ) (l : z < end_count f) (c : ℕ) (row : List Pair)
+module _ (f : Frame) (r : InRange f) (lists : ClassLists) (k : IsClasses f.parents lists) (player : ℕ) (w : IsWalked f player) (few : AreModest f) (z : ℕ)
+    (l : z < end_count f) (c : ℕ) (row : List Pair)
     (h : IsRow f lists (round_of f (at_end z)) c row) where
   abbrev pub weight_here : ℕ
   weight_here = class_weight f (is_table f r) lists k (round_of f (at_end z)) (w.end_round z l) (w.end_in z l) c
@@ -183,7 +214,14 @@ module _ (f : Frame) (r : InRange f) (lists : ClassLists) (k : IsClasses f.paren
       let round = round_of f (at_end z) in
       let all = classes_weigh f (is_table f r) lists k round (w.end_round z l) (w.end_in z l) c 1 in
       let one = sum_by-cons (class_weight f (is_table f r) lists k round (w.end_round z l) (w.end_in z l)) c [] in
-      omega (arith, get_or-le-sum_by (λ (p : Pair). p.weight) row i d m, row_weighs f (is_table f r) lists k round (w.end_round z l) (w.end_in z l) c row h, all, one, few.weight)
+      omega (
+        arith,
+        get_or-le-sum_by (λ (p : Pair). p.weight) row i d m,
+        row_weighs f (is_table f r) lists k round (w.end_round z l) (w.end_in z l) c row h,
+        all,
+        one,
+        few.weight,
+      )
 
   pub class_few_weight : weight_here ≤ 67108864
   class_few_weight =
@@ -211,7 +249,8 @@ module _ (f : Frame) (r : InRange f) (lists : ClassLists) (k : IsClasses f.paren
         arith,
         unsigned_abs-mul (pos (n p.two)) (pair_pays player (end_at f z) p),
         abs_is (pos (n p.two)),
-        scaled_few (n p.two) t (unsigned_abs (pair_pays player (end_at f z) p)) p.weight (within p.two (row_class f (is_table f r) lists k (round_of f (at_end z)) (w.end_round z l) (w.end_in z l) c row h j d lj)) (pays_few j d lj),
+        scaled_few (n p.two) t (unsigned_abs (pair_pays player (end_at f z) p)) p.weight
+            (within p.two (row_class f (is_table f r) lists k (round_of f (at_end z)) (w.end_round z l) (w.end_in z l) c row h j d lj)) (pays_few j d lj),
       )) in
       let a = abs_all term bound (take i row) (All-take (λ p. unsigned_abs (term p) ≤ bound p) i row each) in
       omega (
@@ -231,7 +270,8 @@ by_numbers f lists player y z numbers h c =
     let round = round_of f (at_end z) in
     let n = class_count lists round in
     let pays : ℕ → ℤ = λ e. pair_sum f lists lists round (payoff_to f player z) c e in
-    sum_z-same_all (λ e. pos (get_or numbers (e - 1) 0) *ℤ pays e) (λ e. pos (class_number f lists (other_player player) y z e) *ℤ pays e) (classes_in lists round) (λ i d l.
+    sum_z-same_all (λ e. pos (get_or numbers (e - 1) 0) *ℤ pays e) (λ e. pos (class_number f lists (other_player player) y z e) *ℤ pays e)
+    (classes_in lists round) (λ i d l.
     (let at : get_or (range_with_len 1 n) i d ≡ 1 + i = get_or-range_with_len 1 n i d (omega (arith, l, length-range_with_len 1 n)) in
     let class : IsClass lists round (get_or (range_with_len 1 n) i d) = (omega (arith, at), omega (arith, at, l, length-range_with_len 1 n)) in
     ap (λ v. pos v *ℤ pays (get_or (range_with_len 1 n) i d)) (h (get_or (range_with_len 1 n) i d) class)))

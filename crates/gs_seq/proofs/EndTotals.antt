@@ -42,16 +42,19 @@ payoff_is f lists x y r w k =
 -- one more number of a range
 pub range_more : (v : ℕ → ℤ) (b n : ℕ) → sum_z v (range_with_len b (n + 1)) ≡ sum_z v (range_with_len b n) +ℤ v (b + n)
 range_more v b n =
-    ap (sum_z v) (range_append b n 1) ∙ sum_z-append v (range_with_len b n) (range_with_len (b + n) 1) ∙ ap (λ z. sum_z v (range_with_len b n) +ℤ z) (+ℤ_idr (v (b + n)))
+    ap (sum_z v) (range_append b n 1) ∙ sum_z-append v (range_with_len b n) (range_with_len (b + n) 1)
+    ∙ ap (λ z. sum_z v (range_with_len b n) +ℤ z) (+ℤ_idr (v (b + n)))
 
 pub from_zero : (n : ℕ) → n ≡ 0 + n
 from_zero n = omega arith
 
-pub range_put : (v : ℕ → ℤ) (b n : ℕ) (sum part : ℤ) → sum ≡ sum_z v (range_with_len b n) → part ≡ v (b + n) → sum +ℤ part ≡ sum_z v (range_with_len b (n + 1))
+pub range_put : (v : ℕ → ℤ) (b n : ℕ) (sum part : ℤ) → sum ≡ sum_z v (range_with_len b n) → part ≡ v (b + n)
+    → sum +ℤ part ≡ sum_z v (range_with_len b (n + 1))
 range_put v b n sum part h e = ap (λ z. z +ℤ part) h ∙ ap (λ z. sum_z v (range_with_len b n) +ℤ z) e ∙ sym (range_more v b n)
 
 -- the size of a sum over a range
-pub abs_range : (v : ℕ → ℤ) (bound : ℕ → ℕ) (b n : ℕ) → ((m : ℕ) → b ≤ m → m < b + n → unsigned_abs (v m) ≤ bound m) → unsigned_abs (sum_z v (range_with_len b n)) ≤ sum_by bound (range_with_len b n)
+pub abs_range : (v : ℕ → ℤ) (bound : ℕ → ℕ) (b n : ℕ) → ((m : ℕ) → b ≤ m → m < b + n → unsigned_abs (v m) ≤ bound m)
+    → unsigned_abs (sum_z v (range_with_len b n)) ≤ sum_by bound (range_with_len b n)
 abs_range v bound b zero h = omega (arith, ints, abs_is (pos 0))
 abs_range v bound b (suc n) h =
     let a = abs_sum (v b) (sum_z v (range_with_len (b + 1) n)) in
@@ -71,7 +74,8 @@ pub term_fits : (n m : ℕ) (v w : ℤ) → n ≡ m → v ≡ w → unsigned_abs
 term_fits n m v w e h size = omega (arith, size, unsigned_abs-mul (pos m) w, abs_is (pos m), ap (λ z. n * unsigned_abs z) h, ap (λ k. k * unsigned_abs w) e)
 
 -- a product is the part of the next class
-pub term_is : (f : Frame) (lists : ClassLists) (x y : Plan) (z k n : ℕ) (w p : ℤ) → n ≡ class_number f lists 1 x z (k + 1) → w ≡ end_sum f lists 1 y z (k + 1) → p ≡ pos n *ℤ w → p ≡ class_term f lists x y z (1 + k)
+pub term_is : (f : Frame) (lists : ClassLists) (x y : Plan) (z k n : ℕ) (w p : ℤ) → n ≡ class_number f lists 1 x z (k + 1) → w ≡ end_sum f lists 1 y z (k + 1)
+    → p ≡ pos n *ℤ w → p ≡ class_term f lists x y z (1 + k)
 term_is f lists x y z k n w p e h is =
     let more : k + 1 ≡ 1 + k = omega arith in
     is ∙ ap (λ v. pos n *ℤ v) h ∙ ap (λ m. pos m *ℤ end_sum f lists 1 y z (k + 1)) e ∙ ap (class_term f lists x y z) more
@@ -92,18 +96,28 @@ all_room t u w lt lu lw =
     omega (arith, c, lw)
 
 -- what an end pays a player is at most 36,864 chips
-pays_within : (f : Frame) (player z : ℕ) → (player ≡ 1) ⊎ (player ≡ 2) → (end_at f z).put ≤ 4096 → (o : ℤ) → unsigned_abs o ≤ 9 → unsigned_abs (payoff_to f player z o) ≤ 36864
+pays_within : (f : Frame) (player z : ℕ) → (player ≡ 1) ⊎ (player ≡ 2) → (end_at f z).put ≤ 4096 → (o : ℤ) → unsigned_abs o ≤ 9
+    → unsigned_abs (payoff_to f player z o) ≤ 36864
 pays_within f player z either few o small = by (end_at f z).kind refl
   where
     by : (k : EndKind) → (end_at f z).kind ≡ k → unsigned_abs (payoff_to f player z o) ≤ 36864
     by Folded1 k = omega (arith, ap unsigned_abs (folded f player z either k o), stake_size player 1 (end_at f z).put, few)
     by Folded2 k = omega (arith, ap unsigned_abs (folded_other f player z either k o), stake_size player 2 (end_at f z).put, few)
-    by Show k = omega (arith, ap unsigned_abs (shown f player z either k o), unsigned_abs-mul (pos (end_at f z).put) o, abs_is (pos (end_at f z).put), mul-le-mul_left (end_at f z).put small, mul-le-mul_right 9 few)
+    by Show k = omega (
+      arith,
+      ap unsigned_abs (shown f player z either k o),
+      unsigned_abs-mul (pos (end_at f z).put) o,
+      abs_is (pos (end_at f z).put),
+      mul-le-mul_left (end_at f z).put small,
+      mul-le-mul_right 9 few,
+    )
 
 module _ (f : Frame) (r : InRange f) (lists : ClassLists) (k : IsClasses f.parents lists) (few : AreModest f) where
   -- what an end pays at a class is at most 36,864 times the other's total times the weight of the class
-  pub worth_few : (player : ℕ) → (player ≡ 1) ⊎ (player ≡ 2) → (w : IsWalked f player) → IsWalked f (other_player player) → (y : Plan) → IsClassPlan f lists (other_player player) y
-      → (z c : ℕ) → (l : z < end_count f) → unsigned_abs (end_sum f lists player y z c) ≤ (36864 * y.total) * class_weight f (is_table f r) lists k (round_of f (at_end z)) (w.end_round z l) (w.end_in z l) c
+  pub worth_few : (player : ℕ) → (player ≡ 1) ⊎ (player ≡ 2) → (w : IsWalked f player) → IsWalked f (other_player player) → (y : Plan)
+      → IsClassPlan f lists (other_player player) y
+      → (z c : ℕ) → (l : z < end_count f) → unsigned_abs (end_sum f lists player y z c)
+      ≤ (36864 * y.total) * class_weight f (is_table f r) lists k (round_of f (at_end z)) (w.end_round z l) (w.end_in z l) c
   worth_few player either w v y plan z c l =
       let round = round_of f (at_end z) in
       let some = w.end_round z l in
@@ -115,7 +129,8 @@ module _ (f : Frame) (r : InRange f) (lists : ClassLists) (k : IsClasses f.paren
       let s = λ (e : ℕ). pair_sum f lists lists round (payoff_to f player z) c e in
       let each : (e : ℕ) → 1 ≤ e → e < 1 + count → unsigned_abs (pos (n e) *ℤ s e) ≤ m * both e = λ e lo hi.
       (let number = number_few f lists (other_player player) y z e r v k plan l (omega arith, omega arith) in
-      let size = pair_few f (is_table f r) lists k round some top 36864 (payoff_to f player z) (λ i d li. pays_within f player z either (few.puts z l) (get_or f.deals i d).outcome (few.outcomes i d li)) c e in
+      let size = pair_few f (is_table f r) lists k round some top 36864 (payoff_to f player z)
+      (λ i d li. pays_within f player z either (few.puts z l) (get_or f.deals i d).outcome (few.outcomes i d li)) c e in
       omega (arith, unsigned_abs-mul (pos (n e)) (s e), abs_is (pos (n e)), scaled_few (n e) y.total (unsigned_abs (s e)) (both e) number size)) in
       let a = abs_range (λ e. pos (n e) *ℤ s e) (λ e. m * both e) 1 count each in
       omega (arith, a, times_sum m both (range_with_len 1 count), mul-le-mul_left m (beside_weigh f (is_table f r) lists k round some top c 1 count))
@@ -135,10 +150,17 @@ module _ (f : Frame) (r : InRange f) (lists : ClassLists) (k : IsClasses f.paren
         let all = classes_weigh f (is_table f r) lists k round some top c 1 in
         let one = sum_by-cons (class_weight f (is_table f r) lists k round some top) c [] in
         let less : weight ≤ 67108864 = omega (arith, all, one, few.weight) in
-        omega (arith, unsigned_abs-mul (pos n) s, abs_is (pos n), product_room n (unsigned_abs s) x.total y.total weight number size, all_room x.total y.total weight px.total_in.1 py.total_in.1 less)
+        omega (
+          arith,
+          unsigned_abs-mul (pos n) s,
+          abs_is (pos n),
+          product_room n (unsigned_abs s) x.total y.total weight number size,
+          all_room x.total y.total weight px.total_in.1 py.total_in.1 less,
+        )
 
     -- the parts of some first classes
-    pub classes_few : (z n : ℕ) → z < end_count f → n ≤ class_count lists (round_of f (at_end z)) → unsigned_abs (sum_z (class_term f lists x y z) (range_with_len 1 n)) ≤ end_room
+    pub classes_few : (z n : ℕ) → z < end_count f → n ≤ class_count lists (round_of f (at_end z))
+        → unsigned_abs (sum_z (class_term f lists x y z) (range_with_len 1 n)) ≤ end_room
     classes_few z n l top_n =
         let round = round_of f (at_end z) in
         let some = w.end_round z l in
@@ -156,12 +178,19 @@ module _ (f : Frame) (r : InRange f) (lists : ClassLists) (k : IsClasses f.paren
         )) in
         let a = abs_range (class_term f lists x y z) (λ c. m * weight c) 1 n each in
         let less : sum_by weight (range_with_len 1 n) ≤ 67108864 = omega (arith, classes_weigh f (is_table f r) lists k round some top 1 n, few.weight) in
-        omega (arith, a, times_sum m weight (range_with_len 1 n), all_room x.total y.total (sum_by weight (range_with_len 1 n)) px.total_in.1 py.total_in.1 less)
+        omega (
+          arith,
+          a,
+          times_sum m weight (range_with_len 1 n),
+          all_room x.total y.total
+              (sum_by weight (range_with_len 1 n)) px.total_in.1 py.total_in.1 less,
+        )
 
     -- what they pay at some first ends fits 128 bits
     pub ends_few : (n : ℕ) → n ≤ end_count f → unsigned_abs (sum_z (payoff_at f lists x y) (range_with_len 0 n)) < 2 ^ 127
     ends_few n l =
-        let a = abs_range (payoff_at f lists x y) (λ _. end_room) 0 n (λ z lo hi. classes_few z (class_count lists (round_of f (at_end z))) (omega arith) (omega arith)) in
+        let a = abs_range (payoff_at f lists x y) (λ _. end_room) 0 n (λ z lo hi.
+        classes_few z (class_count lists (round_of f (at_end z))) (omega arith) (omega arith)) in
         let few_n : n ≤ 8192 = omega (arith, few.ends) in
         let b = mul-le-mul_right end_room few_n in
         omega (arith, a, equal_sum end_room 0 n, b)
@@ -177,11 +206,13 @@ module _ (f : Frame) (lists : ClassLists) (g : AreGiven f lists) (x y : Plan) (p
   pub term_within : (z c : ℕ) → z < end_count f → IsClass lists (round_of f (at_end z)) c → unsigned_abs (class_term f lists x y z c) ≤ end_room
   term_within = term_few f g.in_range lists g.classes g.modest one two x y px py
 
-  pub classes_within : (z n : ℕ) → z < end_count f → n ≤ class_count lists (round_of f (at_end z)) → (s : ℤ) → s ≡ sum_z (class_term f lists x y z) (range_with_len 1 n) → unsigned_abs s < 2 ^ 127
+  pub classes_within : (z n : ℕ) → z < end_count f → n ≤ class_count lists (round_of f (at_end z)) → (s : ℤ)
+      → s ≡ sum_z (class_term f lists x y z) (range_with_len 1 n) → unsigned_abs s < 2 ^ 127
   classes_within z n l top s is = omega (arith, classes_few f g.in_range lists g.classes g.modest one two x y px py z n l top, ap unsigned_abs is)
 
   pub ends_within : (n : ℕ) → n ≤ end_count f → (s : ℤ) → s ≡ sum_z (payoff_at f lists x y) (range_with_len 0 n) → unsigned_abs s < 2 ^ 127
   ends_within n l s is = omega (arith, ends_few f g.in_range lists g.classes g.modest one two x y px py n l, ap unsigned_abs is)
 
-  pub ends_are_all : (n : ℕ) → n ≡ end_count f → (s : ℤ) → s ≡ sum_z (payoff_at f lists x y) (range_with_len 0 n) → s ≡ raw_payoff f (lift f lists x) (lift f lists y)
+  pub ends_are_all : (n : ℕ) → n ≡ end_count f → (s : ℤ) → s ≡ sum_z (payoff_at f lists x y) (range_with_len 0 n)
+      → s ≡ raw_payoff f (lift f lists x) (lift f lists y)
   ends_are_all n all s is = is ∙ ap (λ k. sum_z (payoff_at f lists x y) (range_with_len 0 k)) all ∙ payoff_is f lists x y g.in_range one g.classes

@@ -27,7 +27,8 @@ no_end = record { round = 0; kind = kinds.Folded1; put = 0; one = None; two = No
 pub length-ends : (g : ValidGame) (es : List StoredEnd) → map end_of es ≡ (frame_in g).ends → length es ≡ end_count (frame_in g)
 length-ends g es e = sym (length-map es end_of) ∙ ap (λ (l : List End). length l) e
 
-pub end_reads : (g : ValidGame) (es : List StoredEnd) (z : ℕ) (d : StoredEnd) → map end_of es ≡ (frame_in g).ends → z < end_count (frame_in g) → end_of (get_or es z d) ≡ end_at (frame_in g) z
+pub end_reads : (g : ValidGame) (es : List StoredEnd) (z : ℕ) (d : StoredEnd) → map end_of es ≡ (frame_in g).ends → z < end_count (frame_in g)
+    → end_of (get_or es z d) ≡ end_at (frame_in g) z
 end_reads g es z d e l =
     let out : End = record { round = 1; kind = Show; put = 0; one = None; two = None } in
     sym (get_or-map end_of es z d out (omega (arith, length-ends g es e))) ∙ ap (λ (xs : List End). get_or xs z out) e
@@ -45,11 +46,13 @@ unfolding last_step
 end_two f player z e is other = let test : (player == 1) ≡ false = not_eq player 1 other in rw test (sym (ap (λ (x : End). x.two) is))
 
 -- a plan's number at an end is at most its total
-pub number_few : (f : Frame) (lists : ClassLists) (player : ℕ) (x : Plan) (z c : ℕ) → InRange f → IsWalked f player → IsClasses f.parents lists → IsClassPlan f lists player x → z < end_count f
+pub number_few : (f : Frame) (lists : ClassLists) (player : ℕ) (x : Plan) (z c : ℕ) → InRange f → IsWalked f player → IsClasses f.parents lists
+    → IsClassPlan f lists player x → z < end_count f
     → IsClass lists (round_of f (at_end z)) c → class_number f lists player x z c ≤ x.total
 number_few f lists player x z c r w k plan l h = by (last_step f player (at_end z)) refl
   where
-    by : (o : Option Step) → last_step f player (at_end z) ≡ o → number_before f (lift f lists x) o (round_of f (at_end z)) (first_member lists (round_of f (at_end z)) c) ≤ x.total
+    by : (o : Option Step) → last_step f player (at_end z) ≡ o → number_before f (lift f lists x) o (round_of f (at_end z))
+        (first_member lists (round_of f (at_end z)) c) ≤ x.total
     by None e = omega arith
     by (Some u) e =
         let j = round_of f (at_end z) in
@@ -57,5 +60,7 @@ number_few f lists player x z c r w k plan l h = by (last_step f player (at_end 
         let s = ancestor f j i (first_member lists j c) in
         let his = w.chosen_end z u l e in
         let before = w.earlier_end z u l e in
-        let in_round = (is_table f r).kept j i (first_member lists j c) (w.some_round u.point before) (w.past_end_own z u l e) (member_in f lists k j c (w.end_round z l) (w.end_in z l) h) in
-        numbers_within f lists player r w k x plan u.point (class_of lists i s) u.choice before his.0 (class_in f lists k i s (w.some_round u.point before) (w.point_in u.point before) in_round) his.1
+        let in_round = (is_table f r).kept j i (first_member lists j c) (w.some_round u.point before) (w.past_end_own z u l e)
+        (member_in f lists k j c (w.end_round z l) (w.end_in z l) h) in
+        numbers_within f lists player r w k x plan u.point (class_of lists i s) u.choice before his.0
+        (class_in f lists k i s (w.some_round u.point before) (w.point_in u.point before) in_round) his.1

@@ -22,10 +22,12 @@ none_at v (p ∷ ps) d h = omega (arith, sum_by-cons v p ps, h 0 (omega arith), 
 
 -- for a class of none of its pairs it holds nothing
 pub weight_of_none : (row : List Pair) (d : Pair) (e : ℕ) → ((j : ℕ) → j < length row → (get_or row j d).two ≡ e → ⊥) → weight_in row e ≡ 0
-weight_of_none row d e h = none_at (λ (p : Pair). cond (p.two == e) p.weight 0) row d (λ j l. ap (λ b. cond b (get_or row j d).weight 0) (not_eq ((get_or row j d).two) e (h j l)))
+weight_of_none row d e h = none_at (λ (p : Pair). cond (p.two == e) p.weight 0) row d
+    (λ j l. ap (λ b. cond b (get_or row j d).weight 0) (not_eq ((get_or row j d).two) e (h j l)))
 
 -- the pair that stands first behind a class in a row
-pub after_in_row : (f : Frame) (lists : ClassLists) (round c after : ℕ) (row : List Pair) (o : Option Pair) → All (λ (d : Deal). 0 < d.weight) f.deals → IsRow f lists round c row
+pub after_in_row : (f : Frame) (lists : ClassLists) (round c after : ℕ) (row : List Pair) (o : Option Pair) → All (λ (d : Deal). 0 < d.weight) f.deals
+    → IsRow f lists round c row
     → MatchOption o (All (λ (p : Pair). p.two ≤ after) row) (IsFirstAfter row after)
     → MatchOption o (MeetsNoneAfter f lists round c after) (IsPairAfter f lists round c after)
 after_in_row f lists round c after row None weigh r h =

@@ -44,24 +44,38 @@ arrows_long (move letter chips next ms) g player q choice p =
     omega (arith, arrows_long ms g player q (choice + 1) (record p { point = p.point + length first.points; end = p.end + length first.ends }))
 
 -- and their letters are letters
-arrows_small : (ms : TreeMoves) (left : ℕ) (go_on : Place → Walked) → are_sound left ms ≡ true → (player q choice : ℕ) (p : Place) → AreSmall (letters_in (walk_moves go_on ms player q choice p).arrows)
+arrows_small : (ms : TreeMoves) (left : ℕ) (go_on : Place → Walked) → are_sound left ms ≡ true → (player q choice : ℕ) (p : Place)
+    → AreSmall (letters_in (walk_moves go_on ms player q choice p).arrows)
 arrows_small none left g sound player q choice p = tt
 arrows_small (move letter chips next ms) left g sound player q choice p =
     let here = after_move player q choice chips p in
     let first = walk_tree g next here in
-    let others = (sound_move left letter chips next ms sound).others in
-    (small_letter left letter chips next ms sound, arrows_small ms left g others player q (choice + 1) (record p { point = p.point + length first.points; end = p.end + length first.ends }))
+    let others = (sound_move left letter chips next ms sound).others in (
+      small_letter left letter chips next ms sound,
+      arrows_small ms left g others player q (choice + 1) (record p {
+        point =
+            p.point + length first.points;
+        end = p.end + length first.ends;
+      }),
+    )
 
 mutual
-  tree_few : (t : Bet) (left : ℕ) (go_on : Place → Walked) → is_sound left t ≡ true → ((p : Place) → AllByRecursion IsFew (go_on p).points) → (p : Place) → AllByRecursion IsFew (walk_tree go_on t p).points
+  tree_few : (t : Bet) (left : ℕ) (go_on : Place → Walked) → is_sound left t ≡ true → ((p : Place) → AllByRecursion IsFew (go_on p).points) → (p : Place)
+      → AllByRecursion IsFew (walk_tree go_on t p).points
   tree_few (act player ms) left g sound h p =
       let s = sound_act left player ms sound in
-      let behind : Place = record p { point = p.point + 1 } in
-      (record { few = omega (arith, arrows_long ms g player p.point 0 behind, at_most_26 s.0 ms s.2); small = arrows_small ms s.0 g s.2 player p.point 0 behind }, list_few ms s.0 g s.2 h player p.point 0 (record p { point = p.point + 1 }))
+      let behind : Place = record p { point = p.point + 1 } in (
+        record {
+          few = omega (arith, arrows_long ms g player p.point 0 behind, at_most_26 s.0 ms s.2);
+          small = arrows_small ms s.0 g s.2 player p.point 0 behind;
+        },
+        list_few ms s.0 g s.2 h player p.point 0 (record p { point = p.point + 1 }),
+      )
   tree_few fold left g sound h p = tt
   tree_few even left g sound h p = h p
 
-  list_few : (ms : TreeMoves) (left : ℕ) (go_on : Place → Walked) → are_sound left ms ≡ true → ((p : Place) → AllByRecursion IsFew (go_on p).points) → (player q choice : ℕ) (p : Place)
+  list_few : (ms : TreeMoves) (left : ℕ) (go_on : Place → Walked) → are_sound left ms ≡ true → ((p : Place) → AllByRecursion IsFew (go_on p).points)
+      → (player q choice : ℕ) (p : Place)
       → AllByRecursion IsFew (walk_moves go_on ms player q choice p).walked.points
   list_few none left g sound h player q choice p = tt
   list_few (move letter chips next ms) left g sound h player q choice p =
@@ -69,7 +83,8 @@ mutual
       let here = after_move player q choice chips p in
       let first = walk_tree g next here in
       let there : Place = record p { point = p.point + length first.points; end = p.end + length first.ends } in
-      every-append IsFew first.points (walk_moves g ms player q (choice + 1) there).walked.points (tree_few next left g s.next h here) (list_few ms left g s.others h player q (choice + 1) there)
+      every-append IsFew first.points (walk_moves g ms player q (choice + 1) there).walked.points (tree_few next left g s.next h here)
+      (list_few ms left g s.others h player q (choice + 1) there)
 
 rounds_few : (ts : List Bet) → AllByRecursion (λ t. is_sound 16 t ≡ true) ts → (p : Place) → AllByRecursion IsFew (walk_rounds ts p).points
 rounds_few [] sound p = tt
@@ -78,7 +93,8 @@ rounds_few (t ∷ ts) sound p = tree_few t 16 (walk_rounds ts) sound.0 (rounds_f
 -- so it is of a point of a valid game
 pub few_moves : (g : ValidGame) (q : ℕ) → q < point_count (frame_in g) → IsFew (point (frame_in g) q)
 few_moves g q l =
-    let all = subst (λ (ts : List Bet). AllByRecursion IsFew (walk g.game.ante ts).points) (sym (trees_are g.game)) (rounds_few (plain_trees g.game.rounds.items) (all_sound g.game.rounds.items) (walk_start g.game.ante)) in
+    let all = subst (λ (ts : List Bet). AllByRecursion IsFew (walk g.game.ante ts).points) (sym (trees_are g.game))
+    (rounds_few (plain_trees g.game.rounds.items) (all_sound g.game.rounds.items) (walk_start g.game.ante)) in
     All-from_recursion IsFew (frame_in g).points all q none_there l
 
 -- and how many moves it has

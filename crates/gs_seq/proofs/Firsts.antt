@@ -24,10 +24,12 @@ slot_under c k m some l = let e : c ≡ suc (c - 1) = omega arith in omega (arit
 agree_less : (n m : ℕ) (xs ys : List ℕ) → m ≤ n → Agree n xs ys → Agree m xs ys
 agree_less n m xs ys l h k lk = h k (omega arith)
 
-module _ (f : Frame) (r : InRange f) (lists : ClassLists) (k : IsClasses f.parents lists) (player : ℕ) (w : IsWalked f player) (q : ℕ) (l : q < point_count f) (own : player_at f q ≡ player) (c : ℕ)
+module _ (f : Frame) (r : InRange f) (lists : ClassLists) (k : IsClasses f.parents lists) (player : ℕ) (w : IsWalked f player) (q : ℕ) (l : q
+    < point_count f) (own : player_at f q ≡ player) (c : ℕ)
     (h : IsClass lists (round_of f (at_point q)) c) where
   abbrev came_by : List ℕ → ℕ
-  came_by xs = number_before f (lift f lists (plan_of f lists 1 xs)) (last_step f player (at_point q)) (round_of f (at_point q)) (first_member lists (round_of f (at_point q)) c)
+  came_by xs = number_before f (lift f lists (plan_of f lists 1 xs)) (last_step f player (at_point q)) (round_of f (at_point q))
+      (first_member lists (round_of f (at_point q)) c)
 
   -- what comes to a class rests on the weights at earlier points
   pub came_kept : (xs ys : List ℕ) → Agree (slots_before f lists player q) xs ys → came_by ys ≡ came_by xs
@@ -46,22 +48,27 @@ module _ (f : Frame) (r : InRange f) (lists : ClassLists) (k : IsClasses f.paren
           let some = w.some_round u.point in_points in
           let s = ancestor f j i (first_member lists j c) in
           let above = class_of lists i s in
-          let in_round = (is_table f r).kept j i (first_member lists j c) some (w.past q u l e) (member_in f lists k j c (w.some_round q l) (w.point_in q l) h) in
+          let in_round = (is_table f r).kept j i (first_member lists j c) some (w.past q u l e)
+          (member_in f lists k j c (w.some_round q l) (w.point_in q l) h) in
           let here = class_in f lists k i s some (w.point_in u.point in_points) in_round in
           let room = slot_before f lists player u.point above u.choice q his.0 here his.1 before in
           agree (slot_of f lists u.point above u.choice) (omega (arith, room, ap (λ p. slots_before f lists p u.point) his.0))
 
   -- weights that agree up to the next class keep the numbers of a class
-  pub first_kept : (n : ℕ) (xs ys : List ℕ) → 0 < move_count f q → slots_before f lists player q + c * move_count f q ≤ n → Agree n xs ys → IsFirstAt f lists player xs q c → IsFirstAt f lists player ys q c
+  pub first_kept : (n : ℕ) (xs ys : List ℕ) → 0 < move_count f q → slots_before f lists player q + c * move_count f q ≤ n → Agree n xs ys
+      → IsFirstAt f lists player xs q c → IsFirstAt f lists player ys q c
   first_kept n xs ys some room agree first =
-      let at : (m : ℕ) → m < move_count f q → slot_of f lists q c m < n = λ m lm. omega (arith, room, slot_under c (move_count f q) m h.0 lm, ap (λ p. slots_before f lists p q) own) in
+      let at : (m : ℕ) → m < move_count f q → slot_of f lists q c m < n =
+      λ m lm. omega (arith, room, slot_under c (move_count f q) m h.0 lm, ap (λ p. slots_before f lists p q) own) in
       record {
-        came = agree (slot_of f lists q c 0) (at 0 some) ∙ first.came ∙ sym (came_kept xs ys (agree_less n (slots_before f lists player q) xs ys (omega (arith, room)) agree));
+        came = agree (slot_of f lists q c 0) (at 0 some) ∙ first.came ∙ sym
+            (came_kept xs ys (agree_less n (slots_before f lists player q) xs ys (omega (arith, room)) agree));
         others = λ m lo hi. agree (slot_of f lists q c m) (at m hi) ∙ first.others m lo hi;
       }
 
   -- a class's weights, once what comes there is put on the first move
-  pub first_put : (xs : List ℕ) (slot came : ℕ) → slot ≡ slots_before f lists player q + (c - 1) * move_count f q → slot < length xs → came ≡ came_by xs → IsClear slot xs → IsFirstAt f lists player (set xs slot came) q c
+  pub first_put : (xs : List ℕ) (slot came : ℕ) → slot ≡ slots_before f lists player q + (c - 1) * move_count f q → slot < length xs → came ≡ came_by xs
+      → IsClear slot xs → IsFirstAt f lists player (set xs slot came) q c
   first_put xs slot came at room is clear =
       let place : slot_of f lists q c 0 ≡ slot = omega (arith, at, ap (λ p. slots_before f lists p q) own) in
       let agree : Agree (slots_before f lists player q) xs (set xs slot came) = λ k lk. get_or-set_other xs slot k came 0 (omega (arith, at)) in
@@ -77,14 +84,20 @@ module _ (f : Frame) (r : InRange f) (lists : ClassLists) (k : IsClasses f.paren
 
 later_zero : (n : ℕ) (g : ℕ → ℕ) (b : ℕ) → ((m : ℕ) → b ≤ m → m < b + n → g m ≡ 0) → sum_by g (range_with_len b n) ≡ 0
 later_zero zero g b h = refl
-later_zero (suc n) g b h = omega (arith, sum_by-cons g b (range_with_len (b + 1) n), h b (omega arith) (omega arith), later_zero n g (b + 1) (λ m lo hi. h m (omega arith) (omega arith)))
+later_zero (suc n) g b h = omega (
+  arith,
+  sum_by-cons g b (range_with_len (b + 1) n),
+  h b (omega arith) (omega arith),
+  later_zero n g (b + 1) (λ m lo hi. h m (omega arith) (omega arith)),
+)
 
 -- a sum whose first member is all
 first_all : (n : ℕ) (g : ℕ → ℕ) → 0 < n → ((m : ℕ) → 0 < m → m < n → g m ≡ 0) → sum_by g (range_with_len 0 n) ≡ g 0
 first_all zero g some h = absurd (omega arith)
 first_all (suc n) g some h = omega (arith, sum_by-cons g 0 (range_with_len (0 + 1) n), later_zero n g (0 + 1) (λ m lo hi. h m (omega arith) (omega arith)))
 
-pub first_plan_is : (f : Frame) (lists : ClassLists) (player : ℕ) (weights : List ℕ) → ((q : ℕ) → q < point_count f → 0 < move_count f q) → AreFirstBefore f lists player weights (point_count f)
+pub first_plan_is : (f : Frame) (lists : ClassLists) (player : ℕ) (weights : List ℕ) → ((q : ℕ) → q < point_count f → 0 < move_count f q)
+    → AreFirstBefore f lists player weights (point_count f)
     → IsClassPlan f lists player (plan_of f lists 1 weights)
 first_plan_is f lists player weights some h = record {
   total_in = (omega arith, omega arith);
@@ -94,15 +107,18 @@ first_plan_is f lists player weights some h = record {
 }
 
 -- the slots of an own point
-pub slots_own : (f : Frame) (lists : ClassLists) (player q : ℕ) → player_at f q ≡ player → slots_before f lists player (q + 1) ≡ slots_before f lists player q + class_count lists (round_of f (at_point q)) * move_count f q
+pub slots_own : (f : Frame) (lists : ClassLists) (player q : ℕ) → player_at f q ≡ player
+    → slots_before f lists player (q + 1) ≡ slots_before f lists player q + class_count lists (round_of f (at_point q)) * move_count f q
 slots_own f lists player q own =
     let test : (player_at f q == player) ≡ true = (Decides-eqb (player_at f q) player).1 own in
     let here : slots_at f lists player q ≡ class_count lists (round_of f (at_point q)) * move_count f q = rw test refl in
     omega (arith, slots_more f lists player q, here)
 
 -- one more point of the player
-pub firsts_more : (f : Frame) (r : InRange f) (lists : ClassLists) (k : IsClasses f.parents lists) (player : ℕ) (w : IsWalked f player) (some : (p : ℕ) → p < point_count f → 0 < move_count f p) (q : ℕ) (xs ys : List ℕ)
-    → q < point_count f → AreFirstBefore f lists player xs q → Agree (slots_before f lists player q) xs ys → ((c : ℕ) → IsClass lists (round_of f (at_point q)) c → IsFirstAt f lists player ys q c)
+pub firsts_more : (f : Frame) (r : InRange f) (lists : ClassLists) (k : IsClasses f.parents lists) (player : ℕ) (w : IsWalked f player) (some : (p : ℕ)
+    → p < point_count f → 0 < move_count f p) (q : ℕ) (xs ys : List ℕ)
+    → q < point_count f → AreFirstBefore f lists player xs q → Agree (slots_before f lists player q) xs ys
+    → ((c : ℕ) → IsClass lists (round_of f (at_point q)) c → IsFirstAt f lists player ys q c)
     → AreFirstBefore f lists player ys (q + 1)
 firsts_more f r lists k player w some q xs ys l firsts agree here p c lp own h = ⊎_elim
     (λ e. subst (λ n. IsFirstAt f lists player ys n c) (sym e) (here c (subst (λ n. IsClass lists (round_of f (at_point n)) c) e h)))
@@ -110,9 +126,12 @@ firsts_more f r lists k player w some q xs ys l firsts agree here p c lp own h =
     let before : p < q = omega arith in
     let in_points : p < point_count f = omega (arith, before, l) in
     first_kept f r lists k player w p in_points own c h (slots_before f lists player q) xs ys (some p in_points)
-    (omega (arith, slots_own f lists player p own, mul-le-mul_right (move_count f p) h.1, slots_le f lists player (p + 1) q (omega arith))) agree (firsts p c before own h))
+    (omega (arith, slots_own f lists player p own, mul-le-mul_right (move_count f p) h.1, slots_le f lists player (p + 1) q (omega arith))) agree
+    (firsts p c before own h))
     (cases_eq p q)
 
 -- one more point of the other player
-pub firsts_same : (f : Frame) (lists : ClassLists) (player q : ℕ) (xs : List ℕ) → AreFirstBefore f lists player xs q → (player_at f q ≡ player → ⊥) → AreFirstBefore f lists player xs (q + 1)
-firsts_same f lists player q xs firsts other p c lp own h = ⊎_elim (λ e. absurd (other (sym (ap (player_at f) e) ∙ own))) (λ ne. firsts p c (omega arith) own h) (cases_eq p q)
+pub firsts_same : (f : Frame) (lists : ClassLists) (player q : ℕ) (xs : List ℕ) → AreFirstBefore f lists player xs q → (player_at f q ≡ player → ⊥)
+    → AreFirstBefore f lists player xs (q + 1)
+firsts_same f lists player q xs firsts other p c lp own h = ⊎_elim (λ e. absurd (other (sym (ap (player_at f) e) ∙ own)))
+    (λ ne. firsts p c (omega arith) own h) (cases_eq p q)

@@ -22,10 +22,12 @@ use Rattle.gs_seq.proofs.Sizes.{AreModest, modest}
 pub carried : {f g : Frame} {ls ms : ClassLists} (P : Frame → ClassLists → Type 0) → f ≡ g → ls ≡ ms → P f ls → P g ms
 carried {f} {g} {ls} {ms} P e k h = subst (λ x. P x ms) e (subst (λ y. P f y) k h)
 
-pub end_in_frame : (g : ValidGame) (f : Frame) (es : List StoredEnd) (z : ℕ) (d : StoredEnd) → frame_in g ≡ f → map end_of es ≡ (frame_in g).ends → z < end_count f → end_of (get_or es z d) ≡ end_at f z
+pub end_in_frame : (g : ValidGame) (f : Frame) (es : List StoredEnd) (z : ℕ) (d : StoredEnd) → frame_in g ≡ f → map end_of es ≡ (frame_in g).ends
+    → z < end_count f → end_of (get_or es z d) ≡ end_at f z
 end_in_frame g f es z d same is l = end_reads g es z d is (subst (λ x. z < end_count x) (sym same) l) ∙ ap (λ x. end_at x z) same
 
-pub round_in_frame : (g : ValidGame) (f : Frame) (es : List StoredEnd) (z : ℕ) (d : StoredEnd) → frame_in g ≡ f → map end_of es ≡ (frame_in g).ends → z < end_count f → (get_or es z d).round ≡ round_of f (at_end z)
+pub round_in_frame : (g : ValidGame) (f : Frame) (es : List StoredEnd) (z : ℕ) (d : StoredEnd) → frame_in g ≡ f → map end_of es ≡ (frame_in g).ends
+    → z < end_count f → (get_or es z d).round ≡ round_of f (at_end z)
 round_in_frame g f es z d same is l = end_round f z (get_or es z d) (end_in_frame g f es z d same is l)
 
 -- what the laws ask of a frame and classes

@@ -30,7 +30,8 @@ abbrev pub part_signed : List Part → ℕ → ℤ
 part_signed ps e = sum_z (λ (p : Part). cond (p.class == e) (pos p.weight *ℤ p.outcome) (pos 0)) ps
 
 -- a function of pairs that adds up where two are joined
-joined_sum : (v : Pair → ℕ) (p : Pair) (row : List Pair) → ((q : Pair) → q.two ≡ p.two → v (together q p) ≡ v p + v q) → sum_by v (join p row) ≡ v p + sum_by v row
+joined_sum : (v : Pair → ℕ) (p : Pair) (row : List Pair) → ((q : Pair) → q.two ≡ p.two → v (together q p) ≡ v p + v q)
+    → sum_by v (join p row) ≡ v p + sum_by v row
 joined_sum v p [] h = sum_by-cons v p []
 joined_sum v p (q ∷ qs) h = by (q.two == p.two) refl
   where
@@ -38,7 +39,8 @@ joined_sum v p (q ∷ qs) h = by (q.two == p.two) refl
     by true e = omega (arith, sum_by-cons v (together q p) qs, sum_by-cons v q qs, h q ((Decides-eqb q.two p.two).0 e))
     by false e = sum_by-cons v p (q ∷ qs)
 
-joined_sum_z : (v : Pair → ℤ) (p : Pair) (row : List Pair) → ((q : Pair) → q.two ≡ p.two → v (together q p) ≡ v p +ℤ v q) → sum_z v (join p row) ≡ v p +ℤ sum_z v row
+joined_sum_z : (v : Pair → ℤ) (p : Pair) (row : List Pair) → ((q : Pair) → q.two ≡ p.two → v (together q p) ≡ v p +ℤ v q)
+    → sum_z v (join p row) ≡ v p +ℤ sum_z v row
 joined_sum_z v p [] h = refl
 joined_sum_z v p (q ∷ qs) h = by (q.two == p.two) refl
   where
@@ -60,7 +62,8 @@ gathered-weight m [] e = omega arith
 gathered-weight m (p ∷ ps) e =
     let v : Pair → ℕ = λ q. cond (q.two == e) q.weight 0 in
     let w : Part → ℕ = λ p. cond (p.class == e) p.weight 0 in
-    let here : weight_in (gathered m (p ∷ ps)) e ≡ v (pair_of m p) + weight_in (gathered m ps) e = joined_sum v (pair_of m p) (gathered m ps) (λ q k. add_in (q.two == e) q.weight (m * p.weight) ∙ ap (λ t. cond (t == e) (m * p.weight) 0 + v q) k) in
+    let here : weight_in (gathered m (p ∷ ps)) e ≡ v (pair_of m p) + weight_in (gathered m ps) e =
+    joined_sum v (pair_of m p) (gathered m ps) (λ q k. add_in (q.two == e) q.weight (m * p.weight) ∙ ap (λ t. cond (t == e) (m * p.weight) 0 + v q) k) in
     let parts : part_weight (p ∷ ps) e ≡ w p + part_weight ps e = sum_by-cons w p ps in
     let out : v (pair_of m p) ≡ m * w p = out_of (p.class == e) m p.weight in
     omega (arith, here, gathered-weight m ps e, ap (λ k. m * k) parts, out)
@@ -80,15 +83,18 @@ pub gathered-signed : (m : ℕ) (ps : List Part) (e : ℕ) → signed_in (gather
 gathered-signed m [] e = sym (*ℤ-zero (pos m))
 gathered-signed m (p ∷ ps) e =
     let v : Pair → ℤ = λ q. cond (q.two == e) q.signed (pos 0) in
-    let here = joined_sum_z v (pair_of m p) (gathered m ps) (λ q k. add_z (q.two == e) q.signed (pos (m * p.weight) *ℤ p.outcome) ∙ ap (λ t. cond (t == e) (pos (m * p.weight) *ℤ p.outcome) (pos 0) +ℤ v q) k) in
-    here ∙ ap (λ z. z +ℤ signed_in (gathered m ps) e) (out_z (p.class == e) m p.weight p.outcome) ∙ ap (λ z. pos m *ℤ cond (p.class == e) (pos p.weight *ℤ p.outcome) (pos 0) +ℤ z) (gathered-signed m ps e)
+    let here = joined_sum_z v (pair_of m p) (gathered m ps) (λ q k. add_z (q.two == e) q.signed (pos (m * p.weight) *ℤ p.outcome)
+    ∙ ap (λ t. cond (t == e) (pos (m * p.weight) *ℤ p.outcome) (pos 0) +ℤ v q) k) in
+    here ∙ ap (λ z. z +ℤ signed_in (gathered m ps) e) (out_z (p.class == e) m p.weight p.outcome)
+    ∙ ap (λ z. pos m *ℤ cond (p.class == e) (pos p.weight *ℤ p.outcome) (pos 0) +ℤ z) (gathered-signed m ps e)
     ∙ sym (mul-add_right (pos m) (cond (p.class == e) (pos p.weight *ℤ p.outcome) (pos 0)) (part_signed ps e))
 
 -- all weight
 pub gathered-total : (m : ℕ) (ps : List Part) → sum_by (λ (q : Pair). q.weight) (gathered m ps) ≡ m * sum_by (λ (p : Part). p.weight) ps
 gathered-total m [] = omega arith
 gathered-total m (p ∷ ps) =
-    let here : sum_by (λ (q : Pair). q.weight) (gathered m (p ∷ ps)) ≡ m * p.weight + sum_by (λ (q : Pair). q.weight) (gathered m ps) = joined_sum (λ q. q.weight) (pair_of m p) (gathered m ps) (λ q k. omega arith) in
+    let here : sum_by (λ (q : Pair). q.weight) (gathered m (p ∷ ps)) ≡ m * p.weight + sum_by (λ (q : Pair). q.weight) (gathered m ps) =
+    joined_sum (λ q. q.weight) (pair_of m p) (gathered m ps) (λ q k. omega arith) in
     let parts : sum_by (λ (p : Part). p.weight) (p ∷ ps) ≡ p.weight + sum_by (λ (p : Part). p.weight) ps = sum_by-cons (λ (p : Part). p.weight) p ps in
     omega (arith, here, gathered-total m ps, ap (λ k. m * k) parts)
 
@@ -117,7 +123,8 @@ head_from p (q ∷ qs) = at (q.two == p.two) refl
 
 -- ---- the last of a row
 
-pub join_last : (row : List Pair) (last p : Pair) → 0 < length row → last ≡ get_or row (length row - 1) last → last.two ≡ p.two → reverse (set row (length row - 1) (together last p)) ≡ join p (reverse row)
+pub join_last : (row : List Pair) (last p : Pair) → 0 < length row → last ≡ get_or row (length row - 1) last → last.two ≡ p.two
+    → reverse (set row (length row - 1) (together last p)) ≡ join p (reverse row)
 join_last row last p l e t =
     let rest = reverse (take (length row - 1) row) in
     let split : reverse row ≡ last ∷ rest = last_first row last l ∙ ap (λ q. q ∷ rest) (sym e) in
@@ -127,7 +134,8 @@ join_last row last p l e t =
 pub join_none : (p : Pair) → reverse (p ∷ []) ≡ join p (reverse [])
 join_none p = refl
 
-pub join_next : (row : List Pair) (last p : Pair) → 0 < length row → last ≡ get_or row (length row - 1) last → (last.two ≡ p.two → ⊥) → reverse (row ++ p ∷ []) ≡ join p (reverse row)
+pub join_next : (row : List Pair) (last p : Pair) → 0 < length row → last ≡ get_or row (length row - 1) last → (last.two ≡ p.two → ⊥)
+    → reverse (row ++ p ∷ []) ≡ join p (reverse row)
 join_next row last p l e t =
     let rest = reverse (take (length row - 1) row) in
     let split : reverse row ≡ last ∷ rest = last_first row last l ∙ ap (λ q. q ∷ rest) (sym e) in
@@ -148,7 +156,8 @@ sum_by-reverse f [] = refl
 sum_by-reverse f (x ∷ xs) = ap (sum_by f) (reverse-append (x ∷ []) xs) ∙ omega (arith, sum_by_push f (reverse xs) x, sum_by-reverse f xs, sum_by-cons f x xs)
 
 -- the next part of one member fits beside the row so far
-pub gathered_few : (m : ℕ) (sums : List Part) (i : ℕ) (d : Part) (row : List Pair) → i < length sums → reverse row ≡ gathered m (reverse (take i sums)) → m * sum_by (λ (p : Part). p.weight) sums < 2 ^ 32
+pub gathered_few : (m : ℕ) (sums : List Part) (i : ℕ) (d : Part) (row : List Pair) → i < length sums → reverse row ≡ gathered m (reverse (take i sums))
+    → m * sum_by (λ (p : Part). p.weight) sums < 2 ^ 32
     → sum_by (λ (q : Pair). q.weight) row + m * (get_or sums i d).weight < 2 ^ 32
 gathered_few m sums i d row l e few =
     let w : Part → ℕ = λ p. p.weight in
@@ -160,5 +169,6 @@ gathered_few m sums i d row l e few =
     omega (arith, so_far, up, few)
 
 -- the row of one more part
-pub gathered_more : (m : ℕ) (sums : List Part) (i : ℕ) (d : Part) → i < length sums → gathered m (reverse (take (i + 1) sums)) ≡ join (pair_of m (get_or sums i d)) (gathered m (reverse (take i sums)))
+pub gathered_more : (m : ℕ) (sums : List Part) (i : ℕ) (d : Part) → i < length sums
+    → gathered m (reverse (take (i + 1) sums)) ≡ join (pair_of m (get_or sums i d)) (gathered m (reverse (take i sums)))
 gathered_more m sums i d l = ap (λ ps. gathered m (reverse ps)) (take_more sums i d l) ∙ ap (gathered m) (reverse-append (take i sums) (get_or sums i d ∷ []))

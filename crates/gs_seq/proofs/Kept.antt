@@ -7,7 +7,8 @@ use Rattle.gs_seq.specs.Slots.{IsPlan}
 use Rattle.gs_seq.specs.declared.fault.PlanFault.{PlanFault}
 use Rattle.gs_seq.specs.declared.fault.PlanFault.TheVariants.{Length, Total, Flow}
 
-pub plan_kept : (f : Frame) (lists : ClassLists) (player total : ℕ) (weights : List ℕ) (why : PlanFault) → IsPlan f lists player total weights → IsFaultOf f lists player total weights why → ⊥
+pub plan_kept : (f : Frame) (lists : ClassLists) (player total : ℕ) (weights : List ℕ) (why : PlanFault) → IsPlan f lists player total weights
+    → IsFaultOf f lists player total weights why → ⊥
 plan_kept f lists player total weights (Length want) h e = e.1 (h.long ∙ sym e.0)
 plan_kept f lists player total weights Total h e =
     let within = h.plan.total_in in

@@ -30,7 +30,8 @@ slice_sum ws a n l =
     ∙ sum-map (λ m. get_or ws (a + m) 0) (range_with_len 0 n)
 
 -- the weights of the moves at a class
-pub class_sum : (f : Frame) (lists : ClassLists) (player q before first moves total : ℕ) (weights : List ℕ) → player_at f q ≡ player → moves ≡ move_count f q → first ≡ slots_before f lists player q
+pub class_sum : (f : Frame) (lists : ClassLists) (player q before first moves total : ℕ) (weights : List ℕ) → player_at f q ≡ player → moves ≡ move_count f q
+    → first ≡ slots_before f lists player q
     → first + before * moves + moves ≤ length weights
     → sum (take moves (drop (first + before * moves) weights)) ≡ sum_by (λ m. (plan_of f lists total weights).number q (before + 1) m) (choices_at f q)
 class_sum f lists player q before first moves total weights own many at l =
@@ -44,15 +45,18 @@ class_sum f lists player q before first moves total weights own many at l =
     omega (arith, same, at, ap (λ k. k * move_count f q) one_less, ap (λ k. before * k) many)))
 
 -- one more point
-pub flows_more : (f : Frame) (lists : ClassLists) (player : ℕ) (x : Plan) (q : ℕ) → FlowsBefore f lists player x q → (player_at f q ≡ player → (c : ℕ) → IsClass lists (round_of f (at_point q)) c → FlowsAt f lists player x q c)
+pub flows_more : (f : Frame) (lists : ClassLists) (player : ℕ) (x : Plan) (q : ℕ) → FlowsBefore f lists player x q
+    → (player_at f q ≡ player → (c : ℕ) → IsClass lists (round_of f (at_point q)) c → FlowsAt f lists player x q c)
     → FlowsBefore f lists player x (q + 1)
 flows_more f lists player x q h here p c l own k = ⊎_elim
-    (λ same. subst (λ r. FlowsAt f lists player x r c) (sym same) (here (sym (ap (player_at f) same) ∙ own) c (subst (λ r. IsClass lists (round_of f (at_point r)) c) same k)))
+    (λ same. subst (λ r. FlowsAt f lists player x r c) (sym same) (here (sym (ap (player_at f) same)
+    ∙ own) c (subst (λ r. IsClass lists (round_of f (at_point r)) c) same k)))
     (λ other. h p c (omega arith) own k)
     (cases_eq p q)
 
 -- the weights at a class of a point are among the player's weights
-pub row_room : (f : Frame) (lists : ClassLists) (player q before first moves : ℕ) → player_at f q ≡ player → moves ≡ move_count f q → first ≡ slots_before f lists player q → q < point_count f
+pub row_room : (f : Frame) (lists : ClassLists) (player q before first moves : ℕ) → player_at f q ≡ player → moves ≡ move_count f q
+    → first ≡ slots_before f lists player q → q < point_count f
     → before < class_count lists (round_of f (at_point q)) → first + before * moves + moves ≤ slot_count f lists player
 row_room f lists player q before first moves own many at lq l =
     let test : (player_at f q == player) ≡ true = (Decides-eqb (player_at f q) player).1 own in
@@ -61,7 +65,8 @@ row_room f lists player q before first moves own many at lq l =
     omega (arith, here, up, slots_more f lists player q, slots_le f lists player (q + 1) (point_count f) (omega arith), at, many, ap (λ k. before * k) many)
 
 -- a point of the other player
-pub slots_none : (f : Frame) (lists : ClassLists) (player q : ℕ) → (player_at f q ≡ player → ⊥) → slots_before f lists player (q + 1) ≡ slots_before f lists player q
+pub slots_none : (f : Frame) (lists : ClassLists) (player q : ℕ) → (player_at f q ≡ player → ⊥)
+    → slots_before f lists player (q + 1) ≡ slots_before f lists player q
 slots_none f lists player q other =
     let test : (player_at f q == player) ≡ false = not_eq (player_at f q) player other in
     let here : slots_at f lists player q ≡ 0 = rw test refl in
@@ -75,11 +80,19 @@ pub record RowAt (f : Frame) (lists : ClassLists) (player q before first moves :
   pub room : first + before * moves + moves ≤ slot_count f lists player
   pub few : slot_count f lists player < 2 ^ 60
 
-pub row_at : (g : ValidGame) (c : Filter) → c.parents ≡ (frame_in g).parents → IsSound c → (player q before first moves count : ℕ) (p : StoredPoint) → Reads (frame_in g) q p → player_at (frame_in g) q ≡ player
-    → q < point_count (frame_in g) → first ≡ slots_before (frame_in g) c.lists player q → moves ≡ length p.moves.items → count ≡ class_count c.lists p.round → before < count
+pub row_at : (g : ValidGame) (c : Filter) → c.parents ≡ (frame_in g).parents → IsSound c → (player q before first moves count : ℕ) (p : StoredPoint)
+    → Reads (frame_in g) q p → player_at (frame_in g) q ≡ player
+    → q < point_count (frame_in g) → first ≡ slots_before (frame_in g) c.lists player q → moves ≡ length p.moves.items → count ≡ class_count c.lists p.round
+    → before < count
     → RowAt (frame_in g) c.lists player q before first moves
 row_at g c e s player q before first moves count p r own lq at long all less =
     let f = frame_in g in
     let below : before < class_count c.lists (round_of f (at_point q)) = omega (arith, less, all, ap (class_count c.lists) r.round) in
     let many : moves ≡ move_count f q = omega (arith, long, r.moves) in
-    record { below = below; many = many; starts = at; room = row_room f c.lists player q before first moves own many at lq below; few = slots_few g c e s player (point_count f) (omega arith) }
+    record {
+      below = below;
+      many = many;
+      starts = at;
+      room = row_room f c.lists player q before first moves own many at lq below;
+      few = slots_few g c e s player (point_count f) (omega arith);
+    }

@@ -31,7 +31,8 @@ one_more true t v n l e = sym (lt-ltb 0 (v + n) (omega arith))
 one_more false t v n l e = e ∙ ap (nat_lt 0) (let k : n ≡ 0 + n = omega arith in k)
 
 -- some item passes where those that pass weigh something
-some_weighs : {X : Type 0} (w : X → ℕ) (p : X → Bool) (xs : List X) → AllByRecursion (λ x. 0 < w x) xs → list_any p xs ≡ nat_lt 0 (sum_by (λ x. cond (p x) (w x) 0) xs)
+some_weighs : {X : Type 0} (w : X → ℕ) (p : X → Bool) (xs : List X) → AllByRecursion (λ x. 0 < w x) xs
+    → list_any p xs ≡ nat_lt 0 (sum_by (λ x. cond (p x) (w x) 0) xs)
 some_weighs w p [] h = refl
 some_weighs w p (x ∷ xs) h =
     one_more (p x) (list_any p xs) (w x) (sum_by (λ x. cond (p x) (w x) 0) xs) h.0 (some_weighs w p xs h.1)
@@ -89,22 +90,27 @@ counted (p ∷ ps) n r h =
     ap (λ k. cond {A = ℕ} (nat_lt 0 k) 1 0) (sum_by-cons (λ q. v q e) p ps) ∙ turn (p.two == e) p.weight (weight_in ps e) heavy (low e) in
     let once : sum_by own (range_with_len 1 n) ≡ 1 = range_once p.two 1 n (omega (arith, bounds.0)) (omega (arith, bounds.1)) in
     let more : sum_by others (range_with_len 1 n) ≡ length ps = counted ps n (rest p ps r) (λ k d l. h (suc k) d (omega arith)) in
-    let split : sum_by (λ e. cond {A = ℕ} (nat_lt 0 (weight_in (p ∷ ps) e)) 1 0) (range_with_len 1 n) ≡ sum_by own (range_with_len 1 n) + sum_by others (range_with_len 1 n) =
-    sum-same (λ e. cond {A = ℕ} (nat_lt 0 (weight_in (p ∷ ps) e)) 1 0) (λ e. own e + others e) each (range_with_len 1 n) ∙ sum-add own others (range_with_len 1 n) in
+    let split : sum_by (λ e. cond {A = ℕ} (nat_lt 0 (weight_in (p ∷ ps) e)) 1 0) (range_with_len 1 n)
+    ≡ sum_by own (range_with_len 1 n) + sum_by others (range_with_len 1 n) =
+    sum-same (λ e. cond {A = ℕ} (nat_lt 0 (weight_in (p ∷ ps) e)) 1 0) (λ e. own e + others e) each (range_with_len 1 n)
+    ∙ sum-add own others (range_with_len 1 n) in
     omega (arith, split, once, more)
 
 -- a pair of classes weighs something where some deal has it
-pub meets_at : (f : Frame) (lists : ClassLists) → All (λ (d : Deal). 0 < d.weight) f.deals → (round c e : ℕ) (row : List Pair) → IsRow f lists round c row → meets f lists round c e ≡ nat_lt 0 (weight_in row e)
+pub meets_at : (f : Frame) (lists : ClassLists) → All (λ (d : Deal). 0 < d.weight) f.deals → (round c e : ℕ) (row : List Pair) → IsRow f lists round c row
+    → meets f lists round c e ≡ nat_lt 0 (weight_in row e)
 meets_at f lists w round c e row r =
     let p : Deal → Bool = λ d. (class_of lists round (at_round f round d.one) == c) && (class_of lists round (at_round f round d.two) == e) in
     let sum : pair_weight f lists round c e ≡ pos (sum_by (λ d. cond (p d) d.weight 0) f.deals) =
-    sum_z-same (λ (d : Deal). cond (class_of lists round (at_round f round d.two) == e) (cond (class_of lists round (at_round f round d.one) == c) (pos d.weight *ℤ pos 1) (pos 0)) (pos 0)) (λ d. pos (cond (p d) d.weight 0))
+    sum_z-same (λ (d : Deal). cond (class_of lists round (at_round f round d.two) == e)
+    (cond (class_of lists round (at_round f round d.one) == c) (pos d.weight *ℤ pos 1) (pos 0)) (pos 0)) (λ d. pos (cond (p d) d.weight 0))
     (λ d. one_term (class_of lists round (at_round f round d.one) == c) (class_of lists round (at_round f round d.two) == e) d.weight) f.deals
     ∙ sum_z-pos (λ (d : Deal). cond (p d) d.weight 0) f.deals in
     let same = pos_one (weight_in row e) (sum_by (λ d. cond (p d) d.weight 0) f.deals) (r.weights e ∙ sum) in
     some_weighs (λ (d : Deal). d.weight) p f.deals (recursion_from_All (λ (d : Deal). 0 < d.weight) f.deals w) ∙ ap (nat_lt 0) (sym same)
 
-module _ (f : Frame) (t : Tabled f) (lists : ClassLists) (k : IsClasses f.parents lists) (w : All (λ (d : Deal). 0 < d.weight) f.deals) (round : ℕ) (some : 0 < round) (top : round ≤ last_round f) where
+module _ (f : Frame) (t : Tabled f) (lists : ClassLists) (k : IsClasses f.parents lists) (w : All (λ (d : Deal). 0 < d.weight) f.deals) (round : ℕ) (some : 0
+    < round) (top : round ≤ last_round f) where
   -- the same of these classes
   pub meets_is : (c e : ℕ) (row : List Pair) → IsRow f lists round c row → meets f lists round c e ≡ nat_lt 0 (weight_in row e)
   meets_is c e row r = meets_at f lists w round c e row r
@@ -117,7 +123,8 @@ module _ (f : Frame) (t : Tabled f) (lists : ClassLists) (k : IsClasses f.parent
   pub row_long : (c : ℕ) (row : List Pair) → IsRow f lists round c row → length row ≡ count_by (λ e. meets f lists round c e) (classes_in lists round)
   row_long c row r =
       sym (counted row (class_count lists round) r.rises (pair_in c row r))
-      ∙ sum-same (λ e. cond {A = ℕ} (nat_lt 0 (weight_in row e)) 1 0) (λ e. cond {A = ℕ} (meets f lists round c e) 1 0) (λ e. ap (λ b. cond {A = ℕ} b 1 0) (sym (meets_is c e row r))) (classes_in lists round)
+      ∙ sum-same (λ e. cond {A = ℕ} (nat_lt 0 (weight_in row e)) 1 0) (λ e. cond {A = ℕ} (meets f lists round c e) 1 0)
+      (λ e. ap (λ b. cond {A = ℕ} b 1 0) (sym (meets_is c e row r))) (classes_in lists round)
 
   -- the pairs of all rows
   pub rows_long : (rows : List (Vec Pair Global)) → AreRowsIn f lists round rows → sum_by (λ (v : Vec Pair Global). v.len) rows ≡ pair_count f lists round
@@ -129,10 +136,17 @@ module _ (f : Frame) (t : Tabled f) (lists : ClassLists) (k : IsClasses f.parent
       (get_or rows i d).ok.0 ∙ row_long (1 + i) (get_or rows i d).items row))
       ∙ ap (λ n. sum_by own (range_with_len 1 n)) r.long
     where
-      by_place : {X : Type 0} (v : X → ℕ) (g : ℕ → ℕ) (xs : List X) (a : ℕ) → ((i : ℕ) (d : X) → i < length xs → v (get_or xs i d) ≡ g (a + i)) → sum_by v xs ≡ sum_by g (range_with_len a (length xs))
+      by_place : {X : Type 0} (v : X → ℕ) (g : ℕ → ℕ) (xs : List X) (a : ℕ) → ((i : ℕ) (d : X) → i < length xs → v (get_or xs i d) ≡ g (a + i))
+          → sum_by v xs ≡ sum_by g (range_with_len a (length xs))
       by_place v g [] a h = refl
       by_place v g (x ∷ xs) a h =
           let none : a + zero ≡ a = omega arith in
           let next : (i : ℕ) → a + suc i ≡ a + 1 + i = λ i. omega arith in
           let here : v x ≡ g a = h zero x (omega arith) ∙ ap g none in
-          omega (arith, sum_by-cons v x xs, sum_by-cons g a (range_with_len (a + 1) (length xs)), here, by_place v g xs (a + 1) (λ i d l. h (suc i) d (omega arith) ∙ ap g (next i)))
+          omega (
+            arith,
+            sum_by-cons v x xs,
+            sum_by-cons g a (range_with_len (a + 1) (length xs)),
+            here,
+            by_place v g xs (a + 1) (λ i d l. h (suc i) d (omega arith) ∙ ap g (next i)),
+          )

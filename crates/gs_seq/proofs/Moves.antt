@@ -21,14 +21,16 @@ pub record SlotFacts (f : Frame) (lists : ClassLists) (q c m base moves : ℕ) :
   pub few_moves : moves ≤ 2 ^ 30
   pub few : base + (c - 1) * moves + m < 2 ^ 30
 
-few_sequences : (g : ValidGame) (lists : ClassLists) (q : ℕ) → HasSequencesWithin (2 ^ 30) (frame_in g) lists → q < point_count (frame_in g) → sequence_count (frame_in g) lists (player_at (frame_in g) q) ≤ 2 ^ 30
+few_sequences : (g : ValidGame) (lists : ClassLists) (q : ℕ) → HasSequencesWithin (2 ^ 30) (frame_in g) lists → q < point_count (frame_in g)
+    → sequence_count (frame_in g) lists (player_at (frame_in g) q) ≤ 2 ^ 30
 few_sequences g lists q h l = ⊎_elim
     (λ one. subst (λ p. sequence_count (frame_in g) lists p ≤ 2 ^ 30) (sym one) h.one)
     (λ two. subst (λ p. sequence_count (frame_in g) lists p ≤ 2 ^ 30) (sym two) h.two)
     (players g q l)
 
 slot_facts : (f : Frame) (lists : ClassLists) (q c m base moves : ℕ) → q < point_count f → IsClass lists (round_of f (at_point q)) c → m < move_count f q
-    → base ≡ slots_before f lists (player_at f q) q → moves ≡ move_count f q → sequence_count f lists (player_at f q) ≤ 2 ^ 30 → SlotFacts f lists q c m base moves
+    → base ≡ slots_before f lists (player_at f q) q → moves ≡ move_count f q → sequence_count f lists (player_at f q) ≤ 2 ^ 30
+    → SlotFacts f lists q c m base moves
 slot_facts f lists q c m base moves l k lm b e few =
     let shift = ap (λ n. (c - 1) * n) e in
     let here = slot_before f lists (player_at f q) q c m (point_count f) refl k lm l in
@@ -42,7 +44,8 @@ slot_facts f lists q c m base moves l k lm b e few =
 
 -- the same of the values that the program has read
 pub slot_at : (a : Abstract) (game : ValidGame) (ps : List StoredPoint) (p : StoredPoint) (q c m base moves : ℕ) → game ≡ a.lossless.now.signals.now.game.now
-    → map point_of ps ≡ map own_point (frame_in game).points → p ≡ get_or ps q p → q < point_count (frame_of a) → IsClass (lists_of a) (round_of (frame_of a) (at_point q)) c → m < move_count (frame_of a) q
+    → map point_of ps ≡ map own_point (frame_in game).points → p ≡ get_or ps q p → q < point_count (frame_of a)
+    → IsClass (lists_of a) (round_of (frame_of a) (at_point q)) c → m < move_count (frame_of a) q
     → base ≡ get_or a.offsets.items q 0 → moves ≡ length p.moves.items → SlotFacts (frame_of a) (lists_of a) q c m base moves
 slot_at a game ps p q c m base moves e points is l k lm b n =
     let g = a.lossless.now.signals.now.game.now in

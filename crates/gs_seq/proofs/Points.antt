@@ -53,14 +53,23 @@ walked g player some few = ⊎_elim
 pub length-points : (g : ValidGame) (ps : List StoredPoint) → map point_of ps ≡ map own_point (frame_in g).points → length ps ≡ point_count (frame_in g)
 length-points g ps e = sym (length-map ps point_of) ∙ ap (λ (l : List OwnPoint). length l) e ∙ length-map (frame_in g).points own_point
 
-pub point_reads : (g : ValidGame) (ps : List StoredPoint) (q : ℕ) (p : StoredPoint) → map point_of ps ≡ map own_point (frame_in g).points → q < point_count (frame_in g) → p ≡ get_or ps q p → Reads (frame_in g) q p
+pub point_reads : (g : ValidGame) (ps : List StoredPoint) (q : ℕ) (p : StoredPoint) → map point_of ps ≡ map own_point (frame_in g).points
+    → q < point_count (frame_in g) → p ≡ get_or ps q p → Reads (frame_in g) q p
 point_reads g ps q p e l is =
     let f = frame_in g in
     let out = own_point (point f q) in
     from_own f q p (ap point_of is ∙ sym (get_or-map point_of ps q p out (omega (arith, length-points g ps e)))
-    ∙ ap (λ (xs : List OwnPoint). get_or xs q out) e ∙ get_or-map own_point f.points q (record { player = 0; round = 1; one = None; two = None; moves = [] }) out l)
+    ∙ ap (λ (xs : List OwnPoint). get_or xs q out) e ∙ get_or-map own_point f.points q (record {
+      player = 0;
+      round = 1;
+      one = None;
+      two = None;
+      moves =
+          [];
+    }) out l)
 
-pub place_reads : (g : ValidGame) (ps : List StoredPoint) (q : ℕ) (p : StoredPoint) → map point_of ps ≡ map own_point (frame_in g).points → q < point_count (frame_in g) → p ≡ get_or ps q p → Reads (frame_in g) q (get_or ps q p)
+pub place_reads : (g : ValidGame) (ps : List StoredPoint) (q : ℕ) (p : StoredPoint) → map point_of ps ≡ map own_point (frame_in g).points
+    → q < point_count (frame_in g) → p ≡ get_or ps q p → Reads (frame_in g) q (get_or ps q p)
 place_reads g ps q p e l is = subst (Reads (frame_in g) q) is (point_reads g ps q p e l is)
 
 -- players 1 and 2 choose

@@ -29,7 +29,8 @@ use Rattle.gs_seq.proofs.SlotLaws.{not_eq}
 -- ---- lists
 
 -- in a list whose keys differ, the items with the key of one are that one
-alone : {X : Type 0} (key : X → ℕ) (v : X → ℤ) (xs : List X) → ((i j : ℕ) (d : X) → i < j → j < length xs → key (get_or xs i d) < key (get_or xs j d)) → (i : ℕ) (d : X) → i < length xs
+alone : {X : Type 0} (key : X → ℕ) (v : X → ℤ) (xs : List X) → ((i j : ℕ) (d : X) → i < j → j < length xs → key (get_or xs i d) < key (get_or xs j d))
+    → (i : ℕ) (d : X) → i < length xs
     → sum_z (λ x. cond (key x == key (get_or xs i d)) (v x) (pos 0)) xs ≡ v (get_or xs i d)
 alone key v [] h i d l = absurd (omega arith)
 alone {X} key v (x ∷ xs) h zero d l =
@@ -45,10 +46,12 @@ alone {X} key v (x ∷ xs) h (suc i) d l =
     let up = h 0 (suc i) d (omega arith) (omega arith) in
     let other = not_eq (key x) (key e) (λ s. omega arith) in
     ap (λ b. cond {A = ℤ} b (v x) (pos 0) +ℤ sum_z (λ y. cond (key y == key e) (v y) (pos 0)) xs) other
-    ∙ +ℤ_idl (sum_z (λ y. cond (key y == key e) (v y) (pos 0)) xs) ∙ alone key v xs (λ i j d a b. h (suc i) (suc j) d (omega arith) (omega arith)) i d (omega arith)
+    ∙ +ℤ_idl (sum_z (λ y. cond (key y == key e) (v y) (pos 0)) xs) ∙ alone key v xs (λ i j d a b. h (suc i) (suc j) d (omega arith) (omega arith)) i d
+    (omega arith)
 
 -- the size of a sum of members whose sizes are known
-pub abs_all : {X : Type 0} (v : X → ℤ) (bound : X → ℕ) (xs : List X) → All (λ x. unsigned_abs (v x) ≤ bound x) xs → unsigned_abs (sum_z v xs) ≤ sum_by bound xs
+pub abs_all : {X : Type 0} (v : X → ℤ) (bound : X → ℕ) (xs : List X) → All (λ x. unsigned_abs (v x) ≤ bound x) xs
+    → unsigned_abs (sum_z v xs) ≤ sum_by bound xs
 abs_all v bound [] h = omega (arith, ints, abs_is (pos 0))
 abs_all v bound (x ∷ xs) h =
     let a = abs_sum (v x) (sum_z v xs) in
@@ -74,7 +77,8 @@ pub weight_at_pair : (row : List Pair) (d : Pair) → Rises row → (i : ℕ) �
 weight_at_pair row d r i l =
     let e = (get_or row i d).two in
     pos_one (weight_in row e) (get_or row i d).weight
-    (sym (sum_z-same (λ (p : Pair). cond (p.two == e) (pos p.weight) (pos 0)) (λ p. pos (cond (p.two == e) p.weight 0)) (λ p. pos_cond (p.two == e) p.weight) row ∙ sum_z-pos (λ (p : Pair). cond (p.two == e) p.weight 0) row)
+    (sym (sum_z-same (λ (p : Pair). cond (p.two == e) (pos p.weight) (pos 0)) (λ p. pos (cond (p.two == e) p.weight 0))
+    (λ p. pos_cond (p.two == e) p.weight) row ∙ sum_z-pos (λ (p : Pair). cond (p.two == e) p.weight 0) row)
     ∙ alone (λ (p : Pair). p.two) (λ p. pos p.weight) row r.ascends i d l)
 
 pub signed_at_pair : (row : List Pair) (d : Pair) → Rises row → (i : ℕ) → i < length row → signed_in row (get_or row i d).two ≡ (get_or row i d).signed
@@ -102,7 +106,8 @@ module _ (f : Frame) (t : Tabled f) (lists : ClassLists) (k : IsClasses f.parent
 
   pub pair_weight_is : (c e : ℕ) → pair_weight f lists round c e ≡ pos (both_weight c e)
   pair_weight_is c e =
-      sum_z-same (λ (d : Deal). cond (two_of d == e) (cond (one_of d == c) (pos d.weight *ℤ pos 1) (pos 0)) (pos 0)) (λ d. pos (cond (two_of d == e) (cond (one_of d == c) d.weight 0) 0))
+      sum_z-same (λ (d : Deal). cond (two_of d == e) (cond (one_of d == c) (pos d.weight *ℤ pos 1) (pos 0)) (pos 0))
+      (λ d. pos (cond (two_of d == e) (cond (one_of d == c) d.weight 0) 0))
       (λ d. plain (two_of d == e) (one_of d == c) d.weight) f.deals
       ∙ sum_z-pos (λ (d : Deal). cond (two_of d == e) (cond (one_of d == c) d.weight 0) 0) f.deals
 
@@ -111,7 +116,8 @@ module _ (f : Frame) (t : Tabled f) (lists : ClassLists) (k : IsClasses f.parent
   sized m true false w o l = omega (arith, ints, abs_is (pos 0))
   sized m false b w o l = omega (arith, ints, abs_is (pos 0))
 
-  nothing : (c e : ℕ) (ds : List Deal) → All (λ (d : Deal). two_of d ≡ e → ⊥) ds → sum_by (λ (d : Deal). cond (two_of d == e) (cond (one_of d == c) d.weight 0) 0) ds ≡ 0
+  nothing : (c e : ℕ) (ds : List Deal) → All (λ (d : Deal). two_of d ≡ e → ⊥) ds
+      → sum_by (λ (d : Deal). cond (two_of d == e) (cond (one_of d == c) d.weight 0) 0) ds ≡ 0
   nothing c e [] h = refl
   nothing c e (d ∷ ds) h =
       omega (
@@ -126,8 +132,10 @@ module _ (f : Frame) (t : Tabled f) (lists : ClassLists) (k : IsClasses f.parent
   both_class c e l =
       let none : ((n : ℕ) → IsClass lists round n → n ≡ e → ⊥) → ⊥ = λ other.
       (let z = nothing c e f.deals (λ i d m. other (two_of (get_or f.deals i d))
-      (class_in f lists k round (at_round f round (get_or f.deals i d).two) some top (t.kept (last_round f) round (get_or f.deals i d).two some top (t.dealt_two i d m)))) in omega arith) in
-      ⊎_elim (λ low. ⊎_elim (λ high. (omega arith, omega arith)) (λ high. absurd (none (λ n w b. (let top = w.1 in omega arith)))) (cases_lt e (class_count lists round + 1)))
+      (class_in f lists k round (at_round f round (get_or f.deals i d).two) some top
+      (t.kept (last_round f) round (get_or f.deals i d).two some top (t.dealt_two i d m)))) in omega arith) in
+      ⊎_elim (λ low. ⊎_elim (λ high. (omega arith, omega arith)) (λ high. absurd (none (λ n w b. (let top = w.1 in omega arith))))
+      (cases_lt e (class_count lists round + 1)))
       (λ low. absurd (none (λ n w b. (let some = w.0 in omega arith)))) (cases_lt 0 e)
 
   -- the weights of the classes of a range
@@ -145,13 +153,15 @@ module _ (f : Frame) (t : Tabled f) (lists : ClassLists) (k : IsClasses f.parent
   once a w b zero = omega arith
   once a w b (suc n) = by (a == b) refl (once a w (b + 1) n)
     where
-      by : (t : Bool) → (a == b) ≡ t → sum_by (λ c. cond (a == c) w 0) (range_with_len (b + 1) n) ≤ w → sum_by (λ c. cond (a == c) w 0) (b ∷ range_with_len (b + 1) n) ≤ w
+      by : (t : Bool) → (a == b) ≡ t → sum_by (λ c. cond (a == c) w 0) (range_with_len (b + 1) n) ≤ w
+          → sum_by (λ c. cond (a == c) w 0) (b ∷ range_with_len (b + 1) n) ≤ w
       by true e h =
           let same = (Decides-eqb a b).0 e in
           omega (arith, sum_by-cons (λ c. cond (a == c) w 0) b (range_with_len (b + 1) n), ap (λ t. cond {A = ℕ} t w 0) e, past a w (b + 1) n (omega arith))
       by false e h = omega (arith, sum_by-cons (λ c. cond (a == c) w 0) b (range_with_len (b + 1) n), ap (λ t. cond {A = ℕ} t w 0) e)
 
-  spread_few : (key w : Deal → ℕ) (b n : ℕ) (ds : List Deal) → sum_by (λ c. sum_by (λ (d : Deal). cond (key d == c) (w d) 0) ds) (range_with_len b n) ≤ sum_by w ds
+  spread_few : (key w : Deal → ℕ) (b n : ℕ) (ds : List Deal) → sum_by (λ c. sum_by (λ (d : Deal). cond (key d == c) (w d) 0) ds) (range_with_len b n)
+      ≤ sum_by w ds
   spread_few key w b n [] = zero_all (range_with_len b n)
     where
       zero_all : (xs : List ℕ) → sum_by (λ c. 0) xs ≤ 0
@@ -160,7 +170,8 @@ module _ (f : Frame) (t : Tabled f) (lists : ClassLists) (k : IsClasses f.parent
   spread_few key w b n (d ∷ ds) =
       let one = λ (d : Deal) (c : ℕ). cond {A = ℕ} (key d == c) (w d) 0 in
       let rest = λ (c : ℕ). sum_by (λ (d : Deal). one d c) ds in
-      let e : sum_by (λ c. sum_by (λ d. one d c) (d ∷ ds)) (range_with_len b n) ≡ sum_by (λ c. one d c + rest c) (range_with_len b n) = sum-same (λ c. sum_by (λ d. one d c) (d ∷ ds)) (λ c. one d c + rest c) (λ c. sum_by-cons (λ d. one d c) d ds) (range_with_len b n) in
+      let e : sum_by (λ c. sum_by (λ d. one d c) (d ∷ ds)) (range_with_len b n) ≡ sum_by (λ c. one d c + rest c) (range_with_len b n) =
+      sum-same (λ c. sum_by (λ d. one d c) (d ∷ ds)) (λ c. one d c + rest c) (λ c. sum_by-cons (λ d. one d c) d ds) (range_with_len b n) in
       omega (arith, e, sum-add (one d) rest (range_with_len b n), once (key d) (w d) b n, spread_few key w b n ds, sum_by-cons w d ds)
 
   -- the classes of a range weigh no more than all deals
@@ -172,7 +183,8 @@ module _ (f : Frame) (t : Tabled f) (lists : ClassLists) (k : IsClasses f.parent
   beside_weigh c b n = spread_few two_of (λ d. cond (one_of d == c) d.weight 0) b n f.deals
 
   -- a sum over the deals of two classes, of weights times numbers of a bounded size
-  pub pair_few : (m : ℕ) (v : ℤ → ℤ) → All (λ (d : Deal). unsigned_abs (v d.outcome) ≤ m) f.deals → (c e : ℕ) → unsigned_abs (pair_sum f lists lists round v c e) ≤ m * both_weight c e
+  pub pair_few : (m : ℕ) (v : ℤ → ℤ) → All (λ (d : Deal). unsigned_abs (v d.outcome) ≤ m) f.deals → (c e : ℕ)
+      → unsigned_abs (pair_sum f lists lists round v c e) ≤ m * both_weight c e
   pair_few m v h c e =
       let w : Deal → ℕ = λ d. cond (two_of d == e) (cond (one_of d == c) d.weight 0) 0 in
       let a = abs_all (λ (d : Deal). cond (two_of d == e) (cond (one_of d == c) (pos d.weight *ℤ v d.outcome) (pos 0)) (pos 0)) (λ d. m * w d) f.deals
@@ -192,10 +204,16 @@ module _ (f : Frame) (t : Tabled f) (lists : ClassLists) (k : IsClasses f.parent
 
     -- the pairs of a row are of classes of the other player
     pub row_class : (i : ℕ) (d : Pair) → i < length row → IsClass lists round (get_or row i d).two
-    row_class i d l = both_class c (get_or row i d).two (omega (arith, weight_at_pair row d h.rises i l, weight_both (get_or row i d).two, h.rises.some i d l))
+    row_class i d l = both_class c (get_or row i d).two (omega (
+      arith,
+      weight_at_pair row d h.rises i l,
+      weight_both (get_or row i d).two,
+      h.rises.some i d l,
+    ))
 
     -- and their signed weights no larger than nine times their weights
-    pub row_signed : All (λ (d : Deal). unsigned_abs d.outcome ≤ 9) f.deals → (i : ℕ) (d : Pair) → i < length row → unsigned_abs (get_or row i d).signed ≤ 9 * (get_or row i d).weight
+    pub row_signed : All (λ (d : Deal). unsigned_abs d.outcome ≤ 9) f.deals → (i : ℕ) (d : Pair) → i < length row
+        → unsigned_abs (get_or row i d).signed ≤ 9 * (get_or row i d).weight
     row_signed few i d l =
         let p = get_or row i d in
         let e : p.signed ≡ pair_signed f lists round c p.two = sym (signed_at_pair row d h.rises i l) ∙ h.signed p.two in
@@ -207,6 +225,7 @@ module _ (f : Frame) (t : Tabled f) (lists : ClassLists) (k : IsClasses f.parent
         let u : Deal → ℕ = λ d. cond (one_of d == c) d.weight 0 in
         let times_one : (w : ℕ) → pos w *ℤ pos 1 ≡ pos w = λ w. omega (arith, ints, product_is (pos w) (pos 1)) in
         let same = alike_lists eqb Decides-eqb (λ (p : Pair). p.two) (λ p. p.weight) two_of u (λ e. pos 1) row f.deals weight_both in
-        let left = sum_z-same (λ (p : Pair). pos p.weight *ℤ pos 1) (λ p. pos p.weight) (λ p. times_one p.weight) row ∙ sum_z-pos (λ (p : Pair). p.weight) row in
+        let left = sum_z-same (λ (p : Pair). pos p.weight *ℤ pos 1) (λ p. pos p.weight) (λ p. times_one p.weight) row
+        ∙ sum_z-pos (λ (p : Pair). p.weight) row in
         let right = sum_z-same (λ (d : Deal). pos (u d) *ℤ pos 1) (λ d. pos (u d)) (λ d. times_one (u d)) f.deals ∙ sum_z-pos u f.deals in
         pos_one (sum_by (λ (p : Pair). p.weight) row) (class_weight c) (sym left ∙ same ∙ right)

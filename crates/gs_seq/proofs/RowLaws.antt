@@ -96,12 +96,14 @@ nothing : (w : ℕ) (b : Bool) (o : ℤ) → pos w *ℤ cond b (pos 0) (pos 0) �
 nothing w true o = *ℤ-zero (pos w)
 nothing w false o = *ℤ-zero (pos w)
 
-module _ (f : Frame) (h : Tabled f) (lists : ClassLists) (g : IsLossless f lists) (round : ℕ) (some : 0 < round) (top : round ≤ last_round f) (s c m : ℕ) (ps : List Part) (l : s < signal_count f round)
+module _ (f : Frame) (h : Tabled f) (lists : ClassLists) (g : IsLossless f lists) (round : ℕ) (some : 0 < round) (top : round
+    ≤ last_round f) (s c m : ℕ) (ps : List Part) (l : s < signal_count f round)
     (is : class_of lists round s ≡ c) (size : m ≡ class_size_of f lists round c) (a : AreAmounts f lists Deals round s ps) where
   weights : (e : ℕ) → pos (weight_in (gathered m ps) e) ≡ pair_weight f lists round c e
   weights e =
       let plain : sum_z (λ (p : Part). pos p.weight *ℤ cond (eqb p.class e) (pos 1) (pos 0)) ps ≡ pos (part_weight ps e) =
-      sum_z-same (λ (p : Part). pos p.weight *ℤ cond (eqb p.class e) (pos 1) (pos 0)) (λ p. pos (cond (p.class == e) p.weight 0)) (λ p. plain_one p.weight (p.class == e)) ps
+      sum_z-same (λ (p : Part). pos p.weight *ℤ cond (eqb p.class e) (pos 1) (pos 0)) (λ p. pos (cond (p.class == e) p.weight 0))
+      (λ p. plain_one p.weight (p.class == e)) ps
       ∙ sum_z-pos (λ (p : Part). cond (p.class == e) p.weight 0) ps in
       let product : pos (m * part_weight ps e) ≡ pos (part_weight ps e) *ℤ pos m = omega (arith, ints, product_is (pos (part_weight ps e)) (pos m)) in
       ap pos (gathered-weight m ps e) ∙ product
@@ -111,7 +113,8 @@ module _ (f : Frame) (h : Tabled f) (lists : ClassLists) (g : IsLossless f lists
 
   own : (e : ℕ) → part_signed ps e ≡ near f h lists g round some top s (λ o. o) e
   own e =
-      sym (sum_z-same (λ (p : Part). pos p.weight *ℤ cond (eqb p.class e) p.outcome (pos 0)) (λ p. cond (p.class == e) (pos p.weight *ℤ p.outcome) (pos 0)) (λ p. plain_own p.weight (p.class == e) p.outcome) ps)
+      sym (sum_z-same (λ (p : Part). pos p.weight *ℤ cond (eqb p.class e) p.outcome (pos 0)) (λ p. cond (p.class == e) (pos p.weight *ℤ p.outcome) (pos 0))
+      (λ p. plain_own p.weight (p.class == e) p.outcome) ps)
       ∙ near_parts f h lists g round some top s ps (λ o. o) e a
 
   signed : (e : ℕ) → signed_in (gathered m ps) e ≡ pair_signed f lists round c e
@@ -124,8 +127,10 @@ module _ (f : Frame) (h : Tabled f) (lists : ClassLists) (g : IsLossless f lists
           ∙ sym (pair_is f h lists g round some top (λ o. o) c e s (λ d. sym (ap (λ b. cond b d.outcome (pos 0)) t)) l is)
       by false t =
           let none : near f h lists g round some top s (λ o. o) e ≡ pos 0 =
-          ap (λ b. sum_z (λ (d : Deal). pos (cond (at_round f round d.one == s) d.weight 0) *ℤ cond (eqb (class_of lists round (at_round f round d.two)) e) (cond b d.outcome (pos 0)) (pos 0)) f.deals) t
-          ∙ sum_z-same (λ (d : Deal). pos (cond (at_round f round d.one == s) d.weight 0) *ℤ cond (eqb (class_of lists round (at_round f round d.two)) e) (pos 0) (pos 0)) (λ _. pos 0)
+          ap (λ b. sum_z (λ (d : Deal). pos (cond (at_round f round d.one == s) d.weight 0)
+          *ℤ cond (eqb (class_of lists round (at_round f round d.two)) e) (cond b d.outcome (pos 0)) (pos 0)) f.deals) t
+          ∙ sum_z-same (λ (d : Deal). pos (cond (at_round f round d.one == s) d.weight 0)
+          *ℤ cond (eqb (class_of lists round (at_round f round d.two)) e) (pos 0) (pos 0)) (λ _. pos 0)
           (λ d. nothing (cond (at_round f round d.one == s) d.weight 0) (eqb (class_of lists round (at_round f round d.two)) e) (pos 0)) f.deals
           ∙ sum_z-zero f.deals in
           ap (λ z. pos m *ℤ z) (own e ∙ none) ∙ *ℤ-zero (pos m)
@@ -142,7 +147,8 @@ size_some lists round c s l is =
     let test = (Decides-eqb (class_of lists round s) c).1 is in
     omega (arith, here, ap (λ b. cond {A = ℕ} b 1 0) test)
 
-pub size_is : (f : Frame) (lists : ClassLists) (round c : ℕ) → length (list_of lists round) ≡ signal_count f round → class_size lists round c ≡ class_size_of f lists round c
+pub size_is : (f : Frame) (lists : ClassLists) (round c : ℕ) → length (list_of lists round) ≡ signal_count f round
+    → class_size lists round c ≡ class_size_of f lists round c
 size_is f lists round c e =
     ap (count_by (λ x. x == c)) (fill_by_all (class_of lists round) (list_of lists round) (signal_count f round) 0 e (λ k l. refl))
     ∙ sum_by-map (λ x. cond (x == c) 1 0) (class_of lists round) (range_with_len 0 (signal_count f round))

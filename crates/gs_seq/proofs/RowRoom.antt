@@ -23,15 +23,19 @@ use Rattle.gs_seq.proofs.SlotLaws.{over}
 pub table : (g : ValidGame) → Tabled (frame_in g)
 table g = tabled (game_of g.game) (playable g)
 
-module _ (g : ValidGame) (c : Filter) (e : c.parents ≡ (frame_in g).parents) (s : IsSound c) (h : IsLossless (frame_in g) c.lists) (round : ℕ) (some : 0 < round) (top : round ≤ last_round (frame_in g))
-    (class first members : ℕ) (size : members ≡ class_size c.lists round class) (sums : List Part) (a : AreAmounts (frame_in g) c.lists Deals round first (reverse sums)) where
+module _ (g : ValidGame) (c : Filter) (e : c.parents ≡ (frame_in g).parents) (s : IsSound c) (h : IsLossless (frame_in g) c.lists) (round : ℕ) (some : 0
+    < round) (top : round ≤ last_round (frame_in g))
+    (class first members : ℕ) (size : members ≡ class_size c.lists round class) (sums : List Part)
+    (a : AreAmounts (frame_in g) c.lists Deals round first (reverse sums)) where
   long : length (list_of c.lists round) ≡ signal_count (frame_in g) round
   long = (over (frame_in g) c e s).lengths round some top
 
   -- the row gathered from the first member's sums is the class's row
-  pub row_is : first < length (list_of c.lists round) → class_of c.lists round first ≡ class → IsRow (frame_in g) c.lists round class (gathered members (reverse sums))
+  pub row_is : first < length (list_of c.lists round) → class_of c.lists round first ≡ class
+      → IsRow (frame_in g) c.lists round class (gathered members (reverse sums))
   row_is l member =
-      is_row (frame_in g) (table g) c.lists h round some top first class members (reverse sums) (omega (arith, l, long)) member (size ∙ size_is (frame_in g) c.lists round class long) a
+      is_row (frame_in g) (table g) c.lists h round some top first class members (reverse sums) (omega (arith, l, long)) member (size
+      ∙ size_is (frame_in g) c.lists round class long) a
       (let one = size_some c.lists round class first l member in omega (arith, size, one))
 
   -- the class's weight is no more than a row holds

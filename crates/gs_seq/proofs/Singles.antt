@@ -44,7 +44,8 @@ use Rattle.gs_seq.proofs.SlotLaws.{not_eq, over}
 
 once : (k w a n : ℕ) → a ≤ k → k < a + n → sum_by (λ s. cond (k == s) w 0) (range_with_len a n) ≡ w
 once k w a n low high =
-    let each : (b : Bool) → cond {A = ℕ} b w 0 ≡ w * cond b 1 0 = λ b. elim b as (λ b. cond {A = ℕ} b w 0 ≡ w * cond b 1 0) [ true ↦ omega arith | false ↦ omega arith ] in
+    let each : (b : Bool) → cond {A = ℕ} b w 0 ≡ w * cond b 1 0 = λ b. elim b as (λ b. cond {A = ℕ} b w 0
+    ≡ w * cond b 1 0) [ true ↦ omega arith | false ↦ omega arith ] in
     let one : sum_by (λ s. cond {A = ℕ} (eqb k s) 1 0) (range_with_len a n) ≡ 1 = range_once k a n low high in
     sum-same (λ s. cond (k == s) w 0) (λ s. w * cond (eqb k s) 1 0) (λ s. each (k == s)) (range_with_len a n)
     ∙ times_sum w (λ s. cond (eqb k s) 1 0) (range_with_len a n) ∙ ap (λ n. w * n) one ∙ omega arith
@@ -61,7 +62,8 @@ by_keys {X} key w a n (x ∷ xs) h =
     let one = λ (s : ℕ). cond {A = ℕ} (key x == s) (w x) 0 in
     let rest = λ (s : ℕ). sum_by (λ (y : X). cond (key y == s) (w y) 0) xs in
     let both : sum_by (λ s. sum_by (λ (y : X). cond (key y == s) (w y) 0) (x ∷ xs)) (range_with_len a n) ≡ sum_by (λ s. one s + rest s) (range_with_len a n) =
-    sum-same (λ s. sum_by (λ (y : X). cond (key y == s) (w y) 0) (x ∷ xs)) (λ s. one s + rest s) (λ s. sum_by-cons (λ (y : X). cond (key y == s) (w y) 0) x xs) (range_with_len a n) in
+    sum-same (λ s. sum_by (λ (y : X). cond (key y == s) (w y) 0) (x ∷ xs)) (λ s. one s + rest s)
+    (λ s. sum_by-cons (λ (y : X). cond (key y == s) (w y) 0) x xs) (range_with_len a n) in
     omega (arith, sum_by-cons w x xs, both, sum-add one rest (range_with_len a n), once (key x) (w x) a n h.0.0 h.0.1, by_keys key w a n xs h.1)
 
 ones_long : {X : Type 0} (xs : List X) → sum_by (λ x. 1) xs ≡ length xs
@@ -73,7 +75,8 @@ counted : {X : Type 0} (p : X → Bool) (xs : List X) → length (filter p xs) �
 counted p [] = refl
 counted {X} p (x ∷ xs) = by (p x) (counted p xs) ∙ sym (sum_by-cons (λ x. cond (p x) 1 0) x xs)
   where
-    by : (b : Bool) → length (filter p xs) ≡ sum_by (λ x. cond (p x) 1 0) xs → length (cond {A = List X} b (x ∷ filter p xs) (filter p xs)) ≡ cond b 1 0 + sum_by (λ x. cond (p x) 1 0) xs
+    by : (b : Bool) → length (filter p xs) ≡ sum_by (λ x. cond (p x) 1 0) xs
+        → length (cond {A = List X} b (x ∷ filter p xs) (filter p xs)) ≡ cond b 1 0 + sum_by (λ x. cond (p x) 1 0) xs
     by true h = omega (arith, h)
     by false h = omega (arith, h)
 
@@ -85,15 +88,20 @@ none false = refl
 
 -- a sum over a signal's deals, among all deals
 picked : (c s e : ℕ) (one two : Deal → ℕ) (u : Pair → ℤ) (ds : List Deal) → c ≡ s + 1 → All (λ (d : Deal). (one d ≡ d.one + 1) × (two d ≡ d.two + 1)) ds
-    → sum_z (λ (p : Pair). cond (p.two == e) (u p) (pos 0)) (map deal_pair (filter (λ (d : Deal). d.one == s) ds)) ≡ sum_z (λ (d : Deal). cond (two d == e) (cond (one d == c) (u (deal_pair d)) (pos 0)) (pos 0)) ds
+    → sum_z (λ (p : Pair). cond (p.two == e) (u p) (pos 0)) (map deal_pair (filter (λ (d : Deal). d.one == s) ds))
+    ≡ sum_z (λ (d : Deal). cond (two d == e) (cond (one d == c) (u (deal_pair d)) (pos 0)) (pos 0)) ds
 picked c s e one two u [] is h = refl
 picked c s e one two u (d ∷ ds) is h =
-    by (d.one == s) refl (All-head (λ (d : Deal). (one d ≡ d.one + 1) × (two d ≡ d.two + 1)) d ds h) (picked c s e one two u ds is (All-tail (λ (d : Deal). (one d ≡ d.one + 1) × (two d ≡ d.two + 1)) d ds h))
+    by (d.one == s) refl (All-head (λ (d : Deal). (one d ≡ d.one + 1) × (two d ≡ d.two + 1)) d ds h)
+    (picked c s e one two u ds is (All-tail (λ (d : Deal). (one d ≡ d.one + 1) × (two d ≡ d.two + 1)) d ds h))
   where
     by : (b : Bool) → (d.one == s) ≡ b → (one d ≡ d.one + 1) × (two d ≡ d.two + 1)
-        → sum_z (λ (p : Pair). cond (p.two == e) (u p) (pos 0)) (map deal_pair (filter (λ (d : Deal). d.one == s) ds)) ≡ sum_z (λ (d : Deal). cond (two d == e) (cond (one d == c) (u (deal_pair d)) (pos 0)) (pos 0)) ds
-        → sum_z (λ (p : Pair). cond (p.two == e) (u p) (pos 0)) (map deal_pair (cond {A = List Deal} b (d ∷ filter (λ (d : Deal). d.one == s) ds) (filter (λ (d : Deal). d.one == s) ds)))
-        ≡ cond (two d == e) (cond (one d == c) (u (deal_pair d)) (pos 0)) (pos 0) +ℤ sum_z (λ (d : Deal). cond (two d == e) (cond (one d == c) (u (deal_pair d)) (pos 0)) (pos 0)) ds
+        → sum_z (λ (p : Pair). cond (p.two == e) (u p) (pos 0)) (map deal_pair (filter (λ (d : Deal). d.one == s) ds))
+        ≡ sum_z (λ (d : Deal). cond (two d == e) (cond (one d == c) (u (deal_pair d)) (pos 0)) (pos 0)) ds
+        → sum_z (λ (p : Pair). cond (p.two == e) (u p) (pos 0)) (map deal_pair
+        (cond {A = List Deal} b (d ∷ filter (λ (d : Deal). d.one == s) ds) (filter (λ (d : Deal). d.one == s) ds)))
+        ≡ cond (two d == e) (cond (one d == c) (u (deal_pair d)) (pos 0)) (pos 0)
+        +ℤ sum_z (λ (d : Deal). cond (two d == e) (cond (one d == c) (u (deal_pair d)) (pos 0)) (pos 0)) ds
     by true t here rest =
         let same : d.one ≡ s = (Decides-eqb d.one s).0 t in
         let test : (one d == c) ≡ true = (Decides-eqb (one d) c).1 (omega (arith, here.0, is, same)) in
@@ -106,7 +114,8 @@ picked c s e one two u (d ∷ ds) is h =
         let other : d.one ≡ s → ⊥ = λ k. (let w = (Decides-eqb d.one s).1 k in cc) in
         let test : (one d == c) ≡ false = not_eq (one d) c (λ k. other (omega (arith, here.0, is, k))) in
         let v = u (deal_pair d) in
-        let head : cond {A = ℤ} (two d == e) (cond (one d == c) v (pos 0)) (pos 0) ≡ pos 0 = ap (λ b. cond {A = ℤ} (two d == e) (cond b v (pos 0)) (pos 0)) test ∙ none (two d == e) in
+        let head : cond {A = ℤ} (two d == e) (cond (one d == c) v (pos 0)) (pos 0) ≡ pos 0 =
+        ap (λ b. cond {A = ℤ} (two d == e) (cond b v (pos 0)) (pos 0)) test ∙ none (two d == e) in
         rest ∙ sym (+ℤ_idl (sum_z (λ (d : Deal). cond (two d == e) (cond (one d == c) (u (deal_pair d)) (pos 0)) (pos 0)) ds))
         ∙ ap (λ z. z +ℤ sum_z (λ (d : Deal). cond (two d == e) (cond (one d == c) (u (deal_pair d)) (pos 0)) (pos 0)) ds) (sym head)
 
@@ -125,8 +134,10 @@ rises_from g i a (suc n) =
     let rest = rises_from g i (a + 1) n in
     by (nat_lt 0 (deal_at g i a).weight) refl rest (further a (a + 1) (made_in g i (a + 1) n) (omega arith) rest.0)
   where
-    by : (b : Bool) → nat_lt 0 (deal_at g i a).weight ≡ b → AllByRecursion (λ (p : Pair). a + 1 < p.two) (made_in g i (a + 1) n) × RisesBy (made_in g i (a + 1) n)
-        → AllByRecursion (λ (p : Pair). a < p.two) (made_in g i (a + 1) n) → AllByRecursion (λ (p : Pair). a < p.two) (made_if g i a n b) × RisesBy (made_if g i a n b)
+    by : (b : Bool) → nat_lt 0 (deal_at g i a).weight ≡ b → AllByRecursion (λ (p : Pair). a + 1 < p.two) (made_in g i (a + 1) n)
+        × RisesBy (made_in g i (a + 1) n)
+        → AllByRecursion (λ (p : Pair). a < p.two) (made_in g i (a + 1) n)
+        → AllByRecursion (λ (p : Pair). a < p.two) (made_if g i a n b) × RisesBy (made_if g i a n b)
     by true t rest weaker = ((omega arith, weaker), (ltb-true 0 (deal_at g i a).weight t, rest.0, rest.1))
     by false t rest weaker = (weaker, rest.1)
 
@@ -154,7 +165,8 @@ module _ (g : ValidGame) (c : Filter) (e : c.parents ≡ (frame_in g).parents) (
   some = omega (arith, last_round_of (game_of g.game), g.limits.some_round)
 
   pub count_is : signal_count (frame_in g) last ≡ count
-  count_is = ap (signal_count (frame_in g)) (last_round_of (game_of g.game)) ∙ signal_count_is (game_of g.game) (round_count (game_of g.game)) g.limits.some_round (omega arith)
+  count_is = ap (signal_count (frame_in g)) (last_round_of (game_of g.game))
+      ∙ signal_count_is (game_of g.game) (round_count (game_of g.game)) g.limits.some_round (omega arith)
 
   class_is : (x : ℕ) → x < signal_count (frame_in g) last → class_of c.lists last x ≡ x + 1
   class_is x l = single x (omega (arith, l, (over (frame_in g) c e sound).lengths last some (omega arith)))
@@ -162,8 +174,12 @@ module _ (g : ValidGame) (c : Filter) (e : c.parents ≡ (frame_in g).parents) (
   own_class : (x : ℕ) → x < signal_count (frame_in g) last → class_of c.lists last (at_round (frame_in g) last x) ≡ x + 1
   own_class x l = ap (class_of c.lists last) ((table g).itself last x) ∙ class_is x l
 
-  keyed : All (λ (d : Deal). (class_of c.lists last (at_round (frame_in g) last d.one) ≡ d.one + 1) × (class_of c.lists last (at_round (frame_in g) last d.two) ≡ d.two + 1)) (frame_in g).deals
-  keyed = λ i d l. (own_class (get_or (frame_in g).deals i d).one ((table g).dealt i d l), own_class (get_or (frame_in g).deals i d).two ((table g).dealt_two i d l))
+  keyed : All (λ (d : Deal). (class_of c.lists last (at_round (frame_in g) last d.one) ≡ d.one + 1)
+      × (class_of c.lists last (at_round (frame_in g) last d.two) ≡ d.two + 1)) (frame_in g).deals
+  keyed = λ i d l. (
+    own_class (get_or (frame_in g).deals i d).one ((table g).dealt i d l),
+    own_class (get_or (frame_in g).deals i d).two ((table g).dealt_two i d l),
+  )
 
   abbrev pub deals_of : ℕ → List Deal
   deals_of s = filter (λ (d : Deal). d.one == s) (deals (game_of g.game))
@@ -185,9 +201,11 @@ module _ (g : ValidGame) (c : Filter) (e : c.parents ≡ (frame_in g).parents) (
         let one : Deal → ℕ = λ d. class_of c.lists last (at_round (frame_in g) last d.one) in
         let two : Deal → ℕ = λ d. class_of c.lists last (at_round (frame_in g) last d.two) in
         sym (sum_z-pos (λ (p : Pair). cond (p.two == x) p.weight 0) row)
-        ∙ sum_z-same (λ (p : Pair). pos (cond (p.two == x) p.weight 0)) (λ p. cond (p.two == x) (pos p.weight) (pos 0)) (λ p. sym (plain (p.two == x) p.weight)) row
+        ∙ sum_z-same (λ (p : Pair). pos (cond (p.two == x) p.weight 0)) (λ p. cond (p.two == x) (pos p.weight) (pos 0))
+        (λ p. sym (plain (p.two == x) p.weight)) row
         ∙ picked k s x one two (λ p. pos p.weight) (deals (game_of g.game)) is keyed
-        ∙ sum_z-same (λ (d : Deal). cond (two d == x) (cond (one d == k) (pos d.weight) (pos 0)) (pos 0)) (λ (d : Deal). cond (two d == x) (cond (one d == k) (pos d.weight *ℤ pos 1) (pos 0)) (pos 0))
+        ∙ sum_z-same (λ (d : Deal). cond (two d == x) (cond (one d == k) (pos d.weight) (pos 0)) (pos 0))
+        (λ (d : Deal). cond (two d == x) (cond (one d == k) (pos d.weight *ℤ pos 1) (pos 0)) (pos 0))
         (λ d. ap (λ v. cond {A = ℤ} (two d == x) (cond (one d == k) v (pos 0)) (pos 0)) (times_one d.weight)) (deals (game_of g.game)));
     signed = λ x. (
         let one : Deal → ℕ = λ d. class_of c.lists last (at_round (frame_in g) last d.one) in
@@ -203,7 +221,8 @@ module _ (g : ValidGame) (c : Filter) (e : c.parents ≡ (frame_in g).parents) (
         two = omega (arith, (table g).dealt_two i d l, count_is, g.limits.signals_in (round_count (game_of g.game)) (omega arith));
         weight = omega (arith, get_or-le-sum_by (λ (x : Deal). x.weight) (deals (game_of g.game)) i d l, g.limits.weight_in);
       } in
-      All-from_recursion IsSlight (deals_of s) (every-kept IsSlight (λ (d : Deal). d.one == s) (deals (game_of g.game)) (recursion_from_All IsSlight (deals (game_of g.game)) all))
+      All-from_recursion IsSlight (deals_of s) (every-kept IsSlight (λ (d : Deal). d.one == s) (deals (game_of g.game))
+      (recursion_from_All IsSlight (deals (game_of g.game)) all))
 
   -- as many pairs as deals
   pub made_count : pair_count (frame_in g) c.lists last ≡ length (deals (game_of g.game))
@@ -214,10 +233,13 @@ module _ (g : ValidGame) (c : Filter) (e : c.parents ≡ (frame_in g).parents) (
       let own : ℕ → ℕ = λ x. count_by (λ y. meets (frame_in g) c.lists last x y) (classes_in c.lists last) in
       let here : ℕ → ℕ = λ x. sum_by (λ (d : Deal). cond ((d.one + 1) == x) 1 0) ds in
       let each : (s : ℕ) → own (s + 1) ≡ here (s + 1) = λ s.
-      sym (row_long (frame_in g) (table g) c.lists k (deals_weigh (game_of g.game)) last some (omega arith) (s + 1) (map deal_pair (deals_of s)) (made_row (s + 1) s refl))
+      sym (row_long (frame_in g) (table g) c.lists k (deals_weigh (game_of g.game)) last some (omega arith) (s + 1) (map deal_pair (deals_of s))
+      (made_row (s + 1) s refl))
       ∙ length-map (deals_of s) deal_pair ∙ counted (λ (d : Deal). d.one == s) ds
-      ∙ sum-same (λ (d : Deal). cond (d.one == s) 1 0) (λ (d : Deal). cond ((d.one + 1) == (s + 1)) 1 0) (λ d. ap (λ b. cond {A = ℕ} b 1 0) (next d.one s)) ds in
-      let inside : AllByRecursion (λ (d : Deal). (1 ≤ d.one + 1) × (d.one + 1 < 1 + n)) ds = recursion_from_All (λ (d : Deal). (1 ≤ d.one + 1) × (d.one + 1 < 1 + n)) ds (λ i d l.
+      ∙ sum-same (λ (d : Deal). cond (d.one == s) 1 0) (λ (d : Deal). cond ((d.one + 1) == (s + 1)) 1 0)
+      (λ d. ap (λ b. cond {A = ℕ} b 1 0) (next d.one s)) ds in
+      let inside : AllByRecursion (λ (d : Deal). (1 ≤ d.one + 1) × (d.one + 1 < 1 + n)) ds =
+      recursion_from_All (λ (d : Deal). (1 ≤ d.one + 1) × (d.one + 1 < 1 + n)) ds (λ i d l.
       (let x = (get_or ds i d).one in
       let in_range = (table g).dealt i d l in
       let is = class_in (frame_in g) c.lists k last x some (omega arith) in_range in
@@ -235,4 +257,10 @@ module _ (g : ValidGame) (c : Filter) (e : c.parents ≡ (frame_in g).parents) (
 
       same_range : (f h : ℕ → ℕ) (a m : ℕ) → ((s : ℕ) → f (s + 1) ≡ h (s + 1)) → sum_by f (range_with_len (a + 1) m) ≡ sum_by h (range_with_len (a + 1) m)
       same_range f h a zero k = refl
-      same_range f h a (suc m) k = omega (arith, sum_by-cons f (a + 1) (range_with_len (a + 1 + 1) m), sum_by-cons h (a + 1) (range_with_len (a + 1 + 1) m), k a, same_range f h (a + 1) m k)
+      same_range f h a (suc m) k = omega (
+        arith,
+        sum_by-cons f (a + 1) (range_with_len (a + 1 + 1) m),
+        sum_by-cons h (a + 1) (range_with_len (a + 1 + 1) m),
+        k a,
+        same_range f h (a + 1) m k,
+      )

@@ -42,7 +42,8 @@ abs_pos n m l = omega (arith, ints, abs_is (pos n))
 pub abs_neg : (n m : ℕ) → n ≤ m → unsigned_abs (neg_ℤ (pos n)) ≤ m
 abs_neg n m l = omega (arith, ints, abs_is (neg_ℤ (pos n)))
 
-outcome_le : (bonus : List ℕ) (a b : Bool) (x y : ℕ) → unsigned_abs (cond a (pos (slice_index bonus x)) (cond b (neg_ℤ (pos (slice_index bonus y))) (pos 0))) ≤ greatest bonus
+outcome_le : (bonus : List ℕ) (a b : Bool) (x y : ℕ) → unsigned_abs (cond a (pos (slice_index bonus x)) (cond b (neg_ℤ (pos (slice_index bonus y))) (pos 0)))
+    ≤ greatest bonus
 outcome_le bonus true b x y = abs_pos (slice_index bonus x) (greatest bonus) (bonus_le bonus x)
 outcome_le bonus false true x y = abs_neg (slice_index bonus y) (greatest bonus) (bonus_le bonus y)
 outcome_le bonus false false x y = abs_pos 0 (greatest bonus) (omega arith)
@@ -53,7 +54,8 @@ outcomes_le g =
     let all = enumerate_from 0 (signals g (round_count g)) in
     All-from_recursion P (deals g) (every-kept P (λ d. nat_lt 0 d.weight) (pairings g)
     (every-flat_map P (λ a. map (λ b. deal_of g a b) all) (λ a. Unit {0})
-    (λ a t. every-map P (λ (b : ℕ × Signal). deal_of g a b) all (every-any (λ b. P (deal_of g a b)) (λ b. outcome_le g.bonus _ _ _ _) all)) all (every-any (λ a. Unit {0}) (λ a. tt) all)))
+    (λ a t. every-map P (λ (b : ℕ × Signal). deal_of g a b) all (every-any (λ b. P (deal_of g a b)) (λ b. outcome_le g.bonus _ _ _ _) all)) all
+    (every-any (λ a. Unit {0}) (λ a. tt) all)))
 
 -- ---- bets
 
@@ -75,11 +77,13 @@ not_over limit n x r h e = elim (cases_Bool (nat_lt limit n)) [
 
 put_within : (g : Game) → put_refusal g ≡ None → most_in (trees_of g) g.ante g.ante * greatest g.bonus ≤ 4096
 unfolding put_refusal
-put_within g h = not_over 4096 (most_in (trees_of g) g.ante g.ante * greatest g.bonus) (put_too_large (most_in (trees_of g) g.ante g.ante * greatest g.bonus)) _ (λ o. rw o refl) h
+put_within g h = not_over 4096 (most_in (trees_of g) g.ante g.ante * greatest g.bonus)
+    (put_too_large (most_in (trees_of g) g.ante g.ante * greatest g.bonus)) _ (λ o. rw o refl) h
 
 lines_within : (g : Game) → lines_refusal g ≡ None → length (walk g.ante (trees_of g)).ends ≤ 8192
 unfolding lines_refusal
-lines_within g h = not_over 8192 (length (walk g.ante (trees_of g)).ends) (too_many_lines (min (length (walk g.ante (trees_of g)).ends) (2 ^ 128 - 1))) _ (λ o. rw o refl) h
+lines_within g h = not_over 8192 (length (walk g.ante (trees_of g)).ends) (too_many_lines (min (length (walk g.ante (trees_of g)).ends) (2 ^ 128 - 1))) _
+    (λ o. rw o refl) h
 
 pub record AreBet (g : Game) : Type 0 where
   pub puts : most_in (trees_of g) g.ante g.ante * greatest g.bonus ≤ 4096
@@ -113,7 +117,8 @@ abbrev none : End
 none = record { round = 1; kind = Show; put = 0; one = None; two = None }
 
 -- what a player has put at an end is at most what the trees let be put
-pub puts_le : (g : ValidGame) (z : ℕ) → z < end_count (frame_in g) → (end_at (frame_in g) z).put ≤ most_in (trees_of (game_of g.game)) (game_of g.game).ante (game_of g.game).ante
+pub puts_le : (g : ValidGame) (z : ℕ) → z < end_count (frame_in g) → (end_at (frame_in g) z).put
+    ≤ most_in (trees_of (game_of g.game)) (game_of g.game).ante (game_of g.game).ante
 puts_le g z l =
     let r = game_of g.game in
     All-from_recursion (λ (e : End). e.put ≤ most_in (trees_of r) r.ante r.ante) (walk r.ante (trees_of r)).ends (puts_within r) z none l

@@ -31,7 +31,12 @@ sum_range_more f n =
 sum_range_le : (f : ℕ → ℕ) (m n : ℕ) → m ≤ n → sum_by f (range_with_len 0 m) ≤ sum_by f (range_with_len 0 n)
 sum_range_le f m n l =
     let e : n ≡ m + (n - m) = omega arith in
-    omega (arith, ap (λ k. sum_by f (range_with_len 0 k)) e, ap (sum_by f) (range_append 0 m (n - m)), sum_by-append f (range_with_len 0 m) (range_with_len (0 + m) (n - m)))
+    omega (
+      arith,
+      ap (λ k. sum_by f (range_with_len 0 k)) e,
+      ap (sum_by f) (range_append 0 m (n - m)),
+      sum_by-append f (range_with_len 0 m) (range_with_len (0 + m) (n - m)),
+    )
 
 not_true : (b : Bool) → (b ≡ true → ⊥) → b ≡ false
 not_true true h = absurd (h refl)
@@ -58,24 +63,33 @@ greatest_few xs n = omega (arith, take_few xs n (length xs) (omega arith), ap gr
 pub over : (f : Frame) (c : Filter) → c.parents ≡ f.parents → IsSound c → IsClasses f.parents c.lists
 over f c e s = subst (λ (ps : List (List ℕ)). IsClasses ps c.lists) e s.classes
 
-pub class_few : (g : ValidGame) (c : Filter) → c.parents ≡ (frame_in g).parents → IsSound c → (round : ℕ) → 0 < round → round ≤ last_round (frame_in g) → class_count c.lists round ≤ 200000
+pub class_few : (g : ValidGame) (c : Filter) → c.parents ≡ (frame_in g).parents → IsSound c → (round : ℕ) → 0 < round → round ≤ last_round (frame_in g)
+    → class_count c.lists round ≤ 200000
 class_few g c e s round some top =
     let f = frame_in g in
     let h = over f c e s in
     let r = last_round_of (game_of g.game) in
     let n = greatest_few (list_of c.lists round) (h.numbered round some top) in
-    omega (arith, n, h.lengths round some top, signal_count_is (game_of g.game) round some (omega (arith, top, r)), g.limits.signals_in round (omega (arith, top, r)))
+    omega (
+      arith,
+      n,
+      h.lengths round some top,
+      signal_count_is (game_of g.game) round some (omega (arith, top, r)),
+      g.limits.signals_in round (omega (arith, top, r)),
+    )
 
 -- ---- slots
 
-pub slots_more : (f : Frame) (lists : ClassLists) (player q : ℕ) → slots_before f lists player (q + 1) ≡ slots_before f lists player q + slots_at f lists player q
+pub slots_more : (f : Frame) (lists : ClassLists) (player q : ℕ) → slots_before f lists player (q + 1)
+    ≡ slots_before f lists player q + slots_at f lists player q
 slots_more f lists player q = sum_range_more (slots_at f lists player) q
 
 pub slots_le : (f : Frame) (lists : ClassLists) (player m n : ℕ) → m ≤ n → slots_before f lists player m ≤ slots_before f lists player n
 slots_le f lists player m n l = sum_range_le (slots_at f lists player) m n l
 
 -- the slots before an own point are among the player's
-pub slots_own_before : (f : Frame) (lists : ClassLists) (player q : ℕ) → player_at f q ≡ player → q < point_count f → slots_before f lists (player_at f q) q ≤ slot_count f lists player
+pub slots_own_before : (f : Frame) (lists : ClassLists) (player q : ℕ) → player_at f q ≡ player → q < point_count f
+    → slots_before f lists (player_at f q) q ≤ slot_count f lists player
 slots_own_before f lists player q own l = omega (arith, ap (λ p. slots_before f lists p q) own, slots_le f lists player q (point_count f) (omega arith))
 
 at_few : (b : Bool) (c m : ℕ) → c ≤ 200000 → cond b (c * m) 0 ≤ 200000 * m
@@ -99,7 +113,8 @@ before_few f lists player (suc n) h =
     )
 
 -- the slots of a player are fewer than 2^60
-pub slots_few : (g : ValidGame) (c : Filter) → c.parents ≡ (frame_in g).parents → IsSound c → (player n : ℕ) → n ≤ point_count (frame_in g) → slots_before (frame_in g) c.lists player n < 2 ^ 60
+pub slots_few : (g : ValidGame) (c : Filter) → c.parents ≡ (frame_in g).parents → IsSound c → (player n : ℕ) → n ≤ point_count (frame_in g)
+    → slots_before (frame_in g) c.lists player n < 2 ^ 60
 slots_few g c e s player n l =
     let f = frame_in g in
     let w = walked g 1 (omega arith) (omega arith) in
@@ -112,4 +127,11 @@ pub moves_few : (g : ValidGame) (q : ℕ) → q < point_count (frame_in g) → m
 moves_few g q l =
     let f = frame_in g in
     let w = walked g 1 (omega arith) (omega arith) in
-    omega (arith, sum_range_more (move_count f) q, sum_range_le (move_count f) (q + 1) (point_count f) (omega arith), moves_total f 1 w, (few g).points, (few g).ends)
+    omega (
+      arith,
+      sum_range_more (move_count f) q,
+      sum_range_le (move_count f) (q + 1) (point_count f) (omega arith),
+      moves_total f 1 w,
+      (few g).points,
+      (few g).ends,
+    )

@@ -54,7 +54,8 @@ sum_times w ps c o =
     ∙ sum-same (λ (p : Part). weight_at c o (times w p)) (λ p. w * weight_at c o p) (λ p. times_out (int_eq p.outcome o) (p.class == c) w p.weight) ps
     ∙ times_sum w (weight_at c o) ps
 
-after_times : (w : ℕ) (p : Part) (ps : List Part) → AllByRecursion (λ q. key_cmp p q ≡ Less) ps → AllByRecursion (λ q. key_cmp (times w p) q ≡ Less) (map (times w) ps)
+after_times : (w : ℕ) (p : Part) (ps : List Part) → AllByRecursion (λ q. key_cmp p q ≡ Less) ps
+    → AllByRecursion (λ q. key_cmp (times w p) q ≡ Less) (map (times w) ps)
 after_times w p [] h = tt
 after_times w p (q ∷ qs) h = (h.0, after_times w p qs h.1)
 
@@ -73,7 +74,8 @@ gathered_times m w (p ∷ ps) =
     ∙ ap (join (pair_of (m * w) p)) (gathered_times m w ps)
 
 -- before the last round no outcome counts
-by_class : (f : Frame) (lists : ClassLists) (round x c : ℕ) (o : ℤ) → round < last_round f → amount f lists Deals round x c o ≡ cond (int_eq (pos 0) o) (weight_against f lists round x c) 0
+by_class : (f : Frame) (lists : ClassLists) (round x c : ℕ) (o : ℤ) → round < last_round f
+    → amount f lists Deals round x c o ≡ cond (int_eq (pos 0) o) (weight_against f lists round x c) 0
 by_class f lists round x c o l =
     let other : round ≢ last_round f = λ e. absurd (omega (arith, e, l)) in
     ap (λ (b : Bool). cond b (weight_with f lists x c o) (cond (int_eq (pos 0) o) (weight_against f lists round x c) 0)) (ne_eqb round (last_round f) other)
@@ -82,7 +84,8 @@ out : (b : Bool) (w n : ℕ) → w * cond b n 0 ≡ cond b (w * n) 0
 out true w n = refl
 out false w n = omega arith
 
-module _ (g h : ValidGame) (round : ℕ) (some : 0 < round) (top : round ≤ round_count (game_of g.game)) (stops : StopsAfter (game_of g.game) round (game_of h.game)) where
+module _ (g h : ValidGame) (round : ℕ) (some : 0 < round) (top : round ≤ round_count (game_of g.game))
+    (stops : StopsAfter (game_of g.game) round (game_of h.game)) where
   abbrev pub ways : ℕ
   ways = ways_on (game_of g.game) round
 
@@ -102,12 +105,14 @@ module _ (g h : ValidGame) (round : ℕ) (some : 0 < round) (top : round ≤ rou
   pub some_on : 0 < ways
   some_on = some_ways (game_of g.game) round g.accepted
 
-  goes_on : (lists others : ClassLists) → list_of others round ≡ list_of lists round → (s c : ℕ) → weight_against (frame_in g) lists round s c ≡ ways * weight_against (frame_in h) others round s c
+  goes_on : (lists others : ClassLists) → list_of others round ≡ list_of lists round → (s c : ℕ)
+      → weight_against (frame_in g) lists round s c ≡ ways * weight_against (frame_in h) others round s c
   goes_on lists others same = against_stopped (game_of g.game) (game_of h.game) round lists others some top stops same
 
   -- ---- the ways to go on are a quotient of weights
 
-  total_by : (x : ValidGame) → round ≤ round_count (game_of x.game) → total_weight (frame_in x) ≡ sum_by (λ s. weight_against (frame_in x) [] round s 0) (range_with_len 0 (length (signals (game_of x.game) round)))
+  total_by : (x : ValidGame) → round ≤ round_count (game_of x.game) → total_weight (frame_in x)
+      ≡ sum_by (λ s. weight_against (frame_in x) [] round s 0) (range_with_len 0 (length (signals (game_of x.game) round)))
   total_by x within =
       let f = frame_in x in
       let r = game_of x.game in
@@ -138,8 +143,11 @@ module _ (g h : ValidGame) (round : ℕ) (some : 0 < round) (top : round ≤ rou
 
   -- ---- the row
 
-  module _ (before : round < round_count (game_of g.game)) (c : Filter) (e : c.parents ≡ (frame_in g).parents) (sound : IsSound c) (lossless : IsLossless (frame_in g) c.lists) (others : ClassLists) (same : list_of others round ≡ list_of c.lists round)
-      (class first members : ℕ) (size : members ≡ class_size c.lists round class) (sums : List Part) (a : AreAmounts (frame_in h) others Deals round first (reverse sums)) where
+  module _ (before : round < round_count (game_of g.game)) (c : Filter) (e : c.parents
+      ≡ (frame_in g).parents) (sound : IsSound c) (lossless : IsLossless (frame_in g) c.lists) (others : ClassLists) (same : list_of others round
+      ≡ list_of c.lists round)
+      (class first members : ℕ) (size : members ≡ class_size c.lists round class) (sums : List Part)
+      (a : AreAmounts (frame_in h) others Deals round first (reverse sums)) where
     one_less : round < last_round (frame_in g)
     one_less = omega (arith, last_round_of (game_of g.game), before)
 
@@ -154,13 +162,16 @@ module _ (g h : ValidGame) (round : ℕ) (some : 0 < round) (top : round ≤ rou
     long : length (list_of c.lists round) ≡ signal_count (frame_in g) round
     long = (over (frame_in g) c e sound).lengths round some (omega (arith, one_less))
 
-    pub row_is : first < length (list_of c.lists round) → class_of c.lists round first ≡ class → IsRow (frame_in g) c.lists round class (gathered (members * ways) (reverse sums))
+    pub row_is : first < length (list_of c.lists round) → class_of c.lists round first ≡ class
+        → IsRow (frame_in g) c.lists round class (gathered (members * ways) (reverse sums))
     row_is l member =
         subst (IsRow (frame_in g) c.lists round class) (gathered_times members ways (reverse sums))
-        (is_row (frame_in g) (table g) c.lists lossless round some (omega (arith, one_less)) first class members (map (times ways) (reverse sums)) (omega (arith, l, long)) member (size ∙ size_is (frame_in g) c.lists round class long) scaled
+        (is_row (frame_in g) (table g) c.lists lossless round some (omega (arith, one_less)) first class members (map (times ways) (reverse sums))
+        (omega (arith, l, long)) member (size ∙ size_is (frame_in g) c.lists round class long) scaled
         (let one = size_some c.lists round class first l member in omega (arith, size, one)))
 
-    pub row_fits : first < length (list_of c.lists round) → class_of c.lists round first ≡ class → (members * ways) * sum_by (λ (p : Part). p.weight) sums < 2 ^ 32
+    pub row_fits : first < length (list_of c.lists round) → class_of c.lists round first ≡ class
+        → (members * ways) * sum_by (λ (p : Part). p.weight) sums < 2 ^ 32
     row_fits l member =
         let w : Part → ℕ = λ p. p.weight in
         let k = over (frame_in g) c e sound in

@@ -32,7 +32,8 @@ negated false true w o = refl
 negated false false w o = refl
 
 -- from the other side: the classes change places, and outcomes negate
-pair_turned : (f : Frame) (h : IsExchanged f 1) (lists : ClassLists) (round : ℕ) (v : ℤ → ℤ) (c e : ℕ) → pair_sum f lists lists round v c e ≡ pair_sum f lists lists round (λ o. v (neg_ℤ o)) e c
+pair_turned : (f : Frame) (h : IsExchanged f 1) (lists : ClassLists) (round : ℕ) (v : ℤ → ℤ) (c e : ℕ)
+    → pair_sum f lists lists round v c e ≡ pair_sum f lists lists round (λ o. v (neg_ℤ o)) e c
 pair_turned f h lists round v c e =
     let one : Deal → ℕ = λ d. class_of lists round (at_round f round d.one) in
     let two : Deal → ℕ = λ d. class_of lists round (at_round f round d.two) in
@@ -42,7 +43,8 @@ pair_turned f h lists round v c e =
     ∙ sum_z-same (λ d. term (exchanged d)) (λ (d : Deal). cond (two d == c) (cond (one d == e) (pos d.weight *ℤ v (neg_ℤ d.outcome)) (pos 0)) (pos 0))
     (λ d. swap (one d == e) (two d == c) (pos d.weight *ℤ v (neg_ℤ d.outcome))) f.deals
 
-signed_turned : (f : Frame) (h : IsExchanged f 1) (lists : ClassLists) (round c e : ℕ) → pair_sum f lists lists round (λ o. o) c e ≡ neg_ℤ (pair_sum f lists lists round (λ o. o) e c)
+signed_turned : (f : Frame) (h : IsExchanged f 1) (lists : ClassLists) (round c e : ℕ)
+    → pair_sum f lists lists round (λ o. o) c e ≡ neg_ℤ (pair_sum f lists lists round (λ o. o) e c)
 signed_turned f h lists round c e =
     let one : Deal → ℕ = λ d. class_of lists round (at_round f round d.one) in
     let two : Deal → ℕ = λ d. class_of lists round (at_round f round d.two) in
@@ -59,7 +61,8 @@ if_last false x y e = refl
 pub weight_kept : (g : Game) (lists : ClassLists) (round c e : ℕ) → pair_weight (frame_of g) lists round c e ≡ pair_weight (frame_of g) lists round e c
 weight_kept g lists round c e = pair_turned (frame_of g) (exchanged_one g) lists round (λ o. pos 1) c e
 
-pub sign_turned : (g : Game) (lists : ClassLists) (round c e : ℕ) → pair_signed (frame_of g) lists round c e ≡ neg_ℤ (pair_signed (frame_of g) lists round e c)
+pub sign_turned : (g : Game) (lists : ClassLists) (round c e : ℕ) → pair_signed (frame_of g) lists round c e
+    ≡ neg_ℤ (pair_signed (frame_of g) lists round e c)
 sign_turned g lists round c e =
     if_last (round == last_round (frame_of g)) (pair_sum (frame_of g) lists lists round (λ o. o) c e) (pair_sum (frame_of g) lists lists round (λ o. o) e c)
     (signed_turned (frame_of g) (exchanged_one g) lists round c e)

@@ -31,7 +31,8 @@ pub record IsTurn {X : Type 0} (row left rest : List X) (x : X) : Type 0 where
   pub next : passed row rest ≡ passed row left + 1
   pub on : rest ≡ drop (passed row rest) row
 
-dropped : {X : Type 0} (row : List X) (i : ℕ) (x : X) (rest : List X) → drop i row ≡ x ∷ rest → (i < length row) × ((d : X) → get_or row i d ≡ x) × (drop (i + 1) row ≡ rest)
+dropped : {X : Type 0} (row : List X) (i : ℕ) (x : X) (rest : List X) → drop i row ≡ x ∷ rest
+    → (i < length row) × ((d : X) → get_or row i d ≡ x) × (drop (i + 1) row ≡ rest)
 dropped [] zero x rest h = absurd (let k : [] ≡ x ∷ rest = h in cc)
 dropped [] (suc i) x rest h = absurd (let k : [] ≡ x ∷ rest = h in cc)
 dropped (y ∷ ys) zero x rest h =
@@ -69,7 +70,8 @@ pub record IsKnown (f : Frame) (lists : ClassLists) (player z : ℕ) (p : Pair) 
   pub signed : unsigned_abs p.signed ≤ 9 * p.weight
   pub pays : unsigned_abs (pair_pays player (end_at f z) p) ≤ 36864 * p.weight
 
-pub known : (f : Frame) (r : InRange f) (lists : ClassLists) (k : IsClasses f.parents lists) (player : ℕ) (w : IsWalked f player) (few : AreModest f) (z : ℕ) (l : z < end_count f) (c : ℕ) (row : List Pair)
+pub known : (f : Frame) (r : InRange f) (lists : ClassLists) (k : IsClasses f.parents lists) (player : ℕ) (w : IsWalked f player) (few : AreModest f) (z : ℕ)
+    (l : z < end_count f) (c : ℕ) (row : List Pair)
     → IsRow f lists (round_of f (at_end z)) c row → (left rest : List Pair) (p : Pair) → IsTurn row left rest p → IsKnown f lists player z p
 known f r lists k player w few z l c row h left rest p t =
     subst (IsKnown f lists player z) (t.read p) (record {
@@ -83,17 +85,20 @@ known f r lists k player w few z l c row h left rest p t =
 pub sum_begun : (v : Pair → ℤ) (row left : List Pair) → left ≡ row → pos 0 ≡ sum_z v (take (passed row left) row)
 sum_begun v row left same = ap (λ n. sum_z v (take n row)) (sym (none_passed row left same))
 
-pub sum_turned : (v : Pair → ℤ) (row left rest : List Pair) (p : Pair) → IsTurn row left rest p → (sum part : ℤ) → sum ≡ sum_z v (take (passed row left) row) → part ≡ v p → sum +ℤ part ≡ sum_z v (take (passed row rest) row)
+pub sum_turned : (v : Pair → ℤ) (row left rest : List Pair) (p : Pair) → IsTurn row left rest p → (sum part : ℤ) → sum ≡ sum_z v (take (passed row left) row)
+    → part ≡ v p → sum +ℤ part ≡ sum_z v (take (passed row rest) row)
 sum_turned v row left rest p t sum part h e =
     let i = passed row left in
-    ap (λ z. z +ℤ part) h ∙ ap (λ z. sum_z v (take i row) +ℤ z) (e ∙ ap v (sym (t.read p))) ∙ sym (sum_z-more v row i p t.inside) ∙ ap (λ n. sum_z v (take n row)) (sym t.next)
+    ap (λ z. z +ℤ part) h ∙ ap (λ z. sum_z v (take i row) +ℤ z) (e ∙ ap v (sym (t.read p))) ∙ sym (sum_z-more v row i p t.inside)
+    ∙ ap (λ n. sum_z v (take n row)) (sym t.next)
 
 pub sum_ended : (v : Pair → ℤ) (row left : List Pair) → left ≡ [] → (sum : ℤ) → sum ≡ sum_z v (take (passed row left) row) → sum ≡ sum_z v row
 sum_ended v row left none sum h = h ∙ ap (sum_z v) (take_all (passed row left) row (all_passed row left none))
 
 -- the walk over a row of a game in sequence form: what is known of the pair where it stands, and what the sum of what the end pays, by numbers of classes
 -- that are not over the greatest total, is on the way and at its end
-module _ (a : Abstract) (classes : IsClasses (frame_of a).parents (lists_of a)) (player z c : ℕ) (some : 0 < player) (two : player ≤ 2) (l : z < end_count (frame_of a)) (row : List Pair)
+module _ (a : Abstract) (classes : IsClasses (frame_of a).parents (lists_of a)) (player z c : ℕ) (some : 0 < player) (two : player ≤ 2) (l : z
+    < end_count (frame_of a)) (row : List Pair)
     (h : IsRow (frame_of a) (lists_of a) (round_of (frame_of a) (at_end z)) c row) where
   g : AreGiven (frame_of a) (lists_of a)
   g = given_in a classes
@@ -101,7 +106,8 @@ module _ (a : Abstract) (classes : IsClasses (frame_of a).parents (lists_of a)) 
   w : IsWalked (frame_of a) player
   w = g.walked player some two
 
-  pub pair_in : (left rest : List Pair) (p : Pair) → left ≡ drop (passed row left) row → left ≡ p ∷ rest → IsTurn row left rest p × IsKnown (frame_of a) (lists_of a) player z p
+  pub pair_in : (left rest : List Pair) (p : Pair) → left ≡ drop (passed row left) row → left ≡ p ∷ rest
+      → IsTurn row left rest p × IsKnown (frame_of a) (lists_of a) player z p
   pair_in left rest p on first =
       let t = turn row left rest p on first in
       (t, known (frame_of a) g.in_range (lists_of a) g.classes player w g.modest z l c row h left rest p t)
@@ -113,8 +119,10 @@ module _ (a : Abstract) (classes : IsClasses (frame_of a).parents (lists_of a)) 
       let weight = class_few_weight (frame_of a) g.in_range (lists_of a) g.classes player w g.modest z l c row h in
       omega (arith, size, product_few (2 ^ 36) _ (omega arith) weight, ap unsigned_abs is)
 
-  pub sum_is_all : (n : ℕ → ℕ) (left : List Pair) → left ≡ [] → (s : ℤ) → s ≡ sum_z (λ (p : Pair). pos (n p.two) *ℤ pair_pays player (end_at (frame_of a) z) p) (take (passed row left) row)
-      → s ≡ sum_z (λ e. pos (n e) *ℤ pair_sum (frame_of a) (lists_of a) (lists_of a) (round_of (frame_of a) (at_end z)) (payoff_to (frame_of a) player z) c e) (classes_in (lists_of a) (round_of (frame_of a) (at_end z)))
+  pub sum_is_all : (n : ℕ → ℕ) (left : List Pair) → left ≡ [] → (s : ℤ) → s
+      ≡ sum_z (λ (p : Pair). pos (n p.two) *ℤ pair_pays player (end_at (frame_of a) z) p) (take (passed row left) row)
+      → s ≡ sum_z (λ e. pos (n e) *ℤ pair_sum (frame_of a) (lists_of a) (lists_of a) (round_of (frame_of a) (at_end z)) (payoff_to (frame_of a) player z) c e)
+      (classes_in (lists_of a) (round_of (frame_of a) (at_end z)))
   sum_is_all n left none s is =
       sum_ended (λ (p : Pair). pos (n p.two) *ℤ pair_pays player (end_at (frame_of a) z) p) row left none s is
       ∙ row_sum (frame_of a) (lists_of a) player (one_or_two player some two) w z l c row h g.in_range g.classes n

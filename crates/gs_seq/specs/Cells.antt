@@ -10,7 +10,8 @@ use Rattle.gs_seq.specs.declared.pair.Pair.{Pair}
 
 -- whether in some deal player 1's signal of a round is of class c and player 2's of class e
 abbrev pub meets : Frame → ClassLists → ℕ → ℕ → ℕ → Bool
-meets f lists round c e = list_any (λ (d : Deal). (class_of lists round (at_round f round d.one) == c) && (class_of lists round (at_round f round d.two) == e)) f.deals
+meets f lists round c e = list_any (λ (d : Deal). (class_of lists round (at_round f round d.one) == c)
+    && (class_of lists round (at_round f round d.two) == e)) f.deals
 
 -- how many pairs of classes of a round some deal has
 abbrev pub pair_count : Frame → ClassLists → ℕ → ℕ

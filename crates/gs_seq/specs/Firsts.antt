@@ -9,12 +9,14 @@ use Rattle.gs_seq.specs.Slots.{plan_of, slot_of}
 -- at a class of a point all that comes there is on the first move
 pub record IsFirstAt (f : Frame) (lists : ClassLists) (player : ℕ) (weights : List ℕ) (q c : ℕ) : Type 0 where
   pub came : let round = round_of f (at_point q) in
-      slice_index weights (slot_of f lists q c 0) ≡ number_before f (lift f lists (plan_of f lists 1 weights)) (last_step f player (at_point q)) round (first_member lists round c)
+      slice_index weights (slot_of f lists q c 0) ≡ number_before f (lift f lists (plan_of f lists 1 weights)) (last_step f player (at_point q)) round
+      (first_member lists round c)
   pub others : (m : ℕ) → 0 < m → m < move_count f q → slice_index weights (slot_of f lists q c m) ≡ 0
 
 -- so at all classes of the player's points before a point
 abbrev pub AreFirstBefore : Frame → ClassLists → ℕ → List ℕ → ℕ → Type 0
-AreFirstBefore f lists player weights q = (p c : ℕ) → p < q → player_at f p ≡ player → IsClass lists (round_of f (at_point p)) c → IsFirstAt f lists player weights p c
+AreFirstBefore f lists player weights q = (p c : ℕ) → p < q → player_at f p ≡ player → IsClass lists (round_of f (at_point p)) c
+    → IsFirstAt f lists player weights p c
 
 -- two lists agree before a place
 abbrev pub Agree : ℕ → List ℕ → List ℕ → Type 0

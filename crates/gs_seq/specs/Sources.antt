@@ -12,7 +12,8 @@ use Rattle.gs_seq.specs.declared.flows.Source.{Source}
 
 -- the class in an earlier round that a class descends from: that of its first member's ancestor, in each frame with these parents
 abbrev pub IsClassAbove : Filter → ℕ → ℕ → ℕ → ℕ → Type 0
-IsClassAbove c round to class above = (f : Frame) → InRange f → f.parents ≡ c.parents → above ≡ class_of c.lists to (ancestor f round to (first_member c.lists round class))
+IsClassAbove c round to class above = (f : Frame) → InRange f → f.parents ≡ c.parents
+    → above ≡ class_of c.lists to (ancestor f round to (first_member c.lists round class))
 
 -- the slot of a step at a class
 abbrev pub slot_above : Source → ℕ → ℕ
@@ -20,7 +21,8 @@ slot_above step above = step.first + ((above - 1) * step.moves + step.choice)
 
 -- the weight of a step at the class above
 abbrev pub IsWeightAbove : Filter → Source → ℕ → ℕ → List ℕ → ℕ → Type 0
-IsWeightAbove c step round class weights weight = (above : ℕ) × IsClass c.lists step.round above × IsClassAbove c round step.round class above × (weight ≡ get_or weights (slot_above step above) 0)
+IsWeightAbove c step round class weights weight = (above : ℕ) × IsClass c.lists step.round above × IsClassAbove c round step.round class above
+    × (weight ≡ get_or weights (slot_above step above) 0)
 
 -- what the program keeps of a player's step before a position
 pub record IsSource (f : Frame) (lists : ClassLists) (player : ℕ) (to : Target) (u : Step) (s : Source) : Type 0 where

@@ -52,6 +52,7 @@ fn row_by(
     requires class { IsClass at.now.classes.now.lists at.now.round class }
     ensures { IfOk result (λ v. IsRow (frame_in at.now.signals.now.game.now) at.now.classes.now.lists at.now.round class v.items) }
 {
+    // called only for what its contract says
     let _rounds = at.classes.rounds();
     let first = at.classes.first(at.round, class);
     let sums = side_sums(alloc, at.stopped, Side::Deals, at.round, keys, first)?;

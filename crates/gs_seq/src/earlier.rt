@@ -29,6 +29,7 @@ fn classes_below(alloc: Global, classes: &Classes, round: u8) -> Result<Vec<Vec<
     requires before_last { round < length classes.now.lists }
     ensures { IfOk result (λ v. AreBelow classes.now round (class_count classes.now.lists (round + 1)) v.items) }
 {
+    // called only for what its contract says
     let _rounds = classes.rounds();
     let mut below = empty_lists(alloc, classes.classes(round))?;
     for before in 0..classes.classes(round + 1) {

@@ -34,6 +34,7 @@ fn put_first(
         → IsFirstAt (frame_in game.now) classes.now.lists player weights.new point c }
     ensures clear { IsClear (slots_before (frame_in game.now) classes.now.lists player (point + 1)) weights.new }
 {
+    // called only for what its contract says
     let _rounds = classes.rounds();
     let source = point_source(game, offsets, point);
     let here = &game.points()[point as usize];

@@ -36,6 +36,7 @@ pub fn class_above(classes: &Classes, round: u8, to: u8, class: u32) -> u32
     ensures above { IsClassAbove classes.now round to class result }
     ensures class { IsClass classes.now.lists to result }
 {
+    // called only for what its contract says
     let _rounds = classes.rounds();
     let mut at = round;
     let mut above = class;

@@ -131,6 +131,7 @@ impl<'a> Abstract<'a> {
         ensures held { frame_in result.now ≡ frame_of self.now }
         ensures classes { IsClasses (frame_of self.now).parents (lists_of self.now) }
     {
+        // called only for what its contract says
         let _rounds = self.lossless.classes().rounds();
         self.lossless.signals().game()
     }
@@ -231,7 +232,8 @@ impl<'a> Abstract<'a> {
         requires plan { IsPlanOf (frame_of self.now) (lists_of self.now) plan.now.player plan.now }
         requires end { end < end_count (frame_of self.now) }
         requires class { IsClass (lists_of self.now) (round_of (frame_of self.now) (at_end end)) class }
-        ensures value { result ≡ class_number (frame_of self.now) (lists_of self.now) plan.now.player (class_plan (frame_of self.now) (lists_of self.now) plan.now) end class }
+        ensures value { result ≡ class_number (frame_of self.now) (lists_of self.now) plan.now.player
+            (class_plan (frame_of self.now) (lists_of self.now) plan.now) end class }
         ensures within { result ≤ plan.now.total }
     {
         let game = self.game();

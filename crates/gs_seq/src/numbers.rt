@@ -96,9 +96,11 @@ pub fn number_by(
     requires end { end < end_count (frame_in game.now) }
     requires source { MatchSource (frame_in game.now) classes.now.lists plan.now.player (at_end end) source }
     requires class { IsClass classes.now.lists (round_of (frame_in game.now) (at_end end)) class }
-    ensures value { result ≡ class_number (frame_in game.now) classes.now.lists plan.now.player (class_plan (frame_in game.now) classes.now.lists plan.now) end class }
+    ensures value { result ≡ class_number (frame_in game.now) classes.now.lists plan.now.player
+        (class_plan (frame_in game.now) classes.now.lists plan.now) end class }
     ensures within { result ≤ plan.now.total }
 {
+    // called only for what its contract says
     let _rounds = classes.rounds();
     match source {
         None => plan.total,

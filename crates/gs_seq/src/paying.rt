@@ -58,6 +58,7 @@ impl<'a> Abstract<'a> {
         requires { end < end_count (frame_of self.now) }
         ensures { result ≡ end_classes (frame_of self.now) (lists_of self.now) end }
     {
+        // called only for what its contract says
         let _rounds = self.lossless().classes().rounds();
         self.classes().classes(self.end_in(end).round)
     }
@@ -82,7 +83,8 @@ impl<'a> Abstract<'a> {
         ensures here { let f = frame_of self.now in let lists = lists_of self.now in
             (c : ℕ) → IsClass lists (round_of f (at_end end)) c → get_or sums.new (start + (c - 1)) (pos 0) ≡ end_sum f lists player (class_plan f lists other.now) end c }
         ensures before { (i : ℕ) → i < start → get_or sums.new i (pos 0) ≡ get_or sums.old i (pos 0) }
-        ensures behind { (i : ℕ) → start + end_classes (frame_of self.now) (lists_of self.now) end ≤ i → get_or sums.new i (pos 0) ≡ get_or sums.old i (pos 0) }
+        ensures behind { (i : ℕ) → start + end_classes (frame_of self.now) (lists_of self.now) end ≤ i
+            → get_or sums.new i (pos 0) ≡ get_or sums.old i (pos 0) }
         ensures numbers { let f = frame_of self.now in let lists = lists_of self.now in
             AreNumbersAt f lists (other_player player) (class_plan f lists other.now) end numbers.new }
     {
@@ -114,7 +116,8 @@ impl<'a> Abstract<'a> {
         ensures here { let f = frame_of self.now in let lists = lists_of self.now in
             (c : ℕ) → IsClass lists (round_of f (at_end end)) c → get_or sums.new (start + (c - 1)) (pos 0) ≡ number_sum f lists player numbers.now end c }
         ensures before { (i : ℕ) → i < start → get_or sums.new i (pos 0) ≡ get_or sums.old i (pos 0) }
-        ensures behind { (i : ℕ) → start + end_classes (frame_of self.now) (lists_of self.now) end ≤ i → get_or sums.new i (pos 0) ≡ get_or sums.old i (pos 0) }
+        ensures behind { (i : ℕ) → start + end_classes (frame_of self.now) (lists_of self.now) end ≤ i
+            → get_or sums.new i (pos 0) ≡ get_or sums.old i (pos 0) }
     {
         let _game = self.game();
         let _rounds = self.lossless().classes().rounds();
@@ -150,7 +153,8 @@ impl<'a> Abstract<'a> {
         ensures here { let f = frame_of self.now in let lists = lists_of self.now in
             (c : ℕ) → IsClass lists (round_of f (at_end end)) c → get_or sums.new (start + (c - 1)) (pos 0) ≡ number_sum f lists player numbers.now end c }
         ensures before { (i : ℕ) → i < start → get_or sums.new i (pos 0) ≡ get_or sums.old i (pos 0) }
-        ensures behind { (i : ℕ) → start + end_classes (frame_of self.now) (lists_of self.now) end ≤ i → get_or sums.new i (pos 0) ≡ get_or sums.old i (pos 0) }
+        ensures behind { (i : ℕ) → start + end_classes (frame_of self.now) (lists_of self.now) end ≤ i
+            → get_or sums.new i (pos 0) ≡ get_or sums.old i (pos 0) }
     {
         for before in 0..self.class_total(end) {
             sums[start + before as usize] = self.paid(player, end, before + 1, numbers);

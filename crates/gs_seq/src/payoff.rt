@@ -94,8 +94,10 @@ impl<'a> Abstract<'a> {
     pub fn payoff(&self, x: &Plan, y: &Plan) -> i128
         requires x { IsPlanOf (frame_of self.now) (lists_of self.now) 1 x.now }
         requires y { IsPlanOf (frame_of self.now) (lists_of self.now) 2 y.now }
-        ensures { result ≡ raw_payoff (frame_of self.now) (lifted (frame_of self.now) (lists_of self.now) x.now) (lifted (frame_of self.now) (lists_of self.now) y.now) }
+        ensures { result ≡ raw_payoff (frame_of self.now) (lifted (frame_of self.now) (lists_of self.now) x.now)
+            (lifted (frame_of self.now) (lists_of self.now) y.now) }
     {
+        // called only for what its contract says
         let _game = self.game();
         let mut sum = 0i128;
         for end in 0..self.end_total() {
@@ -109,7 +111,8 @@ impl<'a> Abstract<'a> {
         requires x { IsPlanOf (frame_of self.now) (lists_of self.now) 1 x.now }
         requires y { IsPlanOf (frame_of self.now) (lists_of self.now) 2 y.now }
         requires end { end < end_count (frame_of self.now) }
-        ensures { result ≡ payoff_at (frame_of self.now) (lists_of self.now) (class_plan (frame_of self.now) (lists_of self.now) x.now) (class_plan (frame_of self.now) (lists_of self.now) y.now) end }
+        ensures { result ≡ payoff_at (frame_of self.now) (lists_of self.now) (class_plan (frame_of self.now) (lists_of self.now) x.now)
+            (class_plan (frame_of self.now) (lists_of self.now) y.now) end }
     {
         let _game = self.game();
         let mut sum = 0i128;
@@ -127,7 +130,8 @@ impl<'a> Abstract<'a> {
         requires y { IsPlanOf (frame_of self.now) (lists_of self.now) 2 y.now }
         requires sums { (z : ℕ) → z < end_count (frame_of self.now) → end_classes (frame_of self.now) (lists_of self.now) z ≤ length sums.old }
         requires numbers { (z : ℕ) → z < end_count (frame_of self.now) → end_classes (frame_of self.now) (lists_of self.now) z ≤ length numbers.old }
-        ensures { result ≡ raw_payoff (frame_of self.now) (lifted (frame_of self.now) (lists_of self.now) x.now) (lifted (frame_of self.now) (lists_of self.now) y.now) }
+        ensures { result ≡ raw_payoff (frame_of self.now) (lifted (frame_of self.now) (lists_of self.now) x.now)
+            (lifted (frame_of self.now) (lists_of self.now) y.now) }
     {
         let _game = self.game();
         let mut sum = 0i128;
@@ -151,7 +155,8 @@ impl<'a> Abstract<'a> {
         requires end { end < end_count (frame_of self.now) }
         requires sums { end_classes (frame_of self.now) (lists_of self.now) end ≤ length sums.old }
         requires numbers { end_classes (frame_of self.now) (lists_of self.now) end ≤ length numbers.old }
-        ensures { result ≡ payoff_at (frame_of self.now) (lists_of self.now) (class_plan (frame_of self.now) (lists_of self.now) x.now) (class_plan (frame_of self.now) (lists_of self.now) y.now) end }
+        ensures { result ≡ payoff_at (frame_of self.now) (lists_of self.now) (class_plan (frame_of self.now) (lists_of self.now) x.now)
+            (class_plan (frame_of self.now) (lists_of self.now) y.now) end }
     {
         let _game = self.game();
         self.end_sums(1, y, end, 0, sums, numbers);

@@ -120,6 +120,7 @@ fn class_row(
     requires class { IsClass classes.now.lists round class }
     ensures { IfOk result (λ v. IsRow (frame_in signals.now.game.now) classes.now.lists round class v.items) }
 {
+    // called only for what its contract says
     let _rounds = classes.rounds();
     let first = classes.first(round, class);
     let sums = side_sums(alloc, signals, Side::Deals, round, keys, first)?;

@@ -23,6 +23,7 @@ pub(crate) fn slots_at(game: &ValidGame, classes: &Classes, player: u8, point: u
     requires in_range { point < point_count (frame_in game.now) }
     ensures { result ≡ slots_here (frame_in game.now) classes.now.lists player point }
 {
+    // called only for what its contract says
     let _rounds = classes.rounds();
     let point = &game.points()[point as usize];
     if point.player == player {

@@ -22,7 +22,8 @@ at_least : (n : ℕ) → pos 0 ≤ℤ pos n
 at_least n = omega (arith, ints)
 
 -- a plan z that gains num over den, where none gains anything
-not_above : (D X Z W p q num : ℤ) → pos 0 <ℤ D → pos 0 <ℤ Z → pos 0 <ℤ W → (D *ℤ X) *ℤ q ≡ Z *ℤ (D *ℤ p +ℤ num *ℤ W) → (X *ℤ q) ≤ℤ (Z *ℤ p) → pos 0 ≤ℤ neg_ℤ num
+not_above : (D X Z W p q num : ℤ) → pos 0 <ℤ D → pos 0 <ℤ Z → pos 0 <ℤ W → (D *ℤ X) *ℤ q ≡ Z *ℤ (D *ℤ p +ℤ num *ℤ W) → (X *ℤ q) ≤ℤ (Z *ℤ p)
+    → pos 0 ≤ℤ neg_ℤ num
 not_above D X Z W p q num some_d some_z some_w reach none =
     let gap : pos 0 ≤ℤ (D *ℤ (Z *ℤ p -ℤ X *ℤ q)) = times_nonneg D (Z *ℤ p -ℤ X *ℤ q) (omega (arith, linear)) (omega (arith, linear)) in
     let e : D *ℤ (Z *ℤ p -ℤ X *ℤ q) ≡ (Z *ℤ W) *ℤ neg_ℤ num = shift D X Z W p q num reach in
@@ -84,8 +85,10 @@ plain_gap : (den X Z U W : ℕ) (p q r num : ℤ) → 0 < den → 0 < Z → 0 < 
 plain_gap den X Z U W p q r num some_den some_z some_u some_w reach bound still within =
     let split = product den X in
     none num
-    (not_above (pos den) (pos X) (pos Z) (pos W) p q num (positive den some_den) (positive Z some_z) (positive W some_w) (subst (λ v. v *ℤ q ≡ pos Z *ℤ (pos den *ℤ p +ℤ num *ℤ pos W)) split reach) (plain_bound X Z W p q bound))
-    (not_below (pos den) (pos X) (pos U) (pos W) p r num (positive U some_u) (positive W some_w) (plain_reach X U W p r still) (subst (λ v. (v *ℤ r) ≤ℤ (pos U *ℤ (pos den *ℤ p +ℤ num *ℤ pos W))) split within))
+    (not_above (pos den) (pos X) (pos Z) (pos W) p q num (positive den some_den) (positive Z some_z) (positive W some_w)
+    (subst (λ v. v *ℤ q ≡ pos Z *ℤ (pos den *ℤ p +ℤ num *ℤ pos W)) split reach) (plain_bound X Z W p q bound))
+    (not_below (pos den) (pos X) (pos U) (pos W) p r num (positive U some_u) (positive W some_w) (plain_reach X U W p r still)
+    (subst (λ v. (v *ℤ r) ≤ℤ (pos U *ℤ (pos den *ℤ p +ℤ num *ℤ pos W))) split within))
 
 -- from player 2's side all payoffs are turned
 turned : (D Z W p num : ℤ) → neg_ℤ (Z *ℤ (D *ℤ p -ℤ num *ℤ W)) ≡ Z *ℤ (D *ℤ neg_ℤ p +ℤ num *ℤ W)
@@ -105,7 +108,8 @@ module _ (f : Frame) (x y : Plan) (num : ℤ) (den : ℕ) (deals : 0 < total_wei
   pub no_first_gap : IsFirstGap f x y num den → IsFirstGap f x y (pos 0) 1 → num ≡ pos 0
   no_first_gap g h =
       let z = g.some_reaches in let u = h.some_reaches in
-      plain_gap den x.total z.0.total u.0.total (total_weight f * x.total * y.total) (raw_payoff f x y) (raw_payoff f z.0 y) (raw_payoff f u.0 y) num g.positive z.1.some u.1.some some_scale
+      plain_gap den x.total z.0.total u.0.total (total_weight f * x.total * y.total) (raw_payoff f x y) (raw_payoff f z.0 y)
+      (raw_payoff f u.0 y) num g.positive z.1.some u.1.some some_scale
       z.2 (h.none_more z.0 z.1) u.2 (g.none_more u.0 u.1)
 
   -- where player 2 gains nothing, his gap is 0

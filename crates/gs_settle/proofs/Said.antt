@@ -21,32 +21,41 @@ use Rattle.gs_settle.specs.declared.tasks.Task.{Task}
 use Rattle.gs_reply.proofs.Refused.{answers_more}
 
 -- of a game in sequence form it is said of the lossless classes
-pub form_said : (task : Task) (form : Abstract) (l : Lossless) (a : Answer) → form.lossless.now ≡ l → IsSmall (frame_in form) (lists_of form) → Answers (Says task (game_in form) (lists_of form)) a
+pub form_said : (task : Task) (form : Abstract) (l : Lossless) (a : Answer) → form.lossless.now ≡ l → IsSmall (frame_in form) (lists_of form)
+    → Answers (Says task (game_in form) (lists_of form)) a
     → Answers (OfForm (Says task) (valid_view l.signals.now.game.now) l.classes.now.lists) a
 form_said task form l a held small said =
     subst (λ (x : Lossless). Answers (OfForm (Says task) (valid_view x.signals.now.game.now) x.classes.now.lists) a) held
     (answers_more (Says task (game_in form) (lists_of form)) (OfForm (Says task) (game_in form) (lists_of form)) (λ r h. inr (small, h)) a said)
 
 -- that the game over lossless classes is too large
-pub large_said : (task : Task) (l : Lossless) (a : Answer) → Answers (SaysLarge (valid_view l.signals.now.game.now) l.classes.now.lists) a → Answers (OfForm (Says task) (valid_view l.signals.now.game.now) l.classes.now.lists) a
+pub large_said : (task : Task) (l : Lossless) (a : Answer) → Answers (SaysLarge (valid_view l.signals.now.game.now) l.classes.now.lists) a
+    → Answers (OfForm (Says task) (valid_view l.signals.now.game.now) l.classes.now.lists) a
 large_said task l a said =
-    answers_more (SaysLarge (valid_view l.signals.now.game.now) l.classes.now.lists) (OfForm (Says task) (valid_view l.signals.now.game.now) l.classes.now.lists) (λ r h. inl h) a said
+    answers_more (SaysLarge (valid_view l.signals.now.game.now) l.classes.now.lists)
+    (OfForm (Says task) (valid_view l.signals.now.game.now) l.classes.now.lists) (λ r h. inl h) a said
 
 -- that the classes of a grouping are not lossless
-pub pair_said : (grouping : Grouping) (task : Task) (v : ValidGame) (s : Signals) (a : Answer) → s.game.now ≡ v → Answers (SaysUnlike grouping (valid_view s.game.now)) a → Answers (OfGrouping grouping (Says task) (valid_view v)) a
+pub pair_said : (grouping : Grouping) (task : Task) (v : ValidGame) (s : Signals) (a : Answer) → s.game.now ≡ v
+    → Answers (SaysUnlike grouping (valid_view s.game.now)) a → Answers (OfGrouping grouping (Says task) (valid_view v)) a
 pair_said grouping task v s a of_game said =
     subst (λ (x : ValidGame). Answers (OfGrouping grouping (Says task) (valid_view x)) a) of_game
     (answers_more (SaysUnlike grouping (valid_view s.game.now)) (OfGrouping grouping (Says task) (valid_view s.game.now)) (λ r h. inl h) a said)
 
 -- of lossless classes of a grouping it is said of the game
-pub classes_said : (grouping : Grouping) (task : Task) (v : ValidGame) (s : Signals) (classes : Filter) (l : Lossless) (a : Answer) → s.game.now ≡ v → l.signals.now ≡ s → l.classes.now ≡ classes
-    → IsGrouping grouping (rules_of s) classes.lists → IsLossless (frame_of (rules_of s)) classes.lists → Answers (OfForm (Says task) (valid_view l.signals.now.game.now) l.classes.now.lists) a
+pub classes_said : (grouping : Grouping) (task : Task) (v : ValidGame) (s : Signals) (classes : Filter) (l : Lossless) (a : Answer) → s.game.now ≡ v
+    → l.signals.now ≡ s → l.classes.now ≡ classes
+    → IsGrouping grouping (rules_of s) classes.lists → IsLossless (frame_of (rules_of s)) classes.lists
+    → Answers (OfForm (Says task) (valid_view l.signals.now.game.now) l.classes.now.lists) a
     → Answers (OfGrouping grouping (Says task) (valid_view v)) a
 classes_said grouping task v s classes l a of_game held_signals held_classes are lossless said =
     let g = valid_view l.signals.now.game.now in
     let are_here : IsGrouping grouping (rules_of l.signals.now) l.classes.now.lists =
-    subst (λ (x : Signals). IsGrouping grouping (rules_of x) l.classes.now.lists) (sym held_signals) (subst (λ (x : Filter). IsGrouping grouping (rules_of s) x.lists) (sym held_classes) are) in
+    subst (λ (x : Signals). IsGrouping grouping (rules_of x) l.classes.now.lists) (sym held_signals)
+    (subst (λ (x : Filter). IsGrouping grouping (rules_of s) x.lists) (sym held_classes) are) in
     let lossless_here : IsLossless (frame_of (rules_of l.signals.now)) l.classes.now.lists =
-    subst (λ (x : Signals). IsLossless (frame_of (rules_of x)) l.classes.now.lists) (sym held_signals) (subst (λ (x : Filter). IsLossless (frame_of (rules_of s)) x.lists) (sym held_classes) lossless) in
+    subst (λ (x : Signals). IsLossless (frame_of (rules_of x)) l.classes.now.lists) (sym held_signals)
+    (subst (λ (x : Filter). IsLossless (frame_of (rules_of s)) x.lists) (sym held_classes) lossless) in
     subst (λ (x : ValidGame). Answers (OfGrouping grouping (Says task) (valid_view x)) a) (ap (λ (x : Signals). x.game.now) held_signals ∙ of_game)
-    (answers_more (OfForm (Says task) g l.classes.now.lists) (OfGrouping grouping (Says task) g) (λ r h. inr (l.classes.now.lists, are_here, lossless_here, h)) a said)
+    (answers_more (OfForm (Says task) g l.classes.now.lists) (OfGrouping grouping (Says task) g)
+    (λ r h. inr (l.classes.now.lists, are_here, lossless_here, h)) a said)

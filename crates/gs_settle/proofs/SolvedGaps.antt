@@ -21,14 +21,19 @@ plan_at g lists w = lift (frame_in g) lists (plan_of (frame_in g) lists w.total 
 
 module _ (g : FileGame) (lists : ClassLists) (x y : Plan) (text : List ℕ) (told : IsTextOf g lists x y text) where
   -- the strategy's numbers are those of the two plans
-  verdict_at : IsVerdict (frame_in g) (lifted (frame_in g) lists x) (lifted (frame_in g) lists y) (over told.strategy.numbers.value) (over told.strategy.numbers.gap1) (over told.strategy.numbers.gap2)
+  verdict_at : IsVerdict (frame_in g) (lifted (frame_in g) lists x) (lifted (frame_in g) lists y) (over told.strategy.numbers.value)
+      (over told.strategy.numbers.gap1) (over told.strategy.numbers.gap2)
   verdict_at =
       let n = told.strategy.numbers in
       let s = told.strategy in
-      let at_game = subst (λ (v : FileGame). IsVerdict (frame_in v) (plan_at v s.classes s.one) (plan_at v s.classes s.two) (over n.value) (over n.gap1) (over n.gap2)) told.game told.confirmed.numbers.verdict in
-      let at_classes = subst (λ (c : ClassLists). IsVerdict (frame_in g) (plan_at g c s.one) (plan_at g c s.two) (over n.value) (over n.gap1) (over n.gap2)) told.classes at_game in
-      let at_first = subst (λ (w : Weights). IsVerdict (frame_in g) (plan_at g lists w) (plan_at g lists s.two) (over n.value) (over n.gap1) (over n.gap2)) told.first at_classes in
-      subst (λ (w : Weights). IsVerdict (frame_in g) (lifted (frame_in g) lists x) (plan_at g lists w) (over n.value) (over n.gap1) (over n.gap2)) told.second at_first
+      let at_game = subst (λ (v : FileGame). IsVerdict (frame_in v) (plan_at v s.classes s.one) (plan_at v s.classes s.two) (over n.value) (over n.gap1)
+      (over n.gap2)) told.game told.confirmed.numbers.verdict in
+      let at_classes = subst (λ (c : ClassLists). IsVerdict (frame_in g) (plan_at g c s.one) (plan_at g c s.two) (over n.value) (over n.gap1) (over n.gap2))
+      told.classes at_game in
+      let at_first = subst (λ (w : Weights). IsVerdict (frame_in g) (plan_at g lists w) (plan_at g lists s.two) (over n.value) (over n.gap1) (over n.gap2))
+      told.first at_classes in
+      subst (λ (w : Weights). IsVerdict (frame_in g) (lifted (frame_in g) lists x) (plan_at g lists w) (over n.value) (over n.gap1) (over n.gap2)) told.second
+      at_first
 
   pub is_solved : 0 < total_weight (frame_in g) → IsSolution (frame_in g) lists x y → IsSolved g lists text
   is_solved deals solution =
@@ -43,6 +48,8 @@ module _ (g : FileGame) (lists : ClassLists) (x y : Plan) (text : List ℕ) (tol
         two = y;
         solution = solution;
         told = told;
-        gap1 = zero_over_one n.gap1.0 n.gap1.1 told.confirmed.numbers.gap1 (no_first_gap (frame_in g) a b (over n.gap1).0 (over n.gap1).1 deals some_one some_two v.first_gap solution.first_gap);
-        gap2 = zero_over_one n.gap2.0 n.gap2.1 told.confirmed.numbers.gap2 (no_second_gap (frame_in g) a b (over n.gap2).0 (over n.gap2).1 deals some_one some_two v.second_gap solution.second_gap);
+        gap1 = zero_over_one n.gap1.0 n.gap1.1 told.confirmed.numbers.gap1
+            (no_first_gap (frame_in g) a b (over n.gap1).0 (over n.gap1).1 deals some_one some_two v.first_gap solution.first_gap);
+        gap2 = zero_over_one n.gap2.0 n.gap2.1 told.confirmed.numbers.gap2
+            (no_second_gap (frame_in g) a b (over n.gap2).0 (over n.gap2).1 deals some_one some_two v.second_gap solution.second_gap);
       }

@@ -20,9 +20,11 @@ use Rattle.gs_strategy.specs.Views.{strategy_of}
 use Rattle.gs_settle.specs.Settling.{game_in}
 use Rattle.gs_settle.specs.Texts.{IsTextOf}
 
-pub told : (game : ValidGame) (classes : Filter) (one two : Plan) (found : Verdict) (text : List ℕ) → IsClasses (frame_in game).parents classes.lists → IsLossless (frame_in game) classes.lists → IsSmall (frame_in game) classes.lists
+pub told : (game : ValidGame) (classes : Filter) (one two : Plan) (found : Verdict) (text : List ℕ) → IsClasses (frame_in game).parents classes.lists
+    → IsLossless (frame_in game) classes.lists → IsSmall (frame_in game) classes.lists
     → IsPlanOf (frame_in game) classes.lists 1 one → IsPlanOf (frame_in game) classes.lists 2 two
-    → IsVerdict (frame_in game) (lifted (frame_in game) classes.lists one) (lifted (frame_in game) classes.lists two) (parts found.value) (parts found.gap1) (parts found.gap2)
+    → IsVerdict (frame_in game) (lifted (frame_in game) classes.lists one) (lifted (frame_in game) classes.lists two) (parts found.value) (parts found.gap1)
+    (parts found.gap2)
     → text ≡ strategy_text Two (strategy_of game classes one two found) → IsTextOf (valid_view game) classes.lists one two text
 told game classes one two found text are lossless small first second verdict printed = record {
   strategy = strategy_of game classes one two found;
@@ -42,11 +44,14 @@ told game classes one two found text are lossless small first second verdict pri
 }
 
 -- and of a game in sequence form, whose game and classes were read
-pub told_of : (form : Abstract) (game : ValidGame) (classes : Filter) (one two : Plan) (found : Verdict) (text : List ℕ) → game ≡ form.lossless.now.signals.now.game.now → classes ≡ form.lossless.now.classes.now
+pub told_of : (form : Abstract) (game : ValidGame) (classes : Filter) (one two : Plan) (found : Verdict) (text : List ℕ)
+    → game ≡ form.lossless.now.signals.now.game.now → classes ≡ form.lossless.now.classes.now
     → IsClasses (frame_of form).parents (lists_of form) → IsLossless (frame_of form) (lists_of form) → IsSmall (frame_of form) (lists_of form)
     → IsPlanOf (frame_of form) (lists_of form) 1 one → IsPlanOf (frame_of form) (lists_of form) 2 two
-    → IsVerdict (frame_of form) (lifted (frame_of form) (lists_of form) one) (lifted (frame_of form) (lists_of form) two) (parts found.value) (parts found.gap1) (parts found.gap2)
+    → IsVerdict (frame_of form) (lifted (frame_of form) (lists_of form) one) (lifted (frame_of form) (lists_of form) two) (parts found.value)
+    (parts found.gap1) (parts found.gap2)
     → text ≡ strategy_text Two (strategy_of game classes one two found) → IsTextOf (game_in form) (lists_of form) one two text
 told_of form game classes one two found text of_game of_classes are lossless small first second verdict printed =
     told form.lossless.now.signals.now.game.now form.lossless.now.classes.now one two found text are lossless small first second verdict
-    (printed ∙ ap (λ (v : ValidGame). strategy_text Two (strategy_of v classes one two found)) of_game ∙ ap (λ (x : Filter). strategy_text Two (strategy_of form.lossless.now.signals.now.game.now x one two found)) of_classes)
+    (printed ∙ ap (λ (v : ValidGame). strategy_text Two (strategy_of v classes one two found)) of_game
+    ∙ ap (λ (x : Filter). strategy_text Two (strategy_of form.lossless.now.signals.now.game.now x one two found)) of_classes)

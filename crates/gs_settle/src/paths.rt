@@ -67,6 +67,7 @@ fn unended(
 pub(crate) fn shown(alloc: Global, form: &Abstract) -> Result<Answer, AllocError>
     ensures { IfOk result (Answers (ShowsPath (game_in form.now) (lists_of form.now))) }
 {
+    // called only for what its contract says
     let _rounds = round_total(form);
     let (p, opening) = match program(alloc, form) {
         Ok(made) => made,

@@ -77,6 +77,7 @@ fn not_lossless(
     requires single { IsUnlike stop → classes.now.lists ≡ single_classes classes.now.parents → ⊥ }
     ensures { IfOk result (Answers (SaysUnlike grouping (valid_view signals.now.game.now))) }
 {
+    // called only for what its contract says
     let _rounds = classes.rounds();
     match stop {
         CheckStop::Unlike { round, second, .. } => {

@@ -16,8 +16,10 @@ use Rattle.gs_rows.proofs.PairLists.{place_of, listed_at, whole_opened, opened_p
 use Rattle.gs_simplex.specs.Table.{table_rows, table_aim, IsTableAfter}
 use Rattle.gs_simplex.specs.Conditions.{IsNewPair, CanTakeAt, IsTaken, HasFeasibleSides}
 
-pub vec_at : (rows : List (Vec ℤ Global)) (i : ℕ) (v : Vec ℤ Global) → i < length rows → v ≡ get_or rows i v → v.items ≡ slice_index_or (map vec_items rows) i []
-vec_at rows i v h e = ap vec_items e ∙ sym (get_or-map vec_items rows i v) ∙ get_or_default (map vec_items rows) i v.items [] (omega (arith, length-map rows vec_items))
+pub vec_at : (rows : List (Vec ℤ Global)) (i : ℕ) (v : Vec ℤ Global) → i < length rows → v ≡ get_or rows i v
+    → v.items ≡ slice_index_or (map vec_items rows) i []
+vec_at rows i v h e = ap vec_items e ∙ sym (get_or-map vec_items rows i v)
+    ∙ get_or_default (map vec_items rows) i v.items [] (omega (arith, length-map rows vec_items))
 
 -- the front of a front
 take_take : {X : Type 0} (xs : List X) (k t : ℕ) → k ≤ t → take k (take t xs) ≡ take k xs
@@ -28,7 +30,8 @@ take_take (x ∷ xs) (suc k) zero h = absurd (omega arith)
 take_take (x ∷ xs) (suc k) (suc t) h = ap (λ ys. x ∷ ys) (take_take xs k t (omega arith))
 
 -- a front is taken in turn
-front_taken : (p : Program) (o : Listing) (t : ℕ) → t ≤ length o → ((k : ℕ) → k < t → (r : ℕ) × (c : ℕ) × (slice_index_or o k (0, 0) ≡ (r + 1, c + 1)) × CanTake p (take k o) r c) → IsTakenInTurn p (take t o)
+front_taken : (p : Program) (o : Listing) (t : ℕ) → t ≤ length o → ((k : ℕ) → k < t
+    → (r : ℕ) × (c : ℕ) × (slice_index_or o k (0, 0) ≡ (r + 1, c + 1)) × CanTake p (take k o) r c) → IsTakenInTurn p (take t o)
 front_taken p o t h u k kl =
     let kt : k < t = omega (arith, length-take-le t o h) in
     let w = u k kt in
@@ -39,7 +42,8 @@ pub front_opened : (p : Program) (o : Listing) (t : ℕ) (xs : List ℤ) → t �
 front_opened p o t xs h u = whole_opened p (take t o) (front_taken p o t h u.taken)
 
 -- what the checks of one pair show
-pub can_take_from : (p : Program) (o : Listing) (t r c : ℕ) (xs : List ℤ) → t < length o → slice_index_or o t (0, 0) ≡ (r + 1, c + 1) → r < p.rows → c < p.cols → IsNewPair o t → IsRowsOf p (take t o) (table_rows p xs) (table_aim p xs)
+pub can_take_from : (p : Program) (o : Listing) (t r c : ℕ) (xs : List ℤ) → t < length o → slice_index_or o t (0, 0) ≡ (r + 1, c + 1) → r < p.rows
+    → c < p.cols → IsNewPair o t → IsRowsOf p (take t o) (table_rows p xs) (table_aim p xs)
     → table_rows p xs r c ≢ pos 0 → CanTakeAt p (table_rows p xs) o t
 can_take_from p o t r c xs h at rm cm new rows ne =
     let long : length (take t o) ≡ t = length-take-le t o (omega arith) in
@@ -48,17 +52,33 @@ can_take_from p o t r c xs h at rm cm new rows ne =
     let column_free : ColListed (take t o) c → ⊥ = λ x. (let k = x.1.0 in let kt : k < t = omega (arith, x.1.1) in
     (new k kt).1 (ap (λ (w : ℕ × ℕ). w.1) (sym (get_or-take t o k (0, 0) kt) ∙ place_of (take t o) x.0 c x.1) ∙ sym (ap (λ (w : ℕ × ℕ). w.1) at))) in
     let w = rows.unlisted r rm row_free in
-    record { pair = (r, c, at, record { row = rm; column = cm; row_free = row_free; column_free = column_free; found = (w.0, w.1, table_rows p xs r, w.2, ne) }, ne) }
+    record {
+      pair = (
+        r,
+        c,
+        at,
+        record {
+          row = rm;
+          column = cm;
+          row_free = row_free;
+          column_free = column_free;
+          found = (w.0, w.1, table_rows p xs r, w.2, ne);
+        },
+        ne,
+      );
+    }
 
 -- one more pair taken
-pub taken_more : (p : Program) (o : Listing) (t r c : ℕ) (xs new : List ℤ) → t < length o → slice_index_or o t (0, 0) ≡ (r + 1, c + 1) → CanTake p (take t o) r c → IsTaken p o t xs → IsTableAfter p xs new r c → IsTaken p o (t + 1) new
+pub taken_more : (p : Program) (o : Listing) (t r c : ℕ) (xs new : List ℤ) → t < length o → slice_index_or o t (0, 0) ≡ (r + 1, c + 1)
+    → CanTake p (take t o) r c → IsTaken p o t xs → IsTableAfter p xs new r c → IsTaken p o (t + 1) new
 taken_more p o t r c xs new h at can u w =
     let il = (front_opened p o t xs (omega arith) u).is_list in
     let P : Listing → Type 0 = λ x. IsRowsOf p x (table_rows p new) (table_aim p new) in
     let e : take (t + 1) o ≡ take t o ++ ((r + 1, c + 1) ∷ []) = take_more o t (0, 0) h ∙ ap (λ x. take t o ++ (x ∷ [])) at in
     record {
       taken = λ k kt. elim (cases_eq k t) [
-        | inl s ↦ (let Q : ℕ → Type 0 = λ x. (r : ℕ) × (c : ℕ) × (slice_index_or o x (0, 0) ≡ (r + 1, c + 1)) × CanTake p (take x o) r c in subst Q (sym s) (r, c, at, can))
+        | inl s ↦ (let Q : ℕ → Type 0 = λ x. (r : ℕ) × (c : ℕ) × (slice_index_or o x (0, 0) ≡ (r + 1, c + 1)) × CanTake p (take x o) r c in
+            subst Q (sym s) (r, c, at, can))
         | inr ne ↦ u.taken k (omega arith)
       ];
       table = w.table;
@@ -69,8 +89,10 @@ taken_more p o t r c xs new h at can u w =
 pub whole_pairs : (p : Program) (o : Listing) (xs : List ℤ) → IsTaken p o (length o) xs → IsPairList p o
 whole_pairs p o xs u = opened_pair_list p o (whole_opened p o u.taken)
 
-module _ (p : Program) (o : Listing) (xs : List ℤ) (u : IsTaken p o (length o) xs) (named : (i : ℕ) → i < p.rows → (k : ℕ) × (k < length o) × ((slice_index_or o k (0, 0)).0 ≡ i + 1))
-    (free : (j : ℕ) → j < p.cols → IsFree p j → (k : ℕ) × (k < length o) × ((slice_index_or o k (0, 0)).1 ≡ j + 1)) (sides : HasFeasibleSides p o (table_rows p xs)) where
+module _ (p : Program) (o : Listing) (xs : List ℤ) (u : IsTaken p o (length o) xs) (named : (i : ℕ) → i < p.rows
+    → (k : ℕ) × (k < length o) × ((slice_index_or o k (0, 0)).0 ≡ i + 1))
+    (free : (j : ℕ) → j < p.cols → IsFree p j → (k : ℕ) × (k < length o)
+    × ((slice_index_or o k (0, 0)).1 ≡ j + 1)) (sides : HasFeasibleSides p o (table_rows p xs)) where
   is_opened : IsOpened p o
   is_opened = whole_opened p o u.taken
 
@@ -115,7 +137,8 @@ module _ (p : Program) (o : Listing) (xs : List ℤ) (u : IsTaken p o (length o)
               solves = λ i im. (let z : sum_to n (λ j. number p i j *ℤ v j) +ℤ number p i n *ℤ v n ≡ pos 0 = w.killed.row i im in
                   let s : number p i n *ℤ v n ≡ neg_ℤ (D *ℤ number p i n) = ap (λ x. number p i n *ℤ x) w.side ∙ simp ring in omega (arith, linear));
             };
-            nonnegative = λ j jn out. end_feasible m n (number p) (Rattle.gs_rows.specs.Program.aim_of p) (IsFree p) (col_of p o full) R a D v (state_of p o full R a rows_o sides) w j jn out;
+            nonnegative = λ j jn out. end_feasible m n (number p) (Rattle.gs_rows.specs.Program.aim_of p) (IsFree p) (col_of p o full) R a D v
+                (state_of p o full R a rows_o sides) w j jn out;
           },
           λ j jn out. w.outside j jn (λ i im e. out (from_cols p o full j (i, im, e))),
         );

@@ -23,12 +23,14 @@ pub record IsLast (p : Program) (l : Listing) (R : ℕ → ℕ → ℤ) (a : ℕ
   pub feasible : RowsFeasible p l R
   pub none : NoneEnters p l a
 
-last_of : (p : Program) (o : Listing) (limit n : ℕ) (l : Listing) (R : ℕ → ℕ → ℤ) (a : ℕ → ℤ) → IsOpening p o → PathStops p o limit (ends n l) → IsRowsOf p l R a → IsLast p l R a
+last_of : (p : Program) (o : Listing) (limit n : ℕ) (l : Listing) (R : ℕ → ℕ → ℤ) (a : ℕ → ℤ) → IsOpening p o → PathStops p o limit (ends n l)
+    → IsRowsOf p l R a → IsLast p l R a
 last_of p o limit n l R a ok u rows =
     let t = u.stops.0 in let s = u.stops.1 in let w = u.stops.2 in
     let e : t ≡ length o + n = w.2 in let el : l ≡ s.lists t = w.3 in
     let P : ℕ → Type 0 = λ x. (IsFull p (s.lists x)) × (RowsFeasible p (s.lists x) (s.rows x)) in
-    let z : (IsFull p (s.lists t)) × (RowsFeasible p (s.lists t) (s.rows t)) = subst P (sym e) (path_trail p o t s.lists s.rows s.aim s.entering s.leaving ok w.0.path n (omega arith)) in
+    let z : (IsFull p (s.lists t)) × (RowsFeasible p (s.lists t) (s.rows t)) =
+    subst P (sym e) (path_trail p o t s.lists s.rows s.aim s.entering s.leaving ok w.0.path n (omega arith)) in
     let Q : Listing → Type 0 = λ x. (IsFull p x) × (RowsFeasible p x (s.rows t)) in
     let y = subst Q (sym el) z in
     let B : Listing → Type 0 = λ x. IsRowsOf p x (s.rows t) (s.aim t) in
@@ -37,7 +39,8 @@ last_of p o limit n l R a ok u rows =
     let none : NoneEnters p l (s.aim t) = subst N (sym el) w.1 in
     record {
       full = y.0;
-      feasible = λ i j h bound. (let q : R i p.cols ≡ s.rows t i p.cols = ag.rows i p.cols (y.0.is_list.row_inside i j h) (omega arith) in let k : pos 0 ≤ℤ s.rows t i p.cols = y.1 i j h bound in omega (arith, linear));
+      feasible = λ i j h bound. (let q : R i p.cols ≡ s.rows t i p.cols = ag.rows i p.cols (y.0.is_list.row_inside i j h) (omega arith) in
+          let k : pos 0 ≤ℤ s.rows t i p.cols = y.1 i j h bound in omega (arith, linear));
       none = λ j jn out. (let q : a j ≡ s.aim t j = ag.aim j (omega arith) in let k : s.aim t j ≤ℤ pos 0 = none j jn out in omega (arith, linear));
     }
 
@@ -60,13 +63,16 @@ pub record AreValues (p : Program) (a : ℕ → ℤ) (value : List Fraction) (d 
   pub feasible : IsFeasible p d v
   pub aim : a (suc p.cols) *ℤ sum_to p.cols (λ j. aim_of p j *ℤ v j) ≡ d *ℤ a p.cols
 
-module _ (p : Program) (l : Listing) (R : ℕ → ℕ → ℤ) (a : ℕ → ℤ) (value price : List Fraction) (w : IsLast p l R a) (b : IsBestAt p l R a value price) (d : ℤ) (v : ℕ → ℤ)
-    (st : IsState p.rows p.cols (number p) (aim_of p) (IsFree p) (col_of p l w.full) R a) (basic : IsBasic p.rows p.cols (number p) (col_of p l w.full) d v) where
+module _ (p : Program) (l : Listing) (R : ℕ → ℕ → ℤ) (a : ℕ → ℤ) (value price : List Fraction) (w : IsLast p l R a) (b : IsBestAt p l R a value price) (d : ℤ)
+    (v : ℕ → ℤ)
+    (st : IsState p.rows p.cols (number p) (aim_of p) (IsFree p) (col_of p l w.full) R a)
+    (basic : IsBasic p.rows p.cols (number p) (col_of p l w.full) d v) where
   values_over : AreOver p.cols value d v
   values_over j jn x = elim (find_col p.rows (col_of p l w.full) j) [
     | inr none ↦ (let out : ColListed l j → ⊥ = λ h. (let z = in_cols p l w.full j h in none z.0 z.1 z.2) in
         let v0 : v j ≡ pos 0 = basic.outside j jn none in
-        ap (λ t. t *ℤ d) (b.unlisted j jn out x) ∙ zero_times d ∙ sym (ap (λ t. t *ℤ (slice_index_or value j x).den) v0 ∙ zero_times (slice_index_or value j x).den))
+        ap (λ t. t *ℤ d) (b.unlisted j jn out x) ∙ zero_times d ∙ sym (ap (λ t. t *ℤ (slice_index_or value j x).den) v0
+        ∙ zero_times (slice_index_or value j x).den))
     | inl c ↦ (let i = c.0 in
         let L : ℕ → Type 0 = λ k. IsListed l i k in
         let h : IsListed l i j = subst L c.2 (col_listed p l w.full i c.1) in
@@ -85,7 +91,8 @@ module _ (p : Program) (l : Listing) (R : ℕ → ℕ → ℤ) (a : ℕ → ℤ)
     aim = aim_at_basic p.rows p.cols (number p) (AllRows p.rows) (col_of p l w.full) (aim_of p) st.aim_row.0 st.aim_row.1 a v d st.aim_row.2 basic;
   }
 
-values_exist : (p : Program) (l : Listing) (R : ℕ → ℕ → ℤ) (a : ℕ → ℤ) (value price : List Fraction) → IsLast p l R a → IsBestAt p l R a value price → (d : ℤ) × (v : ℕ → ℤ) × AreValues p a value d v
+values_exist : (p : Program) (l : Listing) (R : ℕ → ℕ → ℤ) (a : ℕ → ℤ) (value price : List Fraction) → IsLast p l R a → IsBestAt p l R a value price
+    → (d : ℤ) × (v : ℕ → ℤ) × AreValues p a value d v
 values_exist p l R a value price w b =
     let st = state_of p l w.full R a b.rows_of w.feasible in
     let z = basic_exists p.rows p.cols (number p) (col_of p l w.full) R st.table in
@@ -104,7 +111,8 @@ falls p l R a w u j jn = elim (find_col p.rows (col_of p l w.full) j) [
   | inr none ↦ w.none j jn (λ h. let z = in_cols p l w.full j h in none z.0 z.1 z.2)
 ]
 
-price_at : (p : Program) (l : Listing) (R : ℕ → ℕ → ℤ) (a : ℕ → ℤ) (value price : List Fraction) → IsBestAt p l R a value price → (j : ℕ) → j < p.cols → (x : Fraction)
+price_at : (p : Program) (l : Listing) (R : ℕ → ℕ → ℤ) (a : ℕ → ℤ) (value price : List Fraction) → IsBestAt p l R a value price → (j : ℕ) → j < p.cols
+    → (x : Fraction)
     → (slice_index_or price j x).num *ℤ a (suc p.cols) ≡ neg_ℤ (a j) *ℤ (slice_index_or price j x).den
 price_at p l R a value price b j jn x =
     let q : p.cols + 1 ≡ suc p.cols = omega arith in
@@ -112,13 +120,15 @@ price_at p l R a value price b j jn x =
 
 -- ---- the laws
 pub end_is_feasible : (p : Program) (o : Listing) (limit : ℕ) (b : Best) → IsOpening p o → IsBest p o limit b
-    → ((d : ℤ) × (v : ℕ → ℤ) × (IsFeasible p d v) × AreOver p.cols b.value.items d v) × ((j : ℕ) → j < p.cols → (x : Fraction) → pos 0 <ℤ (slice_index_or b.price.items j x).den → pos 0 ≤ℤ (slice_index_or b.price.items j x).num)
+    → ((d : ℤ) × (v : ℕ → ℤ) × (IsFeasible p d v) × AreOver p.cols b.value.items d v)
+    × ((j : ℕ) → j < p.cols → (x : Fraction) → pos 0 <ℤ (slice_index_or b.price.items j x).den → pos 0 ≤ℤ (slice_index_or b.price.items j x).num)
 end_is_feasible p o limit b ok u =
     let R = u.last.0 in let a = u.last.1 in let at = u.last.2 in let l = b.basis.items in
     let w = last_of p o limit b.pivots l R a ok u.stops at.rows_of in
     let z = values_exist p l R a b.value.items b.price.items w at in (
       (z.0, z.1, z.2.feasible, z.2.over),
-      λ j jn x dp. price_nonnegative (slice_index_or b.price.items j x).num (slice_index_or b.price.items j x).den (a (suc p.cols)) (a j) at.rows_of.aim_row.2.multiple (falls p l R a w at.rows_of j jn)
+      λ j jn x dp. price_nonnegative (slice_index_or b.price.items j x).num (slice_index_or b.price.items j x).den (a (suc p.cols))
+          (a j) at.rows_of.aim_row.2.multiple (falls p l R a w at.rows_of j jn)
           (price_at p l R a b.value.items b.price.items at j jn x) dp,
     )
 
@@ -129,8 +139,10 @@ aim_over s m d x f y e g =
 
 pub prices_have_multipliers_lem : (p : Program) (o : Listing) (limit : ℕ) (b : Best) → IsOpening p o → IsBest p o limit b
     → (s : ℤ) × (y : ℕ → ℤ) × (pos 0 <ℤ s)
-    × ((j : ℕ) → j < p.cols → (x : Fraction) → (slice_index_or b.price.items j x).num *ℤ s ≡ (slice_index_or b.price.items j x).den *ℤ (sum_to p.rows (λ i. y i *ℤ number p i j) -ℤ s *ℤ aim_of p j))
-    × ((d : ℤ) × (v : ℕ → ℤ) × (IsFeasible p d v) × (AreOver p.cols b.value.items d v) × (s *ℤ sum_to p.cols (λ j. aim_of p j *ℤ v j) ≡ d *ℤ sum_to p.rows (λ i. y i *ℤ number p i p.cols)))
+    × ((j : ℕ) → j < p.cols → (x : Fraction) → (slice_index_or b.price.items j x).num *ℤ s
+    ≡ (slice_index_or b.price.items j x).den *ℤ (sum_to p.rows (λ i. y i *ℤ number p i j) -ℤ s *ℤ aim_of p j))
+    × ((d : ℤ) × (v : ℕ → ℤ) × (IsFeasible p d v) × (AreOver p.cols b.value.items d v)
+    × (s *ℤ sum_to p.cols (λ j. aim_of p j *ℤ v j) ≡ d *ℤ sum_to p.rows (λ i. y i *ℤ number p i p.cols)))
 prices_have_multipliers_lem p o limit b ok u =
     let R = u.last.0 in let a = u.last.1 in let at = u.last.2 in let l = b.basis.items in
     let w = last_of p o limit b.pivots l R a ok u.stops at.rows_of in
@@ -140,7 +152,8 @@ prices_have_multipliers_lem p o limit b ok u =
       s *ℤ m,
       y,
       times_pos s m ar.2.positive ar.2.multiple,
-      λ j jn x. price_from_multipliers p.rows p.cols (number p) (RowListed l) (ColListed l) (aim_of p) s y a (slice_index_or b.price.items j x).num (slice_index_or b.price.items j x).den j ar.2 jn
+      λ j jn x. price_from_multipliers p.rows p.cols (number p) (RowListed l) (ColListed l) (aim_of p) s y a (slice_index_or b.price.items j x).num
+          (slice_index_or b.price.items j x).den j ar.2 jn
           (price_at p l R a b.value.items b.price.items at j jn x),
       (
         z.0,
@@ -159,7 +172,8 @@ aim_has_no_bound_lem p o limit column ok u n =
     let e = w.1.0 in let en = w.1.2 in let leaves = w.1.3 in
     let P : ℕ → Type 0 = λ x. (IsFull p (s.lists x)) × (RowsFeasible p (s.lists x) (s.rows x)) in
     let q : length o + (t - length o) ≡ t = omega (arith, w.0.whole) in
-    let z : (IsFull p l) × (RowsFeasible p l R) = subst P q (path_trail p o t s.lists s.rows s.aim s.entering s.leaving ok path (t - length o) (omega arith)) in
+    let z : (IsFull p l) × (RowsFeasible p l R) = subst P q (path_trail p o t s.lists s.rows s.aim s.entering s.leaving ok path (t - length o) (omega arith))
+    in
     let f = z.0 in
     let st = state_of p l f R a (path.rows t (omega arith)) z.1 in
     let un : IsUnboundedAt p.rows p.cols (IsFree p) (col_of p l f) R a e = record {

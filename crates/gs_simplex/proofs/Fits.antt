@@ -30,13 +30,16 @@ product_kept a b r s h k e f =
 pub difference_small : (x y : ℤ) → unsigned_abs x ≤ 2 ^ 124 → unsigned_abs y ≤ 2 ^ 124 → unsigned_abs (x -ℤ y) ≤ 2 ^ 125
 difference_small x y h k = omega (arith, ints)
 
-pub mixed_small : (a x f y : ℤ) → unsigned_abs a < 2 ^ 62 → unsigned_abs x < 2 ^ 62 → unsigned_abs f < 2 ^ 62 → unsigned_abs y < 2 ^ 62 → unsigned_abs (a *ℤ x -ℤ f *ℤ y) ≤ 2 ^ 125
+pub mixed_small : (a x f y : ℤ) → unsigned_abs a < 2 ^ 62 → unsigned_abs x < 2 ^ 62 → unsigned_abs f < 2 ^ 62 → unsigned_abs y < 2 ^ 62
+    → unsigned_abs (a *ℤ x -ℤ f *ℤ y) ≤ 2 ^ 125
 mixed_small a x f y h k l m = difference_small (a *ℤ x) (f *ℤ y) (product_small a x h k) (product_small f y l m)
 
-pub mixed_fits : (a x f y : ℤ) → unsigned_abs a < 2 ^ 62 → unsigned_abs x < 2 ^ 62 → unsigned_abs f < 2 ^ 62 → unsigned_abs y < 2 ^ 62 → FitsSigned w128 (a *ℤ x -ℤ f *ℤ y)
+pub mixed_fits : (a x f y : ℤ) → unsigned_abs a < 2 ^ 62 → unsigned_abs x < 2 ^ 62 → unsigned_abs f < 2 ^ 62 → unsigned_abs y < 2 ^ 62
+    → FitsSigned w128 (a *ℤ x -ℤ f *ℤ y)
 mixed_fits a x f y h k l m = fits_signed_from_abs w128 (a *ℤ x -ℤ f *ℤ y) (omega (arith, mixed_small a x f y h k l m))
 
-pub mixed_kept : (a x f y : ℤ) → unsigned_abs a < 2 ^ 62 → unsigned_abs x < 2 ^ 62 → unsigned_abs f < 2 ^ 62 → unsigned_abs y < 2 ^ 62 → to_z w128 (of_z w128 (a *ℤ x -ℤ f *ℤ y)) ≡ a *ℤ x -ℤ f *ℤ y
+pub mixed_kept : (a x f y : ℤ) → unsigned_abs a < 2 ^ 62 → unsigned_abs x < 2 ^ 62 → unsigned_abs f < 2 ^ 62 → unsigned_abs y < 2 ^ 62
+    → to_z w128 (of_z w128 (a *ℤ x -ℤ f *ℤ y)) ≡ a *ℤ x -ℤ f *ℤ y
 mixed_kept a x f y h k l m = kept_128 (a *ℤ x -ℤ f *ℤ y) (omega (arith, mixed_small a x f y h k l m))
 
 negative_times : (k n q : ℕ) → k * q ≡ suc n → negsuc n ≡ pos k *ℤ neg_ℤ (pos q)
@@ -52,14 +55,16 @@ quotient_small : (k : ℕ) (z : ℤ) → unsigned_abs (quot_z z (pos k)) ≤ uns
 quotient_small k (pos n) = omega arith
 quotient_small k (negsuc n) = let e : unsigned_abs (neg_ℤ (pos (suc n / k))) ≡ suc n / k = omega (arith, ints) in omega arith
 
-pub quotient_kept : (k : ℕ) (z : ℤ) → k ∣ unsigned_abs z → unsigned_abs z ≤ 2 ^ 125 → k ≤ 2 ^ 125 → z ≡ pos k *ℤ to_z w128 (of_z w128 (quot_z (to_z w128 (of_z w128 z)) (to_z w128 k)))
+pub quotient_kept : (k : ℕ) (z : ℤ) → k ∣ unsigned_abs z → unsigned_abs z ≤ 2 ^ 125 → k ≤ 2 ^ 125
+    → z ≡ pos k *ℤ to_z w128 (of_z w128 (quot_z (to_z w128 (of_z w128 z)) (to_z w128 k)))
 quotient_kept k z d h l =
     let e : to_z w128 (of_z w128 z) ≡ z = kept_128 z (omega (arith, h)) in
     let f : to_z w128 k ≡ pos k = to_z_pos w128 k (omega (arith, l)) in
     let g : to_z w128 (of_z w128 (quot_z z (pos k))) ≡ quot_z z (pos k) = kept_128 (quot_z z (pos k)) (omega (arith, h, quotient_small k z)) in
     rw (e, f, g) (quotient_times k z d)
 
-pub quotient_within : (k : ℕ) (z : ℤ) → unsigned_abs z ≤ 2 ^ 125 → k ≤ 2 ^ 125 → unsigned_abs (to_z w128 (of_z w128 (quot_z (to_z w128 (of_z w128 z)) (to_z w128 k)))) ≤ 2 ^ 125
+pub quotient_within : (k : ℕ) (z : ℤ) → unsigned_abs z ≤ 2 ^ 125 → k ≤ 2 ^ 125
+    → unsigned_abs (to_z w128 (of_z w128 (quot_z (to_z w128 (of_z w128 z)) (to_z w128 k)))) ≤ 2 ^ 125
 quotient_within k z h l =
     let e : to_z w128 (of_z w128 z) ≡ z = kept_128 z (omega (arith, h)) in
     let f : to_z w128 k ≡ pos k = to_z_pos w128 k (omega (arith, l)) in
@@ -77,7 +82,8 @@ pub lt_false : (a b : ℤ) → lt_z a b ≡ false → b ≤ℤ a
 lt_false a b e = lt_z_no (let P : Bool → Type 0 = λ t. T (not t) in subst P (sym e) tt)
 
 -- the division of two numbers of fewer than 62 bits
-pub quotient_64 : (k : ℕ) (z a r : ℤ) (b : ℤ) → k ∣ unsigned_abs z → unsigned_abs z < 2 ^ 62 → k < 2 ^ 62 → a ≡ z → b ≡ pos k → r ≡ to_z w64 (of_z w64 (quot_z a b)) → z ≡ pos k *ℤ to_z w128 (of_z w128 r)
+pub quotient_64 : (k : ℕ) (z a r : ℤ) (b : ℤ) → k ∣ unsigned_abs z → unsigned_abs z < 2 ^ 62 → k < 2 ^ 62 → a ≡ z → b ≡ pos k
+    → r ≡ to_z w64 (of_z w64 (quot_z a b)) → z ≡ pos k *ℤ to_z w128 (of_z w128 r)
 quotient_64 k z a r b d h l ea eb e =
     let q : unsigned_abs (quot_z z (pos k)) ≤ unsigned_abs z = quotient_small k z in
     let f : r ≡ to_z w64 (of_z w64 (quot_z z (pos k))) = e ∙ ap (λ t. to_z w64 (of_z w64 (quot_z t b))) ea ∙ ap (λ t. to_z w64 (of_z w64 (quot_z z t))) eb in
@@ -85,7 +91,8 @@ quotient_64 k z a r b d h l ea eb e =
     quotient_times k z d ∙ ap (λ t. pos k *ℤ t) (sym s)
 
 -- ---- narrow numbers in place
-pub narrow_quotient_kept : (k : ℕ) (z : ℤ) → k ∣ unsigned_abs z → unsigned_abs z < 2 ^ 62 → k < 2 ^ 62 → z ≡ pos k *ℤ to_z w64 (of_z w64 (quot_z (to_z w64 (of_z w64 z)) (to_z w64 k)))
+pub narrow_quotient_kept : (k : ℕ) (z : ℤ) → k ∣ unsigned_abs z → unsigned_abs z < 2 ^ 62 → k < 2 ^ 62
+    → z ≡ pos k *ℤ to_z w64 (of_z w64 (quot_z (to_z w64 (of_z w64 z)) (to_z w64 k)))
 narrow_quotient_kept k z d h l =
     let e : to_z w64 (of_z w64 z) ≡ z = kept_64 z h in
     let f : to_z w64 k ≡ pos k = to_z_pos w64 k (omega (arith, l)) in
@@ -108,4 +115,5 @@ narrow_difference a x f y h = omega (arith, h, abs_difference (a *ℤ x) (f *ℤ
 pub negated : (a r : ℤ) → unsigned_abs a < 2 ^ 62 → r ≡ to_z w64 (of_z w64 a) → to_z w128 (of_z w128 (pos 0 -ℤ to_z w128 (of_z w128 r))) ≡ neg_ℤ a
 negated a r h e =
     let q : unsigned_abs (pos 0 -ℤ a) ≡ unsigned_abs a = omega (arith, ints) in
-    ap (λ t. to_z w128 (of_z w128 (pos 0 -ℤ t))) (widened a r h e) ∙ kept_128 (pos 0 -ℤ a) (omega (arith, h)) ∙ (let s : pos 0 -ℤ a ≡ neg_ℤ a = omega (arith, ints) in s)
+    ap (λ t. to_z w128 (of_z w128 (pos 0 -ℤ t))) (widened a r h e) ∙ kept_128 (pos 0 -ℤ a) (omega (arith, h))
+    ∙ (let s : pos 0 -ℤ a ≡ neg_ℤ a = omega (arith, ints) in s)

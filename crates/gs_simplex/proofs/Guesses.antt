@@ -10,7 +10,8 @@ product_size : (z d q : ℤ) → z ≡ d *ℤ q → unsigned_abs z ≡ unsigned_
 product_size z d q e = ap unsigned_abs e ∙ unsigned_abs-mul d q
 
 pub quotient_divides : (z d q : ℤ) → z ≡ d *ℤ q → unsigned_abs d ∣ unsigned_abs z
-quotient_divides z d q e = let P : ℕ → Type 0 = λ t. unsigned_abs d ∣ t in subst P (sym (product_size z d q e)) (dvd-mul_right (unsigned_abs d) (unsigned_abs q))
+quotient_divides z d q e = let P : ℕ → Type 0 = λ t. unsigned_abs d ∣ t in
+    subst P (sym (product_size z d q e)) (dvd-mul_right (unsigned_abs d) (unsigned_abs q))
 
 -- a quotient of a narrow number is narrow
 pub quotient_narrow : (by : ℕ) (z d q : ℤ) → d ≡ pos by → 0 < by → unsigned_abs z < 2 ^ 62 → z ≡ d *ℤ q → unsigned_abs q < 2 ^ 62

@@ -17,14 +17,16 @@ pub place_or_none : (places : List ℕ) (found j : ℕ) → ((k : ℕ) × (k < f
 place_or_none places found j = elim (find_col found (λ k. slice_index places k) j) [ inl f ↦ inl (f.0, f.1, f.2) | inr none ↦ inr none ]
 
 -- what holds at the places and of 0 elsewhere holds everywhere
-pub everywhere : (Q : ℕ → ℤ → Type 0) (places : List ℕ) (found width : ℕ) (row lead : ℕ → ℤ) → IsSupport places found width row lead → ((k : ℕ) → k < found → Q (slice_index places k) (row (slice_index places k))) → ((j : ℕ) → Q j (pos 0)) → (j : ℕ) → j < width → Q j (row j)
+pub everywhere : (Q : ℕ → ℤ → Type 0) (places : List ℕ) (found width : ℕ) (row lead : ℕ → ℤ) → IsSupport places found width row lead
+    → ((k : ℕ) → k < found → Q (slice_index places k) (row (slice_index places k))) → ((j : ℕ) → Q j (pos 0)) → (j : ℕ) → j < width → Q j (row j)
 everywhere Q places found width row lead u here zero j h = elim (place_or_none places found j) [
   | inl f ↦ (let P : ℕ → Type 0 = λ t. Q t (row t) in subst P f.2 (here f.0 f.1))
   | inr none ↦ (let P : ℤ → Type 0 = λ t. Q j t in subst P (sym (u.outside j h none).0) (zero j))
 ]
 
 -- the same support of rows that agree, and of the row alone
-pub support_same : (places : List ℕ) (found width : ℕ) (row row' lead lead' : ℕ → ℤ) → ((j : ℕ) → j < width → row j ≡ row' j) → ((j : ℕ) → j < width → lead j ≡ lead' j) → IsSupport places found width row lead → IsSupport places found width row' lead'
+pub support_same : (places : List ℕ) (found width : ℕ) (row row' lead lead' : ℕ → ℤ) → ((j : ℕ) → j < width → row j ≡ row' j)
+    → ((j : ℕ) → j < width → lead j ≡ lead' j) → IsSupport places found width row lead → IsSupport places found width row' lead'
 support_same places found width row row' lead lead' er el u = record {
   few = u.few;
   inside = u.inside;
@@ -33,14 +35,21 @@ support_same places found width row row' lead lead' er el u = record {
 }
 
 pub support_alone : (places : List ℕ) (found width : ℕ) (row lead : ℕ → ℤ) → IsSupport places found width row lead → IsSupport places found width row row
-support_alone places found width row lead u = record { few = u.few; inside = u.inside; differ = u.differ; outside = λ j h none. ((u.outside j h none).0, (u.outside j h none).0) }
+support_alone places found width row lead u = record {
+  few = u.few;
+  inside = u.inside;
+  differ = u.differ;
+  outside = λ j h none. ((u.outside j h none).0, (u.outside j h none).0);
+}
 
 both_zero : (own far x y : ℤ) → x ≡ pos 0 → y ≡ pos 0 → own *ℤ x -ℤ far *ℤ y ≡ pos 0
 both_zero own far x y e f =
-    let a : own *ℤ x ≡ pos 0 = ap (λ t. own *ℤ t) e ∙ times_zero own in let b : far *ℤ y ≡ pos 0 = ap (λ t. far *ℤ t) f ∙ times_zero far in omega (arith, linear)
+    let a : own *ℤ x ≡ pos 0 = ap (λ t. own *ℤ t) e ∙ times_zero own in let b : far *ℤ y ≡ pos 0 = ap (λ t. far *ℤ t) f ∙ times_zero far in
+    omega (arith, linear)
 
 -- the products of a row and a lead are 0 where both are
-pub support_mixed : (places : List ℕ) (found width : ℕ) (row lead mid : ℕ → ℤ) (own far : ℤ) → IsSupport places found width row lead → ((j : ℕ) → j < width → mid j ≡ own *ℤ row j -ℤ far *ℤ lead j) → IsSupport places found width mid mid
+pub support_mixed : (places : List ℕ) (found width : ℕ) (row lead mid : ℕ → ℤ) (own far : ℤ) → IsSupport places found width row lead
+    → ((j : ℕ) → j < width → mid j ≡ own *ℤ row j -ℤ far *ℤ lead j) → IsSupport places found width mid mid
 support_mixed places found width row lead mid own far u is = record {
   few = u.few;
   inside = u.inside;
@@ -49,7 +58,8 @@ support_mixed places found width row lead mid own far u is = record {
 }
 
 -- own times a row less far times a lead changes nothing where both are 0, and where own is 1 and the lead is 0
-pub change_of_row : (places : List ℕ) (found width : ℕ) (row lead : ℕ → ℤ) (own far : ℤ) → IsSupport places found width row lead → IsChange places found width row lead own far
+pub change_of_row : (places : List ℕ) (found width : ℕ) (row lead : ℕ → ℤ) (own far : ℤ) → IsSupport places found width row lead
+    → IsChange places found width row lead own far
 change_of_row places found width row lead own far u = record {
   few = u.few;
   inside = u.inside;
@@ -61,7 +71,8 @@ one_less_none : (own far x y : ℤ) → own ≡ pos 1 → y ≡ pos 0 → own *�
 one_less_none own far x y e f =
     let a : own *ℤ x ≡ x = ap (λ t. t *ℤ x) e ∙ one_times x in let b : far *ℤ y ≡ pos 0 = ap (λ t. far *ℤ t) f ∙ times_zero far in omega (arith, linear)
 
-pub change_of_lead : (places : List ℕ) (found width : ℕ) (row lead : ℕ → ℤ) (own far : ℤ) → own ≡ pos 1 → IsSupport places found width lead lead → IsChange places found width row lead own far
+pub change_of_lead : (places : List ℕ) (found width : ℕ) (row lead : ℕ → ℤ) (own far : ℤ) → own ≡ pos 1 → IsSupport places found width lead lead
+    → IsChange places found width row lead own far
 change_of_lead places found width row lead own far e u = record {
   few = u.few;
   inside = u.inside;
@@ -69,13 +80,16 @@ change_of_lead places found width row lead own far e u = record {
   outside = λ j h none. one_less_none own far (row j) (lead j) e (u.outside j h none).1;
 }
 
-pub change_touched : (places filled touched : List ℕ) (found count n width : ℕ) (row lead : ℕ → ℤ) (own far : ℤ) → IsTouched own places found filled count touched n → IsSupport places found width row lead → IsSupport filled count width lead lead
+pub change_touched : (places filled touched : List ℕ) (found count n width : ℕ) (row lead : ℕ → ℤ) (own far : ℤ)
+    → IsTouched own places found filled count touched n → IsSupport places found width row lead → IsSupport filled count width lead lead
     → IsChange touched n width row lead own far
 change_touched places filled touched found count n width row lead own far t u v =
     let P : List ℕ → Type 0 = λ x. IsChange x n width row lead own far in
     elim t [
-      | inl w ↦ (let Q : ℕ → Type 0 = λ x. IsChange filled x width row lead own far in subst P (sym w.1) (subst Q (sym w.2) (change_of_lead filled count width row lead own far w.0 v)))
-      | inr w ↦ (let Q : ℕ → Type 0 = λ x. IsChange places x width row lead own far in subst P (sym w.0) (subst Q (sym w.1) (change_of_row places found width row lead own far u)))
+      | inl w ↦ (let Q : ℕ → Type 0 = λ x. IsChange filled x width row lead own far in
+          subst P (sym w.1) (subst Q (sym w.2) (change_of_lead filled count width row lead own far w.0 v)))
+      | inr w ↦ (let Q : ℕ → Type 0 = λ x. IsChange places x width row lead own far in
+          subst P (sym w.0) (subst Q (sym w.1) (change_of_row places found width row lead own far u)))
     ]
 
 -- the first `found` places are different columns
@@ -86,7 +100,8 @@ pub record AreColumns (places : List ℕ) (found width : ℕ) : Type 0 where
 pub columns_of : (places : List ℕ) (found width : ℕ) (row lead : ℕ → ℤ) → IsSupport places found width row lead → AreColumns places found width
 columns_of places found width row lead u = record { inside = u.inside; differ = u.differ }
 
-pub columns_changed : (places : List ℕ) (found width : ℕ) (row lead : ℕ → ℤ) (own far : ℤ) → IsChange places found width row lead own far → AreColumns places found width
+pub columns_changed : (places : List ℕ) (found width : ℕ) (row lead : ℕ → ℤ) (own far : ℤ) → IsChange places found width row lead own far
+    → AreColumns places found width
 columns_changed places found width row lead own far u = record { inside = u.inside; differ = u.differ }
 
 -- ---- one place after the other is written
@@ -99,7 +114,8 @@ module _ (places : List ℕ) (found k width : ℕ) (old now : List ℤ) (z : ℤ
   written = get_or-set_same now (slice_index places k) z (pos 0) inside_now
 
   pub unwritten : (h : ℕ) → h < k → at (slice_set now (slice_index places k) z) (slice_index places h) ≡ at now (slice_index places h)
-  unwritten h hk = get_or-set_other now (slice_index places k) (slice_index places h) z (pos 0) (λ e. let q : h ≡ k = u.differ h k (omega arith) kf e in omega arith)
+  unwritten h hk = get_or-set_other now (slice_index places k) (slice_index places h) z (pos 0) (λ e. let q : h ≡ k = u.differ h k (omega arith) kf e in
+      omega arith)
 
   pub still_old : at now (slice_index places k) ≡ at old (slice_index places k)
   still_old = left (slice_index places k) (λ h hk e. let q : h ≡ k = u.differ h k (omega arith) kf e in omega arith)
@@ -114,11 +130,13 @@ module _ (places : List ℕ) (found k width : ℕ) (old now : List ℤ) (z : ℤ
     | inl less ↦ (let P : ℤ → Type 0 = λ t. Q (slice_index places h) t in subst P (sym (unwritten h less)) (done h less))
     | inr more ↦
         (let e : k ≡ h = omega arith in let P : ℤ → Type 0 = λ t. Q (slice_index places k) t in
-        let R : ℕ → Type 0 = λ t. Q (slice_index places t) (at (slice_set now (slice_index places k) z) (slice_index places t)) in subst R e (subst P (sym written) here))
+        let R : ℕ → Type 0 = λ t. Q (slice_index places t) (at (slice_set now (slice_index places k) z) (slice_index places t)) in
+        subst R e (subst P (sym written) here))
   ]
 
 -- all places written
-pub all_written : (Q : ℕ → ℤ → Type 0) (places : List ℕ) (found width : ℕ) (now : List ℤ) → ((k : ℕ) → k < found → Q (slice_index places k) (at now (slice_index places k)))
+pub all_written : (Q : ℕ → ℤ → Type 0) (places : List ℕ) (found width : ℕ) (now : List ℤ)
+    → ((k : ℕ) → k < found → Q (slice_index places k) (at now (slice_index places k)))
     → ((j : ℕ) → j < width → ((h : ℕ) → h < found → slice_index places h ≢ j) → Q j (at now j)) → (j : ℕ) → j < width → Q j (at now j)
 all_written Q places found width now here none j h = elim (place_or_none places found j) [
   | inl f ↦ (let P : ℕ → Type 0 = λ t. Q t (at now t) in subst P f.2 (here f.0 f.1))
@@ -135,7 +153,8 @@ own_first places own h = get_or-set_same places 0 own 0 h
 others_stay : (places : List ℕ) (own k : ℕ) → 0 < k → slice_index (slice_set places 0 own) k ≡ slice_index places k
 others_stay places own k h = get_or-set_other places 0 k own 0 (λ e. omega arith)
 
-module _ (places now owns : List ℕ) (found count r width i : ℕ) (rows : ℕ → ℕ → ℤ) (lead : ℕ → ℤ) (u : IsLive places owns found count r width rows lead) (im : i < count) (ne : i ≢ r)
+module _ (places now owns : List ℕ) (found count r width i : ℕ) (rows : ℕ → ℕ → ℤ) (lead : ℕ
+    → ℤ) (u : IsLive places owns found count r width rows lead) (im : i < count) (ne : i ≢ r)
     (long : length now ≡ length places) (stays : (k : ℕ) → 0 < k → slice_index now k ≡ slice_index places k) where
   abbrev set_own : List ℕ
   set_own = slice_set now 0 (slice_index owns i)
@@ -148,7 +167,8 @@ module _ (places now owns : List ℕ) (found count r width i : ℕ) (rows : ℕ 
 
   set_inside : (k : ℕ) → k < found → slice_index set_own k < width
   set_inside k h = elim (cases_eq k 0) [
-    | inl e ↦ (let P : ℕ → Type 0 = λ t. slice_index set_own t < width in let Q : ℕ → Type 0 = λ t. t < width in subst P (sym e) (subst Q (sym first_is) (u.own_inside i im)))
+    | inl e ↦ (let P : ℕ → Type 0 = λ t. slice_index set_own t < width in let Q : ℕ → Type 0 = λ t. t < width in
+        subst P (sym e) (subst Q (sym first_is) (u.own_inside i im)))
     | inr n ↦ (let Q : ℕ → Type 0 = λ t. t < width in subst Q (sym (later_is k (omega arith))) (u.inside k (omega arith) h))
   ]
 
@@ -179,14 +199,16 @@ module _ (places now owns : List ℕ) (found count r width i : ℕ) (rows : ℕ 
   }
 
 -- ---- what is found of a list is so of its rows
-module _ (p : Program) (l : Listing) (r c found : ℕ) (places owns : List ℕ) (items mid : List ℤ) (lead : ℕ → ℤ) (pairs : IsPairList p l) (table : IsTable p items) (rows : IsRowsOf p l (table_rows p items) (table_aim p items)) (rm : r < p.rows)
+module _ (p : Program) (l : Listing) (r c found : ℕ) (places owns : List ℕ) (items mid : List ℤ) (lead : ℕ
+    → ℤ) (pairs : IsPairList p l) (table : IsTable p items) (rows : IsRowsOf p l (table_rows p items) (table_aim p items)) (rm : r < p.rows)
     (f : IsFound p l r places owns found)
     (kept : (i : ℕ) → i ≢ r → (j : ℕ) → j < p.cols + 2 → cell mid (p.cols + 2) i j ≡ cell items (p.cols + 2) i j)
     (turned : IsTurned (cell items (p.cols + 2) r) lead c (p.cols + 2)) where
   -- the row of a row that the column is not listed with has 0 there
   zero_at : (i h j : ℕ) → i < p.rows → IsListed l h j → h ≢ i → cell items (p.cols + 2) i j ≡ pos 0
   zero_at i h j im at_h ne = elim (row_decided p l pairs i) [
-    | inl w ↦ (rows.listed i w.0 w.1).2.zeros j (h, at_h) (λ e. ne ((pair_list_is_list p l pairs).one_row h i j at_h (let P : ℕ → Type 0 = λ t. IsListed l i t in subst P (sym e) w.1)))
+    | inl w ↦ (rows.listed i w.0 w.1).2.zeros j (h, at_h) (λ e. ne ((pair_list_is_list p l pairs).one_row h i j at_h (let P : ℕ → Type 0 =
+        λ t. IsListed l i t in subst P (sym e) w.1)))
     | inr none ↦ (rows.unlisted i im none).2.zeros j (h, at_h)
   ]
 
@@ -197,21 +219,25 @@ module _ (p : Program) (l : Listing) (r c found : ℕ) (places owns : List ℕ) 
 
   own_at : (i : ℕ) → i < p.rows + 1 → slice_index owns i < p.cols + 2
   own_at i h = elim (row_decided p l pairs i) [
-    | inl w ↦ (let e : slice_index owns i ≡ w.0 = f.own i w.0 w.1 in let m : w.0 < p.cols = (pair_list_is_list p l pairs).column_inside i w.0 w.1 in omega arith)
+    | inl w ↦ (let e : slice_index owns i ≡ w.0 = f.own i w.0 w.1 in let m : w.0 < p.cols = (pair_list_is_list p l pairs).column_inside i w.0 w.1 in
+        omega arith)
     | inr none ↦ (let e : slice_index owns i ≡ p.cols + 1 = f.spare i (omega arith) none in omega arith)
   ]
 
   own_apart : (i k : ℕ) → i < p.rows + 1 → i ≢ r → 0 < k → k < found → slice_index places k ≢ slice_index owns i
   own_apart i k h ne k0 kf e = elim (row_decided p l pairs i) [
-    | inl w ↦ (let s : w.0 ≡ slice_index places k = sym (f.own i w.0 w.1) ∙ sym e in let P : ℕ → Type 0 = λ t. IsListed l i t in ne (f.live i k k0 kf (subst P s w.1)))
-    | inr none ↦ (let s : slice_index owns i ≡ p.cols + 1 = f.spare i (omega arith) none in let b : slice_index places k ≤ p.cols = f.below k k0 kf in absurd (omega arith))
+    | inl w ↦ (let s : w.0 ≡ slice_index places k = sym (f.own i w.0 w.1) ∙ sym e in let P : ℕ → Type 0 = λ t. IsListed l i t in
+        ne (f.live i k k0 kf (subst P s w.1)))
+    | inr none ↦ (let s : slice_index owns i ≡ p.cols + 1 = f.spare i (omega arith) none in let b : slice_index places k ≤ p.cols = f.below k k0 kf in
+        absurd (omega arith))
   ]
 
   row_zero : (i j : ℕ) → i < p.rows + 1 → j < p.cols + 2 → slice_index owns i ≢ j → IsOutside places found j → cell items (p.cols + 2) i j ≡ pos 0
   row_zero i j im jm apart out = elim (cases_eq j (p.cols + 1)) [
     | inl e ↦ elim (cases_lt i p.rows) [
       | inl il ↦ (let P : ℕ → Type 0 = λ t. cell items (p.cols + 2) i t ≡ pos 0 in subst P (sym e) (table.zero i il))
-      | inr ig ↦ absurd (apart (f.spare i (omega arith) (λ w. let q : i < p.rows = (pair_list_is_list p l pairs).row_inside i w.0 w.1 in omega arith) ∙ sym e))
+      | inr ig ↦ absurd (apart (f.spare i (omega arith) (λ w. let q : i < p.rows = (pair_list_is_list p l pairs).row_inside i w.0 w.1 in omega arith)
+          ∙ sym e))
     ]
     | inr n ↦
         (let w = f.all j (omega arith) out in
@@ -236,7 +262,11 @@ module _ (p : Program) (l : Listing) (r c found : ℕ) (places owns : List ℕ) 
     own_inside = own_at;
     differ = λ k h k0 kf h0 hf e. elim (cases_order k h) [
       | inl s ↦ s
-      | inr x ↦ elim x [ inl less ↦ (let q = f.rises k h k0 less hf in absurd (omega arith)) | inr more ↦ (let q = f.rises h k h0 more kf in absurd (omega arith)) ]
+      | inr x ↦ elim x [
+        | inl less ↦ (let q = f.rises k h k0 less hf in absurd (omega arith))
+        | inr more ↦ (let q = f.rises h k h0 more kf in
+            absurd (omega arith))
+      ]
     ];
     apart = own_apart;
     outside = λ i j im ne jm apart out. kept i ne j jm ∙ row_zero i j im jm apart out;
@@ -247,7 +277,8 @@ module _ (p : Program) (l : Listing) (r c found : ℕ) (places owns : List ℕ) 
   }
 
 -- ---- what is found of the marks is so of the list
-module _ (p : Program) (l : Listing) (r found : ℕ) (rows places : List ℕ) (pairs : IsPairList p l) (listed : (i j : ℕ) → IsListed l i j → slice_index rows j ≡ i + 1)
+module _ (p : Program) (l : Listing) (r found : ℕ) (rows places : List ℕ) (pairs : IsPairList p l) (listed : (i j : ℕ) → IsListed l i j
+    → slice_index rows j ≡ i + 1)
     (unlisted : (j : ℕ) → j < p.cols → ((i : ℕ) × IsListed l i j → ⊥) → slice_index rows j ≡ 0) (u : ArePlaces p.cols rows r places found) where
   pub live_row : (i k : ℕ) → 0 < k → k < found → IsListed l i (slice_index places k) → i ≡ r
   live_row i k k0 kf h =

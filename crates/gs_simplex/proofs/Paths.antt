@@ -28,14 +28,16 @@ pub narrow_of : (p : Program) (xs : List ℤ) → IsTable p xs → AllNarrow p (
 narrow_of p xs u = (
   λ i j im jn. u.narrow (i * (p.cols + 2) + j) (omega (arith, u.long, row_inside (p.rows + 1) (p.cols + 2) i j (omega arith) (omega arith))),
   λ j jn.
-      (let h : IsNarrow (cell xs (p.cols + 2) p.rows j) = u.narrow (p.rows * (p.cols + 2) + j) (omega (arith, u.long, row_inside (p.rows + 1) (p.cols + 2) p.rows j (omega arith) (omega arith))) in
+      (let h : IsNarrow (cell xs (p.cols + 2) p.rows j) = u.narrow (p.rows * (p.cols + 2) + j)
+      (omega (arith, u.long, row_inside (p.rows + 1) (p.cols + 2) p.rows j (omega arith) (omega arith))) in
       omega (arith, h, flipped_abs p.cols (cell xs (p.cols + 2) p.rows) j)),
 )
 
 pub rows_of_so_far : (p : Program) (o : Listing) (t : ℕ) (l : Listing) (xs : List ℤ) → IsSoFar p o t l xs → IsRowsOf p l (table_rows p xs) (table_aim p xs)
 rows_of_so_far p o t l xs u =
     let s = u.states.0 in
-    let P : Listing → Type 0 = λ x. IsRowsOf p x (s.rows t) (s.aim t) in let Q : (ℕ → ℕ → ℤ) → Type 0 = λ x. IsRowsOf p l x (s.aim t) in let R : (ℕ → ℤ) → Type 0 = λ x. IsRowsOf p l (table_rows p xs) x in
+    let P : Listing → Type 0 = λ x. IsRowsOf p x (s.rows t) (s.aim t) in let Q : (ℕ → ℕ → ℤ) → Type 0 = λ x. IsRowsOf p l x (s.aim t) in let R : (ℕ → ℤ)
+    → Type 0 = λ x. IsRowsOf p l (table_rows p xs) x in
     subst R u.states.4 (subst Q u.states.3 (subst P u.states.2 (u.states.1.rows t (omega arith))))
 
 pub primitive_of : (p : Program) (l : Listing) (xs : List ℤ) → IsRowsOf p l (table_rows p xs) (table_aim p xs) → IsPrimitiveTable p xs
@@ -66,13 +68,15 @@ pub record IsNext (p : Program) (o : Listing) (t : ℕ) (next : Listing) (Q : �
 taken_next : (o : Listing) (t : ℕ) (r c : ℕ) → t < length o → slice_index_or o t (0, 0) ≡ (r + 1, c + 1) → take (suc t) o ≡ take t o ++ ((r + 1, c + 1) ∷ [])
 taken_next o t r c h at = ap (λ x. take x o) (let q : suc t ≡ t + 1 = omega arith in q) ∙ take_more o t (0, 0) h ∙ ap (λ x. take t o ++ (x ∷ [])) at
 
-pub next_opens : (p : Program) (o : Listing) (t : ℕ) (xs : List ℤ) (r c : ℕ) (Q : ℕ → ℕ → ℤ) (b : ℕ → ℤ) → IsTakenInTurn p o → t < length o → slice_index_or o t (0, 0) ≡ (r + 1, c + 1) → CanTake p (take t o) r c → IsTable p xs
+pub next_opens : (p : Program) (o : Listing) (t : ℕ) (xs : List ℤ) (r c : ℕ) (Q : ℕ → ℕ → ℤ) (b : ℕ → ℤ) → IsTakenInTurn p o → t < length o
+    → slice_index_or o t (0, 0) ≡ (r + 1, c + 1) → CanTake p (take t o) r c → IsTable p xs
     → IsSoFar p o t (take t o) xs → IsEliminated p (table_rows p xs) (table_aim p xs) r c Q b → IsNext p o t (take (suc t) o) Q b
 next_opens p o t xs r c Q b taken h at can table u el =
     let w = opened p o taken t (omega arith) in
     let rows = rows_of_so_far p o t (take t o) xs u in
     let P : Listing → Type 0 = λ x. IsRowsOf p x Q b in
-    let new : IsRowsOf p (take (suc t) o) Q b = subst P (sym (taken_next o t r c h at)) (take_rows p (take t o) r c (table_rows p xs) Q (table_aim p xs) b w.is_list can rows el) in
+    let new : IsRowsOf p (take (suc t) o) Q b = subst P (sym (taken_next o t r c h at))
+    (take_rows p (take t o) r c (table_rows p xs) Q (table_aim p xs) b w.is_list can rows el) in
     let s = u.states.0 in
     let R : (ℕ → ℕ → ℤ) → Type 0 = λ x. AllNarrow p x (s.aim t) in let S : (ℕ → ℤ) → Type 0 = λ x. AllNarrow p (table_rows p xs) x in
     let narrow : AllNarrow p (s.rows t) (s.aim t) = subst R (sym u.states.3) (subst S (sym u.states.4) (narrow_of p xs table)) in
@@ -86,24 +90,31 @@ next_opens p o t xs r c Q b taken h at can table u el =
       );
     }
 
-pub next_pivots : (p : Program) (o : Listing) (t : ℕ) (l : Listing) (xs : List ℤ) (q r c e : ℕ) (Q : ℕ → ℕ → ℤ) (b : ℕ → ℤ) → length o ≤ t → IsPairList p l → IsTable p xs → IsSoFar p o t l xs → Enters p l (table_aim p xs) e → q < length l
-    → slice_index_or l q (0, 0) ≡ (r + 1, c + 1) → Leaves p l (table_rows p xs) e r c → IsEliminated p (table_rows p xs) (table_aim p xs) r e Q b → IsNext p o t (slice_set l q (r + 1, e + 1)) Q b
+pub next_pivots : (p : Program) (o : Listing) (t : ℕ) (l : Listing) (xs : List ℤ) (q r c e : ℕ) (Q : ℕ → ℕ → ℤ) (b : ℕ → ℤ) → length o ≤ t → IsPairList p l
+    → IsTable p xs → IsSoFar p o t l xs → Enters p l (table_aim p xs) e → q < length l
+    → slice_index_or l q (0, 0) ≡ (r + 1, c + 1) → Leaves p l (table_rows p xs) e r c → IsEliminated p (table_rows p xs) (table_aim p xs) r e Q b
+    → IsNext p o t (slice_set l q (r + 1, e + 1)) Q b
 next_pivots p o t l xs q r c e Q b h pairs table u en ql at lv el =
     let next = slice_set l q (r + 1, e + 1) in
     let rows = rows_of_so_far p o t l xs u in
     let same : (j : ℕ) → j ≤ p.cols → Q r j ≡ table_rows p xs r j = λ j jn. elim el.self [
       | inl s ↦ s j jn
-      | inr s ↦ (let x : Q r e ≡ neg_ℤ (table_rows p xs r e) = s e (omega (arith, en.column)) in let y : pos 0 <ℤ Q r e = el.own in let z : pos 0 <ℤ table_rows p xs r e = lv.pivot in absurd (omega (arith, linear)))
+      | inr s ↦ (let x : Q r e ≡ neg_ℤ (table_rows p xs r e) = s e (omega (arith, en.column)) in let y : pos 0 <ℤ Q r e = el.own in
+          let z : pos 0 <ℤ table_rows p xs r e = lv.pivot in absurd (omega (arith, linear)))
     ] in
-    let new : IsRowsOf p next Q b = turn_rows p l q r c e ql at (pair_list_is_list p l pairs) (pair_list_is_once p l pairs) (table_rows p xs) Q (table_aim p xs) b en.column en.unlisted lv.pivot rows el same in
+    let new : IsRowsOf p next Q b = turn_rows p l q r c e ql at (pair_list_is_list p l pairs) (pair_list_is_once p l pairs) (table_rows p xs) Q
+    (table_aim p xs) b en.column en.unlisted lv.pivot rows el same in
     let s = u.states.0 in
     let R : (ℕ → ℕ → ℤ) → Type 0 = λ x. AllNarrow p x (s.aim t) in let S : (ℕ → ℤ) → Type 0 = λ x. AllNarrow p (table_rows p xs) x in
     let narrow : AllNarrow p (s.rows t) (s.aim t) = subst R (sym u.states.3) (subst S (sym u.states.4) (narrow_of p xs table)) in
-    let T1 : (ℕ → ℕ → ℤ) → Type 0 = λ x. IsPivot p l x (table_aim p xs) next e c in let T2 : (ℕ → ℤ) → Type 0 = λ x. IsPivot p l (s.rows t) x next e c in let T3 : Listing → Type 0 = λ x. IsPivot p x (s.rows t) (s.aim t) next e c in
-    let turn : IsPivot p (s.lists t) (s.rows t) (s.aim t) next e c = subst T3 (sym u.states.2) (subst T2 (sym u.states.4) (subst T1 (sym u.states.3) (record { enters = en; place = (q, r, ql, at, lv, refl) }))) in
+    let T1 : (ℕ → ℕ → ℤ) → Type 0 = λ x. IsPivot p l x (table_aim p xs) next e c in let T2 : (ℕ → ℤ) → Type 0 = λ x. IsPivot p l (s.rows t) x next e c in
+    let T3 : Listing → Type 0 = λ x. IsPivot p x (s.rows t) (s.aim t) next e c in
+    let turn : IsPivot p (s.lists t) (s.rows t) (s.aim t) next e c = subst T3 (sym u.states.2)
+    (subst T2 (sym u.states.4) (subst T1 (sym u.states.3) (record { enters = en; place = (q, r, ql, at, lv, refl) }))) in
     record {
       states = (
-        states (upto t s.lists next) (upto t s.rows Q) (upto t s.aim b) (λ k. elim (cases_eq k t) [ inl s ↦ e | inr ne ↦ s.entering k ]) (λ k. elim (cases_eq k t) [ inl s ↦ c | inr ne ↦ s.leaving k ]),
+        states (upto t s.lists next) (upto t s.rows Q) (upto t s.aim b) (λ k. elim (cases_eq k t) [ inl s ↦ e | inr ne ↦ s.entering k ])
+            (λ k. elim (cases_eq k t) [ inl s ↦ c | inr ne ↦ s.leaving k ]),
         path_turns p o t s.lists s.rows s.aim s.entering s.leaving next Q b e c u.states.1 h (λ z. narrow) turn new,
         upto_new t s.lists next,
         upto_new t s.rows Q,
@@ -111,43 +122,93 @@ next_pivots p o t l xs q r c e Q b h pairs table u en ql at lv el =
       );
     }
 
-pub so_far_next : (p : Program) (o : Listing) (t : ℕ) (next : Listing) (new : List ℤ) → IsNext p o t next (table_rows p new) (table_aim p new) → IsSoFar p o (suc t) next new
+pub so_far_next : (p : Program) (o : Listing) (t : ℕ) (next : Listing) (new : List ℤ) → IsNext p o t next (table_rows p new) (table_aim p new)
+    → IsSoFar p o (suc t) next new
 so_far_next p o t next new u = record { states = u.states }
 
 -- ---- the stops
-pub wide_stops : (p : Program) (o : Listing) (limit t : ℕ) (next : Listing) (Q : ℕ → ℕ → ℤ) (b : ℕ → ℤ) (i j : ℕ) (z : ℤ) → t < length o + limit → IsNext p o t next Q b → IsFirstWide p Q b i j z → PathStops p o limit (wide (t + 1) (i + 1) (j + 1) z)
+pub wide_stops : (p : Program) (o : Listing) (limit t : ℕ) (next : Listing) (Q : ℕ → ℕ → ℤ) (b : ℕ → ℤ) (i j : ℕ) (z : ℤ) → t < length o + limit
+    → IsNext p o t next Q b → IsFirstWide p Q b i j z → PathStops p o limit (wide (t + 1) (i + 1) (j + 1) z)
 wide_stops p o limit t next Q b i j z h u w =
     let s = u.states.0 in
     let R : (ℕ → ℕ → ℤ) → Type 0 = λ x. IsFirstWide p x (s.aim (suc t)) i j z in let S : (ℕ → ℤ) → Type 0 = λ x. IsFirstWide p Q x i j z in
-    record { stops = (suc t, s, (u.states.1, omega arith, omega arith, omega arith, (i, j, refl, refl, subst R (sym u.states.3) (subst S (sym u.states.4) w)))) }
+    record {
+      stops = (
+        suc t,
+        s,
+        (
+          u.states.1,
+          omega arith,
+          omega arith,
+          omega arith,
+          (i, j, refl, refl, subst R (sym u.states.3) (subst S (sym u.states.4) w)),
+        ),
+      );
+    }
 
-whole : (p : Program) (o : Listing) (limit t : ℕ) (l : Listing) (xs : List ℤ) (u : IsSoFar p o t l xs) → IsTable p xs → length o ≤ t → t ≤ length o + limit → IsWhole p o limit t u.states.0
+whole : (p : Program) (o : Listing) (limit t : ℕ) (l : Listing) (xs : List ℤ) (u : IsSoFar p o t l xs) → IsTable p xs → length o ≤ t → t ≤ length o + limit
+    → IsWhole p o limit t u.states.0
 whole p o limit t l xs u table h k =
     let s = u.states.0 in
     let R : (ℕ → ℕ → ℤ) → Type 0 = λ x. AllNarrow p x (s.aim t) in let S : (ℕ → ℤ) → Type 0 = λ x. AllNarrow p (table_rows p xs) x in
     record { path = u.states.1; whole = h; within = k; narrow = λ z. subst R (sym u.states.3) (subst S (sym u.states.4) (narrow_of p xs table)) }
 
-pub ends_stops : (p : Program) (o : Listing) (limit n : ℕ) (l : Listing) (xs : List ℤ) → IsSoFar p o (length o + n) l xs → IsTable p xs → n ≤ limit → NoneEnters p l (table_aim p xs) → PathStops p o limit (ends n l)
+pub ends_stops : (p : Program) (o : Listing) (limit n : ℕ) (l : Listing) (xs : List ℤ) → IsSoFar p o (length o + n) l xs → IsTable p xs → n ≤ limit
+    → NoneEnters p l (table_aim p xs) → PathStops p o limit (ends n l)
 ends_stops p o limit n l xs u table h none =
     let s = u.states.0 in let t = length o + n in
     let P : (ℕ → ℤ) → Type 0 = λ x. NoneEnters p l x in let Q : Listing → Type 0 = λ x. NoneEnters p x (s.aim t) in
-    record { stops = (t, s, (whole p o limit t l xs u table (omega arith) (omega arith), subst Q (sym u.states.2) (subst P (sym u.states.4) none), refl, sym u.states.2)) }
+    record {
+      stops = (
+        t,
+        s,
+        (
+          whole p o limit t l xs u table (omega arith) (omega arith),
+          subst Q (sym u.states.2) (subst P (sym u.states.4) none),
+          refl,
+          sym u.states.2,
+        ),
+      );
+    }
 
-enters_at : (p : Program) (o : Listing) (t : ℕ) (l : Listing) (xs : List ℤ) (u : IsSoFar p o t l xs) (e : ℕ) → Enters p l (table_aim p xs) e → Enters p (u.states.0.lists t) (u.states.0.aim t) e
+enters_at : (p : Program) (o : Listing) (t : ℕ) (l : Listing) (xs : List ℤ) (u : IsSoFar p o t l xs) (e : ℕ) → Enters p l (table_aim p xs) e
+    → Enters p (u.states.0.lists t) (u.states.0.aim t) e
 enters_at p o t l xs u e en =
-    let s = u.states.0 in let P : (ℕ → ℤ) → Type 0 = λ x. Enters p l x e in let Q : Listing → Type 0 = λ x. Enters p x (s.aim t) e in subst Q (sym u.states.2) (subst P (sym u.states.4) en)
+    let s = u.states.0 in let P : (ℕ → ℤ) → Type 0 = λ x. Enters p l x e in let Q : Listing → Type 0 = λ x. Enters p x (s.aim t) e in
+    subst Q (sym u.states.2) (subst P (sym u.states.4) en)
 
-pub pivots_stops : (p : Program) (o : Listing) (limit : ℕ) (l : Listing) (xs : List ℤ) (e r c : ℕ) → IsSoFar p o (length o + limit) l xs → IsTable p xs → Enters p l (table_aim p xs) e → Leaves p l (table_rows p xs) e r c → PathStops p o limit pivots
+pub pivots_stops : (p : Program) (o : Listing) (limit : ℕ) (l : Listing) (xs : List ℤ) (e r c : ℕ) → IsSoFar p o (length o + limit) l xs → IsTable p xs
+    → Enters p l (table_aim p xs) e → Leaves p l (table_rows p xs) e r c → PathStops p o limit pivots
 pivots_stops p o limit l xs e r c u table en lv =
     let s = u.states.0 in let t = length o + limit in
     let P : (ℕ → ℕ → ℤ) → Type 0 = λ x. Leaves p l x e r c in let Q : Listing → Type 0 = λ x. Leaves p x (s.rows t) e r c in
-    record { stops = (t, s, (whole p o limit t l xs u table (omega arith) (omega arith), refl, (e, r, c, enters_at p o t l xs u e en, subst Q (sym u.states.2) (subst P (sym u.states.3) lv)))) }
+    record {
+      stops = (
+        t,
+        s,
+        (
+          whole p o limit t l xs u table (omega arith) (omega arith),
+          refl,
+          (e, r, c, enters_at p o t l xs u e en, subst Q (sym u.states.2) (subst P (sym u.states.3) lv)),
+        ),
+      );
+    }
 
-pub unbounded_stops : (p : Program) (o : Listing) (limit n : ℕ) (l : Listing) (xs : List ℤ) (e : ℕ) → IsSoFar p o (length o + n) l xs → IsTable p xs → n ≤ limit → Enters p l (table_aim p xs) e → NoneLeaves p l (table_rows p xs) e → PathStops p o limit (unbounded (e + 1))
+pub unbounded_stops : (p : Program) (o : Listing) (limit n : ℕ) (l : Listing) (xs : List ℤ) (e : ℕ) → IsSoFar p o (length o + n) l xs → IsTable p xs
+    → n ≤ limit → Enters p l (table_aim p xs) e → NoneLeaves p l (table_rows p xs) e → PathStops p o limit (unbounded (e + 1))
 unbounded_stops p o limit n l xs e u table h en none =
     let s = u.states.0 in let t = length o + n in
     let P : (ℕ → ℕ → ℤ) → Type 0 = λ x. NoneLeaves p l x e in let Q : Listing → Type 0 = λ x. NoneLeaves p x (s.rows t) e in
-    record { stops = (t, s, (whole p o limit t l xs u table (omega arith) (omega arith), (e, refl, enters_at p o t l xs u e en, subst Q (sym u.states.2) (subst P (sym u.states.3) none)))) }
+    record {
+      stops = (
+        t,
+        s,
+        (
+          whole p o limit t l xs u table (omega arith) (omega arith),
+          (e, refl, enters_at p o t l xs u e en, subst Q (sym u.states.2) (subst P (sym u.states.3) none)),
+        ),
+      );
+    }
 
 -- ---- the entering column as it is found in the aim's row
 module _ (p : Program) (xs : List ℤ) (n : ℕ) (e : n ≡ p.rows * (p.cols + 2) + p.cols - p.rows * (p.cols + 2)) (table : IsTable p xs) where
@@ -155,7 +216,8 @@ module _ (p : Program) (xs : List ℤ) (n : ℕ) (e : n ≡ p.rows * (p.cols + 2
   part = take n (drop (p.rows * (p.cols + 2)) xs)
 
   pub part_long : length part ≡ p.cols
-  part_long = length-take-le n (drop (p.rows * (p.cols + 2)) xs) (omega (arith, length-drop (p.rows * (p.cols + 2)) xs, table.long)) ∙ (let q : n ≡ p.cols = omega arith in q)
+  part_long = length-take-le n (drop (p.rows * (p.cols + 2)) xs) (omega (arith, length-drop (p.rows * (p.cols + 2)) xs, table.long))
+      ∙ (let q : n ≡ p.cols = omega arith in q)
 
   pub part_at : (j : ℕ) → j < p.cols → at part j ≡ table_aim p xs j
   part_at j h = at_part xs (p.rows * (p.cols + 2)) n j (omega arith) ∙ sym (flipped_other p.cols (cell xs (p.cols + 2) p.rows) j (λ s. omega arith))
@@ -163,7 +225,8 @@ module _ (p : Program) (xs : List ℤ) (n : ℕ) (e : n ≡ p.rows * (p.cols + 2
   pub none_enters_from : (l : Listing) → ((j : ℕ) → j < length part → at part j ≤ℤ pos 0) → NoneEnters p l (table_aim p xs)
   none_enters_from l h j jn out = let P : ℤ → Type 0 = λ t. t ≤ℤ pos 0 in subst P (part_at j jn) (h j (omega (arith, part_long)))
 
-  pub enters_from : (l : Listing) (k : ℕ) → IsRowsOf p l (table_rows p xs) (table_aim p xs) → k < length part → pos 0 <ℤ at part k → ((j : ℕ) → j < k → at part j ≤ℤ pos 0) → Enters p l (table_aim p xs) k
+  pub enters_from : (l : Listing) (k : ℕ) → IsRowsOf p l (table_rows p xs) (table_aim p xs) → k < length part → pos 0 <ℤ at part k
+      → ((j : ℕ) → j < k → at part j ≤ℤ pos 0) → Enters p l (table_aim p xs) k
   enters_from l k rows inside up before =
       let column : k < p.cols = omega (arith, part_long) in
       let rises : pos 0 <ℤ table_aim p xs k = (let P : ℤ → Type 0 = λ t. pos 0 <ℤ t in subst P (part_at k column) up) in
@@ -182,7 +245,8 @@ none_of (Some x) P Q e h = absurd (cc)
 less_one : (a b : ℕ) → a + 1 ≡ b + 1 → a ≡ b
 less_one a b e = omega arith
 
-can_take_at : (p : Program) (o : Listing) (t r c : ℕ) → IsTakenInTurn p o → t < length o → slice_index_or o t (0, 0) ≡ (r + 1, c + 1) → CanTake p (take t o) r c
+can_take_at : (p : Program) (o : Listing) (t r c : ℕ) → IsTakenInTurn p o → t < length o → slice_index_or o t (0, 0) ≡ (r + 1, c + 1)
+    → CanTake p (take t o) r c
 can_take_at p o t r c taken h at =
     let w = taken t h in
     let q : (w.0 + 1, w.1 + 1) ≡ (r + 1, c + 1) = sym w.2 ∙ at in
@@ -190,7 +254,8 @@ can_take_at p o t r c taken h at =
     let P : ℕ → Type 0 = λ x. CanTake p (take t o) x w.1 in let Q : ℕ → Type 0 = λ x. CanTake p (take t o) r x in subst Q b (subst P a w.3)
 
 -- at step t of the opening the pair of row r and column c comes next
-module _ (p : Program) (o : Listing) (t r c : ℕ) (xs : List ℤ) (opens : IsOpening p o) (h : t < length o) (at : slice_index_or o t (0, 0) ≡ (r + 1, c + 1)) (table : IsTable p xs) (u : IsSoFar p o t (take t o) xs) where
+module _ (p : Program) (o : Listing) (t r c : ℕ) (xs : List ℤ) (opens : IsOpening p o) (h : t < length o) (at : slice_index_or o t (0, 0)
+    ≡ (r + 1, c + 1)) (table : IsTable p xs) (u : IsSoFar p o t (take t o) xs) where
   can : CanTake p (take t o) r c
   can = can_take_at p o t r c opens.taken h at
 
@@ -202,7 +267,8 @@ module _ (p : Program) (o : Listing) (t r c : ℕ) (xs : List ℤ) (opens : IsOp
   pub open_wide : (i j : ℕ) (z : ℤ) → IsWideAfter p xs r c i j z → (limit : ℕ) → PathStops p o limit (wide (t + 1) (i + 1) (j + 1) (stated p i j z))
   open_wide i j z w limit =
       let q = w.rows in
-      wide_stops p o limit t (take (suc t) o) q.0 q.1 i j (stated p i j z) (omega arith) (next_opens p o t xs r c q.0 q.1 opens.taken h at can table u q.2) q.3
+      wide_stops p o limit t (take (suc t) o) q.0 q.1 i j (stated p i j z) (omega arith)
+      (next_opens p o t xs r c q.0 q.1 opens.taken h at can table u q.2) q.3
 
   pub open_pairs : (k : ℕ) → k ≤ length o → IsPairList p (take k o)
   open_pairs k l = opened_pair_list p (take k o) (opened p o opens.taken k l)
@@ -211,13 +277,19 @@ module _ (p : Program) (o : Listing) (t r c : ℕ) (xs : List ℤ) (opens : IsOp
   open_next new w =
       let e : suc t ≡ t + 1 = omega arith in
       let P : ℕ → Type 0 = λ k. IsSoFar p o k (take k o) new in
-      subst P e (so_far_next p o t (take (suc t) o) new (next_opens p o t xs r c (table_rows p new) (table_aim p new) opens.taken h at can table u w.eliminated))
+      subst P e (so_far_next p o t (take (suc t) o) new (next_opens p o t xs r c (table_rows p new)
+      (table_aim p new) opens.taken h at can table u w.eliminated))
 
 pub opening_pairs : (p : Program) (o : Listing) → IsOpening p o → IsPairList p o
-opening_pairs p o u = let P : Listing → Type 0 = λ x. IsPairList p x in subst P (take-length o) (opened_pair_list p (take (length o) o) (opened p o u.taken (length o) (omega arith)))
+opening_pairs p o u = let P : Listing → Type 0 = λ x. IsPairList p x in subst P (take-length o)
+    (opened_pair_list p (take (length o) o) (opened p o u.taken (length o) (omega arith)))
 
 pub empty_pairs : (p : Program) → IsPairList p []
-empty_pairs p = record { named = λ k h. absurd (omega arith); rows_differ = λ k h kl hl e. absurd (omega arith); columns_differ = λ k h kl hl e. absurd (omega arith) }
+empty_pairs p = record {
+  named = λ k h. absurd (omega arith);
+  rows_differ = λ k h kl hl e. absurd (omega arith);
+  columns_differ = λ k h kl hl e. absurd (omega arith);
+}
 
 -- where a number that is not narrow can stand
 pub wide_row : (p : Program) (xs : List ℤ) (r c i j : ℕ) (z : ℤ) → IsWideAfter p xs r c i j z → i ≤ p.rows
@@ -233,31 +305,39 @@ same_names l q r c k d a b =
     (less_one r k (ap (λ (x : ℕ × ℕ). x.0) e), less_one c d (ap (λ (x : ℕ × ℕ). x.1) e))
 
 -- after t steps column e enters and the row at place q leaves
-module _ (p : Program) (o : Listing) (t : ℕ) (l : Listing) (xs : List ℤ) (q e : ℕ) (h : length o ≤ t) (pairs : IsPairList p l) (table : IsTable p xs) (u : IsSoFar p o t l xs) (en : Enters p l (table_aim p xs) e) (lv : IsLeaving p l (table_rows p xs) e (Some q)) where
+module _ (p : Program) (o : Listing) (t : ℕ) (l : Listing) (xs : List ℤ) (q e : ℕ) (h : length o
+    ≤ t) (pairs : IsPairList p l) (table : IsTable p xs) (u : IsSoFar p o t l xs) (en : Enters p l (table_aim p xs) e)
+    (lv : IsLeaving p l (table_rows p xs) e (Some q)) where
   leaves_at : (r c : ℕ) → slice_index_or l q (0, 0) ≡ (r + 1, c + 1) → Leaves p l (table_rows p xs) e r c
   leaves_at r c at =
       let s = same_names l q lv.0 lv.1 r c lv.3 at in
-      let P : ℕ → Type 0 = λ x. Leaves p l (table_rows p xs) e x lv.1 in let Q : ℕ → Type 0 = λ x. Leaves p l (table_rows p xs) e r x in subst Q s.1 (subst P s.0 lv.4)
+      let P : ℕ → Type 0 = λ x. Leaves p l (table_rows p xs) e x lv.1 in let Q : ℕ → Type 0 = λ x. Leaves p l (table_rows p xs) e r x in
+      subst Q s.1 (subst P s.0 lv.4)
 
   pub pivot_next : (next : Listing) (new : List ℤ) → IsPivoted p l next xs new q e → (IsTable p new) × (IsPairList p next) × IsSoFar p o (t + 1) next new
   pivot_next next new w =
       let a = w.pair in let r = a.0 in let c = a.1 in
       let step : suc t ≡ t + 1 = omega arith in
-      let P : Listing → Type 0 = λ x. (IsPairList p x) × IsSoFar p o (t + 1) x new in let T : ℕ → Type 0 = λ k. IsSoFar p o k (slice_set l q (r + 1, e + 1)) new in
+      let P : Listing → Type 0 = λ x. (IsPairList p x) × IsSoFar p o (t + 1) x new in let T : ℕ
+      → Type 0 = λ k. IsSoFar p o k (slice_set l q (r + 1, e + 1)) new in
       let both = subst P (sym a.3) (
         changed_pair_list p l q r c e lv.2 a.2 pairs en.column en.unlisted,
-        subst T step (so_far_next p o t (slice_set l q (r + 1, e + 1)) new (next_pivots p o t l xs q r c e (table_rows p new) (table_aim p new) h pairs table u en lv.2 a.2 (leaves_at r c a.2) a.4.eliminated)),
+        subst T step (so_far_next p o t (slice_set l q (r + 1, e + 1)) new
+            (next_pivots p o t l xs q r c e (table_rows p new) (table_aim p new) h pairs table u en lv.2 a.2 (leaves_at r c a.2) a.4.eliminated)),
       ) in
       (a.4.table, both.0, both.1)
 
-  pub pivot_wide : (i j : ℕ) (z : ℤ) → IsWidePivot p l xs q e i j z → (limit : ℕ) → t < length o + limit → PathStops p o limit (wide (t + 1) (i + 1) (j + 1) (stated p i j z))
+  pub pivot_wide : (i j : ℕ) (z : ℤ) → IsWidePivot p l xs q e i j z → (limit : ℕ) → t < length o + limit
+      → PathStops p o limit (wide (t + 1) (i + 1) (j + 1) (stated p i j z))
   pivot_wide i j z w limit k =
       let a = w.pair in let r = a.0 in let c = a.1 in let b = a.3.rows in
-      wide_stops p o limit t (slice_set l q (r + 1, e + 1)) b.0 b.1 i j (stated p i j z) k (next_pivots p o t l xs q r c e b.0 b.1 h pairs table u en lv.2 a.2 (leaves_at r c a.2) b.2) b.3
+      wide_stops p o limit t (slice_set l q (r + 1, e + 1)) b.0 b.1 i j (stated p i j z) k
+      (next_pivots p o t l xs q r c e b.0 b.1 h pairs table u en lv.2 a.2 (leaves_at r c a.2) b.2) b.3
 
 -- ---- which columns a pivot changes
 -- the path s has this list after t steps, and its rows agree with these: its next pivot is theirs
-pub turn_same_as : (p : Program) (o : Listing) (t : ℕ) (l : Listing) (R : ℕ → ℕ → ℤ) (a : ℕ → ℤ) (e r c : ℕ) (s : States) → length o ≤ t → IsPath p o (t + 1) s → s.lists t ≡ l → Agree p (s.rows t) R (s.aim t) a → IsList p l → Enters p l a e → Leaves p l R e r c
+pub turn_same_as : (p : Program) (o : Listing) (t : ℕ) (l : Listing) (R : ℕ → ℕ → ℤ) (a : ℕ → ℤ) (e r c : ℕ) (s : States) → length o ≤ t
+    → IsPath p o (t + 1) s → s.lists t ≡ l → Agree p (s.rows t) R (s.aim t) a → IsList p l → Enters p l a e → Leaves p l R e r c
     → (s.entering t ≡ e) × (s.leaving t ≡ c)
 turn_same_as p o t l R a e r c s h path el ag il en lv =
     let pv = path.pivots t h (omega arith) in
@@ -268,15 +348,20 @@ turn_same_as p o t l R a e r c s h path el ag il en lv =
     (ee, (leaves_same p l (s.rows t) R (s.aim t) a e pv.place.1 (s.leaving t) r c il en.column ag (subst M ee (subst L el pv.place.4)) lv).1)
 
 -- the pivot made
-pub turn_at : (p : Program) (o : Listing) (made : ℕ) (l : Listing) (xs : List ℤ) (q e r c : ℕ) (next : Listing) (new : List ℤ) → IsOpening p o → IsPairList p l → IsSoFar p o (length o + made) l xs → Enters p l (table_aim p xs) e
+pub turn_at : (p : Program) (o : Listing) (made : ℕ) (l : Listing) (xs : List ℤ) (q e r c : ℕ) (next : Listing) (new : List ℤ) → IsOpening p o
+    → IsPairList p l → IsSoFar p o (length o + made) l xs → Enters p l (table_aim p xs) e
     → IsLeaving p l (table_rows p xs) e (Some q) → slice_index_or l q (0, 0) ≡ (r + 1, c + 1) → IsSoFar p o (length o + made + 1) next new
     → (s : States) × (IsPath p o (length o + made + 1) s) × (e + 1 ≡ s.entering (length o + made) + 1) × (c + 1 ≡ s.leaving (length o + made) + 1)
 turn_at p o made l xs q e r c next new ok pairs u en lv at w =
     let t = length o + made in let s = w.states.0 in let s0 = u.states.0 in
     let path = w.states.1 in
-    let same : s.lists t ≡ s0.lists t = lists_same p o (t + 1) t s.lists s0.lists s.rows s0.rows s.aim s0.aim s.entering s0.entering s.leaving s0.leaving ok path u.states.1 made (omega arith) (omega arith) in
-    let ag = paths_agree p o (t + 1) t s.lists s0.lists s.rows s0.rows s.aim s0.aim s.entering s0.entering s.leaving s0.leaving ok path u.states.1 made (omega arith) (omega arith) in
-    let A : (ℕ → ℕ → ℤ) → Type 0 = λ x. Agree p (s.rows t) x (s.aim t) (s0.aim t) in let B : (ℕ → ℤ) → Type 0 = λ x. Agree p (s.rows t) (table_rows p xs) (s.aim t) x in
+    let same : s.lists t ≡ s0.lists t = lists_same p o (t + 1) t s.lists s0.lists s.rows s0.rows s.aim s0.aim s.entering s0.entering s.leaving s0.leaving ok
+    path u.states.1 made (omega arith) (omega arith) in
+    let ag = paths_agree p o (t + 1) t s.lists s0.lists s.rows s0.rows s.aim s0.aim s.entering s0.entering s.leaving s0.leaving ok path u.states.1 made
+    (omega arith) (omega arith) in
+    let A : (ℕ → ℕ → ℤ) → Type 0 = λ x. Agree p (s.rows t) x (s.aim t) (s0.aim t) in let B : (ℕ → ℤ)
+    → Type 0 = λ x. Agree p (s.rows t) (table_rows p xs) (s.aim t) x in
     let n = same_names l q lv.0 lv.1 r c lv.3 at in
-    let z = turn_same_as p o t l (table_rows p xs) (table_aim p xs) e lv.0 lv.1 s (omega arith) path (same ∙ u.states.2) (subst B u.states.4 (subst A u.states.3 ag)) (pair_list_is_list p l pairs) en lv.4 in
+    let z = turn_same_as p o t l (table_rows p xs) (table_aim p xs) e lv.0 lv.1 s (omega arith) path (same
+    ∙ u.states.2) (subst B u.states.4 (subst A u.states.3 ag)) (pair_list_is_list p l pairs) en lv.4 in
     (s, path, ap (λ x. x + 1) (sym z.0), ap (λ x. x + 1) (sym n.1 ∙ sym z.1))

@@ -23,14 +23,17 @@ at_put_below xs ys a n k h l =
 pub at_put_inside : (xs ys : List ℤ) (a n j : ℕ) → j < n → length ys ≡ n → a + n ≤ length xs → at (put_mid a n xs ys) (a + j) ≡ at ys j
 at_put_inside xs ys a n j h e l =
     let s = length_front xs a (omega arith) in
-    get_or-append_right (take a xs) (ys ++ drop n (drop a xs)) a (a + j) (pos 0) s (omega arith) ∙ ap (λ t. at (ys ++ drop n (drop a xs)) t) (let q : a + j - a ≡ j = omega arith in q)
+    get_or-append_right (take a xs) (ys ++ drop n (drop a xs)) a (a + j) (pos 0) s (omega arith)
+    ∙ ap (λ t. at (ys ++ drop n (drop a xs)) t) (let q : a + j - a ≡ j = omega arith in q)
     ∙ get_or_append_left ys (drop n (drop a xs)) (pos 0) j (omega arith)
 
 pub at_put_above : (xs ys : List ℤ) (a n k : ℕ) → a + n ≤ k → length ys ≡ n → a + n ≤ length xs → at (put_mid a n xs ys) k ≡ at xs k
 at_put_above xs ys a n k h e l =
     let s = length_front xs a (omega arith) in
-    get_or-append_right (take a xs) (ys ++ drop n (drop a xs)) a k (pos 0) s (omega arith) ∙ get_or-append_right ys (drop n (drop a xs)) n (k - a) (pos 0) e (omega arith)
-    ∙ get_or-drop n (drop a xs) (k - a - n) (pos 0) ∙ get_or-drop a xs (n + (k - a - n)) (pos 0) ∙ ap (at xs) (let q : a + (n + (k - a - n)) ≡ k = omega arith in q)
+    get_or-append_right (take a xs) (ys ++ drop n (drop a xs)) a k (pos 0) s (omega arith)
+    ∙ get_or-append_right ys (drop n (drop a xs)) n (k - a) (pos 0) e (omega arith)
+    ∙ get_or-drop n (drop a xs) (k - a - n) (pos 0) ∙ get_or-drop a xs (n + (k - a - n)) (pos 0)
+    ∙ ap (at xs) (let q : a + (n + (k - a - n)) ≡ k = omega arith in q)
 
 pub length_put : (xs ys : List ℤ) (a n : ℕ) → length ys ≡ n → a + n ≤ length xs → length (put_mid a n xs ys) ≡ length xs
 length_put xs ys a n e l =
@@ -38,7 +41,8 @@ length_put xs ys a n e l =
     omega (arith, length-append (take a xs) (ys ++ drop n (drop a xs)), length-append ys (drop n (drop a xs)), length-drop n (drop a xs), length-drop a xs)
 
 -- all numbers are narrow after a part was written with narrow ones
-pub narrow_put : (xs ys : List ℤ) (a n : ℕ) → length ys ≡ n → a + n ≤ length xs → AllNarrow xs → AllNarrow ys → (k : ℕ) → k < length xs → IsNarrow (at (put_mid a n xs ys) k)
+pub narrow_put : (xs ys : List ℤ) (a n : ℕ) → length ys ≡ n → a + n ≤ length xs → AllNarrow xs → AllNarrow ys → (k : ℕ) → k < length xs
+    → IsNarrow (at (put_mid a n xs ys) k)
 narrow_put xs ys a n e l u w k h =
     let P : ℤ → Type 0 = λ z. IsNarrow z in
     elim (cases_lt k a) [
@@ -57,19 +61,22 @@ primitive_same_row last f g e u = elim u.form [
   | inr d ↦ record { form = inr (λ k h. d k (λ j l. let P : ℤ → Type 0 = λ t. k ∣ unsigned_abs t in subst P (sym (e j l)) (h j l))) }
 ]
 
-pub reduced_same : (lead lead' : ℕ → ℤ) (c width : ℕ) (old old' new new' : ℕ → ℤ) → c < width → ((j : ℕ) → j < width → lead j ≡ lead' j) → ((j : ℕ) → j < width → old j ≡ old' j) → ((j : ℕ) → j < width → new j ≡ new' j)
+pub reduced_same : (lead lead' : ℕ → ℤ) (c width : ℕ) (old old' new new' : ℕ → ℤ) → c < width → ((j : ℕ) → j < width → lead j ≡ lead' j)
+    → ((j : ℕ) → j < width → old j ≡ old' j) → ((j : ℕ) → j < width → new j ≡ new' j)
     → IsReduced lead c width old new → IsReduced lead' c width old' new'
 reduced_same lead lead' c width old old' new new' cw el eo en u = record {
   divided = (
     u.divided.0,
     u.divided.1,
-    λ j h. ap (λ t. t *ℤ old' j -ℤ old' c *ℤ lead' j) (sym (el c cw)) ∙ ap (λ t. lead c *ℤ t -ℤ old' c *ℤ lead' j) (sym (eo j h)) ∙ ap (λ t. lead c *ℤ old j -ℤ t *ℤ lead' j) (sym (eo c cw))
+    λ j h. ap (λ t. t *ℤ old' j -ℤ old' c *ℤ lead' j) (sym (el c cw)) ∙ ap (λ t. lead c *ℤ t -ℤ old' c *ℤ lead' j) (sym (eo j h))
+        ∙ ap (λ t. lead c *ℤ old j -ℤ t *ℤ lead' j) (sym (eo c cw))
         ∙ ap (λ t. lead c *ℤ old j -ℤ old c *ℤ t) (sym (el j h)) ∙ u.divided.2 j h ∙ ap (λ t. u.divided.0 *ℤ t) (en j h),
   );
   primitive = primitive_same_row (width - 1) new new' (λ j h. en j (omega arith)) u.primitive;
 }
 
-pub reduced_to_same : (lead lead' : ℕ → ℤ) (c width : ℕ) (old old' : ℕ → ℤ) (j : ℕ) (z : ℤ) → c < width → ((j : ℕ) → j < width → lead j ≡ lead' j) → ((j : ℕ) → j < width → old j ≡ old' j)
+pub reduced_to_same : (lead lead' : ℕ → ℤ) (c width : ℕ) (old old' : ℕ → ℤ) (j : ℕ) (z : ℤ) → c < width → ((j : ℕ) → j < width → lead j ≡ lead' j)
+    → ((j : ℕ) → j < width → old j ≡ old' j)
     → IsReducedTo lead c width old j z → IsReducedTo lead' c width old' j z
 reduced_to_same lead lead' c width old old' j z cw el eo u = record {
   inside = u.inside;
@@ -96,7 +103,8 @@ row_apart width h i j jw ne = elim (cases_order h i) [
   ]
 ]
 
-pub divided_same : (width : ℕ) (old old' new new' : ℕ → ℤ) → 0 < width → ((j : ℕ) → j < width → old j ≡ old' j) → ((j : ℕ) → j < width → new j ≡ new' j) → IsDivided width old new → IsDivided width old' new'
+pub divided_same : (width : ℕ) (old old' new new' : ℕ → ℤ) → 0 < width → ((j : ℕ) → j < width → old j ≡ old' j) → ((j : ℕ) → j < width → new j ≡ new' j)
+    → IsDivided width old new → IsDivided width old' new'
 divided_same width old old' new new' some eo en u = record {
   divided = (u.divided.0, u.divided.1, λ j h. sym (eo j h) ∙ u.divided.2 j h ∙ ap (λ t. u.divided.0 *ℤ t) (en j h));
   primitive = primitive_same_row (width - 1) new new' (λ j h. en j (omega arith)) u.primitive;

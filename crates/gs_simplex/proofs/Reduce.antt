@@ -48,17 +48,20 @@ zero_divides d count f u e j h = abs_zero (f j) (eq-zero_of_zero-dvd (let P : �
 pub divisor_small : (d count bound : ℕ) (f : ℕ → ℤ) → IsDivisor count f d → ((j : ℕ) → j < count → unsigned_abs (f j) ≤ bound) → d ≤ bound
 divisor_small d count bound f u h = elim (some_nonzero count f) [
   | inl w ↦ (let l : d ≤ unsigned_abs (f w.0) = le_of_dvd (omega (arith, w.2)) (u.divides w.0 w.1) in omega (arith, h w.0 w.1))
-  | inr z ↦ (let e : d ≡ 0 = eq-zero_of_zero-dvd (u.greatest 0 (λ j l. let s : unsigned_abs (f j) ≡ 0 = ap unsigned_abs (z j l) in let P : ℕ → Type 0 = λ t. 0 ∣ t in subst P (sym s) (dvd-zero 0))) in omega arith)
+  | inr z ↦ (let e : d ≡ 0 = eq-zero_of_zero-dvd (u.greatest 0 (λ j l. let s : unsigned_abs (f j) ≡ 0 = ap unsigned_abs (z j l) in let P : ℕ
+      → Type 0 = λ t. 0 ∣ t in subst P (sym s) (dvd-zero 0))) in omega arith)
 ]
 
 pub by_divides : (d by count : ℕ) (f : ℕ → ℤ) → IsDivisor count f d → by ≡ max d 1 → (j : ℕ) → j < count → by ∣ unsigned_abs (f j)
 by_divides d by count f u e j h = elim (cases_eq d 0) [
-  | inl z ↦ (let s : unsigned_abs (f j) ≡ 0 = ap unsigned_abs (zero_divides d count f u z j h) in let P : ℕ → Type 0 = λ t. by ∣ t in subst P (sym s) (dvd-zero by))
+  | inl z ↦ (let s : unsigned_abs (f j) ≡ 0 = ap unsigned_abs (zero_divides d count f u z j h) in let P : ℕ → Type 0 = λ t. by ∣ t in
+      subst P (sym s) (dvd-zero by))
   | inr nz ↦ (let s : d ≡ by = omega arith in let P : ℕ → Type 0 = λ t. t ∣ unsigned_abs (f j) in subst P s (u.divides j h))
 ]
 
 -- what is left after the division has no common divisor
-pub quotients_primitive : (d by last : ℕ) (f q : ℕ → ℤ) → IsDivisor (suc last) f d → by ≡ max d 1 → ((j : ℕ) → j ≤ last → f j ≡ pos by *ℤ q j) → IsPrimitive last q
+pub quotients_primitive : (d by last : ℕ) (f q : ℕ → ℤ) → IsDivisor (suc last) f d → by ≡ max d 1 → ((j : ℕ) → j ≤ last → f j ≡ pos by *ℤ q j)
+    → IsPrimitive last q
 quotients_primitive d by last f q u e at_q = elim (cases_eq d 0) [
   | inl z ↦ record {
     form = inl (λ j h.
@@ -70,7 +73,8 @@ quotients_primitive d by last f q u e at_q = elim (cases_eq d 0) [
     form = inr (λ k h.
         let s : by ≡ d = omega arith in
         let all : d * k ∣ d = u.greatest (d * k) (λ j l. (
-        let p : unsigned_abs (f j) ≡ d * unsigned_abs (q j) = ap unsigned_abs (at_q j (omega arith)) ∙ unsigned_abs-mul (pos by) (q j) ∙ ap (λ t. t * unsigned_abs (q j)) s in
+        let p : unsigned_abs (f j) ≡ d * unsigned_abs (q j) = ap unsigned_abs (at_q j (omega arith)) ∙ unsigned_abs-mul (pos by) (q j)
+        ∙ ap (λ t. t * unsigned_abs (q j)) s in
         let P : ℕ → Type 0 = λ t. d * k ∣ t in subst P (sym p) (mul-dvd-mul_left k d (h j (omega arith))))) in
         let one : d * k ∣ d * 1 = (let e : d ≡ d * 1 = omega arith in let P : ℕ → Type 0 = λ t. d * k ∣ t in subst P e all) in
         eq-one_of_dvd-one (dvd_of_mul-dvd-mul_left k (omega arith) one));
@@ -79,7 +83,8 @@ quotients_primitive d by last f q u e at_q = elim (cases_eq d 0) [
 
 pub divisor_narrow : (row : List ℤ) (d : ℕ) → IsDivisor (length row) (at row) d → AllNarrow row → d < 2 ^ 62
 divisor_narrow row d u h =
-    let b : d ≤ 2 ^ 62 - 1 = divisor_small d (length row) (2 ^ 62 - 1) (at row) u (λ j l. let k : unsigned_abs (at row j) < 2 ^ 62 = h j l in omega arith) in omega arith
+    let b : d ≤ 2 ^ 62 - 1 = divisor_small d (length row) (2 ^ 62 - 1) (at row) u (λ j l. let k : unsigned_abs (at row j) < 2 ^ 62 = h j l in omega arith) in
+    omega arith
 
 pub divisor_bounds : (g m : ℕ) → 0 < m → m < 2 ^ 62 → g ∣ m → (0 < g) × (g < 2 ^ 62)
 divisor_bounds g m some small d = (
@@ -97,20 +102,23 @@ shared_row lc rc own far g r l m e f h =
     ap (λ t. t *ℤ r -ℤ rc *ℤ l) e ∙ ap (λ t. (g *ℤ own) *ℤ r -ℤ t *ℤ l) f ∙ q ∙ ap (λ t. g *ℤ t) (sym h)
 
 -- a row of narrow products, divided
-pub reduced_divided : (lead row mid new : ℕ → ℤ) (c width : ℕ) (own far : ℤ) → IsShared (lead c) (row c) own far → ((j : ℕ) → j < width → mid j ≡ own *ℤ row j -ℤ far *ℤ lead j) → IsDivided width mid new → IsReduced lead c width row new
+pub reduced_divided : (lead row mid new : ℕ → ℤ) (c width : ℕ) (own far : ℤ) → IsShared (lead c) (row c) own far
+    → ((j : ℕ) → j < width → mid j ≡ own *ℤ row j -ℤ far *ℤ lead j) → IsDivided width mid new → IsReduced lead c width row new
 reduced_divided lead row mid new c width own far sh is u =
     let g = sh.by.0 in let h = u.divided.0 in
     record {
       divided = (
         g *ℤ h,
         times_pos g h sh.by.1 u.divided.1,
-        λ j l. shared_row (lead c) (row c) own far g (row j) (lead j) (mid j) sh.by.2 sh.by.3 (is j l) ∙ ap (λ t. g *ℤ t) (u.divided.2 j l) ∙ sym (times_times g h (new j)),
+        λ j l. shared_row (lead c) (row c) own far g (row j) (lead j) (mid j) sh.by.2 sh.by.3 (is j l) ∙ ap (λ t. g *ℤ t) (u.divided.2 j l)
+            ∙ sym (times_times g h (new j)),
       );
       primitive = u.primitive;
     }
 
 -- the row of a pivot, divided
-module _ (lead row : ℕ → ℤ) (c width d by : ℕ) (own far : ℤ) (mixed : List ℤ) (sh : IsShared (lead c) (row c) own far) (wide : 0 < width) (long : length mixed ≡ width)
+module _ (lead row : ℕ → ℤ) (c width d by : ℕ) (own far : ℤ) (mixed : List ℤ) (sh : IsShared (lead c) (row c) own far) (wide : 0 < width) (long : length mixed
+    ≡ width)
     (is : (j : ℕ) → j < width → at mixed j ≡ own *ℤ row j -ℤ far *ℤ lead j) (u : IsDivisor (length mixed) (at mixed) d) (e : by ≡ max d 1) where
   by_positive : pos 0 <ℤ pos by
   by_positive = omega (arith, ints)
@@ -127,7 +135,8 @@ module _ (lead row : ℕ → ℤ) (c width d by : ℕ) (own far : ℤ) (mixed : 
   pub reduced_wide : (j : ℕ) (z : ℤ) → IsWideQuotient by mixed j z → IsReducedTo lead c width row j z
   reduced_wide j z w =
       let q : ℕ → ℤ = λ k. over by (at mixed k) in
-      let at_q : (k : ℕ) → k < width → at mixed k ≡ pos by *ℤ q k = λ k l. over_times by (at mixed k) (by_divides d by (length mixed) (at mixed) u e k (omega arith)) in
+      let at_q : (k : ℕ) → k < width → at mixed k ≡ pos by *ℤ q k = λ k l. over_times by (at mixed k)
+      (by_divides d by (length mixed) (at mixed) u e k (omega arith)) in
       let jw : j < width = omega (arith, w.inside) in
       record {
         inside = jw;
@@ -145,12 +154,18 @@ module _ (lead row : ℕ → ℤ) (c width d by : ℕ) (own far : ℤ) (mixed : 
 -- a row with 0 in the column stays
 pub kept_reduced : (lead row : ℕ → ℤ) (c width : ℕ) → pos 0 <ℤ lead c → row c ≡ pos 0 → IsPrimitive (width - 1) row → IsReduced lead c width row row
 kept_reduced lead row c width own z prim = record {
-  divided = (lead c, own, λ j l. (let s : row c *ℤ lead j ≡ pos 0 = ap (λ t. t *ℤ lead j) z ∙ Rattle.gs_rows.proofs.Ring.zero_times (lead j) in omega (arith, linear)));
+  divided = (
+    lead c,
+    own,
+    λ j l. (let s : row c *ℤ lead j ≡ pos 0 = ap (λ t. t *ℤ lead j) z ∙ Rattle.gs_rows.proofs.Ring.zero_times (lead j) in
+        omega (arith, linear)),
+  );
   primitive = prim;
 }
 
 -- ---- a row divided
-divided_by : (row new : List ℤ) (d by : ℕ) → 0 < length row → IsDivisor (length row) (at row) d → by ≡ max d 1 → ((j : ℕ) → j < length row → at row j ≡ pos by *ℤ at new j) → IsDivided (length row) (at row) (at new)
+divided_by : (row new : List ℤ) (d by : ℕ) → 0 < length row → IsDivisor (length row) (at row) d → by ≡ max d 1
+    → ((j : ℕ) → j < length row → at row j ≡ pos by *ℤ at new j) → IsDivided (length row) (at row) (at new)
 divided_by row new d by some u e h = record {
   divided = (pos by, omega (arith, ints), h);
   primitive =
@@ -159,7 +174,8 @@ divided_by row new d by some u e h = record {
       quotients_primitive d by (length row - 1) (at row) (at new) (subst P s u) e (λ j l. h j (omega arith)));
 }
 
-pub divided_row : (row new : List ℤ) (d : ℕ) → 0 < length row → IsDivisor (length row) (at row) d → 1 < d → IsQuotient d row new (length row) → IsDivided (length row) (at row) (at new)
+pub divided_row : (row new : List ℤ) (d : ℕ) → 0 < length row → IsDivisor (length row) (at row) d → 1 < d → IsQuotient d row new (length row)
+    → IsDivided (length row) (at row) (at new)
 divided_row row new d some u more q = divided_by row new d d some u (omega (arith, more)) q.each
 
 pub undivided_row : (row : List ℤ) (d : ℕ) → 0 < length row → IsDivisor (length row) (at row) d → d ≤ 1 → IsDivided (length row) (at row) (at row)

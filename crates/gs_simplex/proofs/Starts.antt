@@ -23,15 +23,18 @@ raw_narrow p xs s u k h = rows_cover (p.cols + 2) (p.rows + 1) (λ t. IsNarrow (
     let P : ℤ → Type 0 = λ t. IsNarrow t in
     elim (cases_lt i p.rows) [
       | inl l ↦ elim (cases_eq j (p.cols + 1)) [
-        | inl e ↦ (let Q : ℕ → Type 0 = λ t. IsNarrow (cell xs (p.cols + 2) i t) in subst Q (sym e) (subst P (sym (u.zero i l)) (let q : unsigned_abs (pos 0) < 2 ^ 62 = omega arith in q)))
+        | inl e ↦ (let Q : ℕ → Type 0 = λ t. IsNarrow (cell xs (p.cols + 2) i t) in
+            subst Q (sym e) (subst P (sym (u.zero i l)) (let q : unsigned_abs (pos 0) < 2 ^ 62 = omega arith in q)))
         | inr ne ↦ subst P (sym (u.rows i j l (omega arith))) (s.narrow i j l (omega arith))
       ]
       | inr g ↦ (let f : i ≡ p.rows = omega arith in let Q : ℕ → Type 0 = λ t. IsNarrow (cell xs (p.cols + 2) t j) in
           subst Q (sym f) (elim (cases_lt j p.cols) [
             | inl l ↦ subst P (sym (u.aim j l)) (s.narrow_aim j l)
             | inr m ↦ elim (cases_eq j p.cols) [
-              | inl e ↦ (let R : ℕ → Type 0 = λ t. IsNarrow (cell xs (p.cols + 2) p.rows t) in subst R (sym e) (subst P (sym u.last) (let q : unsigned_abs (pos 0) < 2 ^ 62 = omega arith in q)))
-              | inr ne ↦ (let e : j ≡ p.cols + 1 = omega arith in let R : ℕ → Type 0 = λ t. IsNarrow (cell xs (p.cols + 2) p.rows t) in subst R (sym e) (subst P (sym u.multiple) (let q : unsigned_abs (pos 1) < 2 ^ 62 = omega arith in q)))
+              | inl e ↦ (let R : ℕ → Type 0 = λ t. IsNarrow (cell xs (p.cols + 2) p.rows t) in
+                  subst R (sym e) (subst P (sym u.last) (let q : unsigned_abs (pos 0) < 2 ^ 62 = omega arith in q)))
+              | inr ne ↦ (let e : j ≡ p.cols + 1 = omega arith in let R : ℕ → Type 0 = λ t. IsNarrow (cell xs (p.cols + 2) p.rows t) in
+                  subst R (sym e) (subst P (sym u.multiple) (let q : unsigned_abs (pos 1) < 2 ^ 62 = omega arith in q)))
             ]
           ]))
     ]) k (omega (arith, u.long))
@@ -41,7 +44,8 @@ module _ (p : Program) (raw new : List ℤ) (shaped : IsShaped p) (u : IsRaw p r
     (divided : (i : ℕ) → i < p.rows → IsDivided (p.cols + 2) (cell raw (p.cols + 2) i) (cell new (p.cols + 2) i))
     (last : (j : ℕ) → j < p.cols + 2 → cell new (p.cols + 2) p.rows j ≡ cell raw (p.cols + 2) p.rows j) (narrow : AllNarrow new) where
   end_zero : (i : ℕ) → i < p.rows → cell new (p.cols + 2) i (p.cols + 1) ≡ pos 0
-  end_zero i h = let g = (divided i h).divided in cancel_zero g.0 (cell new (p.cols + 2) i (p.cols + 1)) g.1 (sym (g.2 (p.cols + 1) (omega arith)) ∙ u.zero i h)
+  end_zero i h = let g = (divided i h).divided in cancel_zero g.0 (cell new (p.cols + 2) i (p.cols + 1)) g.1 (sym (g.2 (p.cols + 1) (omega arith))
+      ∙ u.zero i h)
 
   pub start_table : IsTable p new
   start_table = record { long = long ∙ u.long; zero = end_zero; narrow = narrow }
@@ -52,8 +56,10 @@ module _ (p : Program) (raw new : List ℤ) (shaped : IsShaped p) (u : IsRaw p r
         g.0,
         g.1,
         λ j jn. sym (u.rows i j h jn) ∙ g.2 j (omega arith),
-        primitive_shorter p.cols (cell new (p.cols + 2) i) (end_zero i h) (let s : p.cols + 2 - 1 ≡ p.cols + 1 = omega arith in let P : ℕ → Type 0 = λ k. IsPrimitive k (cell new (p.cols + 2) i) in subst P s (divided i h).primitive),
+        primitive_shorter p.cols (cell new (p.cols + 2) i) (end_zero i h) (let s : p.cols + 2 - 1 ≡ p.cols + 1 = omega arith in let P : ℕ
+            → Type 0 = λ k. IsPrimitive k (cell new (p.cols + 2) i) in subst P s (divided i h).primitive),
       ))
       (λ j h. flipped_other p.cols (cell new (p.cols + 2) p.rows) j (λ e. omega arith) ∙ last j (omega arith) ∙ u.aim j h)
       (flipped_at p.cols (cell new (p.cols + 2) p.rows) ∙ ap neg_ℤ (last p.cols (omega arith) ∙ u.last))
-      (flipped_other p.cols (cell new (p.cols + 2) p.rows) (suc p.cols) (λ e. omega arith) ∙ ap (cell new (p.cols + 2) p.rows) (let q : suc p.cols ≡ p.cols + 1 = omega arith in q) ∙ last (p.cols + 1) (omega arith) ∙ u.multiple)
+      (flipped_other p.cols (cell new (p.cols + 2) p.rows) (suc p.cols) (λ e. omega arith)
+      ∙ ap (cell new (p.cols + 2) p.rows) (let q : suc p.cols ≡ p.cols + 1 = omega arith in q) ∙ last (p.cols + 1) (omega arith) ∙ u.multiple)

@@ -50,7 +50,8 @@ flipped_other n f j ne = grind (arith, Rattle.std.proofs.lemmas.Bool.Decides.nat
 
 pub flipped_abs : (n : ℕ) (f : ℕ → ℤ) (j : ℕ) → unsigned_abs (flipped n f j) ≡ unsigned_abs (f j)
 flipped_abs n f j = elim (cases_eq j n) [
-  | inl e ↦ (let P : ℕ → Type 0 = λ k. unsigned_abs (flipped n f k) ≡ unsigned_abs (f k) in subst P (sym e) (ap unsigned_abs (flipped_at n f) ∙ (let q : unsigned_abs (neg_ℤ (f n)) ≡ unsigned_abs (f n) = omega (arith, ints) in q)))
+  | inl e ↦ (let P : ℕ → Type 0 = λ k. unsigned_abs (flipped n f k) ≡ unsigned_abs (f k) in
+      subst P (sym e) (ap unsigned_abs (flipped_at n f) ∙ (let q : unsigned_abs (neg_ℤ (f n)) ≡ unsigned_abs (f n) = omega (arith, ints) in q)))
   | inr ne ↦ ap unsigned_abs (flipped_other n f j ne)
 ]
 
@@ -64,14 +65,16 @@ primitive_flipped n last f g e u = elim u.form [
 ]
 
 -- ---- the rows of a table are primitive up to the further place
-pub rows_primitive : (p : Program) (xs : List ℤ) → IsTable p xs → IsPrimitiveTable p xs → (i : ℕ) → i < p.rows + 1 → IsPrimitive (p.cols + 2 - 1) (cell xs (p.cols + 2) i)
+pub rows_primitive : (p : Program) (xs : List ℤ) → IsTable p xs → IsPrimitiveTable p xs → (i : ℕ) → i < p.rows + 1
+    → IsPrimitive (p.cols + 2 - 1) (cell xs (p.cols + 2) i)
 rows_primitive p xs t u i h =
     let s : p.cols + 1 ≡ p.cols + 2 - 1 = omega arith in
     let P : ℕ → Type 0 = λ k. IsPrimitive k (cell xs (p.cols + 2) i) in
     subst P s (elim (cases_lt i p.rows) [
       | inl l ↦ primitive_longer p.cols (cell xs (p.cols + 2) i) (t.zero i l) (u.rows i l)
       | inr g ↦ (let e : p.rows ≡ i = omega arith in let Q : ℕ → Type 0 = λ k. IsPrimitive (p.cols + 1) (cell xs (p.cols + 2) k) in
-          subst Q e (primitive_flipped p.cols (p.cols + 1) (table_aim p xs) (cell xs (p.cols + 2) p.rows) (λ j. sym (flipped_abs p.cols (cell xs (p.cols + 2) p.rows) j)) u.aim))
+          subst Q e (primitive_flipped p.cols (p.cols + 1) (table_aim p xs) (cell xs (p.cols + 2) p.rows)
+          (λ j. sym (flipped_abs p.cols (cell xs (p.cols + 2) p.rows) j)) u.aim))
     ])
 
 -- ---- a pivot on the table: `mid` is the table after row r was taken to the lead
@@ -86,7 +89,8 @@ module _ (p : Program) (old mid : List ℤ) (lead : ℕ → ℤ) (r c : ℕ) (ro
 
   pub own : pos 0 <ℤ lead c
   own = elim turned.self [
-    | inl s ↦ (let e : lead c ≡ table_rows p old r c = s c (omega arith) in let h : pos 0 ≤ℤ lead c = turned.own in let ne : lead c ≢ pos 0 = λ z. nonzero (sym e ∙ z) in omega (arith, ints))
+    | inl s ↦ (let e : lead c ≡ table_rows p old r c = s c (omega arith) in let h : pos 0 ≤ℤ lead c = turned.own in
+        let ne : lead c ≢ pos 0 = λ z. nonzero (sym e ∙ z) in omega (arith, ints))
     | inr s ↦ (let e : lead c ≡ neg_ℤ (table_rows p old r c) = s c (omega arith) in let h : pos 0 ≤ℤ lead c = turned.own in
         let ne : lead c ≢ pos 0 = λ z. nonzero (let q : table_rows p old r c ≡ pos 0 = omega (arith, ints) in q) in omega (arith, ints))
   ]
@@ -99,8 +103,10 @@ module _ (p : Program) (old mid : List ℤ) (lead : ℕ → ℤ) (r c : ℕ) (ro
   ]
 
   -- a reduced row, from the table before
-  reduced_old : (i : ℕ) (new : ℕ → ℤ) → i ≢ r → IsReduced lead c (p.cols + 2) (cell mid (p.cols + 2) i) new → IsReduced lead c (p.cols + 2) (cell old (p.cols + 2) i) new
-  reduced_old i new ne u = reduced_same lead lead c (p.cols + 2) (cell mid (p.cols + 2) i) (cell old (p.cols + 2) i) new new (omega arith) (λ j h. refl) (λ j h. row_kept i ne j h) (λ j h. refl) u
+  reduced_old : (i : ℕ) (new : ℕ → ℤ) → i ≢ r → IsReduced lead c (p.cols + 2) (cell mid (p.cols + 2) i) new
+      → IsReduced lead c (p.cols + 2) (cell old (p.cols + 2) i) new
+  reduced_old i new ne u = reduced_same lead lead c (p.cols + 2) (cell mid (p.cols + 2) i) (cell old (p.cols + 2) i) new new (omega arith) (λ j h. refl)
+      (λ j h. row_kept i ne j h) (λ j h. refl) u
 
   reduced_primitive : (old new : ℕ → ℤ) → IsReduced lead c (p.cols + 2) old new → IsPrimitive (p.cols + 1) new
   reduced_primitive o new u = let s : p.cols + 2 - 1 ≡ p.cols + 1 = omega arith in let P : ℕ → Type 0 = λ k. IsPrimitive k new in subst P s u.primitive
@@ -109,9 +115,11 @@ module _ (p : Program) (old mid : List ℤ) (lead : ℕ → ℤ) (r c : ℕ) (ro
   reduced_end : (i : ℕ) (new : ℕ → ℤ) → i < p.rows → IsReduced lead c (p.cols + 2) (cell old (p.cols + 2) i) new → new (p.cols + 1) ≡ pos 0
   reduced_end i new h u =
       let g = u.divided in
-      let e : lead c *ℤ cell old (p.cols + 2) i (p.cols + 1) -ℤ cell old (p.cols + 2) i c *ℤ lead (p.cols + 1) ≡ g.0 *ℤ new (p.cols + 1) = g.2 (p.cols + 1) (omega arith) in
+      let e : lead c *ℤ cell old (p.cols + 2) i (p.cols + 1) -ℤ cell old (p.cols + 2) i c *ℤ lead (p.cols + 1) ≡ g.0 *ℤ new (p.cols + 1) =
+      g.2 (p.cols + 1) (omega arith) in
       let a : lead c *ℤ cell old (p.cols + 2) i (p.cols + 1) ≡ pos 0 = ap (λ t. lead c *ℤ t) (table.zero i h) ∙ times_zero (lead c) in
-      let b : cell old (p.cols + 2) i c *ℤ lead (p.cols + 1) ≡ pos 0 = ap (λ t. cell old (p.cols + 2) i c *ℤ t) lead_end ∙ times_zero (cell old (p.cols + 2) i c) in
+      let b : cell old (p.cols + 2) i c *ℤ lead (p.cols + 1) ≡ pos 0 = ap (λ t. cell old (p.cols + 2) i c *ℤ t) lead_end
+      ∙ times_zero (cell old (p.cols + 2) i c) in
       cancel_zero g.0 (new (p.cols + 1)) g.1 (omega (arith, linear))
 
   reduced_row_primitive : (i : ℕ) (new : ℕ → ℤ) → i < p.rows → IsReduced lead c (p.cols + 2) (cell old (p.cols + 2) i) new → IsPrimitive p.cols new
@@ -132,12 +140,15 @@ module _ (p : Program) (old mid : List ℤ) (lead : ℕ → ℤ) (r c : ℕ) (ro
     aim_below j h = flipped_other p.cols (cell old (p.cols + 2) p.rows) j (λ e. omega arith)
 
     aim_past : (xs : List ℤ) → table_aim p xs (suc p.cols) ≡ cell xs (p.cols + 2) p.rows (p.cols + 1)
-    aim_past xs = flipped_other p.cols (cell xs (p.cols + 2) p.rows) (suc p.cols) (λ e. omega arith) ∙ ap (cell xs (p.cols + 2) p.rows) (let q : suc p.cols ≡ p.cols + 1 = omega arith in q)
+    aim_past xs = flipped_other p.cols (cell xs (p.cols + 2) p.rows) (suc p.cols) (λ e. omega arith)
+        ∙ ap (cell xs (p.cols + 2) p.rows) (let q : suc p.cols ≡ p.cols + 1 = omega arith in q)
 
-    aim_each : (j : ℕ) → j < p.cols + 2 → lead c *ℤ cell old (p.cols + 2) p.rows j -ℤ cell old (p.cols + 2) p.rows c *ℤ lead j ≡ (row_i p.rows (omega arith) not_r).divided.0 *ℤ cell new (p.cols + 2) p.rows j
+    aim_each : (j : ℕ) → j < p.cols + 2 → lead c *ℤ cell old (p.cols + 2) p.rows j -ℤ cell old (p.cols + 2) p.rows c *ℤ lead j
+        ≡ (row_i p.rows (omega arith) not_r).divided.0 *ℤ cell new (p.cols + 2) p.rows j
     aim_each j h = (row_i p.rows (omega arith) not_r).divided.2 j h
 
-    aim_after : (g : ℤ) × (pos 0 <ℤ g) × ((j : ℕ) → j < p.cols → cell new (p.cols + 2) r c *ℤ table_aim p old j -ℤ table_aim p old c *ℤ cell new (p.cols + 2) r j ≡ g *ℤ table_aim p new j)
+    aim_after : (g : ℤ) × (pos 0 <ℤ g) × ((j : ℕ) → j < p.cols → cell new (p.cols + 2) r c *ℤ table_aim p old j -ℤ table_aim p old c
+        *ℤ cell new (p.cols + 2) r j ≡ g *ℤ table_aim p new j)
         × (cell new (p.cols + 2) r c *ℤ table_aim p old p.cols +ℤ table_aim p old c *ℤ cell new (p.cols + 2) r p.cols ≡ g *ℤ table_aim p new p.cols)
         × (cell new (p.cols + 2) r c *ℤ table_aim p old (suc p.cols) ≡ g *ℤ table_aim p new (suc p.cols))
     aim_after =
@@ -148,13 +159,16 @@ module _ (p : Program) (old mid : List ℤ) (lead : ℕ → ℤ) (r c : ℕ) (ro
         let far_is : table_aim p old c ≡ X c = aim_below c cols in (
           g,
           (row_i p.rows (omega arith) not_r).divided.1,
-          λ j jn. ap (λ t. t *ℤ table_aim p old j -ℤ table_aim p old c *ℤ cell new w r j) own_is ∙ ap (λ t. lead c *ℤ t -ℤ table_aim p old c *ℤ cell new w r j) (aim_below j jn)
+          λ j jn. ap (λ t. t *ℤ table_aim p old j -ℤ table_aim p old c *ℤ cell new w r j) own_is
+              ∙ ap (λ t. lead c *ℤ t -ℤ table_aim p old c *ℤ cell new w r j) (aim_below j jn)
               ∙ ap (λ t. lead c *ℤ X j -ℤ t *ℤ cell new w r j) far_is ∙ ap (λ t. lead c *ℤ X j -ℤ X c *ℤ t) (row_r j (omega arith)) ∙ aim_each j (omega arith)
               ∙ ap (λ t. g *ℤ t) (sym (flipped_other n N j (λ e. omega arith))),
-          ap (λ t. t *ℤ table_aim p old n +ℤ table_aim p old c *ℤ cell new w r n) own_is ∙ ap (λ t. lead c *ℤ t +ℤ table_aim p old c *ℤ cell new w r n) (flipped_at n X)
+          ap (λ t. t *ℤ table_aim p old n +ℤ table_aim p old c *ℤ cell new w r n) own_is
+              ∙ ap (λ t. lead c *ℤ t +ℤ table_aim p old c *ℤ cell new w r n) (flipped_at n X)
               ∙ ap (λ t. lead c *ℤ neg_ℤ (X n) +ℤ t *ℤ cell new w r n) far_is ∙ ap (λ t. lead c *ℤ neg_ℤ (X n) +ℤ X c *ℤ t) (row_r n (omega arith))
               ∙ flip_both (lead c) (X n) (X c) (lead n) g (N n) (aim_each n (omega arith)) ∙ ap (λ t. g *ℤ t) (sym (flipped_at n N)),
-          ap (λ t. t *ℤ table_aim p old (suc n)) own_is ∙ ap (λ t. lead c *ℤ t) (aim_past old) ∙ drop_zero (lead c) (X (n + 1)) (X c) (lead (n + 1)) g (N (n + 1)) (aim_each (n + 1) (omega arith)) lead_end
+          ap (λ t. t *ℤ table_aim p old (suc n)) own_is ∙ ap (λ t. lead c *ℤ t) (aim_past old)
+              ∙ drop_zero (lead c) (X (n + 1)) (X c) (lead (n + 1)) g (N (n + 1)) (aim_each (n + 1) (omega arith)) lead_end
               ∙ ap (λ t. g *ℤ t) (sym (aim_past new)),
         )
 
@@ -162,7 +176,8 @@ module _ (p : Program) (old mid : List ℤ) (lead : ℕ → ℤ) (r c : ℕ) (ro
     lead_primitive u = elim turned.self [
       | inl s ↦ primitive_same_row p.cols (table_rows p old r) lead (λ j h. sym (s j (omega arith))) u
       | inr s ↦ primitive_same_row p.cols (λ j. neg_ℤ (table_rows p old r j)) lead (λ j h. sym (s j (omega arith)))
-          (primitive_flipped 0 p.cols (table_rows p old r) (λ j. neg_ℤ (table_rows p old r j)) (λ j. let q : unsigned_abs (neg_ℤ (table_rows p old r j)) ≡ unsigned_abs (table_rows p old r j) = omega (arith, ints) in q) u)
+          (primitive_flipped 0 p.cols (table_rows p old r) (λ j. neg_ℤ (table_rows p old r j)) (λ j. let q : unsigned_abs (neg_ℤ (table_rows p old r j))
+          ≡ unsigned_abs (table_rows p old r j) = omega (arith, ints) in q) u)
     ]
 
     pub table_after : IsPrimitiveTable p old → IsTableAfter p old new r c
@@ -190,16 +205,19 @@ module _ (p : Program) (old mid : List ℤ) (lead : ℕ → ℤ) (r c : ℕ) (ro
         aim_row = aim_after;
         primitive = λ i h. elim (cases_eq i r) [
           | inl e ↦ (let P : ℕ → Type 0 = λ k. IsPrimitive p.cols (cell new (p.cols + 2) k) in
-              subst P (sym e) (primitive_same_row p.cols lead (cell new (p.cols + 2) r) (λ j l. sym (row_r j (omega arith))) (lead_primitive (prim.rows r rows))))
+              subst P (sym e) (primitive_same_row p.cols lead (cell new (p.cols + 2) r) (λ j l. sym (row_r j (omega arith)))
+              (lead_primitive (prim.rows r rows))))
           | inr ne ↦ reduced_row_primitive i (cell new (p.cols + 2) i) h (row_i i (omega arith) ne)
         ];
-        primitive_aim = primitive_flipped p.cols (p.cols + 1) (cell new (p.cols + 2) p.rows) (table_aim p new) (λ j. flipped_abs p.cols (cell new (p.cols + 2) p.rows) j)
+        primitive_aim = primitive_flipped p.cols (p.cols + 1) (cell new (p.cols + 2) p.rows) (table_aim p new)
+            (λ j. flipped_abs p.cols (cell new (p.cols + 2) p.rows) j)
             (reduced_primitive (cell old (p.cols + 2) p.rows) (cell new (p.cols + 2) p.rows) (row_i p.rows (omega arith) not_r));
       };
     }
 
   -- ---- some number not narrow
-  module _ (i j : ℕ) (z : ℤ) (cleared : IsClearedTo mid (p.rows + 1) (p.cols + 2) r c lead i j z) (prim : IsPrimitiveTable p old) (narrow : (k : ℕ) → k < p.cols + 2 → IsNarrow (lead k)) (Q : ℕ → ℕ → ℤ) (b : ℕ → ℤ)
+  module _ (i j : ℕ) (z : ℤ) (cleared : IsClearedTo mid (p.rows + 1) (p.cols + 2) r c lead i j z) (prim : IsPrimitiveTable p old) (narrow : (k : ℕ)
+      → k < p.cols + 2 → IsNarrow (lead k)) (Q : ℕ → ℕ → ℤ) (b : ℕ → ℤ)
       (el : IsEliminated p (table_rows p old) (table_aim p old) r c Q b) where
     lead_is : (k : ℕ) → k ≤ p.cols → Q r k ≡ lead k
     lead_is k kn =
@@ -207,10 +225,12 @@ module _ (p : Program) (old mid : List ℤ) (lead : ℕ → ℤ) (r c : ℕ) (ro
         elim el.self [
           | inl s ↦ elim turned.self [
             | inl t ↦ s k kn ∙ sym (t k (omega arith))
-            | inr t ↦ (let e : Q r c ≡ table_rows p old r c = s c (omega arith) in let f : lead c ≡ neg_ℤ (table_rows p old r c) = t c (omega arith) in absurd (omega (arith, linear)))
+            | inr t ↦ (let e : Q r c ≡ table_rows p old r c = s c (omega arith) in let f : lead c ≡ neg_ℤ (table_rows p old r c) = t c (omega arith) in
+                absurd (omega (arith, linear)))
           ]
           | inr s ↦ elim turned.self [
-            | inl t ↦ (let e : Q r c ≡ neg_ℤ (table_rows p old r c) = s c (omega arith) in let f : lead c ≡ table_rows p old r c = t c (omega arith) in absurd (omega (arith, linear)))
+            | inl t ↦ (let e : Q r c ≡ neg_ℤ (table_rows p old r c) = s c (omega arith) in let f : lead c ≡ table_rows p old r c = t c (omega arith) in
+                absurd (omega (arith, linear)))
             | inr t ↦ s k kn ∙ sym (t k (omega arith))
           ]
         ]
@@ -219,21 +239,25 @@ module _ (p : Program) (old mid : List ℤ) (lead : ℕ → ℤ) (r c : ℕ) (ro
     row_is h new hm ne u =
         let o = el.other h hm ne in let g = u.divided in let X = cell old (p.cols + 2) h in
         primitive_same p.cols o.0 g.0 o.1 g.1 (Q h) new
-        (λ k kn. sym (o.2 k kn) ∙ ap (λ t. t *ℤ X k -ℤ X c *ℤ Q r k) (lead_is c (omega arith)) ∙ ap (λ t. lead c *ℤ X k -ℤ X c *ℤ t) (lead_is k kn) ∙ g.2 k (omega arith))
+        (λ k kn. sym (o.2 k kn) ∙ ap (λ t. t *ℤ X k -ℤ X c *ℤ Q r k) (lead_is c (omega arith)) ∙ ap (λ t. lead c *ℤ X k -ℤ X c *ℤ t) (lead_is k kn)
+        ∙ g.2 k (omega arith))
         (el.primitive h hm) (reduced_row_primitive h new hm u)
 
-    aim_equal : (new : ℕ → ℤ) → (u : IsReduced lead c (p.cols + 2) (cell old (p.cols + 2) p.rows) new) → (k : ℕ) → k ≤ p.cols + 1 → el.aim_row.0 *ℤ flipped p.cols b k ≡ u.divided.0 *ℤ new k
+    aim_equal : (new : ℕ → ℤ) → (u : IsReduced lead c (p.cols + 2) (cell old (p.cols + 2) p.rows) new) → (k : ℕ) → k ≤ p.cols + 1
+        → el.aim_row.0 *ℤ flipped p.cols b k ≡ u.divided.0 *ℤ new k
     aim_equal new u k kn =
         let n = p.cols in let X = cell old (n + 2) p.rows in let A = table_aim p old in let a = el.aim_row in let g = u.divided in
         let far : A c ≡ X c = flipped_other n X c (λ e. omega arith) in
         let le = lead_is c (omega arith) in
         elim (cases_lt k n) [
-          | inl l ↦ ap (λ t. a.0 *ℤ t) (flipped_other n b k (λ e. omega arith)) ∙ sym (a.2 k l) ∙ ap (λ t. t *ℤ A k -ℤ A c *ℤ Q r k) le ∙ ap (λ t. lead c *ℤ t -ℤ A c *ℤ Q r k) (flipped_other n X k (λ e. omega arith))
+          | inl l ↦ ap (λ t. a.0 *ℤ t) (flipped_other n b k (λ e. omega arith)) ∙ sym (a.2 k l) ∙ ap (λ t. t *ℤ A k -ℤ A c *ℤ Q r k) le
+              ∙ ap (λ t. lead c *ℤ t -ℤ A c *ℤ Q r k) (flipped_other n X k (λ e. omega arith))
               ∙ ap (λ t. lead c *ℤ X k -ℤ t *ℤ Q r k) far ∙ ap (λ t. lead c *ℤ X k -ℤ X c *ℤ t) (lead_is k (omega arith)) ∙ g.2 k (omega arith)
           | inr m ↦ elim (cases_eq k n) [
             | inl e ↦
                 (let s : lead c *ℤ neg_ℤ (X n) +ℤ X c *ℤ lead n ≡ a.0 *ℤ b n =
-                ap (λ t. lead c *ℤ t +ℤ X c *ℤ lead n) (sym (flipped_at n X)) ∙ ap (λ t. t *ℤ A n +ℤ X c *ℤ lead n) (sym le) ∙ ap (λ t. Q r c *ℤ A n +ℤ t *ℤ lead n) (sym far) ∙ ap (λ t. Q r c *ℤ A n +ℤ A c *ℤ t) (sym (lead_is n (omega arith))) ∙ a.3 in
+                ap (λ t. lead c *ℤ t +ℤ X c *ℤ lead n) (sym (flipped_at n X)) ∙ ap (λ t. t *ℤ A n +ℤ X c *ℤ lead n) (sym le)
+                ∙ ap (λ t. Q r c *ℤ A n +ℤ t *ℤ lead n) (sym far) ∙ ap (λ t. Q r c *ℤ A n +ℤ A c *ℤ t) (sym (lead_is n (omega arith))) ∙ a.3 in
                 let v : a.0 *ℤ neg_ℤ (b n) ≡ lead c *ℤ X n -ℤ X c *ℤ lead n = omega (arith, linear, times_neg a.0 (b n), times_neg (lead c) (X n)) in
                 let P : ℕ → Type 0 = λ t. a.0 *ℤ flipped n b t ≡ g.0 *ℤ new t in
                 subst P (sym e) (ap (λ t. a.0 *ℤ t) (flipped_at n b) ∙ v ∙ g.2 n (omega arith)))
@@ -242,15 +266,18 @@ module _ (p : Program) (old mid : List ℤ) (lead : ℕ → ℤ) (r c : ℕ) (ro
                 let P : ℕ → Type 0 = λ t. a.0 *ℤ flipped n b t ≡ g.0 *ℤ new t in
                 let R : ℕ → Type 0 = λ t. lead c *ℤ X (n + 1) ≡ g.0 *ℤ new t in
                 let x : A (suc n) ≡ X (n + 1) = flipped_other n X (suc n) (λ e. omega arith) ∙ ap X (sym f) in
-                let y : lead c *ℤ X (n + 1) ≡ g.0 *ℤ new (suc n) = subst R f (drop_zero (lead c) (X (n + 1)) (X c) (lead (n + 1)) g.0 (new (n + 1)) (g.2 (n + 1) (omega arith)) lead_end) in
-                subst P e (ap (λ t. a.0 *ℤ t) (flipped_other n b (suc n) (λ e. omega arith)) ∙ sym a.4 ∙ ap (λ t. t *ℤ A (suc n)) le ∙ ap (λ t. lead c *ℤ t) x ∙ y))
+                let y : lead c *ℤ X (n + 1) ≡ g.0 *ℤ new (suc n) = subst R f
+                (drop_zero (lead c) (X (n + 1)) (X c) (lead (n + 1)) g.0 (new (n + 1)) (g.2 (n + 1) (omega arith)) lead_end) in
+                subst P e (ap (λ t. a.0 *ℤ t) (flipped_other n b (suc n) (λ e. omega arith)) ∙ sym a.4 ∙ ap (λ t. t *ℤ A (suc n)) le ∙ ap (λ t. lead c *ℤ t) x
+                ∙ y))
           ]
         ]
 
     aim_is : (new : ℕ → ℤ) → IsReduced lead c (p.cols + 2) (cell old (p.cols + 2) p.rows) new → (k : ℕ) → k ≤ p.cols + 1 → flipped p.cols b k ≡ new k
     aim_is new u =
         primitive_same (p.cols + 1) el.aim_row.0 u.divided.0 el.aim_row.1 u.divided.1 (flipped p.cols b) new (aim_equal new u)
-        (primitive_flipped p.cols (p.cols + 1) b (flipped p.cols b) (λ k. flipped_abs p.cols b k) el.primitive_aim) (reduced_primitive (cell old (p.cols + 2) p.rows) new u)
+        (primitive_flipped p.cols (p.cols + 1) b (flipped p.cols b) (λ k. flipped_abs p.cols b k) el.primitive_aim)
+        (reduced_primitive (cell old (p.cols + 2) p.rows) new u)
 
     narrow_is : (x y : ℤ) → unsigned_abs x ≡ unsigned_abs y → IsNarrow y → IsNarrow x
     narrow_is x y e h = omega (arith, h)
@@ -268,9 +295,11 @@ module _ (p : Program) (old mid : List ℤ) (lead : ℕ → ℤ) (r c : ℕ) (ro
 
     narrow_before : (h k : ℕ) → h < p.rows → k ≤ p.cols → (h < i) ⊎ ((h ≡ i) × (k < j)) → IsNarrow (Q h k)
     narrow_before h k hm kn s = elim (cases_eq h r) [
-      | inl e ↦ (let P : ℕ → Type 0 = λ t. IsNarrow (Q t k) in let R : ℤ → Type 0 = λ t. IsNarrow t in subst P (sym e) (subst R (sym (lead_is k kn)) (narrow k (omega arith))))
+      | inl e ↦ (let P : ℕ → Type 0 = λ t. IsNarrow (Q t k) in let R : ℤ → Type 0 = λ t. IsNarrow t in
+          subst P (sym e) (subst R (sym (lead_is k kn)) (narrow k (omega arith))))
       | inr ne ↦ elim s [
-        | inl less ↦ (let v = cleared.before h less ne in let R : ℤ → Type 0 = λ t. IsNarrow t in subst R (sym (row_is h v.0 hm ne (reduced_old h v.0 ne v.1) k kn)) (v.2 k (omega arith)))
+        | inl less ↦ (let v = cleared.before h less ne in let R : ℤ → Type 0 = λ t. IsNarrow t in
+            subst R (sym (row_is h v.0 hm ne (reduced_old h v.0 ne v.1) k kn)) (v.2 k (omega arith)))
         | inr q ↦ (let P : ℕ → Type 0 = λ t. IsNarrow (Q t k) in let R : ℤ → Type 0 = λ t. IsNarrow t in
             let im : i < p.rows = omega (arith, q.0, hm) in
             subst P (sym q.0) (subst R (sym (row_is i cleared.here.row.0 im cleared.apart here_row k kn)) (cleared.here.row.3 k q.1)))
@@ -303,7 +332,8 @@ module _ (p : Program) (old mid : List ℤ) (lead : ℕ → ℤ) (r c : ℕ) (ro
         let h : j < p.cols + 2 = cleared.here.inside in
         let s : flipped p.cols b j ≡ z = aim_is cleared.here.row.0 (aim_row_here e) j (omega arith) ∙ cleared.here.row.2 in
         elim (cases_eq j p.cols) [
-          | inl f ↦ (let g : flipped p.cols b j ≡ neg_ℤ (b j) = (let P : ℕ → Type 0 = λ t. flipped p.cols b t ≡ neg_ℤ (b t) in subst P (sym f) (flipped_at p.cols b)) in
+          | inl f ↦ (let g : flipped p.cols b j ≡ neg_ℤ (b j) = (let P : ℕ → Type 0 = λ t. flipped p.cols b t ≡ neg_ℤ (b t) in
+              subst P (sym f) (flipped_at p.cols b)) in
               let q : b j ≡ neg_ℤ z = omega (arith, linear) in q ∙ sym (stated_side e f))
           | inr ne ↦ sym (flipped_other p.cols b j ne) ∙ s ∙ sym (stated_aim ne)
         ]
@@ -313,15 +343,18 @@ module _ (p : Program) (old mid : List ℤ) (lead : ℕ → ℤ) (r c : ℕ) (ro
       row = (let h : i < p.rows + 1 = cleared.inside in omega arith);
       here = elim (cases_lt i p.rows) [
         | inl im ↦ inl (im, in_row im, row_is i cleared.here.row.0 im cleared.apart here_row j (in_row im) ∙ cleared.here.row.2 ∙ sym (stated_row im))
-        | inr m ↦ (let e : i ≡ p.rows = (let h : i < p.rows + 1 = cleared.inside in omega arith) in inr (e, (let h : j < p.cols + 2 = cleared.here.inside in omega arith), aim_here e))
+        | inr m ↦ (let e : i ≡ p.rows = (let h : i < p.rows + 1 = cleared.inside in omega arith) in
+            inr (e, (let h : j < p.cols + 2 = cleared.here.inside in omega arith), aim_here e))
       ];
       wide = λ n. cleared.here.wide (narrow_is z (stated p i j z) (sym stated_abs) n);
       before = narrow_before;
       before_aim = λ k kj e. narrow_is (b k) (flipped p.cols b k) (sym (flipped_abs p.cols b k))
-          (let h : j < p.cols + 2 = cleared.here.inside in let P : ℤ → Type 0 = λ t. IsNarrow t in subst P (sym (aim_is cleared.here.row.0 (aim_row_here e) k (omega arith))) (cleared.here.row.3 k kj));
+          (let h : j < p.cols + 2 = cleared.here.inside in let P : ℤ → Type 0 = λ t. IsNarrow t in
+          subst P (sym (aim_is cleared.here.row.0 (aim_row_here e) k (omega arith))) (cleared.here.row.3 k kj));
     }
 
-  pub wide_from : (i j : ℕ) (z : ℤ) → IsClearedTo mid (p.rows + 1) (p.cols + 2) r c lead i j z → IsPrimitiveTable p old → ((k : ℕ) → k < p.cols + 2 → IsNarrow (lead k)) → IsWideAfter p old r c i j z
+  pub wide_from : (i j : ℕ) (z : ℤ) → IsClearedTo mid (p.rows + 1) (p.cols + 2) r c lead i j z → IsPrimitiveTable p old
+      → ((k : ℕ) → k < p.cols + 2 → IsNarrow (lead k)) → IsWideAfter p old r c i j z
   wide_from i j z cleared prim narrow =
       let el = elimination_exists p (table_rows p old) (table_aim p old) r c nonzero (prim.rows r rows) in
       record { size = cleared.here.size; rows = (el.0, el.1, el.2, wide_after i j z cleared prim narrow el.0 el.1 el.2) }

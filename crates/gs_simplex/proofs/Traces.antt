@@ -19,7 +19,8 @@ use Rattle.gs_simplex.specs.Trace.{IsBasis, IsBasisBelow, IsBasisAt, IsAimValue,
 use Rattle.gs_simplex.proofs.Paths.{turn_same_as, ends_stops}
 
 -- what holds of each element after a push
-pub holds_push : {X : Type 0} (P : ℕ → X → Type 0) (xs : List X) (x : X) (n : ℕ) → length xs ≡ n → ((k : ℕ) → k < n → HoldsAt (P k) xs k) → P n x → (k : ℕ) → k < n + 1 → HoldsAt (P k) (xs ++ x ∷ []) k
+pub holds_push : {X : Type 0} (P : ℕ → X → Type 0) (xs : List X) (x : X) (n : ℕ) → length xs ≡ n → ((k : ℕ) → k < n → HoldsAt (P k) xs k) → P n x → (k : ℕ)
+    → k < n + 1 → HoldsAt (P k) (xs ++ x ∷ []) k
 holds_push P xs x n long old new k h d = elim (cases_lt k n) [
   | inl l ↦ (let Q = P k in subst Q (sym (get_or_append_left xs (x ∷ []) d k (omega arith))) (old k l d))
   | inr g ↦ (let e : k ≡ n = omega arith in let q : length xs ≡ k = omega arith in
@@ -27,14 +28,18 @@ holds_push P xs x n long old new k h d = elim (cases_lt k n) [
 ]
 
 -- the basis of the list that a path has
-pub basis_at : (p : Program) (o : Listing) (t : ℕ) (l : Listing) (xs : List ℤ) → IsSoFar p o t l xs → (columns : List ℕ) → IsBasis l columns → IsBasisAt p o t columns
+pub basis_at : (p : Program) (o : Listing) (t : ℕ) (l : Listing) (xs : List ℤ) → IsSoFar p o t l xs → (columns : List ℕ) → IsBasis l columns
+    → IsBasisAt p o t columns
 basis_at p o t l xs u columns b = let P : Listing → Type 0 = λ x. IsBasis x columns in (u.states.0, u.states.1, subst P (sym u.states.2) b)
 
 -- one more pivot and basis noted
-pub noted_more : (p : Program) (o : Listing) (n : ℕ) (turns new_turns : List Turn) (bases new_bases : List (Vec ℕ Global)) (turn : Turn) (basis : Vec ℕ Global) → IsNoted p o n turns bases
-    → new_turns ≡ turns ++ turn ∷ [] → new_bases ≡ bases ++ basis ∷ [] → IsTurnAt p o (length o + n) turn → IsBasisAt p o (length o + (n + 1)) basis.items → IsNoted p o (n + 1) new_turns new_bases
+pub noted_more : (p : Program) (o : Listing) (n : ℕ) (turns new_turns : List Turn) (bases new_bases : List (Vec ℕ Global)) (turn : Turn)
+    (basis : Vec ℕ Global) → IsNoted p o n turns bases
+    → new_turns ≡ turns ++ turn ∷ [] → new_bases ≡ bases ++ basis ∷ [] → IsTurnAt p o (length o + n) turn → IsBasisAt p o (length o + (n + 1)) basis.items
+    → IsNoted p o (n + 1) new_turns new_bases
 noted_more p o n turns new_turns bases new_bases turn basis u et eb t b =
-    let P : List Turn → Type 0 = λ x. IsNoted p o (n + 1) x new_bases in let Q : List (Vec ℕ Global) → Type 0 = λ x. IsNoted p o (n + 1) (turns ++ turn ∷ []) x in
+    let P : List Turn → Type 0 = λ x. IsNoted p o (n + 1) x new_bases in let Q : List (Vec ℕ Global)
+    → Type 0 = λ x. IsNoted p o (n + 1) (turns ++ turn ∷ []) x in
     subst P (sym et) (subst Q (sym eb) (record {
       turns_long = omega (arith, length_push turns turn, u.turns_long);
       turns = holds_push (λ k. IsTurnAt p o (length o + k)) turns turn n u.turns_long u.turns t;
@@ -75,7 +80,12 @@ module _ (l : Listing) (j : ℕ) (cs : List ℕ) (u : IsBasisBelow l j cs) (here
     ];
     all = λ i h c. elim (cases_lt i j) [
       | inl less ↦ (let z = u.all i less c in (z.0, omega (arith, z.1, length_push cs (j + 1)), get_or_append_left cs ((j + 1) ∷ []) (i + 1) z.0 z.1 ∙ z.2))
-      | inr more ↦ (let e : j + 1 ≡ i + 1 = omega arith in (length cs, omega (arith, length_push cs (j + 1)), get_or_push cs (j + 1) (i + 1) (length cs) refl ∙ e))
+      | inr more ↦ (let e : j + 1 ≡ i + 1 = omega arith in (
+        length cs,
+        omega (arith, length_push cs (j + 1)),
+        get_or_push cs (j + 1) (i + 1) (length cs) refl
+            ∙ e,
+      ))
     ];
   }
 
@@ -108,24 +118,29 @@ path_front p o t k s u h = record {
 module _ (p : Program) (o : Listing) (n : ℕ) (s : States) (ok : IsOpening p o) (path : IsPath p o (length o + n) s) where
   -- another path has the same list after k pivots
   list_same : (k t : ℕ) (r : States) → IsPath p o t r → k ≤ n → length o + k ≤ t → s.lists (length o + k) ≡ r.lists (length o + k)
-  list_same k t r w h g = lists_same p o (length o + n) t s.lists r.lists s.rows r.rows s.aim r.aim s.entering r.entering s.leaving r.leaving ok path w k (omega arith) g
+  list_same k t r w h g = lists_same p o (length o + n) t s.lists r.lists s.rows r.rows s.aim r.aim s.entering r.entering s.leaving r.leaving ok path w k
+      (omega arith) g
 
-  agrees : (k t : ℕ) (r : States) → IsPath p o t r → k ≤ n → length o + k ≤ t → Agree p (s.rows (length o + k)) (r.rows (length o + k)) (s.aim (length o + k)) (r.aim (length o + k))
-  agrees k t r w h g = paths_agree p o (length o + n) t s.lists r.lists s.rows r.rows s.aim r.aim s.entering r.entering s.leaving r.leaving ok path w k (omega arith) g
+  agrees : (k t : ℕ) (r : States) → IsPath p o t r → k ≤ n → length o + k ≤ t
+      → Agree p (s.rows (length o + k)) (r.rows (length o + k)) (s.aim (length o + k)) (r.aim (length o + k))
+  agrees k t r w h g = paths_agree p o (length o + n) t s.lists r.lists s.rows r.rows s.aim r.aim s.entering r.entering s.leaving r.leaving ok path w k
+      (omega arith) g
 
   pub turn_is : (k : ℕ) → k < n → (turn : Turn) → IsTurnAt p o (length o + k) turn → IsTurnOf s (length o + k) turn
   turn_is k h turn w =
       let t = length o + k in let r = w.0 in
       let pv = w.1.pivots t (omega arith) (omega arith) in
       let full = (path_trail p o (t + 1) r.lists r.rows r.aim r.entering r.leaving ok w.1 k (omega arith)).0 in
-      let z = turn_same_as p o t (r.lists t) (r.rows t) (r.aim t) (r.entering t) pv.place.1 (r.leaving t) s (omega arith) (path_front p o (length o + n) (t + 1) s path (omega arith))
+      let z = turn_same_as p o t (r.lists t) (r.rows t) (r.aim t) (r.entering t) pv.place.1 (r.leaving t) s (omega arith)
+      (path_front p o (length o + n) (t + 1) s path (omega arith))
       (list_same k (t + 1) r w.1 (omega arith) (omega arith)) (agrees k (t + 1) r w.1 (omega arith) (omega arith)) full.is_list pv.enters pv.place.4 in
       (w.2 ∙ ap (λ x. x + 1) (sym z.0), w.3 ∙ ap (λ x. x + 1) (sym z.1))
 
   pub basis_is : (k : ℕ) → k ≤ n → (columns : List ℕ) → IsBasisAt p o (length o + k) columns → IsBasis (s.lists (length o + k)) columns
   basis_is k h columns w = let P : Listing → Type 0 = λ x. IsBasis x columns in subst P (sym (list_same k (length o + k) w.0 w.1 h (omega arith))) w.2
 
-  pub value_is : (k : ℕ) → k ≤ n → (l : Listing) (xs : List ℤ) (f : Fraction) → IsSoFar p o (length o + k) l xs → IsAimValue p (table_aim p xs) f → IsAimValue p (s.aim (length o + k)) f
+  pub value_is : (k : ℕ) → k ≤ n → (l : Listing) (xs : List ℤ) (f : Fraction) → IsSoFar p o (length o + k) l xs → IsAimValue p (table_aim p xs) f
+      → IsAimValue p (s.aim (length o + k)) f
   value_is k h l xs f u e =
       let t = length o + k in let r = u.states.0 in
       let ag = agrees k t r u.states.1 h (omega arith) in
@@ -134,12 +149,16 @@ module _ (p : Program) (o : Listing) (n : ℕ) (s : States) (ok : IsOpening p o)
 
   pub bases_apart : (k h : ℕ) → k < h → h ≤ n → (a b : List ℕ) → IsBasis (s.lists (length o + k)) a → IsBasis (s.lists (length o + h)) b → a ≡ b → ⊥
   bases_apart k h kh hn a b u w e =
-      bases_differ p o (length o + n) s.lists s.rows s.aim s.entering s.leaving ok path (length o + k) (length o + h) (omega arith) (omega arith) (omega arith)
-      (same_columns (s.lists (length o + h)) (s.lists (length o + k)) b a w u (sym e)) (same_columns (s.lists (length o + k)) (s.lists (length o + h)) a b u w e)
+      bases_differ p o (length o + n) s.lists s.rows s.aim s.entering s.leaving ok path (length o + k) (length o + h) (omega arith) (omega arith)
+      (omega arith)
+      (same_columns (s.lists (length o + h)) (s.lists (length o + k)) b a w u (sym e))
+      (same_columns (s.lists (length o + k)) (s.lists (length o + h)) a b u w e)
 
 -- ---- all together
-pub trace_of : (p : Program) (o : Listing) (limit n : ℕ) (t : PathTrace) (l0 l : Listing) (xs0 xs : List ℤ) → IsSmall p → IsOpening p o → IsSoFar p o (length o) l0 xs0 → IsAimValue p (table_aim p xs0) t.start
-    → IsSoFar p o (length o + n) l xs → IsTable p xs → n ≤ limit → NoneEnters p l (table_aim p xs) → IsAimValue p (table_aim p xs) t.aim → IsNoted p o n t.turns.items t.bases.items → IsTrace p o limit t
+pub trace_of : (p : Program) (o : Listing) (limit n : ℕ) (t : PathTrace) (l0 l : Listing) (xs0 xs : List ℤ) → IsSmall p → IsOpening p o
+    → IsSoFar p o (length o) l0 xs0 → IsAimValue p (table_aim p xs0) t.start
+    → IsSoFar p o (length o + n) l xs → IsTable p xs → n ≤ limit → NoneEnters p l (table_aim p xs) → IsAimValue p (table_aim p xs) t.aim
+    → IsNoted p o n t.turns.items t.bases.items → IsTrace p o limit t
 trace_of p o limit n t l0 l xs0 xs small ok u0 start u table within none aim noted =
     let stop : PathStops p o limit (ends n l) = ends_stops p o limit n l xs u table within none in
     let s = stop.stops.1 in
@@ -167,5 +186,6 @@ trace_of p o limit n t l0 l xs0 xs small ok u0 start u table within none aim not
       bases_differ = λ k h kh hl x y e.
           let hn : h ≤ n = omega (arith, noted.bases_long) in
           bases_apart p o n s ok path k h kh hn (slice_index_or t.bases.items k x).items (slice_index_or t.bases.items h y).items
-          (basis_is p o n s ok path k (omega arith) (slice_index_or t.bases.items k x).items (noted.bases k (omega arith) x)) (basis_is p o n s ok path h hn (slice_index_or t.bases.items h y).items (noted.bases h (omega arith) y)) e;
+          (basis_is p o n s ok path k (omega arith) (slice_index_or t.bases.items k x).items (noted.bases k (omega arith) x))
+          (basis_is p o n s ok path h hn (slice_index_or t.bases.items h y).items (noted.bases h (omega arith) y)) e;
     }

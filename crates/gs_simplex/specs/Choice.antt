@@ -25,7 +25,8 @@ IsNarrowRatio a = IsNarrow a.side × IsNarrow a.over
 
 -- a is the ratio of the row at place k, which may leave when column e enters
 pub record IsRatio (p : Program) (l : Listing) (rows : ℕ → ℕ → ℤ) (e k : ℕ) (a : Ratio) : Type 0 where
-  pub pair : (r : ℕ) × (c : ℕ) × (slice_index_or l k (0, 0) ≡ (r + 1, c + 1)) × (a.column ≡ c) × (¬ IsFree p c) × (a.over ≡ rows r e) × (a.side ≡ rows r p.cols)
+  pub pair : (r : ℕ) × (c : ℕ) × (slice_index_or l k (0, 0) ≡ (r + 1, c + 1)) × (a.column ≡ c) × (¬ IsFree p c) × (a.over ≡ rows r e)
+      × (a.side ≡ rows r p.cols)
   pub place : a.place ≡ k
   pub rises : pos 0 <ℤ a.over
   pub narrow : IsNarrow a.over

@@ -12,7 +12,8 @@ pub record IsWideRow (width : ℕ) (row : List ℤ) : Type 0 where
 
 -- no pair before has the row or the column of the pair at this step
 abbrev pub IsNewPair : Listing → ℕ → Type 0
-IsNewPair o step = (k : ℕ) → k < step → ((slice_index_or o k (0, 0)).0 ≢ (slice_index_or o step (0, 0)).0) × ((slice_index_or o k (0, 0)).1 ≢ (slice_index_or o step (0, 0)).1)
+IsNewPair o step = (k : ℕ) → k < step → ((slice_index_or o k (0, 0)).0 ≢ (slice_index_or o step (0, 0)).0)
+    × ((slice_index_or o k (0, 0)).1 ≢ (slice_index_or o step (0, 0)).1)
 
 -- the pair at this step can be taken after those before it
 pub record CanTakeAt (p : Program) (rows : ℕ → ℕ → ℤ) (o : Listing) (step : ℕ) : Type 0 where

@@ -16,14 +16,17 @@ AreOver count xs d v = (j : ℕ) → j < count → HoldsAt (λ f. f.num *ℤ d �
 -- at the end of the path the values satisfy the rows, none of a column that is not free is negative, and no price is negative
 abbrev pub EndIsFeasible : Type 0
 EndIsFeasible = (p : Program) (o : Listing) (limit : ℕ) (b : Best) → IsOpening p o → IsBest p o limit b
-    → ((d : ℤ) × (v : ℕ → ℤ) × (IsFeasible p d v) × AreOver p.cols b.value.items d v) × ((j : ℕ) → j < p.cols → HoldsAt (λ f. pos 0 <ℤ f.den → pos 0 ≤ℤ f.num) b.price.items j)
+    → ((d : ℤ) × (v : ℕ → ℤ) × (IsFeasible p d v) × AreOver p.cols b.value.items d v)
+    × ((j : ℕ) → j < p.cols → HoldsAt (λ f. pos 0 <ℤ f.den → pos 0 ≤ℤ f.num) b.price.items j)
 
 -- There is one multiplier y i over s for each program row. Each column's price is the sum of multiplier times the column's number in the row, less its
 -- number in the aim; and the aim's value, that of the values v over d, which are feasible, is the sum of multiplier times right side.
 abbrev pub PricesHaveMultipliers : Type 0
 PricesHaveMultipliers = (p : Program) (o : Listing) (limit : ℕ) (b : Best) → IsOpening p o → IsBest p o limit b
-    → (s : ℤ) × (y : ℕ → ℤ) × (pos 0 <ℤ s) × ((j : ℕ) → j < p.cols → HoldsAt (λ f. f.num *ℤ s ≡ f.den *ℤ (sum_to p.rows (λ i. y i *ℤ number p i j) -ℤ s *ℤ aim_of p j)) b.price.items j)
-    × ((d : ℤ) × (v : ℕ → ℤ) × (IsFeasible p d v) × (AreOver p.cols b.value.items d v) × (s *ℤ sum_to p.cols (λ j. aim_of p j *ℤ v j) ≡ d *ℤ sum_to p.rows (λ i. y i *ℤ number p i p.cols)))
+    → (s : ℤ) × (y : ℕ → ℤ) × (pos 0 <ℤ s) × ((j : ℕ) → j < p.cols → HoldsAt (λ f. f.num *ℤ s
+    ≡ f.den *ℤ (sum_to p.rows (λ i. y i *ℤ number p i j) -ℤ s *ℤ aim_of p j)) b.price.items j)
+    × ((d : ℤ) × (v : ℕ → ℤ) × (IsFeasible p d v) × (AreOver p.cols b.value.items d v)
+    × (s *ℤ sum_to p.cols (λ j. aim_of p j *ℤ v j) ≡ d *ℤ sum_to p.rows (λ i. y i *ℤ number p i p.cols)))
 
 -- a path that is unbounded: for each whole number there is a feasible solution, v over d, whose aim is above it
 abbrev pub AimHasNoBound : Type 0

@@ -38,4 +38,5 @@ stated p i j z = if nat_eq i p.rows && nat_eq j p.cols then neg_ℤ z else z
 -- after the pivot the first number that is not narrow is z, in row i and column j of the table
 pub record IsWideAfter (p : Program) (old : List ℤ) (r c i j : ℕ) (z : ℤ) : Type 0 where
   pub size : unsigned_abs z ≤ 2 ^ 125
-  pub rows : (new : ℕ → ℕ → ℤ) × (new_aim : ℕ → ℤ) × (IsEliminated p (table_rows p old) (table_aim p old) r c new new_aim) × (IsFirstWide p new new_aim i j (stated p i j z))
+  pub rows : (new : ℕ → ℕ → ℤ) × (new_aim : ℕ → ℤ) × (IsEliminated p (table_rows p old) (table_aim p old) r c new new_aim)
+      × (IsFirstWide p new new_aim i j (stated p i j z))

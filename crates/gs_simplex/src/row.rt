@@ -393,7 +393,8 @@ pub(crate) fn reduce_row(
     requires narrow_lead { AllNarrow lead.now.numbers.now }
     requires narrow_row { AllNarrow row.old }
     requires primitive { IsPrimitive (length row.old - 1) (at row.old) }
-    ensures { MatchOption result (IsReduced (at lead.now.numbers.now) lead.now.column (length lead.now.numbers.now) (at row.old) (at row.new) × AllNarrow row.new)
+    ensures { MatchOption result (IsReduced (at lead.now.numbers.now) lead.now.column (length lead.now.numbers.now) (at row.old) (at row.new)
+        × AllNarrow row.new)
         (λ w. IsReducedTo (at lead.now.numbers.now) lead.now.column (length lead.now.numbers.now) (at row.old) w.column w.number) }
 {
     if row[lead.column] == 0 {

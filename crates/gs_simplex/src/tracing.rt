@@ -124,7 +124,8 @@ impl Log {
     ) -> Result<u32, Stop>
         requires ready { CanFollow p.now opening.now limit basis.old table.old }
         requires log { IsLog p.now opening.now 0 self.old }
-        ensures { MatchResult result (λ n. IsEnd p.now opening.now limit n basis.new table.new × IsLog p.now opening.now n self.new) (IsStop p.now opening.now limit) }
+        ensures { MatchResult result (λ n. IsEnd p.now opening.now limit n basis.new table.new
+            × IsLog p.now opening.now n self.new) (IsStop p.now opening.now limit) }
     {
         for made in 0..limit + 1 {
             match step(p, opening, limit, made, basis, table)? {

@@ -17,12 +17,15 @@ use Rattle.gs_split.specs.Turns.{AreClassSums, AreSettled, AreSideFirsts, AreSid
 
 module _ (f : Frame) (lists : ClassLists) (round : ℕ) where
   -- members of a settled class agree with its first member
-  settled_agrees : (side : Side) (firsts : List ℕ) (settled : List Bool) (s : ℕ) → AreSideFirsts f lists side round firsts → AreSettled lists round firsts settled → s < length firsts → IsSettled lists round settled s → AgreesWithFirst f lists side round s
+  settled_agrees : (side : Side) (firsts : List ℕ) (settled : List Bool) (s : ℕ) → AreSideFirsts f lists side round firsts
+      → AreSettled lists round firsts settled → s < length firsts → IsSettled lists round settled s → AgreesWithFirst f lists side round s
   settled_agrees side firsts settled s stands h l one = subst (λ (x : ℕ). Agree f lists side round x s) (h.first s l one) (stands.agree s l)
 
   -- members of a class have the same sums exactly where they agree
-  pub sums_law : (side : Side) (firsts : List ℕ) (settled : List Bool) (i j : ℕ) (a b : List Part) → AreSideFirsts f lists side round firsts → AreSettled lists round firsts settled → i < length firsts → j < length firsts
-      → class_of lists round i ≡ class_of lists round j → AreClassSums f lists side round settled i a → AreClassSums f lists side round settled j b → (a ≡ b) ↔ Agree f lists side round i j
+  pub sums_law : (side : Side) (firsts : List ℕ) (settled : List Bool) (i j : ℕ) (a b : List Part) → AreSideFirsts f lists side round firsts
+      → AreSettled lists round firsts settled → i < length firsts → j < length firsts
+      → class_of lists round i ≡ class_of lists round j → AreClassSums f lists side round settled i a → AreClassSums f lists side round settled j b
+      → (a ≡ b) ↔ Agree f lists side round i j
   sums_law side firsts settled i j a b stands h li lj same ha hb = by (get_or settled (class_of lists round i - 1) false) refl
     where
       by : (t : Bool) → get_or settled (class_of lists round i - 1) false ≡ t → (a ≡ b) ↔ Agree f lists side round i j
@@ -41,16 +44,19 @@ module _ (f : Frame) (lists : ClassLists) (round : ℕ) where
           )
 
   -- none where the class of a signal is settled
-  pub sums_none : (side : Side) (settled : List Bool) (s : ℕ) (sums : List Part) → IsSettled lists round settled s → sums ≡ [] → AreClassSums f lists side round settled s sums
+  pub sums_none : (side : Side) (settled : List Bool) (s : ℕ) (sums : List Part) → IsSettled lists round settled s → sums ≡ []
+      → AreClassSums f lists side round settled s sums
   sums_none side settled s sums is none = record { none = λ _. none; made = λ other. absurd (other is) }
 
   -- and else its own
-  pub sums_made : (side : Side) (settled : List Bool) (s : ℕ) (sums : List Part) → get_or settled (class_of lists round s - 1) false ≡ false → AreAmounts f lists side round s (reverse sums)
+  pub sums_made : (side : Side) (settled : List Bool) (s : ℕ) (sums : List Part) → get_or settled (class_of lists round s - 1) false ≡ false
+      → AreAmounts f lists side round s (reverse sums)
       → AreClassSums f lists side round settled s sums
   sums_made side settled s sums apart made = record { none = λ is. absurd (true≢false (sym is ∙ apart)); made = λ _. made }
 
   -- the sums of a signal are those of one that stands for it
-  pub sums_again : (side : Side) (firsts : List ℕ) (settled : List Bool) (s : ℕ) (sums : List Part) → AreSideFirsts f lists side round firsts → s < length firsts
+  pub sums_again : (side : Side) (firsts : List ℕ) (settled : List Bool) (s : ℕ) (sums : List Part) → AreSideFirsts f lists side round firsts
+      → s < length firsts
       → AreClassSums f lists side round settled (get_or firsts s 0) sums → AreClassSums f lists side round settled s sums
   sums_again side firsts settled s sums stands l h =
       let same = stands.class s l in
@@ -72,7 +78,8 @@ module _ (f : Frame) (lists : ClassLists) (round : ℕ) where
   deals_same : (i j : ℕ) → round ≡ last_round f → Agree f lists Deals round i j ↔ HaveSameSums f lists round i j
   deals_same i j e =
       let t : (round == last_round f) ≡ true = (Decides-eqb round (last_round f)).1 e in
-      let P : Bool → ℕ → ℤ → Type 0 = λ b c o. cond b (weight_with f lists i c o) (cond (int_eq (pos 0) o) (weight_against f lists round i c) 0) ≡ cond b (weight_with f lists j c o) (cond (int_eq (pos 0) o) (weight_against f lists round j c) 0) in (
+      let P : Bool → ℕ → ℤ → Type 0 = λ b c o. cond b (weight_with f lists i c o) (cond (int_eq (pos 0) o) (weight_against f lists round i c) 0)
+      ≡ cond b (weight_with f lists j c o) (cond (int_eq (pos 0) o) (weight_against f lists round j c) 0) in (
         (λ g. record { sums = λ _ c o. subst (λ b. P b c o) t (g c o); children = λ l. absurd (omega (arith, e, l)) }),
         (λ h c o. subst (λ b. P b c o) (sym t) (h.sums e c o)),
       )
@@ -99,5 +106,8 @@ triples p q e f g =
 
 pub key_exact : (x y : ℕ × ℕ × ℕ) → Decides (key_eq x y) (x ≡ y)
 key_exact x y =
-    Decides-like (key_eq x y) (λ p. triples x y p.0 p.1.0 p.1.1) (λ e. (ap (λ (p : ℕ × ℕ × ℕ). p.0) e, (ap (λ (p : ℕ × ℕ × ℕ). p.1) e, ap (λ (p : ℕ × ℕ × ℕ). p.2) e)))
+    Decides-like (key_eq x y) (λ p. triples x y p.0 p.1.0 p.1.1) (λ e. (
+      ap (λ (p : ℕ × ℕ × ℕ). p.0) e,
+      (ap (λ (p : ℕ × ℕ × ℕ). p.1) e, ap (λ (p : ℕ × ℕ × ℕ). p.2) e),
+    ))
     (Decides-and _ _ (Decides-eqb x.0 y.0) (Decides-and _ _ (Decides-eqb x.1 y.1) (Decides-eqb x.2 y.2)))

@@ -48,7 +48,8 @@ module _ (g : Game) (p : IsPlayable g) (lists : ClassLists) where
       ∙ ap (λ (n : ℕ). sum_at (flat_map at (range_with_len s n)) c o) one
       ∙ ap (λ (l : List Part). sum_at l c o) (append-nil (at s) ∙ parts_seen keys (filter (λ (d : Deal). d.one == s) (deals g)))
 
-  agree_alike : (s t : ℕ) → s < signal_count (frame_of g) (last_round (frame_of g)) → t < signal_count (frame_of g) (last_round (frame_of g)) → AreAlike g keys s t → Agree (frame_of g) lists Deals (last_round (frame_of g)) t s
+  agree_alike : (s t : ℕ) → s < signal_count (frame_of g) (last_round (frame_of g)) → t < signal_count (frame_of g) (last_round (frame_of g))
+      → AreAlike g keys s t → Agree (frame_of g) lists Deals (last_round (frame_of g)) t s
   agree_alike s t ls lt like c o =
       let moved : IsPermutation (map part (seen g keys s)) (map part (seen g keys t)) = IsPermutation-map part (seen g keys s) (seen g keys t) like.deals in
       amount_seen t lt c o ∙ sum_by-IsPermutation (weight_at c o) (map part (seen g keys s)) (map part (seen g keys t)) moved ∙ sym (amount_seen s ls c o)
@@ -78,7 +79,8 @@ module _ (g : Game) (p : IsPlayable g) (lists : ClassLists) where
             agree_alike s (get_or firsts s 0) ls (omega (arith, b, ls)) (h.alike s (omega (arith, l, h.long)));
       }
 
-pub firsts_of_deals : (g : Game) → IsPlayable g → (side : Side) (round : ℕ) → HasSide (frame_of g) side round → round ≡ round_count g → (lists : ClassLists) (keys firsts : List ℕ)
+pub firsts_of_deals : (g : Game) → IsPlayable g → (side : Side) (round : ℕ) → HasSide (frame_of g) side round → round ≡ round_count g
+    → (lists : ClassLists) (keys firsts : List ℕ)
     → keys ≡ keys_of (frame_of g) lists side round → AreStandIns g keys firsts → AreSideFirsts (frame_of g) lists side round firsts
 firsts_of_deals g p Children round side e lists keys firsts is h = absurd (omega (arith, side.1, e, last_is g))
 firsts_of_deals g p Deals round side e lists keys firsts is h =
@@ -88,12 +90,14 @@ firsts_of_deals g p Deals round side e lists keys firsts is h =
     subst (λ (r : ℕ). AreSideFirsts f lists Deals r firsts) (sym top) (deal_firsts g p lists firsts (subst (λ (k : List ℕ). AreStandIns g k firsts) is' h))
 
 -- in the last round the side's keys are one for each last-round signal
-pub last_keys : (g : Game) (side : Side) (round n : ℕ) → HasSide (frame_of g) side round → round ≡ round_count g → n ≡ key_count g side round → n ≡ last_count g
+pub last_keys : (g : Game) (side : Side) (round n : ℕ) → HasSide (frame_of g) side round → round ≡ round_count g → n ≡ key_count g side round
+    → n ≡ last_count g
 last_keys g Children round n side e all = absurd (omega (arith, side.1, e, last_is g))
 last_keys g Deals round n side e all = all
 
 -- each signal stands for itself
-pub firsts_of_themselves : (g : Game) (side : Side) (round n : ℕ) (lists : ClassLists) (firsts : List ℕ) → 0 < round → round ≤ round_count g → n ≡ length (signals g round) → length firsts ≡ n
+pub firsts_of_themselves : (g : Game) (side : Side) (round n : ℕ) (lists : ClassLists) (firsts : List ℕ) → 0 < round → round ≤ round_count g
+    → n ≡ length (signals g round) → length firsts ≡ n
     → ((s : ℕ) → s < n → get_or firsts s 0 ≡ s) → AreSideFirsts (frame_of g) lists side round firsts
 firsts_of_themselves g side round n lists firsts some top e long each =
     let f = frame_of g in

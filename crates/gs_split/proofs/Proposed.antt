@@ -51,8 +51,10 @@ module _ (f : Frame) (old numbers : ClassLists) (h : AreFairFrom f old 1 numbers
         ((e.classes.same s t (omega (arith, c.first_in, e.long)) (omega (arith, c.second_in, e.long))).0 c.same).before
 
     -- a round parts no two signals that a lossless refinement keeps together, where the round before parts none
-    kept_here : (other : ClassLists) → IsLossless f other → Refines f other old → (round s t : ℕ) → 0 < round → round ≤ last_round f → InOneClass f other round s t
-        → (1 < round → class_of new (round - 1) (get_or (parents_of f round) s 0) ≡ class_of new (round - 1) (get_or (parents_of f round) t 0)) → class_of new round s ≡ class_of new round t
+    kept_here : (other : ClassLists) → IsLossless f other → Refines f other old → (round s t : ℕ) → 0 < round → round ≤ last_round f
+        → InOneClass f other round s t
+        → (1 < round → class_of new (round - 1) (get_or (parents_of f round) s 0) ≡ class_of new (round - 1) (get_or (parents_of f round) t 0))
+        → class_of new round s ≡ class_of new round t
     kept_here other l r round s t some le c above =
         let e = p.each round some le in
         (e.classes.same s t (omega (arith, c.first_in, e.long)) (omega (arith, c.second_in, e.long))).1
@@ -72,11 +74,13 @@ module _ (f : Frame) (old numbers : ClassLists) (h : AreFairFrom f old 1 numbers
           same = kin c.first_in c.second_in c.same;
         }
 
-    kept_to : (other : ClassLists) → IsLossless f other → Refines f other old → (n round s t : ℕ) → round ≡ n + 1 → round ≤ last_round f → InOneClass f other round s t → class_of new round s ≡ class_of new round t
+    kept_to : (other : ClassLists) → IsLossless f other → Refines f other old → (n round s t : ℕ) → round ≡ n + 1 → round ≤ last_round f
+        → InOneClass f other round s t → class_of new round s ≡ class_of new round t
     kept_to other l r zero round s t e le c = kept_here other l r round s t (omega (arith, e)) le c (λ more. absurd (omega (arith, e, more)))
     kept_to other l r (suc n) round s t e le c =
         kept_here other l r round s t (omega (arith, e)) le c
-        (λ more. kept_to other l r n (round - 1) (get_or (parents_of f round) s 0) (get_or (parents_of f round) t 0) (omega (arith, e)) (omega (arith, le)) (parents_in_one other l round s t more le c))
+        (λ more. kept_to other l r n (round - 1) (get_or (parents_of f round) s 0) (get_or (parents_of f round) t 0) (omega (arith, e)) (omega (arith, le))
+        (parents_in_one other l round s t more le c))
 
     pub parted_proposal : IsProposal f old new
     parted_proposal = record {
@@ -85,14 +89,17 @@ module _ (f : Frame) (old numbers : ClassLists) (h : AreFairFrom f old 1 numbers
     }
 
 -- numbers of one more round stand before those of the later rounds
-pub fair_more : (f : Frame) (lists numbers : ClassLists) (here : List ℕ) (round : ℕ) → AreFairFrom f lists (round + 1) numbers → AreFair f lists round here → AreFairFrom f lists round (here ∷ numbers)
+pub fair_more : (f : Frame) (lists numbers : ClassLists) (here : List ℕ) (round : ℕ) → AreFairFrom f lists (round + 1) numbers → AreFair f lists round here
+    → AreFairFrom f lists round (here ∷ numbers)
 fair_more f lists numbers here round h fair = record { rounds = omega (arith, h.rounds); each = each }
   where
     each : (k : ℕ) → k < length (here ∷ numbers) → AreFair f lists (round + k) (get_or (here ∷ numbers) k [])
     each zero l = let e : round ≡ round + 0 = omega arith in subst (λ r. AreFair f lists r here) e fair
-    each (suc k) l = let e : round + 1 + k ≡ round + suc k = omega arith in subst (λ r. AreFair f lists r (get_or numbers k [])) e (h.each k (omega (arith, l)))
+    each (suc k) l = let e : round + 1 + k ≡ round + suc k = omega arith in
+        subst (λ r. AreFair f lists r (get_or numbers k [])) e (h.each k (omega (arith, l)))
 
-pub fair_last_alone : (f : Frame) (lists : ClassLists) (last : List ℕ) (round : ℕ) → round ≡ last_round f → AreFair f lists (last_round f) last → AreFairFrom f lists round (last ∷ [])
+pub fair_last_alone : (f : Frame) (lists : ClassLists) (last : List ℕ) (round : ℕ) → round ≡ last_round f → AreFair f lists (last_round f) last
+    → AreFairFrom f lists round (last ∷ [])
 fair_last_alone f lists last round is fair = record { rounds = omega (arith, is); each = each }
   where
     each : (k : ℕ) → k < length (last ∷ []) → AreFair f lists (round + k) (get_or (last ∷ []) k [])
@@ -105,7 +112,11 @@ pub coarsest_of : (f : Frame) (from start lists : ClassLists) → IsProposal f f
 coarsest_of f from start lists h c = record {
   classes = c.classes;
   lossless = c.lossless;
-  refines = λ round s t some le one. h.refines round s t some le (record { first_in = one.first_in; second_in = one.second_in; same = c.refines round s t some le one });
+  refines = λ round s t some le one. h.refines round s t some le (record {
+    first_in = one.first_in;
+    second_in = one.second_in;
+    same = c.refines round s t some le one;
+  });
   coarsest = λ other l r. c.coarsest other l (h.keeps other l r);
 }
 
@@ -119,7 +130,8 @@ nothing_times z = omega (arith, ints)
 
 -- a sum over some items is one over all, with weight 0 for the others
 over_all : (a b : Deal → ℤ) (s : ℕ) (ds : List Deal)
-    → sum_z (λ (d : Deal). a d *ℤ (pos d.weight *ℤ b d)) (filter (λ (d : Deal). d.one == s) ds) ≡ sum_z (λ (d : Deal). pos (cond (d.one == s) d.weight 0) *ℤ (a d *ℤ b d)) ds
+    → sum_z (λ (d : Deal). a d *ℤ (pos d.weight *ℤ b d)) (filter (λ (d : Deal). d.one == s) ds)
+    ≡ sum_z (λ (d : Deal). pos (cond (d.one == s) d.weight 0) *ℤ (a d *ℤ b d)) ds
 over_all a b s [] = refl
 over_all a b s (d ∷ ds) = go (d.one == s) (over_all a b s ds)
   where
@@ -148,17 +160,20 @@ module _ (g : Game) (p : IsPlayable g) (lists other : ClassLists) (l : IsLossles
     abbrev weighs : ℕ → Deal → ℕ
     weighs s d = cond (ancestor (frame_of g) (last_round (frame_of g)) (last_round (frame_of g)) d.one == s) d.weight 0
 
-    against_is : (x : ℕ) → x < signal_count (frame_of g) (last_round (frame_of g)) → get_or (map mixed (list_of lists (last_round (frame_of g)))) x 0 ≡ mixed (class_of lists (last_round (frame_of g)) x)
+    against_is : (x : ℕ) → x < signal_count (frame_of g) (last_round (frame_of g))
+        → get_or (map mixed (list_of lists (last_round (frame_of g)))) x 0 ≡ mixed (class_of lists (last_round (frame_of g)) x)
     against_is x lt = get_or-map mixed (list_of lists (last_round (frame_of g))) x 0 0 (omega (arith, lt, long))
 
-    sum_is : (s : ℕ) → deal_sum g (map mixed (list_of lists (last_round (frame_of g)))) (paid (Showdown 1)) s ≡ sum_z (λ (d : Deal). pos (weighs s d) *ℤ value d) (deals g)
+    sum_is : (s : ℕ) → deal_sum g (map mixed (list_of lists (last_round (frame_of g)))) (paid (Showdown 1)) s
+        ≡ sum_z (λ (d : Deal). pos (weighs s d) *ℤ value d) (deals g)
     sum_is s =
         over_all against (λ (d : Deal). paid (Showdown 1) d.outcome) s (deals g)
         ∙ sum_z-same (λ (d : Deal). pos (cond (d.one == s) d.weight 0) *ℤ value d) (λ (d : Deal). pos (weighs s d) *ℤ value d)
         (λ (d : Deal). ap (λ x. pos (cond {A = ℕ} (x == s) d.weight 0) *ℤ value d) (sym ((tabled g p).itself (last_round (frame_of g)) d.one))) (deals g)
 
     -- deals whose second signals are of one class of the refinement, with one outcome, count the same
-    same_value : (x y : Deal) → x.two < signal_count (frame_of g) (last_round (frame_of g)) → y.two < signal_count (frame_of g) (last_round (frame_of g)) → 0 < last_round (frame_of g)
+    same_value : (x y : Deal) → x.two < signal_count (frame_of g) (last_round (frame_of g)) → y.two < signal_count (frame_of g) (last_round (frame_of g))
+        → 0 < last_round (frame_of g)
         → class_of other (last_round (frame_of g)) x.two ≡ class_of other (last_round (frame_of g)) y.two → x.outcome ≡ y.outcome → value x ≡ value y
     same_value x y lx ly some e o =
         let c = r (last_round (frame_of g)) x.two y.two some (omega arith) (record { first_in = lx; second_in = ly; same = e }) in
@@ -166,16 +181,19 @@ module _ (g : Game) (p : IsPlayable g) (lists other : ClassLists) (l : IsLossles
         ∙ ap (λ z. against y *ℤ paid (Showdown 1) z) o
 
     pub sums_same : 0 < last_round (frame_of g) → (s t : ℕ) → InOneClass (frame_of g) other (last_round (frame_of g)) s t
-        → deal_sum g (map mixed (list_of lists (last_round (frame_of g)))) (paid (Showdown 1)) s ≡ deal_sum g (map mixed (list_of lists (last_round (frame_of g)))) (paid (Showdown 1)) t
+        → deal_sum g (map mixed (list_of lists (last_round (frame_of g)))) (paid (Showdown 1)) s
+        ≡ deal_sum g (map mixed (list_of lists (last_round (frame_of g)))) (paid (Showdown 1)) t
     sums_same some s t c =
         let n = last_round (frame_of g) in
         let h = tabled g p in
         let self : (x : ℕ) → ancestor (frame_of g) n n x ≡ x = λ x. h.itself n x in
         sum_is s
-        ∙ alike_items pair_test pair_exact (λ (d : Deal). (class_of other n (ancestor (frame_of g) n n d.two), d.outcome)) (weighs s) (weighs t) value (deals g)
+        ∙ alike_items pair_test pair_exact (λ (d : Deal). (class_of other n (ancestor (frame_of g) n n d.two), d.outcome)) (weighs s) (weighs t) value
+        (deals g)
         (λ y dy ly x dx lx e.
         same_value (get_or (deals g) x dx) (get_or (deals g) y dy) (h.dealt_two x dx lx) (h.dealt_two y dy ly) some
-        (ap (class_of other n) (sym (self (get_or (deals g) x dx).two)) ∙ ap (λ (k : ℕ × ℤ). k.0) e ∙ ap (class_of other n) (self (get_or (deals g) y dy).two)) (ap (λ (k : ℕ × ℤ). k.1) e))
+        (ap (class_of other n) (sym (self (get_or (deals g) x dx).two)) ∙ ap (λ (k : ℕ × ℤ). k.0) e
+        ∙ ap (class_of other n) (self (get_or (deals g) y dy).two)) (ap (λ (k : ℕ × ℤ). k.1) e))
         (λ k. by_pair (frame_of g) other n refl s t k (λ a. fair_last (frame_of g) other l some s t k.0 k.1 a) c)
         ∙ sym (sum_is t)
 
@@ -185,10 +203,13 @@ module _ (g : Game) (p : IsPlayable g) (lists other : ClassLists) (l : IsLossles
   guarded true n = omega (arith, ints, product_is (pos 1) (pos n))
   guarded false n = omega (arith, ints, product_is (pos 0) (pos n))
 
-  pub children_same : (round : ℕ) (numbers : List ℕ) → 0 < round → round < last_round (frame_of g) → AreFair (frame_of g) lists (round + 1) numbers → (s t : ℕ) → InOneClass (frame_of g) other round s t
-      → child_number (parents g (round + 1)) (list_of lists (round + 1)) numbers s ≡ child_number (parents g (round + 1)) (list_of lists (round + 1)) numbers t
+  pub children_same : (round : ℕ) (numbers : List ℕ) → 0 < round → round < last_round (frame_of g) → AreFair (frame_of g) lists (round + 1) numbers
+      → (s t : ℕ) → InOneClass (frame_of g) other round s t
+      → child_number (parents g (round + 1)) (list_of lists (round + 1)) numbers s
+      ≡ child_number (parents g (round + 1)) (list_of lists (round + 1)) numbers t
   children_same round numbers some lt fair s t c =
-      ap (λ n. n % 2 ^ 32) (pos_one (sum s) (sum t) (turn s ∙ alike_items eqb Decides-eqb (class_of other (round + 1)) (above s) (above t) value (signals_in (frame_of g) (round + 1)) even (λ k. fair_children (frame_of g) other l round s t k some lt c) ∙ sym (turn t)))
+      ap (λ n. n % 2 ^ 32) (pos_one (sum s) (sum t) (turn s ∙ alike_items eqb Decides-eqb (class_of other (round + 1)) (above s) (above t) value
+      (signals_in (frame_of g) (round + 1)) even (λ k. fair_children (frame_of g) other l round s t k some lt c) ∙ sym (turn t)))
     where
       ps : List ℕ
       ps = parents g (round + 1)
@@ -203,7 +224,8 @@ module _ (g : Game) (p : IsPlayable g) (lists other : ClassLists) (l : IsLossles
       above s x = cond (ancestor (frame_of g) (round + 1) round x == s) 1 0
 
       sum : ℕ → ℕ
-      sum s = sum_by (λ x. cond (get_or (parents g (round + 1)) x 0 == s) (child_term (list_of lists (round + 1)) numbers x) 0) (range_with_len 0 (length (parents g (round + 1))))
+      sum s = sum_by (λ x. cond (get_or (parents g (round + 1)) x 0 == s) (child_term (list_of lists (round + 1)) numbers x) 0)
+          (range_with_len 0 (length (parents g (round + 1))))
 
       turn : (s : ℕ) → pos (sum s) ≡ sum_z (λ x. pos (above s x) *ℤ value x) (signals_in (frame_of g) (round + 1))
       turn s =
@@ -212,36 +234,46 @@ module _ (g : Game) (p : IsPlayable g) (lists other : ClassLists) (l : IsLossles
           ap (λ n. pos (sum_by (λ x. cond (get_or ps x 0 == s) (term x) 0) (range_with_len 0 n))) e
           ∙ sym (sum_z-pos (λ x. cond (get_or ps x 0 == s) (term x) 0) (signals_in (frame_of g) (round + 1)))
           ∙ sum_z-same (λ x. pos (cond (get_or ps x 0 == s) (term x) 0)) (λ x. pos (above s x) *ℤ value x)
-          (λ x. ap (λ y. pos (cond {A = ℕ} (y == s) (term x) 0)) (sym (parent_is g round (round + 1) x refl top)) ∙ guarded (ancestor (frame_of g) (round + 1) round x == s) (term x)) (signals_in (frame_of g) (round + 1))
+          (λ x. ap (λ y. pos (cond {A = ℕ} (y == s) (term x) 0)) (sym (parent_is g round (round + 1) x refl top))
+          ∙ guarded (ancestor (frame_of g) (round + 1) round x == s) (term x)) (signals_in (frame_of g) (round + 1))
 
-      even : All (λ y. All (λ x. class_of other (round + 1) x ≡ class_of other (round + 1) y → value x ≡ value y) (signals_in (frame_of g) (round + 1))) (signals_in (frame_of g) (round + 1))
+      even : All (λ y. All (λ x. class_of other (round + 1) x ≡ class_of other (round + 1) y
+          → value x ≡ value y) (signals_in (frame_of g) (round + 1))) (signals_in (frame_of g) (round + 1))
       even =
-          All-range (λ y. All (λ x. class_of other (round + 1) x ≡ class_of other (round + 1) y → value x ≡ value y) (signals_in (frame_of g) (round + 1))) (signal_count (frame_of g) (round + 1))
+          All-range (λ y. All (λ x. class_of other (round + 1) x ≡ class_of other (round + 1) y
+          → value x ≡ value y) (signals_in (frame_of g) (round + 1))) (signal_count (frame_of g) (round + 1))
           (λ y ly. All-range (λ x. class_of other (round + 1) x ≡ class_of other (round + 1) y → value x ≡ value y) (signal_count (frame_of g) (round + 1))
           (λ x lx e.
           let one : InOneClass (frame_of g) other (round + 1) x y = record { first_in = lx; second_in = ly; same = e } in
           let class = r (round + 1) x y (omega arith) (omega (arith, lt)) one in
           let number = fair.same other l r x y one in
-          ap (λ k. pos (mixed (k + get_or numbers x 0 * 2 ^ 32) / 2 ^ 32)) class ∙ ap (λ k. pos (mixed (get_or (list_of lists (round + 1)) y 0 + k * 2 ^ 32) / 2 ^ 32)) number))
+          ap (λ k. pos (mixed (k + get_or numbers x 0 * 2 ^ 32) / 2 ^ 32)) class
+          ∙ ap (λ k. pos (mixed (get_or (list_of lists (round + 1)) y 0 + k * 2 ^ 32) / 2 ^ 32)) number))
 
 -- ---- the numbers as they are made
 
-pub deals_fair : (g : Game) (p : IsPlayable g) (lists : ClassLists) (numbers : List ℕ) → length (list_of lists (last_round (frame_of g))) ≡ signal_count (frame_of g) (last_round (frame_of g)) → 0 < last_round (frame_of g)
+pub deals_fair : (g : Game) (p : IsPlayable g) (lists : ClassLists) (numbers : List ℕ)
+    → length (list_of lists (last_round (frame_of g))) ≡ signal_count (frame_of g) (last_round (frame_of g)) → 0 < last_round (frame_of g)
     → length numbers ≡ signal_count (frame_of g) (last_round (frame_of g))
-    → ((s : ℕ) → s < length (list_of lists (last_round (frame_of g))) → pos (get_or numbers s 0) ≡ deal_number g (list_of lists (last_round (frame_of g))) s) → AreFair (frame_of g) lists (last_round (frame_of g)) numbers
+    → ((s : ℕ) → s < length (list_of lists (last_round (frame_of g))) → pos (get_or numbers s 0) ≡ deal_number g (list_of lists (last_round (frame_of g))) s)
+    → AreFair (frame_of g) lists (last_round (frame_of g)) numbers
 deals_fair g p lists numbers long some all is = record {
   long = all;
   same = λ other l r s t c.
       pos_one (get_or numbers s 0) (get_or numbers t 0)
-      (is s (omega (arith, c.first_in, long)) ∙ ap (λ z. int_rem_euclid z (pos (2 ^ 32))) (sums_same g p lists other l r long some s t c) ∙ sym (is t (omega (arith, c.second_in, long))));
+      (is s (omega (arith, c.first_in, long)) ∙ ap (λ z. int_rem_euclid z (pos (2 ^ 32))) (sums_same g p lists other l r long some s t c)
+      ∙ sym (is t (omega (arith, c.second_in, long))));
 }
 
-pub children_fair : (g : Game) (p : IsPlayable g) (lists : ClassLists) (round : ℕ) (below numbers : List ℕ) → 0 < round → round < last_round (frame_of g) → AreFair (frame_of g) lists (round + 1) below
+pub children_fair : (g : Game) (p : IsPlayable g) (lists : ClassLists) (round : ℕ) (below numbers : List ℕ) → 0 < round → round < last_round (frame_of g)
+    → AreFair (frame_of g) lists (round + 1) below
     → length numbers ≡ signal_count (frame_of g) round
-    → ((s : ℕ) → s < length numbers → get_or numbers s 0 ≡ child_number (parents g (round + 1)) (list_of lists (round + 1)) below s) → AreFair (frame_of g) lists round numbers
+    → ((s : ℕ) → s < length numbers → get_or numbers s 0 ≡ child_number (parents g (round + 1)) (list_of lists (round + 1)) below s)
+    → AreFair (frame_of g) lists round numbers
 children_fair g p lists round below numbers some lt fair all is = record {
   long = all;
-  same = λ other l r s t c. is s (omega (arith, c.first_in, all)) ∙ children_same g p lists other l r round below some lt fair s t c ∙ sym (is t (omega (arith, c.second_in, all)));
+  same = λ other l r s t c. is s (omega (arith, c.first_in, all)) ∙ children_same g p lists other l r round below some lt fair s t c
+      ∙ sym (is t (omega (arith, c.second_in, all)));
 }
 
 -- ---- one more child
@@ -255,7 +287,8 @@ one_more n =
 abbrev pub terms_to : List ℕ → List ℕ → List ℕ → ℕ → ℕ → ℕ
 terms_to ps classes numbers n s = sum_by (λ x. cond (get_or ps x 0 == s) (child_term classes numbers x) 0) (range_with_len 0 n)
 
-terms_more : (ps classes numbers : List ℕ) (n s : ℕ) → terms_to ps classes numbers (n + 1) s ≡ terms_to ps classes numbers n s + cond (get_or ps n 0 == s) (child_term classes numbers n) 0
+terms_more : (ps classes numbers : List ℕ) (n s : ℕ) → terms_to ps classes numbers (n + 1) s
+    ≡ terms_to ps classes numbers n s + cond (get_or ps n 0 == s) (child_term classes numbers n) 0
 terms_more ps classes numbers n s =
     let t : ℕ → ℕ = λ x. cond (get_or ps x 0 == s) (child_term classes numbers x) 0 in
     ap (sum_by t) (one_more n) ∙ sum_by-append t (range_with_len 0 n) (n ∷ []) ∙ omega (arith, sum_by-cons t n [])
@@ -266,18 +299,25 @@ pub child_more : (ps classes numbers sums : List ℕ) (n place term : ℕ) → p
 child_more ps classes numbers sums n place term at inside is h s l = ⊎_elim
     (λ here.
     let test : (get_or ps n 0 == s) ≡ true = (Decides-eqb (get_or ps n 0) s).1 (sym at ∙ sym here) in
-    let more : terms_to ps classes numbers (n + 1) s ≡ terms_to ps classes numbers n s + term = terms_more ps classes numbers n s ∙ ap (λ b. terms_to ps classes numbers n s + cond {A = ℕ} b (child_term classes numbers n) 0) test ∙ ap (λ k. terms_to ps classes numbers n s + k) (sym is) in
-    ap (λ i. get_or (slice_set sums place ((get_or sums place 0 + term) % 2 ^ 32)) i 0) here ∙ get_or-set_same sums place ((get_or sums place 0 + term) % 2 ^ 32) 0 inside
-    ∙ ap (λ k. (k + term) % 2 ^ 32) (ap (λ i. get_or sums i 0) (sym here) ∙ h s l) ∙ folded_once (terms_to ps classes numbers n s) term ∙ ap (λ k. k % 2 ^ 32) (sym more))
+    let more : terms_to ps classes numbers (n + 1) s ≡ terms_to ps classes numbers n s + term =
+    terms_more ps classes numbers n s ∙ ap (λ b. terms_to ps classes numbers n s + cond {A = ℕ} b (child_term classes numbers n) 0) test
+    ∙ ap (λ k. terms_to ps classes numbers n s + k) (sym is) in
+    ap (λ i. get_or (slice_set sums place ((get_or sums place 0 + term) % 2 ^ 32)) i 0) here
+    ∙ get_or-set_same sums place ((get_or sums place 0 + term) % 2 ^ 32) 0 inside
+    ∙ ap (λ k. (k + term) % 2 ^ 32) (ap (λ i. get_or sums i 0) (sym here) ∙ h s l) ∙ folded_once (terms_to ps classes numbers n s) term
+    ∙ ap (λ k. k % 2 ^ 32) (sym more))
     (λ ne.
     let test : (get_or ps n 0 == s) ≡ false = not_eq (get_or ps n 0) s (λ t. ne (sym t ∙ sym at)) in
-    let more : terms_to ps classes numbers (n + 1) s ≡ terms_to ps classes numbers n s = terms_more ps classes numbers n s ∙ ap (λ b. terms_to ps classes numbers n s + cond {A = ℕ} b (child_term classes numbers n) 0) test ∙ omega arith in
+    let more : terms_to ps classes numbers (n + 1) s ≡ terms_to ps classes numbers n s =
+    terms_more ps classes numbers n s ∙ ap (λ b. terms_to ps classes numbers n s + cond {A = ℕ} b (child_term classes numbers n) 0) test ∙ omega arith in
     get_or-set_other sums place s ((get_or sums place 0 + term) % 2 ^ 32) 0 ne ∙ h s l ∙ ap (λ k. k % 2 ^ 32) (sym more))
     (cases_eq s place)
   where
     folded_once : (a b : ℕ) → (a % 2 ^ 32 + b) % 2 ^ 32 ≡ (a + b) % 2 ^ 32
     folded_once a b = omega arith
 
-pub child_none : (ps classes numbers sums : List ℕ) (count : ℕ) → sums ≡ replicate count 0 → (s : ℕ) → s < length sums → get_or sums s 0 ≡ terms_to ps classes numbers 0 s % 2 ^ 32
+pub child_none : (ps classes numbers sums : List ℕ) (count : ℕ) → sums ≡ replicate count 0 → (s : ℕ) → s < length sums
+    → get_or sums s 0 ≡ terms_to ps classes numbers 0 s % 2 ^ 32
 child_none ps classes numbers sums count is s l =
-    ap (λ (xs : List ℕ). get_or xs s 0) is ∙ get_or-replicate count s 0 0 (omega (arith, l, ap (λ (xs : List ℕ). length xs) is, length-replicate {A = ℕ} count 0))
+    ap (λ (xs : List ℕ). get_or xs s 0) is ∙ get_or-replicate count s 0 0
+    (omega (arith, l, ap (λ (xs : List ℕ). length xs) is, length-replicate {A = ℕ} count 0))

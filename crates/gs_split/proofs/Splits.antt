@@ -16,7 +16,8 @@ use Rattle.gs_model.proofs.Tables.{is_table}
 
 -- ---- a turn that adds no class changes nothing
 
-sums_le : (xs ys : List (List ℕ)) → length xs ≡ length ys → ((k : ℕ) → k < length xs → greatest (get_or xs k []) ≤ greatest (get_or ys k [])) → sum_by greatest xs ≤ sum_by greatest ys
+sums_le : (xs ys : List (List ℕ)) → length xs ≡ length ys → ((k : ℕ) → k < length xs → greatest (get_or xs k []) ≤ greatest (get_or ys k []))
+    → sum_by greatest xs ≤ sum_by greatest ys
 sums_le [] [] e h = omega arith
 sums_le [] (y ∷ ys) e h = absurd (omega (arith, e))
 sums_le (x ∷ xs) [] e h = absurd (omega (arith, e))
@@ -25,7 +26,8 @@ sums_le (x ∷ xs) (y ∷ ys) e h =
     omega (arith, sum_by-cons greatest x xs, sum_by-cons greatest y ys, h zero (omega arith), r)
 
 -- where each is no greater and the sums are not less, each is no less
-each_le : (xs ys : List (List ℕ)) → length xs ≡ length ys → ((k : ℕ) → k < length xs → greatest (get_or xs k []) ≤ greatest (get_or ys k [])) → sum_by greatest ys ≤ sum_by greatest xs
+each_le : (xs ys : List (List ℕ)) → length xs ≡ length ys → ((k : ℕ) → k < length xs → greatest (get_or xs k []) ≤ greatest (get_or ys k []))
+    → sum_by greatest ys ≤ sum_by greatest xs
     → (k : ℕ) → k < length xs → greatest (get_or ys k []) ≤ greatest (get_or xs k [])
 each_le [] ys e h t k l = absurd (omega (arith, l))
 each_le (x ∷ xs) [] e h t k l = absurd (omega (arith, e))
@@ -33,7 +35,8 @@ each_le (x ∷ xs) (y ∷ ys) e h t zero l =
     let r = sums_le xs ys (omega (arith, e)) (λ k l. h (suc k) (omega (arith, l))) in
     omega (arith, sum_by-cons greatest x xs, sum_by-cons greatest y ys, r, t)
 each_le (x ∷ xs) (y ∷ ys) e h t (suc k) l =
-    each_le xs ys (omega (arith, e)) (λ k l. h (suc k) (omega (arith, l))) (omega (arith, sum_by-cons greatest x xs, sum_by-cons greatest y ys, h zero (omega arith), t)) k (omega (arith, l))
+    each_le xs ys (omega (arith, e)) (λ k l. h (suc k) (omega (arith, l)))
+    (omega (arith, sum_by-cons greatest x xs, sum_by-cons greatest y ys, h zero (omega arith), t)) k (omega (arith, l))
 
 module _ (f : Frame) (old new : ClassLists) (a : IsClasses f.parents old) (b : IsClasses f.parents new) (turn : IsTurn f old new) where
   -- what a turn keeps together was together
@@ -55,12 +58,19 @@ module _ (f : Frame) (old new : ClassLists) (a : IsClasses f.parents old) (b : I
 
     finer : IsFinerList (get_or new k []) (get_or old k [])
     finer i j li lj e =
-        let at : (lists : ClassLists) (s : ℕ) → class_of lists (k + 1) s ≡ get_or (get_or lists k []) s 0 = λ lists s. ap (λ m. get_or (get_or lists m []) s 0) back in
+        let at : (lists : ClassLists) (s : ℕ) → class_of lists (k + 1) s ≡ get_or (get_or lists k []) s 0 =
+        λ lists s. ap (λ m. get_or (get_or lists m []) s 0) back in
         sym (at old i)
-        ∙ turn_refines (k + 1) i j (omega arith) in' (record { first_in = omega (arith, li, long_new); second_in = omega (arith, lj, long_new); same = at new i ∙ e ∙ sym (at new j) })
+        ∙ turn_refines (k + 1) i j (omega arith) in' (record {
+          first_in =
+              omega (arith, li, long_new);
+          second_in = omega (arith, lj, long_new);
+          same = at new i ∙ e ∙ sym (at new j);
+        })
         ∙ at old j
 
-    counted : (greatest (get_or old k []) ≤ greatest (get_or new k [])) × (greatest (get_or new k []) ≤ greatest (get_or old k []) → (i : ℕ) → i < length (get_or old k []) → get_or (get_or old k []) i 0 ≡ get_or (get_or new k []) i 0)
+    counted : (greatest (get_or old k []) ≤ greatest (get_or new k [])) × (greatest (get_or new k []) ≤ greatest (get_or old k []) → (i : ℕ)
+        → i < length (get_or old k []) → get_or (get_or old k []) i 0 ≡ get_or (get_or new k []) i 0)
     counted =
         finer_and_no_more (get_or old k []) (get_or new k []) (long_old ∙ sym long_new)
         (subst (λ j. IsNumbered (get_or old j [])) back (a.numbered (k + 1) (omega arith) in'))
@@ -92,7 +102,11 @@ module _ (f : Frame) (q : InRange f) (from new : ClassLists) (total : ℕ) (k : 
   one_more next n turn e = record {
     old = new;
     classes = k;
-    refines = λ round s t some le c. h.refines round s t some le (record { first_in = c.first_in; second_in = c.second_in; same = turn_refines f h.old new h.classes k h.turn round s t some le c });
+    refines = λ round s t some le c. h.refines round s t some le (record {
+      first_in = c.first_in;
+      second_in = c.second_in;
+      same = turn_refines f h.old new h.classes k h.turn round s t some le c;
+    });
     keeps = turn_invariant f (is_table f q) from h.old new h.keeps h.turn;
     turn = turn;
     counted = e;

@@ -33,17 +33,20 @@ roots g = All-from_recursion (λ p. p < 1) (parents g 1) (zeros (children g (rou
 
 module _ (s : Signals) where
   -- the parents of a round are signals of the round before; in round 1 they are all one
-  pub parents_under : (round n : ℕ) → 0 < round → round ≤ round_count (rules_of s) → (round ≡ 1 → 0 < n) → (1 < round → n ≡ signal_count (frame_of (rules_of s)) (round - 1)) → All (λ p. p < n) (parents (rules_of s) round)
+  pub parents_under : (round n : ℕ) → 0 < round → round ≤ round_count (rules_of s) → (round ≡ 1 → 0 < n)
+      → (1 < round → n ≡ signal_count (frame_of (rules_of s)) (round - 1)) → All (λ p. p < n) (parents (rules_of s) round)
   parents_under round n some top any above = ⊎_elim
       (λ more. λ k d l.
       let g = rules_of s in
       let at = parents_at g round some top in
       let e = above more in
-      let r : get_or (parents g round) k d ≡ get_or (parents_of (frame_of g) round) k 0 = get_or_default (parents g round) k d 0 l ∙ ap (λ (ps : List ℕ). get_or ps k 0) (sym at) in
+      let r : get_or (parents g round) k d ≡ get_or (parents_of (frame_of g) round) k 0 =
+      get_or_default (parents g round) k d 0 l ∙ ap (λ (ps : List ℕ). get_or ps k 0) (sym at) in
       let lt = (in_range g (playable s)).parents round k more (omega (arith, l, ap (λ (ps : List ℕ). length ps) at)) in
       omega (arith, e, r, lt))
       (λ first. let one : round ≡ 1 = omega (arith, some, first) in
-      λ k d l. let z : get_or (parents (rules_of s) round) k d < 1 = subst (λ r. All (λ p. p < 1) (parents (rules_of s) r)) (sym one) (roots (rules_of s)) k d l in omega (arith, z, any one))
+      λ k d l. let z : get_or (parents (rules_of s) round) k d < 1 = subst (λ r. All (λ p. p < 1) (parents (rules_of s) r)) (sym one)
+      (roots (rules_of s)) k d l in omega (arith, z, any one))
       (cases_lt 1 round)
 
   pub first_parents : (round i : ℕ) → round ≡ 1 → i < signal_count (frame_of (rules_of s)) round → get_or (parents_of (frame_of (rules_of s)) round) i 0 ≡ 0
@@ -51,7 +54,8 @@ module _ (s : Signals) where
       let g = rules_of s in
       let at = parents_at g round (omega (arith, one)) (omega (arith, one, (playable s).some)) in
       let r = ap (λ (ps : List ℕ). get_or ps i 0) at in
-      let z : get_or (parents g round) i 0 < 1 = subst (λ r. All (λ p. p < 1) (parents g r)) (sym one) (roots g) i 0 (omega (arith, l, ap (λ (ps : List ℕ). length ps) at)) in
+      let z : get_or (parents g round) i 0 < 1 = subst (λ r. All (λ p. p < 1) (parents g r)) (sym one) (roots g) i 0
+      (omega (arith, l, ap (λ (ps : List ℕ). length ps) at)) in
       omega (arith, r, z)
 
 -- ---- one round
@@ -68,7 +72,8 @@ round_turned f old round above numbers list n first some long h = record {
     key : ℕ → ℕ × ℕ × ℕ
     key i = turn_key (list_of old round) above (parents_of f round) numbers i
 
-    both : (i j : ℕ) → i < length list → j < length list → (turn_key (list_of old round) above (parents_of f round) numbers i ≡ turn_key (list_of old round) above (parents_of f round) numbers j) ↔ StayInRound f old above numbers round i j
+    both : (i j : ℕ) → i < length list → j < length list → (turn_key (list_of old round) above (parents_of f round) numbers i
+        ≡ turn_key (list_of old round) above (parents_of f round) numbers j) ↔ StayInRound f old above numbers round i j
     both i j li lj =
         let place : ℕ → ℕ = λ i. get_or (parents_of f round) i 0 in (
           (λ e. record { before = ap (λ (p : ℕ × ℕ × ℕ). p.0) e; parents = λ _. ap (λ (p : ℕ × ℕ × ℕ). p.1) e; number = ap (λ (p : ℕ × ℕ × ℕ). p.2) e }),
@@ -77,10 +82,12 @@ round_turned f old round above numbers list n first some long h = record {
               (λ less. let one : round ≡ 1 = omega (arith, some, less) in
               ap (λ p. get_or above p 0) (first i one (omega (arith, li, long, n)) ∙ sym (first j one (omega (arith, lj, long, n)))))
               (cases_lt 1 round) in
-              triples (turn_key (list_of old round) above (parents_of f round) numbers i) (turn_key (list_of old round) above (parents_of f round) numbers j) st.before up st.number),
+              triples (turn_key (list_of old round) above (parents_of f round) numbers i)
+              (turn_key (list_of old round) above (parents_of f round) numbers j) st.before up st.number),
         )
 
-pub round_made : (f : Frame) (old : ClassLists) (round : ℕ) (above numbers list before ps : List ℕ) → before ≡ list_of old round → ps ≡ parents_of f round → length numbers ≡ signal_count f round
+pub round_made : (f : Frame) (old : ClassLists) (round : ℕ) (above numbers list before ps : List ℕ) → before ≡ list_of old round → ps ≡ parents_of f round
+    → length numbers ≡ signal_count f round
     → ((i : ℕ) → round ≡ 1 → i < signal_count f round → get_or (parents_of f round) i 0 ≡ 0) → 0 < round → length list ≡ length numbers
     → IsKeyClasses (turn_key before above ps numbers) list → IsRoundParted f old above numbers round list
 round_made f old round above numbers list before ps eb ep n first some long h =
@@ -89,17 +96,21 @@ round_made f old round above numbers list before ps eb ep n first some long h =
     round_turned f old round above numbers list n first some long h2
 
 -- the list of a round that is read
-pub list_read : (ls : List (Vec ℕ Global)) (lists : ClassLists) (i round : ℕ) (v : Vec ℕ Global) (now : List ℕ) → rows ls ≡ lists → i ≡ round → 0 < round → round ≤ length lists → v ≡ get_or ls (i - 1) v → now ≡ v.items
+pub list_read : (ls : List (Vec ℕ Global)) (lists : ClassLists) (i round : ℕ) (v : Vec ℕ Global) (now : List ℕ) → rows ls ≡ lists → i ≡ round → 0 < round
+    → round ≤ length lists → v ≡ get_or ls (i - 1) v → now ≡ v.items
     → now ≡ list_of lists round
 list_read ls lists i round v now e r some le is at =
-    at ∙ row_read ls (i - 1) v (omega (arith, r, some, le, ap (λ (l : ClassLists). length l) e, length-rows ls)) is ∙ ap (λ (l : ClassLists). get_or l (i - 1) []) e ∙ ap (λ k. get_or lists (k - 1) []) r
+    at ∙ row_read ls (i - 1) v (omega (arith, r, some, le, ap (λ (l : ClassLists). length l) e, length-rows ls)) is
+    ∙ ap (λ (l : ClassLists). get_or l (i - 1) []) e ∙ ap (λ k. get_or lists (k - 1) []) r
 
 -- the list of the round after one
-pub list_next : (ls : List (Vec ℕ Global)) (lists : ClassLists) (i round : ℕ) (v : Vec ℕ Global) (now : List ℕ) → rows ls ≡ lists → i ≡ round → round < length lists → v ≡ get_or ls i v → now ≡ v.items
+pub list_next : (ls : List (Vec ℕ Global)) (lists : ClassLists) (i round : ℕ) (v : Vec ℕ Global) (now : List ℕ) → rows ls ≡ lists → i ≡ round
+    → round < length lists → v ≡ get_or ls i v → now ≡ v.items
     → now ≡ list_of lists (round + 1)
 list_next ls lists i round v now e r le is at =
     let j : round ≡ round + 1 - 1 = omega arith in
-    at ∙ row_read ls i v (omega (arith, r, le, ap (λ (l : ClassLists). length l) e, length-rows ls)) is ∙ ap (λ (l : ClassLists). get_or l i []) e ∙ ap (λ k. get_or lists k []) (r ∙ j)
+    at ∙ row_read ls i v (omega (arith, r, le, ap (λ (l : ClassLists). length l) e, length-rows ls)) is ∙ ap (λ (l : ClassLists). get_or l i []) e
+    ∙ ap (λ k. get_or lists k []) (r ∙ j)
 
 pub both_ok : {T E : Type 0} (r : Result T E) (P Q R : T → Type 0) → ((x : T) → P x → Q x → R x) → IfOk r P → IfOk r Q → IfOk r R
 both_ok (Ok x) P Q R h p q = h x p q
@@ -115,13 +126,16 @@ above_some (x ∷ xs) e = absurd (omega (arith, e))
 abbrev pub ArePartedTo : Frame → ClassLists → ClassLists → ClassLists → Type 0
 ArePartedTo f old numbers new = (k : ℕ) → k < length new → IsRoundParted f old (list_of new k) (list_of numbers (suc k)) (suc k) (get_or new k [])
 
-pub above_long : (f : Frame) (old numbers new : ClassLists) → ArePartedTo f old numbers new → 0 < length new → length (classes_above new) ≡ signal_count f (length new)
+pub above_long : (f : Frame) (old numbers new : ClassLists) → ArePartedTo f old numbers new → 0 < length new
+    → length (classes_above new) ≡ signal_count f (length new)
 above_long f old numbers new each some =
     let e : suc (length new - 1) ≡ length new = omega (arith, some) in
-    ap (λ (l : List ℕ). length l) (get_or_default new (length new - 1) (1 ∷ []) [] (omega (arith, some))) ∙ (each (length new - 1) (omega (arith, some))).long ∙ ap (signal_count f) e
+    ap (λ (l : List ℕ). length l) (get_or_default new (length new - 1) (1 ∷ []) [] (omega (arith, some))) ∙ (each (length new - 1) (omega (arith, some))).long
+    ∙ ap (signal_count f) e
 
 -- above round 1 any classes do
-turn_like : (f : Frame) (old : ClassLists) (above other numbers : List ℕ) (round : ℕ) (list : List ℕ) → (1 < round → above ≡ other) → IsRoundParted f old above numbers round list → IsRoundParted f old other numbers round list
+turn_like : (f : Frame) (old : ClassLists) (above other numbers : List ℕ) (round : ℕ) (list : List ℕ) → (1 < round → above ≡ other)
+    → IsRoundParted f old above numbers round list → IsRoundParted f old other numbers round list
 turn_like f old above other numbers round list e h = record {
   long = h.long;
   classes = classes_like (StayInRound f old above numbers round) (StayInRound f old other numbers round) list
@@ -139,9 +153,11 @@ turned_more f old numbers new above x is each here k l = ⊎_elim
     (λ e.
     let at : get_or (new ++ x ∷ []) k [] ≡ x = get_or_push new x [] k (sym e) in
     let up : 1 < suc k → above ≡ list_of (new ++ x ∷ []) k = λ more.
-    is ∙ get_or_default new (length new - 1) (1 ∷ []) [] (omega (arith, e, more)) ∙ ap (λ j. get_or new (j - 1) []) (sym e) ∙ sym (get_or_append_left new (x ∷ []) [] (k - 1) (omega (arith, e, more))) in
+    is ∙ get_or_default new (length new - 1) (1 ∷ []) [] (omega (arith, e, more)) ∙ ap (λ j. get_or new (j - 1) []) (sym e)
+    ∙ sym (get_or_append_left new (x ∷ []) [] (k - 1) (omega (arith, e, more))) in
     let r = subst (λ j. IsRoundParted f old above (list_of numbers (suc j)) (suc j) x) (sym e) here in
-    subst (λ y. IsRoundParted f old (list_of (new ++ x ∷ []) k) (list_of numbers (suc k)) (suc k) y) (sym at) (turn_like f old above (list_of (new ++ x ∷ []) k) (list_of numbers (suc k)) (suc k) x up r))
+    subst (λ y. IsRoundParted f old (list_of (new ++ x ∷ []) k) (list_of numbers (suc k)) (suc k) y) (sym at)
+    (turn_like f old above (list_of (new ++ x ∷ []) k) (list_of numbers (suc k)) (suc k) x up r))
     (λ ne.
     let lt : k < length new = omega (arith, l, length-append new (x ∷ []), ne) in
     let at : get_or (new ++ x ∷ []) k [] ≡ get_or new k [] = get_or_append_left new (x ∷ []) [] k lt in
@@ -155,7 +171,8 @@ all_turned f old numbers new all each = record {
   rounds = all;
   each = λ round some le.
       let e : suc (round - 1) ≡ round = omega (arith, some) in
-      subst (λ r. IsRoundParted f old (list_of new (round - 1)) (list_of numbers r) r (list_of new round)) e (each (round - 1) (omega (arith, some, le, all)));
+      subst (λ r. IsRoundParted f old (list_of new (round - 1)) (list_of numbers r) r (list_of new round)) e
+      (each (round - 1) (omega (arith, some, le, all)));
 }
 
 -- ---- all rounds
@@ -168,7 +185,8 @@ up_one f round s some = let one : round - (round - 1) ≡ 1 = omega (arith, some
 abbrev pub AreExactTo : Frame → ClassLists → ClassLists → Type 0
 AreExactTo f lists numbers = (k : ℕ) → k < length numbers → AreTurnNumbers f lists (suc k) (get_or numbers k [])
 
-pub exact_more : (f : Frame) (lists numbers : ClassLists) (x : List ℕ) → AreExactTo f lists numbers → AreTurnNumbers f lists (suc (length numbers)) x → AreExactTo f lists (numbers ++ x ∷ [])
+pub exact_more : (f : Frame) (lists numbers : ClassLists) (x : List ℕ) → AreExactTo f lists numbers → AreTurnNumbers f lists (suc (length numbers)) x
+    → AreExactTo f lists (numbers ++ x ∷ [])
 exact_more f lists numbers x each here k l = ⊎_elim
     (λ e. subst (AreTurnNumbers f lists (suc k)) (sym (get_or_push numbers x [] k (sym e))) (subst (λ j. AreTurnNumbers f lists (suc j) x) (sym e) here))
     (λ ne.
@@ -194,13 +212,18 @@ module _ (f : Frame) (old numbers new : ClassLists) (h : AreParted f old numbers
       let e = h.each round some le in
       let n = exact.each round some le in
       let same = e.classes.same s t (omega (arith, ls, e.long)) (omega (arith, lt, e.long)) in
-      let up : (x : ℕ) → class_of new (round - 1) (ancestor f round (round - 1) x) ≡ class_of new (round - 1) (get_or (parents_of f round) x 0) = λ x. ap (class_of new (round - 1)) (up_one f round x some) in
+      let up : (x : ℕ) → class_of new (round - 1) (ancestor f round (round - 1) x) ≡ class_of new (round - 1) (get_or (parents_of f round) x 0) =
+      λ x. ap (class_of new (round - 1)) (up_one f round x some) in
       let equal = n.same s t (omega (arith, ls, n.long)) (omega (arith, lt, n.long)) in (
         (λ c.
             let st = same.0 c in
             let sums = (equal st.before).0 st.number in
             record { before = st.before; parents = λ more. up s ∙ st.parents more ∙ sym (up t); sums = sums.sums; children = sums.children }),
-        (λ st. same.1 (record { before = st.before; parents = λ more. sym (up s) ∙ st.parents more ∙ up t; number = (equal st.before).1 (record { sums = st.sums; children = st.children }) })),
+        (λ st. same.1 (record {
+          before = st.before;
+          parents = λ more. sym (up s) ∙ st.parents more ∙ up t;
+          number = (equal st.before).1 (record { sums = st.sums; children = st.children });
+        })),
       )
 
   pub classes_of : IsClasses f.parents new
@@ -216,4 +239,5 @@ module _ (f : Frame) (old numbers new : ClassLists) (h : AreParted f old numbers
           let e = h.each (round + 1) (omega arith) (omega (arith, lt)) in
           let down : round + 1 - 1 ≡ round = omega arith in
           let st = (e.classes.same s t (omega (arith, ls, e.long)) (omega (arith, lt', e.long))).0 same in
-          subst (λ r. get_or (list_of new r) (get_or (parents_of f (round + 1)) s 0) 0 ≡ get_or (list_of new r) (get_or (parents_of f (round + 1)) t 0) 0) down (st.parents (omega (arith, some)))
+          subst (λ r. get_or (list_of new r) (get_or (parents_of f (round + 1)) s 0) 0
+          ≡ get_or (list_of new r) (get_or (parents_of f (round + 1)) t 0) 0) down (st.parents (omega (arith, some)))

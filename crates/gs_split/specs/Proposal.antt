@@ -23,7 +23,8 @@ child_term classes numbers child = mixed (get_or classes child 0 + get_or number
 
 -- the terms of a signal's children, by their parents, modulo 2 ^ 32
 abbrev pub child_number : List ℕ → List ℕ → List ℕ → ℕ → ℕ
-child_number parents classes numbers s = sum_by (λ x. if get_or parents x 0 == s then child_term classes numbers x else 0) (range_with_len 0 (length parents)) % 2 ^ 32
+child_number parents classes numbers s = sum_by (λ x. if get_or parents x 0 == s then child_term classes numbers x
+    else 0) (range_with_len 0 (length parents)) % 2 ^ 32
 
 -- the mixed sum of a last-round signal: what it is paid in its deals by the mixed classes of the other's signals, modulo 2 ^ 32
 abbrev pub deal_number : Game → List ℕ → ℕ → ℤ
@@ -32,7 +33,8 @@ deal_number g classes s = int_rem_euclid (deal_sum g (map mixed classes) (paid (
 -- numbers of the signals of a round, equal wherever a lossless refinement of the classes keeps signals together
 pub record AreFair (f : Frame) (lists : ClassLists) (round : ℕ) (numbers : List ℕ) : Type 0 where
   pub long : length numbers ≡ signal_count f round
-  pub same : (other : ClassLists) → IsLossless f other → Refines f other lists → (s t : ℕ) → InOneClass f other round s t → get_or numbers s 0 ≡ get_or numbers t 0
+  pub same : (other : ClassLists) → IsLossless f other → Refines f other lists → (s t : ℕ) → InOneClass f other round s t
+      → get_or numbers s 0 ≡ get_or numbers t 0
 
 -- fair numbers for each round from one on
 pub record AreFairFrom (f : Frame) (lists : ClassLists) (from : ℕ) (numbers : ClassLists) : Type 0 where

@@ -35,7 +35,8 @@ pub record AreClassSums (f : Frame) (lists : ClassLists) (side : Side) (round : 
 -- numbers of the signals of a round: within a class equal exactly where the signals agree on one side
 pub record AreSideNumbers (f : Frame) (lists : ClassLists) (side : Side) (round : ℕ) (numbers : List ℕ) : Type 0 where
   pub long : length numbers ≡ signal_count f round
-  pub same : (i j : ℕ) → i < length numbers → j < length numbers → class_of lists round i ≡ class_of lists round j → (get_or numbers i 0 ≡ get_or numbers j 0) ↔ Agree f lists side round i j
+  pub same : (i j : ℕ) → i < length numbers → j < length numbers → class_of lists round i ≡ class_of lists round j
+      → (get_or numbers i 0 ≡ get_or numbers j 0) ↔ Agree f lists side round i j
 
 -- two signals have the same sums in the last round, and the same children before it
 pub record HaveSameSums (f : Frame) (lists : ClassLists) (round s t : ℕ) : Type 0 where
@@ -45,12 +46,14 @@ pub record HaveSameSums (f : Frame) (lists : ClassLists) (round s t : ℕ) : Typ
 -- numbers of the signals of a round: within a class equal exactly where the signals have the same sums
 pub record AreTurnNumbers (f : Frame) (lists : ClassLists) (round : ℕ) (numbers : List ℕ) : Type 0 where
   pub long : length numbers ≡ signal_count f round
-  pub same : (i j : ℕ) → i < length numbers → j < length numbers → class_of lists round i ≡ class_of lists round j → (get_or numbers i 0 ≡ get_or numbers j 0) ↔ HaveSameSums f lists round i j
+  pub same : (i j : ℕ) → i < length numbers → j < length numbers → class_of lists round i ≡ class_of lists round j
+      → (get_or numbers i 0 ≡ get_or numbers j 0) ↔ HaveSameSums f lists round i j
 
 -- in the rounds that are marked, members of a class have the same sums
 pub record AreKnown (f : Frame) (lists : ClassLists) (known : List Bool) : Type 0 where
   pub long : length known ≡ last_round f
-  pub same : (round s t : ℕ) → 0 < round → round ≤ last_round f → get_or known (round - 1) false ≡ true → InOneClass f lists round s t → HaveSameSums f lists round s t
+  pub same : (round s t : ℕ) → 0 < round → round ≤ last_round f → get_or known (round - 1) false ≡ true → InOneClass f lists round s t
+      → HaveSameSums f lists round s t
 
 -- whether two sums are the same
 abbrev pub part_eq : Part → Part → Bool

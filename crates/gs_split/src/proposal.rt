@@ -66,7 +66,8 @@ fn deal_numbers(
 ) -> Result<Vec<u32>, AllocError>
     requires { length classes.now ≡ last_count (rules_of order.now.signals.now) }
     ensures long { IfOk result (λ v. length v.items ≡ length classes.now) }
-    ensures each { IfOk result (λ v. (s : ℕ) → s < length classes.now → pos (get_or v.items s 0) ≡ deal_number (rules_of order.now.signals.now) classes.now s) }
+    ensures each { IfOk result (λ v. (s : ℕ) → s < length classes.now → pos (get_or v.items s 0)
+        ≡ deal_number (rules_of order.now.signals.now) classes.now s) }
 {
     let numbers = mixed_classes(alloc, classes)?;
     let mut sums = vec![in alloc; 0i128; classes.len()]?;
@@ -115,6 +116,7 @@ fn order_numbers(
     ensures { let f = frame_of (rules_of grouped.now.signals.now) in
         IfOk result (λ v. AreFair f grouped.now.classes.now.lists (last_round f) v.items) }
 {
+    // called only for what its contract says
     let _rounds = grouped.classes.rounds();
     let last = grouped.signals.rounds();
     let list = &grouped.classes.lists()[usize::from(last) - 1];

@@ -52,7 +52,8 @@ row_length (suc (suc i)) h = absurd (omega arith)
 pub sample_shaped : (p : Program) → IsWideSample p → IsShaped p
 sample_shaped p s = record {
   rows = sym (length-map p.numbers.items vec_items) ∙ ap length s.numbers ∙ sym s.rows;
-  row = λ i h. ap (λ (x : List (List ℤ)). length (slice_index_or x i [])) s.numbers ∙ row_length i (omega (arith, s.rows)) ∙ (let e : 3 ≡ p.cols + 1 = omega (arith, s.cols) in e);
+  row = λ i h. ap (λ (x : List (List ℤ)). length (slice_index_or x i [])) s.numbers ∙ row_length i (omega (arith, s.rows))
+      ∙ (let e : 3 ≡ p.cols + 1 = omega (arith, s.cols) in e);
   free = ap length s.free ∙ sym s.cols;
   aim = ap length s.aim ∙ sym s.cols;
   narrow = λ i j im jn. (let P : ℤ → Type 0 = λ t. IsNarrow t in subst P (sym (at_row p s i j)) (narrow_listed i j));
@@ -76,8 +77,10 @@ both (suc (suc i)) = pos 0
 abbrev second : ℕ → ℤ
 second j = (pos 0 +ℤ both 0 *ℤ at_listed 0 j) +ℤ both 1 *ℤ at_listed 1 j
 
-sums : (p : Program) → IsWideSample p → (y : ℕ → ℤ) (j : ℕ) → sum_to p.rows (λ i. y i *ℤ number p i j) ≡ (pos 0 +ℤ y 0 *ℤ at_listed 0 j) +ℤ y 1 *ℤ at_listed 1 j
-sums p s y j = ap (λ k. sum_to k (λ i. y i *ℤ number p i j)) s.rows ∙ ap (λ t. (pos 0 +ℤ y 0 *ℤ t) +ℤ y 1 *ℤ number p 1 j) (at_row p s 0 j) ∙ ap (λ t. (pos 0 +ℤ y 0 *ℤ at_listed 0 j) +ℤ y 1 *ℤ t) (at_row p s 1 j)
+sums : (p : Program) → IsWideSample p → (y : ℕ → ℤ) (j : ℕ) → sum_to p.rows (λ i. y i *ℤ number p i j)
+    ≡ (pos 0 +ℤ y 0 *ℤ at_listed 0 j) +ℤ y 1 *ℤ at_listed 1 j
+sums p s y j = ap (λ k. sum_to k (λ i. y i *ℤ number p i j)) s.rows ∙ ap (λ t. (pos 0 +ℤ y 0 *ℤ t) +ℤ y 1 *ℤ number p 1 j) (at_row p s 0 j)
+    ∙ ap (λ t. (pos 0 +ℤ y 0 *ℤ at_listed 0 j) +ℤ y 1 *ℤ t) (at_row p s 1 j)
 
 abbrev one : Listing
 one = (1, 1) ∷ []
@@ -145,8 +148,10 @@ value_nonneg zero = omega (arith, linear)
 value_nonneg (suc zero) = omega (arith, linear)
 value_nonneg (suc (suc j)) = omega (arith, linear)
 
-row_sum : (p : Program) → IsWideSample p → (i : ℕ) → sum_to p.cols (λ j. number p i j *ℤ value j) ≡ (pos 0 +ℤ at_listed i 0 *ℤ pos 2) +ℤ at_listed i 1 *ℤ pos 1
-row_sum p s i = ap (λ k. sum_to k (λ j. number p i j *ℤ value j)) s.cols ∙ ap (λ t. (pos 0 +ℤ t *ℤ pos 2) +ℤ number p i 1 *ℤ pos 1) (at_row p s i 0) ∙ ap (λ t. (pos 0 +ℤ at_listed i 0 *ℤ pos 2) +ℤ t *ℤ pos 1) (at_row p s i 1)
+row_sum : (p : Program) → IsWideSample p → (i : ℕ) → sum_to p.cols (λ j. number p i j *ℤ value j)
+    ≡ (pos 0 +ℤ at_listed i 0 *ℤ pos 2) +ℤ at_listed i 1 *ℤ pos 1
+row_sum p s i = ap (λ k. sum_to k (λ j. number p i j *ℤ value j)) s.cols ∙ ap (λ t. (pos 0 +ℤ t *ℤ pos 2) +ℤ number p i 1 *ℤ pos 1) (at_row p s i 0)
+    ∙ ap (λ t. (pos 0 +ℤ at_listed i 0 *ℤ pos 2) +ℤ t *ℤ pos 1) (at_row p s i 1)
 
 side : (p : Program) → IsWideSample p → (i : ℕ) → number p i p.cols ≡ at_listed i 2
 side p s i = ap (number p i) s.cols ∙ at_row p s i 2
@@ -159,8 +164,10 @@ sample_opens p s = record {
     | inr e ↦ (1, (let P : ℕ → Type 0 = λ x. IsListed opening x 1 in subst P (sym e) (1, omega arith, refl)))
   ];
   taken = λ k h. elim (two k h) [
-    | inl e ↦ (let P : ℕ → Type 0 = λ x. (r : ℕ) × (c : ℕ) × (slice_index_or opening x (0, 0) ≡ (r + 1, c + 1)) × CanTake p (take x opening) r c in subst P (sym e) (0, 0, refl, take_first p s))
-    | inr e ↦ (let P : ℕ → Type 0 = λ x. (r : ℕ) × (c : ℕ) × (slice_index_or opening x (0, 0) ≡ (r + 1, c + 1)) × CanTake p (take x opening) r c in subst P (sym e) (1, 1, refl, take_second p s))
+    | inl e ↦ (let P : ℕ → Type 0 = λ x. (r : ℕ) × (c : ℕ) × (slice_index_or opening x (0, 0) ≡ (r + 1, c + 1)) × CanTake p (take x opening) r c in
+        subst P (sym e) (0, 0, refl, take_first p s))
+    | inr e ↦ (let P : ℕ → Type 0 = λ x. (r : ℕ) × (c : ℕ) × (slice_index_or opening x (0, 0) ≡ (r + 1, c + 1)) × CanTake p (take x opening) r c in
+        subst P (sym e) (1, 1, refl, take_second p s))
   ];
   free_named = λ j h f. absurd (never_free p s j f);
   feasible = (
@@ -170,8 +177,10 @@ sample_opens p s = record {
       solution = record {
         positive = omega (arith, linear);
         solves = λ i h. elim (two i (omega (arith, s.rows))) [
-          | inl e ↦ (let P : ℕ → Type 0 = λ x. sum_to p.cols (λ j. number p x j *ℤ value j) ≡ pos 4611686018427387905 *ℤ number p x p.cols in subst P (sym e) (row_sum p s 0 ∙ sym (ap (λ t. pos 4611686018427387905 *ℤ t) (side p s 0))))
-          | inr e ↦ (let P : ℕ → Type 0 = λ x. sum_to p.cols (λ j. number p x j *ℤ value j) ≡ pos 4611686018427387905 *ℤ number p x p.cols in subst P (sym e) (row_sum p s 1 ∙ sym (ap (λ t. pos 4611686018427387905 *ℤ t) (side p s 1))))
+          | inl e ↦ (let P : ℕ → Type 0 = λ x. sum_to p.cols (λ j. number p x j *ℤ value j) ≡ pos 4611686018427387905 *ℤ number p x p.cols in
+              subst P (sym e) (row_sum p s 0 ∙ sym (ap (λ t. pos 4611686018427387905 *ℤ t) (side p s 0))))
+          | inr e ↦ (let P : ℕ → Type 0 = λ x. sum_to p.cols (λ j. number p x j *ℤ value j) ≡ pos 4611686018427387905 *ℤ number p x p.cols in
+              subst P (sym e) (row_sum p s 1 ∙ sym (ap (λ t. pos 4611686018427387905 *ℤ t) (side p s 1))))
         ];
       };
       nonnegative = λ j h out. value_nonneg j;

@@ -66,6 +66,7 @@ fn told(
     match raw_verdict(alloc, signals, &first, &x, &second, &y) {
         Ok(found) => {
             let mut told = text_of(alloc, &found)?;
+            // called only for what its contract says
             let _rounds = signals.rounds();
             for signal in 0..signals.count(1) {
                 let hand = hand_value(signals, &first, &x, &second, &y, signal);

@@ -29,7 +29,8 @@ class_line members c = open_line members c ++ codes "\n"
 
 -- the line of a round: how many classes and signals it has
 unfoldable pub round_line : ℕ → ℕ → ℕ → List ℕ
-round_line round classes signals = codes "round " ++ decimal round ++ codes " classes " ++ decimal classes ++ codes " signals " ++ decimal signals ++ codes "\n"
+round_line round classes signals = codes "round " ++ decimal round ++ codes " classes " ++ decimal classes ++ codes " signals " ++ decimal signals
+    ++ codes "\n"
 
 -- a round, by the texts of its signals and their classes: its line, and a line for each class in order
 abbrev pub round_text : ℕ → List (List ℕ) → List ℕ → List ℕ

@@ -101,8 +101,10 @@ fn lines_below(
     requires above { map string_bytes above.now ≡ texts_of_signals (deck_of signals.now) (rules_of signals.now) (round - 1) }
     requires lengths { length classes.now ≡ length (signals_in (rules_of signals.now) round) }
     requires numbers { All (λ c. (1 ≤ c) × (c ≤ count)) classes.now }
-    ensures { IfOk result (λ lines. map string_bytes lines.items ≡ map (open_line (zip (texts_of_signals (deck_of signals.now) (rules_of signals.now) round) classes.now)) (range_with_len 1 count)) }
+    ensures { IfOk result (λ lines. map string_bytes lines.items ≡ map (open_line
+        (zip (texts_of_signals (deck_of signals.now) (rules_of signals.now) round) classes.now)) (range_with_len 1 count)) }
 {
+    // called only for what its contract says
     let _few = signals.count(round);
     let parents = signals.parents_in(round);
     let mut lines = begun_lines(alloc, count)?;
@@ -128,7 +130,8 @@ fn round_lines(
     requires last { round ≤ round_count (rules_of signals.now) }
     requires lengths { length classes.now ≡ length (signals_in (rules_of signals.now) round) }
     requires numbers { All (λ c. (1 ≤ c) × (c ≤ count)) classes.now }
-    ensures { IfOk result (λ lines. map string_bytes lines.items ≡ map (open_line (zip (texts_of_signals (deck_of signals.now) (rules_of signals.now) round) classes.now)) (range_with_len 1 count)) }
+    ensures { IfOk result (λ lines. map string_bytes lines.items ≡ map (open_line
+        (zip (texts_of_signals (deck_of signals.now) (rules_of signals.now) round) classes.now)) (range_with_len 1 count)) }
 {
     if round == 1 {
         let texts = signal_texts(alloc, signals, round)?;
@@ -152,7 +155,8 @@ fn push_round(
     requires lengths { length classes.now ≡ length (signals_in (rules_of signals.now) round) }
     requires count { count ≡ greatest classes.now }
     requires numbers { All (λ c. 1 ≤ c) classes.now }
-    ensures { OnOk result (string_bytes text.new ≡ string_bytes text.old ++ round_text round (texts_of_signals (deck_of signals.now) (rules_of signals.now) round) classes.now) }
+    ensures { OnOk result (string_bytes text.new ≡ string_bytes text.old
+        ++ round_text round (texts_of_signals (deck_of signals.now) (rules_of signals.now) round) classes.now) }
 {
     let total = signals.count(round);
     push_round_line(text, round, count, total)?;
@@ -172,7 +176,8 @@ fn push_classes(
     requires lists { AreListsOf (rules_of signals.now) classes.now.lists }
     requires some { 0 < round }
     requires last { round ≤ round_count (rules_of signals.now) }
-    ensures { OnOk result (string_bytes text.new ≡ string_bytes text.old ++ round_text round (texts_of_signals (deck_of signals.now) (rules_of signals.now) round) (list_of classes.now.lists round)) }
+    ensures { OnOk result (string_bytes text.new ≡ string_bytes text.old
+        ++ round_text round (texts_of_signals (deck_of signals.now) (rules_of signals.now) round) (list_of classes.now.lists round)) }
 {
     let list = &classes.lists()[usize::from(round) - 1];
     let count = classes.classes(round);

@@ -14,30 +14,37 @@ use Rattle.gs_totals.specs.declared.course.Course.{Course}
 within_less : (before : Bool) (gap gain times less : ℕ) → less ≤ times → IsWithinGap before gap gain times → IsWithinGap before gap gain less
 within_less before gap gain times less l h = omega (arith, h, l)
 
-pub behind_less : (before : Bool) (value worth slope rise : ℤ) (times less : ℕ) → less ≤ times → IsBehind before value worth slope rise times → IsBehind before value worth slope rise less
+pub behind_less : (before : Bool) (value worth slope rise : ℤ) (times less : ℕ) → less ≤ times → IsBehind before value worth slope rise times
+    → IsBehind before value worth slope rise less
 behind_less before value worth slope rise times less l h gap gain e g some = within_less before gap gain times less l (h gap gain e g some)
 
 pub stays_less : (k : Course) (q m times less : ℕ) → less ≤ times → StaysBehind k q m times → StaysBehind k q m less
 stays_less k q m times less l h c lc ne =
-    behind_less (nat_lt m (moves_chosen k q c)) (totals_now k (at_point q) c) (total_worth (frame_in k) (lists_in k) (totals_now k) q m c) (totals_added k (at_point q) c) (total_worth (frame_in k) (lists_in k) (totals_added k) q m c) times less l (h c lc ne)
+    behind_less (nat_lt m (moves_chosen k q c)) (totals_now k (at_point q) c) (total_worth (frame_in k) (lists_in k) (totals_now k) q m c)
+    (totals_added k (at_point q) c) (total_worth (frame_in k) (lists_in k) (totals_added k) q m c) times less l (h c lc ne)
 
 -- one class more
-pub behind_more : (n choice start : ℕ) (picks : List ℕ) (values worths slopes rises : List ℤ) (times less : ℕ) → less ≤ times → AreBehind n choice start picks values worths slopes rises times
+pub behind_more : (n choice start : ℕ) (picks : List ℕ) (values worths slopes rises : List ℤ) (times less : ℕ) → less ≤ times
+    → AreBehind n choice start picks values worths slopes rises times
     → (slice_index picks (start + n) ≢ choice
-    → IsBehind (nat_lt choice (slice_index picks (start + n))) (get_or values (start + n) (pos 0)) (get_or worths n (pos 0)) (get_or slopes (start + n) (pos 0)) (get_or rises n (pos 0)) less)
+    → IsBehind (nat_lt choice (slice_index picks (start + n))) (get_or values (start + n) (pos 0)) (get_or worths n (pos 0))
+    (get_or slopes (start + n) (pos 0)) (get_or rises n (pos 0)) less)
     → AreBehind (n + 1) choice start picks values worths slopes rises less
 behind_more n choice start picks values worths slopes rises times less l h here k lk = ⊎_elim
     (λ (same : k ≡ n). let P : ℕ → Type 0 = λ k. slice_index picks (start + k) ≢ choice
-    → IsBehind (nat_lt choice (slice_index picks (start + k))) (get_or values (start + k) (pos 0)) (get_or worths k (pos 0)) (get_or slopes (start + k) (pos 0)) (get_or rises k (pos 0)) less in subst P (sym same) here)
+    → IsBehind (nat_lt choice (slice_index picks (start + k))) (get_or values (start + k) (pos 0)) (get_or worths k (pos 0))
+    (get_or slopes (start + k) (pos 0)) (get_or rises k (pos 0)) less in subst P (sym same) here)
     (λ (other : k ≡ n → ⊥). λ ne.
-    behind_less (nat_lt choice (slice_index picks (start + k))) (get_or values (start + k) (pos 0)) (get_or worths k (pos 0)) (get_or slopes (start + k) (pos 0)) (get_or rises k (pos 0)) times less l (h k (omega arith) ne))
+    behind_less (nat_lt choice (slice_index picks (start + k))) (get_or values (start + k) (pos 0)) (get_or worths k (pos 0))
+    (get_or slopes (start + k) (pos 0)) (get_or rises k (pos 0)) times less l (h k (omega arith) ne))
     (cases_eq k n)
 
 -- the distance of two numbers
 pub distance : (a b : ℤ) (n : ℕ) → a ≡ b +ℤ pos n → unsigned_abs (a -ℤ b) ≡ n
 distance a b n e = omega (arith, ints, e, abs_is (a -ℤ b))
 
-pub behind_by : (before : Bool) (value worth slope rise : ℤ) (gap gain times : ℕ) → gap ≡ unsigned_abs (value -ℤ worth) → gain ≡ unsigned_abs (rise -ℤ slope) → IsWithinGap before gap gain times → IsBehind before value worth slope rise times
+pub behind_by : (before : Bool) (value worth slope rise : ℤ) (gap gain times : ℕ) → gap ≡ unsigned_abs (value -ℤ worth) → gain ≡ unsigned_abs (rise -ℤ slope)
+    → IsWithinGap before gap gain times → IsBehind before value worth slope rise times
 behind_by before value worth slope rise gap gain times a b h n m e g some =
     let p : gap ≡ n = a ∙ distance value worth n e in
     let q : gain ≡ m = b ∙ distance rise slope m g in
@@ -54,7 +61,8 @@ behind_is : (m n : ℕ) → n < m → nat_lt m n ≡ false
 behind_is m n l = grind arith
 
 -- moves that all stay behind change no choice
-pub lasts_by : (k : Course) (q times : ℕ) → q < point_count (frame_in k) → player_at (frame_in k) q ≡ k.player → ((m : ℕ) → m < move_count (frame_in k) q → StaysBehind k q m times) → LastsAt k q times
+pub lasts_by : (k : Course) (q times : ℕ) → q < point_count (frame_in k) → player_at (frame_in k) q ≡ k.player
+    → ((m : ℕ) → m < move_count (frame_in k) q → StaysBehind k q m times) → LastsAt k q times
 lasts_by k q times lq own h c lc =
     let f = frame_in k in
     let lists = lists_in k in
@@ -69,13 +77,16 @@ lasts_by k q times lq own h c lc =
           let w = h m inside c lc (λ s. omega (arith, behind, s)) gap gain (value_is ∙ e) (g ∙ ap (λ x. x +ℤ pos gain) (sym slope_is)) some in
           subst (λ b. IsWithinGap b gap gain times) (behind_is m place behind) w;
       earlier = λ m gap gain before e g some.
-          let w = h m (omega (arith, before, inr)) c lc (λ s. omega (arith, before, s)) gap gain (value_is ∙ e) (g ∙ ap (λ x. x +ℤ pos gain) (sym slope_is)) some in
+          let w = h m (omega (arith, before, inr)) c lc (λ s. omega (arith, before, s)) gap gain (value_is ∙ e) (g
+          ∙ ap (λ x. x +ℤ pos gain) (sym slope_is)) some in
           subst (λ b. IsWithinGap b gap gain times) (before_is m place before) w;
     }
 
 -- the same numbers
-pub behind_same : (before : Bool) (a a' b b' c c' d d' : ℤ) (times : ℕ) → a ≡ a' → b ≡ b' → c ≡ c' → d ≡ d' → IsBehind before a b c d times → IsBehind before a' b' c' d' times
-behind_same before a a' b b' c c' d d' times ea eb ec ed h n m e g some = h n m (ea ∙ e ∙ ap (λ x. x +ℤ pos n) (sym eb)) (ed ∙ g ∙ ap (λ x. x +ℤ pos m) (sym ec)) some
+pub behind_same : (before : Bool) (a a' b b' c c' d d' : ℤ) (times : ℕ) → a ≡ a' → b ≡ b' → c ≡ c' → d ≡ d' → IsBehind before a b c d times
+    → IsBehind before a' b' c' d' times
+behind_same before a a' b b' c c' d d' times ea eb ec ed h n m e g some =
+    h n m (ea ∙ e ∙ ap (λ x. x +ℤ pos n) (sym eb)) (ed ∙ g ∙ ap (λ x. x +ℤ pos m) (sym ec)) some
 
 -- fewer turns change no choice at a point either
 pub lasts_less : (k : Course) (q times less : ℕ) → less ≤ times → LastsAt k q times → LastsAt k q less

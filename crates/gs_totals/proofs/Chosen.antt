@@ -13,9 +13,11 @@ use Rattle.gs_best.specs.Tables.{moves_of, start_of}
 use Rattle.gs_totals.specs.ClassTotals.{total_worth}
 use Rattle.gs_totals.specs.Merged.{AreChosen, AreTaken}
 
-module _ (f : Frame) (lists : ClassLists) (v : Values) (q n count : ℕ) (all : count ≡ class_count lists (round_of f (at_point q))) (worths : List ℤ) (new : AreWorths f lists (total_worth f lists v) q n worths) where
+module _ (f : Frame) (lists : ClassLists) (v : Values) (q n count : ℕ) (all : count
+    ≡ class_count lists (round_of f (at_point q))) (worths : List ℤ) (new : AreWorths f lists (total_worth f lists v) q n worths) where
   -- one more move, which some classes have chosen
-  pub chosen_step : (picks : List ℕ) (start : ℕ) (old row : List ℤ) → start ≡ start_of f lists q → AreTaken count n start picks worths old row → AreChosen f lists v (moves_of f lists picks) q n old
+  pub chosen_step : (picks : List ℕ) (start : ℕ) (old row : List ℤ) → start ≡ start_of f lists q → AreTaken count n start picks worths old row
+      → AreChosen f lists v (moves_of f lists picks) q n old
       → AreChosen f lists v (moves_of f lists picks) q (n + 1) row
   chosen_step picks start old row at r h c lc below =
       let W : ℕ → ℤ = λ m. total_worth f lists v q m c in

@@ -32,12 +32,15 @@ apart a b h g = omega (arith, ints, abs_is a, abs_is b, abs_is (a -ℤ b), h, g)
 
 module _ (k : Course) (s : IsSound k.form.now.lossless.now.classes.now) where
   pub now_modest : (q : ℕ) → AreModestFrom (frame_in k) (lists_in k) (totals_now k) q
-  now_modest q = known_modest (now_side k) s k.totals.now.points.items (moves_chosen k) q (from_some (frame_in k) (lists_in k) k.player _ (totals_now k) (moves_chosen k) q k.best.followed)
+  now_modest q = known_modest (now_side k) s k.totals.now.points.items (moves_chosen k) q
+      (from_some (frame_in k) (lists_in k) k.player _ (totals_now k) (moves_chosen k) q k.best.followed)
 
   pub added_modest : (q : ℕ) → AreModestFrom (frame_in k) (lists_in k) (totals_added k) q
-  added_modest q = known_modest (added_side k) s k.steps.now.points.items (moves_chosen k) q (from_some (frame_in k) (lists_in k) k.player _ (totals_added k) (moves_chosen k) q k.rise)
+  added_modest q = known_modest (added_side k) s k.steps.now.points.items (moves_chosen k) q
+      (from_some (frame_in k) (lists_in k) k.player _ (totals_added k) (moves_chosen k) q k.rise)
 
-  module _ (q m c : ℕ) (lq : q < point_count (frame_in k)) (lm : m < move_count (frame_in k) q) (lc : IsClass (lists_in k) (round_of (frame_in k) (at_point q)) c) where
+  module _ (q m c : ℕ) (lq : q < point_count (frame_in k)) (lm : m < move_count (frame_in k) q)
+      (lc : IsClass (lists_in k) (round_of (frame_in k) (at_point q)) c) where
     pub gap_small : unsigned_abs (totals_now k (at_point q) c -ℤ total_worth (frame_in k) (lists_in k) (totals_now k) q m c) < 2 ^ 120
     gap_small =
         let even : q ≤ q = omega arith in
@@ -52,7 +55,8 @@ module _ (k : Course) (s : IsSound k.form.now.lossless.now.classes.now) where
         let b = worth_modest (added_side k) s (totals_added k) q m c (added_modest (q + 1)) lq lm lc in
         apart (total_worth (frame_in k) (lists_in k) (totals_added k) q m c) (totals_added k (at_point q) c) (omega (arith, b)) (omega (arith, a))
 
-    pub not_ahead : player_at (frame_in k) q ≡ k.player → IsNotAhead (nat_lt m (moves_chosen k q c)) (totals_now k (at_point q) c) (total_worth (frame_in k) (lists_in k) (totals_now k) q m c)
+    pub not_ahead : player_at (frame_in k) q ≡ k.player → IsNotAhead (nat_lt m (moves_chosen k q c)) (totals_now k (at_point q) c)
+        (total_worth (frame_in k) (lists_in k) (totals_now k) q m c)
     not_ahead own = record {
       most = k.best.greatest.none_more q m c lq own lm lc;
       less = λ t. k.best.greatest.none_before q m c lq own lc (before_from m (moves_chosen k q c) t);
@@ -69,15 +73,19 @@ within_once true gap gain times l some more =
     omega (arith, l, one)
 within_once false gap gain times l some more = omega (arith, l)
 
-pub once_behind : (k : Course) → IsSound k.form.now.lossless.now.classes.now → (q m times : ℕ) → q < point_count (frame_in k) → m < move_count (frame_in k) q → player_at (frame_in k) q ≡ k.player → times ≤ 1 → StaysBehind k q m times
+pub once_behind : (k : Course) → IsSound k.form.now.lossless.now.classes.now → (q m times : ℕ) → q < point_count (frame_in k) → m < move_count (frame_in k) q
+    → player_at (frame_in k) q ≡ k.player → times ≤ 1 → StaysBehind k q m times
 once_behind k s q m times lq lm own l c lc ne =
     let here = not_ahead k s q m c lq lm lc own in
     λ gap gain e g some.
     within_once (nat_lt m (moves_chosen k q c)) gap gain times l some (λ t. let less = here.less t in omega (arith, ints, less, e))
 
 -- a move's rows, class by class
-module _ (k : Course) (q m start count : ℕ) (row : IsRow (classes_at (frame_in k) (lists_in k)) (point_count (frame_in k)) q start count) (values worths slopes rises : List ℤ) (values_are : values ≡ k.totals.now.points.items)
-    (slopes_are : slopes ≡ k.steps.now.points.items) (w : AreWorths (frame_in k) (lists_in k) (total_worth (frame_in k) (lists_in k) (totals_now k)) q m worths) (r : AreWorths (frame_in k) (lists_in k) (total_worth (frame_in k) (lists_in k) (totals_added k)) q m rises) where
+module _ (k : Course) (q m start count : ℕ) (row : IsRow (classes_at (frame_in k) (lists_in k)) (point_count (frame_in k)) q start count)
+    (values worths slopes rises : List ℤ) (values_are : values ≡ k.totals.now.points.items)
+    (slopes_are : slopes ≡ k.steps.now.points.items) (w : AreWorths (frame_in k) (lists_in k)
+    (total_worth (frame_in k) (lists_in k) (totals_now k)) q m worths)
+    (r : AreWorths (frame_in k) (lists_in k) (total_worth (frame_in k) (lists_in k) (totals_added k)) q m rises) where
   class_at : (i : ℕ) → i < count → IsClass (lists_in k) (round_of (frame_in k) (at_point q)) (i + 1)
   class_at i l = (omega arith, omega (arith, l, row.count_is))
 
@@ -108,13 +116,16 @@ module _ (k : Course) (q m start count : ℕ) (row : IsRow (classes_at (frame_in
     pub all_gains : (i : ℕ) → i < count → unsigned_abs (get_or rises i (pos 0) -ℤ get_or slopes (start + i) (pos 0)) < 2 ^ 120
     all_gains i l =
         subst (λ x. unsigned_abs (x -ℤ get_or slopes (start + i) (pos 0)) < 2 ^ 120) (sym (rise_at i l))
-        (subst (λ x. unsigned_abs (total_worth (frame_in k) (lists_in k) (totals_added k) q m (i + 1) -ℤ x) < 2 ^ 120) (sym (slope_at i)) (gain_small k s q m (i + 1) lq lm (class_at i l)))
+        (subst (λ x. unsigned_abs (total_worth (frame_in k) (lists_in k) (totals_added k) q m (i + 1) -ℤ x)
+        < 2 ^ 120) (sym (slope_at i)) (gain_small k s q m (i + 1) lq lm (class_at i l)))
 
-    pub all_ahead : player_at (frame_in k) q ≡ k.player → (i : ℕ) → i < count → slice_index k.picks.now (start + i) ≢ m → IsNotAhead (nat_lt m (slice_index k.picks.now (start + i))) (get_or values (start + i) (pos 0)) (get_or worths i (pos 0))
+    pub all_ahead : player_at (frame_in k) q ≡ k.player → (i : ℕ) → i < count → slice_index k.picks.now (start + i) ≢ m
+        → IsNotAhead (nat_lt m (slice_index k.picks.now (start + i))) (get_or values (start + i) (pos 0)) (get_or worths i (pos 0))
     all_ahead own i l ne =
         subst (λ p. IsNotAhead (nat_lt m p) (get_or values (start + i) (pos 0)) (get_or worths i (pos 0))) (sym (pick_at i))
         (subst (λ x. IsNotAhead (nat_lt m (moves_chosen k q (i + 1))) x (get_or worths i (pos 0))) (sym (value_at i))
-        (subst (λ x. IsNotAhead (nat_lt m (moves_chosen k q (i + 1))) (totals_now k (at_point q) (i + 1)) x) (sym (worth_at i l)) (not_ahead k s q m (i + 1) lq lm (class_at i l) own)))
+        (subst (λ x. IsNotAhead (nat_lt m (moves_chosen k q (i + 1))) (totals_now k (at_point q) (i + 1)) x) (sym (worth_at i l))
+        (not_ahead k s q m (i + 1) lq lm (class_at i l) own)))
 
   pub all_behind : (times : ℕ) → AreBehind count m start k.picks.now values worths slopes rises times → StaysBehind k q m times
   all_behind times h c lc ne =
@@ -123,7 +134,11 @@ module _ (k : Course) (q m start count : ℕ) (row : IsRow (classes_at (frame_in
       let l : i < count = omega (arith, lc.0, lc.1, row.count_is) in
       let pick = pick_at i ∙ ap (moves_chosen k q) e in
       let b = h i l (λ x. ne (sym pick ∙ x)) in
-      subst (λ p. IsBehind (nat_lt m p) (totals_now k (at_point q) c) (total_worth (frame_in k) (lists_in k) (totals_now k) q m c) (totals_added k (at_point q) c) (total_worth (frame_in k) (lists_in k) (totals_added k) q m c) times) pick
-      (behind_same (nat_lt m (get_or k.picks.now (start + i) 0)) (get_or values (start + i) (pos 0)) (totals_now k (at_point q) c) (get_or worths i (pos 0)) (total_worth (frame_in k) (lists_in k) (totals_now k) q m c) (get_or slopes (start + i) (pos 0))
-      (totals_added k (at_point q) c) (get_or rises i (pos 0)) (total_worth (frame_in k) (lists_in k) (totals_added k) q m c) times (value_at i ∙ ap (totals_now k (at_point q)) e)
-      (worth_at i l ∙ ap (total_worth (frame_in k) (lists_in k) (totals_now k) q m) e) (slope_at i ∙ ap (totals_added k (at_point q)) e) (rise_at i l ∙ ap (total_worth (frame_in k) (lists_in k) (totals_added k) q m) e) b)
+      subst (λ p. IsBehind (nat_lt m p) (totals_now k (at_point q) c) (total_worth (frame_in k) (lists_in k) (totals_now k) q m c)
+      (totals_added k (at_point q) c) (total_worth (frame_in k) (lists_in k) (totals_added k) q m c) times) pick
+      (behind_same (nat_lt m (get_or k.picks.now (start + i) 0)) (get_or values (start + i) (pos 0)) (totals_now k (at_point q) c) (get_or worths i (pos 0))
+      (total_worth (frame_in k) (lists_in k) (totals_now k) q m c) (get_or slopes (start + i) (pos 0))
+      (totals_added k (at_point q) c) (get_or rises i (pos 0)) (total_worth (frame_in k) (lists_in k) (totals_added k) q m c) times (value_at i
+      ∙ ap (totals_now k (at_point q)) e)
+      (worth_at i l ∙ ap (total_worth (frame_in k) (lists_in k) (totals_now k) q m) e) (slope_at i ∙ ap (totals_added k (at_point q)) e) (rise_at i l
+      ∙ ap (total_worth (frame_in k) (lists_in k) (totals_added k) q m) e) b)

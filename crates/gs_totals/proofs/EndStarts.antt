@@ -33,5 +33,6 @@ module _ (a : Abstract) (sound : IsSound a.lossless.now.classes.now) where
   end_starts_few z l = omega (arith, end_starts_by z l, (form_modest a).ends)
 
 -- the place of a class of an end lies before any later end
-pub end_before : (f : Frame) (lists : ClassLists) (z c later : ℕ) → IsClass lists (round_of f (at_end z)) c → z < later → end_start f lists z + (c - 1) < end_start f lists later
+pub end_before : (f : Frame) (lists : ClassLists) (z c later : ℕ) → IsClass lists (round_of f (at_end z)) c → z < later
+    → end_start f lists z + (c - 1) < end_start f lists later
 end_before f lists z c later lc l = omega (arith, end_starts_more f lists z, end_starts_le f lists (z + 1) later (omega arith), lc.0, lc.1)

@@ -28,7 +28,11 @@ row_at at =
     record {
       start_is = at.start_is;
       count_is = at.count_is;
-      within = omega (arith, row_next width at.point at.start at.count at.start_is at.count_is, prefix_le width (at.point + 1) (point_count (frame_in at.ledger)) (omega (arith, at.inside)));
+      within = omega (
+        arith,
+        row_next width at.point at.start at.count at.start_is at.count_is,
+        prefix_le width (at.point + 1) (point_count (frame_in at.ledger)) (omega (arith, at.inside)),
+      );
     }
 
 -- a row for the classes of any round is long enough
@@ -39,23 +43,29 @@ wide_at at long wide =
 
 -- the row of a point holds what is known there, and the row of an end what it pays
 module _ (at : Reading) (r : Row) where
-  pub held_at_point : (t : Target) (q : ℕ) → t ≡ at_point q → r.round ≡ round_of (frame_in at.ledger) (at_point q) → r.start ≡ start_of (frame_in at.ledger) (lists_in at.ledger) q → r.values.now ≡ at.totals.now.points.items
+  pub held_at_point : (t : Target) (q : ℕ) → t ≡ at_point q → r.round ≡ round_of (frame_in at.ledger) (at_point q)
+      → r.start ≡ start_of (frame_in at.ledger) (lists_in at.ledger) q → r.values.now ≡ at.totals.now.points.items
       → IsRowOf (frame_in at.ledger) (lists_in at.ledger) (totals_at at) t r
   held_at_point t q is round start values = subst (λ t. IsRowOf (frame_in at.ledger) (lists_in at.ledger) (totals_at at) t r) (sym is) (record {
     round_is = round;
-    values_are = λ c lc. ap (λ s. get_or r.values.now (s + (c - 1)) (pos 0)) start ∙ ap (λ l. get_or l (start_of (frame_in at.ledger) (lists_in at.ledger) q + (c - 1)) (pos 0)) values;
+    values_are = λ c lc. ap (λ s. get_or r.values.now (s + (c - 1)) (pos 0)) start
+        ∙ ap (λ l. get_or l (start_of (frame_in at.ledger) (lists_in at.ledger) q + (c - 1)) (pos 0)) values;
   })
 
-  pub held_at_end : (t : Target) (z : ℕ) → t ≡ at_end z → z < end_count (frame_in at.ledger) → r.round ≡ round_of (frame_in at.ledger) (at_end z) → r.start ≡ end_start (frame_in at.ledger) (lists_in at.ledger) z → r.values.now ≡ at.totals.now.ends.items
+  pub held_at_end : (t : Target) (z : ℕ) → t ≡ at_end z → z < end_count (frame_in at.ledger) → r.round ≡ round_of (frame_in at.ledger) (at_end z)
+      → r.start ≡ end_start (frame_in at.ledger) (lists_in at.ledger) z → r.values.now ≡ at.totals.now.ends.items
       → IsRowOf (frame_in at.ledger) (lists_in at.ledger) (totals_at at) t r
   held_at_end t z is inside round start values = subst (λ t. IsRowOf (frame_in at.ledger) (lists_in at.ledger) (totals_at at) t r) (sym is) (record {
     round_is = round;
     values_are = λ c lc.
-        ap (λ s. get_or r.values.now (s + (c - 1)) (pos 0)) start ∙ ap (λ l. get_or l (end_start (frame_in at.ledger) (lists_in at.ledger) z + (c - 1)) (pos 0)) values ∙ at.paid z c inside lc;
+        ap (λ s. get_or r.values.now (s + (c - 1)) (pos 0)) start ∙ ap (λ l.
+        get_or l (end_start (frame_in at.ledger) (lists_in at.ledger) z + (c - 1)) (pos 0)) values ∙ at.paid z c inside lc;
   })
 
-module _ (at : Reading) (m : ℕ) (lm : m < move_count (frame_in at.ledger) at.point) (r : Row) (held : IsRowOf (frame_in at.ledger) (lists_in at.ledger) (totals_at at) (leads_to (frame_in at.ledger) at.point m) r) where
-  pub later_row : r.start + class_count (lists_in at.ledger) r.round ≤ length r.values.now → IsLaterRow (frame_in at.ledger) (lists_in at.ledger) (round_of (frame_in at.ledger) (at_point at.point)) r
+module _ (at : Reading) (m : ℕ) (lm : m < move_count (frame_in at.ledger) at.point) (r : Row)
+    (held : IsRowOf (frame_in at.ledger) (lists_in at.ledger) (totals_at at) (leads_to (frame_in at.ledger) at.point m) r) where
+  pub later_row : r.start + class_count (lists_in at.ledger) r.round ≤ length r.values.now
+      → IsLaterRow (frame_in at.ledger) (lists_in at.ledger) (round_of (frame_in at.ledger) (at_point at.point)) r
   later_row room =
       let f = frame_in at.ledger in
       let w = side_walked at.ledger.side.now in
@@ -65,7 +75,8 @@ module _ (at : Reading) (m : ℕ) (lm : m < move_count (frame_in at.ledger) at.p
         top = omega (arith, w.within at.point m at.inside lm, held.round_is);
         room = room;
         modest = λ i l.
-            let class : IsClass (lists_in at.ledger) (round_of f t) (i + 1) = (omega arith, omega (arith, l, ap (class_count (lists_in at.ledger)) held.round_is)) in
+            let class : IsClass (lists_in at.ledger) (round_of f t) (i + 1) =
+            (omega arith, omega (arith, l, ap (class_count (lists_in at.ledger)) held.round_is)) in
             let small = at.modest t (i + 1) (w.inside at.point m at.inside lm) (w.later at.point m at.inside lm) class in
             let place : r.start + (i + 1 - 1) ≡ r.start + i = omega arith in
             omega (arith, small, ap unsigned_abs (held.values_are (i + 1) class), ap (λ n. unsigned_abs (get_or r.values.now n (pos 0))) place);

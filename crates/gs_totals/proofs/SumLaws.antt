@@ -36,34 +36,43 @@ both_parts n k m p =
 
 -- ---- what ends pay
 
-scaled_sum : (f : Frame) (lists : ClassLists) (value unit : ℤ → ℤ) (a : ℤ) (round : ℕ) (u : Option Step) (y : Plan) (c : ℕ) → ((e : ℕ) → pair_sum f lists lists round value c e ≡ a *ℤ pair_sum f lists lists round unit c e)
+scaled_sum : (f : Frame) (lists : ClassLists) (value unit : ℤ → ℤ) (a : ℤ) (round : ℕ) (u : Option Step) (y : Plan) (c : ℕ)
+    → ((e : ℕ) → pair_sum f lists lists round value c e ≡ a *ℤ pair_sum f lists lists round unit c e)
     → kept_sum f lists value round u y c ≡ a *ℤ kept_sum f lists unit round u y c
 scaled_sum f lists value unit a round u y c each =
-    sum_z-same (λ e. pos (number_after f lists y u round e) *ℤ pair_sum f lists lists round value c e) (λ e. a *ℤ (pos (number_after f lists y u round e) *ℤ pair_sum f lists lists round unit c e))
-    (λ e. ap (λ x. pos (number_after f lists y u round e) *ℤ x) (each e) ∙ swap_factors (pos (number_after f lists y u round e)) a (pair_sum f lists lists round unit c e)) (classes_in lists round)
+    sum_z-same (λ e. pos (number_after f lists y u round e) *ℤ pair_sum f lists lists round value c e)
+    (λ e. a *ℤ (pos (number_after f lists y u round e) *ℤ pair_sum f lists lists round unit c e))
+    (λ e. ap (λ x. pos (number_after f lists y u round e) *ℤ x) (each e)
+    ∙ swap_factors (pos (number_after f lists y u round e)) a (pair_sum f lists lists round unit c e)) (classes_in lists round)
     ∙ sum_z-mul a (λ e. pos (number_after f lists y u round e) *ℤ pair_sum f lists lists round unit c e) (classes_in lists round)
 
-paid_is : (f : Frame) (lists : ClassLists) (player : ℕ) → (player ≡ 1) ⊎ (player ≡ 2) → (y : Plan) (z c : ℕ) (kind : EndKind) → (end_at f z).kind ≡ kind → end_sum f lists player y z c ≡ paid_as f lists player y z c kind
+paid_is : (f : Frame) (lists : ClassLists) (player : ℕ) → (player ≡ 1) ⊎ (player ≡ 2) → (y : Plan) (z c : ℕ) (kind : EndKind) → (end_at f z).kind ≡ kind
+    → end_sum f lists player y z c ≡ paid_as f lists player y z c kind
 paid_is f lists player either y z c Folded1 is =
     let round = round_of f (at_end z) in
     let a = stake player 1 (end_at f z).put in
-    scaled_sum f lists (payoff_to f player z) (λ o. pos 1) a round (last_step f (other_player player) (at_end z)) y c (λ m. pair_constant f lists lists round c m (payoff_to f player z) a (folded f player z either is))
+    scaled_sum f lists (payoff_to f player z) (λ o. pos 1) a round (last_step f (other_player player) (at_end z)) y c
+    (λ m. pair_constant f lists lists round c m (payoff_to f player z) a (folded f player z either is))
 paid_is f lists player either y z c Folded2 is =
     let round = round_of f (at_end z) in
     let a = stake player 2 (end_at f z).put in
-    scaled_sum f lists (payoff_to f player z) (λ o. pos 1) a round (last_step f (other_player player) (at_end z)) y c (λ m. pair_constant f lists lists round c m (payoff_to f player z) a (folded_other f player z either is))
+    scaled_sum f lists (payoff_to f player z) (λ o. pos 1) a round (last_step f (other_player player) (at_end z)) y c
+    (λ m. pair_constant f lists lists round c m (payoff_to f player z) a (folded_other f player z either is))
 paid_is f lists player either y z c Show is =
     let round = round_of f (at_end z) in
     let put = (end_at f z).put in
-    scaled_sum f lists (payoff_to f player z) (λ o. o) (pos put) round (last_step f (other_player player) (at_end z)) y c (λ m. pair_signed f lists lists round c m (payoff_to f player z) put (shown f player z either is))
+    scaled_sum f lists (payoff_to f player z) (λ o. o) (pos put) round (last_step f (other_player player) (at_end z)) y c
+    (λ m. pair_signed f lists lists round c m (payoff_to f player z) put (shown f player z either is))
 
 -- the sums of an end's group give what it pays
-pub ends_by_sums : (f : Frame) (lists : ClassLists) (player : ℕ) → (player ≡ 1) ⊎ (player ≡ 2) → (y : Plan) (z c : ℕ) → end_sum f lists player y z c ≡ paid_by_sums f lists player y z c
+pub ends_by_sums : (f : Frame) (lists : ClassLists) (player : ℕ) → (player ≡ 1) ⊎ (player ≡ 2) → (y : Plan) (z c : ℕ)
+    → end_sum f lists player y z c ≡ paid_by_sums f lists player y z c
 ends_by_sums f lists player either y z c = paid_is f lists player either y z c (end_at f z).kind refl
 
 -- ---- sums of plans
 
-number_plus : (f : Frame) (lists : ClassLists) (x b : Plan) (k : ℕ) (u : Option Step) (round e : ℕ) → number_after f lists (plus_times x k b) u round e ≡ number_after f lists x u round e + k * number_after f lists b u round e
+number_plus : (f : Frame) (lists : ClassLists) (x b : Plan) (k : ℕ) (u : Option Step) (round e : ℕ)
+    → number_after f lists (plus_times x k b) u round e ≡ number_after f lists x u round e + k * number_after f lists b u round e
 number_plus f lists x b k None round e = refl
 number_plus f lists x b k (Some u) round e = refl
 
@@ -80,7 +89,8 @@ kept_plus f lists value round u x b k c =
     ∙ ap (λ s. sum_z (λ e. pos (n e) *ℤ p e) (classes_in lists round) +ℤ s) (sum_z-mul (pos k) (λ e. pos (m e) *ℤ p e) (classes_in lists round))
 
 -- and so does what ends pay
-pub end_plus : (f : Frame) (lists : ClassLists) (player : ℕ) (x b : Plan) (k z c : ℕ) → end_sum f lists player (plus_times x k b) z c ≡ end_sum f lists player x z c +ℤ pos k *ℤ end_sum f lists player b z c
+pub end_plus : (f : Frame) (lists : ClassLists) (player : ℕ) (x b : Plan) (k z c : ℕ)
+    → end_sum f lists player (plus_times x k b) z c ≡ end_sum f lists player x z c +ℤ pos k *ℤ end_sum f lists player b z c
 end_plus f lists player x b k z c = kept_plus f lists (payoff_to f player z) (round_of f (at_end z)) (last_step f (other_player player) (at_end z)) x b k c
 
 -- a sum of plans is one added once
@@ -100,21 +110,26 @@ module _ (f : Frame) (r : InRange f) (lists : ClassLists) (k : IsClasses f.paren
       let past = w.past_end_own z u lz is in
       let top = w.end_in z lz in
       let some = kn.some_round u.point in
-      class_in f lists k (round_of f (at_point u.point)) (ancestor f round (round_of f (at_point u.point)) (first_member lists round e)) some (omega (arith, past, top))
+      class_in f lists k (round_of f (at_point u.point)) (ancestor f round (round_of f (at_point u.point)) (first_member lists round e)) some
+      (omega (arith, past, top))
       (kn.kept round (round_of f (at_point u.point)) (first_member lists round e) some past (member_in f lists k round e (w.end_round z lz) top le))
 
-  number_alike : (x y : Plan) → AreAlike f lists player x y → (z e : ℕ) → z < end_count f → IsClass lists (round_of f (at_end z)) e → (o : Option Step) → last_step f player (at_end z) ≡ o
+  number_alike : (x y : Plan) → AreAlike f lists player x y → (z e : ℕ) → z < end_count f → IsClass lists (round_of f (at_end z)) e → (o : Option Step)
+      → last_step f player (at_end z) ≡ o
       → number_after f lists x o (round_of f (at_end z)) e ≡ number_after f lists y o (round_of f (at_end z)) e
   number_alike x y a z e lz le None is = a.total
   number_alike x y a z e lz le (Some u) is =
       let own = w.chosen_end z u lz is in
-      a.numbers u.point (class_above f lists (round_of f (at_end z)) (round_of f (at_point u.point)) e) u.choice (w.earlier_end z u lz is) own.0 (above_is_class z e u lz le is) own.1
+      a.numbers u.point (class_above f lists (round_of f (at_end z)) (round_of f (at_point u.point)) e) u.choice (w.earlier_end z u lz is) own.0
+      (above_is_class z e u lz le is) own.1
 
   -- plans that are alike give the same sums at ends
   pub kept_alike : (value : ℤ → ℤ) (x y : Plan) → AreAlike f lists player x y → (z c : ℕ) → z < end_count f
-      → kept_sum f lists value (round_of f (at_end z)) (last_step f player (at_end z)) x c ≡ kept_sum f lists value (round_of f (at_end z)) (last_step f player (at_end z)) y c
+      → kept_sum f lists value (round_of f (at_end z)) (last_step f player (at_end z)) x c
+      ≡ kept_sum f lists value (round_of f (at_end z)) (last_step f player (at_end z)) y c
   kept_alike value x y a z c lz =
       let round = round_of f (at_end z) in
       let u = last_step f player (at_end z) in
-      sum_same (λ e. pos (number_after f lists x u round e) *ℤ pair_sum f lists lists round value c e) (λ e. pos (number_after f lists y u round e) *ℤ pair_sum f lists lists round value c e) 1 (class_count lists round)
+      sum_same (λ e. pos (number_after f lists x u round e) *ℤ pair_sum f lists lists round value c e)
+      (λ e. pos (number_after f lists y u round e) *ℤ pair_sum f lists lists round value c e) 1 (class_count lists round)
       (λ e lo hi. ap (λ n. pos n *ℤ pair_sum f lists lists round value c e) (number_alike x y a z e lz (omega arith, omega arith) u refl))

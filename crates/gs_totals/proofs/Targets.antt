@@ -12,7 +12,8 @@ use Rattle.gs_totals.specs.Rows.{IsRowOf}
 use Rattle.gs_totals.specs.declared.rows.Row.{Row}
 use Rattle.gs_totals.proofs.Gathers.{gathered_same}
 
-pub worths_by : (f : Frame) (lists : ClassLists) (v : Values) (q m to : ℕ) → to ≡ round_of f (at_point q) → (r : Row) → IsRowOf f lists v (leads_to f q m) r → (sums : List ℤ) → AreGathered f lists r.round to r.values.now r.start sums → AreWorths f lists (total_worth f lists v) q m sums
+pub worths_by : (f : Frame) (lists : ClassLists) (v : Values) (q m to : ℕ) → to ≡ round_of f (at_point q) → (r : Row) → IsRowOf f lists v (leads_to f q m) r
+    → (sums : List ℤ) → AreGathered f lists r.round to r.values.now r.start sums → AreWorths f lists (total_worth f lists v) q m sums
 worths_by f lists v q m to here r held sums below c lc =
     let j = round_of f (at_point q) in
     let t = leads_to f q m in

@@ -44,7 +44,8 @@ use Rattle.gs_totals.proofs.Last.{IsLast, all_last, next_last}
 
 -- ---- sums
 
-abs_over : (v : ℕ → ℤ) (bound : ℕ → ℕ) (a n : ℕ) → ((m : ℕ) → a ≤ m → m < a + n → unsigned_abs (v m) ≤ bound m) → unsigned_abs (sum_z v (range_with_len a n)) ≤ sum_by bound (range_with_len a n)
+abs_over : (v : ℕ → ℤ) (bound : ℕ → ℕ) (a n : ℕ) → ((m : ℕ) → a ≤ m → m < a + n → unsigned_abs (v m) ≤ bound m)
+    → unsigned_abs (sum_z v (range_with_len a n)) ≤ sum_by bound (range_with_len a n)
 abs_over v bound a n h = abs_all v bound (range_with_len a n) (λ i d l.
     let inside : i < n = subst (λ m. i < m) (length-range_with_len a n) l in
     subst (λ m. unsigned_abs (v m) ≤ bound m) (sym (get_or-range_with_len a n i d inside)) (h (a + i) (omega arith) (omega arith)))
@@ -56,7 +57,13 @@ same_over f g (x ∷ xs) h =
 
 few_over : {X : Type 0} (f g : X → ℕ) (xs : List X) → All (λ x. f x ≤ g x) xs → sum_by f xs ≤ sum_by g xs
 few_over f g [] h = omega arith
-few_over f g (x ∷ xs) h = omega (arith, sum_by-cons f x xs, sum_by-cons g x xs, All-head (λ x. f x ≤ g x) x xs h, few_over f g xs (All-tail (λ x. f x ≤ g x) x xs h))
+few_over f g (x ∷ xs) h = omega (
+  arith,
+  sum_by-cons f x xs,
+  sum_by-cons g x xs,
+  All-head (λ x. f x ≤ g x) x xs h,
+  few_over f g xs (All-tail (λ x. f x ≤ g x) x xs h),
+)
 
 tested_few : (b : Bool) (w n t : ℕ) → n ≤ t → cond b (w * n) 0 ≤ t * w
 tested_few true w n t l = omega (arith, mul-le-mul_left w l)
@@ -65,7 +72,12 @@ tested_few false w n t l = omega arith
 some_first : (f : ℕ → ℕ) (m n : ℕ) → m ≤ n → sum_by f (range_with_len 1 m) ≤ sum_by f (range_with_len 1 n)
 some_first f m n l =
     let e : n ≡ m + (n - m) = omega arith in
-    omega (arith, ap (λ k. sum_by f (range_with_len 1 k)) e, ap (sum_by f) (range_append 1 m (n - m)), sum_by-append f (range_with_len 1 m) (range_with_len (1 + m) (n - m)))
+    omega (
+      arith,
+      ap (λ k. sum_by f (range_with_len 1 k)) e,
+      ap (sum_by f) (range_append 1 m (n - m)),
+      sum_by-append f (range_with_len 1 m) (range_with_len (1 + m) (n - m)),
+    )
 
 tested_sum : {X : Type 0} (b : Bool) (g : X → ℕ) (xs : List X) → sum_by (λ x. cond b (g x) 0) xs ≡ cond b (sum_by g xs) 0
 tested_sum true g xs = refl
@@ -94,8 +106,11 @@ flow_sum n B N T [] h = tested_sum false (λ (m : ℕ). 0) (range_with_len 0 n)
 flow_sum n B N T (x ∷ xs) h =
     let one = λ (m : ℕ). cond (B x) (x.weight * N x m) 0 in
     let rest = λ (m : ℕ). sum_by (λ (d : Deal). cond (B d) (d.weight * N d m) 0) xs in
-    let split = same_over (λ (m : ℕ). sum_by (λ (d : Deal). cond (B d) (d.weight * N d m) 0) (x ∷ xs)) (λ m. one m + rest m) (range_with_len 0 n) (λ i d l. sum_by-cons (λ (e : Deal). cond (B e) (e.weight * N e (get_or (range_with_len 0 n) i d)) 0) x xs) in
-    let head = tested_sum (B x) (λ m. x.weight * N x m) (range_with_len 0 n) ∙ ap (λ v. cond (B x) v 0) (times_sum x.weight (N x) (range_with_len 0 n) ∙ ap (λ v. x.weight * v) (All-head (λ d. sum_by (N d) (range_with_len 0 n) ≡ T d) x xs h)) in
+    let split = same_over (λ (m : ℕ). sum_by (λ (d : Deal). cond (B d) (d.weight * N d m) 0) (x ∷ xs)) (λ m. one m + rest m) (range_with_len 0 n)
+    (λ i d l. sum_by-cons (λ (e : Deal). cond (B e) (e.weight * N e (get_or (range_with_len 0 n) i d)) 0) x xs) in
+    let head = tested_sum (B x) (λ m. x.weight * N x m) (range_with_len 0 n)
+    ∙ ap (λ v. cond (B x) v 0) (times_sum x.weight (N x) (range_with_len 0 n)
+    ∙ ap (λ v. x.weight * v) (All-head (λ d. sum_by (N d) (range_with_len 0 n) ≡ T d) x xs h)) in
     omega (
       arith,
       split,
@@ -113,37 +128,52 @@ module _ (f : Frame) (r : InRange f) (lists : ClassLists) (k : IsClasses f.paren
 
   -- over the classes below a class of an earlier round: its own deals
   deals_below : (i j c : ℕ) (X : Deal → ℕ) → 0 < j → j ≤ i → i ≤ last_round f
-      → sum_by (λ e. cond (class_above f lists i j e == c) (sum_by (λ d. cond (own_class i d == e) (X d) 0) f.deals) 0) (classes_in lists i) ≡ sum_by (λ d. cond (own_class j d == c) (X d) 0) f.deals
+      → sum_by (λ e. cond (class_above f lists i j e == c) (sum_by (λ d. cond (own_class i d == e) (X d) 0) f.deals) 0) (classes_in lists i)
+      ≡ sum_by (λ d. cond (own_class j d == c) (X d) 0) f.deals
   deals_below i j c X some l top =
       let h = is_table f r in
       let g = grouping_from f lists k in
       let one = λ (d : Deal). cond (own_class j d == c) (X d) 0 in
       let last = last_round f in
-      let inside : (n : ℕ) (d : Deal) → n < length f.deals → at_round f i (get_or f.deals n d).one < signal_count f i = λ n d ln. h.kept last i (get_or f.deals n d).one (omega arith) top (h.dealt n d ln) in
+      let inside : (n : ℕ) (d : Deal) → n < length f.deals → at_round f i (get_or f.deals n d).one < signal_count f i =
+      λ n d ln. h.kept last i (get_or f.deals n d).one (omega arith) top (h.dealt n d ln) in
       let per_class : (e : ℕ) → 1 ≤ e → e < 1 + class_count lists i
-      → sum_z (λ d. cond (eqb (own_class i d) e) (pos (one d)) (pos 0)) f.deals ≡ pos (cond (class_above f lists i j e == c) (sum_by (λ d. cond (own_class i d == e) (X d) 0) f.deals) 0) = λ e lo hi.
+      → sum_z (λ d. cond (eqb (own_class i d) e) (pos (one d)) (pos 0)) f.deals
+      ≡ pos (cond (class_above f lists i j e == c) (sum_by (λ d. cond (own_class i d == e) (X d) 0) f.deals) 0) = λ e lo hi.
       (let le : IsClass lists i e = (omega arith, omega arith) in
       let at = member_in f lists k i e (omega arith) top le in
       let first = first_class f lists k i e (omega arith) top le in
-      sum_z-same_all (λ d. cond (eqb (own_class i d) e) (pos (one d)) (pos 0)) (λ d. pos (cond (class_above f lists i j e == c) (cond (own_class i d == e) (X d) 0) 0)) f.deals
+      sum_z-same_all (λ d. cond (eqb (own_class i d) e) (pos (one d)) (pos 0))
+      (λ d. pos (cond (class_above f lists i j e == c) (cond (own_class i d == e) (X d) 0) 0)) f.deals
       (λ n d ln.
       let x = get_or f.deals n d in
       test_out (eqb (own_class i x) e) (own_class j x == c) (class_above f lists i j e == c) (X x)
       (λ t. ap (λ v. v == c)
       (ap (class_of lists j) (sym (h.chain last i j x.one l top))
-      ∙ kin_above f h lists g.kin j (i - j) i (at_round f i x.one) (first_member lists i e) some (omega arith) top (record { first_in = inside n d ln; second_in = at; same = (Decides-eqb (own_class i x) e).0 t ∙ sym first }))))
+      ∙ kin_above f h lists g.kin j (i - j) i (at_round f i x.one) (first_member lists i e) some (omega arith) top (record {
+        first_in =
+            inside n d ln;
+        second_in = at;
+        same = (Decides-eqb (own_class i x) e).0 t ∙ sym first;
+      }))))
       ∙ sum_z-pos (λ d. cond (class_above f lists i j e == c) (cond (own_class i d == e) (X d) 0) 0) f.deals
       ∙ ap pos (tested_sum (class_above f lists i j e == c) (λ d. cond (own_class i d == e) (X d) 0) f.deals)) in
-      pos_one (sum_by (λ e. cond (class_above f lists i j e == c) (sum_by (λ d. cond (own_class i d == e) (X d) 0) f.deals) 0) (classes_in lists i)) (sum_by one f.deals)
+      pos_one (sum_by (λ e. cond (class_above f lists i j e == c) (sum_by (λ d. cond (own_class i d == e) (X d) 0) f.deals) 0) (classes_in lists i))
+      (sum_by one f.deals)
       (sym
       (sym (sum_z-pos one f.deals)
-      ∙ sum_z-regroup (λ d e. eqb (own_class i d) e) (λ d. pos (one d)) (classes_in lists i) f.deals (λ n d ln. g.once i (at_round f i (get_or f.deals n d).one) (omega arith) top (inside n d ln))
-      ∙ sum_same (λ e. sum_z (λ d. cond (eqb (own_class i d) e) (pos (one d)) (pos 0)) f.deals) (λ e. pos (cond (class_above f lists i j e == c) (sum_by (λ d. cond (own_class i d == e) (X d) 0) f.deals) 0)) 1 (class_count lists i) per_class
+      ∙ sum_z-regroup (λ d e. eqb (own_class i d) e) (λ d. pos (one d)) (classes_in lists i) f.deals
+      (λ n d ln. g.once i (at_round f i (get_or f.deals n d).one) (omega arith) top (inside n d ln))
+      ∙ sum_same (λ e. sum_z (λ d. cond (eqb (own_class i d) e) (pos (one d)) (pos 0)) f.deals)
+      (λ e. pos (cond (class_above f lists i j e == c) (sum_by (λ d. cond (own_class i d == e) (X d) 0) f.deals) 0)) 1 (class_count lists i) per_class
       ∙ sum_z-pos (λ e. cond (class_above f lists i j e == c) (sum_by (λ d. cond (own_class i d == e) (X d) 0) f.deals) 0) (classes_in lists i)))
 
-  module _ (player : ℕ) (w : IsWalked f player) (v : IsWalked f (other_player player)) (apart : player ≢ other_player player) (y : Plan) (plan : IsClassPlan f lists (other_player player) y) (most : ℕ)
-      (pays : (z n : ℕ) (d : Deal) → z < end_count f → n < length f.deals → unsigned_abs (payoff_to f player z (get_or f.deals n d).outcome) ≤ most) (V : Values) (move : ℕ → ℕ → ℕ) (from : ℕ)
-      (at_ends : (z c : ℕ) → z < end_count f → IsClass lists (round_of f (at_end z)) c → V (at_end z) c ≡ end_sum f lists player y z c) (followed : IsFollowedFrom f lists player V move from) where
+  module _ (player : ℕ) (w : IsWalked f player) (v : IsWalked f (other_player player)) (apart : player
+      ≢ other_player player) (y : Plan) (plan : IsClassPlan f lists (other_player player) y) (most : ℕ)
+      (pays : (z n : ℕ) (d : Deal) → z < end_count f → n < length f.deals
+      → unsigned_abs (payoff_to f player z (get_or f.deals n d).outcome) ≤ most) (V : Values) (move : ℕ → ℕ → ℕ) (from : ℕ)
+      (at_ends : (z c : ℕ) → z < end_count f → IsClass lists (round_of f (at_end z)) c
+      → V (at_end z) c ≡ end_sum f lists player y z c) (followed : IsFollowedFrom f lists player V move from) where
     abbrev Y : Plan
     Y = lift f lists y
 
@@ -156,7 +186,8 @@ module _ (f : Frame) (r : InRange f) (lists : ClassLists) (k : IsClasses f.paren
 
     -- what an end pays a class, over its deals
     end_by_deals : (z c : ℕ) → z < end_count f
-        → end_sum f lists player y z c ≡ sum_z (λ (d : Deal). cond (eqb (own_class (round_of f (at_end z)) d) c) (pos (d.weight * facing (at_end z) d) *ℤ payoff_to f player z d.outcome) (pos 0)) f.deals
+        → end_sum f lists player y z c ≡ sum_z (λ (d : Deal). cond (eqb (own_class (round_of f (at_end z)) d) c)
+        (pos (d.weight * facing (at_end z) d) *ℤ payoff_to f player z d.outcome) (pos 0)) f.deals
     end_by_deals z c lz =
         let h = is_table f r in
         let kn = known_from f player r w in
@@ -165,10 +196,13 @@ module _ (f : Frame) (r : InRange f) (lists : ClassLists) (k : IsClasses f.paren
         let X = λ (d : Deal). pos (d.weight * facing (at_end z) d) *ℤ payoff_to f player z d.outcome in
         sym (end_total_by_pairs f h lists (grouping_from f lists k) player kn y z c lz)
         ∙ sym
-        (sum_z-same (λ d. cond (eqb (own_class j d) c) (X d) (pos 0)) (λ d. pos (cond (eqb (own_class j d) c) 1 0) *ℤ X d) (λ d. one_guard (eqb (own_class j d) c) (X d)) f.deals
+        (sum_z-same (λ d. cond (eqb (own_class j d) c) (X d) (pos 0)) (λ d. pos (cond (eqb (own_class j d) c) 1 0) *ℤ X d)
+        (λ d. one_guard (eqb (own_class j d) c) (X d)) f.deals
         ∙ by_ancestor eqb Decides-eqb (λ (d : Deal). ancestor f last j d.one) (λ s. cond (class_of lists j s == c) 1 0) X f.deals (signals_in f j)
-        (λ i o l. range_once (ancestor f last j (get_or f.deals i o).one) 0 (signal_count f j) (omega arith) (let q = h.kept last j (get_or f.deals i o).one (w.end_round z lz) (w.end_in z lz) (h.dealt i o l) in omega arith))
-        ∙ sum_z-same (λ s. pos (cond (class_of lists j s == c) 1 0) *ℤ end_worth f player Y z s) (λ s. cond (class_of lists j s == c) (end_worth f player Y z s) (pos 0))
+        (λ i o l. range_once (ancestor f last j (get_or f.deals i o).one) 0 (signal_count f j) (omega arith) (let q =
+        h.kept last j (get_or f.deals i o).one (w.end_round z lz) (w.end_in z lz) (h.dealt i o l) in omega arith))
+        ∙ sum_z-same (λ s. pos (cond (class_of lists j s == c) 1 0) *ℤ end_worth f player Y z s)
+        (λ s. cond (class_of lists j s == c) (end_worth f player Y z s) (pos 0))
         (λ s. sym (one_guard (class_of lists j s == c) (end_worth f player Y z s))) (signals_in f j))
 
     end_bounded : (z : ℕ) → z < end_count f → IsBounded (at_end z)
@@ -177,12 +211,14 @@ module _ (f : Frame) (r : InRange f) (lists : ClassLists) (k : IsClasses f.paren
         let X = λ (d : Deal). pos (d.weight * facing (at_end z) d) *ℤ payoff_to f player z d.outcome in
         let n = λ (d : Deal). d.weight * facing (at_end z) d in
         let size = abs_all (λ d. cond (eqb (own_class j d) c) (X d) (pos 0)) (λ d. most * cond (eqb (own_class j d) c) (n d) 0) f.deals
-        (λ i d l. let e = get_or f.deals i d in abs_tested (eqb (own_class j e) c) (X e) most (n e) (abs_times (n e) most (payoff_to f player z e.outcome) (pays z i d lz l))) in
+        (λ i d l. let e = get_or f.deals i d in abs_tested (eqb (own_class j e) c) (X e) most (n e)
+        (abs_times (n e) most (payoff_to f player z e.outcome) (pays z i d lz l))) in
         let all = times_sum most (λ d. cond (eqb (own_class j d) c) (n d) 0) f.deals in
         omega (arith, ap unsigned_abs (at_ends z c lz lc ∙ end_by_deals z c lz), size, all)
 
     -- the other's number of a step before a later round, in a deal
-    number_up : (o : Option Step) (i j : ℕ) (d : Deal) → j ≤ i → i ≤ last_round f → ((u : Step) → o ≡ Some u → round_of f (at_point u.point) ≤ j) → number_before f Y o i (at_round f i d.two) ≡ number_before f Y o j (at_round f j d.two)
+    number_up : (o : Option Step) (i j : ℕ) (d : Deal) → j ≤ i → i ≤ last_round f → ((u : Step) → o ≡ Some u → round_of f (at_point u.point) ≤ j)
+        → number_before f Y o i (at_round f i d.two) ≡ number_before f Y o j (at_round f j d.two)
     number_up None i j d l top past = refl
     number_up (Some u) i j d l top past =
         let h = is_table f r in
@@ -193,18 +229,21 @@ module _ (f : Frame) (r : InRange f) (lists : ClassLists) (k : IsClasses f.paren
 
     -- what a move is worth, by what is faced where it leads
     move_bounded : (q m c : ℕ) → q < point_count f → m < move_count f q → IsBounded (leads_to f q m)
-        → unsigned_abs (total_worth f lists V q m c) ≤ most * sum_by (λ d. cond (own_class (round_of f (at_point q)) d == c) (d.weight * facing (leads_to f q m) d) 0) f.deals
+        → unsigned_abs (total_worth f lists V q m c) ≤ most * sum_by (λ d.
+        cond (own_class (round_of f (at_point q)) d == c) (d.weight * facing (leads_to f q m) d) 0) f.deals
     move_bounded q m c lq lm bounded =
         let g = leads_to f q m in
         let i = round_of f g in
         let j = round_of f (at_point q) in
         let t = λ (e : ℕ). class_above f lists i j e == c in
-        let size = abs_over (λ e. cond (t e) (V g e) (pos 0)) (λ e. most * cond (t e) (faced f lists player y g e) 0) 1 (class_count lists i) (λ e lo hi. abs_tested (t e) (V g e) most (faced f lists player y g e) (bounded e (omega arith, omega arith))) in
+        let size = abs_over (λ e. cond (t e) (V g e) (pos 0)) (λ e. most * cond (t e) (faced f lists player y g e) 0) 1 (class_count lists i)
+        (λ e lo hi. abs_tested (t e) (V g e) most (faced f lists player y g e) (bounded e (omega arith, omega arith))) in
         let all = times_sum most (λ e. cond (t e) (faced f lists player y g e) 0) (classes_in lists i) in
         let below = deals_below i j c (λ d. d.weight * facing g d) (w.some_round q lq) (w.onward q m lq lm) (w.within q m lq lm) in
         omega (arith, size, all, ap (λ n. most * n) below)
 
-    own_bounded : (q : ℕ) → from ≤ q → q < point_count f → player_at f q ≡ player → ((m : ℕ) → m < move_count f q → IsBounded (leads_to f q m)) → IsBounded (at_point q)
+    own_bounded : (q : ℕ) → from ≤ q → q < point_count f → player_at f q ≡ player → ((m : ℕ) → m < move_count f q → IsBounded (leads_to f q m))
+        → IsBounded (at_point q)
     own_bounded q lo lq own next c lc =
         let m = move q c in
         let lm = followed.in_range q c lo lq own lc in
@@ -212,82 +251,108 @@ module _ (f : Frame) (r : InRange f) (lists : ClassLists) (k : IsClasses f.paren
         let j = round_of f (at_point q) in
         let o = last_step f (other_player player) (at_point q) in
         let keeps = v.others q m lq lm (λ his. apart (sym own ∙ his)) in
-        let same = same_over (λ d. cond (own_class j d == c) (d.weight * facing (leads_to f q m) d) 0) (λ d. cond (own_class j d == c) (d.weight * facing (at_point q) d) 0) f.deals
+        let same = same_over (λ d. cond (own_class j d == c) (d.weight * facing (leads_to f q m) d) 0)
+        (λ d. cond (own_class j d == c) (d.weight * facing (at_point q) d) 0) f.deals
         (λ n d l. let x = get_or f.deals n d in
         ap (λ a. cond (own_class j x == c) (x.weight * a) 0)
-        (ap (λ s. number_before f Y s i (at_round f i x.two)) keeps ∙ number_up o i j x (w.onward q m lq lm) (w.within q m lq lm) (λ u is. v.past q u lq is))) in
+        (ap (λ s. number_before f Y s i (at_round f i x.two)) keeps ∙ number_up o i j x (w.onward q m lq lm) (w.within q m lq lm) (λ u is. v.past q u lq is)))
+        in
         omega (arith, ap unsigned_abs (followed.reached q c lo lq own lc), move_bounded q m c lq lm (next m lm), ap (λ n. most * n) same)
 
-    other_bounded : (q : ℕ) → from ≤ q → q < point_count f → (player_at f q ≡ player → ⊥) → player_at f q ≡ other_player player → ((m : ℕ) → m < move_count f q → IsBounded (leads_to f q m)) → IsBounded (at_point q)
+    other_bounded : (q : ℕ) → from ≤ q → q < point_count f → (player_at f q ≡ player → ⊥) → player_at f q ≡ other_player player
+        → ((m : ℕ) → m < move_count f q → IsBounded (leads_to f q m)) → IsBounded (at_point q)
     other_bounded q lo lq other his next c lc =
         let h = is_table f r in
         let j = round_of f (at_point q) in
         let last = last_round f in
-        let raw : IsRawPlan f (other_player player) Y = lift_is_raw_plan f h lists (keeps_from f lists k.filter) (firsts_from f lists k) (other_player player) (known_from f (other_player player) r v) y v.point_in (plan_by f lists (other_player player) y v k plan) in
+        let raw : IsRawPlan f (other_player player) Y = lift_is_raw_plan f h lists (keeps_from f lists k.filter) (firsts_from f lists k) (other_player player)
+        (known_from f (other_player player) r v) y v.point_in (plan_by f lists (other_player player) y v k plan) in
         let parts = λ (m : ℕ). sum_by (λ d. cond (own_class j d == c) (d.weight * facing (leads_to f q m) d) 0) f.deals in
-        let size = abs_over (λ m. total_worth f lists V q m c) (λ m. most * parts m) 0 (move_count f q) (λ m low hi. let lm : m < move_count f q = omega arith in move_bounded q m c lq lm (next m lm)) in
+        let size = abs_over (λ m. total_worth f lists V q m c) (λ m. most * parts m) 0 (move_count f q) (λ m low hi. let lm : m
+        < move_count f q = omega arith in move_bounded q m c lq lm (next m lm)) in
         let all = times_sum most parts (choices_at f q) in
-        let turn : (m : ℕ) → m < move_count f q → parts m ≡ sum_by (λ (d : Deal). cond (own_class j d == c) (d.weight * Y.number q (at_round f j d.two) m) 0) f.deals = λ m lm.
+        let turn : (m : ℕ) → m < move_count f q → parts m ≡ sum_by (λ (d : Deal). cond (own_class j d == c) (d.weight * Y.number q (at_round f j d.two) m) 0)
+        f.deals = λ m lm.
         (let i = round_of f (leads_to f q m) in
-        same_over (λ d. cond (own_class j d == c) (d.weight * facing (leads_to f q m) d) 0) (λ (d : Deal). cond (own_class j d == c) (d.weight * Y.number q (at_round f j d.two) m) 0) f.deals
+        same_over (λ d. cond (own_class j d == c) (d.weight * facing (leads_to f q m) d) 0)
+        (λ (d : Deal). cond (own_class j d == c) (d.weight * Y.number q (at_round f j d.two) m) 0) f.deals
         (λ n d l. let x = get_or f.deals n d in
         ap (λ a. cond (own_class j x == c) (x.weight * a) 0)
-        (ap (λ s. number_before f Y s i (at_round f i x.two)) (v.own q m lq lm his) ∙ ap (λ s. Y.number q s m) (h.chain last i j x.two (w.onward q m lq lm) (w.within q m lq lm))))) in
-        let moves = sum-same_range parts (λ m. sum_by (λ (d : Deal). cond (own_class j d == c) (d.weight * Y.number q (at_round f j d.two) m) 0) f.deals) (move_count f q) turn in
+        (ap (λ s. number_before f Y s i (at_round f i x.two)) (v.own q m lq lm his)
+        ∙ ap (λ s. Y.number q s m) (h.chain last i j x.two (w.onward q m lq lm) (w.within q m lq lm))))) in
+        let moves = sum-same_range parts (λ m. sum_by (λ (d : Deal). cond (own_class j d == c) (d.weight * Y.number q (at_round f j d.two) m) 0) f.deals)
+        (move_count f q) turn in
         let flow = flow_sum (move_count f q) (λ d. own_class j d == c) (λ d m. Y.number q (at_round f j d.two) m) (λ d. facing (at_point q) d) f.deals
-        (λ n d l. raw.flow q (at_round f j (get_or f.deals n d).two) lq his (h.kept last j (get_or f.deals n d).two (w.some_round q lq) (w.point_in q lq) (h.dealt_two n d l))) in
+        (λ n d l. raw.flow q (at_round f j (get_or f.deals n d).two) lq his
+        (h.kept last j (get_or f.deals n d).two (w.some_round q lq) (w.point_in q lq) (h.dealt_two n d l))) in
         omega (arith, ap unsigned_abs (followed.at_others q c lo lq other lc), size, all, ap (λ n. most * n) (moves ∙ flow))
 
     from_later : (g : Target) (p : ℕ) → from ≤ p → IsFrom p g → IsFrom from g
     from_later (at_point q) p lo i = omega arith
     from_later (at_end z) p lo i = tt
 
-    bounded_last : (either : (q : ℕ) → q < point_count f → (player_at f q ≡ player → ⊥) → player_at f q ≡ other_player player) (n : ℕ) (g : Target) → IsInside f g → IsFrom from g → IsLast f n g → IsBounded g
+    bounded_last : (either : (q : ℕ) → q < point_count f → (player_at f q ≡ player → ⊥) → player_at f q ≡ other_player player) (n : ℕ) (g : Target)
+        → IsInside f g → IsFrom from g → IsLast f n g → IsBounded g
     bounded_last either n (at_end z) i a l = end_bounded z i
     bounded_last either zero (at_point q) i a l = λ c lc. absurd (omega arith)
     bounded_last either (suc n) (at_point q) i a l =
         let next : (m : ℕ) → m < move_count f q → IsBounded (leads_to f q m) = λ m lm.
-        bounded_last either n (leads_to f q m) (w.inside q m i lm) (from_later (leads_to f q m) (q + 1) (omega arith) (w.later q m i lm)) (next_last f n q (leads_to f q m) l (w.later q m i lm)) in
+        bounded_last either n (leads_to f q m) (w.inside q m i lm) (from_later (leads_to f q m) (q + 1) (omega arith) (w.later q m i lm))
+        (next_last f n q (leads_to f q m) l (w.later q m i lm)) in
         ⊎_elim
         (λ (own : player_at f q ≡ player). own_bounded q a i own next)
         (λ (other : player_at f q ≡ player → ⊥). other_bounded q a i other (either q i other) next)
         (cases_eq (player_at f q) player)
 
-    step_few : (u : Step) (j n : ℕ) (d : Deal) → n < length f.deals → u.point < point_count f → player_at f u.point ≡ other_player player → u.choice < move_count f u.point → round_of f (at_point u.point) ≤ j → j ≤ last_round f
+    step_few : (u : Step) (j n : ℕ) (d : Deal) → n < length f.deals → u.point < point_count f → player_at f u.point ≡ other_player player
+        → u.choice < move_count f u.point → round_of f (at_point u.point) ≤ j → j ≤ last_round f
         → number_before f Y (Some u) j (at_round f j (get_or f.deals n d).two) ≤ y.total
     step_few u j n d l lu his lm past top =
         let h = is_table f r in
         let to = round_of f (at_point u.point) in
         let some = v.some_round u.point lu in
         let s = ancestor f j to (at_round f j (get_or f.deals n d).two) in
-        let at = h.kept j to (at_round f j (get_or f.deals n d).two) some past (h.kept (last_round f) j (get_or f.deals n d).two (omega (arith, some, past)) top (h.dealt_two n d l)) in
-        numbers_within f lists (other_player player) r v k y plan u.point (class_of lists to s) u.choice lu his (class_in f lists k to s some (omega (arith, past, top)) at) lm
+        let at = h.kept j to (at_round f j (get_or f.deals n d).two) some past
+        (h.kept (last_round f) j (get_or f.deals n d).two (omega (arith, some, past)) top (h.dealt_two n d l)) in
+        numbers_within f lists (other_player player) r v k y plan u.point (class_of lists to s) u.choice lu his
+        (class_in f lists k to s some (omega (arith, past, top)) at) lm
 
     -- the other's number is at most his total
     facing_few : (g : Target) → IsInside f g → (n : ℕ) (d : Deal) → n < length f.deals → facing g (get_or f.deals n d) ≤ y.total
     facing_few (at_point q) lq n d l = by (last_step f (other_player player) (at_point q)) refl
       where
-        by : (o : Option Step) → last_step f (other_player player) (at_point q) ≡ o → number_before f Y o (round_of f (at_point q)) (at_round f (round_of f (at_point q)) (get_or f.deals n d).two) ≤ y.total
+        by : (o : Option Step) → last_step f (other_player player) (at_point q) ≡ o
+            → number_before f Y o (round_of f (at_point q)) (at_round f (round_of f (at_point q)) (get_or f.deals n d).two) ≤ y.total
         by None is = omega arith
-        by (Some u) is = let early = v.earlier q u lq is in step_few u (round_of f (at_point q)) n d l (omega (arith, early, lq)) (v.chosen q u lq is).0 (v.chosen q u lq is).1 (v.past q u lq is) (v.point_in q lq)
+        by (Some u) is = let early = v.earlier q u lq is in step_few u (round_of f (at_point q)) n d l (omega (arith, early, lq)) (v.chosen q u lq is).0
+            (v.chosen q u lq is).1 (v.past q u lq is) (v.point_in q lq)
     facing_few (at_end z) lz n d l = by (last_step f (other_player player) (at_end z)) refl
       where
-        by : (o : Option Step) → last_step f (other_player player) (at_end z) ≡ o → number_before f Y o (round_of f (at_end z)) (at_round f (round_of f (at_end z)) (get_or f.deals n d).two) ≤ y.total
+        by : (o : Option Step) → last_step f (other_player player) (at_end z) ≡ o
+            → number_before f Y o (round_of f (at_end z)) (at_round f (round_of f (at_end z)) (get_or f.deals n d).two) ≤ y.total
         by None is = omega arith
-        by (Some u) is = step_few u (round_of f (at_end z)) n d l (v.earlier_end z u lz is) (v.chosen_end z u lz is).0 (v.chosen_end z u lz is).1 (v.past_end_own z u lz is) (v.end_in z lz)
+        by (Some u) is = step_few u (round_of f (at_end z)) n d l (v.earlier_end z u lz is) (v.chosen_end z u lz is).0 (v.chosen_end z u lz is).1
+            (v.past_end_own z u lz is) (v.end_in z lz)
 
     few_at : (j c : ℕ) (g : Target) → IsInside f g → sum_by (λ d. cond (own_class j d == c) (d.weight * facing g d) 0) f.deals ≤ y.total * total_weight f
     few_at j c g i =
-        let few = few_over (λ d. cond (own_class j d == c) (d.weight * facing g d) 0) (λ (d : Deal). y.total * d.weight) f.deals (λ n d l. let x = get_or f.deals n d in tested_few (own_class j x == c) x.weight (facing g x) y.total (facing_few g i n d l)) in
+        let few = few_over (λ d. cond (own_class j d == c) (d.weight * facing g d) 0) (λ (d : Deal). y.total * d.weight) f.deals
+        (λ n d l. let x = get_or f.deals n d in tested_few (own_class j x == c) x.weight (facing g x) y.total (facing_few g i n d l)) in
         omega (arith, few, times_sum y.total (λ (d : Deal). d.weight) f.deals)
 
     -- totals are at most the greatest payoff times the other's total times the weight of all deals
-    pub totals_few : ((q : ℕ) → q < point_count f → (player_at f q ≡ player → ⊥) → player_at f q ≡ other_player player) → (g : Target) (c : ℕ) → IsInside f g → IsFrom from g → IsClass lists (round_of f g) c
+    pub totals_few : ((q : ℕ) → q < point_count f → (player_at f q ≡ player → ⊥) → player_at f q ≡ other_player player) → (g : Target) (c : ℕ) → IsInside f g
+        → IsFrom from g → IsClass lists (round_of f g) c
         → unsigned_abs (V g c) ≤ most * (y.total * total_weight f)
-    totals_few either g c i a lc = omega (arith, bounded_last either (point_count f) g i a (all_last f g) c lc, mul-le-mul_left most (few_at (round_of f g) c g i))
+    totals_few either g c i a lc = omega (
+      arith,
+      bounded_last either (point_count f) g i a (all_last f g) c lc,
+      mul-le-mul_left most (few_at (round_of f g) c g i),
+    )
 
     -- and so is what a move is worth
-    pub worth_few : ((q : ℕ) → q < point_count f → (player_at f q ≡ player → ⊥) → player_at f q ≡ other_player player) → (q m c : ℕ) → q < point_count f → from ≤ q + 1 → m < move_count f q → IsClass lists (round_of f (at_point q)) c
+    pub worth_few : ((q : ℕ) → q < point_count f → (player_at f q ≡ player → ⊥) → player_at f q ≡ other_player player) → (q m c : ℕ) → q < point_count f
+        → from ≤ q + 1 → m < move_count f q → IsClass lists (round_of f (at_point q)) c
         → unsigned_abs (total_worth f lists V q m c) ≤ most * (y.total * total_weight f)
     worth_few either q m c lq lo lm lc =
         let g = leads_to f q m in

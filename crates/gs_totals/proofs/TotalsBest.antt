@@ -59,7 +59,8 @@ times_lt_back n a b l =
 
 -- ---- values from totals, backwards
 
-module _ (f : Frame) (r : InRange f) (lists : ClassLists) (k : IsClasses f.parents lists) (lossless : IsLossless f lists) (player : ℕ) (w : IsWalked f player) (y : Plan) (V : Values) (move : ℕ → ℕ → ℕ)
+module _ (f : Frame) (r : InRange f) (lists : ClassLists) (k : IsClasses f.parents lists) (lossless : IsLossless f lists) (player : ℕ) (w : IsWalked f player)
+    (y : Plan) (V : Values) (move : ℕ → ℕ → ℕ)
     (h : IsFollowed f lists player y V move) where
   abbrev size : Target → ℕ → ℕ
   size g c = class_size lists (round_of f g) c
@@ -81,15 +82,18 @@ module _ (f : Frame) (r : InRange f) (lists : ClassLists) (k : IsClasses f.paren
   abbrev AreSized : Target → Type 0
   AreSized g = (c : ℕ) → IsClass lists (round_of f g) c → V g c ≡ pos (size g c) *ℤ W g c
 
-  end_is : (z c : ℕ) → z < end_count f → IsClass lists (round_of f (at_end z)) c → V (at_end z) c ≡ pos (size (at_end z) c) *ℤ end_worth f player (lift f lists y) z (first_member lists (round_of f (at_end z)) c)
+  end_is : (z c : ℕ) → z < end_count f → IsClass lists (round_of f (at_end z)) c
+      → V (at_end z) c ≡ pos (size (at_end z) c) *ℤ end_worth f player (lift f lists y) z (first_member lists (round_of f (at_end z)) c)
   end_is z c lz lc =
       h.at_ends z c lz lc ∙ end_share f r lists k lossless player w y z c lz lc
       ∙ *ℤ_comm (end_worth f player (lift f lists y) z (first_member lists (round_of f (at_end z)) c)) (pos (size (at_end z) c))
 
-  own_is : (q c : ℕ) → q < point_count f → player_at f q ≡ player → IsClass lists (round_of f (at_point q)) c → AreSized (leads_to f q (move q c)) → V (at_point q) c ≡ pos (size (at_point q) c) *ℤ class_worth f lists W q (move q c) c
+  own_is : (q c : ℕ) → q < point_count f → player_at f q ≡ player → IsClass lists (round_of f (at_point q)) c → AreSized (leads_to f q (move q c))
+      → V (at_point q) c ≡ pos (size (at_point q) c) *ℤ class_worth f lists W q (move q c) c
   own_is q c lq own lc sized = h.reached q c lq own lc ∙ worth_total f r lists k lossless player w W V q (move q c) c lq (h.in_range q c lq own lc) lc sized
 
-  other_is : (q c : ℕ) → q < point_count f → (player_at f q ≡ player → ⊥) → IsClass lists (round_of f (at_point q)) c → ((m : ℕ) → m < move_count f q → AreSized (leads_to f q m))
+  other_is : (q c : ℕ) → q < point_count f → (player_at f q ≡ player → ⊥) → IsClass lists (round_of f (at_point q)) c
+      → ((m : ℕ) → m < move_count f q → AreSized (leads_to f q m))
       → V (at_point q) c ≡ pos (size (at_point q) c) *ℤ sum_z (λ m. class_worth f lists W q m c) (choices_at f q)
   other_is q c lq other lc sized =
       h.at_others q c lq other lc
@@ -98,13 +102,17 @@ module _ (f : Frame) (r : InRange f) (lists : ClassLists) (k : IsClasses f.paren
       ∙ sum_z-mul (pos (size (at_point q) c)) (λ m. class_worth f lists W q m c) (choices_at f q)
 
   sized_last : (n : ℕ) (g : Target) → IsInside f g → IsLast f n g → AreSized g
-  sized_last n (at_end z) i l c lc = sized_by (at_end z) c (end_worth f player (lift f lists y) z (first_member lists (round_of f (at_end z)) c)) i lc (end_is z c i lc)
+  sized_last n (at_end z) i l c lc = sized_by (at_end z) c (end_worth f player (lift f lists y) z (first_member lists (round_of f (at_end z)) c)) i lc
+      (end_is z c i lc)
   sized_last zero (at_point q) i l c lc = absurd (omega arith)
   sized_last (suc n) (at_point q) i l c lc =
-      let next : (m : ℕ) → m < move_count f q → AreSized (leads_to f q m) = λ m lm. sized_last n (leads_to f q m) (w.inside q m i lm) (next_last f n q (leads_to f q m) l (w.later q m i lm)) in
+      let next : (m : ℕ) → m < move_count f q → AreSized (leads_to f q m) =
+      λ m lm. sized_last n (leads_to f q m) (w.inside q m i lm) (next_last f n q (leads_to f q m) l (w.later q m i lm)) in
       ⊎_elim
-      (λ (own : player_at f q ≡ player). sized_by (at_point q) c (class_worth f lists W q (move q c) c) i lc (own_is q c i own lc (next (move q c) (h.in_range q c i own lc))))
-      (λ (other : player_at f q ≡ player → ⊥). sized_by (at_point q) c (sum_z (λ m. class_worth f lists W q m c) (choices_at f q)) i lc (other_is q c i other lc next))
+      (λ (own : player_at f q ≡ player). sized_by (at_point q) c (class_worth f lists W q (move q c) c) i lc
+      (own_is q c i own lc (next (move q c) (h.in_range q c i own lc))))
+      (λ (other : player_at f q ≡ player → ⊥). sized_by (at_point q) c (sum_z (λ m. class_worth f lists W q m c) (choices_at f q)) i lc
+      (other_is q c i other lc next))
       (cases_eq (player_at f q) player)
 
   sized : (g : Target) → IsInside f g → AreSized g
@@ -115,22 +123,26 @@ module _ (f : Frame) (r : InRange f) (lists : ClassLists) (k : IsClasses f.paren
 
   pub totals_are_best : AreFirstGreatest f lists player V move → IsBestValues f lists player (lift f lists y) W move
   totals_are_best first = record {
-    at_ends = λ z c lz lc. value_is (at_end z) c (end_worth f player (lift f lists y) z (first_member lists (round_of f (at_end z)) c)) lz lc (end_is z c lz lc);
+    at_ends = λ z c lz lc. value_is (at_end z) c (end_worth f player (lift f lists y) z (first_member lists (round_of f (at_end z)) c)) lz lc
+        (end_is z c lz lc);
     in_range = h.in_range;
     reached = λ q c lq own lc.
         let lm = h.in_range q c lq own lc in
-        value_is (at_point q) c (class_worth f lists W q (move q c) c) lq lc (own_is q c lq own lc (sized (leads_to f q (move q c)) (w.inside q (move q c) lq lm)));
+        value_is (at_point q) c (class_worth f lists W q (move q c) c) lq lc
+        (own_is q c lq own lc (sized (leads_to f q (move q c)) (w.inside q (move q c) lq lm)));
     none_more = λ q m c lq own lm lc.
         let e = worth_total f r lists k lossless player w W V q m c lq lm lc (sized (leads_to f q m) (w.inside q m lq lm)) in
         let s = sized (at_point q) lq c lc in
         times_le_back (size (at_point q) c) (class_worth f lists W q m c) (W (at_point q) c) (some_size (at_point q) c lq lc)
-        (subst (λ x. (pos (size (at_point q) c) *ℤ class_worth f lists W q m c) ≤ℤ x) s (subst (λ x. x ≤ℤ V (at_point q) c) e (first.none_more q m c lq own lm lc)));
+        (subst (λ x. (pos (size (at_point q) c) *ℤ class_worth f lists W q m c)
+        ≤ℤ x) s (subst (λ x. x ≤ℤ V (at_point q) c) e (first.none_more q m c lq own lm lc)));
     none_before = λ q m c lq own lc before.
         let lm : m < move_count f q = omega (arith, before, h.in_range q c lq own lc) in
         let e = worth_total f r lists k lossless player w W V q m c lq lm lc (sized (leads_to f q m) (w.inside q m lq lm)) in
         let s = sized (at_point q) lq c lc in
         times_lt_back (size (at_point q) c) (class_worth f lists W q m c) (W (at_point q) c)
-        (subst (λ x. (pos (size (at_point q) c) *ℤ class_worth f lists W q m c) <ℤ x) s (subst (λ x. x <ℤ V (at_point q) c) e (first.none_before q m c lq own lc before)));
+        (subst (λ x. (pos (size (at_point q) c) *ℤ class_worth f lists W q m c)
+        <ℤ x) s (subst (λ x. x <ℤ V (at_point q) c) e (first.none_before q m c lq own lc before)));
     at_others = λ q c lq other lc.
         value_is (at_point q) c (sum_z (λ m. class_worth f lists W q m c) (choices_at f q)) lq lc
         (other_is q c lq other lc (λ m lm. sized (leads_to f q m) (w.inside q m lq lm)));

@@ -33,7 +33,8 @@ under_test true b e h = ap (λ x. cond {A = ℕ} x 1 0) (h refl)
 under_test false b true h = refl
 under_test false b false h = refl
 
-none_or_all : (b : Bool) (p : ℕ → Bool) (n : ℕ) → sum_by (λ r. cond {A = ℕ} b (cond (p r) 1 0) 0) (range_with_len 0 n) ≡ cond b (sum_by (λ r. cond (p r) 1 0) (range_with_len 0 n)) 0
+none_or_all : (b : Bool) (p : ℕ → Bool) (n : ℕ) → sum_by (λ r. cond {A = ℕ} b (cond (p r) 1 0) 0) (range_with_len 0 n)
+    ≡ cond b (sum_by (λ r. cond (p r) 1 0) (range_with_len 0 n)) 0
 none_or_all true p n = refl
 none_or_all false p n = nothing 0 n
   where
@@ -48,16 +49,23 @@ times_test false n x = *ℤ-zero x
 module _ (f : Frame) (r : InRange f) (lists : ClassLists) (k : IsClasses f.parents lists) where
   -- how many signals of a class of a round descend from a class of an earlier round: all or none
   members_below : (i j c e : ℕ) → 0 < j → j ≤ i → i ≤ last_round f → IsClass lists i c
-      → sum_by (λ s. cond (eqb (class_of lists i s) c) (cond (class_of lists j (ancestor f i j s) == e) 1 0) 0) (signals_in f i) ≡ cond (class_above f lists i j c == e) (class_size_of f lists i c) 0
+      → sum_by (λ s. cond (eqb (class_of lists i s) c) (cond (class_of lists j (ancestor f i j s) == e) 1 0) 0) (signals_in f i)
+      ≡ cond (class_above f lists i j c == e) (class_size_of f lists i c) 0
   members_below i j c e some l top lc =
       let h = is_table f r in
       let g = grouping_from f lists k in
       let at = member_in f lists k i c (omega arith) top lc in
       let first = first_class f lists k i c (omega arith) top lc in
-      sum-same_range (λ s. cond (eqb (class_of lists i s) c) (cond (class_of lists j (ancestor f i j s) == e) 1 0) 0) (λ s. cond (class_above f lists i j c == e) (cond (eqb (class_of lists i s) c) 1 0) 0) (signal_count f i)
+      sum-same_range (λ s. cond (eqb (class_of lists i s) c) (cond (class_of lists j (ancestor f i j s) == e) 1 0) 0)
+      (λ s. cond (class_above f lists i j c == e) (cond (eqb (class_of lists i s) c) 1 0) 0) (signal_count f i)
       (λ s ls. under_test (eqb (class_of lists i s) c) (class_of lists j (ancestor f i j s) == e) (class_above f lists i j c == e)
       (λ t. ap (λ n. n == e)
-      (kin_above f h lists g.kin j (i - j) i s (first_member lists i c) some (omega arith) top (record { first_in = ls; second_in = at; same = (Decides-eqb (class_of lists i s) c).0 t ∙ sym first }))))
+      (kin_above f h lists g.kin j (i - j) i s (first_member lists i c) some (omega arith) top (record {
+        first_in =
+            ls;
+        second_in = at;
+        same = (Decides-eqb (class_of lists i s) c).0 t ∙ sym first;
+      }))))
       ∙ none_or_all (class_above f lists i j c == e) (λ s. eqb (class_of lists i s) c) (signal_count f i)
 
   -- a value that hangs on the class alone, over all signals below a class of an earlier round
@@ -66,10 +74,12 @@ module _ (f : Frame) (r : InRange f) (lists : ClassLists) (k : IsClasses f.paren
   below_by_classes i j e v V some l top sized =
       let g = grouping_from f lists k in
       let w = λ (s : ℕ). cond {A = ℕ} (class_of lists j (ancestor f i j s) == e) 1 0 in
-      sum_z-same (λ s. cond (class_of lists j (ancestor f i j s) == e) (v (class_of lists i s)) (pos 0)) (λ s. pos (w s) *ℤ v (class_of lists i s)) (λ s. one_guard (class_of lists j (ancestor f i j s) == e) (v (class_of lists i s))) (signals_in f i)
+      sum_z-same (λ s. cond (class_of lists j (ancestor f i j s) == e) (v (class_of lists i s)) (pos 0)) (λ s. pos (w s) *ℤ v (class_of lists i s))
+      (λ s. one_guard (class_of lists j (ancestor f i j s) == e) (v (class_of lists i s))) (signals_in f i)
       ∙ regroup_weights eqb Decides-eqb (class_of lists i) w v (classes_in lists i) (signals_in f i)
       (All-range (λ s. count_by (eqb (class_of lists i s)) (classes_in lists i) ≡ 1) (signal_count f i) (λ s ls. g.once i s (omega arith) top ls))
-      ∙ sum_same (λ c. v c *ℤ pos (sum_by (λ s. cond (eqb (class_of lists i s) c) (w s) 0) (signals_in f i))) (λ c. cond (class_above f lists i j c == e) (V c) (pos 0)) 1 (class_count lists i)
+      ∙ sum_same (λ c. v c *ℤ pos (sum_by (λ s. cond (eqb (class_of lists i s) c) (w s) 0) (signals_in f i)))
+      (λ c. cond (class_above f lists i j c == e) (V c) (pos 0)) 1 (class_count lists i)
       (λ c lo hi.
       let lc : IsClass lists i c = (omega arith, omega arith) in
       ap (λ n. v c *ℤ pos n) (members_below i j c e some l top lc)
@@ -80,7 +90,8 @@ module _ (f : Frame) (r : InRange f) (lists : ClassLists) (k : IsClasses f.paren
   module _ (lossless : IsLossless f lists) (player : ℕ) (w : IsWalked f player) where
     -- what a move is worth to a class as a whole is the class's size times what it is worth to its first member
     pub worth_total : (v V : Values) (q m e : ℕ) → q < point_count f → m < move_count f q → IsClass lists (round_of f (at_point q)) e
-        → ((c : ℕ) → IsClass lists (round_of f (leads_to f q m)) c → V (leads_to f q m) c ≡ pos (class_size lists (round_of f (leads_to f q m)) c) *ℤ v (leads_to f q m) c)
+        → ((c : ℕ) → IsClass lists (round_of f (leads_to f q m)) c → V (leads_to f q m) c
+        ≡ pos (class_size lists (round_of f (leads_to f q m)) c) *ℤ v (leads_to f q m) c)
         → total_worth f lists V q m e ≡ pos (class_size lists (round_of f (at_point q)) e) *ℤ class_worth f lists v q m e
     worth_total v V q m e lq lm le sized =
         let h = is_table f r in
@@ -94,6 +105,11 @@ module _ (f : Frame) (r : InRange f) (lists : ClassLists) (k : IsClasses f.paren
         sym (below_by_classes i j e (v (leads_to f q m)) (V (leads_to f q m)) some onward top sized)
         ∙ sym (class_total_up f h lists j i e (λ s. v (leads_to f q m) (class_of lists i s)) some onward)
         ∙ class_total_is f lists j (move_worth f (spread f lists v) q m) e (class_worth f lists v q m e)
-        (λ s ls is. move_alike f h lists lossless v q m s (first_member lists j e) some onward top (record { first_in = ls; second_in = at; same = is ∙ sym first }))
+        (λ s ls is. move_alike f h lists lossless v q m s (first_member lists j e) some onward top (record {
+          first_in =
+              ls;
+          second_in = at;
+          same = is ∙ sym first;
+        }))
         ∙ ap (λ n. class_worth f lists v q m e *ℤ pos n) (sym (size_is f lists j e (k.lengths j some (w.point_in q lq))))
         ∙ *ℤ_comm (class_worth f lists v q m e) (pos (class_size lists j e))

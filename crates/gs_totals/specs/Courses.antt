@@ -37,13 +37,15 @@ moves_chosen k = moves_of (frame_in k) (lists_in k) k.picks.now
 abbrev pub StaysBehind : Course → ℕ → ℕ → ℕ → Type 0
 StaysBehind k q m times =
     (c : ℕ) → IsClass (lists_in k) (round_of (frame_in k) (at_point q)) c → moves_chosen k q c ≢ m
-    → IsBehind (nat_lt m (moves_chosen k q c)) (totals_now k (at_point q) c) (total_worth (frame_in k) (lists_in k) (totals_now k) q m c) (totals_added k (at_point q) c) (total_worth (frame_in k) (lists_in k) (totals_added k) q m c) times
+    → IsBehind (nat_lt m (moves_chosen k q c)) (totals_now k (at_point q) c) (total_worth (frame_in k) (lists_in k) (totals_now k) q m c)
+    (totals_added k (at_point q) c) (total_worth (frame_in k) (lists_in k) (totals_added k) q m c) times
 
 -- so many turns change no choice at a point
 abbrev pub LastsAt : Course → ℕ → ℕ → Type 0
 LastsAt k q times =
     (c : ℕ) → IsClass (lists_in k) (round_of (frame_in k) (at_point q)) c
-    → IsBeforeChange (λ m. total_worth (frame_in k) (lists_in k) (totals_now k) q m c) (λ m. total_worth (frame_in k) (lists_in k) (totals_added k) q m c) (move_count (frame_in k) q) (moves_chosen k q c) times
+    → IsBeforeChange (λ m. total_worth (frame_in k) (lists_in k) (totals_now k) q m c) (λ m. total_worth (frame_in k) (lists_in k) (totals_added k) q m c)
+    (move_count (frame_in k) q) (moves_chosen k q c) times
 
 -- and none at all
 abbrev pub Lasts : Course → ℕ → Type 0

@@ -28,8 +28,10 @@ signed_sum f lists = kept_sum f lists (λ o. o)
 
 -- what an end of a kind pays the members of a class together, by the sums of its group: the ends of one round and one last step of the other player
 abbrev pub paid_as : Frame → ClassLists → ℕ → Plan → ℕ → ℕ → EndKind → ℤ
-paid_as f lists player y z c Folded1 = stake player 1 (end_at f z).put *ℤ weight_sum f lists (round_of f (at_end z)) (last_step f (other_player player) (at_end z)) y c
-paid_as f lists player y z c Folded2 = stake player 2 (end_at f z).put *ℤ weight_sum f lists (round_of f (at_end z)) (last_step f (other_player player) (at_end z)) y c
+paid_as f lists player y z c Folded1 = stake player 1 (end_at f z).put *ℤ weight_sum f lists (round_of f (at_end z))
+    (last_step f (other_player player) (at_end z)) y c
+paid_as f lists player y z c Folded2 = stake player 2 (end_at f z).put *ℤ weight_sum f lists (round_of f (at_end z))
+    (last_step f (other_player player) (at_end z)) y c
 paid_as f lists player y z c Show = pos (end_at f z).put *ℤ signed_sum f lists (round_of f (at_end z)) (last_step f (other_player player) (at_end z)) y c
 
 -- what an end pays them
@@ -45,14 +47,16 @@ plus_times x k b = record { total = x.total + k * b.total; number = λ q c m. x.
 -- two plans of a player are the same wherever he chooses
 pub record AreAlike (f : Frame) (lists : ClassLists) (player : ℕ) (x y : Plan) : Type 0 where
   pub total : x.total ≡ y.total
-  pub numbers : (q c m : ℕ) → q < point_count f → player_at f q ≡ player → IsClass lists (round_of f (at_point q)) c → m < move_count f q → x.number q c m ≡ y.number q c m
+  pub numbers : (q c m : ℕ) → q < point_count f → player_at f q ≡ player → IsClass lists (round_of f (at_point q)) c → m < move_count f q
+      → x.number q c m ≡ y.number q c m
 
 -- ---- pushes
 
 -- what a slot adds to a sum for each of its weight: over the classes of the round below the slot's class
 abbrev pub push : Frame → ClassLists → (ℤ → ℤ) → ℕ → Step → ℕ → ℕ → ℤ
 push f lists value round u slot c =
-    sum_z (λ e. if slot_of f lists u.point (class_above f lists round (round_of f (at_point u.point)) e) u.choice == slot then pair_sum f lists lists round value c e else pos 0) (classes_in lists round)
+    sum_z (λ e. if slot_of f lists u.point (class_above f lists round (round_of f (at_point u.point)) e) u.choice == slot
+    then pair_sum f lists lists round value c e else pos 0) (classes_in lists round)
 
 -- what the total adds, where the other player has made no step
 abbrev pub push_of_total : Frame → ClassLists → (ℤ → ℤ) → ℕ → ℕ → ℤ

@@ -7,7 +7,8 @@ IsWithinGap before gap gain times = times ≤ (if before then (gap + gain - 1) /
 
 -- a number of turns in which a worth that rises does not overtake a value that rises
 abbrev pub IsBehind : Bool → ℤ → ℤ → ℤ → ℤ → ℕ → Type 0
-IsBehind before value worth slope rise times = (gap gain : ℕ) → value ≡ worth +ℤ pos gap → rise ≡ slope +ℤ pos gain → 0 < gain → IsWithinGap before gap gain times
+IsBehind before value worth slope rise times = (gap gain : ℕ) → value ≡ worth +ℤ pos gap → rise ≡ slope +ℤ pos gain → 0 < gain
+    → IsWithinGap before gap gain times
 
 -- where a worth stands: at most the value, and below it where its move is before the chosen one
 pub record IsNotAhead (before : Bool) (value worth : ℤ) : Type 0 where
@@ -18,4 +19,5 @@ pub record IsNotAhead (before : Bool) (value worth : ℤ) : Type 0 where
 abbrev pub AreBehind : ℕ → ℕ → ℕ → List ℕ → List ℤ → List ℤ → List ℤ → List ℤ → ℕ → Type 0
 AreBehind count choice start picks values worths slopes rises times =
     (k : ℕ) → k < count → slice_index picks (start + k) ≢ choice
-    → IsBehind (nat_lt choice (slice_index picks (start + k))) (get_or values (start + k) (pos 0)) (get_or worths k (pos 0)) (get_or slopes (start + k) (pos 0)) (get_or rises k (pos 0)) times
+    → IsBehind (nat_lt choice (slice_index picks (start + k))) (get_or values (start + k) (pos 0)) (get_or worths k (pos 0))
+    (get_or slopes (start + k) (pos 0)) (get_or rises k (pos 0)) times

@@ -14,11 +14,13 @@ row_from values start c = get_or values (start + (c - 1)) (pos 0)
 
 -- for each class of a round what a row of a later round holds below it
 abbrev pub AreGathered : Frame → ClassLists → ℕ → ℕ → List ℤ → ℕ → List ℤ → Type 0
-AreGathered f lists from to values start sums = (c : ℕ) → IsClass lists to c → get_or sums (c - 1) (pos 0) ≡ gathered f lists from to (row_from values start) c
+AreGathered f lists from to values start sums = (c : ℕ) → IsClass lists to c
+    → get_or sums (c - 1) (pos 0) ≡ gathered f lists from to (row_from values start) c
 
 -- where the chosen move of a class is one of the first n, its worth
 abbrev pub AreChosen : Frame → ClassLists → Values → (ℕ → ℕ → ℕ) → ℕ → ℕ → List ℤ → Type 0
-AreChosen f lists v move q n row = (c : ℕ) → IsClass lists (round_of f (at_point q)) c → move q c < n → get_or row (c - 1) (pos 0) ≡ total_worth f lists v q (move q c) c
+AreChosen f lists v move q n row = (c : ℕ) → IsClass lists (round_of f (at_point q)) c → move q c < n
+    → get_or row (c - 1) (pos 0) ≡ total_worth f lists v q (move q c) c
 
 -- a point's totals where moves are given: by the chosen move's worth where the player chooses, else by the sum of the worths
 pub record IsFollowing (f : Frame) (lists : ClassLists) (player : ℕ) (v : Values) (move : ℕ → ℕ → ℕ) (q : ℕ) (row : List ℤ) : Type 0 where
@@ -27,7 +29,8 @@ pub record IsFollowing (f : Frame) (lists : ClassLists) (player : ℕ) (v : Valu
 
 -- each of so many numbers is taken from a row where the class has chosen the move
 abbrev pub AreTaken : ℕ → ℕ → ℕ → List ℕ → List ℤ → List ℤ → List ℤ → Type 0
-AreTaken count choice start picks worths old new = (k : ℕ) → k < count → get_or new k (pos 0) ≡ (if slice_index picks (start + k) == choice then get_or worths k (pos 0) else get_or old k (pos 0))
+AreTaken count choice start picks worths old new = (k : ℕ) → k < count → get_or new k (pos 0)
+    ≡ (if slice_index picks (start + k) == choice then get_or worths k (pos 0) else get_or old k (pos 0))
 
 -- class totals at positions from a point on are below 2^90 in size
 abbrev pub AreModestFrom : Frame → ClassLists → Values → ℕ → Type 0

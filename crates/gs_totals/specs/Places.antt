@@ -21,7 +21,8 @@ AreEndStarts f lists starts = (z : ℕ) → z < end_count f → slice_index star
 
 -- a list has what each end pays the members of each class against the other's plan y
 abbrev pub AreEndSums : Frame → ClassLists → ℕ → Plan → List ℤ → Type 0
-AreEndSums f lists player y sums = (z c : ℕ) → z < end_count f → IsClass lists (round_of f (at_end z)) c → get_or sums (end_start f lists z + (c - 1)) (pos 0) ≡ end_sum f lists player y z c
+AreEndSums f lists player y sums = (z c : ℕ) → z < end_count f → IsClass lists (round_of f (at_end z)) c
+    → get_or sums (end_start f lists z + (c - 1)) (pos 0) ≡ end_sum f lists player y z c
 
 -- the class totals of a list at points; at an end what it pays
 abbrev pub totals_of : Frame → ClassLists → ℕ → Plan → List ℤ → Values
@@ -43,20 +44,24 @@ pub record AreBestFrom (f : Frame) (lists : ClassLists) (player : ℕ) (v : Valu
 
 -- the numbers of all ends are below 2^90 in size
 abbrev pub AreSmallRows : Frame → ClassLists → List ℤ → Type 0
-AreSmallRows f lists sums = (z c : ℕ) → z < end_count f → IsClass lists (round_of f (at_end z)) c → unsigned_abs (get_or sums (end_start f lists z + (c - 1)) (pos 0)) < 2 ^ 90
+AreSmallRows f lists sums = (z c : ℕ) → z < end_count f → IsClass lists (round_of f (at_end z)) c
+    → unsigned_abs (get_or sums (end_start f lists z + (c - 1)) (pos 0)) < 2 ^ 90
 
 -- the numbers of all points are below 2^90 in size
 abbrev pub AreSmallPoints : Frame → ClassLists → List ℤ → Type 0
-AreSmallPoints f lists values = (q c : ℕ) → q < point_count f → IsClass lists (round_of f (at_point q)) c → unsigned_abs (get_or values (start_of f lists q + (c - 1)) (pos 0)) < 2 ^ 90
+AreSmallPoints f lists values = (q c : ℕ) → q < point_count f → IsClass lists (round_of f (at_point q)) c
+    → unsigned_abs (get_or values (start_of f lists q + (c - 1)) (pos 0)) < 2 ^ 90
 
 -- the numbers of all ends have so many times those of a second list added
 abbrev pub AreEndLines : Frame → ClassLists → List ℤ → List ℤ → ℕ → List ℤ → Type 0
 AreEndLines f lists old steps times new =
     (z c : ℕ) → z < end_count f → IsClass lists (round_of f (at_end z)) c
-    → get_or new (end_start f lists z + (c - 1)) (pos 0) ≡ line (get_or old (end_start f lists z + (c - 1)) (pos 0)) (get_or steps (end_start f lists z + (c - 1)) (pos 0)) times
+    → get_or new (end_start f lists z + (c - 1)) (pos 0) ≡ line (get_or old (end_start f lists z + (c - 1)) (pos 0))
+    (get_or steps (end_start f lists z + (c - 1)) (pos 0)) times
 
 -- the numbers of all points have so many times those of a second list added
 abbrev pub ArePointLines : Frame → ClassLists → List ℤ → List ℤ → ℕ → List ℤ → Type 0
 ArePointLines f lists old steps times new =
     (q c : ℕ) → q < point_count f → IsClass lists (round_of f (at_point q)) c
-    → get_or new (start_of f lists q + (c - 1)) (pos 0) ≡ line (get_or old (start_of f lists q + (c - 1)) (pos 0)) (get_or steps (start_of f lists q + (c - 1)) (pos 0)) times
+    → get_or new (start_of f lists q + (c - 1)) (pos 0) ≡ line (get_or old (start_of f lists q + (c - 1)) (pos 0))
+    (get_or steps (start_of f lists q + (c - 1)) (pos 0)) times

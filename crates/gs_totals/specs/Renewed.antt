@@ -9,7 +9,8 @@ use Rattle.gs_seq.specs.Slots.{slot_of}
 
 -- they agree at a step: at each class of its point
 abbrev pub AgreeAt : Frame → ClassLists → Step → List ℕ → List ℕ → Type 0
-AgreeAt f lists u before now = (c : ℕ) → IsClass lists (round_of f (at_point u.point)) c → slice_index before (slot_of f lists u.point c u.choice) ≡ slice_index now (slot_of f lists u.point c u.choice)
+AgreeAt f lists u before now = (c : ℕ) → IsClass lists (round_of f (at_point u.point)) c
+    → slice_index before (slot_of f lists u.point c u.choice) ≡ slice_index now (slot_of f lists u.point c u.choice)
 
 -- two plans of a player have the same numbers at an end
 abbrev pub AreSameAt : Frame → ClassLists → ℕ → Plan → Plan → ℕ → Type 0

@@ -17,6 +17,7 @@ pub(crate) fn class_above(form: &Abstract, from: u8, to: u8, class: u32) -> u32
     ensures value { result ≡ class_of_round (frame_of form.now) (lists_of form.now) from to class }
     ensures class { IsClass (lists_of form.now) to result }
 {
+    // called only for what its contract says
     let _rounds = round_total(form);
     gs_seq::class_above(form.lossless().classes(), from, to, class)
 }

@@ -44,7 +44,8 @@ pub fn advance(form: &Abstract, totals: &mut Totals, steps: &Totals, times: u32,
     requires few { times ≤ 2 ^ 20 }
     ensures rows { HasRows (frame_of form.now) (lists_of form.now) totals.new }
     ensures lines { AreEndLines (frame_of form.now) (lists_of form.now) totals.old.ends.items steps.now.ends.items times totals.new.ends.items }
-    ensures points { times < lasts → ArePointLines (frame_of form.now) (lists_of form.now) totals.old.points.items steps.now.points.items times totals.new.points.items }
+    ensures points { times < lasts → ArePointLines (frame_of form.now) (lists_of form.now) totals.old.points.items steps.now.points.items times
+        totals.new.points.items }
     ensures kept { lasts ≤ times → totals.new.points ≡ totals.old.points }
 {
     let ends = end_room(form) as usize;

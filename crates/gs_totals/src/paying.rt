@@ -32,7 +32,8 @@ pub(crate) fn read_end(
     ensures here { let f = frame_of side.now.form.now in let lists = lists_of side.now.form.now in
         (c : ℕ) → IsClass lists (round_of f (at_end end)) c → get_or sums.new (start + (c - 1)) (pos 0) ≡ end_sum f lists side.now.player (class_plan f lists side.now.other.now) end c }
     ensures before { (i : ℕ) → i < start → get_or sums.new i (pos 0) ≡ get_or sums.old i (pos 0) }
-    ensures behind { (i : ℕ) → start + end_classes (frame_of side.now.form.now) (lists_of side.now.form.now) end ≤ i → get_or sums.new i (pos 0) ≡ get_or sums.old i (pos 0) }
+    ensures behind { (i : ℕ) → start + end_classes (frame_of side.now.form.now) (lists_of side.now.form.now) end ≤ i
+        → get_or sums.new i (pos 0) ≡ get_or sums.old i (pos 0) }
 {
     side.form
         .end_sums(side.player, side.other, end, start, sums, numbers);

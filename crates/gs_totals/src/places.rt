@@ -44,6 +44,7 @@ fn place_ends(form: &Abstract, starts: &mut [u32])
     requires { end_count (frame_of form.now) ≤ length starts.old }
     ensures { AreEndStarts (frame_of form.now) (lists_of form.now) starts.new }
 {
+    // called only for what its contract says
     let _rounds = round_total(form);
     let mut start = 0;
     for end in 0..end_total(form) {

@@ -27,7 +27,8 @@ pub fn put_all(form: &Abstract, player: u8, places: &Places, picks: &[u8], weigh
     requires picks { let f = frame_of form.now in start_of f (lists_of form.now) (point_count f) ≤ length picks.now }
     requires moves { let f = frame_of form.now in let lists = lists_of form.now in AreInMoves f lists player (moves_of f lists picks.now) }
     requires long { length weights.old ≡ slot_count (frame_of form.now) (lists_of form.now) player }
-    ensures { let f = frame_of form.now in let lists = lists_of form.now in ArePutBefore f lists player (moves_of f lists picks.now) weights.new (point_count f) }
+    ensures { let f = frame_of form.now in let lists = lists_of form.now in
+        ArePutBefore f lists player (moves_of f lists picks.now) weights.new (point_count f) }
 {
     clear(weights);
     put_moves(form, player, &places.points, picks, weights);

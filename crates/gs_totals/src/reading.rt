@@ -40,6 +40,7 @@ impl<'a, 'b> Reading<'a, 'b> {
         ensures point { result.point ≡ point }
     {
         let form = ledger.side.form;
+        // called only for what its contract says
         let _rounds = round_total(form);
         let start = ledger.places.points[point as usize] as usize;
         let count = class_total(form, round_at(form, point)) as usize;

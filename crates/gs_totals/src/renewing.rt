@@ -33,6 +33,7 @@ fn agree_at(form: &Abstract, step: Step, before: &[u64], now: &[u64]) -> bool
     requires now { length now.now ≡ slot_count (frame_of form.now) (lists_of form.now) (player_at (frame_of form.now) step.point) }
     ensures { IsTrue result ↔ AgreeAt (frame_of form.now) (lists_of form.now) (step_of step) before.now now.now }
 {
+    // called only for what its contract says
     let _rounds = round_total(form);
     for class in 0..class_total(form, round_at(form, step.point)) {
         let slot = form.slot(step.point, class + 1, step.choice) as usize;
@@ -77,7 +78,8 @@ fn renew_end(
     ensures here { let f = frame_of side.now.form.now in let lists = lists_of side.now.form.now in
         (c : ℕ) → IsClass lists (round_of f (at_end end)) c → get_or sums.new (start + (c - 1)) (pos 0) ≡ end_sum f lists side.now.player (class_plan f lists side.now.other.now) end c }
     ensures before { (i : ℕ) → i < start → get_or sums.new i (pos 0) ≡ get_or sums.old i (pos 0) }
-    ensures behind { (i : ℕ) → start + end_classes (frame_of side.now.form.now) (lists_of side.now.form.now) end ≤ i → get_or sums.new i (pos 0) ≡ get_or sums.old i (pos 0) }
+    ensures behind { (i : ℕ) → start + end_classes (frame_of side.now.form.now) (lists_of side.now.form.now) end ≤ i
+        → get_or sums.new i (pos 0) ≡ get_or sums.old i (pos 0) }
 {
     if is_same_at(side, before, end) {
         return;

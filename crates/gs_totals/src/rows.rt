@@ -52,6 +52,7 @@ fn read_row<'a>(form: &Abstract, row: Row<'a>, to: u8, sums: &'a mut [i128]) -> 
     ensures gathered { AreGathered (frame_of form.now) (lists_of form.now) row.entry.round to row.entry.values.now row.entry.start result.now }
     ensures long { class_count (lists_of form.now) to ≤ length result.now }
 {
+    // called only for what its contract says
     let _rounds = round_total(form);
     let count = class_total(form, to) as usize;
     if row.round == to {

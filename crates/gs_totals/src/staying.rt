@@ -122,6 +122,7 @@ fn lasting_move(
     ensures most { result ≤ times }
     ensures some { 0 < times → 0 < result }
 {
+    // called only for what its contract says
     let _rounds = round_total(course.form);
     if times <= 1 {
         return times;

@@ -13,7 +13,8 @@ neither : (a b : Bool) → a ≡ false → b ≡ false → (a || b) ≡ false
 neither a b e f = rw (e, f) refl
 
 -- a command with an option behind those that it had
-pub with_one : (app : App) (o : OptionOf) (old new : Command) (a : Arg) → Is app old → rule_of a ≡ rule_for o → a.global ≡ false → AddsArg old a new → Is (with_rule app (rule_for o)) new
+pub with_one : (app : App) (o : OptionOf) (old new : Command) (a : Arg) → Is app old → rule_of a ≡ rule_for o → a.global ≡ false → AddsArg old a new
+    → Is (with_rule app (rule_for o)) new
 with_one app o old new a is rule local adds =
     (adds.shape local ∙ (ap (λ (x : App). with_rule x (rule_of a)) is.0 ∙ ap (λ (r : Rule). with_rule app r) rule), adds.globals ∙ neither _ _ is.1 local)
 
@@ -21,14 +22,17 @@ with_one app o old new a is rule local adds =
 behind : (names : List CommandName) (c : CommandName) → with_commands (names ++ c ∷ []) ≡ with_subcommand (with_commands names) (app_for c).top
 behind names c = fold-append (λ (app : App) (n : CommandName). with_subcommand app (app_for n).top) bare names (c ∷ [])
 
-pub added : (names : List CommandName) (c : CommandName) (old sub new : Command) → Is (with_commands names) old → Is (app_for c) sub → AddsSubcommand old sub new → Is (with_commands (names ++ c ∷ [])) new
+pub added : (names : List CommandName) (c : CommandName) (old sub new : Command) → Is (with_commands names) old → Is (app_for c) sub
+    → AddsSubcommand old sub new → Is (with_commands (names ++ c ∷ [])) new
 added names c old sub new is one adds = (
-  adds.shape one.1 ∙ (ap (λ (a : App). with_subcommand a (shape_of sub)) is.0 ∙ (ap (λ (a : App). with_subcommand (with_commands names) a.top) one.0 ∙ sym (behind names c))),
+  adds.shape one.1 ∙ (ap (λ (a : App). with_subcommand a (shape_of sub)) is.0
+      ∙ (ap (λ (a : App). with_subcommand (with_commands names) a.top) one.0 ∙ sym (behind names c))),
   adds.globals ∙ neither _ _ is.1 one.1,
 )
 
 -- the commands up to a place, and the one there
-pub next : (names : List CommandName) (i : ℕ) (d : CommandName) (new : Command) → i < length names → Is (with_commands (take i names ++ get_or names i d ∷ [])) new → Is (with_commands (take (i + 1) names)) new
+pub next : (names : List CommandName) (i : ℕ) (d : CommandName) (new : Command) → i < length names
+    → Is (with_commands (take i names ++ get_or names i d ∷ [])) new → Is (with_commands (take (i + 1) names)) new
 next names i d new lt is = subst (λ (cs : List CommandName). Is (with_commands cs) new) (sym (ap (λ n. take n names) (add-one i) ∙ take-suc names i d lt)) is
 
 -- all of them

@@ -51,7 +51,8 @@ has_row_more id (x ∷ xs) r h e =
       | inr f ↦ let rest : has_row id xs ≡ false = rw f at h in rw f (has_row_more id xs r rest e)
     ]
 
-still_fresh : (rows : List Row) (r : Row) (n : Text) (gs : List Given) → r.id ≡ n → are_fresh rows gs ≡ true → list_all (λ g. not (bytes_eq n (name_of g))) gs ≡ true → are_fresh (rows ++ r ∷ []) gs ≡ true
+still_fresh : (rows : List Row) (r : Row) (n : Text) (gs : List Given) → r.id ≡ n → are_fresh rows gs ≡ true
+    → list_all (λ g. not (bytes_eq n (name_of g))) gs ≡ true → are_fresh (rows ++ r ∷ []) gs ≡ true
 still_fresh rows r n [] e f apart = refl
 still_fresh rows r n (g ∷ gs) e f apart =
     let p = and_parts (not (has_row (name_of g) rows)) (are_fresh rows gs) f in
@@ -67,7 +68,8 @@ record Ends (s : Shape) (h : Held) (rows : List Row) (gs : List Given) (given : 
   settles : settle_fault s.rules s.args_override_self end ≡ []
   found : (settled s.rules end).rows ≡ rows ++ rows_for s.rules gs given
 
-in_any_order : (s : Shape) (h : Held) (rows : List Row) (gs : List Given) (given : AreGiven s.rules gs) → settle_fault s.rules s.args_override_self h ≡ [] → (settled s.rules h).rows ≡ rows
+in_any_order : (s : Shape) (h : Held) (rows : List Row) (gs : List Given) (given : AreGiven s.rules gs) → settle_fault s.rules s.args_override_self h ≡ []
+    → (settled s.rules h).rows ≡ rows
     → are_fresh rows gs ≡ true → stand_once gs ≡ true → Ends s h rows gs given
 unfolding walk_fault
 in_any_order s h rows [] given clear e f once = record { end = h; walks = refl; clean = refl; settles = clear; found = e ∙ sym (append-nil rows) }
@@ -79,7 +81,8 @@ in_any_order s h rows (valued n (x ∷ xs) ∷ gs) given clear e f once =
     let p = and_parts (not (has_row n rows)) (are_fresh rows gs) f in
     let q = and_parts (list_all (λ g. not (bytes_eq n (name_of g))) gs) (stand_once gs) once in
     let fresh : has_row a.id rows ≡ false = rw o.named.id (not_true (has_row n rows) p.0) in
-    let rest = in_any_order s (has_got s.rules n (x ∷ xs) h) (rows ++ row_with a (x ∷ xs) ∷ []) gs given.1 (value_settles s h rows n (x ∷ xs) a o e fresh) (value_rows s h rows n (x ∷ xs) a o e fresh)
+    let rest = in_any_order s (has_got s.rules n (x ∷ xs) h) (rows ++ row_with a (x ∷ xs) ∷ []) gs given.1 (value_settles s h rows n (x ∷ xs) a o e fresh)
+    (value_rows s h rows n (x ∷ xs) a o e fresh)
     (still_fresh rows (row_with a (x ∷ xs)) n gs o.named.id p.1 q.0) q.1 in
     record {
       end = rest.end;
@@ -134,8 +137,10 @@ no_faults (a ∷ rest) rows h =
 -- ---- a level
 
 -- a level whose walk passes and ends so has no fault
-level_clean : (s : Shape) (ws : List Text) (end : Held) → fold (walked s.rules []) (walk_from nothing_held) ws ≡ walk_from end → walk_fault s [] (walk_from nothing_held) ws ≡ []
-    → settle_fault s.rules s.args_override_self end ≡ [] → defaults_fault (settled s.rules end).rows s.rules ≡ [] → check_fault s (finished s.rules end) false ≡ []
+level_clean : (s : Shape) (ws : List Text) (end : Held) → fold (walked s.rules []) (walk_from nothing_held) ws ≡ walk_from end
+    → walk_fault s [] (walk_from nothing_held) ws ≡ []
+    → settle_fault s.rules s.args_override_self end ≡ [] → defaults_fault (settled s.rules end).rows s.rules ≡ []
+    → check_fault s (finished s.rules end) false ≡ []
     → level_fault s [] nothing_held ws false [] ≡ []
 level_clean s ws end walks passes settles defaults checks = rw (passes, walks, settles, defaults, checks)
 
@@ -150,13 +155,15 @@ pub record Taken (s : Shape) (gs : List Given) (given : AreGiven s.rules gs) : T
   pub takes : level_fault s [] nothing_held (option_words gs) false [] ≡ []
   pub found : finished s.rules end ≡ all_rows s.rules gs given
 
-pub taken_in_any_order : (s : Shape) (gs : List Given) (given : AreGiven s.rules gs) → stand_once gs ≡ true → list_all has_good_default s.rules ≡ true → check_fault s (all_rows s.rules gs given) false ≡ [] → Taken s gs given
+pub taken_in_any_order : (s : Shape) (gs : List Given) (given : AreGiven s.rules gs) → stand_once gs ≡ true → list_all has_good_default s.rules ≡ true
+    → check_fault s (all_rows s.rules gs given) false ≡ [] → Taken s gs given
 taken_in_any_order s gs given once good checks =
     let e = in_any_order s nothing_held [] gs given refl refl (all_fresh gs) once in
     let found : finished s.rules e.end ≡ all_rows s.rules gs given = ap (λ l. fold with_default l s.rules) e.found in
     record {
       end = e.end;
       walks = e.walks;
-      takes = level_clean s (option_words gs) e.end e.walks e.clean e.settles (no_faults s.rules (settled s.rules e.end).rows good) (ap (λ l. check_fault s l false) found ∙ checks);
+      takes = level_clean s (option_words gs) e.end e.walks e.clean e.settles (no_faults s.rules (settled s.rules e.end).rows good)
+          (ap (λ l. check_fault s l false) found ∙ checks);
       found = found;
     }

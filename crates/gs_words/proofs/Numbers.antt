@@ -24,7 +24,8 @@ refused true true n = refl
 refused true false n = refl
 refused false b n = refl
 
-pub too_large : {E : Type 0} (word : List ℕ) (least most : ℕ) (r : Result ℕ E) → is_numeral word ≡ true → most < 2 ^ 32 → ParsesUnsigned 32 10 word r → result_ok r ≡ None → number_in least most word ≡ None
+pub too_large : {E : Type 0} (word : List ℕ) (least most : ℕ) (r : Result ℕ E) → is_numeral word ≡ true → most < 2 ^ 32 → ParsesUnsigned 32 10 word r
+    → result_ok r ≡ None → number_in least most word ≡ None
 too_large word least most r numeral fits parsed none =
     let digits = numeral_digits word numeral in
     let own = numerals_by_value (λ ds. all_ascii_digits ds ≡ true) tells_all_ascii_digits in

@@ -19,7 +19,8 @@ abbrev pub AreKnown : List Rule → List OptionOf → Type 0
 AreKnown R [] = Unit {0}
 AreKnown R (o ∷ os) = IsKnown R o.name o.rule × AreKnown R os
 
-one_given : (R : List Rule) (name : Text) (rule : Option (Text → Bool)) (g : Given) → IsKnown R name rule → is_given_as (record { name = name; is_required = false; rule = rule }) g ≡ true → IsGiven R g
+one_given : (R : List Rule) (name : Text) (rule : Option (Text → Bool)) (g : Given) → IsKnown R name rule
+    → is_given_as (record { name = name; is_required = false; rule = rule }) g ≡ true → IsGiven R g
 one_given R name None (valued n v) k h =
     let p = and_parts (bytes_eq n name) (is_plain_value v && false) h in
     absurd (false≢true (and_parts (is_plain_value v) false p.1).1)
@@ -54,12 +55,14 @@ all_given R os (g ∷ gs) k h =
 -- what has this name takes a value, and the value passes the test
 abbrev pub RuleIs : List OptionOf → Text → (Text → Bool) → Type 0
 RuleIs [] name test = Unit {0}
-RuleIs (o ∷ os) name test = (bytes_eq o.name name ≡ true → (is_none o.rule ≡ false) × ((v : Text) → obeys o.rule v ≡ true → test v ≡ true)) × RuleIs os name test
+RuleIs (o ∷ os) name test = (bytes_eq o.name name ≡ true → (is_none o.rule ≡ false) × ((v : Text) → obeys o.rule v ≡ true → test v ≡ true))
+    × RuleIs os name test
 
 named_so : (n name other : Text) → bytes_eq n name ≡ true → bytes_eq n other ≡ true → bytes_eq other name ≡ true
 named_so n name other h o = let e : n ≡ other = (bytes_eq-Decides n other).0 o in rw e at h
 
-passes : (os : List OptionOf) (name : Text) (test : Text → Bool) (n v : Text) → RuleIs os name test → bytes_eq n name ≡ true → list_any (λ o. is_given_as o (valued n v)) os ≡ true → test v ≡ true
+passes : (os : List OptionOf) (name : Text) (test : Text → Bool) (n v : Text) → RuleIs os name test → bytes_eq n name ≡ true
+    → list_any (λ o. is_given_as o (valued n v)) os ≡ true → test v ≡ true
 passes [] name test n v r e h = absurd (false≢true h)
 passes (o ∷ os) name test n v r e h =
     elim (cases_Bool (is_given_as o (valued n v))) [
@@ -69,7 +72,8 @@ passes (o ∷ os) name test n v r e h =
       | inr f ↦ passes os name test n v r.1 e (rw f at h)
     ]
 
-no_flag : (os : List OptionOf) (name : Text) (test : Text → Bool) (n : Text) → RuleIs os name test → bytes_eq n name ≡ true → list_any (λ o. is_given_as o (flagged n)) os ≡ true → ⊥
+no_flag : (os : List OptionOf) (name : Text) (test : Text → Bool) (n : Text) → RuleIs os name test → bytes_eq n name ≡ true
+    → list_any (λ o. is_given_as o (flagged n)) os ≡ true → ⊥
 no_flag [] name test n r e h = false≢true h
 no_flag (o ∷ os) name test n r e h =
     elim (cases_Bool (is_given_as o (flagged n))) [
@@ -80,7 +84,8 @@ no_flag (o ∷ os) name test n r e h =
     ]
 
 -- an option that is there has a value that passes
-pub passed : (os : List OptionOf) (name : Text) (test : Text → Bool) (gs : List Given) → RuleIs os name test → are_given_as os gs ≡ true → list_any (λ g. bytes_eq (name_of g) name) gs ≡ true
+pub passed : (os : List OptionOf) (name : Text) (test : Text → Bool) (gs : List Given) → RuleIs os name test → are_given_as os gs ≡ true
+    → list_any (λ g. bytes_eq (name_of g) name) gs ≡ true
     → (v : Text) × (given_for gs name ≡ Some v) × (test v ≡ true)
 passed os name test [] r plain h = absurd (false≢true h)
 passed os name test (valued n v ∷ gs) r plain h =

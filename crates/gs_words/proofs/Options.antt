@@ -57,7 +57,13 @@ no_dashes x xs h = rw h
 
 -- the walk after the option's word, and after its value
 abbrev waits_for : List Rule → Text → Held → Walk
-waits_for R n h = record { held = record { rows = (settled R h).rows; pending = Some (n, []); skip = h.skip }; waiting = option n; position = 1; is_trailing = false; stopped = None }
+waits_for R n h = record {
+  held = record { rows = (settled R h).rows; pending = Some (n, []); skip = h.skip };
+  waiting = option n;
+  position = 1;
+  is_trailing = false;
+  stopped = None;
+}
 
 abbrev pub has_got : List Rule → Text → Text → Held → Held
 has_got R n v h = record { rows = (settled R h).rows; pending = Some (n, v ∷ []); skip = h.skip }
@@ -66,14 +72,17 @@ option_step : (R : List Rule) (h : Held) (n : Text) (a : Rule) → IsValued R n 
 unfolding walked
 option_step R h n a o = rw (o.named.dashes, o.named.long, o.named.by_long, o.takes, o.named.id)
 
-value_step : (R : List Rule) (h : Held) (n : Text) (a : Rule) (x : ℕ) (xs : List ℕ) → IsValued R n a → (x == 45) ≡ false → walked R [] (waits_for R n h) (x ∷ xs) ≡ walk_from (has_got R n (x ∷ xs) h)
+value_step : (R : List Rule) (h : Held) (n : Text) (a : Rule) (x : ℕ) (xs : List ℕ) → IsValued R n a → (x == 45) ≡ false
+    → walked R [] (waits_for R n h) (x ∷ xs) ≡ walk_from (has_got R n (x ∷ xs) h)
 unfolding walked
 value_step R h n a x xs o plain = rw (no_dashes x xs plain, no_long x xs plain, no_short x xs plain, o.by_id, o.same, o.most)
 
-option_fault : (s : Shape) (h : Held) (n : Text) (a : Rule) → IsValued s.rules n a → settle_fault s.rules s.args_override_self h ≡ [] → turn_fault s [] (walk_from h) (long_word n) ≡ []
+option_fault : (s : Shape) (h : Held) (n : Text) (a : Rule) → IsValued s.rules n a → settle_fault s.rules s.args_override_self h ≡ []
+    → turn_fault s [] (walk_from h) (long_word n) ≡ []
 option_fault s h n a o settles = rw (o.named.dashes, o.named.long, o.named.by_long, o.takes, settles)
 
-value_fault : (s : Shape) (h : Held) (n : Text) (a : Rule) (x : ℕ) (xs : List ℕ) → IsValued s.rules n a → (x == 45) ≡ false → turn_fault s [] (waits_for s.rules n h) (x ∷ xs) ≡ []
+value_fault : (s : Shape) (h : Held) (n : Text) (a : Rule) (x : ℕ) (xs : List ℕ) → IsValued s.rules n a → (x == 45) ≡ false
+    → turn_fault s [] (waits_for s.rules n h) (x ∷ xs) ≡ []
 value_fault s h n a x xs o plain = rw (no_dashes x xs plain, no_long x xs plain, no_short x xs plain)
 
 pub value_walk : (R : List Rule) (h : Held) (n : Text) (a : Rule) (x : ℕ) (xs : List ℕ) (rest : List Text) → IsValued R n a → (x == 45) ≡ false
@@ -81,7 +90,8 @@ pub value_walk : (R : List Rule) (h : Held) (n : Text) (a : Rule) (x : ℕ) (xs 
 value_walk R h n a x xs rest o plain =
     ap (λ z. fold (walked R []) (walked R [] z (x ∷ xs)) rest) (option_step R h n a o) ∙ ap (λ z. fold (walked R []) z rest) (value_step R h n a x xs o plain)
 
-pub value_clean : (s : Shape) (h : Held) (n : Text) (a : Rule) (x : ℕ) (xs : List ℕ) (rest : List Text) → IsValued s.rules n a → (x == 45) ≡ false → settle_fault s.rules s.args_override_self h ≡ []
+pub value_clean : (s : Shape) (h : Held) (n : Text) (a : Rule) (x : ℕ) (xs : List ℕ) (rest : List Text) → IsValued s.rules n a → (x == 45) ≡ false
+    → settle_fault s.rules s.args_override_self h ≡ []
     → walk_fault s [] (walk_from h) (long_word n ∷ (x ∷ xs) ∷ rest) ≡ walk_fault s [] (walk_from (has_got s.rules n (x ∷ xs) h)) rest
 unfolding walk_fault
 value_clean s h n a x xs rest o plain settles =
@@ -96,14 +106,17 @@ flag_step : (R : List Rule) (h : Held) (n : Text) (a : Rule) → IsFlag R n a �
 unfolding walked
 flag_step R h n a o = rw (o.named.dashes, o.named.long, o.named.by_long, o.takes)
 
-flag_fault : (s : Shape) (h : Held) (n : Text) (a : Rule) → IsFlag s.rules n a → settle_fault s.rules s.args_override_self h ≡ [] → use_fault s.args_override_self a [] (settled s.rules h).rows ≡ []
+flag_fault : (s : Shape) (h : Held) (n : Text) (a : Rule) → IsFlag s.rules n a → settle_fault s.rules s.args_override_self h ≡ []
+    → use_fault s.args_override_self a [] (settled s.rules h).rows ≡ []
     → turn_fault s [] (walk_from h) (long_word n) ≡ []
 flag_fault s h n a o settles uses = rw (o.named.dashes, o.named.long, o.named.by_long, o.takes, settles, uses)
 
-pub flag_walk : (R : List Rule) (h : Held) (n : Text) (a : Rule) (rest : List Text) → IsFlag R n a → fold (walked R []) (walk_from h) (long_word n ∷ rest) ≡ fold (walked R []) (walk_from (reacted R a [] h)) rest
+pub flag_walk : (R : List Rule) (h : Held) (n : Text) (a : Rule) (rest : List Text) → IsFlag R n a
+    → fold (walked R []) (walk_from h) (long_word n ∷ rest) ≡ fold (walked R []) (walk_from (reacted R a [] h)) rest
 flag_walk R h n a rest o = ap (λ z. fold (walked R []) z rest) (flag_step R h n a o)
 
-pub flag_clean : (s : Shape) (h : Held) (n : Text) (a : Rule) (rest : List Text) → IsFlag s.rules n a → settle_fault s.rules s.args_override_self h ≡ [] → use_fault s.args_override_self a [] (settled s.rules h).rows ≡ []
+pub flag_clean : (s : Shape) (h : Held) (n : Text) (a : Rule) (rest : List Text) → IsFlag s.rules n a → settle_fault s.rules s.args_override_self h ≡ []
+    → use_fault s.args_override_self a [] (settled s.rules h).rows ≡ []
     → walk_fault s [] (walk_from h) (long_word n ∷ rest) ≡ walk_fault s [] (walk_from (reacted s.rules a [] h)) rest
 unfolding walk_fault
 flag_clean s h n a rest o settles uses =
@@ -124,18 +137,22 @@ absent_row id change missing (r ∷ rs) h =
 gone : (id : Text) (rows : List Row) → has_row id rows ≡ false → without id rows ≡ rows
 gone id rows fresh = absent_row id (λ _. []) [] rows fresh ∙ append-nil rows
 
-pub value_rows : (s : Shape) (h : Held) (rows : List Row) (n v : Text) (a : Rule) → IsValued s.rules n a → (settled s.rules h).rows ≡ rows → has_row a.id rows ≡ false
+pub value_rows : (s : Shape) (h : Held) (rows : List Row) (n v : Text) (a : Rule) → IsValued s.rules n a → (settled s.rules h).rows ≡ rows
+    → has_row a.id rows ≡ false
     → (settled s.rules (has_got s.rules n v h)).rows ≡ rows ++ row_with a v ∷ []
 value_rows s h rows n v a o e fresh =
     rw (o.by_id, o.set, e, gone a.id rows fresh) (absent_row a.id (more_values CommandLine (v ∷ [])) (row_with a v ∷ []) rows fresh)
 
-pub value_settles : (s : Shape) (h : Held) (rows : List Row) (n v : Text) (a : Rule) → IsValued s.rules n a → (settled s.rules h).rows ≡ rows → has_row a.id rows ≡ false
+pub value_settles : (s : Shape) (h : Held) (rows : List Row) (n v : Text) (a : Rule) → IsValued s.rules n a → (settled s.rules h).rows ≡ rows
+    → has_row a.id rows ≡ false
     → settle_fault s.rules s.args_override_self (has_got s.rules n v h) ≡ []
 value_settles s h rows n v a o e fresh = rw (o.by_id, o.most, o.range, o.set, e, fresh, o.passes v)
 
-pub flag_rows : (R : List Rule) (n : Text) (a : Rule) (rows : List Row) → IsFlag R n a → has_row a.id rows ≡ false → used a [] rows ≡ rows ++ row_with a (codes "true") ∷ []
+pub flag_rows : (R : List Rule) (n : Text) (a : Rule) (rows : List Row) → IsFlag R n a → has_row a.id rows ≡ false
+    → used a [] rows ≡ rows ++ row_with a (codes "true") ∷ []
 flag_rows R n a rows o fresh =
     rw (o.set, o.missing, gone a.id rows fresh) (absent_row a.id (more_values CommandLine (codes "true" ∷ [])) (row_with a (codes "true") ∷ []) rows fresh)
 
-pub flag_uses : (R : List Rule) (again : Bool) (n : Text) (a : Rule) (rows : List Row) → IsFlag R n a → has_row a.id rows ≡ false → use_fault again a [] rows ≡ []
+pub flag_uses : (R : List Rule) (again : Bool) (n : Text) (a : Rule) (rows : List Row) → IsFlag R n a → has_row a.id rows ≡ false
+    → use_fault again a [] rows ≡ []
 flag_uses R again n a rows o fresh = rw (o.most, o.range, o.set, o.missing, fresh) o.passes

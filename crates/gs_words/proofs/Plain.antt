@@ -27,7 +27,8 @@ use Rattle.gs_words.proofs.Obeyed.{AreKnown, RuleIs, absent, all_given, are_give
 
 -- words after a command's name are kept for it
 stop_more : (R : List Rule) (names : Names) (h : Held) (name : Text) (ws rest : List Text)
-    → fold (walked R names) (record { held = h; waiting = idle; position = 1; is_trailing = false; stopped = Some (name, ws) }) rest ≡ record { held = h; waiting = idle; position = 1; is_trailing = false; stopped = Some (name, ws ++ rest) }
+    → fold (walked R names) (record { held = h; waiting = idle; position = 1; is_trailing = false; stopped = Some (name, ws) }) rest
+    ≡ record { held = h; waiting = idle; position = 1; is_trailing = false; stopped = Some (name, ws ++ rest) }
 unfolding walked
 stop_more R names h name ws [] = rw (append-nil ws)
 stop_more R names h name ws (word ∷ rest) = stop_more R names h name (ws ++ word ∷ []) rest ∙ rw (append_assoc ws (word ∷ []) rest)
@@ -49,19 +50,23 @@ record LeadsTo (a : App) (word : Text) (s : Shape) : Type 0 where
   found : find (λ s. answers_to word (label_of s)) a.subs ≡ Some s
   name : s.name ≡ word
 
-enters : (a : App) (word : Text) (s : Shape) (ws : List Text) → LeadsTo a word s → fold (walked a.top.rules (names_of a)) (walk_from nothing_held) (word ∷ ws) ≡ stopped_at word ws
+enters : (a : App) (word : Text) (s : Shape) (ws : List Text) → LeadsTo a word s
+    → fold (walked a.top.rules (names_of a)) (walk_from nothing_held) (word ∷ ws) ≡ stopped_at word ws
 enters a word s ws at = ap (λ (w : Walk). fold (walked a.top.rules (names_of a)) w ws) at.step ∙ stop_more a.top.rules (names_of a) nothing_held word [] ws
 
 is_met : (a : App) (word : Text) (s : Shape) (ws : List Text) → LeadsTo a word s → walk_fault a.top (names_of a) (walk_from nothing_held) (word ∷ ws) ≡ []
 unfolding walk_fault
 is_met a word s ws at =
-    past _ _ at.clean ∙ (ap (λ (w : Walk). walk_fault a.top (names_of a) w ws) at.step ∙ stopped_fault a.top (names_of a) (walk_from nothing_held) (word, []) ws)
+    past _ _ at.clean ∙ (ap (λ (w : Walk). walk_fault a.top (names_of a) w ws) at.step
+    ∙ stopped_fault a.top (names_of a) (walk_from nothing_held) (word, []) ws)
 
 -- words that the level takes are taken
-taken : (a : App) (word : Text) (s : Shape) (ws : List Text) → Opens a → LeadsTo a word s → level_fault s [] nothing_held ws false [] ≡ [] → built_fault a nothing_held (word ∷ ws) ≡ []
+taken : (a : App) (word : Text) (s : Shape) (ws : List Text) → Opens a → LeadsTo a word s → level_fault s [] nothing_held ws false [] ≡ []
+    → built_fault a nothing_held (word ∷ ws) ≡ []
 taken a word s ws opens at h = rw (is_met a word s ws at, enters a word s ws at, at.found, h, opens.defaults, opens.checks) refl
 
-rows : (a : App) (word : Text) (s : Shape) (ws : List Text) (end : Held) → LeadsTo a word s → fold (walked s.rules []) (walk_from nothing_held) ws ≡ walk_from end
+rows : (a : App) (word : Text) (s : Shape) (ws : List Text) (end : Held) → LeadsTo a word s
+    → fold (walked s.rules []) (walk_from nothing_held) ws ≡ walk_from end
     → entered a (stop_after a.top.rules (names_of a) (word ∷ ws)) ≡ Some (word, finished s.rules end)
 rows a word s ws end at e = ap (λ (w : Walk). entered a w.stopped) (enters a word s ws at) ∙ rw (at.found, at.name, e) refl
 
@@ -86,21 +91,281 @@ record IsCommand (c : CommandName) : Type 0 where
 
 is_command : (c : CommandName) → IsCommand c
 unfolding clap_on_literals
-is_command Shrink = record { named = refl; leads = record { step = refl; clean = refl; found = refl; name = refl }; known = ((rule_at (shape_of Shrink) 0, record { named = record { long = refl; dashes = refl; by_long = refl; id = refl }; takes = refl; most = refl; set = refl; range = refl; missing = refl; passes = refl }), tt); defaults = refl }
-is_command Check = record { named = refl; leads = record { step = refl; clean = refl; found = refl; name = refl }; known = ((rule_at (shape_of Check) 0, record { named = record { long = refl; dashes = refl; by_long = refl; id = refl }; takes = refl; by_id = refl; most = refl; same = refl; set = refl; range = refl; passes = λ v. refl }), ((rule_at (shape_of Check) 1, record { named = record { long = refl; dashes = refl; by_long = refl; id = refl }; takes = refl; most = refl; set = refl; range = refl; missing = refl; passes = refl }), tt)); defaults = refl }
-is_command Solve = record { named = refl; leads = record { step = refl; clean = refl; found = refl; name = refl }; known = ((rule_at (shape_of Solve) 0, record { named = record { long = refl; dashes = refl; by_long = refl; id = refl }; takes = refl; by_id = refl; most = refl; same = refl; set = refl; range = refl; passes = λ v. refl }), tt); defaults = refl }
-is_command Play = record { named = refl; leads = record { step = refl; clean = refl; found = refl; name = refl }; known = ((rule_at (shape_of Play) 0, record { named = record { long = refl; dashes = refl; by_long = refl; id = refl }; takes = refl; by_id = refl; most = refl; same = refl; set = refl; range = refl; passes = λ v. refl }), ((rule_at (shape_of Play) 1, record { named = record { long = refl; dashes = refl; by_long = refl; id = refl }; takes = refl; by_id = refl; most = refl; same = refl; set = refl; range = refl; passes = λ v. refl }), tt)); defaults = refl }
+is_command Shrink = record {
+  named = refl;
+  leads = record { step = refl; clean = refl; found = refl; name = refl };
+  known = (
+    (
+      rule_at (shape_of Shrink) 0,
+      record {
+        named = record { long = refl; dashes = refl; by_long = refl; id = refl };
+        takes = refl;
+        most = refl;
+        set = refl;
+        range = refl;
+        missing = refl;
+        passes = refl;
+      },
+    ),
+    tt,
+  );
+  defaults = refl;
+}
+is_command Check = record {
+  named = refl;
+  leads = record { step = refl; clean = refl; found = refl; name = refl };
+  known = (
+    (
+      rule_at (shape_of Check) 0,
+      record {
+        named = record { long = refl; dashes = refl; by_long = refl; id = refl };
+        takes = refl;
+        by_id = refl;
+        most = refl;
+        same = refl;
+        set = refl;
+        range = refl;
+        passes = λ v. refl;
+      },
+    ),
+    (
+      (
+        rule_at (shape_of Check) 1,
+        record {
+          named = record { long = refl; dashes = refl; by_long = refl; id = refl };
+          takes = refl;
+          most = refl;
+          set = refl;
+          range = refl;
+          missing = refl;
+          passes = refl;
+        },
+      ),
+      tt,
+    ),
+  );
+  defaults = refl;
+}
+is_command Solve = record {
+  named = refl;
+  leads = record { step = refl; clean = refl; found = refl; name = refl };
+  known = (
+    (
+      rule_at (shape_of Solve) 0,
+      record {
+        named = record { long = refl; dashes = refl; by_long = refl; id = refl };
+        takes = refl;
+        by_id = refl;
+        most = refl;
+        same = refl;
+        set = refl;
+        range = refl;
+        passes = λ v. refl;
+      },
+    ),
+    tt,
+  );
+  defaults = refl;
+}
+is_command Play = record {
+  named = refl;
+  leads = record { step = refl; clean = refl; found = refl; name = refl };
+  known = (
+    (
+      rule_at (shape_of Play) 0,
+      record {
+        named = record { long = refl; dashes = refl; by_long = refl; id = refl };
+        takes = refl;
+        by_id = refl;
+        most = refl;
+        same = refl;
+        set = refl;
+        range = refl;
+        passes = λ v. refl;
+      },
+    ),
+    (
+      (
+        rule_at (shape_of Play) 1,
+        record {
+          named = record { long = refl; dashes = refl; by_long = refl; id = refl };
+          takes = refl;
+          by_id = refl;
+          most = refl;
+          same = refl;
+          set = refl;
+          range = refl;
+          passes = λ v. refl;
+        },
+      ),
+      tt,
+    ),
+  );
+  defaults = refl;
+}
 is_command Evaluate = record { named = refl; leads = record { step = refl; clean = refl; found = refl; name = refl }; known = tt; defaults = refl }
-is_command Query = record { named = refl; leads = record { step = refl; clean = refl; found = refl; name = refl }; known = ((rule_at (shape_of Query) 0, record { named = record { long = refl; dashes = refl; by_long = refl; id = refl }; takes = refl; by_id = refl; most = refl; same = refl; set = refl; range = refl; passes = λ v. refl }), ((rule_at (shape_of Query) 1, record { named = record { long = refl; dashes = refl; by_long = refl; id = refl }; takes = refl; by_id = refl; most = refl; same = refl; set = refl; range = refl; passes = λ v. refl }), ((rule_at (shape_of Query) 2, record { named = record { long = refl; dashes = refl; by_long = refl; id = refl }; takes = refl; by_id = refl; most = refl; same = refl; set = refl; range = refl; passes = λ v. refl }), tt))); defaults = refl }
-is_command Make = record { named = refl; leads = record { step = refl; clean = refl; found = refl; name = refl }; known = ((rule_at (shape_of Make) 0, record { named = record { long = refl; dashes = refl; by_long = refl; id = refl }; takes = refl; by_id = refl; most = refl; same = refl; set = refl; range = refl; passes = λ v. refl }), ((rule_at (shape_of Make) 1, record { named = record { long = refl; dashes = refl; by_long = refl; id = refl }; takes = refl; by_id = refl; most = refl; same = refl; set = refl; range = refl; passes = λ v. refl }), ((rule_at (shape_of Make) 2, record { named = record { long = refl; dashes = refl; by_long = refl; id = refl }; takes = refl; by_id = refl; most = refl; same = refl; set = refl; range = refl; passes = λ v. refl }), ((rule_at (shape_of Make) 3, record { named = record { long = refl; dashes = refl; by_long = refl; id = refl }; takes = refl; by_id = refl; most = refl; same = refl; set = refl; range = refl; passes = λ v. refl }), ((rule_at (shape_of Make) 4, record { named = record { long = refl; dashes = refl; by_long = refl; id = refl }; takes = refl; most = refl; set = refl; range = refl; missing = refl; passes = refl }), tt))))); defaults = refl }
+is_command Query = record {
+  named = refl;
+  leads = record { step = refl; clean = refl; found = refl; name = refl };
+  known = (
+    (
+      rule_at (shape_of Query) 0,
+      record {
+        named = record { long = refl; dashes = refl; by_long = refl; id = refl };
+        takes = refl;
+        by_id = refl;
+        most = refl;
+        same = refl;
+        set = refl;
+        range = refl;
+        passes = λ v. refl;
+      },
+    ),
+    (
+      (
+        rule_at (shape_of Query) 1,
+        record {
+          named = record { long = refl; dashes = refl; by_long = refl; id = refl };
+          takes = refl;
+          by_id = refl;
+          most = refl;
+          same = refl;
+          set = refl;
+          range = refl;
+          passes = λ v. refl;
+        },
+      ),
+      (
+        (
+          rule_at (shape_of Query) 2,
+          record {
+            named = record { long = refl; dashes = refl; by_long = refl; id = refl };
+            takes = refl;
+            by_id = refl;
+            most = refl;
+            same = refl;
+            set = refl;
+            range = refl;
+            passes = λ v. refl;
+          },
+        ),
+        tt,
+      ),
+    ),
+  );
+  defaults = refl;
+}
+is_command Make = record {
+  named = refl;
+  leads = record { step = refl; clean = refl; found = refl; name = refl };
+  known = (
+    (
+      rule_at (shape_of Make) 0,
+      record {
+        named = record { long = refl; dashes = refl; by_long = refl; id = refl };
+        takes = refl;
+        by_id = refl;
+        most = refl;
+        same = refl;
+        set = refl;
+        range = refl;
+        passes = λ v. refl;
+      },
+    ),
+    (
+      (
+        rule_at (shape_of Make) 1,
+        record {
+          named = record { long = refl; dashes = refl; by_long = refl; id = refl };
+          takes = refl;
+          by_id = refl;
+          most = refl;
+          same = refl;
+          set = refl;
+          range = refl;
+          passes = λ v. refl;
+        },
+      ),
+      (
+        (
+          rule_at (shape_of Make) 2,
+          record {
+            named = record { long = refl; dashes = refl; by_long = refl; id = refl };
+            takes = refl;
+            by_id = refl;
+            most = refl;
+            same = refl;
+            set = refl;
+            range = refl;
+            passes = λ v. refl;
+          },
+        ),
+        (
+          (
+            rule_at (shape_of Make) 3,
+            record {
+              named =
+                  record { long = refl; dashes = refl; by_long = refl; id = refl };
+              takes = refl;
+              by_id = refl;
+              most = refl;
+              same = refl;
+              set = refl;
+              range = refl;
+              passes = λ v. refl;
+            },
+          ),
+          (
+            (
+              rule_at (shape_of Make) 4,
+              record {
+                named =
+                    record { long = refl; dashes = refl; by_long = refl; id = refl };
+                takes = refl;
+                most = refl;
+                set = refl;
+                range = refl;
+                missing = refl;
+                passes = refl;
+              },
+            ),
+            tt,
+          ),
+        ),
+      ),
+    ),
+  );
+  defaults = refl;
+}
 is_command Upgrade = record { named = refl; leads = record { step = refl; clean = refl; found = refl; name = refl }; known = tt; defaults = refl }
 is_command Judge = record { named = refl; leads = record { step = refl; clean = refl; found = refl; name = refl }; known = tt; defaults = refl }
 is_command Duel = record { named = refl; leads = record { step = refl; clean = refl; found = refl; name = refl }; known = tt; defaults = refl }
 is_command Certify = record { named = refl; leads = record { step = refl; clean = refl; found = refl; name = refl }; known = tt; defaults = refl }
 is_command Verify = record { named = refl; leads = record { step = refl; clean = refl; found = refl; name = refl }; known = tt; defaults = refl }
-is_command Path = record { named = refl; leads = record { step = refl; clean = refl; found = refl; name = refl }; known = ((rule_at (shape_of Path) 0, record { named = record { long = refl; dashes = refl; by_long = refl; id = refl }; takes = refl; by_id = refl; most = refl; same = refl; set = refl; range = refl; passes = λ v. refl }), tt); defaults = refl }
+is_command Path = record {
+  named = refl;
+  leads = record { step = refl; clean = refl; found = refl; name = refl };
+  known = (
+    (
+      rule_at (shape_of Path) 0,
+      record {
+        named = record { long = refl; dashes = refl; by_long = refl; id = refl };
+        takes = refl;
+        by_id = refl;
+        most = refl;
+        same = refl;
+        set = refl;
+        range = refl;
+        passes = λ v. refl;
+      },
+    ),
+    tt,
+  );
+  defaults = refl;
+}
 
-asked : (words : List Text) (name : Text) (found : List Row) → fault_of program words ≡ [] → subcommand_of program words ≡ Some (name, found) → request_of words ≡ task_in (name, found)
+asked : (words : List Text) (name : Text) (found : List Row) → fault_of program words ≡ [] → subcommand_of program words ≡ Some (name, found)
+    → request_of words ≡ task_in (name, found)
 unfolding request_of
 asked words name found faults entered = rw (faults, entered) refl
 
@@ -127,7 +392,8 @@ either : (b p q : Bool) → (p ≡ true → q ≡ true) → (not b || p) ≡ tru
 either true p q f h = f h
 either false p q f h = refl
 
-still_required : (p q : Text → Bool) (os : List OptionOf) → ((name : Text) → p name ≡ true → q name ≡ true) → has_required p os ≡ true → has_required q os ≡ true
+still_required : (p q : Text → Bool) (os : List OptionOf) → ((name : Text) → p name ≡ true → q name ≡ true) → has_required p os ≡ true
+    → has_required q os ≡ true
 still_required p q [] f h = refl
 still_required p q (o ∷ os) f h =
     let both = and_parts (not o.is_required || p o.name) (has_required p os) h in
@@ -181,10 +447,12 @@ checked Certify found h = refl
 checked Verify found h = refl
 checked Path found h = refl
 
-checks : (c : CommandName) (gs : List Given) (given : AreGiven (shape_of c).rules gs) → ArePlain c gs → check_fault (shape_of c) (all_rows (shape_of c).rules gs given) false ≡ []
+checks : (c : CommandName) (gs : List Given) (given : AreGiven (shape_of c).rules gs) → ArePlain c gs
+    → check_fault (shape_of c) (all_rows (shape_of c).rules gs given) false ≡ []
 checks c gs given p =
     let R = (shape_of c).rules in
-    checked c (all_rows R gs given) (still_required (is_there_of gs) (λ name. is_given name (all_rows R gs given)) (options_of c) (λ name. is_there R gs given name) p.complete)
+    checked c (all_rows R gs given) (still_required (is_there_of gs) (λ name. is_given name (all_rows R gs given)) (options_of c)
+    (λ name. is_there R gs given name) p.complete)
 
 -- ---- what they ask for
 
@@ -192,39 +460,53 @@ checks c gs given p =
 entered_for : (c : CommandName) (found : List Row) → task_in (command_word c, found) ≡ task_for c (λ option. first_of option found)
 entered_for c found = ap (λ (o : Option CommandName). option_and_then (λ command. task_for command (λ option. first_of option found)) o) (is_command c).named
 
-shrink_meant : (found : List Row) (gs : List Given) → is_set (first_of (codes "summary") found) ≡ is_set (given_for gs (codes "summary")) → task_for Shrink (λ option. first_of option found) ≡ task_for Shrink (given_for gs)
+shrink_meant : (found : List Row) (gs : List Given) → is_set (first_of (codes "summary") found) ≡ is_set (given_for gs (codes "summary"))
+    → task_for Shrink (λ option. first_of option found) ≡ task_for Shrink (given_for gs)
 shrink_meant found gs s = rw s refl
 
-check_meant : (found : List Row) (gs : List Given) → first_of (codes "classes") found ≡ given_for gs (codes "classes") → is_set (first_of (codes "summary") found) ≡ is_set (given_for gs (codes "summary"))
+check_meant : (found : List Row) (gs : List Given) → first_of (codes "classes") found ≡ given_for gs (codes "classes")
+    → is_set (first_of (codes "summary") found) ≡ is_set (given_for gs (codes "summary"))
     → task_for Check (λ option. first_of option found) ≡ task_for Check (given_for gs)
 check_meant found gs c s = rw (c, s) refl
 
-play_meant : (found : List Row) (gs : List Given) → first_of (codes "classes") found ≡ given_for gs (codes "classes") → first_of (codes "turns") found ≡ given_for gs (codes "turns")
+play_meant : (found : List Row) (gs : List Given) → first_of (codes "classes") found ≡ given_for gs (codes "classes")
+    → first_of (codes "turns") found ≡ given_for gs (codes "turns")
     → task_for Play (λ option. first_of option found) ≡ task_for Play (given_for gs)
 play_meant found gs c t = rw (c, t) refl
 
-query_meant : (found : List Row) (gs : List Given) → first_of (codes "player") found ≡ given_for gs (codes "player") → first_of (codes "line") found ≡ given_for gs (codes "line")
+query_meant : (found : List Row) (gs : List Given) → first_of (codes "player") found ≡ given_for gs (codes "player")
+    → first_of (codes "line") found ≡ given_for gs (codes "line")
     → first_of (codes "signal") found ≡ given_for gs (codes "signal") → task_for Query (λ option. first_of option found) ≡ task_for Query (given_for gs)
 query_meant found gs p l s = rw (p, l, s) refl
 
-make_meant : (found : List Row) (gs : List Given) → first_of (codes "kind") found ≡ given_for gs (codes "kind") → first_of (codes "ranks") found ≡ given_for gs (codes "ranks") → first_of (codes "suits") found ≡ given_for gs (codes "suits")
-    → first_of (codes "cap") found ≡ given_for gs (codes "cap") → is_set (first_of (codes "summary") found) ≡ is_set (given_for gs (codes "summary")) → task_for Make (λ option. first_of option found) ≡ task_for Make (given_for gs)
+make_meant : (found : List Row) (gs : List Given) → first_of (codes "kind") found ≡ given_for gs (codes "kind")
+    → first_of (codes "ranks") found ≡ given_for gs (codes "ranks") → first_of (codes "suits") found ≡ given_for gs (codes "suits")
+    → first_of (codes "cap") found ≡ given_for gs (codes "cap") → is_set (first_of (codes "summary") found) ≡ is_set (given_for gs (codes "summary"))
+    → task_for Make (λ option. first_of option found) ≡ task_for Make (given_for gs)
 make_meant found gs k r s c u = rw (k, r, s, c, u) refl
 
-solve_meant : (found : List Row) (gs : List Given) → first_of (codes "classes") found ≡ given_for gs (codes "classes") → task_for Solve (λ option. first_of option found) ≡ task_for Solve (given_for gs)
+solve_meant : (found : List Row) (gs : List Given) → first_of (codes "classes") found ≡ given_for gs (codes "classes")
+    → task_for Solve (λ option. first_of option found) ≡ task_for Solve (given_for gs)
 solve_meant found gs c = rw c refl
 
-path_meant : (found : List Row) (gs : List Given) → first_of (codes "classes") found ≡ given_for gs (codes "classes") → task_for Path (λ option. first_of option found) ≡ task_for Path (given_for gs)
+path_meant : (found : List Row) (gs : List Given) → first_of (codes "classes") found ≡ given_for gs (codes "classes")
+    → task_for Path (λ option. first_of option found) ≡ task_for Path (given_for gs)
 path_meant found gs c = rw c refl
 
-same_task : (c : CommandName) (gs : List Given) (given : AreGiven (shape_of c).rules gs) → task_for c (λ option. first_of option (all_rows (shape_of c).rules gs given)) ≡ task_for c (given_for gs)
+same_task : (c : CommandName) (gs : List Given) (given : AreGiven (shape_of c).rules gs)
+    → task_for c (λ option. first_of option (all_rows (shape_of c).rules gs given)) ≡ task_for c (given_for gs)
 same_task Shrink gs given = shrink_meant (all_rows (shape_of Shrink).rules gs given) gs (same_flag (shape_of Shrink).rules gs given (codes "summary") refl)
-same_task Check gs given = check_meant (all_rows (shape_of Check).rules gs given) gs (same_value (shape_of Check).rules gs given (codes "classes") refl) (same_flag (shape_of Check).rules gs given (codes "summary") refl)
+same_task Check gs given = check_meant (all_rows (shape_of Check).rules gs given) gs (same_value (shape_of Check).rules gs given (codes "classes") refl)
+    (same_flag (shape_of Check).rules gs given (codes "summary") refl)
 same_task Solve gs given = solve_meant (all_rows (shape_of Solve).rules gs given) gs (same_value (shape_of Solve).rules gs given (codes "classes") refl)
-same_task Play gs given = play_meant (all_rows (shape_of Play).rules gs given) gs (same_value (shape_of Play).rules gs given (codes "classes") refl) (same_value (shape_of Play).rules gs given (codes "turns") refl)
+same_task Play gs given = play_meant (all_rows (shape_of Play).rules gs given) gs (same_value (shape_of Play).rules gs given (codes "classes") refl)
+    (same_value (shape_of Play).rules gs given (codes "turns") refl)
 same_task Evaluate gs given = refl
-same_task Query gs given = query_meant (all_rows (shape_of Query).rules gs given) gs (same_value (shape_of Query).rules gs given (codes "player") refl) (same_value (shape_of Query).rules gs given (codes "line") refl) (same_value (shape_of Query).rules gs given (codes "signal") refl)
-same_task Make gs given = make_meant (all_rows (shape_of Make).rules gs given) gs (same_value (shape_of Make).rules gs given (codes "kind") refl) (same_value (shape_of Make).rules gs given (codes "ranks") refl) (same_value (shape_of Make).rules gs given (codes "suits") refl) (same_value (shape_of Make).rules gs given (codes "cap") refl) (same_flag (shape_of Make).rules gs given (codes "summary") refl)
+same_task Query gs given = query_meant (all_rows (shape_of Query).rules gs given) gs (same_value (shape_of Query).rules gs given (codes "player") refl)
+    (same_value (shape_of Query).rules gs given (codes "line") refl) (same_value (shape_of Query).rules gs given (codes "signal") refl)
+same_task Make gs given = make_meant (all_rows (shape_of Make).rules gs given) gs (same_value (shape_of Make).rules gs given (codes "kind") refl)
+    (same_value (shape_of Make).rules gs given (codes "ranks") refl) (same_value (shape_of Make).rules gs given (codes "suits") refl)
+    (same_value (shape_of Make).rules gs given (codes "cap") refl) (same_flag (shape_of Make).rules gs given (codes "summary") refl)
 same_task Upgrade gs given = refl
 same_task Judge gs given = refl
 same_task Duel gs given = refl
@@ -240,7 +522,8 @@ plain_meant c gs plain =
     let ws = option_words gs in
     let given = all_given s.rules (options_of c) gs (is_command c).known p.forms in
     let t = taken_in_any_order s gs given p.once (is_command c).defaults (checks c gs given p) in
-    asked (command_word c ∷ ws) (command_word c) (finished s.rules t.end) (taken (built program) (command_word c) s ws opens (is_command c).leads t.takes) (rows (built program) (command_word c) s ws t.end (is_command c).leads t.walks)
+    asked (command_word c ∷ ws) (command_word c) (finished s.rules t.end) (taken (built program) (command_word c) s ws opens (is_command c).leads t.takes)
+    (rows (built program) (command_word c) s ws t.end (is_command c).leads t.walks)
     ∙ (ap (λ l. task_in (command_word c, l)) t.found ∙ (entered_for c (all_rows s.rules gs given) ∙ same_task c gs given))
 
 -- ---- they ask for something
@@ -249,7 +532,8 @@ some_mapped : (f : Grouping → Task) (o : Option Grouping) → is_some o ≡ tr
 some_mapped f None h = h
 some_mapped f (Some x) h = refl
 
-some_made : (kind : Option Kind) (ranks suits cap : Option ℕ) (summary : Bool) → is_some kind ≡ true → is_some ranks ≡ true → is_some suits ≡ true → is_some cap ≡ true → is_some (make_with kind ranks suits cap summary) ≡ true
+some_made : (kind : Option Kind) (ranks suits cap : Option ℕ) (summary : Bool) → is_some kind ≡ true → is_some ranks ≡ true → is_some suits ≡ true
+    → is_some cap ≡ true → is_some (make_with kind ranks suits cap summary) ≡ true
 some_made (Some k) (Some r) (Some s) (Some c) u hk hr hs hc = refl
 some_made (Some k) (Some r) (Some s) None u hk hr hs hc = hc
 some_made (Some k) (Some r) None c u hk hr hs hc = hs
@@ -261,14 +545,16 @@ some_played (Some g) (Some n) hg hn = refl
 some_played (Some g) None hg hn = hn
 some_played None n hg hn = hg
 
-some_query : (player : Option ℕ) (line signal : Option Text) → is_some player ≡ true → is_some line ≡ true → is_some signal ≡ true → is_some (query_with player line signal) ≡ true
+some_query : (player : Option ℕ) (line signal : Option Text) → is_some player ≡ true → is_some line ≡ true → is_some signal ≡ true
+    → is_some (query_with player line signal) ≡ true
 some_query (Some p) (Some l) (Some s) hp hl hs = refl
 some_query (Some p) (Some l) None hp hl hs = hs
 some_query (Some p) None s hp hl hs = hl
 some_query None l s hp hl hs = hp
 
 -- classes that are given in their form, or not at all, are a grouping
-some_grouping : (c : CommandName) (gs : List Given) → RuleIs (options_of c) (codes "classes") (λ word. is_some (grouping_of word)) → ArePlain c gs → is_some (grouping_in (given_for gs (codes "classes"))) ≡ true
+some_grouping : (c : CommandName) (gs : List Given) → RuleIs (options_of c) (codes "classes") (λ word. is_some (grouping_of word)) → ArePlain c gs
+    → is_some (grouping_in (given_for gs (codes "classes"))) ≡ true
 some_grouping c gs rules p =
     elim (cases_Bool (list_any (λ g. bytes_eq (name_of g) (codes "classes")) gs)) [
       | inl t ↦
@@ -281,29 +567,56 @@ some_make : (gs : List Given) → ArePlain Make gs → is_some (task_for Make (g
 some_make gs p =
     let all = has_all (is_there_of gs) p.complete in
     let os = options_of Make in
-    let k = passed os (codes "kind") (λ word. is_some (kind_of word)) gs (λ _. (refl, λ _ h. h), (λ e. absurd (false≢true e), (λ e. absurd (false≢true e), (λ e. absurd (false≢true e), (λ e. absurd (false≢true e), tt))))) p.forms all.kind in
-    let r = passed os (codes "ranks") (λ word. is_some (number_in 1 13 word)) gs (λ e. absurd (false≢true e), (λ _. (refl, λ _ h. h), (λ e. absurd (false≢true e), (λ e. absurd (false≢true e), (λ e. absurd (false≢true e), tt))))) p.forms all.ranks in
-    let s = passed os (codes "suits") (λ word. is_some (number_in 1 4 word)) gs (λ e. absurd (false≢true e), (λ e. absurd (false≢true e), (λ _. (refl, λ _ h. h), (λ e. absurd (false≢true e), (λ e. absurd (false≢true e), tt))))) p.forms all.suits in
-    let c = passed os (codes "cap") (λ word. is_some (number_in 0 8 word)) gs (λ e. absurd (false≢true e), (λ e. absurd (false≢true e), (λ e. absurd (false≢true e), (λ _. (refl, λ _ h. h), (λ e. absurd (false≢true e), tt))))) p.forms all.cap in
-    rw (k.1, r.1, s.1, c.1) (some_made (kind_of k.0) (number_in 1 13 r.0) (number_in 1 4 s.0) (number_in 0 8 c.0) (is_set (given_for gs (codes "summary"))) k.2 r.2 s.2 c.2)
+    let k = passed os (codes "kind") (λ word. is_some (kind_of word)) gs (
+      λ _. (refl, λ _ h. h),
+      (λ e. absurd (false≢true e), (λ e. absurd (false≢true e), (λ e. absurd (false≢true e), (λ e. absurd (false≢true e), tt)))),
+    ) p.forms all.kind in
+    let r = passed os (codes "ranks") (λ word. is_some (number_in 1 13 word)) gs (
+      λ e. absurd (false≢true e),
+      (λ _. (refl, λ _ h. h), (λ e. absurd (false≢true e), (λ e. absurd (false≢true e), (λ e. absurd (false≢true e), tt)))),
+    ) p.forms all.ranks in
+    let s = passed os (codes "suits") (λ word. is_some (number_in 1 4 word)) gs (
+      λ e. absurd (false≢true e),
+      (λ e. absurd (false≢true e), (λ _. (refl, λ _ h. h), (λ e. absurd (false≢true e), (λ e. absurd (false≢true e), tt)))),
+    ) p.forms all.suits in
+    let c = passed os (codes "cap") (λ word. is_some (number_in 0 8 word)) gs (
+      λ e. absurd (false≢true e),
+      (λ e. absurd (false≢true e), (λ e. absurd (false≢true e), (λ _. (refl, λ _ h. h), (λ e. absurd (false≢true e), tt)))),
+    ) p.forms all.cap in
+    rw (k.1, r.1, s.1, c.1) (some_made (kind_of k.0) (number_in 1 13 r.0) (number_in 1 4 s.0) (number_in 0 8 c.0)
+    (is_set (given_for gs (codes "summary"))) k.2 r.2 s.2 c.2)
 
 some_play : (gs : List Given) → ArePlain Play gs → is_some (task_for Play (given_for gs)) ≡ true
 some_play gs p =
-    let t = passed (options_of Play) (codes "turns") (λ word. is_some (number_in 0 1000000 word)) gs (λ e. absurd (false≢true e), (λ _. (refl, λ _ h. h), tt)) p.forms (has_turns (is_there_of gs) p.complete) in
-    rw t.1 (some_played (grouping_in (given_for gs (codes "classes"))) (number_in 0 1000000 t.0) (some_grouping Play gs (λ _. (refl, λ _ h. h), (λ e. absurd (false≢true e), tt)) p) t.2)
+    let t = passed (options_of Play) (codes "turns") (λ word. is_some (number_in 0 1000000 word)) gs (
+      λ e. absurd (false≢true e),
+      (λ _. (refl, λ _ h. h), tt),
+    ) p.forms (has_turns (is_there_of gs) p.complete) in
+    rw t.1 (some_played (grouping_in (given_for gs (codes "classes"))) (number_in 0 1000000 t.0)
+    (some_grouping Play gs (λ _. (refl, λ _ h. h), (λ e. absurd (false≢true e), tt)) p) t.2)
 
 some_queried : (gs : List Given) → ArePlain Query gs → is_some (task_for Query (given_for gs)) ≡ true
 some_queried gs p =
     let all = has_query (is_there_of gs) p.complete in
     let os = options_of Query in
-    let n = passed os (codes "player") (λ word. is_some (number_in 1 2 word)) gs (λ _. (refl, λ _ h. h), (λ e. absurd (false≢true e), (λ e. absurd (false≢true e), tt))) p.forms all.player in
-    let l = passed os (codes "line") (λ word. true) gs (λ e. absurd (false≢true e), (λ _. (refl, λ _ h. h), (λ e. absurd (false≢true e), tt))) p.forms all.line in
-    let s = passed os (codes "signal") (λ word. true) gs (λ e. absurd (false≢true e), (λ e. absurd (false≢true e), (λ _. (refl, λ _ h. h), tt))) p.forms all.signal in
+    let n = passed os (codes "player") (λ word. is_some (number_in 1 2 word)) gs (
+      λ _. (refl, λ _ h. h),
+      (λ e. absurd (false≢true e), (λ e. absurd (false≢true e), tt)),
+    ) p.forms all.player in
+    let l = passed os (codes "line") (λ word. true) gs (
+      λ e. absurd (false≢true e),
+      (λ _. (refl, λ _ h. h), (λ e. absurd (false≢true e), tt)),
+    ) p.forms all.line in
+    let s = passed os (codes "signal") (λ word. true) gs (
+      λ e. absurd (false≢true e),
+      (λ e. absurd (false≢true e), (λ _. (refl, λ _ h. h), tt)),
+    ) p.forms all.signal in
     rw (n.1, l.1, s.1) (some_query (number_in 1 2 n.0) (Some l.0) (Some s.0) n.2 refl refl)
 
 some_task : (c : CommandName) (gs : List Given) → ArePlain c gs → is_some (task_for c (given_for gs)) ≡ true
 some_task Shrink gs p = refl
-some_task Check gs p = some_mapped _ (grouping_in (given_for gs (codes "classes"))) (some_grouping Check gs (λ _. (refl, λ _ h. h), (λ e. absurd (false≢true e), tt)) p)
+some_task Check gs p = some_mapped _ (grouping_in (given_for gs (codes "classes")))
+    (some_grouping Check gs (λ _. (refl, λ _ h. h), (λ e. absurd (false≢true e), tt)) p)
 some_task Solve gs p = some_mapped _ (grouping_in (given_for gs (codes "classes"))) (some_grouping Solve gs (λ _. (refl, λ _ h. h), tt) p)
 some_task Play gs p = some_play gs p
 some_task Evaluate gs p = refl

@@ -29,7 +29,8 @@ first_of-rows_for R (flagged n ∷ gs) given id =
       | inr f ↦ rw (given.0.1.named.id, f) (first_of-rows_for R gs given.1 id)
     ]
 
-is_given-rows_for : (R : List Rule) (gs : List Given) (given : AreGiven R gs) (id : Text) → list_any (λ g. bytes_eq (name_of g) id) gs ≡ true → is_given id (rows_for R gs given) ≡ true
+is_given-rows_for : (R : List Rule) (gs : List Given) (given : AreGiven R gs) (id : Text) → list_any (λ g. bytes_eq (name_of g) id) gs ≡ true
+    → is_given id (rows_for R gs given) ≡ true
 is_given-rows_for R [] given id h = cc
 is_given-rows_for R (valued n v ∷ gs) given id h =
     elim (cases_Bool (bytes_eq n id)) [
@@ -60,7 +61,8 @@ first_of-absent id (x ∷ xs) h =
       | inr f ↦ rw f (first_of-absent id xs (rw f at h))
     ]
 
-first_of-new : (id : Text) (rows : List Row) (r : Row) → has_row id rows ≡ false → bytes_eq r.id id ≡ true → first_of id (rows ++ r ∷ []) ≡ slice_get r.values 0
+first_of-new : (id : Text) (rows : List Row) (r : Row) → has_row id rows ≡ false → bytes_eq r.id id ≡ true
+    → first_of id (rows ++ r ∷ []) ≡ slice_get r.values 0
 first_of-new id [] r h e = rw e refl
 first_of-new id (x ∷ xs) r h e =
     elim (cases_Bool (bytes_eq x.id id)) [
@@ -82,7 +84,8 @@ is_given-more id (x ∷ xs) r h =
 abbrev default_row : Rule → Text → List Text → Row
 default_row a d ds = record { id = a.id; values = d ∷ ds; count = None; source = Some DefaultValue; reading = reading_by a }
 
-default_is : (a : Rule) (d : Text) (ds : List Text) (rows : List Row) → has_row a.id rows ≡ false → default_rows a.id (reading_by a) (d ∷ ds) rows ≡ rows ++ default_row a d ds ∷ []
+default_is : (a : Rule) (d : Text) (ds : List Text) (rows : List Row) → has_row a.id rows ≡ false
+    → default_rows a.id (reading_by a) (d ∷ ds) rows ≡ rows ++ default_row a d ds ∷ []
 default_is a d ds rows fresh = absent_row a.id (more_values DefaultValue (d ∷ ds)) (default_row a d ds ∷ []) rows fresh
 
 not_empty : (d : Text) (ds : List Text) → is_empty (d ∷ ds) ≡ false
@@ -95,7 +98,8 @@ is_kept id a = is_empty a.defaults || not (bytes_eq a.id id)
 first_of-default : (id : Text) (rows : List Row) (a : Rule) → is_kept id a ≡ true → first_of id (with_default rows a) ≡ first_of id rows
 first_of-default id rows a h = go (has_row a.id rows) a.defaults refl h
   where
-    go : (b : Bool) (ds : List Text) → has_row a.id rows ≡ b → (is_empty ds || not (bytes_eq a.id id)) ≡ true → first_of id (if b then rows else default_rows a.id (reading_by a) ds rows) ≡ first_of id rows
+    go : (b : Bool) (ds : List Text) → has_row a.id rows ≡ b → (is_empty ds || not (bytes_eq a.id id)) ≡ true
+        → first_of id (if b then rows else default_rows a.id (reading_by a) ds rows) ≡ first_of id rows
     go true ds e k = refl
     go false [] e k = refl
     go false (d ∷ ds) e k =
@@ -109,7 +113,8 @@ is_quiet a = not (is_set (slice_get a.defaults 0))
 is_set-default : (id : Text) (rows : List Row) (a : Rule) → is_quiet a ≡ true → is_set (first_of id (with_default rows a)) ≡ is_set (first_of id rows)
 is_set-default id rows a h = go (has_row a.id rows) a.defaults refl h
   where
-    go : (b : Bool) (ds : List Text) → has_row a.id rows ≡ b → not (is_set (slice_get ds 0)) ≡ true → is_set (first_of id (if b then rows else default_rows a.id (reading_by a) ds rows)) ≡ is_set (first_of id rows)
+    go : (b : Bool) (ds : List Text) → has_row a.id rows ≡ b → not (is_set (slice_get ds 0)) ≡ true
+        → is_set (first_of id (if b then rows else default_rows a.id (reading_by a) ds rows)) ≡ is_set (first_of id rows)
     go true ds e k = refl
     go false [] e k = refl
     go false (d ∷ ds) e k =
@@ -117,7 +122,11 @@ is_set-default id rows a h = go (has_row a.id rows) a.defaults refl h
           | inl t ↦
               let same : a.id ≡ id = (bytes_eq-Decides a.id id).0 t in
               let fresh : has_row id rows ≡ false = rw same at e in
-              rw (default_is a d ds rows e, first_of-new id rows (default_row a d ds) fresh t, first_of-absent id rows fresh) (not_true (bytes_eq d (codes "true")) k)
+              rw (
+                default_is a d ds rows e,
+                first_of-new id rows (default_row a d ds) fresh t,
+                first_of-absent id rows fresh,
+              ) (not_true (bytes_eq d (codes "true")) k)
           | inr f ↦ rw (default_is a d ds rows e) (ap is_set (first_of-other id rows (default_row a d ds) f))
         ]
 
@@ -129,13 +138,15 @@ is_given-default id rows a h = go (has_row a.id rows) a.defaults refl
     go false [] e = h
     go false (d ∷ ds) e = rw (default_is a d ds rows e) (is_given-more id rows (default_row a d ds) h)
 
-first_of-defaults : (id : Text) (rules : List Rule) (rows : List Row) → list_all (is_kept id) rules ≡ true → first_of id (fold with_default rows rules) ≡ first_of id rows
+first_of-defaults : (id : Text) (rules : List Rule) (rows : List Row) → list_all (is_kept id) rules ≡ true
+    → first_of id (fold with_default rows rules) ≡ first_of id rows
 first_of-defaults id [] rows h = refl
 first_of-defaults id (a ∷ rest) rows h =
     let p = and_parts (is_kept id a) (list_all (is_kept id) rest) h in
     first_of-defaults id rest (with_default rows a) p.1 ∙ first_of-default id rows a p.0
 
-is_set-defaults : (id : Text) (rules : List Rule) (rows : List Row) → list_all is_quiet rules ≡ true → is_set (first_of id (fold with_default rows rules)) ≡ is_set (first_of id rows)
+is_set-defaults : (id : Text) (rules : List Rule) (rows : List Row) → list_all is_quiet rules ≡ true
+    → is_set (first_of id (fold with_default rows rules)) ≡ is_set (first_of id rows)
 is_set-defaults id [] rows h = refl
 is_set-defaults id (a ∷ rest) rows h =
     let p = and_parts (is_quiet a) (list_all is_quiet rest) h in
@@ -147,11 +158,14 @@ is_given-defaults id (a ∷ rest) rows h = is_given-defaults id rest (with_defau
 
 -- ---- the options and the defaults
 
-pub same_value : (R : List Rule) (gs : List Given) (given : AreGiven R gs) (id : Text) → list_all (is_kept id) R ≡ true → first_of id (all_rows R gs given) ≡ given_for gs id
+pub same_value : (R : List Rule) (gs : List Given) (given : AreGiven R gs) (id : Text) → list_all (is_kept id) R ≡ true
+    → first_of id (all_rows R gs given) ≡ given_for gs id
 same_value R gs given id h = first_of-defaults id R (rows_for R gs given) h ∙ first_of-rows_for R gs given id
 
-pub same_flag : (R : List Rule) (gs : List Given) (given : AreGiven R gs) (id : Text) → list_all is_quiet R ≡ true → is_set (first_of id (all_rows R gs given)) ≡ is_set (given_for gs id)
+pub same_flag : (R : List Rule) (gs : List Given) (given : AreGiven R gs) (id : Text) → list_all is_quiet R ≡ true
+    → is_set (first_of id (all_rows R gs given)) ≡ is_set (given_for gs id)
 same_flag R gs given id h = is_set-defaults id R (rows_for R gs given) h ∙ ap is_set (first_of-rows_for R gs given id)
 
-pub is_there : (R : List Rule) (gs : List Given) (given : AreGiven R gs) (id : Text) → list_any (λ g. bytes_eq (name_of g) id) gs ≡ true → is_given id (all_rows R gs given) ≡ true
+pub is_there : (R : List Rule) (gs : List Given) (given : AreGiven R gs) (id : Text) → list_any (λ g. bytes_eq (name_of g) id) gs ≡ true
+    → is_given id (all_rows R gs given) ≡ true
 is_there R gs given id h = is_given-defaults id R (rows_for R gs given) (is_given-rows_for R gs given id h)

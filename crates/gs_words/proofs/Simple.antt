@@ -27,7 +27,8 @@ some_kind k [] h = absurd h
 some_kind k (x ∷ xs) h = grind (arith, nat_tests)
 
 -- an error comes of words that are not taken, or of want of memory
-pub refused : (words : List Text) (a : App) (k : ErrorKind) (r : WordsStop) → a ≡ program → IsStopFor k r → (is_simple_and_free a ≡ true → (k ≡ OutOfMemory) ⊎ IsAmong k (fault_of a words)) → TakesWords (Err r) words
+pub refused : (words : List Text) (a : App) (k : ErrorKind) (r : WordsStop) → a ≡ program → IsStopFor k r
+    → (is_simple_and_free a ≡ true → (k ≡ OutOfMemory) ⊎ IsAmong k (fault_of a words)) → TakesWords (Err r) words
 refused words a k stop.Memory e why h = tt
 refused words a k stop.Usage e other h = some_kind k (fault_of program words) (elim (h (ap is_simple_and_free e ∙ program_is_free)) [
   | inl m ↦ absurd (other m)
@@ -35,7 +36,8 @@ refused words a k stop.Usage e other h = some_kind k (fault_of program words) (e
 ])
 
 -- words without a fault are taken
-pub accepted : (words : List Text) (a : App) (m : ArgMatches) → a ≡ program → HasMatchesOf a words m → (is_simple_and_free a ≡ true → fault_of a words ≡ []) → (is_taken words ≡ true) × (subcommand_rows_of m ≡ subcommand_of program words)
+pub accepted : (words : List Text) (a : App) (m : ArgMatches) → a ≡ program → HasMatchesOf a words m → (is_simple_and_free a ≡ true → fault_of a words ≡ [])
+    → (is_taken words ≡ true) × (subcommand_rows_of m ≡ subcommand_of program words)
 accepted words a m e has clean =
     let free : is_simple_and_free a ≡ true = ap is_simple_and_free e ∙ program_is_free in
     let simple : is_simple a ≡ true = ap is_simple e ∙ program_is_simple in

@@ -47,7 +47,8 @@ make_with _ _ _ _ summary = None
 -- the same from the texts of these options, each by its rule
 abbrev pub make_of : (kind ranks suits cap summary : Option Text) → Option Task
 make_of kind ranks suits cap summary =
-    make_with (option_and_then kind_of kind) (option_and_then (number_in 1 13) ranks) (option_and_then (number_in 1 4) suits) (option_and_then (number_in 0 8) cap) (is_set summary)
+    make_with (option_and_then kind_of kind) (option_and_then (number_in 1 13) ranks) (option_and_then (number_in 1 4) suits)
+    (option_and_then (number_in 0 8) cap) (is_set summary)
 
 -- what a command asks for, by what is given for each of its options
 abbrev pub task_for : CommandName → (Text → Option Text) → Option Task

@@ -8,7 +8,9 @@ ghost use Rattle.gs_words.specs.{Tasks.{Check}, declared.names.CommandName.{Comm
 /// then options of it in any order, each once and each that is required; an option is `--name` and a
 /// value, which is not empty, does not begin with `-` and obeys the option's rule, or a flag.
 pub fn plain_words_are_read()
-    ensures read { (command : CommandName) (options : List Given) → IsTrue (are_plain command options) → IsSome (request_of (command_word command ∷ option_words options)) }
-    ensures meant { (command : CommandName) (options : List Given) → IsTrue (are_plain command options) → request_of (command_word command ∷ option_words options) ≡ task_for command (given_for options) }
+    ensures read { (command : CommandName) (options : List Given) → IsTrue (are_plain command options)
+        → IsSome (request_of (command_word command ∷ option_words options)) }
+    ensures meant { (command : CommandName) (options : List Given) → IsTrue (are_plain command options)
+        → request_of (command_word command ∷ option_words options) ≡ task_for command (given_for options) }
     ensures example { request_of (codes "check" ∷ codes "--summary" ∷ codes "--classes" ∷ codes "raw" ∷ []) ≡ Some (Check Single true) }
 {}

@@ -74,7 +74,8 @@ fn grouping_of(options: &ArgMatches) -> Option<Grouping>
 }
 
 fn play_request<'a>(options: &ArgMatches<'a>) -> Option<Request<'a>>
-    ensures value { option_map task_of result ≡ play_with (grouping_in (first_of (codes "classes") (rows_of (found_of options.now)))) (option_and_then (number_in 0 1000000) (first_of (codes "turns") (rows_of (found_of options.now)))) }
+    ensures value { option_map task_of result ≡ play_with (grouping_in (first_of (codes "classes") (rows_of (found_of options.now))))
+        (option_and_then (number_in 0 1000000) (first_of (codes "turns") (rows_of (found_of options.now)))) }
     ensures within { IfSome result (λ r. IsInRange (task_of r)) }
 {
     let grouping = grouping_of(options)?;
@@ -83,7 +84,8 @@ fn play_request<'a>(options: &ArgMatches<'a>) -> Option<Request<'a>>
 }
 
 fn query_request<'a>(options: &ArgMatches<'a>) -> Option<Request<'a>>
-    ensures value { option_map task_of result ≡ query_with (option_and_then (number_in 1 2) (first_of (codes "player") (rows_of (found_of options.now)))) (first_of (codes "line") (rows_of (found_of options.now))) (first_of (codes "signal") (rows_of (found_of options.now))) }
+    ensures value { option_map task_of result ≡ query_with (option_and_then (number_in 1 2) (first_of (codes "player") (rows_of (found_of options.now))))
+        (first_of (codes "line") (rows_of (found_of options.now))) (first_of (codes "signal") (rows_of (found_of options.now))) }
     ensures within { IfSome result (λ r. IsInRange (task_of r)) }
 {
     let player = number_of(options, "player", 1, 2)? as u8;
@@ -97,7 +99,9 @@ fn query_request<'a>(options: &ArgMatches<'a>) -> Option<Request<'a>>
 }
 
 fn make_request<'a>(options: &ArgMatches<'a>) -> Option<Request<'a>>
-    ensures value { option_map task_of result ≡ make_of (first_of (codes "kind") (rows_of (found_of options.now))) (first_of (codes "ranks") (rows_of (found_of options.now))) (first_of (codes "suits") (rows_of (found_of options.now))) (first_of (codes "cap") (rows_of (found_of options.now))) (first_of (codes "summary") (rows_of (found_of options.now))) }
+    ensures value { option_map task_of result ≡ make_of (first_of (codes "kind") (rows_of (found_of options.now)))
+        (first_of (codes "ranks") (rows_of (found_of options.now))) (first_of (codes "suits") (rows_of (found_of options.now)))
+        (first_of (codes "cap") (rows_of (found_of options.now))) (first_of (codes "summary") (rows_of (found_of options.now))) }
     ensures within { IfSome result (λ r. IsInRange (task_of r)) }
 {
     let kind = kind(value_of(options, "kind")?)?;

@@ -16,4 +16,5 @@ zip_equal (x ∷ xs) (y ∷ ys) h = cc (h.0, zip_equal xs ys h.1)
 
 pub leaf_sums : (g : Game) (s t : Signal) → IsomorphicFor g [] s t → sum_z (λ (x : ℕ × ℤ). x.1) (leaves g s) ≡ sum_z (λ (x : ℕ × ℤ). x.1) (leaves g t)
 leaf_sums g s t m =
-    sym (sum_z-IsPermutation (λ (x : ℕ × ℤ). x.1) (leaves g s) m.order m.permutes) ∙ ap (sum_z (λ (x : ℕ × ℤ). x.1)) (zip_equal m.order (leaves g t) m.related)
+    sym (sum_z-IsPermutation (λ (x : ℕ × ℤ). x.1) (leaves g s) m.order m.permutes)
+    ∙ ap (sum_z (λ (x : ℕ × ℤ). x.1)) (zip_equal m.order (leaves g t) m.related)

@@ -51,4 +51,5 @@ pub record OneRank : Type 0 where
   pub count : length (deals one_rank) ≡ 12
   pub weight : sum_by (λ (d : Deal). d.weight) (deals one_rank) ≡ 12
   pub ties : leaves one_rank (seen 1) ≡ (1, pos 0) ∷ (1, pos 0) ∷ (1, pos 0) ∷ []
-  pub alike : SameClass one_rank 1 (seen 0) (signal_at one_rank 1 0) × SameClass one_rank 1 (seen 0) (signal_at one_rank 1 1) × SameClass one_rank 1 (seen 0) (signal_at one_rank 1 2) × SameClass one_rank 1 (seen 0) (signal_at one_rank 1 3)
+  pub alike : SameClass one_rank 1 (seen 0) (signal_at one_rank 1 0) × SameClass one_rank 1 (seen 0) (signal_at one_rank 1 1)
+      × SameClass one_rank 1 (seen 0) (signal_at one_rank 1 2) × SameClass one_rank 1 (seen 0) (signal_at one_rank 1 3)

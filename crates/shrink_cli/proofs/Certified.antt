@@ -39,9 +39,11 @@ certified : (t : Strategy) (text : List ℕ) → SaysCertified t (Prints text) �
 certified t text h = subst (IsCertified t) (same_text text h.0 h.2) h.1
 
 pub certifies : (words : List (List ℕ)) (old new : Ends) (s : Status) → RunsTo words old new s → CertifiesWell words old new s
-certifies words old new s runs asked e = of_strategy Certify SaysCertified IsCertified old new certified (λ text bytes h. h) refl (printed words old new s Certify runs asked e)
+certifies words old new s runs asked e = of_strategy Certify SaysCertified IsCertified old new certified (λ text bytes h. h) refl
+    (printed words old new s Certify runs asked e)
 
-verified : (bytes text : List ℕ) (read : ReadResult) → Reads (first_line bytes).0 read → OfRead (SaysVerified (first_line bytes).1) read (Prints text) → OfCertificate bytes text
+verified : (bytes text : List ℕ) (read : ReadResult) → Reads (first_line bytes).0 read → OfRead (SaysVerified (first_line bytes).1) read (Prints text)
+    → OfCertificate bytes text
 verified bytes text (Ok t) reads (inl h) = let bad = h.told in cc
 verified bytes text (Ok t) reads (inr h) =
     let f = found (first_line bytes).0 t reads in
@@ -63,7 +65,8 @@ verifies words old new s runs asked e =
 
 -- ---- how they end
 
-pub certifies_at_last : (words : List (List ℕ)) (old new : Ends) (s : Status) → RunsTo words old new s → CompletesStrategy Certify (SaysConfirmed SaysCertified) words old new s
+pub certifies_at_last : (words : List (List ℕ)) (old new : Ends) (s : Status) → RunsTo words old new s
+    → CompletesStrategy Certify (SaysConfirmed SaysCertified) words old new s
 certifies_at_last words old new s runs version t asked is e few good =
     over_strategy (SaysConfirmed SaysCertified) version t s is (completes words old new s runs Certify (strategy_text version t) asked refl e few good)
 
@@ -80,11 +83,13 @@ stated : (c : Certificate) → AreSmall c → IsStated (certificate_view c)
 stated c small = record { one = record { bound = c.bound1.reduced; values = small.one }; two = record { bound = c.bound2.reduced; values = small.two } }
 
 -- what is said of a certificate's text is said of a certificate of that text
-of_certificate : (t : Strategy) (c : Stated) (reply : Reply) → IsStated c → SaysVerified (certificate_text c) t reply → (d : Certificate) × (certificate_view d ≡ c) × SaysChecked t d reply
+of_certificate : (t : Strategy) (c : Stated) (reply : Reply) → IsStated c → SaysVerified (certificate_text c) t reply
+    → (d : Certificate) × (certificate_view d ≡ c) × SaysChecked t d reply
 of_certificate t c reply is (inl h) = absurd (clash h.why c (certificate_only c (Err h.why) is h.reads))
 of_certificate t c reply is (inr h) = (h.0, sym (one_certificate c (certificate_view h.0) is (stated h.0 h.1.small) h.1.text), h.2)
 
-of_lines : (version : Version) (t : Strategy) (c : Stated) (reply : Reply) → IsStrategy version t → IsStated c → Verifies (strategy_text version t ++ certificate_text c) reply
+of_lines : (version : Version) (t : Strategy) (c : Stated) (reply : Reply) → IsStrategy version t → IsStated c
+    → Verifies (strategy_text version t ++ certificate_text c) reply
     → (d : Certificate) × (certificate_view d ≡ c) × SaysChecked t d reply
 of_lines version t c reply is is_stated h =
     let rest = certificate_text c in
@@ -95,7 +100,8 @@ of_lines version t c reply is is_stated h =
 pub verifies_at_last : (words : List (List ℕ)) (old new : Ends) (s : Status) → RunsTo words old new s → VerifiesAtLast words old new s
 verifies_at_last words old new s runs version t c asked is is_stated e few good =
     let bytes = strategy_text version t ++ certificate_text c in
-    ends_so (Verifies bytes) (λ reply. (d : Certificate) × (certificate_view d ≡ c) × SaysChecked t d reply) s (λ reply. of_lines version t c reply is is_stated)
+    ends_so (Verifies bytes) (λ reply. (d : Certificate) × (certificate_view d ≡ c)
+    × SaysChecked t d reply) s (λ reply. of_lines version t c reply is is_stated)
     (completes words old new s runs Verify bytes asked refl e few good)
 
 -- version 2 tells each strategy that a version tells
@@ -131,7 +137,8 @@ differs : (why : Refusal) (text : List ℕ) → Refuses why ≡ Prints text → 
 differs why text e = cc
 
 -- `verify` refuses nothing that `certify` prints
-never_refused : (version : Version) (t : Strategy) (lines : List ℕ) (why : Refusal) → IsStrategy version t → OfConfirmed IsCertified (strategy_text version t) lines → Verifies lines (Refuses why) → ⊥
+never_refused : (version : Version) (t : Strategy) (lines : List ℕ) (why : Refusal) → IsStrategy version t
+    → OfConfirmed IsCertified (strategy_text version t) lines → Verifies lines (Refuses why) → ⊥
 never_refused version t lines why is h v =
     let same = same_strategy h.strategy t (only version t (Ok h.strategy) is h.accepted) in
     let p = lines_verified h.strategy lines (Refuses why) (subst (IsStrategy Two) (sym same) (told_in_two version t is)) h.confirmed h.said v in

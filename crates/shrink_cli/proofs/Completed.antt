@@ -41,10 +41,12 @@ no_more None xs ys c = absurd c
 no_more (Some zs) xs ys c = rw (c, length-append) (omega arith)
 
 same_input : (old new : Ends) (bytes found : List ℕ) → old.left ≡ Some bytes → ReadsWhole old new found → found ≡ bytes
-same_input old new bytes found e whole = sym (all_read new.left bytes found (subst (λ (l : Option (List ℕ)). Consumes l new.left found) e whole.taken) whole.end)
+same_input old new bytes found e whole = sym (all_read new.left bytes found
+    (subst (λ (l : Option (List ℕ)). Consumes l new.left found) e whole.taken) whole.end)
 
 -- what a task that reads says of its input, it says of what was left
-says_of : (task : Task) (old new : Ends) (bytes : List ℕ) (reply : Reply) → reads task ≡ true → old.left ≡ Some bytes → IsAnswered task old new reply → Asks task bytes reply
+says_of : (task : Task) (old new : Ends) (bytes : List ℕ) (reply : Reply) → reads task ≡ true → old.left ≡ Some bytes → IsAnswered task old new reply
+    → Asks task bytes reply
 says_of task old new bytes reply r e a =
     let whole : ReadsWhole old new a.bytes = subst (λ (b : Bool). Inputs b old new a.bytes) r a.input in
     subst (λ (b : List ℕ). Asks task b reply) (same_input old new bytes a.bytes e whole) a.says
@@ -53,12 +55,14 @@ says_of task old new bytes reply r e a =
 abbrev Says : Task → List ℕ → Ends → Ends → Type 0
 Says task bytes old new = (reply : Reply) → IsAnswered task old new reply → Asks task bytes reply
 
-well : (words : List (List ℕ)) (task : Task) (old new : Ends) (bytes : List ℕ) → Says task bytes old new → RunsTo words old new status.Ok → request_of words ≡ Some task → EndsSo (Asks task bytes) status.Ok
+well : (words : List (List ℕ)) (task : Task) (old new : Ends) (bytes : List ℕ) → Says task bytes old new → RunsTo words old new status.Ok
+    → request_of words ≡ Some task → EndsSo (Asks task bytes) status.Ok
 well words task old new bytes says h asked =
     let a = subst (λ (t : Task). (text : List ℕ) × IsAnswered t old new (Prints text)) (same_task words h.0 task h.1 asked) (h.2.0.0, h.2.0.1) in
     inl (refl, (a.0, says (Prints a.0) a.1))
 
-refused : (words : List (List ℕ)) (task : Task) (old new : Ends) (bytes : List ℕ) (s : Status) → Says task bytes old new → Asked words (λ t. IsRefused t old new s) → request_of words ≡ Some task → EndsSo (Asks task bytes) s
+refused : (words : List (List ℕ)) (task : Task) (old new : Ends) (bytes : List ℕ) (s : Status) → Says task bytes old new
+    → Asked words (λ t. IsRefused t old new s) → request_of words ≡ Some task → EndsSo (Asks task bytes) s
 refused words task old new bytes s says h asked =
     let a = subst (λ (t : Task). IsRefused t old new s) (same_task words h.0 task h.1 asked) h.2 in
     inr (inr (a.why, says (Refuses a.why) a.answered, a.status))
@@ -84,7 +88,8 @@ ends_so one two s f (inr (inr h)) = inr (inr (h.0, f (Refuses h.0) h.1, h.2))
 -- ---- accepted games
 
 -- what is said of a game file is said of its game
-over_game : (says : FileGame → Reply → Type 0) (g : FileGame) (bytes : List ℕ) (s : Status) → read_at bytes ≡ Ok g → EndsSo (OfReading says (read_at bytes)) s → EndsSo (says g) s
+over_game : (says : FileGame → Reply → Type 0) (g : FileGame) (bytes : List ℕ) (s : Status) → read_at bytes ≡ Ok g → EndsSo (OfReading says (read_at bytes)) s
+    → EndsSo (says g) s
 over_game says g bytes s read h = ends_so (OfReading says (read_at bytes)) (says g) s (λ reply. subst (λ x. OfReading says x reply) read) h
 
 shrunk : (summary : Bool) (g : FileGame) (s : Status) → EndsSo (ShrinksGame summary g) s → EndsWell s
@@ -92,12 +97,18 @@ shrunk summary g s (inl h) = inl h.0
 shrunk summary g s (inr (inl e)) = inr e
 shrunk summary g s (inr (inr h)) = absurd h.1
 
-pub shrinks_at_last : (words : List (List ℕ)) (old new : Ends) (s : Status) → RunsTo words old new s → (summary : Bool) → CompletesGame (Shrink summary) (λ _ t. EndsWell t) words old new s
+pub shrinks_at_last : (words : List (List ℕ)) (old new : Ends) (s : Status) → RunsTo words old new s → (summary : Bool)
+    → CompletesGame (Shrink summary) (λ _ t. EndsWell t) words old new s
 shrinks_at_last words old new s runs summary bytes g asked e few read good =
     shrunk summary g s (over_game (ShrinksGame summary) g bytes s read (completes words old new s runs (Shrink summary) bytes asked refl e few good))
 
-kept : (grouping : Grouping) (summary : Bool) (g : FileGame) (why : Refusal) (s : Status) → ChecksGame grouping summary g (Refuses why) → status_of (cause_of why) ≡ s → EndsChecked grouping g s
-kept grouping summary g (Unlike_pair round one two) s h e = inr (inr (sym e, h.0, record { classes = h.1.classes; are = h.1.are; not_lossless = h.1.not_lossless }))
+kept : (grouping : Grouping) (summary : Bool) (g : FileGame) (why : Refusal) (s : Status) → ChecksGame grouping summary g (Refuses why)
+    → status_of (cause_of why) ≡ s → EndsChecked grouping g s
+kept grouping summary g (Unlike_pair round one two) s h e = inr (inr (
+  sym e,
+  h.0,
+  record { classes = h.1.classes; are = h.1.are; not_lossless = h.1.not_lossless },
+))
 kept grouping summary g (Bad_game why) s h e = absurd h
 kept grouping summary g (Overflows at) s h e = absurd h
 kept grouping summary g Many_pivots s h e = absurd h
@@ -113,13 +124,16 @@ checked grouping summary g s (inl h) = inl h.0
 checked grouping summary g s (inr (inl e)) = inr (inl e)
 checked grouping summary g s (inr (inr h)) = kept grouping summary g h.0 s h.1 h.2
 
-pub checks_at_last : (words : List (List ℕ)) (old new : Ends) (s : Status) → RunsTo words old new s → (grouping : Grouping) (summary : Bool) → CompletesGame (Check grouping summary) (EndsChecked grouping) words old new s
+pub checks_at_last : (words : List (List ℕ)) (old new : Ends) (s : Status) → RunsTo words old new s → (grouping : Grouping) (summary : Bool)
+    → CompletesGame (Check grouping summary) (EndsChecked grouping) words old new s
 checks_at_last words old new s runs grouping summary bytes g asked e few read good =
-    checked grouping summary g s (over_game (ChecksGame grouping summary) g bytes s read (completes words old new s runs (Check grouping summary) bytes asked refl e few good))
+    checked grouping summary g s (over_game (ChecksGame grouping summary) g bytes s read
+    (completes words old new s runs (Check grouping summary) bytes asked refl e few good))
 
 -- ---- games over classes
 
-pub solves_at_last : (words : List (List ℕ)) (old new : Ends) (s : Status) → RunsTo words old new s → (grouping : Grouping) → CompletesGame (Solve grouping) (λ g. EndsSo (OfGrouping grouping Solves g)) words old new s
+pub solves_at_last : (words : List (List ℕ)) (old new : Ends) (s : Status) → RunsTo words old new s → (grouping : Grouping)
+    → CompletesGame (Solve grouping) (λ g. EndsSo (OfGrouping grouping Solves g)) words old new s
 solves_at_last words old new s runs grouping bytes g asked e few read good =
     over_game (OfGrouping grouping Solves) g bytes s read (completes words old new s runs (Solve grouping) bytes asked refl e few good)
 
@@ -128,27 +142,33 @@ pub plays_at_last : (words : List (List ℕ)) (old new : Ends) (s : Status) → 
 plays_at_last words old new s runs grouping turns bytes g asked e few read good =
     over_game (OfGrouping grouping (Plays turns)) g bytes s read (completes words old new s runs (Play grouping turns) bytes asked refl e few good)
 
-pub paths_at_last : (words : List (List ℕ)) (old new : Ends) (s : Status) → RunsTo words old new s → (grouping : Grouping) → CompletesGame (Path grouping) (λ g. EndsSo (OfGrouping grouping ShowsPath g)) words old new s
+pub paths_at_last : (words : List (List ℕ)) (old new : Ends) (s : Status) → RunsTo words old new s → (grouping : Grouping)
+    → CompletesGame (Path grouping) (λ g. EndsSo (OfGrouping grouping ShowsPath g)) words old new s
 paths_at_last words old new s runs grouping bytes g asked e few read good =
     over_game (OfGrouping grouping ShowsPath) g bytes s read (completes words old new s runs (Path grouping) bytes asked refl e few good)
 
 -- ---- strategies
 
 -- what is said of a strategy's text is said of the strategy
-pub over_strategy : (says : Strategy → Reply → Type 0) (version : Version) (t : Strategy) (s : Status) → IsStrategy version t → EndsSo (OfStrategy says (strategy_text version t)) s → EndsSo (says t) s
+pub over_strategy : (says : Strategy → Reply → Type 0) (version : Version) (t : Strategy) (s : Status) → IsStrategy version t
+    → EndsSo (OfStrategy says (strategy_text version t)) s → EndsSo (says t) s
 over_strategy says version t s is h =
-    ends_so (OfStrategy says (strategy_text version t)) (says t) s (λ reply o. subst (λ (x : ReadResult). OfRead says x reply) (only version t o.read is o.reads) o.said) h
+    ends_so (OfStrategy says (strategy_text version t)) (says t) s (λ reply o.
+    subst (λ (x : ReadResult). OfRead says x reply) (only version t o.read is o.reads) o.said) h
 
-pub evaluates_at_last : (words : List (List ℕ)) (old new : Ends) (s : Status) → RunsTo words old new s → CompletesStrategy Evaluate (SaysConfirmed SaysNumbers) words old new s
+pub evaluates_at_last : (words : List (List ℕ)) (old new : Ends) (s : Status) → RunsTo words old new s
+    → CompletesStrategy Evaluate (SaysConfirmed SaysNumbers) words old new s
 evaluates_at_last words old new s runs version t asked is e few good =
     over_strategy (SaysConfirmed SaysNumbers) version t s is (completes words old new s runs Evaluate (strategy_text version t) asked refl e few good)
 
 pub queries_at_last : (words : List (List ℕ)) (old new : Ends) (s : Status) → RunsTo words old new s → (player : ℕ) (line signal : List ℕ)
     → CompletesStrategy (Query player line signal) (SaysConfirmed (SaysQueried player line signal)) words old new s
 queries_at_last words old new s runs player line signal version t asked is e few good =
-    over_strategy (SaysConfirmed (SaysQueried player line signal)) version t s is (completes words old new s runs (Query player line signal) (strategy_text version t) asked refl e few good)
+    over_strategy (SaysConfirmed (SaysQueried player line signal)) version t s is
+    (completes words old new s runs (Query player line signal) (strategy_text version t) asked refl e few good)
 
-pub upgrades_at_last : (words : List (List ℕ)) (old new : Ends) (s : Status) → RunsTo words old new s → CompletesStrategy Upgrade (SaysConfirmed SaysUpgraded) words old new s
+pub upgrades_at_last : (words : List (List ℕ)) (old new : Ends) (s : Status) → RunsTo words old new s
+    → CompletesStrategy Upgrade (SaysConfirmed SaysUpgraded) words old new s
 upgrades_at_last words old new s runs version t asked is e few good =
     over_strategy (SaysConfirmed SaysUpgraded) version t s is (completes words old new s runs Upgrade (strategy_text version t) asked refl e few good)
 
@@ -188,4 +208,5 @@ made_well kind ranks suits cap s (inr (inl e)) = inr e
 made_well kind ranks suits cap s (inr (inr h)) = let bad = h.1 in cc
 
 pub files_at_last : (words : List (List ℕ)) (old new : Ends) (s : Status) → RunsTo words old new s → FilesAtLast words old new s
-files_at_last words old new s runs kind ranks suits cap asked writes = made_well kind ranks suits cap s (makes_at_last words old new s runs (Make kind ranks suits cap false) [] asked refl writes)
+files_at_last words old new s runs kind ranks suits cap asked writes = made_well kind ranks suits cap s
+    (makes_at_last words old new s runs (Make kind ranks suits cap false) [] asked refl writes)

@@ -21,7 +21,8 @@ use Rattle.shrink_cli.specs.declared.status.Status.TheVariants as status
 
 -- ---- the errors' end
 
-pub tells : {T : Type 0} (line : List ℕ) (old new : Option (List ℕ)) (before now : ℕ) (r : Result T WriteStop) → WritesAll line old new before now r → TellsTo old before new now line
+pub tells : {T : Type 0} (line : List ℕ) (old new : Option (List ℕ)) (before now : ℕ) (r : Result T WriteStop) → WritesAll line old new before now r
+    → TellsTo old before new now line
 tells line old new before now (Ok v) h = record { count = length line; front = rw take-length h.0; later = omega arith; whole = λ lt. absurd (omega arith) }
 tells line old new before now (Err (write_stop.Fault written)) h = record { count = written; front = h.1; later = h.2.later; whole = λ lt. h.2 }
 
@@ -36,9 +37,13 @@ unread : (left : Option (List ℕ)) → TookPrefix (most_bytes + 1) left left
 unread left = ([], nothing left, omega arith)
 
 pub none_taken : (words : List (List ℕ)) (old new : Ends) → new.left ≡ old.left → TookInput words old new
-none_taken words old new e = record { front = subst (λ (l : Option (List ℕ)). TookPrefix (most_bytes + 1) old.left l) (sym e) (unread old.left); unread = inl e }
+none_taken words old new e = record {
+  front = subst (λ (l : Option (List ℕ)). TookPrefix (most_bytes + 1) old.left l) (sym e) (unread old.left);
+  unread = inl e;
+}
 
-pub fault_reads : (b : Bool) (old new : Option (List ℕ)) (before now : ℕ) → ReadsInput b old new before now (Err read_stop.Fault) → (b ≡ true) × (TookPrefix (most_bytes + 1) old new × Rose before now)
+pub fault_reads : (b : Bool) (old new : Option (List ℕ)) (before now : ℕ) → ReadsInput b old new before now (Err read_stop.Fault)
+    → (b ≡ true) × (TookPrefix (most_bytes + 1) old new × Rose before now)
 fault_reads true old new before now h = (refl, h)
 fault_reads false old new before now h = absurd h
 
@@ -57,7 +62,8 @@ inputs true old new v h = record { taken = h.0; end = h.1; few = h.2; faults = h
 inputs false old new v h = (h.0, (h.1, h.2))
 
 -- an input is a front of what was left
-pub taken : (words : List (List ℕ)) (task : Task) (b : Bool) (old new : Ends) (bytes : List ℕ) → request_of words ≡ Some task → reads task ≡ b → Inputs b old new bytes
+pub taken : (words : List (List ℕ)) (task : Task) (b : Bool) (old new : Ends) (bytes : List ℕ) → request_of words ≡ Some task → reads task ≡ b
+    → Inputs b old new bytes
     → TookInput words old new × (new.read_faults ≡ old.read_faults)
 taken words task true old new bytes asked e h = (record { front = (bytes, h.taken, omega (arith, h.few)); unread = inr (task, asked, e) }, h.faults)
 taken words task false old new bytes asked e h = (none_taken words old new h.1.0, h.1.1)
@@ -65,7 +71,8 @@ taken words task false old new bytes asked e h = (none_taken words old new h.1.0
 -- ---- refusals
 
 -- an answer that refuses is told by its own status
-pub refused_runs : (words : List (List ℕ)) (old new : Ends) (task : Task) (kind : Cause) → request_of words ≡ Some task → IsRefused task old new (status_of kind) → RunsTo words old new (status_of kind)
+pub refused_runs : (words : List (List ℕ)) (old new : Ends) (task : Task) (kind : Cause) → request_of words ≡ Some task
+    → IsRefused task old new (status_of kind) → RunsTo words old new (status_of kind)
 refused_runs words old new task cause.BadGame asked h = (task, asked, h)
 refused_runs words old new task cause.Unlike asked h = (task, asked, h)
 refused_runs words old new task cause.Overflow asked h = (task, asked, h)

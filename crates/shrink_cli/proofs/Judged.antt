@@ -33,10 +33,12 @@ same_text : (one two : List ℕ) → Prints one ≡ Prints two → one ≡ two
 same_text one two e = cc
 
 -- what is said of two strategies of one game on raw cards
-on_raw_cards : (says : Numbers → Reply → Type 0) (one two : Strategy) (text : List ℕ) → one.game ≡ two.game → OnRawCards says one two (Prints text) → (n : Numbers) × AreOnRawCards one two n × says n (Prints text)
+on_raw_cards : (says : Numbers → Reply → Type 0) (one two : Strategy) (text : List ℕ) → one.game ≡ two.game → OnRawCards says one two (Prints text)
+    → (n : Numbers) × AreOnRawCards one two n × says n (Prints text)
 on_raw_cards says one two text same (inl h) =
     let n = h.1.0 in
-    let verdict = subst (λ (g : FileGame). IsVerdict (frame_in one.game) (raw_plan one one.one) (lift (frame_in g) two.classes (plan_in two two.two)) (over n.value) (over n.gap1) (over n.gap2)) same h.1.1.verdict in
+    let verdict = subst (λ (g : FileGame). IsVerdict (frame_in one.game) (raw_plan one one.one) (lift (frame_in g) two.classes (plan_in two two.two))
+    (over n.value) (over n.gap1) (over n.gap2)) same h.1.1.verdict in
     (n, record { few = h.0; judged = h.1.1; on_raw_cards = verdict }, h.1.2)
 on_raw_cards says one two text same (inr h) = let bad = h.1 in cc
 
@@ -75,7 +77,8 @@ duelled one two text same h =
     let r = on_raw_cards (λ n reply. (hands : List Parts) × AreHands one two hands × (reply ≡ Prints (hand_lines one n hands))) one two text same h in
     (r.0, r.1, (r.2.0, r.2.1, same_text text (hand_lines one r.0 r.2.0) r.2.2))
 
-second_file : (bytes text : List ℕ) (one : Strategy) (read : ReadResult) → Reads (first_line bytes).0 (Ok one) → Reads (first_line bytes).1 read → OfRead Second (SaysDuel one) read (Prints text) → OfTwo IsDuelled bytes text
+second_file : (bytes text : List ℕ) (one : Strategy) (read : ReadResult) → Reads (first_line bytes).0 (Ok one) → Reads (first_line bytes).1 read
+    → OfRead Second (SaysDuel one) read (Prints text) → OfTwo IsDuelled bytes text
 second_file bytes text one (Ok two) a b (inl h) = let bad = h.1 in cc
 second_file bytes text one (Ok two) a b (inr h) =
     let f = found (first_line bytes).0 one a in
@@ -93,7 +96,8 @@ second_file bytes text one (Ok two) a b (inr h) =
     }
 second_file bytes text one (Err why) a b h = cc
 
-first_file : (bytes text : List ℕ) (read : ReadResult) → Reads (first_line bytes).0 read → OfRead First (λ one. OfFile Second (SaysDuel one) (first_line bytes).1) read (Prints text) → OfTwo IsDuelled bytes text
+first_file : (bytes text : List ℕ) (read : ReadResult) → Reads (first_line bytes).0 read
+    → OfRead First (λ one. OfFile Second (SaysDuel one) (first_line bytes).1) read (Prints text) → OfTwo IsDuelled bytes text
 first_file bytes text (Ok one) a h = second_file bytes text one h.read a h.reads h.said
 first_file bytes text (Err why) a h = cc
 
@@ -106,18 +110,22 @@ duels words old new s runs asked e =
 -- ---- how they end
 
 -- what is said of the file that holds a strategy's text is said of the strategy
-of_text : (which : Which) (says : Strategy → Reply → Type 0) (version : Version) (t : Strategy) (reply : Reply) → IsStrategy version t → OfFile which says (strategy_text version t) reply → says t reply
+of_text : (which : Which) (says : Strategy → Reply → Type 0) (version : Version) (t : Strategy) (reply : Reply) → IsStrategy version t
+    → OfFile which says (strategy_text version t) reply → says t reply
 of_text which says version t reply is o = subst (λ (x : ReadResult). OfRead which says x reply) (only version t o.read is o.reads) o.said
 
 pub judges_at_last : (words : List (List ℕ)) (old new : Ends) (s : Status) → RunsTo words old new s → CompletesStrategy Judge SaysJudged words old new s
 judges_at_last words old new s runs version t asked is e few good =
-    ends_so (Judges (strategy_text version t)) (SaysJudged t) s (λ reply. of_text Only SaysJudged version t reply is) (completes words old new s runs Judge (strategy_text version t) asked refl e few good)
+    ends_so (Judges (strategy_text version t)) (SaysJudged t) s (λ reply. of_text Only SaysJudged version t reply is)
+    (completes words old new s runs Judge (strategy_text version t) asked refl e few good)
 
 -- a strategy's text is the first line of what it stands before
-pub text_parted : (version : Version) (t : Strategy) (rest : List ℕ) → IsStrategy version t → first_line (strategy_text version t ++ rest) ≡ (strategy_text version t, rest)
+pub text_parted : (version : Version) (t : Strategy) (rest : List ℕ) → IsStrategy version t
+    → first_line (strategy_text version t ++ rest) ≡ (strategy_text version t, rest)
 text_parted version t rest is = line_parted (strategy_data version t) rest (has_line version t is.written).canonical
 
-of_texts : (v w : Version) (one two : Strategy) (reply : Reply) → IsStrategy v one → IsStrategy w two → Duels (strategy_text v one ++ strategy_text w two) reply → SaysDuel one two reply
+of_texts : (v w : Version) (one two : Strategy) (reply : Reply) → IsStrategy v one → IsStrategy w two
+    → Duels (strategy_text v one ++ strategy_text w two) reply → SaysDuel one two reply
 of_texts v w one two reply is_one is_two h =
     let rest = strategy_text w two in
     let here : OfFile First (λ x. OfFile Second (SaysDuel x) rest) (strategy_text v one) reply =
@@ -127,4 +135,5 @@ of_texts v w one two reply is_one is_two h =
 pub duels_at_last : (words : List (List ℕ)) (old new : Ends) (s : Status) → RunsTo words old new s → DuelsAtLast words old new s
 duels_at_last words old new s runs v w one two asked is_one is_two e few good =
     let bytes = strategy_text v one ++ strategy_text w two in
-    ends_so (Duels bytes) (SaysDuel one two) s (λ reply. of_texts v w one two reply is_one is_two) (completes words old new s runs Duel bytes asked refl e few good)
+    ends_so (Duels bytes) (SaysDuel one two) s (λ reply. of_texts v w one two reply is_one is_two)
+    (completes words old new s runs Duel bytes asked refl e few good)

@@ -75,7 +75,8 @@ ShrinksWell words old new s = (summary : Bool) → request_of words ≡ Some (Sh
 -- what `check` prints: the text of the classes of the grouping, which are lossless, or their summary
 abbrev pub ChecksWell : List (List ℕ) → Ends → Ends → Status → Type 0
 ChecksWell words old new s =
-    (grouping : Grouping) (summary : Bool) → request_of words ≡ Some (Check grouping summary) → s ≡ status.Ok → PrintsSo (OfGame (IsChecked grouping summary)) old new
+    (grouping : Grouping) (summary : Bool) → request_of words ≡ Some (Check grouping summary) → s ≡ status.Ok
+    → PrintsSo (OfGame (IsChecked grouping summary)) old new
 
 -- the file of the made game; or the summary of the signal classes of its game, which is then an accepted one
 abbrev pub IsMade : Kind → (ranks suits cap : ℕ) → Bool → List ℕ → Type 0
@@ -98,16 +99,19 @@ pub record OfClasses (grouping : Grouping) (says : FileGame → ClassLists → L
 
 -- what `solve` prints: the strategy file of two plans of which neither player gains on raw cards
 abbrev pub SolvesWell : List (List ℕ) → Ends → Ends → Status → Type 0
-SolvesWell words old new s = (grouping : Grouping) → request_of words ≡ Some (Solve grouping) → s ≡ status.Ok → PrintsSo (OfGame (OfClasses grouping IsSolved)) old new
+SolvesWell words old new s = (grouping : Grouping) → request_of words ≡ Some (Solve grouping) → s ≡ status.Ok
+    → PrintsSo (OfGame (OfClasses grouping IsSolved)) old new
 
 -- what `play` prints: the strategy file of both players' plans after so many turns of fictitious play
 abbrev pub PlaysWell : List (List ℕ) → Ends → Ends → Status → Type 0
 PlaysWell words old new s =
-    (grouping : Grouping) (turns : ℕ) → request_of words ≡ Some (Play grouping turns) → s ≡ status.Ok → PrintsSo (OfGame (OfClasses grouping (IsPlayed turns))) old new
+    (grouping : Grouping) (turns : ℕ) → request_of words ≡ Some (Play grouping turns) → s ≡ status.Ok
+    → PrintsSo (OfGame (OfClasses grouping (IsPlayed turns))) old new
 
 -- what `path` prints: the lines of the path on which `solve` finds its plans
 abbrev pub PathsWell : List (List ℕ) → Ends → Ends → Status → Type 0
-PathsWell words old new s = (grouping : Grouping) → request_of words ≡ Some (Path grouping) → s ≡ status.Ok → PrintsSo (OfGame (OfClasses grouping IsPathShown)) old new
+PathsWell words old new s = (grouping : Grouping) → request_of words ≡ Some (Path grouping) → s ≡ status.Ok
+    → PrintsSo (OfGame (OfClasses grouping IsPathShown)) old new
 
 -- The bytes are the text, in version 1 or 2, of a strategy that passes all checks of a strategy file. Its classes are lossless, and its three numbers
 -- are the value of its two plans over raw cards and their gaps: no strategy of a player, using any raw cards, gains more than the gap that is stated for
@@ -117,7 +121,8 @@ pub record OfConfirmed (says : Strategy → List ℕ → Type 0) (bytes text : L
   pub accepted : Reads bytes (Ok strategy)
   pub written : IsTextOf bytes strategy
   pub confirmed : IsConfirmed strategy
-  pub on_raw_cards : IsVerdict (frame_in strategy.game) (raw_plan strategy strategy.one) (raw_plan strategy strategy.two) (over strategy.numbers.value) (over strategy.numbers.gap1)
+  pub on_raw_cards : IsVerdict (frame_in strategy.game) (raw_plan strategy strategy.one) (raw_plan strategy strategy.two) (over strategy.numbers.value)
+      (over strategy.numbers.gap1)
       (over strategy.numbers.gap2)
   pub said : says strategy text
 
@@ -128,7 +133,8 @@ EvaluatesWell words old new s = request_of words ≡ Some Evaluate → s ≡ sta
 -- what `query` prints: the player's mixture at the point and the raw signal that the words name, and his gap
 abbrev pub QueriesWell : List (List ℕ) → Ends → Ends → Status → Type 0
 QueriesWell words old new s =
-    (player : ℕ) (line signal : List ℕ) → request_of words ≡ Some (Query player line signal) → s ≡ status.Ok → PrintsSo (OfConfirmed (λ t text. IsQueried t player line signal text)) old new
+    (player : ℕ) (line signal : List ℕ) → request_of words ≡ Some (Query player line signal) → s ≡ status.Ok
+    → PrintsSo (OfConfirmed (λ t text. IsQueried t player line signal text)) old new
 
 -- what `upgrade` prints: the text in version 2
 abbrev pub UpgradesWell : List (List ℕ) → Ends → Ends → Status → Type 0
@@ -172,7 +178,8 @@ pub record OfTwo (says : Strategy → Strategy → List ℕ → Type 0) (bytes t
 
 -- the lines of the numbers of player 1's plan of the first against player 2's of the second, and of what each raw signal of round 1 is worth to player 1
 abbrev pub IsDuelled : Strategy → Strategy → List ℕ → Type 0
-IsDuelled one two text = (n : Numbers) × AreOnRawCards one two n × ((hands : List Parts) × AreHands one two hands × (text ≡ verdict_text n ++ hands_text one.game.deck (rules_of one.game) hands))
+IsDuelled one two text = (n : Numbers) × AreOnRawCards one two n × ((hands : List Parts) × AreHands one two hands
+    × (text ≡ verdict_text n ++ hands_text one.game.deck (rules_of one.game) hands))
 
 -- what `duel` prints
 abbrev pub DuelsWell : List (List ℕ) → Ends → Ends → Status → Type 0
@@ -207,12 +214,14 @@ NothingFailed old new = (Rose old.read_faults new.read_faults → ⊥) × (Rose 
 -- well, with a text that is said; without memory; or at the status of a refusal that is said
 abbrev pub EndsSo : (Reply → Type 0) → Status → Type 0
 EndsSo says s =
-    ((s ≡ status.Ok) × ((text : List ℕ) × says (Prints text))) ⊎ ((s ≡ status.Memory) ⊎ ((why : Refusal) × says (Refuses why) × (status_of (cause_of why) ≡ s)))
+    ((s ≡ status.Ok) × ((text : List ℕ) × says (Prints text))) ⊎ ((s ≡ status.Memory)
+    ⊎ ((why : Refusal) × says (Refuses why) × (status_of (cause_of why) ≡ s)))
 
 -- over any bytes that are not too many, a task that reads them ends so as it says of them
 abbrev pub Completes : List (List ℕ) → Ends → Ends → Status → Type 0
 Completes words old new s =
-    (task : Task) (bytes : List ℕ) → request_of words ≡ Some task → reads task ≡ true → old.left ≡ Some bytes → length bytes ≤ most_bytes → NothingFailed old new
+    (task : Task) (bytes : List ℕ) → request_of words ≡ Some task → reads task ≡ true → old.left ≡ Some bytes → length bytes ≤ most_bytes
+    → NothingFailed old new
     → EndsSo (Asks task bytes) s
 
 -- the signal classes of the game are not lossless
@@ -224,7 +233,8 @@ pub record AreUnlike (g : FileGame) : Type 0 where
 -- over an accepted game file, which is not too long, a task ends so
 abbrev pub CompletesGame : Task → (FileGame → Status → Type 0) → List (List ℕ) → Ends → Ends → Status → Type 0
 CompletesGame task ends words old new s =
-    (bytes : List ℕ) (g : FileGame) → request_of words ≡ Some task → old.left ≡ Some bytes → length bytes ≤ most_bytes → read_at bytes ≡ Ok g → NothingFailed old new
+    (bytes : List ℕ) (g : FileGame) → request_of words ≡ Some task → old.left ≡ Some bytes → length bytes ≤ most_bytes → read_at bytes ≡ Ok g
+    → NothingFailed old new
     → ends g s
 
 -- well, or without memory
@@ -244,25 +254,30 @@ CompletesStrategy task says words old new s =
 -- over the texts of two strategies, one behind the other and together not too long, `duel` ends so as it says of the two
 abbrev pub DuelsAtLast : List (List ℕ) → Ends → Ends → Status → Type 0
 DuelsAtLast words old new s =
-    (v w : Version) (one two : Strategy) → request_of words ≡ Some Duel → IsStrategy v one → IsStrategy w two → old.left ≡ Some (strategy_text v one ++ strategy_text w two)
+    (v w : Version) (one two : Strategy) → request_of words ≡ Some Duel → IsStrategy v one → IsStrategy w two
+    → old.left ≡ Some (strategy_text v one ++ strategy_text w two)
     → length (strategy_text v one ++ strategy_text w two) ≤ most_bytes → NothingFailed old new → EndsSo (SaysDuel one two) s
 
 -- over the text of a strategy and behind it that of a certificate, together not too long, `verify` ends so as it says of the two
 abbrev pub VerifiesAtLast : List (List ℕ) → Ends → Ends → Status → Type 0
 VerifiesAtLast words old new s =
-    (version : Version) (t : Strategy) (c : Stated) → request_of words ≡ Some Verify → IsStrategy version t → IsStated c → old.left ≡ Some (strategy_text version t ++ certificate_text c)
-    → length (strategy_text version t ++ certificate_text c) ≤ most_bytes → NothingFailed old new → EndsSo (λ reply. (d : Certificate) × (certificate_view d ≡ c) × SaysChecked t d reply) s
+    (version : Version) (t : Strategy) (c : Stated) → request_of words ≡ Some Verify → IsStrategy version t → IsStated c
+    → old.left ≡ Some (strategy_text version t ++ certificate_text c)
+    → length (strategy_text version t ++ certificate_text c) ≤ most_bytes → NothingFailed old new
+    → EndsSo (λ reply. (d : Certificate) × (certificate_view d ≡ c) × SaysChecked t d reply) s
 
 -- over the two lines that `certify` prints of a strategy's text, which are not too long, `verify` ends well, or without memory
 abbrev pub CertifiedAtLast : List (List ℕ) → Ends → Ends → Status → Type 0
 CertifiedAtLast words old new s =
-    (version : Version) (t : Strategy) (lines : List ℕ) → request_of words ≡ Some Verify → IsStrategy version t → OfConfirmed IsCertified (strategy_text version t) lines
+    (version : Version) (t : Strategy) (lines : List ℕ) → request_of words ≡ Some Verify → IsStrategy version t
+    → OfConfirmed IsCertified (strategy_text version t) lines
     → old.left ≡ Some lines → length lines ≤ most_bytes → NothingFailed old new → EndsWell s
 
 -- a task that reads nothing ends so as it says, whatever the source is
 abbrev pub MakesAtLast : List (List ℕ) → Ends → Ends → Status → Type 0
 MakesAtLast words old new s =
-    (task : Task) (bytes : List ℕ) → request_of words ≡ Some task → reads task ≡ false → (Rose old.write_faults new.write_faults → ⊥) → EndsSo (Asks task bytes) s
+    (task : Task) (bytes : List ℕ) → request_of words ≡ Some task → reads task ≡ false → (Rose old.write_faults new.write_faults → ⊥)
+    → EndsSo (Asks task bytes) s
 
 -- `make` without its summary ends well, or without memory
 abbrev pub FilesAtLast : List (List ℕ) → Ends → Ends → Status → Type 0

@@ -107,6 +107,7 @@ RunsTo words old new status.TooLong =
 RunsTo words old new status.Memory =
     TookInput words old new × (new.read_faults ≡ old.read_faults) × Quiet old new × Tells old new (codes "out of memory\n")
 RunsTo words old new status.WriteFault =
-    Asked words (λ task. ((text : List ℕ) × IsAnswered task old new (Prints text) × ((count : ℕ) × (count < length text) × Appends old.given new.given (take count text)))
+    Asked words (λ task. ((text : List ℕ) × IsAnswered task old new (Prints text)
+    × ((count : ℕ) × (count < length text) × Appends old.given new.given (take count text)))
     × Rose old.write_faults new.write_faults × Tells old new (codes "write fault\n"))
 RunsTo words old new s = Asked words (λ task. IsRefused task old new s)

@@ -10,7 +10,8 @@ abbrev pub invariant-loop-point : goal.invariant-loop-point
 invariant-loop-point l = let f = frame_of l.side.form.now in let lists = lists_of l.side.form.now in record {
   within : l.point ≤ point_count f;
   laid_out : IsLaidOut f lists l.table;
-  known : IsBestFrom f lists l.side.player (table_of f lists l.side.player (lifted f lists l.side.other.now) l.table.values.items) (moves_of f lists l.table.picks.items) l.point;
+  known : IsBestFrom f lists l.side.player (table_of f lists l.side.player (lifted f lists l.side.other.now) l.table.values.items)
+      (moves_of f lists l.table.picks.items) l.point;
   room : HasRoom f lists l.scratch;
 }
 

@@ -10,5 +10,6 @@ use Rattle.gs_best.proofs.merging.merge_moves.Given as goal
 abbrev pub invariant-loop-choice : goal.invariant-loop-choice
 invariant-loop-choice l = let f = frame_of l.side.form.now in let lists = lists_of l.side.form.now in record {
   room : HasRoom f lists l.scratch;
-  so_far : 0 < l.choice → IsMergedBy l.choice f lists l.side.player (class_worth f lists (table_of f lists l.side.player (lifted f lists l.side.other.now) l.table.values.items)) l.point l.scratch.best.items l.scratch.moves.items;
+  so_far : 0 < l.choice → IsMergedBy l.choice f lists l.side.player (class_worth f lists
+      (table_of f lists l.side.player (lifted f lists l.side.other.now) l.table.values.items)) l.point l.scratch.best.items l.scratch.moves.items;
 }

@@ -10,4 +10,5 @@ use Rattle.gs_best.proofs.rows.sum_below.Given as goal
 abbrev pub invariant-loop-class : goal.invariant-loop-class
 invariant-loop-class l = let f = frame_of l.form in let lists = lists_of l.form in
     (k : ℕ) → k < l.class
-    → get_or l.sums k (pos 0) ≡ sum_z (λ r. if ancestor f l.to l.from r == first_member lists l.from (k + 1) then value_at lists l.to l.values l.start r else pos 0) (signals_in f l.to)
+    → get_or l.sums k (pos 0) ≡ sum_z (λ r. if ancestor f l.to l.from r == first_member lists l.from (k + 1) then value_at lists l.to l.values l.start r
+    else pos 0) (signals_in f l.to)

@@ -7,4 +7,5 @@ use Rattle.gs_best.specs.Sizes.{points_in}
 use Rattle.gs_best.proofs.work.round_sizes.Given as goal
 
 abbrev pub invariant-loop-before : goal.invariant-loop-before
-invariant-loop-before l = map size_of l.sizes.items ≡ map {B = ℕ × ℕ} (λ round. (points_in (frame_of l.form) round, class_count (lists_of l.form) round)) (range_with_len 1 l.before)
+invariant-loop-before l = map size_of l.sizes.items ≡ map {B = ℕ × ℕ} (λ round. (points_in (frame_of l.form) round, class_count (lists_of l.form) round))
+    (range_with_len 1 l.before)

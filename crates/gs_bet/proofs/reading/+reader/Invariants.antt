@@ -18,7 +18,8 @@ decreases-act_of l = 4 * l.left
 
 abbrev pub invariant-moves_of-loop-moves : goal.invariant-moves_of-loop-moves
 invariant-moves_of-loop-moves l = record {
-  read : moves_at (inner_at (act_at l.left)) (26 - length l.moves.items) (plain_moves l.moves.items) l.rest ≡ moves_at (inner_at (act_at l.left)) 26 none l.bytes;
+  read : moves_at (inner_at (act_at l.left)) (26 - length l.moves.items) (plain_moves l.moves.items) l.rest
+      ≡ moves_at (inner_at (act_at l.left)) 26 none l.bytes;
   room : length l.moves.items < 26;
 }
 

@@ -8,7 +8,8 @@ decreases-push_groups l = l.size
 
 abbrev pub invariant-loop-card : goal.invariant-loop-card
 invariant-loop-card l = record {
-  found : l.out.items ≡ l.fn.out.items ++ map (λ g. l.fn.front.items ++ g) (flat_map (groups_with (groups_above (l.size - 1)) l.fn.left.items) (range_with_len l.fn.least (l.card - l.fn.least)));
+  found : l.out.items ≡ l.fn.out.items ++ map (λ g. l.fn.front.items ++ g)
+      (flat_map (groups_with (groups_above (l.size - 1)) l.fn.left.items) (range_with_len l.fn.least (l.card - l.fn.least)));
   front_kept : l.front.items ≡ l.fn.front.items;
   left_kept : l.left.items ≡ l.fn.left.items;
   same_len : vec_len l.left ≡ vec_len l.fn.left;

@@ -7,4 +7,5 @@ use Rattle.gs_compare.proofs.hands.hands_text.Given as goal
 
 abbrev pub invariant-loop-signal : goal.invariant-loop-signal
 invariant-loop-signal l =
-    string_bytes l.text ≡ flat_map (λ s. hand_line (deck_of l.signals) (rules_of l.signals) s (get_or (map parts_of l.values) s (pos 0, pos 1))) (range_with_len 0 l.signal)
+    string_bytes l.text ≡ flat_map (λ s. hand_line (deck_of l.signals) (rules_of l.signals) s (get_or (map parts_of l.values) s (pos 0, pos 1)))
+    (range_with_len 0 l.signal)

@@ -8,6 +8,7 @@ use Rattle.gs_file.proofs.build.rounds_built.Given as goal
 
 abbrev pub invariant-loop-index : goal.invariant-loop-index
 invariant-loop-index l = record {
-  so_far : with_front (map round_of l.rounds.items) (each round_built (l.index + 1) (map ranged_view (drop l.index l.sizes))) ≡ each round_built 1 (map ranged_view l.sizes);
+  so_far : with_front (map round_of l.rounds.items) (each round_built (l.index + 1) (map ranged_view (drop l.index l.sizes)))
+      ≡ each round_built 1 (map ranged_view l.sizes);
   few : All HasFewCards l.rounds.items;
 }

@@ -7,7 +7,8 @@ use Rattle.gs_file.proofs.ranges.each_bonus.Given as goal
 
 abbrev pub invariant-loop-number : goal.invariant-loop-number
 invariant-loop-number l = record {
-  so_far : with_front l.bonuses.items (each (λ n. within (top Bonus) 1 9) (l.number-index + 1) (map (λ z. z) (drop l.number-index l.numbers))) ≡ each (λ n. within (top Bonus) 1 9) 1 l.numbers;
+  so_far : with_front l.bonuses.items (each (λ n. within (top Bonus) 1 9) (l.number-index + 1) (map (λ z. z) (drop l.number-index l.numbers)))
+      ≡ each (λ n. within (top Bonus) 1 9) 1 l.numbers;
   range : All (λ n. (0 < n) × (n ≤ 9)) l.bonuses.items;
   count : length l.bonuses.items ≡ l.number-index;
 }

@@ -8,6 +8,7 @@ use Rattle.gs_file.proofs.rounds.rounds_of.Given as goal
 
 abbrev pub invariant-loop-index : goal.invariant-loop-index
 invariant-loop-index l = record {
-  so_far : with_front (map round_view l.rounds.items) (each (round_at l.form) (l.index + 1) (map (λ t. table_view t.now) (drop l.index l.tables))) ≡ each (round_at l.form) 1 (map (λ t. table_view t.now) l.tables);
+  so_far : with_front (map round_view l.rounds.items) (each (round_at l.form) (l.index + 1) (map (λ t. table_view t.now) (drop l.index l.tables)))
+      ≡ each (round_at l.form) 1 (map (λ t. table_view t.now) l.tables);
   count : vec_len l.rounds ≡ l.index;
 }

@@ -24,8 +24,10 @@ invariant-push_act-loop-next l = record {
   same : text_at (move_lines (lines_from (plain_trees l.rest)) (string_bytes l.fn.out) (plain_moves (out-Act l.act).moves.items)) (target_of l.fn.at)
       ≡ text_at (move_lines (lines_from (plain_trees l.rest)) (string_bytes l.fn.out) (plain_moves (drop l.next-index l.next-items))) (target_of l.at);
   out : string_bytes l.out ≡ string_bytes l.fn.out;
-  within : IsAmong (move_points l.more.points (plain_moves (drop l.next-index l.next-items))) (move_ends l.more.ends (plain_moves (drop l.next-index l.next-items))) (target_of l.at);
+  within : IsAmong (move_points l.more.points (plain_moves (drop l.next-index l.next-items)))
+      (move_ends l.more.ends (plain_moves (drop l.next-index l.next-items))) (target_of l.at);
   room : MovesFollow (plain_trees l.rest) (plain_moves (drop l.next-index l.next-items)) 0 0;
   sound : (left : ℕ) × (are_sound left (plain_moves (drop l.next-index l.next-items)) ≡ true);
-  falls : moves_steps (steps_in (plain_trees l.rest)) (plain_moves (drop l.next-index l.next-items)) ≤ moves_steps (steps_in (plain_trees l.rest)) (plain_moves (out-Act l.act).moves.items);
+  falls : moves_steps (steps_in (plain_trees l.rest)) (plain_moves (drop l.next-index l.next-items))
+      ≤ moves_steps (steps_in (plain_trees l.rest)) (plain_moves (out-Act l.act).moves.items);
 }

@@ -17,8 +17,11 @@ decreases-follow_act l = moves_steps (steps_in (plain_trees l.rest.now)) (plain_
 
 abbrev pub invariant-follow_act-loop-next : goal.invariant-follow_act-loop-next
 invariant-follow_act-loop-next l = record {
-  same : follow_moves (follow_from (plain_trees l.rest)) l.more.points l.more.ends l.fn.before.points l.fn.before.ends (plain_moves (out-Act l.act).moves.items) l.letter l.text
-      ≡ follow_moves (follow_from (plain_trees l.rest)) l.more.points l.more.ends l.before.points l.before.ends (plain_moves (drop l.next-index l.next-items)) l.letter l.text;
+  same : follow_moves (follow_from (plain_trees l.rest)) l.more.points l.more.ends l.fn.before.points l.fn.before.ends
+      (plain_moves (out-Act l.act).moves.items) l.letter l.text
+      ≡ follow_moves (follow_from (plain_trees l.rest)) l.more.points l.more.ends l.before.points l.before.ends
+      (plain_moves (drop l.next-index l.next-items)) l.letter l.text;
   room : MovesFollow (plain_trees l.rest) (plain_moves (drop l.next-index l.next-items)) l.before.points l.before.ends;
-  falls : moves_steps (steps_in (plain_trees l.rest)) (plain_moves (drop l.next-index l.next-items)) ≤ moves_steps (steps_in (plain_trees l.rest)) (plain_moves (out-Act l.act).moves.items);
+  falls : moves_steps (steps_in (plain_trees l.rest)) (plain_moves (drop l.next-index l.next-items))
+      ≤ moves_steps (steps_in (plain_trees l.rest)) (plain_moves (out-Act l.act).moves.items);
 }

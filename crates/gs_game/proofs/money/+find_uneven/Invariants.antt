@@ -10,7 +10,8 @@ decreases-find_uneven l = bet_size (plain l.tree.now)
 
 abbrev pub invariant-loop-next : goal.invariant-loop-next
 invariant-loop-next l = record {
-  search : uneven_path l.fn.path.items l.put.one l.put.two (plain l.tree) ≡ uneven_move l.path.items l.put.one l.put.two (out-Act l.act).player (plain_moves (drop l.next-index l.next-items));
+  search : uneven_path l.fn.path.items l.put.one l.put.two (plain l.tree)
+      ≡ uneven_move l.path.items l.put.one l.put.two (out-Act l.act).player (plain_moves (drop l.next-index l.next-items));
   falls : moves_size (plain_moves (drop l.next-index l.next-items)) < bet_size (plain l.tree);
   fits : MovesFit l.put.one l.put.two (plain_moves (drop l.next-index l.next-items));
   path : l.path.items ≡ l.fn.path.items;

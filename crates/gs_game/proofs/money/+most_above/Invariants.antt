@@ -10,7 +10,8 @@ decreases-most_above l = bet_size (plain l.tree.now)
 
 abbrev pub invariant-loop-next : goal.invariant-loop-next
 invariant-loop-next l = record {
-  most : most_put (put_above l.above) l.put.one l.put.two (plain l.tree) ≡ max l.most (most_moved (put_above l.above) l.put.one l.put.two (out-Act l.act).player (plain_moves (drop l.next-index l.next-items)));
+  most : most_put (put_above l.above) l.put.one l.put.two (plain l.tree)
+      ≡ max l.most (most_moved (put_above l.above) l.put.one l.put.two (out-Act l.act).player (plain_moves (drop l.next-index l.next-items)));
   falls : moves_size (plain_moves (drop l.next-index l.next-items)) < bet_size (plain l.tree);
   fits : MovesFit l.put.one l.put.two (plain_moves (drop l.next-index l.next-items));
   small : l.most ≤ 2 ^ 24 + l.above;

@@ -17,9 +17,11 @@ decreases-walk_act l = steps_of (steps_in (plain_trees l.rest.now)) (plain_act l
 
 abbrev pub invariant-walk_act-loop-next : goal.invariant-walk_act-loop-next
 invariant-walk_act-loop-next l = record {
-  going : ActGoing (plain_trees l.rest) (out-Act l.act).player (plain_moves l.next-items) (plain_moves (drop l.next-index l.next-items)) l.place l.fn.walk.points.items l.walk.points.items
+  going : ActGoing (plain_trees l.rest) (out-Act l.act).player (plain_moves l.next-items)
+      (plain_moves (drop l.next-index l.next-items)) l.place l.fn.walk.points.items l.walk.points.items
       l.fn.walk.ends.items l.walk.ends.items l.arrows.items;
   choice : length l.arrows.items ≡ l.next-index;
   few : length l.next-items ≤ 26;
-  falls : moves_steps (steps_in (plain_trees l.rest)) (plain_moves (drop l.next-index l.next-items)) + 2 ≤ steps_of (steps_in (plain_trees l.rest)) (plain_act l.act);
+  falls : moves_steps (steps_in (plain_trees l.rest)) (plain_moves (drop l.next-index l.next-items)) + 2
+      ≤ steps_of (steps_in (plain_trees l.rest)) (plain_act l.act);
 }

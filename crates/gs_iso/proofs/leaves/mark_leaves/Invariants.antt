@@ -14,5 +14,6 @@ invariant-loop-deal l =
     record {
       done : l.marks.items ++ map (λ d. leaf_mark (leaf_of l.path d)) l.deal-iterator ≡ map leaf_mark (leaves g (signal_at g (round_count g) l.signal));
       light : All (λ (d : Deal). d.weight < 2 ^ 32) l.deal-iterator;
-      small : All (λ (d : Deal). unsigned_abs d.outcome < 256) l.deal-iterator → All (λ (d : Deal). unsigned_abs d.outcome < 256) (filter (λ (d : Deal). d.one == l.signal) (deals g));
+      small : All (λ (d : Deal). unsigned_abs d.outcome < 256) l.deal-iterator
+          → All (λ (d : Deal). unsigned_abs d.outcome < 256) (filter (λ (d : Deal). d.one == l.signal) (deals g));
     }

@@ -5,4 +5,5 @@ use Rattle.gs_lossless.specs.Stops.{AreAlikeBelow}
 use Rattle.gs_lossless.proofs.checking.first_unlike.Given as goal
 
 abbrev pub invariant-loop-before : goal.invariant-loop-before
-invariant-loop-before l = (r : ℕ) → 0 < r → r ≤ l.before → AreAlikeBelow (frame_of (rules_of l.grouped.signals.now)) l.grouped.classes.now.lists r (signal_count (frame_of (rules_of l.grouped.signals.now)) r)
+invariant-loop-before l = (r : ℕ) → 0 < r → r ≤ l.before → AreAlikeBelow (frame_of (rules_of l.grouped.signals.now)) l.grouped.classes.now.lists r
+    (signal_count (frame_of (rules_of l.grouped.signals.now)) r)

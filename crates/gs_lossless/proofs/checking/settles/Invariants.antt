@@ -7,4 +7,5 @@ use Rattle.gs_lossless.specs.declared.sides.Side.TheVariants.{Children}
 use Rattle.gs_lossless.proofs.checking.settles.Given as goal
 
 abbrev pub invariant-loop-round : goal.invariant-loop-round
-invariant-loop-round l = (r : ℕ) → 0 < r → r < l.round → AgreeBelow (frame_of (rules_of l.grouped.signals.now)) l.grouped.classes.now.lists Children r (length (signals (rules_of l.grouped.signals.now) r))
+invariant-loop-round l = (r : ℕ) → 0 < r → r < l.round → AgreeBelow (frame_of (rules_of l.grouped.signals.now)) l.grouped.classes.now.lists Children r
+    (length (signals (rules_of l.grouped.signals.now) r))

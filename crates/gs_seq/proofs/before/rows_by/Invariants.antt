@@ -8,5 +8,6 @@ use Rattle.gs_seq.proofs.before.rows_by.Given as goal
 abbrev pub invariant-loop-before : goal.invariant-loop-before
 invariant-loop-before l = record {
   long : vec_len l.rows ≡ l.before;
-  row : (k : ℕ) (d : Vec Pair Global) → k < l.before → IsRow (frame_in l.at.signals.now.game.now) l.at.classes.now.lists l.at.round (k + 1) (get_or l.rows.items k d).items;
+  row : (k : ℕ) (d : Vec Pair Global) → k < l.before → IsRow (frame_in l.at.signals.now.game.now) l.at.classes.now.lists l.at.round (k + 1)
+      (get_or l.rows.items k d).items;
 }

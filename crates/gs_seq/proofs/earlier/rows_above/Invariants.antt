@@ -8,5 +8,6 @@ use Rattle.gs_seq.proofs.earlier.rows_above.Given as goal
 abbrev pub invariant-loop-before : goal.invariant-loop-before
 invariant-loop-before l = record {
   long : vec_len l.above ≡ l.before;
-  row : (k : ℕ) (d : Vec Pair Global) → k < l.before → IsRow (frame_in l.lossless.signals.now.game.now) l.lossless.classes.now.lists l.round (k + 1) (get_or l.above.items k d).items;
+  row : (k : ℕ) (d : Vec Pair Global) → k < l.before → IsRow (frame_in l.lossless.signals.now.game.now) l.lossless.classes.now.lists l.round (k + 1)
+      (get_or l.above.items k d).items;
 }

@@ -15,5 +15,6 @@ invariant-loop-round l = record {
   long : length l.rows.items + l.round ≡ last_round (frame_in l.lossless.signals.now.game.now) + 1;
   filled : 0 < length l.rows.items;
   each : (k : ℕ) (d : Vec (Vec Pair Global) Global) → k < length l.rows.items
-      → AreRowsIn (frame_in l.lossless.signals.now.game.now) l.lossless.classes.now.lists (last_round (frame_in l.lossless.signals.now.game.now) - k) (get_or l.rows.items k d).items;
+      → AreRowsIn (frame_in l.lossless.signals.now.game.now) l.lossless.classes.now.lists (last_round (frame_in l.lossless.signals.now.game.now) - k)
+      (get_or l.rows.items k d).items;
 }

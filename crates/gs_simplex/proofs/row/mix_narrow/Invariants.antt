@@ -5,7 +5,8 @@ use Rattle.gs_simplex.proofs.row.mix_narrow.Given as goal
 
 abbrev pub invariant-loop-k : goal.invariant-loop-k
 invariant-loop-k l = record {
-  mixed : (h : ℕ) → h < l.k → at l.row (slice_index l.places h) ≡ l.own *ℤ at l.fn.row (slice_index l.places h) -ℤ l.far *ℤ at l.lead (slice_index l.places h);
+  mixed : (h : ℕ) → h < l.k → at l.row (slice_index l.places h) ≡ l.own *ℤ at l.fn.row (slice_index l.places h) -ℤ l.far
+      *ℤ at l.lead (slice_index l.places h);
   narrow : (h : ℕ) → h < l.k → IsNarrow (at l.row (slice_index l.places h));
   left : (j : ℕ) → ((h : ℕ) → h < l.k → slice_index l.places h ≢ j) → at l.row j ≡ at l.fn.row j;
 }

@@ -4,4 +4,5 @@ use Rattle.gs_simplex.specs.Table.{table_rows}
 use Rattle.gs_simplex.proofs.tests.has_feasible_sides.Given as goal
 
 abbrev pub invariant-loop-place : goal.invariant-loop-place
-invariant-loop-place l = (k i j : ℕ) → k < l.place → slice_index_or l.opening k (0, 0) ≡ (i + 1, j + 1) → ¬ IsFree l.p j → pos 0 ≤ℤ table_rows l.p l.numbers i l.p.cols
+invariant-loop-place l = (k i j : ℕ) → k < l.place → slice_index_or l.opening k (0, 0) ≡ (i + 1, j + 1) → ¬ IsFree l.p j
+    → pos 0 ≤ℤ table_rows l.p l.numbers i l.p.cols

@@ -9,5 +9,6 @@ use Rattle.gs_solve.proofs.payoffs.add_row.Given as goal
 abbrev pub invariant-loop-pair : goal.invariant-loop-pair
 invariant-loop-pair l = record {
   on : l.pair-iterator ≡ drop (passed l.fn.row l.pair-iterator) l.fn.row;
-  added : AreAdded (λ k. sum_z (pair_adds (frame_of l.form) (lists_of l.form) l.end l.class k) (take (passed l.fn.row l.pair-iterator) l.fn.row)) l.initial.sums l.sums;
+  added : AreAdded (λ k. sum_z (pair_adds (frame_of l.form) (lists_of l.form) l.end l.class k) (take (passed l.fn.row l.pair-iterator) l.fn.row))
+      l.initial.sums l.sums;
 }

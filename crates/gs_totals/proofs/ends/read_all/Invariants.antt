@@ -11,4 +11,5 @@ use Rattle.gs_totals.proofs.ends.read_all.Given as goal
 
 abbrev pub invariant-loop-end : goal.invariant-loop-end
 invariant-loop-end l = let f = frame_of l.ledger.side.now.form.now in let lists = lists_of l.ledger.side.now.form.now in
-    (z c : ℕ) → z < l.end → IsClass lists (round_of f (at_end z)) c → get_or l.sums (end_start f lists z + (c - 1)) (pos 0) ≡ end_sum f lists l.ledger.side.now.player (class_plan f lists l.ledger.side.now.other.now) z c
+    (z c : ℕ) → z < l.end → IsClass lists (round_of f (at_end z)) c → get_or l.sums (end_start f lists z + (c - 1)) (pos 0)
+    ≡ end_sum f lists l.ledger.side.now.player (class_plan f lists l.ledger.side.now.other.now) z c

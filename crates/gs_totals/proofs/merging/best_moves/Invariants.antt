@@ -6,4 +6,5 @@ use Rattle.gs_totals.proofs.Readings.{totals_at}
 use Rattle.gs_totals.proofs.merging.best_moves.Given as goal
 
 abbrev pub invariant-loop-choice : goal.invariant-loop-choice
-invariant-loop-choice l = 0 < l.choice → AreGreatest (frame_in l.at.ledger) (lists_in l.at.ledger) (total_worth (frame_in l.at.ledger) (lists_in l.at.ledger) (totals_at l.at)) l.at.point l.choice l.best l.moves
+invariant-loop-choice l = 0 < l.choice → AreGreatest (frame_in l.at.ledger) (lists_in l.at.ledger)
+    (total_worth (frame_in l.at.ledger) (lists_in l.at.ledger) (totals_at l.at)) l.at.point l.choice l.best l.moves
