@@ -1,5 +1,5 @@
 -- The groups of one player beside the signal of another.
-use Rattle.std.proofs.Common.{◌≡◌, ℕ, zero, suc, ◌+◌, ◌-◌, ◌*◌, ◌++◌, List, [], ◌∷◌, get_or, refl, sym, ap, ◌∙◌, arith, cond, eqb}
+use Rattle.std.proofs.Common.{◌≡◌, ℕ, suc, ◌+◌, ◌-◌, ◌*◌, ◌++◌, List, [], ◌∷◌, get_or, refl, sym, ap, ◌∙◌, arith, cond, eqb}
 use Rattle.std.specs.Prelude.{count_by, ◌==◌}
 use Rattle.std.proofs.lemmas.List.Sums.{sum_by-append}
 use Rattle.gs_model.specs.Cards.{ways, left_after, left_from}
@@ -51,5 +51,11 @@ own_ways-push left (q ∷ s) p =
     ∙ ap (λ l. ways left q.own * (own_ways (left_after left q.own) s * ways l p.own)) (left_twice left q.own (own_cards s)) ∙ omega arith
 
 -- the copies of a kind left beside another player's own cards, the public cards and earlier own cards
-pub beside_read : (left held board before : List ℕ) (card : ℕ) → get_or (left_after (left_after (left_after left held) board) before) card 0 ≡ get_or left card 0 - times card held - times card board - times card before
-beside_read left held board before card = omega (arith, copies_after (left_after (left_after left held) board) before card, copies_after (left_after left held) board card, copies_after left held card)
+pub beside_read : (left held board before : List ℕ) (card : ℕ) → get_or (left_after (left_after (left_after left held) board) before) card 0
+    ≡ get_or left card 0 - times card held - times card board - times card before
+beside_read left held board before card = omega (
+  arith,
+  copies_after (left_after (left_after left held) board) before card,
+  copies_after (left_after left held) board card,
+  copies_after left held card,
+)

@@ -29,7 +29,8 @@ code_above k a [] h = omega (arith, ap (λ n. (a + 1) * n) (pow-zero k))
 code_above k a (x ∷ xs) h =
     let rest = code_above k (a * k + x) xs h.1 in
     let more : (a + 1) * k ≡ a * k + k = omega arith in
-    let within : (a * k + x + 1) * k ^ length xs ≤ ((a + 1) * k) * k ^ length xs = product_small (a * k + x + 1) (k ^ length xs) ((a + 1) * k) (k ^ length xs) (omega (arith, h.0, more)) (omega arith) in
+    let within : (a * k + x + 1) * k ^ length xs ≤ ((a + 1) * k) * k ^ length xs =
+    product_small (a * k + x + 1) (k ^ length xs) ((a + 1) * k) (k ^ length xs) (omega (arith, h.0, more)) (omega arith) in
     let next : (a + 1) * k ^ suc (length xs) ≡ (a + 1) * (k * k ^ length xs) = ap (λ n. (a + 1) * n) (pow-succ' k (length xs)) in
     let one : ((a + 1) * k) * k ^ length xs ≡ (a + 1) * (k * k ^ length xs) = omega arith in
     omega (arith, rest, within, next, one)
@@ -77,7 +78,8 @@ digits k a b c d l m e = ⊎_elim
         let more : (a + 1) * k ≡ a * k + k = omega arith in
         omega (arith, r, more, e)
 
-code_same : (k a b : ℕ) (xs ys : List ℕ) → length xs ≡ length ys → AllByRecursion (λ c. c < k) xs → AllByRecursion (λ c. c < k) ys → code_behind k a xs ≡ code_behind k b ys → (a ≡ b) × (xs ≡ ys)
+code_same : (k a b : ℕ) (xs ys : List ℕ) → length xs ≡ length ys → AllByRecursion (λ c. c < k) xs → AllByRecursion (λ c. c < k) ys
+    → code_behind k a xs ≡ code_behind k b ys → (a ≡ b) × (xs ≡ ys)
 code_same k a b [] [] l h i e = (e, refl)
 code_same k a b [] (y ∷ ys) l h i e = absurd (omega (arith, l))
 code_same k a b (x ∷ xs) [] l h i e = absurd (omega (arith, l))
@@ -87,7 +89,8 @@ code_same k a b (x ∷ xs) (y ∷ ys) l h i e =
     (d.0, ap (λ z. z ∷ xs) d.1 ∙ ap (λ zs. y ∷ zs) r.1)
 
 -- lists of one length with one number are one
-pub same_code : (k : ℕ) (xs ys : List ℕ) → length xs ≡ length ys → All (λ c. c < k) xs → All (λ c. c < k) ys → code_behind k 0 xs ≡ code_behind k 0 ys → xs ≡ ys
+pub same_code : (k : ℕ) (xs ys : List ℕ) → length xs ≡ length ys → All (λ c. c < k) xs → All (λ c. c < k) ys → code_behind k 0 xs ≡ code_behind k 0 ys
+    → xs ≡ ys
 same_code k xs ys l h i e = (code_same k 0 0 xs ys l (recursion_from_All (λ c. c < k) xs h) (recursion_from_All (λ c. c < k) ys i) e).1
 
 -- a list of so many cards of the deck
@@ -113,11 +116,13 @@ none_seen count = go (nat_lt count count) refl
 pub none_in_table : (key : ℕ → List ℕ) (count k size m : ℕ) (last : List ℕ) → last ≡ replicate m count → m ≡ k ^ size → IsTableOf key 0 count k size last
 none_in_table key count k size m last e w = record {
   wide = ap (λ (x : List ℕ). length x) e ∙ length-replicate m count ∙ w;
-  found = λ b h. ap (λ (x : List ℕ). seen_last count (get_or x (code_behind k 0 b) 0)) e ∙ ap (seen_last count) (get_or-replicate m (code_behind k 0 b) count 0 (board_in k size m b h w)) ∙ none_seen count;
+  found = λ b h. ap (λ (x : List ℕ). seen_last count (get_or x (code_behind k 0 b) 0)) e
+      ∙ ap (seen_last count) (get_or-replicate m (code_behind k 0 b) count 0 (board_in k size m b h w)) ∙ none_seen count;
 }
 
 -- one place more
-pub table_more : (key : ℕ → List ℕ) (n count k size : ℕ) (last : List ℕ) → IsTableOf key n count k size last → n < count → IsBoardOf k size (key n) → IsTableOf key (n + 1) count k size (set last (code_behind k 0 (key n)) n)
+pub table_more : (key : ℕ → List ℕ) (n count k size : ℕ) (last : List ℕ) → IsTableOf key n count k size last → n < count → IsBoardOf k size (key n)
+    → IsTableOf key (n + 1) count k size (set last (code_behind k 0 (key n)) n)
 table_more key n count k size last t l h =
     let next : suc n ≡ n + 1 = omega arith in
     let here : code_behind k 0 (key n) < length last = board_in k size (length last) (key n) h t.wide in
@@ -126,7 +131,8 @@ table_more key n count k size last t l h =
       found = λ b i. go b i here (pointwise nat_eq (key n) b) refl ∙ ap (λ k. last_place key k b) next;
     }
   where
-    go : (b : List ℕ) → IsBoardOf k size b → code_behind k 0 (key n) < length last → (t : Bool) → pointwise nat_eq (key n) b ≡ t → seen_last count (get_or (set last (code_behind k 0 (key n)) n) (code_behind k 0 b) 0) ≡ cond t (Some n) (last_place key n b)
+    go : (b : List ℕ) → IsBoardOf k size b → code_behind k 0 (key n) < length last → (t : Bool) → pointwise nat_eq (key n) b ≡ t
+        → seen_last count (get_or (set last (code_behind k 0 (key n)) n) (code_behind k 0 b) 0) ≡ cond t (Some n) (last_place key n b)
     go b i here true e =
         let same : key n ≡ b = equal (key n) b e in
         ap (λ x. seen_last count (get_or (set last (code_behind k 0 (key n)) n) (code_behind k 0 x) 0)) (sym same)
@@ -137,14 +143,16 @@ table_more key n count k size last t l h =
         ap (seen_last count) (get_or-set_other last (code_behind k 0 (key n)) (code_behind k 0 b) n 0 (λ e. ne (sym e))) ∙ t.found b i
 
 -- the public cards of a signal are a board of the deck
-pub shown_board : (g : Game) (d : DeckValue) (paths owns publics : List ℕ) (own public i : ℕ) → IsDeck d → d.counts ≡ g.copies → AreHands g (round_count g) paths owns publics own public → i < last_count g → IsBoardOf (kinds d) public (public_cards (signal_at g (round_count g) i))
+pub shown_board : (g : Game) (d : DeckValue) (paths owns publics : List ℕ) (own public i : ℕ) → IsDeck d → d.counts ≡ g.copies
+    → AreHands g (round_count g) paths owns publics own public → i < last_count g → IsBoardOf (kinds d) public (public_cards (signal_at g (round_count g) i))
 shown_board g d paths owns publics own public i deck e h l =
     let counted : length g.copies ≡ kinds d = ap (λ (x : List ℕ). length x) (sym e) ∙ deck.counted in
     let P : ℕ → Type 0 = λ n. All (λ c. c < n) (public_cards (signal_at g (round_count g) i)) in
     record { long = h.public_each i l; of_deck = subst P counted (dealt g (round_count g) i (omega arith) l).public_in }
 
 -- what a read of the table gives for the next place
-pub table_read : (key : ℕ → List ℕ) (n count k size code entry : ℕ) (last : List ℕ) → IsTableOf key n count k size last → IsBoardOf k size (key n) → code ≡ code_behind k 0 (key n) → entry ≡ get_or last code entry → seen_last count entry ≡ last_place key n (key n)
+pub table_read : (key : ℕ → List ℕ) (n count k size code entry : ℕ) (last : List ℕ) → IsTableOf key n count k size last → IsBoardOf k size (key n)
+    → code ≡ code_behind k 0 (key n) → entry ≡ get_or last code entry → seen_last count entry ≡ last_place key n (key n)
 table_read key n count k size code entry last t h e r =
     let within : code < length last = omega (arith, e, board_in k size (length last) (key n) h t.wide) in
     ap (seen_last count) (r ∙ get_or_default_zero last code entry within ∙ ap (λ i. get_or last i 0) e) ∙ t.found (key n) h

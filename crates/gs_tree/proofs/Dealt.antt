@@ -23,9 +23,11 @@ pub record IsShown (kinds : ℕ) (r : Round) (p : Seen) : Type 0 where
 
 pub length-left_by : (left : List ℕ) (s : Signal) → length (left_by left s) ≡ length left
 length-left_by left [] = refl
-length-left_by left (p ∷ s) = length-left_by (left_after (left_after left p.own) p.public) s ∙ length-taken (left_after left p.own) p.public ∙ length-taken left p.own
+length-left_by left (p ∷ s) = length-left_by (left_after (left_after left p.own) p.public) s ∙ length-taken (left_after left p.own) p.public
+    ∙ length-taken left p.own
 
-showing_is : (left own public : List ℕ) (r : Round) → IsGroup left r.private own → IsGroup (left_after left own) r.public public → IsShown (length left) r (showing own public)
+showing_is : (left own public : List ℕ) (r : Round) → IsGroup left r.private own → IsGroup (left_after left own) r.public public
+    → IsShown (length left) r (showing own public)
 showing_is left own public r a b =
     let P : ℕ → Type 0 = λ n. All (λ c. c < n) public in
     record {
@@ -39,7 +41,8 @@ showings_are : (left : List ℕ) (r : Round) → AllByRecursion (IsShown (length
 showings_are left r =
     every-flat_map (IsShown (length left) r) (λ own. map (showing own) (groups (left_after left own) r.public)) (IsGroup left r.private)
     (λ own a. every-map (IsShown (length left) r) (showing own) (groups (left_after left own) r.public)
-    (every-over (IsGroup (left_after left own) r.public) (λ public. IsShown (length left) r (showing own public)) (λ public b. showing_is left own public r a b) (groups (left_after left own) r.public)
+    (every-over (IsGroup (left_after left own) r.public) (λ public. IsShown (length left) r (showing own public))
+    (λ public b. showing_is left own public r a b) (groups (left_after left own) r.public)
     (recursion_from_All (IsGroup (left_after left own) r.public) (groups (left_after left own) r.public) (groups_are_groups (left_after left own) r.public))))
     (groups left r.private) (recursion_from_All (IsGroup left r.private) (groups left r.private) (groups_are_groups left r.private))
 
@@ -50,13 +53,15 @@ trivially (x ∷ xs) = (tt, trivially xs)
 nothing : Seen
 nothing = record { own = []; public = [] }
 
-pub last_is_shown : (g : Game) (round i : ℕ) → 0 < round → i < length (signals g round) → IsShown (length g.copies) (round_at g round) (last_seen (signal_at g round i))
+pub last_is_shown : (g : Game) (round i : ℕ) → 0 < round → i < length (signals g round)
+    → IsShown (length g.copies) (round_at g round) (last_seen (signal_at g round i))
 last_is_shown g zero i some l = absurd (omega arith)
 last_is_shown g (suc r) i some l =
     let P : Seen → Type 0 = IsShown (length g.copies) (round_at g (suc r)) in
     let all : AllByRecursion P (flat_map (shows_of g r) (signals g r)) =
     every-flat_map P (shows_of g r) (λ (s : Signal). Unit {0})
-    (λ s u. let Q : ℕ → Type 0 = λ n. AllByRecursion (IsShown n (round_at g (suc r))) (shows_of g r s) in subst Q (length-left_by g.copies s) (showings_are (left_by g.copies s) (round_at g (suc r))))
+    (λ s u. let Q : ℕ → Type 0 = λ n. AllByRecursion (IsShown n (round_at g (suc r))) (shows_of g r s) in
+    subst Q (length-left_by g.copies s) (showings_are (left_by g.copies s) (round_at g (suc r))))
     (signals g r) (trivially (signals g r)) in
     let R : List Seen → Type 0 = λ xs. AllByRecursion P xs in
     let here : All P (map last_seen (signals g (suc r))) = All-from_recursion P (map last_seen (signals g (suc r))) (subst R (sym (seen_grown g r)) all) in

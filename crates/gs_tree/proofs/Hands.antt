@@ -50,12 +50,15 @@ dealt g (suc n) i le l =
     record {
       own_in = subst P (sym own) (All-append (λ c. c < length g.copies) (own_cards front) last.own r.own_in h.own_in);
       public_in = subst P (sym public) (All-append (λ c. c < length g.copies) (public_cards front) last.public r.public_in h.public_in);
-      own_n = ap (λ (x : List ℕ). length x) own ∙ length-append (own_cards front) last.own ∙ omega (arith, r.own_n, h.own_counted, ap (λ (r : Round). r.private) at, privates, ap (λ k. own_count (take k g.rounds)) next);
-      public_n = ap (λ (x : List ℕ). length x) public ∙ length-append (public_cards front) last.public ∙ omega (arith, r.public_n, h.public_counted, ap (λ (r : Round). r.public) at, publics, ap (λ k. public_count (take k g.rounds)) next);
+      own_n = ap (λ (x : List ℕ). length x) own ∙ length-append (own_cards front) last.own
+          ∙ omega (arith, r.own_n, h.own_counted, ap (λ (r : Round). r.private) at, privates, ap (λ k. own_count (take k g.rounds)) next);
+      public_n = ap (λ (x : List ℕ). length x) public ∙ length-append (public_cards front) last.public
+          ∙ omega (arith, r.public_n, h.public_counted, ap (λ (r : Round). r.public) at, publics, ap (λ k. public_count (take k g.rounds)) next);
     }
 
 -- the hand of a last-round signal is one that the ranking can rank
-pub is_hand : (g : Game) (d : DeckValue) (i : ℕ) → IsDealable g → length g.copies ≡ kinds d → i < length (signals g (round_count g)) → IsHand d g.ranking (own_cards (signal_at g (round_count g) i)) (public_cards (signal_at g (round_count g) i))
+pub is_hand : (g : Game) (d : DeckValue) (i : ℕ) → IsDealable g → length g.copies ≡ kinds d → i < length (signals g (round_count g))
+    → IsHand d g.ranking (own_cards (signal_at g (round_count g) i)) (public_cards (signal_at g (round_count g) i))
 is_hand g d i h e l =
     let s : Signal = signal_at g (round_count g) i in
     let r = dealt g (round_count g) i (omega arith) l in

@@ -37,7 +37,8 @@ pub last_some : (key : ℕ → List ℕ) (n : ℕ) (b : List ℕ) (last : ℕ) �
 last_some key zero b last e = absurd (cc)
 last_some key (suc n) b last e = go (last_some key n b last) (pointwise nat_eq (key n) b) refl e
   where
-    go : (last_place key n b ≡ Some last → IsLast key n b last) → (t : Bool) → pointwise nat_eq (key n) b ≡ t → cond t (Some n) (last_place key n b) ≡ Some last → IsLast key (suc n) b last
+    go : (last_place key n b ≡ Some last → IsLast key n b last) → (t : Bool) → pointwise nat_eq (key n) b ≡ t
+        → cond t (Some n) (last_place key n b) ≡ Some last → IsLast key (suc n) b last
     go rest true h e =
         let here : n ≡ last = cc in
         record { below = omega (arith, here); same = ap key (sym here) ∙ equal (key n) b h; none_after = λ k l m. absurd (omega (arith, here)) }
@@ -55,7 +56,8 @@ pub last_none : (key : ℕ → List ℕ) (n : ℕ) (b : List ℕ) → last_place
 last_none key zero b e k l = absurd (omega arith)
 last_none key (suc n) b e k l = go (last_none key n b) (pointwise nat_eq (key n) b) refl e
   where
-    go : (last_place key n b ≡ None → (k : ℕ) → k < n → key k ≢ b) → (t : Bool) → pointwise nat_eq (key n) b ≡ t → cond t (Some n) (last_place key n b) ≡ None → key k ≢ b
+    go : (last_place key n b ≡ None → (k : ℕ) → k < n → key k ≢ b) → (t : Bool) → pointwise nat_eq (key n) b ≡ t → cond t (Some n) (last_place key n b) ≡ None
+        → key k ≢ b
     go rest true h e = absurd (cc)
     go rest false h e = ⊎_elim
         (λ (at : k ≡ n). let P : ℕ → Type 0 = λ j. key j ≢ b in subst P (sym at) (unequal (key n) b h))
@@ -89,7 +91,8 @@ none_linked : (key : ℕ → List ℕ) (count : ℕ) → AreLinked key 0 count [
 none_linked key count = record { firsts_long = refl; nexts_long = refl; first = λ i l. absurd (omega arith); next = λ i l. absurd (omega arith) }
 
 -- one more member of a list, read
-old_read : (P : ℕ → ℕ → Type 0) (xs : List ℕ) (n y : ℕ) → length xs ≡ n → ((i : ℕ) → i < n → P i (get_or xs i 0)) → P n y → (i : ℕ) → i < n + 1 → P i (get_or (xs ++ y ∷ []) i 0)
+old_read : (P : ℕ → ℕ → Type 0) (xs : List ℕ) (n y : ℕ) → length xs ≡ n → ((i : ℕ) → i < n → P i (get_or xs i 0)) → P n y → (i : ℕ) → i < n + 1
+    → P i (get_or (xs ++ y ∷ []) i 0)
 old_read P xs n y long old new i l = ⊎_elim
     (λ (at : i ≡ n).
     let Q : ℕ → Type 0 = λ z. P n z in
@@ -129,11 +132,14 @@ module _ (key : ℕ → List ℕ) (n count : ℕ) (firsts nexts : List ℕ) (old
       record {
         firsts_long = omega (arith, length-append firsts (length firsts ∷ []), old.firsts_long);
         nexts_long = omega (arith, length-append nexts (count ∷ []), old.nexts_long);
-        first = old_read (λ i z. IsFirst key (n + 1) i z) firsts n (length firsts) old.firsts_long (λ i m. wider_first i (get_or firsts i 0) (old.first i m)) (subst P (sym old.firsts_long) here);
-        next = old_read (λ i z. IsNext key (n + 1) count i z) nexts n count old.nexts_long (λ i m. wider_next i (get_or nexts i 0) m (λ e same. none i m (sym same)) (old.next i m)) (new_next l);
+        first = old_read (λ i z. IsFirst key (n + 1) i z) firsts n (length firsts) old.firsts_long (λ i m. wider_first i (get_or firsts i 0) (old.first i m))
+            (subst P (sym old.firsts_long) here);
+        next = old_read (λ i z. IsNext key (n + 1) count i z) nexts n count old.nexts_long
+            (λ i m. wider_next i (get_or nexts i 0) m (λ e same. none i m (sym same)) (old.next i m)) (new_next l);
       }
 
-  linked_some : (last : ℕ) → n < count → IsLast key n (key n) last → AreLinked key (n + 1) count (firsts ++ get_or firsts last 0 ∷ []) (set nexts last (length nexts) ++ count ∷ [])
+  linked_some : (last : ℕ) → n < count → IsLast key n (key n) last → AreLinked key (n + 1) count (firsts
+      ++ get_or firsts last 0 ∷ []) (set nexts last (length nexts) ++ count ∷ [])
   linked_some last l h =
       let f = old.first last h.below in
       let here : IsFirst key (n + 1) n (get_or firsts last 0) = record {
@@ -145,7 +151,8 @@ module _ (key : ℕ → List ℕ) (n count : ℕ) (firsts nexts : List ℕ) (old
       record {
         firsts_long = omega (arith, length-append firsts (get_or firsts last 0 ∷ []), old.firsts_long);
         nexts_long = omega (arith, length-append (set nexts last (length nexts)) (count ∷ []), long);
-        first = old_read (λ i z. IsFirst key (n + 1) i z) firsts n (get_or firsts last 0) old.firsts_long (λ i m. wider_first i (get_or firsts i 0) (old.first i m)) here;
+        first = old_read (λ i z. IsFirst key (n + 1) i z) firsts n (get_or firsts last 0) old.firsts_long
+            (λ i m. wider_first i (get_or firsts i 0) (old.first i m)) here;
         next = old_read (λ i z. IsNext key (n + 1) count i z) (set nexts last (length nexts)) n count long (λ i m. at i m) (new_next l);
       }
     where
@@ -154,7 +161,8 @@ module _ (key : ℕ → List ℕ) (n count : ℕ) (firsts nexts : List ℕ) (old
           (λ (e : i ≡ last).
           let P : ℕ → Type 0 = λ j. IsNext key (n + 1) count j (get_or (set nexts last (length nexts)) j 0) in
           let Q : ℕ → Type 0 = λ z. IsNext key (n + 1) count last z in
-          let new : get_or (set nexts last (length nexts)) last 0 ≡ n = get_or-set_same nexts last (length nexts) 0 (omega (arith, old.nexts_long, h.below)) ∙ old.nexts_long in
+          let new : get_or (set nexts last (length nexts)) last 0 ≡ n = get_or-set_same nexts last (length nexts) 0 (omega (arith, old.nexts_long, h.below))
+          ∙ old.nexts_long in
           let is : IsNext key (n + 1) count last n = record {
             later = h.below;
             found = inr (omega arith, sym h.same);
@@ -180,7 +188,8 @@ pub record AreBegun (key : ℕ → List ℕ) (n count : ℕ) (firsts nexts : Lis
   pub begun : AreLinked key n count (take n firsts) (take n nexts)
   pub ahead : (i : ℕ) → n ≤ i → i < count → get_or nexts i 0 ≡ count
 
-pub start_linked : (key : ℕ → List ℕ) (count : ℕ) (firsts nexts : List ℕ) → firsts ≡ replicate count count → nexts ≡ replicate count count → AreBegun key 0 count firsts nexts
+pub start_linked : (key : ℕ → List ℕ) (count : ℕ) (firsts nexts : List ℕ) → firsts ≡ replicate count count → nexts ≡ replicate count count
+    → AreBegun key 0 count firsts nexts
 start_linked key count firsts nexts f h = record {
   firsts_whole = ap (λ (x : List ℕ). length x) f ∙ length-replicate count count;
   nexts_whole = ap (λ (x : List ℕ). length x) h ∙ length-replicate count count;
@@ -198,7 +207,9 @@ take_before (x ∷ xs) (suc n) zero y = refl
 take_before (x ∷ xs) (suc n) (suc i) y = ap (λ l. x ∷ l) (take_before xs n i y)
 
 -- one more place, from the last one with its key
-pub linked_more : (key : ℕ → List ℕ) (n count : ℕ) (firsts nexts : List ℕ) → AreBegun key n count firsts nexts → (before : Option ℕ) (more next : List ℕ) → n < count → before ≡ last_place key n (key n) → more ≡ slice_set firsts n (first_beside before n firsts) → next ≡ linked before n nexts → AreBegun key (n + 1) count more next
+pub linked_more : (key : ℕ → List ℕ) (n count : ℕ) (firsts nexts : List ℕ) → AreBegun key n count firsts nexts → (before : Option ℕ) (more next : List ℕ)
+    → n < count → before ≡ last_place key n (key n) → more ≡ slice_set firsts n (first_beside before n firsts) → next ≡ linked before n nexts
+    → AreBegun key (n + 1) count more next
 linked_more key n count firsts nexts h None more next l e f k =
     let fs : List ℕ = take n firsts in
     let ns : List ℕ = take n nexts in
@@ -221,7 +232,8 @@ linked_more key n count firsts nexts h (Some last) more next l e f k =
     let r = last_some key n (key n) last (sym e) in
     let one = linked_some key n count fs ns h.begun last l r in
     let more_is : take (n + 1) more ≡ fs ++ get_or fs last 0 ∷ [] =
-    ap (take (n + 1)) f ∙ take_more_set firsts n (get_or firsts last 0) (omega (arith, h.firsts_whole)) ∙ ap (λ z. fs ++ z ∷ []) (sym (get_or-take n firsts last 0 r.below)) in
+    ap (take (n + 1)) f ∙ take_more_set firsts n (get_or firsts last 0) (omega (arith, h.firsts_whole))
+    ∙ ap (λ z. fs ++ z ∷ []) (sym (get_or-take n firsts last 0 r.below)) in
     let new : List ℕ = set nexts last n in
     let end : get_or new n 0 ≡ count = get_or-set_other nexts last n n 0 (λ same. absurd (omega (arith, same, r.below))) ∙ h.ahead n (omega arith) l in
     let next_is : take (n + 1) next ≡ set ns last (length ns) ++ count ∷ [] =
@@ -233,16 +245,19 @@ linked_more key n count firsts nexts h (Some last) more next l e f k =
       firsts_whole = ap (λ (x : List ℕ). length x) f ∙ length-set firsts n (get_or firsts last 0) ∙ h.firsts_whole;
       nexts_whole = ap (λ (x : List ℕ). length x) k ∙ length-set nexts last n ∙ h.nexts_whole;
       begun = subst P (sym more_is) (subst Q (sym next_is) one);
-      ahead = λ i m c. ap (λ (x : List ℕ). get_or x i 0) k ∙ get_or-set_other nexts last i n 0 (λ same. absurd (omega (arith, same, r.below, m))) ∙ h.ahead i (omega (arith, m)) c;
+      ahead = λ i m c. ap (λ (x : List ℕ). get_or x i 0) k ∙ get_or-set_other nexts last i n 0 (λ same. absurd (omega (arith, same, r.below, m)))
+          ∙ h.ahead i (omega (arith, m)) c;
     }
 
 -- where all places are linked by their public cards, the tables are whole
-pub are_boards : (g : Game) (n count : ℕ) (firsts nexts : List ℕ) → AreBegun (λ i. public_cards (signal_at g (round_count g) i)) n count firsts nexts → n ≡ last_count g → count ≡ last_count g → AreBoards g firsts nexts
+pub are_boards : (g : Game) (n count : ℕ) (firsts nexts : List ℕ) → AreBegun (λ i. public_cards (signal_at g (round_count g) i)) n count firsts nexts
+    → n ≡ last_count g → count ≡ last_count g → AreBoards g firsts nexts
 are_boards g n count firsts nexts h a b =
     let P : ℕ → Type 0 = λ m. AreLinked (λ i. public_cards (signal_at g (round_count g) i)) m count firsts nexts in
     let Q : List ℕ → Type 0 = λ x. AreLinked (λ i. public_cards (signal_at g (round_count g) i)) n count x (take n nexts) in
     let R : List ℕ → Type 0 = λ x. AreLinked (λ i. public_cards (signal_at g (round_count g) i)) n count firsts x in
-    let t = subst P a (subst R (take_all n nexts (omega (arith, h.nexts_whole, a, b))) (subst Q (take_all n firsts (omega (arith, h.firsts_whole, a, b))) h.begun)) in
+    let t = subst P a (subst R (take_all n nexts (omega (arith, h.nexts_whole, a, b)))
+    (subst Q (take_all n firsts (omega (arith, h.firsts_whole, a, b))) h.begun)) in
     record {
       firsts_long = t.firsts_long;
       nexts_long = t.nexts_long;
@@ -252,7 +267,8 @@ are_boards g n count firsts nexts h a b =
       next_later = λ i l. (t.next i l).later;
       next_same = λ i l m. ⊎_elim
           (λ (e : get_or nexts i 0 ≡ count). absurd (omega (arith, e, b, m)))
-          (λ (e : (get_or nexts i 0 < last_count g) × (public_cards (signal_at g (round_count g) (get_or nexts i 0)) ≡ public_cards (signal_at g (round_count g) i))). same_list g (round_count g) i (get_or nexts i 0) l m (sym e.1))
+          (λ (e : (get_or nexts i 0 < last_count g) × (public_cards (signal_at g (round_count g) (get_or nexts i 0))
+          ≡ public_cards (signal_at g (round_count g) i))). same_list g (round_count g) i (get_or nexts i 0) l m (sym e.1))
           (t.next i l).found;
       none_between = λ i k l m x y. other_list g (round_count g) i k ((t.next i l).none_between k m x y);
     }

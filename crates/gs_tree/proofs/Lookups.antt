@@ -62,7 +62,8 @@ child_at weight shows (s ∷ ss) n x l =
       owned = get_or_append_left (map (λ _. n) pairs) more 0 x (omega arith) ∙ const_at n pairs x (omega arith) ∙ omega arith;
       within = omega arith;
       added = get_or (shows s) x nothing;
-      grown = get_or_append_left kids rest [] x (omega arith) ∙ get_or-map (λ (c : ℕ × Signal). c.1) pairs x (0, []) [] (omega arith) ∙ ap (λ (c : ℕ × Signal). c.1) (get_or-map to_pair (shows s) x nothing (0, []) h);
+      grown = get_or_append_left kids rest [] x (omega arith) ∙ get_or-map (λ (c : ℕ × Signal). c.1) pairs x (0, []) [] (omega arith)
+          ∙ ap (λ (c : ℕ × Signal). c.1) (get_or-map to_pair (shows s) x nothing (0, []) h);
     })
     (λ (h : length (shows s) ≤ x).
     let r = child_at weight shows ss (n + 1) (x - length (shows s)) (omega arith) in
@@ -90,7 +91,8 @@ is_child g (suc r) i some l =
     let P : ℕ → Type 0 = λ k. get_or (parents g (suc r)) i 0 < length (signals g k) in
     record {
       parent_in = subst P (sym before) (omega (arith, at, c.within));
-      signal_is = c.grown ∙ ap (λ k. get_or (signals g r) k [] ++ c.added ∷ []) (sym at) ∙ ap (λ p. get_or (signals g r) (get_or (parents g (suc r)) i 0) [] ++ p ∷ []) (sym last)
+      signal_is = c.grown ∙ ap (λ k. get_or (signals g r) k [] ++ c.added ∷ []) (sym at)
+          ∙ ap (λ p. get_or (signals g r) (get_or (parents g (suc r)) i 0) [] ++ p ∷ []) (sym last)
           ∙ ap (λ k. signal_at g k (get_or (parents g (suc r)) i 0) ++ last_seen (signal_at g (suc r) i) ∷ []) (sym before);
     }
 
@@ -117,22 +119,26 @@ pub record IsLayerOf (g : Game) (round : ℕ) (l : Layer) : Type 0 where
 
 from_layer : (g : Game) (r : ℕ) (l : Layer) → IsLayer g r l → IsLayerOf g (suc r) l
 from_layer g r l h =
-    let long : length l.shown.items ≡ length (signals g (suc r)) = sym (length-map l.shown.items seen_of) ∙ ap (λ (x : List Seen). length x) h.shown ∙ length-map (signals g (suc r)) last_seen in
+    let long : length l.shown.items ≡ length (signals g (suc r)) = sym (length-map l.shown.items seen_of) ∙ ap (λ (x : List Seen). length x) h.shown
+    ∙ length-map (signals g (suc r)) last_seen in
     record {
       long = long;
       edges_long = ap (λ (x : List ℕ). length x) h.edges ∙ length-map (signals g (suc r)) (last_edge g.copies);
-      shows = λ i d m. sym (get_or-map seen_of l.shown.items i d nothing (omega arith)) ∙ ap (λ (x : List Seen). get_or x i nothing) h.shown ∙ get_or-map last_seen (signals g (suc r)) i [] nothing m;
+      shows = λ i d m. sym (get_or-map seen_of l.shown.items i d nothing (omega arith)) ∙ ap (λ (x : List Seen). get_or x i nothing) h.shown
+          ∙ get_or-map last_seen (signals g (suc r)) i [] nothing m;
       weighs = λ i m. ap (λ (x : List ℕ). get_or x i 0) h.edges ∙ get_or-map (last_edge g.copies) (signals g (suc r)) i [] 0 m;
     }
 
-pub layer_of : (g : Game) (ps : List (Vec ℕ)) (ls : List Layer) (round : ℕ) (l : Layer) → AreTables g ps ls → 0 < round → round ≤ length ls → l ≡ get_or ls (round - 1) l → IsLayerOf g round l
+pub layer_of : (g : Game) (ps : List (Vec ℕ)) (ls : List Layer) (round : ℕ) (l : Layer) → AreTables g ps ls → 0 < round → round ≤ length ls
+    → l ≡ get_or ls (round - 1) l → IsLayerOf g round l
 layer_of g ps ls zero l t some le e = absurd (omega arith)
 layer_of g ps ls (suc r) l t some le e =
     let before : suc r - 1 ≡ r = omega arith in
     let P : Layer → Type 0 = λ x. IsLayer g r x in
     from_layer g r l (subst P (sym (e ∙ ap (λ k. get_or ls k l) before)) (t.listed r l (omega arith)))
 
-pub parents_of : (g : Game) (ps : List (Vec ℕ)) (ls : List Layer) (round : ℕ) (row : Vec ℕ) → AreTables g ps ls → 0 < round → round ≤ length ls → row ≡ get_or ps (round - 1) row → row.items ≡ parents g round
+pub parents_of : (g : Game) (ps : List (Vec ℕ)) (ls : List Layer) (round : ℕ) (row : Vec ℕ) → AreTables g ps ls → 0 < round → round ≤ length ls
+    → row ≡ get_or ps (round - 1) row → row.items ≡ parents g round
 parents_of g ps ls zero row t some le e = absurd (omega arith)
 parents_of g ps ls (suc r) row t some le e =
     let before : suc r - 1 ≡ r = omega arith in
@@ -144,7 +150,8 @@ same_read (x ∷ xs) zero d e l = refl
 same_read (x ∷ xs) (suc i) d e l = same_read xs i d e (omega arith)
 
 -- the copies that a signal leaves, from those that its parent leaves
-pub left_step : (g : Game) (round i parent : ℕ) (left : List ℕ) (shown : Shown) → IsChild g round i → parent ≡ get_or (parents g round) i 0 → left ≡ left_by g.copies (signal_at g (round - 1) parent) → seen_of shown ≡ last_seen (signal_at g round i) →
+pub left_step : (g : Game) (round i parent : ℕ) (left : List ℕ) (shown : Shown) → IsChild g round i → parent ≡ get_or (parents g round) i 0
+    → left ≡ left_by g.copies (signal_at g (round - 1) parent) → seen_of shown ≡ last_seen (signal_at g round i) →
     left_after (left_after left (cards_of shown.own)) (cards_of shown.public) ≡ left_by g.copies (signal_at g round i)
 left_step g round i parent left shown h at before shows =
     ap (λ l. left_after (left_after l (cards_of shown.own)) (cards_of shown.public)) before
@@ -154,13 +161,15 @@ left_step g round i parent left shown h at before shows =
     ∙ ap (left_by g.copies) (sym h.signal_is)
 
 -- the parent of a signal, as the table has it
-pub parent_read : (g : Game) (row : Vec ℕ) (round i p : ℕ) → row.items ≡ parents g round → i < length (signals g round) → p ≡ get_or row.items i p → p ≡ get_or (parents g round) i 0
+pub parent_read : (g : Game) (row : Vec ℕ) (round i p : ℕ) → row.items ≡ parents g round → i < length (signals g round) → p ≡ get_or row.items i p
+    → p ≡ get_or (parents g round) i 0
 parent_read g row round i p e l h =
     let long : i < length row.items = omega (arith, ap (λ (x : List ℕ). length x) e, length-parents g round) in
     h ∙ same_read row.items i p 0 long ∙ ap (λ (x : List ℕ). get_or x i 0) e
 
 -- one more round
-pub tables_push : (g : Game) (ps : List (Vec ℕ)) (ls : List Layer) (row : Vec ℕ) (l : Layer) → AreTables g ps ls → row.items ≡ parents g (suc (length ls)) → IsLayer g (length ls) l → AreTables g (ps ++ row ∷ []) (ls ++ l ∷ [])
+pub tables_push : (g : Game) (ps : List (Vec ℕ)) (ls : List Layer) (row : Vec ℕ) (l : Layer) → AreTables g ps ls → row.items ≡ parents g (suc (length ls))
+    → IsLayer g (length ls) l → AreTables g (ps ++ row ∷ []) (ls ++ l ∷ [])
 tables_push g ps ls row l t e h =
     let pn = length-append ps (row ∷ []) in
     let ln = length-append ls (l ∷ []) in
@@ -171,10 +180,12 @@ tables_push g ps ls row l t e h =
           (λ (k : length ls ≤ round).
           let last : length ps ≡ round = omega (arith, t.as_many, ln) in
           let same : length ls ≡ round = omega (arith, ln) in
-          ap (λ (v : Vec ℕ). v.items) (ap (λ n. get_or (ps ++ row ∷ []) n d) (sym last) ∙ get_or-append_seam ps row [] d) ∙ e ∙ ap (λ n. parents g (suc n)) same)
+          ap (λ (v : Vec ℕ). v.items) (ap (λ n. get_or (ps ++ row ∷ []) n d) (sym last) ∙ get_or-append_seam ps row [] d) ∙ e
+          ∙ ap (λ n. parents g (suc n)) same)
           (cases_lt round (length ls));
       listed = λ round d m. ⊎_elim
-          (λ (k : round < length ls). let P : Layer → Type 0 = λ x. IsLayer g round x in subst P (sym (get_or_append_left ls (l ∷ []) d round k)) (t.listed round d k))
+          (λ (k : round < length ls). let P : Layer → Type 0 = λ x. IsLayer g round x in
+          subst P (sym (get_or_append_left ls (l ∷ []) d round k)) (t.listed round d k))
           (λ (k : length ls ≤ round).
           let same : length ls ≡ round = omega (arith, ln) in
           let P : ℕ → Type 0 = λ n. IsLayer g n (get_or (ls ++ l ∷ []) n d) in
@@ -184,7 +195,8 @@ tables_push g ps ls row l t e h =
     }
 
 -- what all rounds keep, one keeps
-pub small_round : (rounds : List GameRound) (i : ℕ) (r : GameRound) → All (λ (r : Round). (r.private ≤ 2) × (r.public ≤ 3)) (map round_of rounds) → i < length rounds → r ≡ get_or rounds i r → (r.private ≤ 2) × (r.public ≤ 3)
+pub small_round : (rounds : List GameRound) (i : ℕ) (r : GameRound) → All (λ (r : Round). (r.private ≤ 2) × (r.public ≤ 3)) (map round_of rounds)
+    → i < length rounds → r ≡ get_or rounds i r → (r.private ≤ 2) × (r.public ≤ 3)
 small_round rounds i r h l e =
     let at : get_or (map round_of rounds) i (round_of r) ≡ round_of r = get_or-map round_of rounds i r (round_of r) l ∙ ap round_of (sym e) in
     let P : Round → Type 0 = λ x. (x.private ≤ 2) × (x.public ≤ 3) in
@@ -198,14 +210,17 @@ rounds_push d (q ∷ s) p =
     ap (λ t. 47 ∷ (seen_text d q ++ t)) (rounds_push d s p) ∙ ap (λ t. 47 ∷ t) (sym (append_assoc (seen_text d q) (rounds_text d s) (47 ∷ seen_text d p)))
 
 -- the text of a signal of a later round, from its parent's
-pub text_later : (g : Game) (d : DeckValue) (round i : ℕ) → 1 < round → i < length (signals g round) → IsChild g round i → signal_text d (signal_at g round i) ≡ (signal_text d (signal_at g (round - 1) (get_or (parents g round) i 0)) ++ 47 ∷ []) ++ seen_text d (last_seen (signal_at g round i))
+pub text_later : (g : Game) (d : DeckValue) (round i : ℕ) → 1 < round → i < length (signals g round) → IsChild g round i
+    → signal_text d (signal_at g round i) ≡ (signal_text d (signal_at g (round - 1) (get_or (parents g round) i 0)) ++ 47 ∷ [])
+    ++ seen_text d (last_seen (signal_at g round i))
 text_later g d zero i some l c = absurd (omega arith)
 text_later g d (suc zero) i some l c = absurd (omega arith)
 text_later g d (suc (suc r)) i some l c =
     let before : suc (suc r) - 1 ≡ suc r = omega arith in
     let p : ℕ = get_or (parents g (suc (suc r))) i 0 in
     let Q : ℕ → Type 0 = λ k. p < length (signals g k) in
-    let grown : signal_at g (suc (suc r)) i ≡ signal_at g (suc r) p ++ last_seen (signal_at g (suc (suc r)) i) ∷ [] = c.signal_is ∙ ap (λ k. signal_at g k p ++ last_seen (signal_at g (suc (suc r)) i) ∷ []) before in
+    let grown : signal_at g (suc (suc r)) i ≡ signal_at g (suc r) p ++ last_seen (signal_at g (suc (suc r)) i) ∷ [] =
+    c.signal_is ∙ ap (λ k. signal_at g k p ++ last_seen (signal_at g (suc (suc r)) i) ∷ []) before in
     let parent = is_child g (suc r) p (omega arith) (subst Q before c.parent_in) in
     let front : Signal = signal_at g (suc r - 1) (get_or (parents g (suc r)) p 0) in
     ap (signal_text d) grown
@@ -213,7 +228,8 @@ text_later g d (suc (suc r)) i some l c =
     ∙ ap (λ k. (signal_text d (signal_at g k p) ++ 47 ∷ []) ++ seen_text d (last_seen (signal_at g (suc (suc r)) i))) (sym before)
   where
     at_end : (s : Signal) (q p : Seen) → signal_text d ((s ++ q ∷ []) ++ p ∷ []) ≡ (signal_text d (s ++ q ∷ []) ++ 47 ∷ []) ++ seen_text d p
-    at_end [] q p = ap (λ t. seen_text d q ++ (47 ∷ t)) (append-nil (seen_text d p)) ∙ sym (append_assoc (seen_text d q) (47 ∷ []) (seen_text d p)) ∙ ap (λ t. (t ++ 47 ∷ []) ++ seen_text d p) (sym (append-nil (seen_text d q)))
+    at_end [] q p = ap (λ t. seen_text d q ++ (47 ∷ t)) (append-nil (seen_text d p)) ∙ sym (append_assoc (seen_text d q) (47 ∷ []) (seen_text d p))
+        ∙ ap (λ t. (t ++ 47 ∷ []) ++ seen_text d p) (sym (append-nil (seen_text d q)))
     at_end (x ∷ s) q p =
         ap (λ t. seen_text d x ++ t) (rounds_push d (s ++ q ∷ []) p) ∙ sym (append_assoc (seen_text d x) (rounds_text d (s ++ q ∷ [])) (47 ∷ seen_text d p))
         ∙ sym (append_assoc (seen_text d x ++ rounds_text d (s ++ q ∷ [])) (47 ∷ []) (seen_text d p))
@@ -230,26 +246,33 @@ no_signal (suc k) s e = e
 -- the text of a signal of the first round
 pub text_first : (g : Game) (d : DeckValue) (i : ℕ) → IsChild g 1 i → signal_text d (signal_at g 1 i) ≡ seen_text d (last_seen (signal_at g 1 i))
 text_first g d i c =
-    ap (signal_text d) (c.signal_is ∙ ap (λ (s : Signal). s ++ last_seen (signal_at g 1 i) ∷ []) (no_signal (get_or (parents g 1) i 0) (signal_at g (1 - 1) (get_or (parents g 1) i 0)) refl))
+    ap (signal_text d) (c.signal_is ∙ ap (λ (s : Signal). s ++ last_seen (signal_at g 1 i) ∷ [])
+    (no_signal (get_or (parents g 1) i 0) (signal_at g (1 - 1) (get_or (parents g 1) i 0)) refl))
     ∙ append-nil (seen_text d (last_seen (signal_at g 1 i)))
 
-pub shown_first : (g : Game) (d : DeckValue) (round i : ℕ) (shown : Shown) → round ≡ 1 → i < length (signals g round) → seen_of shown ≡ last_seen (signal_at g round i) → seen_text d (seen_of shown) ≡ signal_text d (signal_at g round i)
+pub shown_first : (g : Game) (d : DeckValue) (round i : ℕ) (shown : Shown) → round ≡ 1 → i < length (signals g round)
+    → seen_of shown ≡ last_seen (signal_at g round i) → seen_text d (seen_of shown) ≡ signal_text d (signal_at g round i)
 shown_first g d round i shown first m shows =
     let P : ℕ → Type 0 = λ k. i < length (signals g k) in
-    ap (seen_text d) (shows ∙ ap (λ k. last_seen (signal_at g k i)) first) ∙ sym (text_first g d i (is_child g 1 i (omega arith) (subst P first m))) ∙ ap (λ k. signal_text d (signal_at g k i)) (sym first)
+    ap (seen_text d) (shows ∙ ap (λ k. last_seen (signal_at g k i)) first) ∙ sym (text_first g d i (is_child g 1 i (omega arith) (subst P first m)))
+    ∙ ap (λ k. signal_text d (signal_at g k i)) (sym first)
 
 -- ---- what a table shows of one signal
-pub shown_read : (g : Game) (ps : List (Vec ℕ)) (ls : List Layer) (round i : ℕ) (l : Layer) (shown : Shown) → AreTables g ps ls → 0 < round → round ≤ length ls → l ≡ get_or ls (round - 1) l → i < length (signals g round) → shown ≡ get_or l.shown.items i shown → seen_of shown ≡ last_seen (signal_at g round i)
+pub shown_read : (g : Game) (ps : List (Vec ℕ)) (ls : List Layer) (round i : ℕ) (l : Layer) (shown : Shown) → AreTables g ps ls → 0 < round
+    → round ≤ length ls → l ≡ get_or ls (round - 1) l → i < length (signals g round) → shown ≡ get_or l.shown.items i shown
+    → seen_of shown ≡ last_seen (signal_at g round i)
 shown_read g ps ls round i l shown t some le e m s =
     let h = layer_of g ps ls round l t some le e in
     ap seen_of s ∙ h.shows i shown m
 
-pub shown_long : (g : Game) (ps : List (Vec ℕ)) (ls : List Layer) (round i : ℕ) (l : Layer) → AreTables g ps ls → 0 < round → round ≤ length ls → l ≡ get_or ls (round - 1) l → i < length (signals g round) → i < vec_len l.shown
+pub shown_long : (g : Game) (ps : List (Vec ℕ)) (ls : List Layer) (round i : ℕ) (l : Layer) → AreTables g ps ls → 0 < round → round ≤ length ls
+    → l ≡ get_or ls (round - 1) l → i < length (signals g round) → i < vec_len l.shown
 shown_long g ps ls round i l t some le e m =
     let h = layer_of g ps ls round l t some le e in
     omega (arith, h.long, l.shown.ok.0)
 
-pub shown_cards : (g : Game) (round i n : ℕ) (shown : Shown) → 0 < round → i < length (signals g round) → seen_of shown ≡ last_seen (signal_at g round i) → length g.copies ≡ n → All (λ c. c < n) (cards_of shown.own) × All (λ c. c < n) (cards_of shown.public)
+pub shown_cards : (g : Game) (round i n : ℕ) (shown : Shown) → 0 < round → i < length (signals g round) → seen_of shown ≡ last_seen (signal_at g round i)
+    → length g.copies ≡ n → All (λ c. c < n) (cards_of shown.own) × All (λ c. c < n) (cards_of shown.public)
 shown_cards g round i n shown some m s e =
     let h = last_is_shown g round i some m in
     let P : Seen → Type 0 = λ p. All (λ c. c < length g.copies) p.own × All (λ c. c < length g.copies) p.public in
@@ -262,7 +285,9 @@ pub record IsSeen (g : Game) (round i n : ℕ) (shown : Shown) : Type 0 where
   pub own : All (λ c. c < n) (cards_of shown.own)
   pub public : All (λ c. c < n) (cards_of shown.public)
 
-pub seen_read : (g : Game) (ps : List (Vec ℕ)) (ls : List Layer) (round i n : ℕ) (l : Layer) (shown : Shown) → AreTables g ps ls → 0 < round → round ≤ length ls → l ≡ get_or ls (round - 1) l → i < length (signals g round) → shown ≡ get_or l.shown.items i shown → length g.copies ≡ n → IsSeen g round i n shown
+pub seen_read : (g : Game) (ps : List (Vec ℕ)) (ls : List Layer) (round i n : ℕ) (l : Layer) (shown : Shown) → AreTables g ps ls → 0 < round
+    → round ≤ length ls → l ≡ get_or ls (round - 1) l → i < length (signals g round) → shown ≡ get_or l.shown.items i shown → length g.copies ≡ n
+    → IsSeen g round i n shown
 seen_read g ps ls round i n l shown t some le e m s counted =
     let shows = shown_read g ps ls round i l shown t some le e m s in
     let cards = shown_cards g round i n shown some m shows counted in
@@ -273,7 +298,8 @@ pub record IsParent (g : Game) (round i p : ℕ) : Type 0 where
   pub is : p ≡ get_or (parents g round) i 0
   pub within : p < length (signals g (round - 1))
 
-module _ (g : Game) (ps : List (Vec ℕ)) (ls : List Layer) (round i : ℕ) (row : Vec ℕ) (t : AreTables g ps ls) (some : 0 < round) (le : round ≤ length ls) (e : row ≡ get_or ps (round - 1) row) (m : i < length (signals g round)) where
+module _ (g : Game) (ps : List (Vec ℕ)) (ls : List Layer) (round i : ℕ) (row : Vec ℕ) (t : AreTables g ps ls) (some : 0 < round) (le : round
+    ≤ length ls) (e : row ≡ get_or ps (round - 1) row) (m : i < length (signals g round)) where
   pub row_within : i < vec_len row
   row_within = omega (arith, ap (λ (x : List ℕ). length x) (parents_of g ps ls round row t some le e), length-parents g round, row.ok.0, m)
 

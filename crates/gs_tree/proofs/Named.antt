@@ -1,5 +1,5 @@
 -- The text of a signal tells it from the others of its round.
-use Rattle.std.proofs.Common.{◌≡◌, ℕ, zero, suc, ◌*◌, ◌/◌, ◌%◌, ◌-◌, ◌<◌, ◌≤◌, List, [], ◌∷◌, ◌++◌, length, get_or, refl, sym, ap, ◌∙◌, arith, subst, All, ⊎_elim, length-append}
+use Rattle.std.proofs.Common.{◌≡◌, ℕ, zero, suc, ◌*◌, ◌/◌, ◌%◌, ◌<◌, ◌≤◌, List, [], ◌∷◌, ◌++◌, length, get_or, refl, sym, ap, ◌∙◌, arith, subst, All, ⊎_elim, length-append}
 use Rattle.std.proofs.lemmas.Bool.{cases_lt}
 use Rattle.std.proofs.Math.Nat.{div-lt_iff_lt-mul}
 use Rattle.gs_card.specs.Decks.{DeckValue, IsDeck, card_text, kinds}
@@ -24,7 +24,8 @@ card_once d a b h la lb e =
     let some : 0 < n = some_suits (length d.ranks) n a la in
     let first : get_or d.ranks (a / n) 0 ≡ get_or d.ranks (b / n) 0 = cc in
     let second : get_or d.suits (a % n) 0 ≡ get_or d.suits (b % n) 0 = cc in
-    let row : a / n ≡ b / n = one_place d.ranks (a / n) (b / n) h.ranks_differ (row_below (length d.ranks) n a la) (row_below (length d.ranks) n b lb) first in
+    let row : a / n ≡ b / n = one_place d.ranks (a / n) (b / n) h.ranks_differ (row_below (length d.ranks) n a la)
+    (row_below (length d.ranks) n b lb) first in
     let column : a % n ≡ b % n = one_place d.suits (a % n) (b % n) h.suits_differ (omega arith) (omega arith) second in
     sym (number_of_places n (b / n) (b % n) a some row column) ∙ number_of_places n (b / n) (b % n) b some refl refl
 
@@ -66,9 +67,16 @@ OfDeck d [] = Unit {0}
 OfDeck d (p ∷ s) = InDeck d p.own × InDeck d p.public × OfDeck d s
 
 seen_long : (d : DeckValue) (p q : Seen) → length p.own ≡ length q.own → length p.public ≡ length q.public → length (seen_text d p) ≡ length (seen_text d q)
-seen_long d p q l m = omega (arith, length-append (group_text d p.own) (public_text d p.public), length-append (group_text d q.own) (public_text d q.public), group_long d p.own q.own l, public_long d p.public q.public m)
+seen_long d p q l m = omega (
+  arith,
+  length-append (group_text d p.own) (public_text d p.public),
+  length-append (group_text d q.own) (public_text d q.public),
+  group_long d p.own q.own l,
+  public_long d p.public q.public m,
+)
 
-seen_once : (d : DeckValue) (p q : Seen) → IsDeck d → length p.own ≡ length q.own → length p.public ≡ length q.public → InDeck d p.own → InDeck d p.public → InDeck d q.own → InDeck d q.public → seen_text d p ≡ seen_text d q → p ≡ q
+seen_once : (d : DeckValue) (p q : Seen) → IsDeck d → length p.own ≡ length q.own → length p.public ≡ length q.public → InDeck d p.own → InDeck d p.public
+    → InDeck d q.own → InDeck d q.public → seen_text d p ≡ seen_text d q → p ≡ q
 seen_once d p q k l m a b x y e =
     let r = parted (group_text d p.own) (group_text d q.own) (public_text d p.public) (public_text d q.public) (group_long d p.own q.own l) e in
     let own : p.own ≡ q.own = group_once d p.own q.own k l a x r.0 in
@@ -78,7 +86,8 @@ seen_once d p q k l m a b x y e =
     ap f own ∙ ap h public
 
 -- what two signals show first, and the others
-firsts_once : (d : DeckValue) (p q : Seen) (s t : Signal) → IsDeck d → shapes (p ∷ s) ≡ shapes (q ∷ t) → OfDeck d (p ∷ s) → OfDeck d (q ∷ t) → seen_text d p ++ rounds_text d s ≡ seen_text d q ++ rounds_text d t → (p ≡ q) × (rounds_text d s ≡ rounds_text d t)
+firsts_once : (d : DeckValue) (p q : Seen) (s t : Signal) → IsDeck d → shapes (p ∷ s) ≡ shapes (q ∷ t) → OfDeck d (p ∷ s) → OfDeck d (q ∷ t)
+    → seen_text d p ++ rounds_text d s ≡ seen_text d q ++ rounds_text d t → (p ≡ q) × (rounds_text d s ≡ rounds_text d t)
 firsts_once d p q s t k e a b h =
     let first : ℕ × ℕ = (length p.own, length p.public) in
     let other : ℕ × ℕ = (length q.own, length q.public) in
@@ -125,10 +134,12 @@ of_deck g d (suc r) i k l =
     subst P (sym c.is) (of_deck-push d (signal_at g r p) last (of_deck g d r p k c.within) (subst A k h.own_in) (subst B k h.public_in))
 
 -- signals of a round with one text are one
-pub text_once : (g : Game) (d : DeckValue) (round i k : ℕ) → IsDeck d → length g.copies ≡ kinds d → i < length (signals g round) → k < length (signals g round) → signal_text d (signal_at g round i) ≡ signal_text d (signal_at g round k) → i ≡ k
+pub text_once : (g : Game) (d : DeckValue) (round i k : ℕ) → IsDeck d → length g.copies ≡ kinds d → i < length (signals g round)
+    → k < length (signals g round) → signal_text d (signal_at g round i) ≡ signal_text d (signal_at g round k) → i ≡ k
 text_once g d round i k deck e a b h =
     let same : signal_at g round i ≡ signal_at g round k =
-    signal_once d (signal_at g round i) (signal_at g round k) deck (shaped g round i a ∙ sym (shaped g round k b)) (of_deck g d round i e a) (of_deck g d round k e b) h in
+    signal_once d (signal_at g round i) (signal_at g round k) deck (shaped g round i a
+    ∙ sym (shaped g round k b)) (of_deck g d round i e a) (of_deck g d round k e b) h in
     ⊎_elim
     (λ (l : i < k). absurd (signals_differ g round i k l b same))
     (λ (l : k ≤ i). ⊎_elim

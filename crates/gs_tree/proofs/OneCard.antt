@@ -70,10 +70,12 @@ range_push a (suc n) =
 pub cards_more : (left : List ℕ) (n : ℕ) → cards_to left (n + 1) ≡ cards_to left n ++ groups_with (groups_above 0) left n
 cards_more left n =
     let f : ℕ → List (List ℕ) = groups_with (groups_above 0) left in
-    ap (flat_map f) (range_push 0 n) ∙ flat_map-append f (range_with_len 0 n) ((0 + n) ∷ []) ∙ ap (λ l. cards_to left n ++ l) (append-nil (f (0 + n))) ∙ (let e : 0 + n ≡ n = omega arith in ap (λ k. cards_to left n ++ f k) e)
+    ap (flat_map f) (range_push 0 n) ∙ flat_map-append f (range_with_len 0 n) ((0 + n) ∷ []) ∙ ap (λ l. cards_to left n ++ l) (append-nil (f (0 + n)))
+    ∙ (let e : 0 + n ≡ n = omega arith in ap (λ k. cards_to left n ++ f k) e)
 
 -- what is added for all kinds so far, with one more
-pub added_more : {Y : Type 0} (h : List ℕ → Y) (left : List ℕ) (n : ℕ) (start before after : List Y) → before ≡ start ++ map h (cards_to left n) → after ≡ before ++ map h (groups_with (groups_above 0) left n)
+pub added_more : {Y : Type 0} (h : List ℕ → Y) (left : List ℕ) (n : ℕ) (start before after : List Y) → before ≡ start ++ map h (cards_to left n)
+    → after ≡ before ++ map h (groups_with (groups_above 0) left n)
     → after ≡ start ++ map h (cards_to left (n + 1))
 added_more h left n start before after b a =
     let f : List (List ℕ) = groups_with (groups_above 0) left n in

@@ -23,7 +23,8 @@ range_step a n l = let e : n - a ≡ suc (n - (a + 1)) = omega arith in ap (rang
 range_end : (a n : ℕ) → n ≤ a → range_with_len a (n - a) ≡ []
 range_end a n l = let e : n - a ≡ 0 = omega arith in ap (range_with_len a) e
 
-pub between_step : (g : Game) (from to : ℕ) → from < to → deals_between g from to ≡ cond (nat_lt 0 (pair_at g from).weight) (pair_at g from ∷ deals_between g (from + 1) to) (deals_between g (from + 1) to)
+pub between_step : (g : Game) (from to : ℕ) → from < to → deals_between g from to
+    ≡ cond (nat_lt 0 (pair_at g from).weight) (pair_at g from ∷ deals_between g (from + 1) to) (deals_between g (from + 1) to)
 between_step g from to l = ap (λ r. filter (λ d. nat_lt 0 d.weight) (map (pair_at g) r)) (range_step from to l)
 
 pub between_end : (g : Game) (from to : ℕ) → to ≤ from → deals_between g from to ≡ []
@@ -32,7 +33,8 @@ between_end g from to l = ap (λ r. filter (λ d. nat_lt 0 d.weight) (map (pair_
 -- ---- rows
 
 range_two : (a m n : ℕ) → range_with_len a (m + n) ≡ range_with_len a m ++ range_with_len (a + m) n
-range_two a zero n = let e : zero + n ≡ n = omega arith in let f : a + zero ≡ a = omega arith in ap (range_with_len a) e ∙ ap (λ k. range_with_len k n) (sym f)
+range_two a zero n = let e : zero + n ≡ n = omega arith in let f : a + zero ≡ a = omega arith in
+    ap (range_with_len a) e ∙ ap (λ k. range_with_len k n) (sym f)
 range_two a (suc m) n =
     let e : suc m + n ≡ suc (m + n) = omega arith in let f : a + 1 + m ≡ a + suc m = omega arith in
     ap (range_with_len a) e ∙ ap (λ l. a ∷ l) (range_two (a + 1) m n) ∙ ap (λ k. a ∷ (range_with_len (a + 1) m ++ range_with_len k n)) f
@@ -50,7 +52,8 @@ row_of n i F j (suc m) l =
     ∙ ap (λ (x : ℕ). F i j ∷ map (λ k. F (k / n) (k % n)) (range_with_len x m)) next
     ∙ ap (λ l. F i j ∷ l) (row_of n i F (j + 1) m (omega arith))
 
-rows_of : (n : ℕ) (F : ℕ → ℕ → Deal) (a m : ℕ) → map (λ k. F (k / n) (k % n)) (range_with_len (a * n) (m * n)) ≡ flat_map (λ i. map (F i) (range_with_len 0 n)) (range_with_len a m)
+rows_of : (n : ℕ) (F : ℕ → ℕ → Deal) (a m : ℕ) → map (λ k. F (k / n) (k % n)) (range_with_len (a * n) (m * n))
+    ≡ flat_map (λ i. map (F i) (range_with_len 0 n)) (range_with_len a m)
 rows_of n F a zero = let e : zero * n ≡ 0 = omega arith in ap (λ k. map (λ k. F (k / n) (k % n)) (range_with_len (a * n) k)) e
 rows_of n F a (suc m) =
     let pair = λ (k : ℕ). F (k / n) (k % n) in
@@ -93,7 +96,8 @@ all_pairs g =
 
 -- ---- one row
 
-keeps : (g : Game) (i a : ℕ) (xs : List ℕ) → filter (λ (d : Deal). d.one == i) (filter (λ d. nat_lt 0 d.weight) (map (deal_at g a) xs)) ≡ cond (eqb a i) (filter (λ d. nat_lt 0 d.weight) (map (deal_at g a) xs)) []
+keeps : (g : Game) (i a : ℕ) (xs : List ℕ) → filter (λ (d : Deal). d.one == i) (filter (λ d. nat_lt 0 d.weight) (map (deal_at g a) xs))
+    ≡ cond (eqb a i) (filter (λ d. nat_lt 0 d.weight) (map (deal_at g a) xs)) []
 keeps g i a [] = go (eqb a i)
   where
     go : (b : Bool) → [] ≡ cond b (filter (λ (d : Deal). nat_lt 0 d.weight) []) []
@@ -106,7 +110,8 @@ keeps g i a (x ∷ xs) = go (nat_lt 0 (deal_at g a x).weight) (eqb a i) refl (ke
 
     go : (t b : Bool) → eqb a i ≡ b → filter (λ (d : Deal). d.one == i) rest ≡ cond b rest []
         → filter (λ (d : Deal). d.one == i) (cond t (deal_at g a x ∷ rest) rest) ≡ cond b (cond t (deal_at g a x ∷ rest) rest) []
-    go true true e h = ap (λ c. cond c (deal_at g a x ∷ filter (λ (d : Deal). d.one == i) rest) (filter (λ (d : Deal). d.one == i) rest)) e ∙ ap (λ l. deal_at g a x ∷ l) h
+    go true true e h = ap (λ c. cond c (deal_at g a x ∷ filter (λ (d : Deal). d.one == i) rest) (filter (λ (d : Deal). d.one == i) rest)) e
+        ∙ ap (λ l. deal_at g a x ∷ l) h
     go true false e h = ap (λ c. cond c (deal_at g a x ∷ filter (λ (d : Deal). d.one == i) rest) (filter (λ (d : Deal). d.one == i) rest)) e ∙ h
     go false true e h = h
     go false false e h = h
@@ -129,7 +134,8 @@ pick h i a (suc m) low l = ⊎_elim
     (cases_eq a i)
 
 -- the deals of a signal are the pairs of its row that weigh something
-pub row_deals : (g : Game) (i : ℕ) → i < last_count g → filter (λ (d : Deal). d.one == i) (deals g) ≡ filter (λ d. nat_lt 0 d.weight) (map (deal_at g i) (range_with_len 0 (last_count g)))
+pub row_deals : (g : Game) (i : ℕ) → i < last_count g → filter (λ (d : Deal). d.one == i) (deals g)
+    ≡ filter (λ d. nat_lt 0 d.weight) (map (deal_at g i) (range_with_len 0 (last_count g)))
 row_deals g i l =
     let n = last_count g in
     let keep = λ (l : List Deal). filter (λ d. nat_lt 0 d.weight) l in
@@ -142,7 +148,8 @@ row_deals g i l =
     ∙ pick (λ a. keep (row a)) i 0 n (omega arith) (omega arith)
 
 -- the pairs of a row are the deals of its signal
-pub row_pairs : (g : Game) (i : ℕ) → i < last_count g → deals_between g (i * last_count g) (i * last_count g + last_count g) ≡ filter (λ (d : Deal). d.one == i) (deals g)
+pub row_pairs : (g : Game) (i : ℕ) → i < last_count g → deals_between g (i * last_count g) (i * last_count g + last_count g)
+    ≡ filter (λ (d : Deal). d.one == i) (deals g)
 row_pairs g i l =
     let n = last_count g in
     let keep = λ (l : List Deal). filter (λ d. nat_lt 0 d.weight) l in

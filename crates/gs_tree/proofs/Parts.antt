@@ -8,7 +8,8 @@ use Rattle.gs_model.specs.Signals.{Signal, own_cards, public_cards, signal_at, s
 use Rattle.gs_tree.specs.Kept.{AreHands}
 use Rattle.gs_tree.proofs.Rows.{part_in, part_is, parts_length}
 
-module _ (f : Signal → List ℕ) (each : ℕ) (ss : List Signal) (kept : List ℕ) (is : kept ≡ flat_map f ss) (sized : (i : ℕ) → i < length ss → length (f (get_or ss i [])) ≡ each) where
+module _ (f : Signal → List ℕ) (each : ℕ) (ss : List Signal) (kept : List ℕ) (is : kept ≡ flat_map f ss) (sized : (i : ℕ) → i < length ss
+    → length (f (get_or ss i [])) ≡ each) where
   -- as many cards as there are signals, each with as many
   pub kept_long : length kept ≡ length ss * each
   kept_long = ap (λ (x : List ℕ). length x) is ∙ parts_length f each ss [] sized

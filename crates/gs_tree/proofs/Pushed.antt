@@ -7,14 +7,16 @@ use Rattle.gs_tree.specs.Layers.{showing}
 use Rattle.std.proofs.lemmas.List.{take_more, map-append, flat_map_more}
 
 -- one more member
-pub mapped_more : {X Y : Type 0} (f : X → Y) (start now : List Y) (xs : List X) (i : ℕ) (d : X) (y : Y) → i < length xs → now ≡ start ++ map f (take i xs) → y ≡ f (get_or xs i d) → now ++ y ∷ [] ≡ start ++ map f (take (i + 1) xs)
+pub mapped_more : {X Y : Type 0} (f : X → Y) (start now : List Y) (xs : List X) (i : ℕ) (d : X) (y : Y) → i < length xs → now ≡ start ++ map f (take i xs)
+    → y ≡ f (get_or xs i d) → now ++ y ∷ [] ≡ start ++ map f (take (i + 1) xs)
 mapped_more f start now xs i d y l h e =
     ap (λ n. n ++ y ∷ []) h ∙ append_assoc start (map f (take i xs)) (y ∷ [])
     ∙ ap (λ z. start ++ (map f (take i xs) ++ z ∷ [])) e
     ∙ ap (λ n. start ++ n) (sym (map-append f (take i xs) (get_or xs i d ∷ [])) ∙ ap (map f) (sym (take_more xs i d l)))
 
 -- one more member, which gives a list
-pub joined_more : {X Y : Type 0} (f : X → List Y) (start now more : List Y) (xs : List X) (i : ℕ) (d : X) → i < length xs → now ≡ start ++ flat_map f (take i xs) → more ≡ f (get_or xs i d) → now ++ more ≡ start ++ flat_map f (take (i + 1) xs)
+pub joined_more : {X Y : Type 0} (f : X → List Y) (start now more : List Y) (xs : List X) (i : ℕ) (d : X) → i < length xs
+    → now ≡ start ++ flat_map f (take i xs) → more ≡ f (get_or xs i d) → now ++ more ≡ start ++ flat_map f (take (i + 1) xs)
 joined_more f start now more xs i d l h e =
     ap (λ n. n ++ more) h ∙ ap (λ z. (start ++ flat_map f (take i xs)) ++ z) e ∙ flat_map_more f start (take i xs) (get_or xs i d)
     ∙ ap (λ ys. start ++ flat_map f ys) (sym (take_more xs i d l))
@@ -25,9 +27,11 @@ map_both f g (x ∷ xs) = ap (λ l. f (g x) ∷ l) (map_both f g xs)
 
 -- the edges of all that a round can show
 pub edges_of : (left : List ℕ) (size : ℕ) (owns : List (List ℕ)) →
-    map (edge left) (flat_map (λ own. map (showing own) (groups (left_after left own) size)) owns) ≡ flat_map (λ own. map (λ g. ways left own * ways (left_after left own) g) (groups (left_after left own) size)) owns
+    map (edge left) (flat_map (λ own. map (showing own) (groups (left_after left own) size)) owns)
+    ≡ flat_map (λ own. map (λ g. ways left own * ways (left_after left own) g) (groups (left_after left own) size)) owns
 edges_of left size [] = refl
 edges_of left size (own ∷ owns) =
     map-append (edge left) (map (showing own) (groups (left_after left own) size)) (flat_map (λ o. map (showing o) (groups (left_after left o) size)) owns)
-    ∙ ap (λ l. l ++ map (edge left) (flat_map (λ o. map (showing o) (groups (left_after left o) size)) owns)) (map_both (edge left) (showing own) (groups (left_after left own) size))
+    ∙ ap (λ l. l ++ map (edge left) (flat_map (λ o. map (showing o) (groups (left_after left o) size)) owns))
+    (map_both (edge left) (showing own) (groups (left_after left own) size))
     ∙ ap (λ l. map (λ g. ways left own * ways (left_after left own) g) (groups (left_after left own) size) ++ l) (edges_of left size owns)

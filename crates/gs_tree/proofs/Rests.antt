@@ -27,7 +27,8 @@ public_shown d [] l = absurd (false≢true l)
 public_shown d (x ∷ g) l = refl
 
 -- the text of a signal of a later round, from what the tables hold
-pub text_grown : (g : Game) (d : DeckValue) (round i parent : ℕ) (shown : Shown) → 1 < round → i < length (signals g round) → parent ≡ get_or (parents g round) i 0 → seen_of shown ≡ last_seen (signal_at g round i) →
+pub text_grown : (g : Game) (d : DeckValue) (round i parent : ℕ) (shown : Shown) → 1 < round → i < length (signals g round)
+    → parent ≡ get_or (parents g round) i 0 → seen_of shown ≡ last_seen (signal_at g round i) →
     (signal_text d (signal_at g (round - 1) parent) ++ 47 ∷ []) ++ seen_text d (seen_of shown) ≡ signal_text d (signal_at g round i)
 text_grown g d round i parent shown some l at shows =
     ap (λ k. (signal_text d (signal_at g (round - 1) k) ++ 47 ∷ []) ++ seen_text d (seen_of shown)) at
@@ -36,4 +37,5 @@ text_grown g d round i parent shown some l at shows =
 
 -- the same behind what stands before
 pub text_behind : (before front last whole : List ℕ) → (front ++ 47 ∷ []) ++ last ≡ whole → ((before ++ front) ++ 47 ∷ []) ++ last ≡ before ++ whole
-text_behind before front last whole e = ap (λ x. x ++ last) (append_assoc before front (47 ∷ [])) ∙ append_assoc before (front ++ 47 ∷ []) last ∙ ap (λ x. before ++ x) e
+text_behind before front last whole e = ap (λ x. x ++ last) (append_assoc before front (47 ∷ [])) ∙ append_assoc before (front ++ 47 ∷ []) last
+    ∙ ap (λ x. before ++ x) e

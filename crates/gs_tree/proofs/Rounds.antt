@@ -41,12 +41,14 @@ module _ (g : Game) (ps : List (Vec ℕ)) (ls : List Layer) (n : ℕ) (t : AreTa
   row_is_long row r = ap (λ (v : Vec ℕ). length v.items) r ∙ ap (λ (x : List ℕ). length x) (t.owned n row in') ∙ length-parents g (suc n)
 
   -- what the layer shows of a signal
-  pub shown_at : (l : Layer) (i : ℕ) → l ≡ get_or ls n l → i < length l.shown.items → (d : Shown) → seen_of (get_or l.shown.items i d) ≡ last_seen (signal_at g (suc n) i)
+  pub shown_at : (l : Layer) (i : ℕ) → l ≡ get_or ls n l → i < length l.shown.items → (d : Shown)
+      → seen_of (get_or l.shown.items i d) ≡ last_seen (signal_at g (suc n) i)
   shown_at l i e m d =
       let h = layer_of g ps ls (suc n) l t (omega arith) (omega (arith, in')) (e ∙ ap (λ k. get_or ls k l) (sym before)) in
       h.shows i d (omega (arith, h.long, m))
 
-  pub told : (row : Vec ℕ) (l : Layer) (i : ℕ) → row ≡ get_or ps n row → l ≡ get_or ls n l → i < length (signals g (suc n)) → IsTold g n i (get_or row.items i 0) row.items l
+  pub told : (row : Vec ℕ) (l : Layer) (i : ℕ) → row ≡ get_or ps n row → l ≡ get_or ls n l → i < length (signals g (suc n))
+      → IsTold g n i (get_or row.items i 0) row.items l
   told row l i r e m =
       let h = layer_of g ps ls (suc n) l t (omega arith) (omega (arith, in')) (e ∙ ap (λ k. get_or ls k l) (sym before)) in
       let rows : row.items ≡ parents g (suc n) = ap (λ (v : Vec ℕ). v.items) r ∙ t.owned n row in' in
@@ -71,14 +73,16 @@ module _ (g : Game) (ps : List (Vec ℕ)) (ls : List Layer) (n : ℕ) (t : AreTa
   row_covers row l i r e m = omega (arith, row_is_long row r, (layer_long l e).0, m)
 
   -- the same by the parent that was read
-  pub told_at : (row : Vec ℕ) (l : Layer) (i p : ℕ) → row ≡ get_or ps n row → l ≡ get_or ls n l → i < length l.shown.items → p ≡ get_or row.items i p → IsTold g n i p row.items l
+  pub told_at : (row : Vec ℕ) (l : Layer) (i p : ℕ) → row ≡ get_or ps n row → l ≡ get_or ls n l → i < length l.shown.items → p ≡ get_or row.items i p
+      → IsTold g n i p row.items l
   told_at row l i p r e m read =
       let h = told row l i r e (omega (arith, (layer_long l e).0, m)) in
       let P : ℕ → Type 0 = λ k. IsTold g n i k row.items l in
       subst P (sym (read ∙ get_or_default_zero row.items i p h.row_long)) h
 
 -- the ways to a signal fit
-pub path_fits : (g : Game) (n i p a b : ℕ) → IsDealable g → All (λ c. c ≤ 9) g.copies → n < round_count g → round_count g ≤ 4 → i < length (signals g (suc n)) → p < length (signals g n) → a ≡ path_weight g.copies (signal_at g n p) → b ≡ last_edge g.copies (signal_at g (suc n) i) → a * b ≤ 12157665459056928801
+pub path_fits : (g : Game) (n i p a b : ℕ) → IsDealable g → All (λ c. c ≤ 9) g.copies → n < round_count g → round_count g ≤ 4 → i < length (signals g (suc n))
+    → p < length (signals g n) → a ≡ path_weight g.copies (signal_at g n p) → b ≡ last_edge g.copies (signal_at g (suc n) i) → a * b ≤ 12157665459056928801
 path_fits g n i p a b d few in' rounds m l e f =
     let before : n ≡ suc n - 1 = omega arith in
     let P : ℕ → Type 0 = λ k. a ≤ 59049 ^ k in
@@ -86,7 +90,8 @@ path_fits g n i p a b d few in' rounds m l e f =
     let edge : b ≤ 59049 = omega (arith, f, last_edge_small g (suc n) i d few (omega arith) (omega (arith, in')) m) in
     power_fits (a * b) (suc n) (omega (arith, in', rounds)) (power_step a b (suc n) (omega arith) (subst P before small) edge)
 
-all_ones : {X : Type 0} (f : X → ℕ) (xs : List X) (d : X) (n : ℕ) → n ≡ length xs → ((i : ℕ) → i < length xs → f (get_or xs i d) ≡ 1) → replicate n 1 ≡ map f xs
+all_ones : {X : Type 0} (f : X → ℕ) (xs : List X) (d : X) (n : ℕ) → n ≡ length xs → ((i : ℕ) → i < length xs → f (get_or xs i d) ≡ 1)
+    → replicate n 1 ≡ map f xs
 all_ones f [] d zero e h = refl
 all_ones f [] d (suc n) e h = absurd (omega (arith, e))
 all_ones f (x ∷ xs) d zero e h = absurd (omega (arith, e))
@@ -95,17 +100,21 @@ all_ones f (x ∷ xs) d (suc n) e h =
     ap (λ y. y ∷ replicate n 1) (sym here) ∙ ap (λ l. f x ∷ l) (all_ones f xs d n (omega (arith, e)) (λ i l. h (suc i) (omega arith)))
 
 -- where there is one way to each signal of a round, and to go on from there to each of the next one, there is one way to each of these
-pub one_way : (g : Game) (ps : List (Vec ℕ)) (ls : List Layer) (n : ℕ) → AreTables g ps ls → n < length ls → (row : Vec ℕ) (l : Layer) → row ≡ get_or ps n row → l ≡ get_or ls n l →
-    (before count : ℕ) → map (path_weight g.copies) (signals g n) ≡ replicate before 1 → l.edges ≡ replicate count 1 → replicate count 1 ≡ map (path_weight g.copies) (signals g (suc n))
+pub one_way : (g : Game) (ps : List (Vec ℕ)) (ls : List Layer) (n : ℕ) → AreTables g ps ls → n < length ls → (row : Vec ℕ) (l : Layer) → row ≡ get_or ps n row
+    → l ≡ get_or ls n l →
+    (before count : ℕ) → map (path_weight g.copies) (signals g n) ≡ replicate before 1 → l.edges ≡ replicate count 1
+    → replicate count 1 ≡ map (path_weight g.copies) (signals g (suc n))
 one_way g ps ls n t in' row l r e before count b w =
     let ss : List Signal = signals g (suc n) in
     let long : count ≡ length ss = sym (length-replicate count 1) ∙ ap (λ (x : List ℕ). length x) (sym w) ∙ (layer_long g ps ls n t in' l e).1 in
-    let wide : before ≡ length (signals g n) = sym (length-replicate before 1) ∙ ap (λ (x : List ℕ). length x) (sym b) ∙ length-map (signals g n) (path_weight g.copies) in
+    let wide : before ≡ length (signals g n) = sym (length-replicate before 1) ∙ ap (λ (x : List ℕ). length x) (sym b)
+    ∙ length-map (signals g n) (path_weight g.copies) in
     all_ones (path_weight g.copies) ss [] count long (λ i m.
     let h = told g ps ls n t in' row l i r e m in
     let p : ℕ = get_or row.items i 0 in
     let path : path_weight g.copies (signal_at g n p) ≡ 1 =
-    sym (get_or-map (path_weight g.copies) (signals g n) p [] 0 h.parent_in) ∙ ap (λ (x : List ℕ). get_or x p 0) b ∙ get_or-replicate before p 1 0 (omega (arith, wide, h.parent_in)) in
+    sym (get_or-map (path_weight g.copies) (signals g n) p [] 0 h.parent_in) ∙ ap (λ (x : List ℕ). get_or x p 0) b
+    ∙ get_or-replicate before p 1 0 (omega (arith, wide, h.parent_in)) in
     let edge : last_edge g.copies (signal_at g (suc n) i) ≡ 1 =
     sym h.edge_is ∙ ap (λ (x : List ℕ). get_or x i 0) w ∙ get_or-replicate count i 1 0 (omega (arith, long, m)) in
     h.path_is ∙ ap (λ k. k * last_edge g.copies (signal_at g (suc n) i)) path ∙ ap (λ k. 1 * k) edge)

@@ -25,7 +25,8 @@ use Rattle.gs_tree.proofs.Paths.{product_small}
 
 -- ---- lists of equal parts
 
-pub parts_length : {X : Type 0} (f : X → List ℕ) (n : ℕ) (xs : List X) (d : X) → ((i : ℕ) → i < length xs → length (f (get_or xs i d)) ≡ n) → length (flat_map f xs) ≡ length xs * n
+pub parts_length : {X : Type 0} (f : X → List ℕ) (n : ℕ) (xs : List X) (d : X) → ((i : ℕ) → i < length xs → length (f (get_or xs i d)) ≡ n)
+    → length (flat_map f xs) ≡ length xs * n
 parts_length f n [] d h = omega arith
 parts_length f n (x ∷ xs) d h =
     let here : length (f x) ≡ n = h 0 (omega arith) in
@@ -33,7 +34,8 @@ parts_length f n (x ∷ xs) d h =
     let more : suc (length xs) * n ≡ length xs * n + n = omega arith in
     omega (arith, length-append (f x) (flat_map f xs), here, rest, more)
 
-pub part_is : {X : Type 0} (f : X → List ℕ) (n : ℕ) (xs : List X) (d : X) → ((i : ℕ) → i < length xs → length (f (get_or xs i d)) ≡ n) → (i : ℕ) → i < length xs → take n (drop (i * n) (flat_map f xs)) ≡ f (get_or xs i d)
+pub part_is : {X : Type 0} (f : X → List ℕ) (n : ℕ) (xs : List X) (d : X) → ((i : ℕ) → i < length xs → length (f (get_or xs i d)) ≡ n) → (i : ℕ)
+    → i < length xs → take n (drop (i * n) (flat_map f xs)) ≡ f (get_or xs i d)
 part_is f n [] d h i l = absurd (omega arith)
 part_is f n (x ∷ xs) d h zero l =
     let start : 0 * n ≡ 0 = omega arith in
@@ -57,7 +59,8 @@ part_in i n m l =
     omega arith
 
 -- how long each part is, by the length of all
-pub part_long : {X : Type 0} (f : X → List ℕ) (n : ℕ) (xs : List X) (d : X) (all each : ℕ) → ((i : ℕ) → i < length xs → length (f (get_or xs i d)) ≡ n) → all ≡ length (flat_map f xs) → each ≡ max (length xs) 1 → (i : ℕ) → i < length xs → length (f (get_or xs i d)) ≡ all / each
+pub part_long : {X : Type 0} (f : X → List ℕ) (n : ℕ) (xs : List X) (d : X) (all each : ℕ) → ((i : ℕ) → i < length xs → length (f (get_or xs i d)) ≡ n)
+    → all ≡ length (flat_map f xs) → each ≡ max (length xs) 1 → (i : ℕ) → i < length xs → length (f (get_or xs i d)) ≡ all / each
 part_long f n xs d all each h a e i l =
     let some : 0 < length xs = omega arith in
     let count : each ≡ length xs = omega arith in
@@ -98,12 +101,14 @@ has_rounds g (suc n) i l =
     })
 
 -- as many own cards as the game's list of rounds says
-pub width_at : (g : Game) (rounds : List GameRound) (n k : ℕ) (r : GameRound) (s : Signal) → g.rounds ≡ map round_of rounds → HasRounds g n s → k < n → k < length rounds → r ≡ get_or rounds k r → length (get_or s k nothing).own ≡ r.private
+pub width_at : (g : Game) (rounds : List GameRound) (n k : ℕ) (r : GameRound) (s : Signal) → g.rounds ≡ map round_of rounds → HasRounds g n s → k < n
+    → k < length rounds → r ≡ get_or rounds k r → length (get_or s k nothing).own ≡ r.private
 width_at g rounds n k r s e h l m at =
     let none : Round = record { private = 0; public = 0; tree = even } in
     let before : suc k - 1 ≡ k = omega arith in
     let private : Round → ℕ = λ x. x.private in
-    (h.each k l).own_counted ∙ ap (λ j. private (get_or g.rounds j none)) before ∙ ap (λ (x : List Round). private (get_or x k none)) e ∙ ap private (get_or-map round_of rounds k r none m ∙ ap round_of (sym at))
+    (h.each k l).own_counted ∙ ap (λ j. private (get_or g.rounds j none)) before ∙ ap (λ (x : List Round). private (get_or x k none)) e
+    ∙ ap private (get_or-map round_of rounds k r none m ∙ ap round_of (sym at))
 
 -- the own cards of one round more
 pub record IsOwnStep (left : List ℕ) (t : Signal) (k start end : ℕ) (own : List ℕ) : Type 0 where
@@ -113,19 +118,22 @@ pub record IsOwnStep (left : List ℕ) (t : Signal) (k start end : ℕ) (own : L
   pub next : end ≡ length (own_cards (take (k + 1) t))
   pub more : own_ways left (take (k + 1) t) ≡ own_ways left (take k t) * ways (left_after left (own_cards (take k t))) (get_or t k nothing).own
 
-pub own_step : (left : List ℕ) (t : Signal) (k start end : ℕ) (own : List ℕ) → own ≡ own_cards t → k < length t → start ≡ length (own_cards (take k t)) → end ≡ start + length (get_or t k nothing).own → IsOwnStep left t k start end own
+pub own_step : (left : List ℕ) (t : Signal) (k start end : ℕ) (own : List ℕ) → own ≡ own_cards t → k < length t → start ≡ length (own_cards (take k t))
+    → end ≡ start + length (get_or t k nothing).own → IsOwnStep left t k start end own
 own_step left t k start end own e l s w =
     let p : Seen = get_or t k nothing in
     let front : List ℕ = own_cards (take k t) in
     let rest : List ℕ = own_cards (drop (k + 1) t) in
     let split : own ≡ front ++ (p.own ++ rest) =
-    e ∙ ap own_cards (sym (take-append-drop k t)) ∙ flat_map-append (λ (q : Seen). q.own) (take k t) (drop k t) ∙ ap (λ x. front ++ own_cards x) (drop_more t k nothing l) in
+    e ∙ ap own_cards (sym (take-append-drop k t)) ∙ flat_map-append (λ (q : Seen). q.own) (take k t) (drop k t)
+    ∙ ap (λ x. front ++ own_cards x) (drop_more t k nothing l) in
     let one : own_cards (take (k + 1) t) ≡ front ++ p.own = ap own_cards (take_more t k nothing l) ∙ own_cards-push (take k t) p in
     let width : end - start ≡ length p.own = omega arith in
     record {
       within = omega (arith, ap (λ (x : List ℕ). length x) split, length-append front (p.own ++ rest), length-append p.own rest);
       before = between_from_start own start ∙ ap (take start) split ∙ take_at front (p.own ++ rest) start (sym s);
-      here = ap (λ x. take (end - start) (drop start x)) split ∙ ap (take (end - start)) (drop_at front (p.own ++ rest) start (sym s)) ∙ take_at p.own rest (end - start) (sym width);
+      here = ap (λ x. take (end - start) (drop start x)) split ∙ ap (take (end - start)) (drop_at front (p.own ++ rest) start (sym s))
+          ∙ take_at p.own rest (end - start) (sym width);
       next = omega (arith, ap (λ (x : List ℕ). length x) one, length-append front p.own);
       more = ap (own_ways left) (take_more t k nothing l) ∙ own_ways-push left (take k t) p;
     }
@@ -136,7 +144,9 @@ pub record IsTurn (g : Game) (left : List ℕ) (t : Signal) (k start end : ℕ) 
   pub own_in : All (λ c. c < length g.copies) (between start end own)
   pub few : length (between start end own) ≤ 3
 
-pub turn : (g : Game) (left : List ℕ) (rounds : List GameRound) (i k : ℕ) (r : GameRound) (start end : ℕ) (own : List ℕ) → IsDealable g → g.rounds ≡ map round_of rounds → i < last_count g → own ≡ own_cards (signal_at g (round_count g) i) → k < length rounds → r ≡ get_or rounds k r → start ≡ length (own_cards (take k (signal_at g (round_count g) i))) → end ≡ start + r.private →
+pub turn : (g : Game) (left : List ℕ) (rounds : List GameRound) (i k : ℕ) (r : GameRound) (start end : ℕ) (own : List ℕ) → IsDealable g
+    → g.rounds ≡ map round_of rounds → i < last_count g → own ≡ own_cards (signal_at g (round_count g) i) → k < length rounds → r ≡ get_or rounds k r
+    → start ≡ length (own_cards (take k (signal_at g (round_count g) i))) → end ≡ start + r.private →
     IsTurn g left (signal_at g (round_count g) i) k start end own
 turn g left rounds i k r start end own d e l o m at s w =
     let t : Signal = signal_at g (round_count g) i in

@@ -1,5 +1,5 @@
 -- Signals of one round that show the same public cards.
-use Rattle.std.proofs.Common.{◌≡◌, ℕ, zero, suc, ◌<◌, ◌-◌, ◌++◌, List, [], ◌∷◌, length, get_or, refl, sym, ap, ◌∙◌, arith, subst, Bool, true, false, eqb}
+use Rattle.std.proofs.Common.{◌≡◌, ℕ, zero, suc, ◌<◌, ◌++◌, List, [], ◌∷◌, length, get_or, refl, sym, ap, ◌∙◌, arith, Bool, true, false, eqb}
 use Rattle.std.specs.Prelude.{◌&&◌}
 use Rattle.std.proofs.lemmas.Bool.Decides.{Decides-eqb}
 use Rattle.gs_model.specs.Deals.{same_cards, same_public}
@@ -32,7 +32,8 @@ public_alike (p ∷ s) [] u h = cc
 public_alike (p ∷ s) (q ∷ t) [] h = refl
 public_alike (p ∷ s) (q ∷ t) (r ∷ u) h =
     let b = and_both (same_cards p.public q.public) (same_public s t) h in
-    ap (λ c. same_cards c r.public && same_public s u) (cards_are p.public q.public b.0) ∙ ap (λ c. same_cards q.public r.public && c) (public_alike s t u b.1)
+    ap (λ c. same_cards c r.public && same_public s u) (cards_are p.public q.public b.0)
+    ∙ ap (λ c. same_cards q.public r.public && c) (public_alike s t u b.1)
 
 -- the same public cards, all in one list
 pub one_list : (s t : Signal) → same_public s t ≡ true → public_cards s ≡ public_cards t
@@ -97,10 +98,12 @@ shaped g (suc r) i l =
     ∙ ap (λ n. dealt_shapes g r ++ ((round_at g (suc r)).private, n) ∷ []) h.public_counted
 
 -- the list of all public cards tells signals of a round by what they show
-pub same_list : (g : Game) (round i k : ℕ) → i < length (signals g round) → k < length (signals g round) → public_cards (signal_at g round i) ≡ public_cards (signal_at g round k) → same_public (signal_at g round i) (signal_at g round k) ≡ true
+pub same_list : (g : Game) (round i k : ℕ) → i < length (signals g round) → k < length (signals g round)
+    → public_cards (signal_at g round i) ≡ public_cards (signal_at g round k) → same_public (signal_at g round i) (signal_at g round k) ≡ true
 same_list g round i k a b e = by_shapes (signal_at g round i) (signal_at g round k) (shaped g round i a ∙ sym (shaped g round k b)) e
 
-pub other_list : (g : Game) (round i k : ℕ) → (public_cards (signal_at g round k) ≡ public_cards (signal_at g round i) → ⊥) → same_public (signal_at g round i) (signal_at g round k) ≡ false
+pub other_list : (g : Game) (round i k : ℕ) → (public_cards (signal_at g round k) ≡ public_cards (signal_at g round i) → ⊥)
+    → same_public (signal_at g round i) (signal_at g round k) ≡ false
 other_list g round i k ne = go (same_public (signal_at g round i) (signal_at g round k)) refl
   where
     go : (b : Bool) → same_public (signal_at g round i) (signal_at g round k) ≡ b → b ≡ false

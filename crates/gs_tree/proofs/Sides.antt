@@ -15,26 +15,34 @@ use Rattle.gs_tree.proofs.Dealt.{last_is_shown}
 use Rattle.gs_tree.proofs.Hands.{own_cards-push, public_cards-push}
 
 -- the cards of a signal: its parent's, and those that it shows last
-own_hand : (s front : Signal) (last : Seen) (part cards : List ℕ) → s ≡ front ++ last ∷ [] → part ≡ own_cards front → cards ≡ last.own → part ++ cards ≡ own_cards s
+own_hand : (s front : Signal) (last : Seen) (part cards : List ℕ) → s ≡ front ++ last ∷ [] → part ≡ own_cards front → cards ≡ last.own
+    → part ++ cards ≡ own_cards s
 own_hand s front last part cards e p c = ap (λ x. x ++ cards) p ∙ ap (λ x. own_cards front ++ x) c ∙ sym (own_cards-push front last) ∙ ap own_cards (sym e)
 
-public_hand : (s front : Signal) (last : Seen) (part cards : List ℕ) → s ≡ front ++ last ∷ [] → part ≡ public_cards front → cards ≡ last.public → part ++ cards ≡ public_cards s
-public_hand s front last part cards e p c = ap (λ x. x ++ cards) p ∙ ap (λ x. public_cards front ++ x) c ∙ sym (public_cards-push front last) ∙ ap public_cards (sym e)
+public_hand : (s front : Signal) (last : Seen) (part cards : List ℕ) → s ≡ front ++ last ∷ [] → part ≡ public_cards front → cards ≡ last.public
+    → part ++ cards ≡ public_cards s
+public_hand s front last part cards e p c = ap (λ x. x ++ cards) p ∙ ap (λ x. public_cards front ++ x) c ∙ sym (public_cards-push front last)
+    ∙ ap public_cards (sym e)
 
-pub hand_on : (side : Side) (s front : Signal) (last : Seen) (part cards : List ℕ) → s ≡ front ++ last ∷ [] → part ≡ cards_on side front → cards ≡ seen_on side last → part ++ cards ≡ cards_on side s
+pub hand_on : (side : Side) (s front : Signal) (last : Seen) (part cards : List ℕ) → s ≡ front ++ last ∷ [] → part ≡ cards_on side front
+    → cards ≡ seen_on side last → part ++ cards ≡ cards_on side s
 hand_on Own s front last part cards e p c = own_hand s front last part cards e p c
 hand_on Public s front last part cards e p c = public_hand s front last part cards e p c
 
 -- a signal shows as many cards on one side as its last round says
-pub shows_many : (g : Game) (n i : ℕ) (rounds : List GameRound) (r : GameRound) (side : Side) → g.rounds ≡ map round_of rounds → n < length rounds → r ≡ get_or rounds n r → i < length (signals g (suc n)) → length (seen_on side (last_seen (signal_at g (suc n) i))) ≡ shown_by side (round_of r)
+pub shows_many : (g : Game) (n i : ℕ) (rounds : List GameRound) (r : GameRound) (side : Side) → g.rounds ≡ map round_of rounds → n < length rounds
+    → r ≡ get_or rounds n r → i < length (signals g (suc n)) → length (seen_on side (last_seen (signal_at g (suc n) i))) ≡ shown_by side (round_of r)
 shows_many g n i rounds r side e m at l =
     let none : Round = record { private = 0; public = 0; tree = even } in
     let before : suc n - 1 ≡ n = omega arith in
     let shown = last_is_shown g (suc n) i (omega arith) l in
-    let is : round_at g (suc n) ≡ round_of r = ap (λ j. get_or g.rounds j none) before ∙ ap (λ (x : List Round). get_or x n none) e ∙ get_or-map round_of rounds n r none m ∙ ap round_of (sym at) in
+    let is : round_at g (suc n) ≡ round_of r = ap (λ j. get_or g.rounds j none) before ∙ ap (λ (x : List Round). get_or x n none) e
+    ∙ get_or-map round_of rounds n r none m ∙ ap round_of (sym at) in
     go side shown.own_counted shown.public_counted is
   where
-    go : (side : Side) → length (last_seen (signal_at g (suc n) i)).own ≡ (round_at g (suc n)).private → length (last_seen (signal_at g (suc n) i)).public ≡ (round_at g (suc n)).public → round_at g (suc n) ≡ round_of r → length (seen_on side (last_seen (signal_at g (suc n) i))) ≡ shown_by side (round_of r)
+    go : (side : Side) → length (last_seen (signal_at g (suc n) i)).own ≡ (round_at g (suc n)).private
+        → length (last_seen (signal_at g (suc n) i)).public ≡ (round_at g (suc n)).public → round_at g (suc n) ≡ round_of r
+        → length (seen_on side (last_seen (signal_at g (suc n) i))) ≡ shown_by side (round_of r)
     go Own own public is = own ∙ ap (λ (x : Round). x.private) is
     go Public own public is = public ∙ ap (λ (x : Round). x.public) is
 
@@ -45,7 +53,8 @@ one_part xs p l =
     ap (λ k. take 1 (drop k xs)) at ∙ ap (take 1) (drop_more xs p 0 l)
 
 -- where each has one card, those of parents that show no more are the cards of their children
-pub parents_alone : {X : Type 0} (f : X → List ℕ) (h : ℕ → ℕ) (xs : List X) (d : X) (ps : List ℕ) → length ps ≡ length xs → ((i : ℕ) → i < length xs → f (get_or xs i d) ≡ h (get_or ps i 0) ∷ []) → map h ps ≡ flat_map f xs
+pub parents_alone : {X : Type 0} (f : X → List ℕ) (h : ℕ → ℕ) (xs : List X) (d : X) (ps : List ℕ) → length ps ≡ length xs
+    → ((i : ℕ) → i < length xs → f (get_or xs i d) ≡ h (get_or ps i 0) ∷ []) → map h ps ≡ flat_map f xs
 parents_alone f h [] d [] e k = refl
 parents_alone f h [] d (p ∷ ps) e k = absurd (omega (arith, e))
 parents_alone f h (x ∷ xs) d [] e k = absurd (omega (arith, e))
@@ -55,7 +64,8 @@ parents_alone f h (x ∷ xs) d (p ∷ ps) e k =
     ap (λ l. h p ∷ l) rest ∙ ap (λ l. l ++ flat_map f xs) (sym here)
 
 -- a signal that shows nothing more has the one card of its parent
-pub alone : (side : Side) (s front : Signal) (last : Seen) (before : List ℕ) (p : ℕ) → s ≡ front ++ last ∷ [] → p < length before → take 1 (drop (p * 1) before) ≡ cards_on side front → length (seen_on side last) ≡ 0 → cards_on side s ≡ get_or before p 0 ∷ []
+pub alone : (side : Side) (s front : Signal) (last : Seen) (before : List ℕ) (p : ℕ) → s ≡ front ++ last ∷ [] → p < length before
+    → take 1 (drop (p * 1) before) ≡ cards_on side front → length (seen_on side last) ≡ 0 → cards_on side s ≡ get_or before p 0 ∷ []
 alone side s front last before p e l h none =
     let nothing : [] ≡ seen_on side last = empty (seen_on side last) none in
     sym (hand_on side s front last (take 1 (drop (p * 1) before)) [] e h nothing) ∙ append-nil (take 1 (drop (p * 1) before)) ∙ one_part before p l
@@ -65,9 +75,12 @@ alone side s front last before p e l h none =
     empty (x ∷ xs) e = absurd (omega (arith, e))
 
 -- a signal has the one card of its parent and the one that it shows more
-pub paired : (side : Side) (s front : Signal) (last : Seen) (before : List ℕ) (p a b : ℕ) → s ≡ front ++ last ∷ [] → p < length before → take 1 (drop (p * 1) before) ≡ cards_on side front → length (seen_on side last) ≡ 1 → a ≡ get_or before p 0 → b ≡ get_or (seen_on side last) 0 0 → a ∷ b ∷ [] ≡ cards_on side s
+pub paired : (side : Side) (s front : Signal) (last : Seen) (before : List ℕ) (p a b : ℕ) → s ≡ front ++ last ∷ [] → p < length before
+    → take 1 (drop (p * 1) before) ≡ cards_on side front → length (seen_on side last) ≡ 1 → a ≡ get_or before p 0 → b ≡ get_or (seen_on side last) 0 0
+    → a ∷ b ∷ [] ≡ cards_on side s
 paired side s front last before p a b e l h one at more =
-    hand_on side s front last (a ∷ []) (b ∷ []) e (ap (λ x. x ∷ []) at ∙ sym (one_part before p l) ∙ h) (ap (λ x. x ∷ []) more ∙ sym (single (seen_on side last) one))
+    hand_on side s front last (a ∷ []) (b ∷ []) e (ap (λ x. x ∷ []) at ∙ sym (one_part before p l) ∙ h) (ap (λ x. x ∷ []) more
+    ∙ sym (single (seen_on side last) one))
   where
     single : (xs : List ℕ) → length xs ≡ 1 → xs ≡ get_or xs 0 0 ∷ []
     single [] e = absurd (omega (arith, e))

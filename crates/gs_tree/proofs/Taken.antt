@@ -14,19 +14,23 @@ left_skip kind (c ∷ cs) g a l =
     ap (λ t. (c - t) ∷ left_from (suc kind) cs (g ++ a ∷ [])) (times_other kind a g (λ (e : a ≡ kind). absurd (omega arith)))
     ∙ ap (λ w. (c - count_by (λ x. x == kind) g) ∷ w) (left_skip (suc kind) cs g a (omega arith))
 
-left_more : (kind : ℕ) (left g : List ℕ) (i a : ℕ) → kind + i ≡ a → left_from kind left (g ++ a ∷ []) ≡ slice_set (left_from kind left g) i (slice_index (left_from kind left g) i - 1)
+left_more : (kind : ℕ) (left g : List ℕ) (i a : ℕ) → kind + i ≡ a → left_from kind left (g ++ a ∷ [])
+    ≡ slice_set (left_from kind left g) i (slice_index (left_from kind left g) i - 1)
 left_more kind [] g i a e = refl
 left_more kind (c ∷ cs) g zero a e =
     let same : kind ≡ a = omega arith in
     let P : ℕ → Type 0 = λ x. left_from kind (c ∷ cs) (g ++ x ∷ []) ≡ (c - count_by (λ x. x == kind) g - 1) ∷ left_from (suc kind) cs g in
     let here : c - suc (count_by (λ x. x == kind) g) ≡ c - count_by (λ x. x == kind) g - 1 = omega arith in
-    subst P same (ap (λ t. (c - t) ∷ left_from (suc kind) cs (g ++ kind ∷ [])) (times_here kind g) ∙ ap (λ n. n ∷ left_from (suc kind) cs (g ++ kind ∷ [])) here ∙ ap (λ w. (c - count_by (λ x. x == kind) g - 1) ∷ w) (left_skip (suc kind) cs g kind (omega arith)))
+    subst P same (ap (λ t. (c - t) ∷ left_from (suc kind) cs (g ++ kind ∷ [])) (times_here kind g)
+    ∙ ap (λ n. n ∷ left_from (suc kind) cs (g ++ kind ∷ [])) here ∙ ap (λ w. (c - count_by (λ x. x == kind) g - 1) ∷ w)
+    (left_skip (suc kind) cs g kind (omega arith)))
 left_more kind (c ∷ cs) g (suc i) a e =
     ap (λ t. (c - t) ∷ left_from (suc kind) cs (g ++ a ∷ [])) (times_other kind a g (λ (s : a ≡ kind). absurd (omega arith)))
     ∙ ap (λ w. (c - count_by (λ x. x == kind) g) ∷ w) (left_more (suc kind) cs g i a (omega arith))
 
 -- one more card is taken
-pub taken_more : (left g : List ℕ) (i a v : ℕ) → i < length g → a ≡ get_or g i a → v ≡ slice_index (left_after left (take i g)) a - 1 → slice_set (left_after left (take i g)) a v ≡ left_after left (take (i + 1) g)
+pub taken_more : (left g : List ℕ) (i a v : ℕ) → i < length g → a ≡ get_or g i a → v ≡ slice_index (left_after left (take i g)) a - 1
+    → slice_set (left_after left (take i g)) a v ≡ left_after left (take (i + 1) g)
 taken_more left g i a v l at e =
     let next : take i g ++ a ∷ [] ≡ take (i + 1) g = ap (λ x. take i g ++ x ∷ []) at ∙ sym (take_more g i a l) in
     ap (slice_set (left_after left (take i g)) a) e ∙ sym (left_more 0 left (take i g) a a (omega arith)) ∙ ap (left_after left) next
@@ -68,8 +72,10 @@ ways_up_to left g h k (suc i) l =
     let w = ways left (take i g) in
     let t = times a (take i g) in
     let here : a < length left = h i 0 (omega arith) in
-    let step : w * (get_or left a 0 - t) / (t + 1) ≡ ways left (take (i + 1) g) = ways_more left g i a w (get_or left a 0 - t) t (omega arith) at here refl refl refl in
-    let bound : w * (get_or left a 0 - t) / (t + 1) ≤ 9 ^ (i + 1) = few_ways w (get_or left a 0 - t) (get_or left a 0) t i (ways_up_to left g h k i (omega arith)) (k a 0 here) refl in
+    let step : w * (get_or left a 0 - t) / (t + 1) ≡ ways left (take (i + 1) g) =
+    ways_more left g i a w (get_or left a 0 - t) t (omega arith) at here refl refl refl in
+    let bound : w * (get_or left a 0 - t) / (t + 1) ≤ 9 ^ (i + 1) = few_ways w (get_or left a 0 - t) (get_or left a 0) t i
+    (ways_up_to left g h k i (omega arith)) (k a 0 here) refl in
     let next : suc i ≡ i + 1 = omega arith in
     let P : ℕ → Type 0 = λ j. ways left (take j g) ≤ 9 ^ j in
     subst P (sym next) (let Q : ℕ → Type 0 = λ v. v ≤ 9 ^ (i + 1) in subst Q step bound)
@@ -94,9 +100,11 @@ ways_small left g h k l =
     le_power w (suc (suc (suc (suc n)))) l h = absurd (omega arith)
 
 -- a step of a loop that takes cards
-pub taken_step : (left rest next g : List ℕ) (i a k : ℕ) → i < length g → a ≡ get_or g i a → k ≡ a → rest ≡ left_after left (take i g) → next ≡ slice_set rest k (slice_index rest k - 1) → next ≡ left_after left (take (i + 1) g)
+pub taken_step : (left rest next g : List ℕ) (i a k : ℕ) → i < length g → a ≡ get_or g i a → k ≡ a → rest ≡ left_after left (take i g)
+    → next ≡ slice_set rest k (slice_index rest k - 1) → next ≡ left_after left (take (i + 1) g)
 taken_step left rest next g i a k l at e f h =
-    h ∙ ap (λ r. slice_set r k (slice_index r k - 1)) f ∙ ap (λ j. slice_set (left_after left (take i g)) j (slice_index (left_after left (take i g)) j - 1)) e
+    h ∙ ap (λ r. slice_set r k (slice_index r k - 1)) f ∙ ap (λ j. slice_set (left_after left (take i g)) j (slice_index (left_after left (take i g)) j - 1))
+    e
     ∙ taken_more left g i a (slice_index (left_after left (take i g)) a - 1) l at refl
 
 pub taken_end : (left rest g : List ℕ) (n : ℕ) → length g ≤ n → rest ≡ left_after left (take n g) → rest ≡ left_after left g

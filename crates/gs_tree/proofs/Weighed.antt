@@ -27,11 +27,13 @@ path_one left (p ∷ s) h =
     let l1 = left_after left p.own in
     let l2 = left_after l1 p.public in
     let h1 = single_after left p.own h in
-    one_product (edge left p) (path_weight l2 s) (one_product (ways left p.own) (ways l1 p.public) (ways_one left p.own h) (ways_one l1 p.public h1)) (path_one l2 s (single_after l1 p.public h1))
+    one_product (edge left p) (path_weight l2 s) (one_product (ways left p.own) (ways l1 p.public) (ways_one left p.own h) (ways_one l1 p.public h1))
+    (path_one l2 s (single_after l1 p.public h1))
 
 own_one : (left : List ℕ) (s : Signal) → Single left → own_ways left s ≤ 1
 own_one left [] h = omega arith
-own_one left (p ∷ s) h = one_product (ways left p.own) (own_ways (left_after left p.own) s) (ways_one left p.own h) (own_one (left_after left p.own) s (single_after left p.own h))
+own_one left (p ∷ s) h = one_product (ways left p.own) (own_ways (left_after left p.own) s) (ways_one left p.own h)
+    (own_one (left_after left p.own) s (single_after left p.own h))
 
 -- own groups can be taken just where there are enough copies of each kind
 own_some : (left : List ℕ) (s : Signal) → ((card : ℕ) → card < length left → times card (own_cards s) ≤ get_or left card 0) → 0 < own_ways left s
@@ -40,17 +42,29 @@ own_some left (p ∷ s) h =
     let rest = left_after left p.own in
     some_product (ways left p.own) (own_ways rest s)
     (ways_some left p.own (λ card l. omega (arith, h card l, times_both card p.own (own_cards s))))
-    (own_some rest s (λ card l. omega (arith, h card (omega (arith, l, length_after left p.own)), times_both card p.own (own_cards s), copies_after left p.own card)))
+    (own_some rest s (λ card l. omega (
+      arith,
+      h card (omega (arith, l, length_after left p.own)),
+      times_both card p.own (own_cards s),
+      copies_after left p.own card,
+    )))
 
 own_room : (left : List ℕ) (s : Signal) → 0 < own_ways left s → (card : ℕ) → card < length left → times card (own_cards s) ≤ get_or left card 0
 own_room left [] h card l = omega arith
 own_room left (p ∷ s) h card l =
     let rest = left_after left p.own in
     let b = some_parts (ways left p.own) (own_ways rest s) h in
-    omega (arith, ways_room left p.own b.0 card l, own_room rest s b.1 card (omega (arith, l, length_after left p.own)), times_both card p.own (own_cards s), copies_after left p.own card)
+    omega (
+      arith,
+      ways_room left p.own b.0 card l,
+      own_room rest s b.1 card (omega (arith, l, length_after left p.own)),
+      times_both card p.own (own_cards s),
+      copies_after left p.own card,
+    )
 
 -- a signal shows no more copies of a kind than there are
-path_room : (left : List ℕ) (s : Signal) → 0 < path_weight left s → (card : ℕ) → card < length left → times card (own_cards s) + times card (public_cards s) ≤ get_or left card 0
+path_room : (left : List ℕ) (s : Signal) → 0 < path_weight left s → (card : ℕ) → card < length left
+    → times card (own_cards s) + times card (public_cards s) ≤ get_or left card 0
 path_room left [] h card l = omega arith
 path_room left (p ∷ s) h card l =
     let l1 = left_after left p.own in
@@ -71,7 +85,8 @@ path_room left (p ∷ s) h card l =
     )
 
 -- the copies that a signal leaves
-copies_by : (left : List ℕ) (s : Signal) (card : ℕ) → get_or (left_by left s) card 0 ≡ get_or left card 0 - times card (own_cards s) - times card (public_cards s)
+copies_by : (left : List ℕ) (s : Signal) (card : ℕ) → get_or (left_by left s) card 0
+    ≡ get_or left card 0 - times card (own_cards s) - times card (public_cards s)
 copies_by left s card =
     ap (λ l. get_or l card 0) (left_by_cards left s)
     ∙ omega (arith, copies_after (left_after left (own_cards s)) (public_cards s) card, copies_after left (own_cards s) card)
@@ -96,7 +111,8 @@ same_signals (p ∷ s) (q ∷ t) e h o =
     let b = and_both (same_cards p.public q.public) (same_public s t) h in
     let r = parted p.own q.own (own_cards s) (own_cards t) (ap (λ (x : ℕ × ℕ). x.0) pair) o in
     let public : p.public ≡ q.public = cards_are p.public q.public b.0 in
-    let here : p ≡ q = ap (λ (x : List ℕ). let m : Seen = record { own = x; public = p.public } in m) r.0 ∙ ap (λ (x : List ℕ). let m : Seen = record { own = q.own; public = x } in m) public in
+    let here : p ≡ q = ap (λ (x : List ℕ). let m : Seen = record { own = x; public = p.public } in m) r.0
+    ∙ ap (λ (x : List ℕ). let m : Seen = record { own = q.own; public = x } in m) public in
     ap (λ (x : Seen). x ∷ s) here ∙ ap (λ (x : Signal). q ∷ x) (same_signals s t tail b.1 r.1)
 
 -- a list of one
@@ -154,7 +170,14 @@ module _ (g : Game) (plain : IsPlain g) where
   own_self i l = ⊎_elim
       (λ (h : 0 < own_ways left s).
       let in' : card i < length left = omega (arith, card_in i l, length_by g.copies s) in
-      absurd (omega (arith, own_room left s h (card i) in', copies_by g.copies s (card i), times_own i (card i) l, times_self (card i), plain.single (card i))))
+      absurd (omega (
+        arith,
+        own_room left s h (card i) in',
+        copies_by g.copies s (card i),
+        times_own i (card i) l,
+        times_self (card i),
+        plain.single (card i),
+      )))
       (λ h. omega (arith, h))
       (cases_lt 0 (own_ways left s))
     where
@@ -165,7 +188,8 @@ module _ (g : Game) (plain : IsPlain g) where
       left = left_by g.copies (signal_at g (round_count g) i)
 
   -- each deal has two signals on a board
-  own_other : (i k : ℕ) → i < last_count g → k < last_count g → (i ≡ k → ⊥) → shows_same g i k ≡ true → own_ways (left_by g.copies (signal_at g (round_count g) i)) (signal_at g (round_count g) k) ≡ 1
+  own_other : (i k : ℕ) → i < last_count g → k < last_count g → (i ≡ k → ⊥) → shows_same g i k ≡ true
+      → own_ways (left_by g.copies (signal_at g (round_count g) i)) (signal_at g (round_count g) k) ≡ 1
   own_other i k l m ne same =
       let s : Signal = signal_at g (round_count g) i in
       let t : Signal = signal_at g (round_count g) k in
@@ -204,12 +228,14 @@ module _ (g : Game) (plain : IsPlain g) where
       go true e = ⊎_elim
           (λ (same : k ≡ i).
           let t : eqb k i ≡ true = grind (arith, same) in
-          let own : own_ways (left_by g.copies (signal_at g (round_count g) i)) (signal_at g (round_count g) k) ≡ 0 = ap (λ x. own_ways (left_by g.copies (signal_at g (round_count g) i)) (signal_at g (round_count g) x)) same ∙ own_self i l in
+          let own : own_ways (left_by g.copies (signal_at g (round_count g) i)) (signal_at g (round_count g) k) ≡ 0 =
+          ap (λ x. own_ways (left_by g.copies (signal_at g (round_count g) i)) (signal_at g (round_count g) x)) same ∙ own_self i l in
           ap (λ w. path_weight g.copies (signal_at g (round_count g) i) * w) own ∙ omega arith ∙ sym (ap {B = ℕ} (λ c. cond (cond c false true) 1 0) t))
           (λ ne.
           let t : eqb k i ≡ false = grind (arith, ne) in
           let own = own_other i k l m (λ e. ne (sym e)) e in
-          ap (λ w. path_weight g.copies (signal_at g (round_count g) i) * w) own ∙ ap (λ w. w * 1) (path_is i l) ∙ sym (ap {B = ℕ} (λ c. cond (cond c false true) 1 0) t))
+          ap (λ w. path_weight g.copies (signal_at g (round_count g) i) * w) own ∙ ap (λ w. w * 1) (path_is i l)
+          ∙ sym (ap {B = ℕ} (λ c. cond (cond c false true) 1 0) t))
           (cases_eq k i)
 
   -- what the deal of two signals on a board weighs

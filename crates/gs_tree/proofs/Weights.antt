@@ -12,13 +12,15 @@ use Rattle.gs_model.specs.Game.{Game}
 use Rattle.gs_tree.specs.Walk.{deal_at, last_count, pair_at}
 use Rattle.gs_tree.proofs.Pairs.{all_pairs}
 
-member_le : {X : Type 0} (f : X → ℕ) (xs : List X) (k : ℕ) (d : X) → k < length xs → 0 < f (get_or xs k d) → f (get_or xs k d) ≤ sum_by f (filter (λ x. nat_lt 0 (f x)) xs)
+member_le : {X : Type 0} (f : X → ℕ) (xs : List X) (k : ℕ) (d : X) → k < length xs → 0 < f (get_or xs k d)
+    → f (get_or xs k d) ≤ sum_by f (filter (λ x. nat_lt 0 (f x)) xs)
 member_le f [] k d l p = absurd (omega arith)
 member_le f (x ∷ xs) zero d l p =
     rw (lt-ltb 0 (f x) p) (omega (arith, sum_by-cons f x (filter (λ x. nat_lt 0 (f x)) xs)))
 member_le f (x ∷ xs) (suc k) d l p = by (nat_lt 0 (f x)) (member_le f xs k d (omega arith) p)
   where
-    by : (b : Bool) → f (get_or xs k d) ≤ sum_by f (filter (λ x. nat_lt 0 (f x)) xs) → f (get_or xs k d) ≤ sum_by f (cond b (x ∷ filter (λ x. nat_lt 0 (f x)) xs) (filter (λ x. nat_lt 0 (f x)) xs))
+    by : (b : Bool) → f (get_or xs k d) ≤ sum_by f (filter (λ x. nat_lt 0 (f x)) xs)
+        → f (get_or xs k d) ≤ sum_by f (cond b (x ∷ filter (λ x. nat_lt 0 (f x)) xs) (filter (λ x. nat_lt 0 (f x)) xs))
     by true h = omega (arith, h, sum_by-cons f x (filter (λ x. nat_lt 0 (f x)) xs))
     by false h = h
 

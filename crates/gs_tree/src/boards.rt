@@ -30,7 +30,8 @@ fn numbers_of(alloc: Global, cards: &[Card]) -> Result<Vec<u8>, AllocError>
 
 /// The public cards that a signal of the last round shows.
 fn board_of(alloc: Global, game: &Game, hands: &Hands, signal: u32) -> Result<Vec<u8>, AllocError>
-    requires hands { AreHands (game_of game.now) (round_count (game_of game.now)) hands.now.paths hands.now.owns.items hands.now.publics.items hands.now.own hands.now.public }
+    requires hands { AreHands (game_of game.now) (round_count (game_of game.now)) hands.now.paths hands.now.owns.items hands.now.publics.items hands.now.own
+        hands.now.public }
     requires signal_in { signal < last_count (game_of game.now) }
     ensures { IfOk result (λ v. v.items ≡ public_cards (signal_at (game_of game.now) (round_count (game_of game.now)) signal)) }
 {
@@ -82,7 +83,8 @@ fn code(kinds: usize, cards: &[Card]) -> usize
 
 /// The number of the public cards that a signal of the last round shows.
 fn board_code(game: &Game, hands: &Hands, signal: u32) -> usize
-    requires hands { AreHands (game_of game.now) (round_count (game_of game.now)) hands.now.paths hands.now.owns.items hands.now.publics.items hands.now.own hands.now.public }
+    requires hands { AreHands (game_of game.now) (round_count (game_of game.now)) hands.now.paths hands.now.owns.items hands.now.publics.items hands.now.own
+        hands.now.public }
     requires few { hands.now.public ≤ 3 }
     requires signal_in { signal < last_count (game_of game.now) }
     ensures { result ≡ code_behind (kinds game.now.deck) 0 (public_cards (signal_at (game_of game.now) (round_count (game_of game.now)) signal)) }
@@ -122,7 +124,8 @@ fn link(boards: &mut Boards, before: Option<u32>, signal: u32)
 
 /// The signals of the last round beside each other, where each shows at most three public cards: a table has a place for each list of as many.
 fn link_by_table(alloc: Global, game: &Game, hands: &Hands) -> Result<Boards, AllocError>
-    requires hands { AreHands (game_of game.now) (round_count (game_of game.now)) hands.now.paths hands.now.owns.items hands.now.publics.items hands.now.own hands.now.public }
+    requires hands { AreHands (game_of game.now) (round_count (game_of game.now)) hands.now.paths hands.now.owns.items hands.now.publics.items hands.now.own
+        hands.now.public }
     requires limits { IsWithinLimits (game_of game.now) }
     requires few { hands.now.public ≤ 3 }
     ensures { IfOk result (λ b. AreBoards (game_of game.now) b.firsts.items b.nexts.items) }
@@ -143,7 +146,8 @@ fn link_by_table(alloc: Global, game: &Game, hands: &Hands) -> Result<Boards, Al
 
 /// The signals of the last round beside each other, by a map of the boards.
 fn link_by_map(alloc: Global, game: &Game, hands: &Hands) -> Result<Boards, AllocError>
-    requires hands { AreHands (game_of game.now) (round_count (game_of game.now)) hands.now.paths hands.now.owns.items hands.now.publics.items hands.now.own hands.now.public }
+    requires hands { AreHands (game_of game.now) (round_count (game_of game.now)) hands.now.paths hands.now.owns.items hands.now.publics.items hands.now.own
+        hands.now.public }
     requires limits { IsWithinLimits (game_of game.now) }
     ensures { IfOk result (λ b. AreBoards (game_of game.now) b.firsts.items b.nexts.items) }
 {
@@ -160,7 +164,8 @@ fn link_by_map(alloc: Global, game: &Game, hands: &Hands) -> Result<Boards, Allo
 
 /// The signals of the last round beside each other.
 pub(crate) fn link_boards(alloc: Global, game: &Game, hands: &Hands) -> Result<Boards, AllocError>
-    requires hands { AreHands (game_of game.now) (round_count (game_of game.now)) hands.now.paths hands.now.owns.items hands.now.publics.items hands.now.own hands.now.public }
+    requires hands { AreHands (game_of game.now) (round_count (game_of game.now)) hands.now.paths hands.now.owns.items hands.now.publics.items hands.now.own
+        hands.now.public }
     requires limits { IsWithinLimits (game_of game.now) }
     ensures { IfOk result (λ b. AreBoards (game_of game.now) b.firsts.items b.nexts.items) }
 {

@@ -28,7 +28,8 @@ impl<'s> Model for Deals<'s> {
 
     ghost use Rattle.gs_tree.specs.{Trees.{rules_of}, Walk.{deals_between, last_count, number_of, IsOnWalk}};
 
-    ghost view = { λ d. deals_between (rules_of d.signals.now) (number_of (rules_of d.signals.now) d.one d.two) (d.end * last_count (rules_of d.signals.now)) };
+    ghost view = { λ d. deals_between (rules_of d.signals.now) (number_of (rules_of d.signals.now) d.one d.two)
+        (d.end * last_count (rules_of d.signals.now)) };
 
     ghost invariant = { λ d. IsOnWalk (rules_of d.signals.now) d.one d.two d.end };
 }
@@ -40,7 +41,8 @@ impl<'s> Deals<'s> {
     // The deals in which player 1 has one of the signals from one on, up to another.
     pub(crate) fn rows(signals: &'s Signals<'s>, from: u32, end: u32) -> Deals<'s>
         requires { end ≤ last_count (rules_of signals.now) }
-        ensures { result ≡ deals_between (rules_of signals.entry.now) (from * last_count (rules_of signals.entry.now)) (end * last_count (rules_of signals.entry.now)) }
+        ensures { result ≡ deals_between (rules_of signals.entry.now) (from * last_count (rules_of signals.entry.now))
+            (end * last_count (rules_of signals.entry.now)) }
     {
         Deals {
             signals,

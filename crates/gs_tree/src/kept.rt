@@ -49,6 +49,7 @@ fn next_paths(
     requires before { before.now ≡ map (path_weight (game_of game.now).copies) (signals (game_of game.now) round) }
     ensures { IfOk result (λ w. w ≡ map (path_weight (game_of game.now).copies) (signals (game_of game.now) (suc round))) }
 {
+    // called only for what its contract says
     let _kinds = game.deck.kinds();
     let parents = &tables.parents[round];
     let edges = &tables.layers[round].edges;
@@ -118,7 +119,8 @@ fn paired_cards(
     requires round_in { round < length tables.now.layers.items }
     requires before { before.now ≡ flat_map (cards_on side) (signals (game_of game.now) round) }
     requires each { (i : ℕ) → i < length (signals (game_of game.now) round) → length (cards_on side (signal_at (game_of game.now) round i)) ≡ 1 }
-    requires more { (i : ℕ) → i < length (signals (game_of game.now) (suc round)) → length (seen_on side (last_seen (signal_at (game_of game.now) (suc round) i))) ≡ 1 }
+    requires more { (i : ℕ) → i < length (signals (game_of game.now) (suc round))
+        → length (seen_on side (last_seen (signal_at (game_of game.now) (suc round) i))) ≡ 1 }
     ensures { IfOk result (λ v. v.items ≡ flat_map (cards_on side) (signals (game_of game.now) (suc round))) }
 {
     let parents = &tables.parents[round];

@@ -101,7 +101,8 @@ fn push_card(
     requires few_kinds { length rest.now ≤ 52 }
     requires few_copies { All (λ n. n ≤ 9) rest.now }
     requires few_ways { own_ways ≤ 729 }
-    ensures shown { OnOk result (map seen_of layer.new.shown.items ≡ map seen_of layer.old.shown.items ++ map (showing (cards_of own.now)) (groups_with (groups_above 0) rest.now kind)) }
+    ensures shown { OnOk result (map seen_of layer.new.shown.items ≡ map seen_of layer.old.shown.items
+        ++ map (showing (cards_of own.now)) (groups_with (groups_above 0) rest.now kind)) }
     ensures firsts { layer.new.firsts.items ≡ layer.old.firsts.items }
     ensures edges { OnOk result (layer.new.edges ≡ layer.old.edges ++ map (λ g. own_ways * ways rest.now g) (groups_with (groups_above 0) rest.now kind)) }
 {
@@ -127,7 +128,8 @@ fn push_cards(
     requires few_kinds { length rest.now ≤ 52 }
     requires few_copies { All (λ n. n ≤ 9) rest.now }
     requires few_ways { own_ways ≤ 729 }
-    ensures shown { OnOk result (map seen_of layer.new.shown.items ≡ map seen_of layer.old.shown.items ++ map (showing (cards_of own.now)) (groups rest.now 1)) }
+    ensures shown { OnOk result (map seen_of layer.new.shown.items ≡ map seen_of layer.old.shown.items
+        ++ map (showing (cards_of own.now)) (groups rest.now 1)) }
     ensures firsts { layer.new.firsts.items ≡ layer.old.firsts.items }
     ensures edges { OnOk result (layer.new.edges ≡ layer.old.edges ++ map (λ g. own_ways * ways rest.now g) (groups rest.now 1)) }
 {
@@ -151,10 +153,12 @@ fn push_publics(
     requires few_copies { All (λ n. n ≤ 9) rest.now }
     requires small { size ≤ 3 }
     requires few_ways { own_ways ≤ 729 }
-    ensures shown { OnOk result (map seen_of layer.new.shown.items ≡ map seen_of layer.old.shown.items ++ map (showing (cards_of own)) (groups rest.now size)) }
+    ensures shown { OnOk result (map seen_of layer.new.shown.items ≡ map seen_of layer.old.shown.items
+        ++ map (showing (cards_of own)) (groups rest.now size)) }
     ensures firsts { layer.new.firsts.items ≡ layer.old.firsts.items }
     ensures edges { OnOk result (layer.new.edges ≡ layer.old.edges ++ map (λ g. own_ways * ways rest.now g) (groups rest.now size)) }
 {
+    // called only for what its contract says
     let _kinds = deck.kinds();
     if size == 1 {
         return push_cards(rest, &own, own_ways, layer);

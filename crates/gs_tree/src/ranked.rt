@@ -14,7 +14,8 @@ use std::alloc::{AllocError, Global};
 
 /// Whether no kind of cards has more than one copy, and each player is dealt one private card.
 pub(crate) fn is_plain(game: &Game, hands: &Hands) -> bool
-    requires { AreHands (game_of game.now) (round_count (game_of game.now)) hands.now.paths hands.now.owns.items hands.now.publics.items hands.now.own hands.now.public }
+    requires { AreHands (game_of game.now) (round_count (game_of game.now)) hands.now.paths hands.now.owns.items hands.now.publics.items hands.now.own
+        hands.now.public }
     ensures { IsTrue result → IsPlain (game_of game.now) }
 {
     let copies = game.deck.counts();
@@ -24,12 +25,14 @@ pub(crate) fn is_plain(game: &Game, hands: &Hands) -> bool
 /// The strength of the hand that a last-round signal holds.
 fn strength_of(ranker: &Ranker, game: &Game, hands: &Hands, signal: u32) -> u32
     requires deck { ranker.now.deck.now ≡ game.now.deck }
-    requires hands { AreHands (game_of game.now) (round_count (game_of game.now)) hands.now.paths hands.now.owns.items hands.now.publics.items hands.now.own hands.now.public }
+    requires hands { AreHands (game_of game.now) (round_count (game_of game.now)) hands.now.paths hands.now.owns.items hands.now.publics.items hands.now.own
+        hands.now.public }
     requires dealable { IsDealable (game_of game.now) }
     requires signal_in { signal < last_count (game_of game.now) }
     ensures value { result ≡ signal_strength (game_of game.now) (signal_at (game_of game.now) (round_count (game_of game.now)) signal) }
     ensures within { IsStrength (ranking_of game.now.ranking) result }
 {
+    // called only for what its contract says
     let _kinds = game.deck.kinds();
     let own = part(&hands.owns, hands.own, signal);
     let public = part(&hands.publics, hands.public, signal);
@@ -38,7 +41,8 @@ fn strength_of(ranker: &Ranker, game: &Game, hands: &Hands, signal: u32) -> u32
 
 /// The strengths of the hands of all last-round signals.
 pub(crate) fn strengths(alloc: Global, game: &Game, hands: &Hands) -> Result<Vec<u32>, AllocError>
-    requires hands { AreHands (game_of game.now) (round_count (game_of game.now)) hands.now.paths hands.now.owns.items hands.now.publics.items hands.now.own hands.now.public }
+    requires hands { AreHands (game_of game.now) (round_count (game_of game.now)) hands.now.paths hands.now.owns.items hands.now.publics.items hands.now.own
+        hands.now.public }
     requires limits { IsWithinLimits (game_of game.now) }
     requires dealable { IsDealable (game_of game.now) }
     ensures value { IfOk result (λ v. v.items ≡ map (signal_strength (game_of game.now)) (signals (game_of game.now) (round_count (game_of game.now)))) }

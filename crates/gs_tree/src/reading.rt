@@ -6,7 +6,8 @@ ghost use Rattle.gs_game.specs.Games.{game_of};
 ghost use Rattle.gs_model.specs.Signals.{signal_at, signals};
 ghost use Rattle.gs_tree.specs.{Shown.{cards_of, seen_of}, Tables.{AreTables}, Texts.{IsRest, group_text, seen_text, signal_text}};
 
-use crate::layer::{Layer, Shown};
+use crate::layer::Shown;
+use crate::tables::Tables;
 use gs_card::{Card, Deck};
 use gs_game::Game;
 
@@ -25,6 +26,7 @@ fn after_card<'t>(text: &'t [u8], deck: &Deck, card: Card) -> Option<&'t [u8]>
     requires { card < kinds deck.now }
     ensures { IsRest text.now (card_text deck.now card) result }
 {
+    // called only for what its contract says
     let _deck = deck.kinds();
     let [rank, suit] = deck.card_text(card);
     let rest = after_byte(text, rank)?;
@@ -64,25 +66,24 @@ fn after_seen<'t>(text: &'t [u8], deck: &Deck, shown: &Shown) -> Option<&'t [u8]
 fn after_signal<'t>(
     text: &'t [u8],
     game: &Game,
-    parents: &[Vec<u32>],
-    layers: &[Layer],
+    tables: &Tables,
     round: usize,
     signal: u32,
 ) -> Option<&'t [u8]>
-    requires tables { AreTables (game_of game.now) parents.now layers.now }
+    requires tables { AreTables (game_of game.now) tables.now.parents.items tables.now.layers.items }
     requires some { 0 < round }
-    requires round_in { round ≤ length layers.now }
+    requires round_in { round ≤ length tables.now.layers.items }
     requires signal_in { signal < length (signals (game_of game.now) round) }
     ensures { IsRest text.now (signal_text game.now.deck (signal_at (game_of game.now) round signal)) result }
 {
     let _kinds = game.deck.kinds();
-    let layer = &layers[round - 1];
+    let layer = &tables.layers[round - 1];
     let shown = &layer.shown[signal as usize];
     if round == 1 {
         return after_seen(text, &game.deck, shown);
     }
-    let parent = parents[round - 1][signal as usize];
-    let rest = after_signal(text, game, parents, layers, round - 1, parent)?;
+    let parent = tables.parents[round - 1][signal as usize];
+    let rest = after_signal(text, game, tables, round - 1, parent)?;
     let rest = after_byte(rest, b'/')?;
     after_seen(rest, &game.deck, shown)
 }
@@ -91,18 +92,17 @@ fn after_signal<'t>(
 pub(crate) fn is_text_of(
     text: &[u8],
     game: &Game,
-    parents: &[Vec<u32>],
-    layers: &[Layer],
+    tables: &Tables,
     round: usize,
     signal: u32,
 ) -> bool
-    requires tables { AreTables (game_of game.now) parents.now layers.now }
+    requires tables { AreTables (game_of game.now) tables.now.parents.items tables.now.layers.items }
     requires some { 0 < round }
-    requires round_in { round ≤ length layers.now }
+    requires round_in { round ≤ length tables.now.layers.items }
     requires signal_in { signal < length (signals (game_of game.now) round) }
     ensures { Decides result (text.now ≡ signal_text game.now.deck (signal_at (game_of game.now) round signal)) }
 {
-    match after_signal(text, game, parents, layers, round, signal) {
+    match after_signal(text, game, tables, round, signal) {
         Some(rest) => rest.is_empty(),
         None => false,
     }

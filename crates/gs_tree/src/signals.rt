@@ -11,10 +11,9 @@ use crate::boards::{Boards, link_boards};
 use crate::deal::Deal;
 use crate::deals::Deals;
 use crate::kept::{Hands, gather, part};
-use crate::layer::Layer;
 use crate::ranked::{is_plain, strengths};
 use crate::reading::is_text_of;
-use crate::tables::{Tables, build, push_signal, ways_beside};
+use crate::tables::{Tables, ways_beside};
 use crate::texts::push_seen;
 use gs_card::{Card, Deck};
 use gs_game::ValidGame;
@@ -35,21 +34,21 @@ fn pair_weight(one: u32, two: u32) -> u64
 #[derive(Drop)]
 pub struct Signals<'g> {
     game: &'g ValidGame,
-    parents: Vec<Vec<u32>>,
-    layers: Vec<Layer>,
+    tables: Tables,
     // of the hands of the last round's signals
     strengths: Vec<u32>,
     boards: Boards,
     hands: Hands,
     // whether any two signals that show the same public cards are as likely
     plain: bool,
-    ghost tables: { AreTables (game_of game.now.game) parents.items layers.items },
+    ghost listed: { AreTables (game_of game.now.game) tables.parents.items tables.layers.items },
     ghost ranked: { strengths.items ≡ map (signal_strength (game_of game.now.game)) (signals (game_of game.now.game) (round_count (game_of game.now.game))) },
     ghost beside: { AreBoards (game_of game.now.game) boards.firsts.items boards.nexts.items },
-    ghost dealt: { AreHands (game_of game.now.game) (round_count (game_of game.now.game)) hands.paths hands.owns.items hands.publics.items hands.own hands.public },
+    ghost dealt: { AreHands (game_of game.now.game) (round_count (game_of game.now.game)) hands.paths hands.owns.items hands.publics.items hands.own
+        hands.public },
     ghost strong: { All (IsStrength (ranking_of game.now.game.ranking)) strengths.items },
     ghost even: { IsTrue plain → IsPlain (game_of game.now.game) },
-    ghost counted: { length layers.items ≡ round_count (game_of game.now.game) },
+    ghost counted: { length tables.layers.items ≡ round_count (game_of game.now.game) },
 }
 
 impl<'g> Signals<'g> {
@@ -66,16 +65,14 @@ impl<'g> Signals<'g> {
     pub fn of(alloc: Global, game: &'g ValidGame) -> Result<Signals<'g>, AllocError>
         ensures { IfOk result (λ s. s.game.now ≡ game.entry.now) }
     {
-        let tables = build(alloc, game.game())?;
+        let tables = Tables::of(alloc, game.game())?;
         let hands = gather(alloc, game.game(), &tables)?;
         let strengths = strengths(alloc, game.game(), &hands)?;
         let boards = link_boards(alloc, game.game(), &hands)?;
         let plain = is_plain(game.game(), &hands);
-        let Tables { parents, layers } = tables;
         Ok(Signals {
             game,
-            parents,
-            layers,
+            tables,
             strengths,
             boards,
             hands,
@@ -89,6 +86,7 @@ impl<'g> Signals<'g> {
         ensures valid { IsDeck (deck_of self.now) }
     {
         let deck = &self.game.game().deck;
+        // called only for what its contract says
         let _kinds = deck.kinds();
         deck
     }
@@ -106,7 +104,7 @@ impl<'g> Signals<'g> {
         ensures some { 0 < result }
         ensures few { result ≤ 4 }
     {
-        self.layers.len() as u8
+        self.tables.layers.len() as u8
     }
 
     /// How many raw signals a round has: at most 200,000.
@@ -116,14 +114,14 @@ impl<'g> Signals<'g> {
         ensures value { result ≡ length (signals (rules_of self.now) round) }
         ensures few { result ≤ 200000 }
     {
-        self.layers[usize::from(round) - 1].shown.len() as u32
+        self.tables.layers[usize::from(round) - 1].shown.len() as u32
     }
 
     /// For each round the parent of each signal, by its place in the round before; round 1 holds zeros.
     pub fn parents(&self) -> &[Vec<u32>]
         ensures { map (λ v. v.items) result.now ≡ map (parents_in (rules_of self.now)) (range_with_len 1 (round_count (rules_of self.now))) }
     {
-        &self.parents
+        &self.tables.parents
     }
 
     /// The parent of each signal of a round, by its place in the round before; zeros in round 1.
@@ -132,7 +130,7 @@ impl<'g> Signals<'g> {
         requires last { round ≤ round_count (rules_of self.now) }
         ensures { result.now ≡ parents_in (rules_of self.now) round }
     {
-        &self.parents[usize::from(round) - 1]
+        &self.tables.parents[usize::from(round) - 1]
     }
 
     /// The children of a signal of a round before the last: the place of the first one in the next round, and one past the last.
@@ -143,7 +141,7 @@ impl<'g> Signals<'g> {
         ensures first { result.0 ≡ first_child (rules_of self.now) round signal }
         ensures end { result.1 ≡ first_child (rules_of self.now) round signal + child_count (rules_of self.now) round signal }
     {
-        let firsts = &self.layers[usize::from(round)].firsts;
+        let firsts = &self.tables.layers[usize::from(round)].firsts;
         (firsts[signal as usize], firsts[signal as usize + 1])
     }
 
@@ -154,7 +152,7 @@ impl<'g> Signals<'g> {
         requires in_range { signal < length (signals (rules_of self.now) round) }
         ensures { result ≡ last_edge (rules_of self.now).copies (signal_at (rules_of self.now) round signal) }
     {
-        self.layers[usize::from(round) - 1]
+        self.tables.layers[usize::from(round) - 1]
             .edges
             .of(signal as usize)
     }
@@ -166,7 +164,7 @@ impl<'g> Signals<'g> {
         ensures { IsTrue result ↔ EachIndex (signals (rules_of self.now) round)
             (λ signal. last_edge (rules_of self.now).copies (signal_at (rules_of self.now) round signal) ≡ 1) }
     {
-        self.layers[usize::from(round) - 1].edges.are_ones()
+        self.tables.layers[usize::from(round) - 1].edges.are_ones()
     }
 
     /// The ways to take all that a last-round signal shows: the product of the edge weights on the way to it.
@@ -204,7 +202,8 @@ impl<'g> Signals<'g> {
 
     /// How many own cards each signal of the last round shows.
     pub fn own_count(&self) -> usize
-        ensures { (i : ℕ) → i < last_count (rules_of self.now) → length (own_cards (signal_at (rules_of self.now) (round_count (rules_of self.now)) i)) ≡ result }
+        ensures { (i : ℕ) → i < last_count (rules_of self.now) → length (own_cards (signal_at (rules_of self.now) (round_count (rules_of self.now)) i))
+            ≡ result }
     {
         self.hands.own
     }
@@ -217,14 +216,8 @@ impl<'g> Signals<'g> {
         ensures { IfOk result (λ t. string_bytes t ≡ signal_text (deck_of self.now) (signal_at (rules_of self.now) round signal)) }
     {
         let mut text = String::new(alloc);
-        push_signal(
-            &mut text,
-            self.game.game(),
-            &self.parents,
-            &self.layers,
-            usize::from(round),
-            signal,
-        )?;
+        self.tables
+            .push_signal(&mut text, self.game.game(), usize::from(round), signal)?;
         Ok(text)
     }
 
@@ -239,11 +232,12 @@ impl<'g> Signals<'g> {
         requires later { 1 < round }
         requires last { round ≤ round_count (rules_of self.now) }
         requires in_range { signal < length (signals (rules_of self.now) round) }
-        requires parent { parent.now ≡ signal_text (deck_of self.now) (signal_at (rules_of self.now) (round - 1) (slice_index (parents_in (rules_of self.now) round) signal)) }
+        requires parent { parent.now ≡ signal_text (deck_of self.now) (signal_at (rules_of self.now) (round - 1)
+            (slice_index (parents_in (rules_of self.now) round) signal)) }
         ensures { OnOk result (string_bytes text.new ≡ string_bytes text.old ++ signal_text (deck_of self.now) (signal_at (rules_of self.now) round signal)) }
     {
         let deck = self.deck();
-        let layer = &self.layers[usize::from(round) - 1];
+        let layer = &self.tables.layers[usize::from(round) - 1];
         let shown = &layer.shown[signal as usize];
         text.push_str(parent)?;
         text.push('/')?;
@@ -254,21 +248,16 @@ impl<'g> Signals<'g> {
     pub fn index_of(&self, round: u8, text: &str) -> Option<u32>
         requires some { 0 < round }
         requires last { round ≤ round_count (rules_of self.now) }
-        ensures found { IfSome result (λ i. (i < length (signals (rules_of self.now) round)) × (text.now ≡ signal_text (deck_of self.now) (signal_at (rules_of self.now) round i))) }
-        ensures only { (i : ℕ) → i < length (signals (rules_of self.now) round) → text.now ≡ signal_text (deck_of self.now) (signal_at (rules_of self.now) round i) → result ≡ Some i }
+        ensures found { IfSome result (λ i. (i < length (signals (rules_of self.now) round))
+            × (text.now ≡ signal_text (deck_of self.now) (signal_at (rules_of self.now) round i))) }
+        ensures only { (i : ℕ) → i < length (signals (rules_of self.now) round)
+            → text.now ≡ signal_text (deck_of self.now) (signal_at (rules_of self.now) round i) → result ≡ Some i }
     {
         let game = self.game.game();
         let _deck = self.deck();
         let bytes = text.as_bytes();
         for signal in 0..self.count(round) {
-            if is_text_of(
-                bytes,
-                game,
-                &self.parents,
-                &self.layers,
-                usize::from(round),
-                signal,
-            ) {
+            if is_text_of(bytes, game, &self.tables, usize::from(round), signal) {
                 return Some(signal);
             }
         }
@@ -326,7 +315,8 @@ impl<'g> Signals<'g> {
     fn own_ways(&self, one: u32, two: u32) -> u64
         requires one_in { one < last_count (rules_of self.now) }
         requires two_in { two < last_count (rules_of self.now) }
-        ensures { result ≡ own_ways (left_by (rules_of self.now).copies (signal_at (rules_of self.now) (round_count (rules_of self.now)) one)) (signal_at (rules_of self.now) (round_count (rules_of self.now)) two) }
+        ensures { result ≡ own_ways (left_by (rules_of self.now).copies (signal_at (rules_of self.now) (round_count (rules_of self.now)) one))
+            (signal_at (rules_of self.now) (round_count (rules_of self.now)) two) }
     {
         let deck = self.deck();
         let held = self.own(one);

@@ -14,32 +14,6 @@ use gs_card::{Card, Deck};
 use gs_game::{Game, Round};
 use std::alloc::{AllocError, Global};
 
-/// The copies left once all that a signal shows is taken. Round 0 has the empty signal.
-pub(crate) fn copies_left(
-    alloc: Global,
-    game: &Game,
-    parents: &[Vec<u32>],
-    layers: &[Layer],
-    round: usize,
-    signal: u32,
-) -> Result<Vec<u8>, AllocError>
-    requires tables { AreTables (game_of game.now) parents.now layers.now }
-    requires round_in { round ≤ length layers.now }
-    requires signal_in { signal < length (signals (game_of game.now) round) }
-    ensures left { IfOk result (λ left. left.items ≡ left_by (game_of game.now).copies (signal_at (game_of game.now) round signal)) }
-    ensures few { IfOk result (λ left. All (λ n. n ≤ 9) left.items) }
-    ensures len { IfOk result (λ left. length left.items ≡ length (game_of game.now).copies) }
-{
-    if round == 0 {
-        return Vec::from_slice(alloc, game.deck.counts());
-    }
-    let shown = &layers[round - 1].shown[signal as usize];
-    let parent = parents[round - 1][signal as usize];
-    let left = copies_left(alloc, game, parents, layers, round - 1, parent)?;
-    let left = left_without(alloc, &left, shown.own.cards())?;
-    left_without(alloc, &left, shown.public.cards())
-}
-
 /// The signals of one round, each with its parent.
 #[derive(Drop)]
 pub(crate) struct Grown {
@@ -70,36 +44,6 @@ fn room_for(count: u32, kinds: u8) -> usize {
     all.min(200_000) as usize
 }
 
-/// The signals of the round after the first `round` rounds, from their tables.
-fn grow(
-    alloc: Global,
-    game: &Game,
-    parents: &[Vec<u32>],
-    layers: &[Layer],
-    count: u32,
-    next: &Round,
-) -> Result<Grown, AllocError>
-    requires tables { AreTables (game_of game.now) parents.now layers.now }
-    requires counted { count ≡ length (signals (game_of game.now) (length layers.now)) }
-    requires round { round_of next.now ≡ round_at (game_of game.now) (suc (length layers.now)) }
-    requires few { length (signals (game_of game.now) (suc (length layers.now))) ≤ 200000 }
-    requires private { next.now.private ≤ 3 }
-    requires public { next.now.public ≤ 3 }
-    ensures parents { IfOk result (λ grown. grown.parents.items ≡ parents_in (game_of game.now) (suc (length layers.now))) }
-    ensures layer { IfOk result (λ grown. IsLayer (game_of game.now) (length layers.now) grown.layer) }
-{
-    let room = room_for(count, game.deck.kinds());
-    let mut grown = none_grown(alloc, room, count as usize + 1)?;
-    for parent in 0..count {
-        let left = copies_left(alloc, game, parents, layers, layers.len(), parent)?;
-        grown.layer.firsts.push(grown.layer.shown.len() as u32)?;
-        push_showings(alloc, &game.deck, &left, next, &mut grown.layer)?;
-        grown.parents.resize(grown.layer.shown.len(), parent)?;
-    }
-    grown.layer.firsts.push(grown.layer.shown.len() as u32)?;
-    Ok(grown)
-}
-
 /// The signals of all rounds, round by round.
 #[derive(Drop)]
 pub(crate) struct Tables {
@@ -107,53 +51,109 @@ pub(crate) struct Tables {
     pub(crate) layers: Vec<Layer>,
 }
 
-/// The tables of all signals of a game.
-pub(crate) fn build(alloc: Global, game: &Game) -> Result<Tables, AllocError>
-    requires limits { IsWithinLimits (game_of game.now) }
-    requires dealable { IsDealable (game_of game.now) }
-    ensures tables { IfOk result (λ t. AreTables (game_of game.now) t.parents.items t.layers.items) }
-    ensures all { IfOk result (λ t. length t.layers.items ≡ round_count (game_of game.now)) }
-{
-    let mut parents: Vec<Vec<u32>> = Vec::new(alloc);
-    let mut layers: Vec<Layer> = Vec::new(alloc);
-    let mut count = 1u32;
-    for next in &game.rounds {
-        let Grown {
-            parents: owners,
-            layer,
-        } = grow(alloc, game, &parents, &layers, count, next)?;
-        count = owners.len() as u32;
-        parents.push(owners)?;
-        layers.push(layer)?;
+impl Tables {
+    /// The tables of all signals of a game.
+    pub(crate) fn of(alloc: Global, game: &Game) -> Result<Tables, AllocError>
+        requires limits { IsWithinLimits (game_of game.now) }
+        requires dealable { IsDealable (game_of game.now) }
+        ensures tables { IfOk result (λ t. AreTables (game_of game.now) t.parents.items t.layers.items) }
+        ensures all { IfOk result (λ t. length t.layers.items ≡ round_count (game_of game.now)) }
+    {
+        let mut tables = Tables {
+            parents: Vec::new(alloc),
+            layers: Vec::new(alloc),
+        };
+        let mut count = 1u32;
+        for next in &game.rounds {
+            let Grown { parents, layer } = tables.grow(alloc, game, count, next)?;
+            count = parents.len() as u32;
+            tables.parents.push(parents)?;
+            tables.layers.push(layer)?;
+        }
+        Ok(tables)
     }
-    Ok(Tables { parents, layers })
-}
 
-/// Writes a signal behind a text: a part for each round, joined by `/`.
-pub(crate) fn push_signal(
-    text: &mut String,
-    game: &Game,
-    parents: &[Vec<u32>],
-    layers: &[Layer],
-    round: usize,
-    signal: u32,
-) -> Result<(), AllocError>
-    requires tables { AreTables (game_of game.now) parents.now layers.now }
-    requires some { 0 < round }
-    requires round_in { round ≤ length layers.now }
-    requires signal_in { signal < length (signals (game_of game.now) round) }
-    ensures { OnOk result (string_bytes text.new ≡ string_bytes text.old ++ signal_text game.now.deck (signal_at (game_of game.now) round signal)) }
-{
-    let _kinds = game.deck.kinds();
-    let layer = &layers[round - 1];
-    let shown = &layer.shown[signal as usize];
-    if round == 1 {
-        return push_seen(text, &game.deck, shown);
+    /// The copies left once all that a signal shows is taken. Round 0 has the empty signal.
+    fn copies_left(
+        &self,
+        alloc: Global,
+        game: &Game,
+        round: usize,
+        signal: u32,
+    ) -> Result<Vec<u8>, AllocError>
+        requires tables { AreTables (game_of game.now) self.now.parents.items self.now.layers.items }
+        requires round_in { round ≤ length self.now.layers.items }
+        requires signal_in { signal < length (signals (game_of game.now) round) }
+        ensures left { IfOk result (λ left. left.items ≡ left_by (game_of game.now).copies (signal_at (game_of game.now) round signal)) }
+        ensures few { IfOk result (λ left. All (λ n. n ≤ 9) left.items) }
+        ensures len { IfOk result (λ left. length left.items ≡ length (game_of game.now).copies) }
+    {
+        if round == 0 {
+            return Vec::from_slice(alloc, game.deck.counts());
+        }
+        let shown = &self.layers[round - 1].shown[signal as usize];
+        let parent = self.parents[round - 1][signal as usize];
+        let left = self.copies_left(alloc, game, round - 1, parent)?;
+        let left = left_without(alloc, &left, shown.own.cards())?;
+        left_without(alloc, &left, shown.public.cards())
     }
-    let parent = parents[round - 1][signal as usize];
-    push_signal(text, game, parents, layers, round - 1, parent)?;
-    text.push('/')?;
-    push_seen(text, &game.deck, shown)
+
+    /// The signals of the round after the first `round` rounds, from their tables.
+    fn grow(
+        &self,
+        alloc: Global,
+        game: &Game,
+        count: u32,
+        next: &Round,
+    ) -> Result<Grown, AllocError>
+        requires tables { AreTables (game_of game.now) self.now.parents.items self.now.layers.items }
+        requires counted { count ≡ length (signals (game_of game.now) (length self.now.layers.items)) }
+        requires round { round_of next.now ≡ round_at (game_of game.now) (suc (length self.now.layers.items)) }
+        requires few { length (signals (game_of game.now) (suc (length self.now.layers.items))) ≤ 200000 }
+        requires private { next.now.private ≤ 3 }
+        requires public { next.now.public ≤ 3 }
+        ensures parents { IfOk result (λ grown. grown.parents.items ≡ parents_in (game_of game.now) (suc (length self.now.layers.items))) }
+        ensures layer { IfOk result (λ grown. IsLayer (game_of game.now) (length self.now.layers.items) grown.layer) }
+    {
+        let round = self.layers.len();
+        let room = room_for(count, game.deck.kinds());
+        let mut grown = none_grown(alloc, room, count as usize + 1)?;
+        for parent in 0..count {
+            let left = self.copies_left(alloc, game, round, parent)?;
+            grown.layer.firsts.push(grown.layer.shown.len() as u32)?;
+            push_showings(alloc, &game.deck, &left, next, &mut grown.layer)?;
+            grown.parents.resize(grown.layer.shown.len(), parent)?;
+        }
+        grown.layer.firsts.push(grown.layer.shown.len() as u32)?;
+        Ok(grown)
+    }
+
+    /// Writes a signal behind a text: a part for each round, joined by `/`.
+    pub(crate) fn push_signal(
+        &self,
+        text: &mut String,
+        game: &Game,
+        round: usize,
+        signal: u32,
+    ) -> Result<(), AllocError>
+        requires tables { AreTables (game_of game.now) self.now.parents.items self.now.layers.items }
+        requires some { 0 < round }
+        requires round_in { round ≤ length self.now.layers.items }
+        requires signal_in { signal < length (signals (game_of game.now) round) }
+        ensures { OnOk result (string_bytes text.new ≡ string_bytes text.old ++ signal_text game.now.deck (signal_at (game_of game.now) round signal)) }
+    {
+        // called only for what its contract says
+        let _kinds = game.deck.kinds();
+        let layer = &self.layers[round - 1];
+        let shown = &layer.shown[signal as usize];
+        if round == 1 {
+            return push_seen(text, &game.deck, shown);
+        }
+        let parent = self.parents[round - 1][signal as usize];
+        self.push_signal(text, game, round - 1, parent)?;
+        text.push('/')?;
+        push_seen(text, &game.deck, shown)
+    }
 }
 
 /// How often the card stands among cards.

@@ -3,7 +3,6 @@ use Rattle.gs_card.specs.Decks.{kinds}
 use Rattle.gs_game.specs.Games.{game_of}
 use Rattle.gs_model.specs.Game.{Game, round_count}
 use Rattle.gs_model.specs.Signals.{public_cards, signal_at}
-use Rattle.gs_tree.specs.Boards.{code_behind}
 use Rattle.gs_tree.specs.Walk.{last_count}
 use Rattle.gs_tree.proofs.Coded.{IsBoardOf, IsTableOf, board_in, none_in_table, shown_board, table_more, table_read}
 use Rattle.gs_tree.proofs.Linked.{are_boards, last_in, last_place, linked_more, start_linked}

@@ -14,11 +14,11 @@ use Rattle.gs_tree.proofs.reading.+after_signal.Goals.{After-index-parent, After
 -- what the signal shows last
 seen : (t : ℕ) (c : After-index-shown t) → IsSeen (game_of c.args.game.now) c.args.round c.args.signal (kinds c.args.game.now.deck) c.index-shown.result.now
 seen t c =
-    seen_read (game_of c.args.game.now) c.args.parents.now c.args.layers.now c.args.round c.args.signal (kinds c.args.game.now.deck) c.index-layers-round.result c.index-shown.result.now c.requires.tables c.requires.some c.requires.round_in c.index-layers-round.is c.requires.signal_in c.index-shown.ensures c.kinds-kinds.ensures.deck.counted
+    seen_read (game_of c.args.game.now) c.args.tables.now.parents.items c.args.tables.now.layers.items c.args.round c.args.signal (kinds c.args.game.now.deck) c.index-layer.result.now c.index-shown.result.now c.requires.tables c.requires.some c.requires.round_in c.index-layer.ensures c.requires.signal_in c.index-shown.ensures c.kinds-kinds.ensures.deck.counted
 
 -- its parent
 above : (t : ℕ) (c : After-index-parent t) → IsParent (game_of c.args.game.now) c.args.round c.args.signal c.index-parent.result.now
-above t c = parent_is (game_of c.args.game.now) c.args.parents.now c.args.layers.now c.args.round c.args.signal c.index-parents-round.result c.requires.tables c.requires.some c.requires.round_in c.index-parents-round.is c.requires.signal_in c.index-parent.result.now c.index-parent.ensures
+above t c = parent_is (game_of c.args.game.now) c.args.tables.now.parents.items c.args.tables.now.layers.items c.args.round c.args.signal c.index.result.now c.requires.tables c.requires.some c.requires.round_in c.index.ensures c.requires.signal_in c.index-parent.result.now c.index-parent.ensures
 
 -- its text is the parent's, a slash and what it shows last
 whole_text : (t : ℕ) (c : After-index-parent t) → seen_of c.index-shown.result.now ≡ last_seen (signal_at (game_of c.args.game.now) c.args.round c.args.signal)
@@ -38,7 +38,7 @@ returns-then-round-eq1 t c =
     subst Q whole c.after_seen.ensures
 
 pub index-parent-requires : goal.index-parent-requires
-index-parent-requires t c = row_within (game_of c.args.game.now) c.args.parents.now c.args.layers.now c.args.round c.args.signal c.index-parents-round.result c.requires.tables c.requires.some c.requires.round_in c.index-parents-round.is c.requires.signal_in
+index-parent-requires t c = row_within (game_of c.args.game.now) c.args.tables.now.parents.items c.args.tables.now.layers.items c.args.round c.args.signal c.index.result.now c.requires.tables c.requires.some c.requires.round_in c.index.ensures c.requires.signal_in
 
 pub after_signal-requires : goal.after_signal-requires
 after_signal-requires t c =

@@ -12,8 +12,8 @@ use Rattle.gs_tree.proofs.signals.Signals.children.Goals.{After-index}
 begins : (c : After-index) → c.index.result.now.firsts.items ≡ map (first_child (rules_of c.args.self.now) c.args.round) (range_with_len 0 (length (signals (rules_of c.args.self.now) c.args.round) + 1))
 begins c =
     let l : Layer = c.index.result.now in
-    let ls : List Layer = c.args.self.now.layers.items in
-    firsts_of (rules_of c.args.self.now) c.args.self.now.parents.items ls c.args.round l c.args.self.now.tables (omega (arith, c.args.self.now.counted, c.requires.before_last)) (c.index.ensures ∙ ap (λ k. get_or ls k l) c.from.ensures)
+    let ls : List Layer = c.args.self.now.tables.layers.items in
+    firsts_of (rules_of c.args.self.now) c.args.self.now.tables.parents.items ls c.args.round l c.args.self.now.listed (omega (arith, c.args.self.now.counted, c.requires.before_last)) (c.index.ensures ∙ ap (λ k. get_or ls k l) c.from.ensures)
 
 -- there is a place for the signal and for the one after it
 within : (c : After-index) → c.args.signal + 1 < vec_len c.index.result.now.firsts

@@ -12,19 +12,19 @@ use Rattle.gs_tree.proofs.signals.Signals.push_text_below.Goals as goal
 use Rattle.gs_tree.proofs.signals.Signals.push_text_below.Goals.{After-index-layer, After-index-shown}
 
 -- the layer of the round
-at_layer : (c : After-index-layer) → c.index-layer.result.now ≡ get_or c.args.self.now.layers.items (c.args.round - 1) c.index-layer.result.now
-at_layer c = c.index-layer.ensures ∙ ap (λ k. get_or c.args.self.now.layers.items (k - 1) c.index-layer.result.now) c.from.ensures
+at_layer : (c : After-index-layer) → c.index-layer.result.now ≡ get_or c.args.self.now.tables.layers.items (c.args.round - 1) c.index-layer.result.now
+at_layer c = c.index-layer.ensures ∙ ap (λ k. get_or c.args.self.now.tables.layers.items (k - 1) c.index-layer.result.now) c.from.ensures
 
 -- what the signal shows last
-seen : (c : After-index-shown) → c.index-layer.result.now ≡ get_or c.args.self.now.layers.items (c.args.round - 1) c.index-layer.result.now → IsSeen (rules_of c.args.self.now) c.args.round c.args.signal (kinds c.deck-deck.result.now) c.index-shown.result.now
+seen : (c : After-index-shown) → c.index-layer.result.now ≡ get_or c.args.self.now.tables.layers.items (c.args.round - 1) c.index-layer.result.now → IsSeen (rules_of c.args.self.now) c.args.round c.args.signal (kinds c.deck-deck.result.now) c.index-shown.result.now
 seen c at =
     let s = c.args.self.now in
-    seen_read (rules_of c.args.self.now) s.parents.items s.layers.items c.args.round c.args.signal (kinds c.deck-deck.result.now) c.index-layer.result.now c.index-shown.result.now s.tables (omega (arith, c.requires.later)) (omega (arith, s.counted, c.requires.last)) at c.requires.in_range c.index-shown.ensures (c.deck-deck.ensures.valid.counted ∙ sym (ap kinds c.deck-deck.ensures.deck))
+    seen_read (rules_of c.args.self.now) s.tables.parents.items s.tables.layers.items c.args.round c.args.signal (kinds c.deck-deck.result.now) c.index-layer.result.now c.index-shown.result.now s.listed (omega (arith, c.requires.later)) (omega (arith, s.counted, c.requires.last)) at c.requires.in_range c.index-shown.ensures (c.deck-deck.ensures.valid.counted ∙ sym (ap kinds c.deck-deck.ensures.deck))
 
 pub index-shown-requires : goal.index-shown-requires
 index-shown-requires c =
     let s = c.args.self.now in
-    shown_long (rules_of c.args.self.now) s.parents.items s.layers.items c.args.round c.args.signal c.index-layer.result.now s.tables (omega (arith, c.requires.later)) (omega (arith, s.counted, c.requires.last)) (at_layer (goal.at.index-shown-requires c).After-index-layer) c.requires.in_range
+    shown_long (rules_of c.args.self.now) s.tables.parents.items s.tables.layers.items c.args.round c.args.signal c.index-layer.result.now s.listed (omega (arith, c.requires.later)) (omega (arith, s.counted, c.requires.last)) (at_layer (goal.at.index-shown-requires c).After-index-layer) c.requires.in_range
 
 pub push_seen-requires : goal.push_seen-requires
 push_seen-requires c =

@@ -5,12 +5,12 @@ use Rattle.gs_game.specs.Games.{game_of}
 use Rattle.gs_model.specs.Game.{round_at}
 use Rattle.gs_model.specs.Signals.{signals, children, owners, showings, edge, left_by, first_child}
 use Rattle.gs_tree.specs.Tables.{shown_in}
-use Rattle.gs_tree.proofs.tables.grow.Given as goal
+use Rattle.gs_tree.proofs.tables.Tables.grow.Given as goal
 
 abbrev pub invariant-loop-parent : goal.invariant-loop-parent
 invariant-loop-parent l =
     let g = game_of l.game in
-    let n = length l.layers in
+    let n = length l.self.layers.items in
     let r = round_at g (suc n) in
     record {
       shown : shown_in l.grown.layer ≡ flat_map (λ s. showings (left_by g.copies s) r) (take l.parent (signals g n));

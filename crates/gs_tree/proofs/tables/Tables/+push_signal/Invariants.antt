@@ -1,4 +1,4 @@
-use Rattle.gs_tree.proofs.tables.+push_signal.Given as goal
+use Rattle.gs_tree.proofs.tables.Tables.+push_signal.Given as goal
 
 abbrev pub decreases-push_signal : goal.decreases-push_signal
 decreases-push_signal l = l.round

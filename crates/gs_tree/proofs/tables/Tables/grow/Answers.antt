@@ -5,25 +5,25 @@ use Rattle.std.proofs.lemmas.List.{length-map}
 use Rattle.std.proofs.lemmas.List.FromFn.{map-range_with_len_more}
 use Rattle.gs_game.specs.Games.{game_of, round_of}
 use Rattle.gs_model.specs.Game.{Game, Round, round_at}
-use Rattle.gs_model.specs.Signals.{Seen, Signal, signals, children, owners, showings, edge, left_by, first_child}
+use Rattle.gs_model.specs.Signals.{Seen, Signal, signals, children, owners, showings, edge, left_by, first_child, signal_at}
 use Rattle.gs_tree.specs.Shown.{seen_of}
 use Rattle.gs_tree.specs.Tables.{shown_in}
 use Rattle.gs_tree.proofs.Pushed.{joined_more}
 use Rattle.gs_tree.proofs.Grown.{shows_of, few_before, first_grown, owners_more, filled, seen_grown, edges_grown}
-use Rattle.gs_tree.proofs.tables.grow.Goals as goal
-use Rattle.gs_tree.proofs.tables.grow.Goals.{At-loop-parent}
+use Rattle.gs_tree.proofs.tables.Tables.grow.Goals as goal
+use Rattle.gs_tree.proofs.tables.Tables.grow.Goals.{At-loop-parent}
 
 -- what a signal's showings weigh
 abbrev edges : Game → ℕ → Signal → List ℕ
 edges g n s = map (edge (left_by g.copies s)) (showings (left_by g.copies s) (round_at g (suc n)))
 
 -- as many showings as the signals so far have children
-long : (c : At-loop-parent) → vec_len c.loop-parent.grown.layer.shown ≡ first_child (game_of c.args.game.now) (length c.args.layers.now) c.loop-parent.parent
-long c = omega (arith, c.loop-parent.grown.layer.shown.ok.0, length-map c.loop-parent.grown.layer.shown.items seen_of, ap (λ (x : List Seen). length x) c.loop-parent.invariant.shown, first_grown (game_of c.args.game.now) (length c.args.layers.now) c.loop-parent.parent)
+long : (c : At-loop-parent) → vec_len c.loop-parent.grown.layer.shown ≡ first_child (game_of c.args.game.now) (length c.args.self.now.layers.items) c.loop-parent.parent
+long c = omega (arith, c.loop-parent.grown.layer.shown.ok.0, length-map c.loop-parent.grown.layer.shown.items seen_of, ap (λ (x : List Seen). length x) c.loop-parent.invariant.shown, first_grown (game_of c.args.game.now) (length c.args.self.now.layers.items) c.loop-parent.parent)
 
 -- which are no more than the signals of the next round
-few : (c : At-loop-parent) → c.loop-parent.parent ≤ length (signals (game_of c.args.game.now) (length c.args.layers.now)) → first_child (game_of c.args.game.now) (length c.args.layers.now) c.loop-parent.parent ≤ length (signals (game_of c.args.game.now) (suc (length c.args.layers.now)))
-few c l = omega (arith, few_before (game_of c.args.game.now) (length c.args.layers.now) c.loop-parent.parent l, first_grown (game_of c.args.game.now) (length c.args.layers.now) c.loop-parent.parent)
+few : (c : At-loop-parent) → c.loop-parent.parent ≤ length (signals (game_of c.args.game.now) (length c.args.self.now.layers.items)) → first_child (game_of c.args.game.now) (length c.args.self.now.layers.items) c.loop-parent.parent ≤ length (signals (game_of c.args.game.now) (suc (length c.args.self.now.layers.items)))
+few c l = omega (arith, few_before (game_of c.args.game.now) (length c.args.self.now.layers.items) c.loop-parent.parent l, first_grown (game_of c.args.game.now) (length c.args.self.now.layers.items) c.loop-parent.parent)
 
 pub overflow_cast-len : goal.overflow_cast-len
 overflow_cast-len c = let w = (goal.at.overflow_cast-len c).At-loop-parent in omega (arith, long w, few w (omega (arith, c.requires.counted)), c.requires.few, c.len.ensures)
@@ -34,12 +34,14 @@ push_showings-requires-clause-counted c = ap (λ (x : List ℕ). length x) c.der
 pub loop-parent-preserved : goal.loop-parent-preserved
 loop-parent-preserved c =
     let g : Game = game_of c.args.game.now in
-    let n : ℕ = length c.args.layers.now in
+    let n : ℕ = length c.args.self.now.layers.items in
     let r : Round = round_at g (suc n) in
     let i : ℕ = c.loop-parent.parent in
     let ss : List Signal = signals g n in
     let here : i < length ss = omega (arith, c.requires.counted) in
-    let left : c.deref.result.now ≡ left_by g.copies (get_or ss i []) = c.deref.ensures.value ∙ c.in_ok-left.ensures.left in
+    let all_rounds : c.len-round.result ≡ n = omega (arith, c.len-round.ensures, c.args.self.now.layers.ok.0) in
+    let left : c.deref.result.now ≡ left_by g.copies (get_or ss i []) =
+    c.deref.ensures.value ∙ c.in_ok-left.ensures.left ∙ ap (λ k. left_by g.copies (signal_at g k i)) all_rounds in
     let shows : Signal → List Seen = shows_of g n in
     let more : showings c.deref.result.now (round_of c.args.next.now) ≡ shows (get_or ss i []) = ap (λ x. showings x (round_of c.args.next.now)) left ∙ ap (showings (left_by g.copies (get_or ss i []))) c.requires.round in
     let showing : List Seen = showings c.deref.result.now (round_of c.args.next.now) in
@@ -68,7 +70,7 @@ overflow_cast-len-2 c = let w = (goal.at.overflow_cast-len-2 c).At-loop-parent i
 pub returns-clause-layer : goal.returns-clause-layer
 returns-clause-layer c =
     let g : Game = game_of c.args.game.now in
-    let n : ℕ = length c.args.layers.now in
+    let n : ℕ = length c.args.self.now.layers.items in
     let i : ℕ = c.loop-parent.parent in
     let ss : List Signal = signals g n in
     let over : length ss ≤ i = omega (arith, c.requires.counted) in

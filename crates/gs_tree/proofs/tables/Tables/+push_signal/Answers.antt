@@ -8,16 +8,16 @@ use Rattle.gs_tree.specs.Shown.{seen_of}
 use Rattle.gs_tree.specs.Texts.{signal_text, seen_text}
 use Rattle.gs_tree.proofs.Lookups.{IsParent, IsSeen, parent_is, row_within, seen_read, shown_first, shown_long}
 use Rattle.gs_tree.proofs.Rests.{text_behind, text_grown}
-use Rattle.gs_tree.proofs.tables.+push_signal.Goals as goal
-use Rattle.gs_tree.proofs.tables.+push_signal.Goals.{After-index-parent, After-index-shown}
+use Rattle.gs_tree.proofs.tables.Tables.+push_signal.Goals as goal
+use Rattle.gs_tree.proofs.tables.Tables.+push_signal.Goals.{After-index-parent, After-index-shown}
 
 pub index-shown-requires : goal.index-shown-requires
-index-shown-requires t c = shown_long (game_of c.args.game.now) c.args.parents.now c.args.layers.now c.args.round c.args.signal c.index-layers-round.result c.requires.tables c.requires.some c.requires.round_in c.index-layers-round.is c.requires.signal_in
+index-shown-requires t c = shown_long (game_of c.args.game.now) c.args.self.now.parents.items c.args.self.now.layers.items c.args.round c.args.signal c.index-layer.result.now c.requires.tables c.requires.some c.requires.round_in c.index-layer.ensures c.requires.signal_in
 
 -- what the signal shows last
 seen : (t : ℕ) (c : After-index-shown t) → IsSeen (game_of c.args.game.now) c.args.round c.args.signal (kinds c.args.game.now.deck) c.index-shown.result.now
 seen t c =
-    seen_read (game_of c.args.game.now) c.args.parents.now c.args.layers.now c.args.round c.args.signal (kinds c.args.game.now.deck) c.index-layers-round.result c.index-shown.result.now c.requires.tables c.requires.some c.requires.round_in c.index-layers-round.is c.requires.signal_in c.index-shown.ensures c.kinds-kinds.ensures.deck.counted
+    seen_read (game_of c.args.game.now) c.args.self.now.parents.items c.args.self.now.layers.items c.args.round c.args.signal (kinds c.args.game.now.deck) c.index-layer.result.now c.index-shown.result.now c.requires.tables c.requires.some c.requires.round_in c.index-layer.ensures c.requires.signal_in c.index-shown.ensures c.kinds-kinds.ensures.deck.counted
 
 pub push_seen-requires : goal.push_seen-requires
 push_seen-requires t c = let h = seen t (goal.at.push_seen-requires t c).After-index-shown in record { own = h.own; public = h.public }
@@ -32,10 +32,10 @@ returns-then-round-eq1 t c =
 
 -- its parent
 above : (t : ℕ) (c : After-index-parent t) → IsParent (game_of c.args.game.now) c.args.round c.args.signal c.index-parent.result.now
-above t c = parent_is (game_of c.args.game.now) c.args.parents.now c.args.layers.now c.args.round c.args.signal c.index-parents-round.result c.requires.tables c.requires.some c.requires.round_in c.index-parents-round.is c.requires.signal_in c.index-parent.result.now c.index-parent.ensures
+above t c = parent_is (game_of c.args.game.now) c.args.self.now.parents.items c.args.self.now.layers.items c.args.round c.args.signal c.index.result.now c.requires.tables c.requires.some c.requires.round_in c.index.ensures c.requires.signal_in c.index-parent.result.now c.index-parent.ensures
 
 pub index-parent-requires : goal.index-parent-requires
-index-parent-requires t c = row_within (game_of c.args.game.now) c.args.parents.now c.args.layers.now c.args.round c.args.signal c.index-parents-round.result c.requires.tables c.requires.some c.requires.round_in c.index-parents-round.is c.requires.signal_in
+index-parent-requires t c = row_within (game_of c.args.game.now) c.args.self.now.parents.items c.args.self.now.layers.items c.args.round c.args.signal c.index.result.now c.requires.tables c.requires.some c.requires.round_in c.index.ensures c.requires.signal_in
 
 pub push_signal-requires : goal.push_signal-requires
 push_signal-requires t c =

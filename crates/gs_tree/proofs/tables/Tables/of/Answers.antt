@@ -9,15 +9,15 @@ use Rattle.gs_model.proofs.Ranges.{length-parents}
 use Rattle.gs_tree.specs.Tables.{AreTables, IsLayer}
 use Rattle.gs_tree.specs.declared.layer.Layer.{Layer}
 use Rattle.gs_tree.proofs.Lookups.{tables_push, small_round}
-use Rattle.gs_tree.proofs.tables.build.Goals as goal
+use Rattle.gs_tree.proofs.tables.Tables.of.Goals as goal
 
 counting : (m n : ℕ) → m ≡ n → suc m ≡ n + 1
 counting m n e = omega arith
 
 pub grow-requires-clause-few : goal.grow-requires-clause-few
 grow-requires-clause-few c =
-    let n : length c.deref-in-loop-next.result.now ≡ c.loop-next.next-index = ap (λ (x : List Layer). length x) c.deref-in-loop-next.ensures.value ∙ c.loop-next.invariant.rounds in
-    c.requires.limits.signals_in (suc (length c.deref-in-loop-next.result.now)) (omega (arith, n, ap (λ (x : List Round). length x) c.deref-next-items.ensures.value, length-map c.args.game.now.rounds.items round_of))
+    let n : length c.loop-next.tables.layers.items ≡ c.loop-next.next-index = c.loop-next.invariant.rounds in
+    c.requires.limits.signals_in (suc (length c.loop-next.tables.layers.items)) (omega (arith, n, ap (λ (x : List Round). length x) c.deref-next-items.ensures.value, length-map c.args.game.now.rounds.items round_of))
 
 pub grow-requires-clause-private : goal.grow-requires-clause-private
 grow-requires-clause-private c =
@@ -32,27 +32,25 @@ grow-requires-clause-public c =
 pub overflow_cast-count : goal.overflow_cast-count
 overflow_cast-count c =
     let g : Game = game_of c.args.game.now in
-    let m : ℕ = length c.deref-in-loop-next.result.now in
-    let n : m ≡ c.loop-next.next-index = ap (λ (x : List Layer). length x) c.deref-in-loop-next.ensures.value ∙ c.loop-next.invariant.rounds in
+    let m : ℕ = length c.loop-next.tables.layers.items in
+    let n : m ≡ c.loop-next.next-index = c.loop-next.invariant.rounds in
     let few = c.requires.limits.signals_in (suc m) (omega (arith, n, ap (λ (x : List Round). length x) c.deref-next-items.ensures.value, length-map c.args.game.now.rounds.items round_of)) in
-    let owned : c.in_ok-owners.field-0.parents.items ≡ parents g (suc m) = c.in_ok-owners.ensures.parents in
-    omega (arith, few, ap (λ (x : List ℕ). length x) owned, length-parents g (suc m), c.len-count.ensures, c.in_ok-owners.field-0.parents.ok.0)
+    let owned : c.in_ok-parents.field-0.parents.items ≡ parents g (suc m) = c.in_ok-parents.ensures.parents in
+    omega (arith, few, ap (λ (x : List ℕ). length x) owned, length-parents g (suc m), c.len-count.ensures, c.in_ok-parents.field-0.parents.ok.0)
 
 pub loop-next-preserved : goal.loop-next-preserved
 loop-next-preserved c =
     let g : Game = game_of c.args.game.now in
-    let m : ℕ = length c.deref-in-loop-next.result.now in
-    let ls : List Layer = c.loop-next.layers.items in
-    let here : m ≡ length ls = ap (λ (x : List Layer). length x) c.deref-in-loop-next.ensures.value in
-    let row : Vec ℕ = c.in_ok-owners.field-0.parents in
-    let layer : Layer = c.in_ok-owners.field-0.layer in
-    let owned : c.in_ok-owners.field-0.parents.items ≡ parents g (suc (length ls)) = c.in_ok-owners.ensures.parents ∙ ap (λ k. parents g (suc k)) here in
-    let P : ℕ → Type 0 = λ k. IsLayer g k c.in_ok-owners.field-0.layer in
-    let listed : IsLayer g (length ls) layer = subst P here c.in_ok-owners.ensures.layer in
-    let more = tables_push g c.loop-next.parents.items ls row layer c.loop-next.invariant.tables owned listed in
+    let m : ℕ = length c.loop-next.tables.layers.items in
+    let ls : List Layer = c.loop-next.tables.layers.items in
+    let row : Vec ℕ = c.in_ok-parents.field-0.parents in
+    let layer : Layer = c.in_ok-parents.field-0.layer in
+    let owned : c.in_ok-parents.field-0.parents.items ≡ parents g (suc (length ls)) = c.in_ok-parents.ensures.parents in
+    let listed : IsLayer g (length ls) layer = c.in_ok-parents.ensures.layer in
+    let more = tables_push g c.loop-next.tables.parents.items ls row layer c.loop-next.invariant.tables owned listed in
     let R : List (Vec ℕ) → Type 0 = λ ps. AreTables g ps (ls ++ layer ∷ []) in
     let S : List Layer → Type 0 = λ x. AreTables g c.push.new.self.items x in
-    let counted : c.len-count.result ≡ length (signals g (c.loop-next.next-index + 1)) = omega (arith, c.len-count.ensures, c.in_ok-owners.field-0.parents.ok.0, ap (λ (x : List ℕ). length x) owned, length-parents g (suc (length ls)), ap (λ k. length (signals g k)) (counting (length ls) c.loop-next.next-index c.loop-next.invariant.rounds)) in
+    let counted : c.len-count.result ≡ length (signals g (c.loop-next.next-index + 1)) = omega (arith, c.len-count.ensures, c.in_ok-parents.field-0.parents.ok.0, ap (λ (x : List ℕ). length x) owned, length-parents g (suc (length ls)), ap (λ k. length (signals g k)) (counting (length ls) c.loop-next.next-index c.loop-next.invariant.rounds)) in
     record {
       tables = subst S (sym c.in_ok-push-2.ensures.items) (subst R (sym c.in_ok-push.ensures.items) more);
       rounds = omega (arith, ap (λ (x : List Layer). length x) c.in_ok-push-2.ensures.items, length-append ls (layer ∷ []), c.loop-next.invariant.rounds);

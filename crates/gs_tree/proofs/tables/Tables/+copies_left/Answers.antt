@@ -1,4 +1,4 @@
-use Rattle.std.proofs.Common.{◌≡◌, ◌<◌, ℕ, List, length, get_or, vec_len, sym, ap, ◌∙◌, subst, arith}
+use Rattle.std.proofs.Common.{◌≡◌, ℕ, List, length, get_or, ap, ◌∙◌, subst, arith}
 use Rattle.std.specs.Prelude.{IfOk}
 use Rattle.std.specs.Global.{Vec}
 use Rattle.gs_game.specs.Games.{game_of}
@@ -10,26 +10,25 @@ use Rattle.gs_tree.specs.Layers.{last_seen}
 use Rattle.gs_tree.specs.Shown.{seen_of, cards_of}
 use Rattle.gs_tree.specs.declared.layer.Layer.{Layer}
 use Rattle.gs_tree.proofs.Lookups.{layer_of, parents_of, is_child, left_step, parent_read}
-use Rattle.gs_tree.proofs.tables.+copies_left.Goals as goal
+use Rattle.gs_tree.proofs.tables.Tables.+copies_left.Goals as goal
 
 pub index-shown-requires : goal.index-shown-requires
 index-shown-requires t c =
-    let l : Layer = c.index-layers-round.result in
-    let h = layer_of (game_of c.args.game.now) c.args.parents.now c.args.layers.now c.args.round l c.requires.tables (omega arith) c.requires.round_in c.index-layers-round.is in
-    let P : Layer → Type 0 = λ x. c.args.signal < vec_len x.shown in
-    subst P c.index-layers-round.is (omega (arith, h.long, l.shown.ok.0, c.requires.signal_in))
+    let l : Layer = c.index.result.now in
+    let h = layer_of (game_of c.args.game.now) c.args.self.now.parents.items c.args.self.now.layers.items c.args.round l c.requires.tables (omega arith) c.requires.round_in c.index.ensures in
+    omega (arith, h.long, l.shown.ok.0, c.requires.signal_in)
 
 pub index-parent-requires : goal.index-parent-requires
 index-parent-requires t c =
-    let row : Vec ℕ = c.index-parents-round.result in
-    let h = parents_of (game_of c.args.game.now) c.args.parents.now c.args.layers.now c.args.round row c.requires.tables (omega arith) c.requires.round_in c.index-parents-round.is in
+    let row : Vec ℕ = c.index-2.result.now in
+    let h = parents_of (game_of c.args.game.now) c.args.self.now.parents.items c.args.self.now.layers.items c.args.round row c.requires.tables (omega arith) c.requires.round_in c.index-2.ensures in
     omega (arith, ap (λ (x : List ℕ). length x) h, length-parents (game_of c.args.game.now) c.args.round, row.ok.0, c.requires.signal_in)
 
 pub copies_left-requires : goal.copies_left-requires
 copies_left-requires t c =
     let g : Game = game_of c.args.game.now in
-    let row : Vec ℕ = c.index-parents-round.result in
-    let h = parents_of g c.args.parents.now c.args.layers.now c.args.round row c.requires.tables (omega arith) c.requires.round_in c.index-parents-round.is in
+    let row : Vec ℕ = c.index-2.result.now in
+    let h = parents_of g c.args.self.now.parents.items c.args.self.now.layers.items c.args.round row c.requires.tables (omega arith) c.requires.round_in c.index-2.ensures in
     let p = parent_read g row c.args.round c.args.signal c.index-parent.result.now h c.requires.signal_in c.index-parent.ensures in
     let child = is_child g c.args.round c.args.signal (omega arith) c.requires.signal_in in
     (omega arith, (c.requires.tables, (omega (arith, c.requires.round_in), omega (arith, p, child.parent_in))))
@@ -37,14 +36,14 @@ copies_left-requires t c =
 pub returns-clause-left : goal.returns-clause-left
 returns-clause-left t c =
     let g : Game = game_of c.args.game.now in
-    let l : Layer = c.index-layers-round.result in
-    let row : Vec ℕ = c.index-parents-round.result in
-    let h = parents_of g c.args.parents.now c.args.layers.now c.args.round row c.requires.tables (omega arith) c.requires.round_in c.index-parents-round.is in
+    let l : Layer = c.index.result.now in
+    let row : Vec ℕ = c.index-2.result.now in
+    let h = parents_of g c.args.self.now.parents.items c.args.self.now.layers.items c.args.round row c.requires.tables (omega arith) c.requires.round_in c.index-2.ensures in
     let p = parent_read g row c.args.round c.args.signal c.index-parent.result.now h c.requires.signal_in c.index-parent.ensures in
     let child = is_child g c.args.round c.args.signal (omega arith) c.requires.signal_in in
-    let k = layer_of g c.args.parents.now c.args.layers.now c.args.round l c.requires.tables (omega arith) c.requires.round_in c.index-layers-round.is in
+    let k = layer_of g c.args.self.now.parents.items c.args.self.now.layers.items c.args.round l c.requires.tables (omega arith) c.requires.round_in c.index.ensures in
     let shown = c.index-shown.result.now in
-    let reads : shown ≡ get_or l.shown.items c.args.signal shown = c.index-shown.ensures ∙ ap (λ (x : Layer). get_or x.shown.items c.args.signal shown) (sym c.index-layers-round.is) in
+    let reads : shown ≡ get_or l.shown.items c.args.signal shown = c.index-shown.ensures in
     let shows : seen_of shown ≡ last_seen (signal_at g c.args.round c.args.signal) = ap seen_of reads ∙ k.shows c.args.signal shown c.requires.signal_in in
     let step = left_step g c.args.round c.args.signal c.index-parent.result.now c.in_ok-left.left.items shown child p c.in_ok-left.ensures.left shows in
     let first : c.in_ok-left-2.left.items ≡ left_after c.in_ok-left.left.items (cards_of shown.own) = c.in_ok-left-2.ensures.value ∙ ap (λ x. left_after x c.cards.result.now) c.deref.ensures.value ∙ ap (left_after c.in_ok-left.left.items) c.cards.ensures in
