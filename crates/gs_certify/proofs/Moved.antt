@@ -1,19 +1,26 @@
 -- What holds of a game in sequence form holds of the strategy that it was made of; and what is told is an answer.
-use Rattle.std.proofs.Common.{◌≢◌, Err, inr, refl, sym, subst}
+use Rattle.std.proofs.Common.{◌≡◌, ◌≢◌, ℤ, Result, Ok, Err, inr, refl, sym, subst}
+use Rattle.std.specs.Prelude.{IfOk, MatchResult}
+use Rattle.std.proofs.lemmas.Result.{IfOk-at_ok}
+use Rattle.gs_certificate.specs.Checks.{IsFault, IsSound}
 use Rattle.gs_certificate.specs.Faults.{FailsSo}
+use Rattle.gs_certificate.specs.Promises.{BoundsAll}
 use Rattle.gs_certificate.specs.Reading.{ReadResult}
+use Rattle.gs_certificate.specs.declared.certificate.Certificate.{Certificate}
+use Rattle.gs_certificate.specs.declared.fault.CertFault.{CertFault}
 use Rattle.gs_certificate.specs.declared.text_fault.CertTextFault.{CertTextFault}
 use Rattle.gs_certificate.specs.declared.text_fault.CertTextFault.TheVariants as fault
 use Rattle.gs_confirm.specs.Held.{Holds}
 use Rattle.gs_confirm.specs.Troubles.{SaysLarge, SaysUnlike}
-use Rattle.gs_confirm.proofs.Faults.{answers_map}
 use Rattle.gs_lossless.specs.declared.checking.Lossless.{Lossless}
 use Rattle.gs_model.specs.Classes.{ClassLists}
 use Rattle.gs_model.specs.Frame.{Frame}
+use Rattle.gs_reply.proofs.Refused.{answers_more}
 use Rattle.gs_reply.specs.Refusals.{Too_large, Unlike_pair}
 use Rattle.gs_reply.specs.Replies.{Answers, Reply}
 use Rattle.gs_reply.specs.declared.answers.Answer.{Answer}
 use Rattle.gs_seq.specs.Games.{frame_in}
+use Rattle.gs_seq.specs.Plans.{lifted}
 use Rattle.gs_strategy.specs.Values.{Strategy}
 use Rattle.gs_strategy.specs.declared.stored.Stored.{Stored}
 use Rattle.gs_certify.specs.Tasks.{says_of}
@@ -25,20 +32,46 @@ pub moved : (P : Frame → ClassLists → Type 0) (l : Lossless) (s : Stored) �
     → P (frame_in s.game) s.classes.lists
 moved P l s h x = subst (λ k. P (frame_in s.game) k.lists) h.classes (subst (λ g. P (frame_in g) l.classes.now.lists) h.game x)
 
+-- a certificate of the strategy's plans over a frame and classes: it is sound, has a fault, or bounds
+abbrev SoundIn : Stored → Certificate → Frame → ClassLists → Type 0
+SoundIn s k f n = IsSound f n (lifted f n s.one) (lifted f n s.two) k
+
+abbrev FaultIn : Stored → Certificate → CertFault → Frame → ClassLists → Type 0
+FaultIn s k why f n = IsFault f n (lifted f n s.one) (lifted f n s.two) k why
+
+abbrev BoundsIn : Stored → Certificate → Frame → ClassLists → Type 0
+BoundsIn s k f n = BoundsAll f (lifted f n s.one) (lifted f n s.two) k
+
+module _ (l : Lossless) (s : Stored) (k : Certificate) (held : Holds l s) where
+  abbrev Exact : Result ℤ CertFault → Type 0
+  Exact r = MatchResult r (λ _. SoundIn s k (frame_in l.signals.now.game.now) l.classes.now.lists)
+      (λ why. FaultIn s k why (frame_in l.signals.now.game.now) l.classes.now.lists)
+
+  pub sound_moved : (r : Result ℤ CertFault) (paid : ℤ) → r ≡ Ok paid → Exact r → SoundIn s k (frame_in s.game) s.classes.lists
+  sound_moved r paid is h = moved (SoundIn s k) l s held (subst Exact is h)
+
+  pub fault_moved : (r : Result ℤ CertFault) (why : CertFault) → r ≡ Err why → Exact r → FaultIn s k why (frame_in s.game) s.classes.lists
+  fault_moved r why is h = moved (FaultIn s k why) l s held (subst Exact is h)
+
+  pub bounds_moved : (r : Result ℤ CertFault) (paid : ℤ) → r ≡ Ok paid → IfOk r (λ _. BoundsIn s k (frame_in l.signals.now.game.now) l.classes.now.lists)
+      → BoundsIn s k (frame_in s.game) s.classes.lists
+  bounds_moved r paid is h = moved (BoundsIn s k) l s held (IfOk-at_ok (λ (paid : ℤ). BoundsIn s k (frame_in l.signals.now.game.now) l.classes.now.lists) is
+      h)
+
 -- an unlike pair, and a game that is too large, are told by both commands
 unlike_by : (task : Task) (s : Strategy) (reply : Reply) → SaysUnlike s reply → says_of task s reply
 unlike_by Certify s reply h = inr (Unlike_pair h.0 h.1 h.2, h.3, h.4)
 unlike_by (Verify c) s reply h = subst (λ (r : Reply). SaysChecked s c.now r) (sym h.4) h.3
 
 pub unlike_said : (task : Task) (s : Strategy) (a : Answer) → Answers (SaysUnlike s) a → Answers (says_of task s) a
-unlike_said task s a h = answers_map (SaysUnlike s) (says_of task s) (unlike_by task s) a h
+unlike_said task s a h = answers_more (SaysUnlike s) (says_of task s) (unlike_by task s) a h
 
 large_by : (task : Task) (s : Strategy) (reply : Reply) → SaysLarge s reply → says_of task s reply
 large_by Certify s reply h = inr (Too_large h.0, h.1, h.2)
 large_by (Verify c) s reply h = subst (λ (r : Reply). SaysChecked s c.now r) (sym h.2) h.1
 
 pub large_said : (task : Task) (s : Strategy) (a : Answer) → Answers (SaysLarge s) a → Answers (says_of task s) a
-large_said task s a h = answers_map (SaysLarge s) (says_of task s) (large_by task s) a h
+large_said task s a h = answers_more (SaysLarge s) (says_of task s) (large_by task s) a h
 
 -- the fault of a certificate's text, where memory did not run out
 pub fault_is : (told : CertTextFault) (says : ReadResult → Type 0) → told ≢ fault.Memory → FailsSo told says → says (Err told)

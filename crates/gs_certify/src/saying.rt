@@ -38,23 +38,6 @@ fn confirmed(alloc: Global, stored: &Stored, form: &Abstract) -> Result<Answer, 
     }
 }
 
-// A strategy whose game has a sequence form.
-fn of_form(
-    alloc: Global,
-    task: &Task<'_>,
-    stored: &Stored,
-    form: &Abstract,
-) -> Result<Answer, AllocError>
-    requires form { IsFormOf stored.now form.now }
-    requires modest { IsModest task.now }
-    ensures { IfOk result (Answers (says_of task.now (stored_view stored.now))) }
-{
-    match task {
-        Task::Certify => confirmed(alloc, stored, form),
-        Task::Verify(c) => checked(alloc, stored, form, c),
-    }
-}
-
 // A strategy whose classes are lossless: its game is to be small.
 fn of_lossless(
     alloc: Global,
@@ -68,7 +51,10 @@ fn of_lossless(
     ensures { IfOk result (Answers (says_of task.now (stored_view stored.now))) }
 {
     match form_of(alloc, stored, lossless)? {
-        Ok(form) => of_form(alloc, task, stored, &form),
+        Ok(form) => match task {
+            Task::Certify => confirmed(alloc, stored, &form),
+            Task::Verify(c) => checked(alloc, stored, &form, c),
+        },
         Err(refusal) => Ok(refusal),
     }
 }

@@ -1,10 +1,9 @@
 -- A file that holds no strategy is refused for its first fault.
 use Rattle.std.proofs.Common.{◌≢◌, ℕ, List, Ok, Err, refl}
-use Rattle.gs_reply.proofs.Refused.{tells_answer}
+use Rattle.gs_reply.proofs.Refused.{answers_more, tells_answer}
 use Rattle.gs_reply.specs.Refusals.{Bad_strategy}
-use Rattle.gs_reply.specs.Replies.{Answers, Reply, Prints, Refuses, Tells}
+use Rattle.gs_reply.specs.Replies.{Answers, Reply, Tells}
 use Rattle.gs_reply.specs.declared.answers.Answer.{Answer}
-use Rattle.gs_reply.specs.declared.answers.Answer.TheVariants as answer
 use Rattle.gs_reply.specs.declared.strategies.Which.TheVariants.{Only}
 use Rattle.gs_strategy.specs.Checks.{ReadResult, Reads}
 use Rattle.gs_strategy.specs.Faults.{FailsSo, Fault, IsFault}
@@ -35,12 +34,7 @@ refused says bytes told a some h line =
     let f = fault_is told (Reads bytes) some h in
     tells_answer (OfStrategy says bytes) a (Bad_strategy Only f.0) (record { read = Err f.0; reads = f.2; said = refl }) (line f.0 f.1)
 
--- what is said of one reply is said of another
-pub answers_map : (P Q : Reply → Type 0) → ((r : Reply) → P r → Q r) → (a : Answer) → Answers P a → Answers Q a
-answers_map P Q f (answer.Prints text) h = f (Prints text.items) h
-answers_map P Q f (answer.Refuses kind line) h = (h.0, f (Refuses h.0) h.1, h.2)
-
 -- what is said of the strategy that was read is what a command answers
 pub of_read : (says : Strategy → Reply → Type 0) (bytes : List ℕ) (s : Strategy) (a : Answer) → Reads bytes (Ok s) → Answers (says s) a
     → Answers (OfStrategy says bytes) a
-of_read says bytes s a reads h = answers_map (says s) (OfStrategy says bytes) (λ r said. record { read = Ok s; reads = reads; said = said }) a h
+of_read says bytes s a reads h = answers_more (says s) (OfStrategy says bytes) (λ r said. record { read = Ok s; reads = reads; said = said }) a h

@@ -1,7 +1,7 @@
 //! What is said of a strategy that is confirmed.
 
 ghost use Rattle.std.specs.Prelude.{◌≡◌, ◌<◌, ◌≤◌, ◌==◌, IfOk, if◌then◌else◌};
-ghost use Rattle.gs_confirm.specs.{Asking.{says_of}, Commands.{SaysQueried, SaysUpgraded}, Held.{Holds}, Queries.{IsToldAt}};
+ghost use Rattle.gs_confirm.specs.{Asking.{says_of}, Commands.{SaysUpgraded}, Held.{Holds}, Queries.{IsToldAt}};
 ghost use Rattle.gs_lift.specs.Queries.{IsSpot, signals_of};
 ghost use Rattle.gs_reply.specs.Replies.{Answers};
 ghost use Rattle.gs_strategy.specs.Views.{stored_view};
@@ -56,22 +56,6 @@ fn told_at(
     mix_text(alloc, &mixture, gap_of(stored, query.player))
 }
 
-// What a query is answered.
-fn queried(
-    alloc: Global,
-    query: &Query<'_>,
-    stored: &Stored,
-    form: &Abstract,
-) -> Result<Answer, AllocError>
-    requires { Holds form.now.lossless.now stored.now }
-    ensures { IfOk result (Answers (SaysQueried query.now.player query.now.line.now query.now.signal.now (stored_view stored.now))) }
-{
-    match locate(form, query.player, query.line, query.signal) {
-        Ok(spot) => Ok(Answer::Prints(told_at(alloc, query, stored, form, spot)?)),
-        Err(fault) => bad_query(alloc, fault),
-    }
-}
-
 // The text of a strategy in version 2.
 fn upgraded(alloc: Global, stored: &Stored) -> Result<Answer, AllocError>
     ensures { IfOk result (Answers (SaysUpgraded (stored_view stored.now))) }
@@ -92,7 +76,10 @@ pub fn said(
 {
     match ask {
         Ask::Evaluate => Ok(Answer::Prints(verdict_text(alloc, &stored.verdict)?)),
-        Ask::Query(query) => queried(alloc, query, stored, form),
+        Ask::Query(query) => match locate(form, query.player, query.line, query.signal) {
+            Ok(spot) => Ok(Answer::Prints(told_at(alloc, query, stored, form, spot)?)),
+            Err(fault) => bad_query(alloc, fault),
+        },
         Ask::Upgrade => upgraded(alloc, stored),
     }
 }

@@ -1,11 +1,10 @@
 -- Strategies and their certificates: what `certify` and `verify` print, and how they end where nothing outside fails.
-use Rattle.std.proofs.Common.{◌≡◌, inl, inr, ℕ, List, ◌++◌, Result, Ok, Err, refl, sym, subst}
+use Rattle.std.proofs.Common.{◌≡◌, inl, inr, ℕ, List, ◌++◌, Ok, Err, refl, sym, subst}
 use Rattle.gs_certificate.specs.Checks.{AreSmall}
 use Rattle.gs_certificate.specs.TextLaws.{IsStated}
 use Rattle.gs_certificate.specs.Texts.{Stated, certificate_text}
 use Rattle.gs_certificate.specs.Views.{certificate_view}
 use Rattle.gs_certificate.specs.declared.certificate.Certificate.{Certificate}
-use Rattle.gs_certificate.specs.declared.text_fault.CertTextFault.{CertTextFault}
 use Rattle.gs_certificate.proofs.OneText.{one_certificate}
 use Rattle.gs_certificate.proofs.Only.{only as certificate_only}
 use Rattle.gs_certify.specs.Certificates.{IsCertified, SaysCertified}
@@ -25,15 +24,12 @@ use Rattle.gs_strategy.proofs.Only.{found, only}
 use Rattle.gs_words.specs.Tasks.{Certify, Verify}
 use Rattle.shrink_cli.proofs.Completed.{completes, ends_so, over_strategy}
 use Rattle.shrink_cli.proofs.Judged.{both_written, text_parted}
-use Rattle.shrink_cli.proofs.Promised.{of_strategy, printed}
+use Rattle.shrink_cli.proofs.Promised.{of_strategy, printed, prints_so, same_text}
 use Rattle.shrink_cli.specs.Promises.{CertifiedAtLast, CertifiesWell, CompletesStrategy, EndsSo, EndsWell, OfCertificate, OfConfirmed, VerifiesAtLast, VerifiesWell}
 use Rattle.shrink_cli.specs.Running.{Ends, RunsTo}
 use Rattle.shrink_cli.specs.declared.status.Status.{Status}
 
 -- ---- what is printed
-
-same_text : (one two : List ℕ) → Prints one ≡ Prints two → two ≡ one
-same_text one two e = cc
 
 certified : (t : Strategy) (text : List ℕ) → SaysCertified t (Prints text) → IsCertified t text
 certified t text h = subst (IsCertified t) (same_text text h.0 h.2) h.1
@@ -59,9 +55,8 @@ verified bytes text (Err why) reads h = cc
 
 pub verifies : (words : List (List ℕ)) (old new : Ends) (s : Status) → RunsTo words old new s → VerifiesWell words old new s
 verifies words old new s runs asked e =
-    let p = printed words old new s Verify runs asked e in
-    let h : Verifies p.1.bytes (Prints p.0) = p.1.says in
-    record { bytes = p.1.bytes; read = p.1.input; text = p.0; printed = p.2; said = verified p.1.bytes p.0 h.read h.reads h.said }
+    prints_so Verify OfCertificate old new (λ bytes text says. let h : Verifies bytes (Prints text) = says in
+    verified bytes text h.read h.reads h.said) refl (printed words old new s Verify runs asked e)
 
 -- ---- how they end
 
@@ -70,22 +65,13 @@ pub certifies_at_last : (words : List (List ℕ)) (old new : Ends) (s : Status) 
 certifies_at_last words old new s runs version t asked is e few good =
     over_strategy (SaysConfirmed SaysCertified) version t s is (completes words old new s runs Certify (strategy_text version t) asked refl e few good)
 
-abbrev refused : CertTextFault → Result Stated CertTextFault
-refused why = Err why
-
-abbrev held : Stated → Result Stated CertTextFault
-held c = Ok c
-
-clash : (why : CertTextFault) (c : Stated) → refused why ≡ held c → ⊥
-clash why c e = cc
-
 stated : (c : Certificate) → AreSmall c → IsStated (certificate_view c)
 stated c small = record { one = record { bound = c.bound1.reduced; values = small.one }; two = record { bound = c.bound2.reduced; values = small.two } }
 
 -- what is said of a certificate's text is said of a certificate of that text
 of_certificate : (t : Strategy) (c : Stated) (reply : Reply) → IsStated c → SaysVerified (certificate_text c) t reply
     → (d : Certificate) × (certificate_view d ≡ c) × SaysChecked t d reply
-of_certificate t c reply is (inl h) = absurd (clash h.why c (certificate_only c (Err h.why) is h.reads))
+of_certificate t c reply is (inl h) = let bad = certificate_only c (Err h.why) is h.reads in cc
 of_certificate t c reply is (inr h) = (h.0, sym (one_certificate c (certificate_view h.0) is (stated h.0 h.1.small) h.1.text), h.2)
 
 of_lines : (version : Version) (t : Strategy) (c : Stated) (reply : Reply) → IsStrategy version t → IsStated c

@@ -22,15 +22,12 @@ use Rattle.gs_strategy.proofs.Shape.{has_line}
 use Rattle.gs_text.specs.VerdictText.{verdict_text}
 use Rattle.gs_words.specs.Tasks.{Judge, Duel}
 use Rattle.shrink_cli.proofs.Completed.{completes, ends_so}
-use Rattle.shrink_cli.proofs.Promised.{printed}
+use Rattle.shrink_cli.proofs.Promised.{printed, prints_so, same_text}
 use Rattle.shrink_cli.specs.Promises.{AreOnRawCards, CompletesStrategy, DuelsAtLast, DuelsWell, IsDuelled, IsJudged, JudgesWell, OfAccepted, OfTwo}
 use Rattle.shrink_cli.specs.Running.{Ends, RunsTo}
 use Rattle.shrink_cli.specs.declared.status.Status.{Status}
 
 -- ---- what is printed
-
-same_text : (one two : List ℕ) → Prints one ≡ Prints two → one ≡ two
-same_text one two e = cc
 
 -- what is said of two strategies of one game on raw cards
 on_raw_cards : (says : Numbers → Reply → Type 0) (one two : Strategy) (text : List ℕ) → one.game ≡ two.game → OnRawCards says one two (Prints text)
@@ -45,7 +42,7 @@ on_raw_cards says one two text same (inr h) = let bad = h.1 in cc
 judged : (t : Strategy) (text : List ℕ) → SaysJudged t (Prints text) → IsJudged t text
 judged t text h =
     let r = on_raw_cards (λ n reply. reply ≡ Prints (verdict_text n)) t t text refl h in
-    (r.0, r.1, same_text text (verdict_text r.0) r.2)
+    (r.0, r.1, sym (same_text text (verdict_text r.0) r.2))
 
 accepted : (bytes text : List ℕ) (read : ReadResult) → Reads bytes read → OfRead Only SaysJudged read (Prints text) → OfAccepted IsJudged bytes text
 accepted bytes text (Ok t) reads h = record { strategy = t; accepted = reads; written = found bytes t reads; said = judged t text h }
@@ -53,9 +50,8 @@ accepted bytes text (Err why) reads h = cc
 
 pub judges : (words : List (List ℕ)) (old new : Ends) (s : Status) → RunsTo words old new s → JudgesWell words old new s
 judges words old new s runs asked e =
-    let p = printed words old new s Judge runs asked e in
-    let h : Judges p.1.bytes (Prints p.0) = p.1.says in
-    record { bytes = p.1.bytes; read = p.1.input; text = p.0; printed = p.2; said = accepted p.1.bytes p.0 h.read h.reads h.said }
+    prints_so Judge (OfAccepted IsJudged) old new (λ bytes text says. let h : Judges bytes (Prints text) = says in
+    accepted bytes text h.read h.reads h.said) refl (printed words old new s Judge runs asked e)
 
 -- the first line and what stands behind it are all bytes
 joined : (bytes : List ℕ) → (first_line bytes).0 ++ (first_line bytes).1 ≡ bytes
@@ -75,7 +71,7 @@ hand_lines one n hands = verdict_text n ++ hands_text one.game.deck (rules_of on
 duelled : (one two : Strategy) (text : List ℕ) → one.game ≡ two.game → SaysHands one two (Prints text) → IsDuelled one two text
 duelled one two text same h =
     let r = on_raw_cards (λ n reply. (hands : List Parts) × AreHands one two hands × (reply ≡ Prints (hand_lines one n hands))) one two text same h in
-    (r.0, r.1, (r.2.0, r.2.1, same_text text (hand_lines one r.0 r.2.0) r.2.2))
+    (r.0, r.1, (r.2.0, r.2.1, sym (same_text text (hand_lines one r.0 r.2.0) r.2.2)))
 
 second_file : (bytes text : List ℕ) (one : Strategy) (read : ReadResult) → Reads (first_line bytes).0 (Ok one) → Reads (first_line bytes).1 read
     → OfRead Second (SaysDuel one) read (Prints text) → OfTwo IsDuelled bytes text
@@ -103,9 +99,8 @@ first_file bytes text (Err why) a h = cc
 
 pub duels : (words : List (List ℕ)) (old new : Ends) (s : Status) → RunsTo words old new s → DuelsWell words old new s
 duels words old new s runs asked e =
-    let p = printed words old new s Duel runs asked e in
-    let h : Duels p.1.bytes (Prints p.0) = p.1.says in
-    record { bytes = p.1.bytes; read = p.1.input; text = p.0; printed = p.2; said = first_file p.1.bytes p.0 h.read h.reads h.said }
+    prints_so Duel (OfTwo IsDuelled) old new (λ bytes text says. let h : Duels bytes (Prints text) = says in
+    first_file bytes text h.read h.reads h.said) refl (printed words old new s Duel runs asked e)
 
 -- ---- how they end
 

@@ -8,8 +8,8 @@ use Rattle.gs_confirm.specs.Queries.{IsQueried}
 use Rattle.gs_file.specs.declared.version.Version.TheVariants.{Two}
 use Rattle.gs_file.specs.Faults.{Fault}
 use Rattle.gs_file.specs.Reading.{FileGame, read_at}
-use Rattle.gs_group.specs.Checking.{ChecksGame}
-use Rattle.gs_group.specs.Shrinking.{ShrinksGame}
+use Rattle.gs_group.specs.Checking.{ChecksGame, IsChecked}
+use Rattle.gs_group.specs.Shrinking.{IsShrunk, ShrinksGame}
 use Rattle.gs_made.specs.Made.{made_game}
 use Rattle.gs_made.specs.declared.kind.Kind.{Kind}
 use Rattle.gs_reply.specs.Replies.{OfReading, Reply, Prints}
@@ -51,6 +51,18 @@ prints words old new s runs task asked r e =
     let p = printed words old new s task runs asked e in
     record { bytes = p.1.bytes; read = subst (λ (b : Bool). Inputs b old new p.1.bytes) r p.1.input; text = p.0; printed = p.2; said = p.1.says }
 
+-- what is printed is said of the bytes, where the task's answer says so
+pub prints_so : (task : Task) (tells : List ℕ → List ℕ → Type 0) (old new : Ends) → ((bytes text : List ℕ) → Asks task bytes (Prints text) → tells bytes text)
+    → reads task ≡ true → IsPrinted task old new → PrintsSo tells old new
+prints_so task tells old new says r p =
+    record {
+      bytes = p.1.bytes;
+      read = subst (λ (b : Bool). Inputs b old new p.1.bytes) r p.1.input;
+      text = p.0;
+      printed = p.2;
+      said = says p.1.bytes p.0 p.1.says;
+    }
+
 -- what is said of a text was said of a game that was read
 pub of_reading : (says : FileGame → Reply → Type 0) (read : Result FileGame Fault) (text : List ℕ) → OfReading says read (Prints text)
     → (g : FileGame) × (read ≡ Ok g) × says g (Prints text)
@@ -59,19 +71,13 @@ of_reading says (Err why) text h = cc
 
 pub shrinks : (words : List (List ℕ)) (old new : Ends) (s : Status) → RunsTo words old new s → ShrinksWell words old new s
 shrinks words old new s runs summary asked e =
-    let p = printed words old new s (Shrink summary) runs asked e in
-    record { bytes = p.1.bytes; read = p.1.input; text = p.0; printed = p.2; said = of_reading (ShrinksGame summary) (read_at p.1.bytes) p.0 p.1.says }
+    prints_so (Shrink summary) (OfGame (IsShrunk summary)) old new (λ bytes text h. of_reading (ShrinksGame summary) (read_at bytes) text h) refl
+    (printed words old new s (Shrink summary) runs asked e)
 
 pub checks : (words : List (List ℕ)) (old new : Ends) (s : Status) → RunsTo words old new s → ChecksWell words old new s
 checks words old new s runs grouping summary asked e =
-    let p = printed words old new s (Check grouping summary) runs asked e in
-    record {
-      bytes = p.1.bytes;
-      read = p.1.input;
-      text = p.0;
-      printed = p.2;
-      said = of_reading (ChecksGame grouping summary) (read_at p.1.bytes) p.0 p.1.says;
-    }
+    prints_so (Check grouping summary) (OfGame (IsChecked grouping summary)) old new
+    (λ bytes text h. of_reading (ChecksGame grouping summary) (read_at bytes) text h) refl (printed words old new s (Check grouping summary) runs asked e)
 
 is_made : (kind : Kind) (ranks suits cap : ℕ) (summary : Bool) (text : List ℕ) → Makes kind ranks suits cap summary (Prints text)
     → IsMade kind ranks suits cap summary text
@@ -104,36 +110,20 @@ of_game_classes grouping says tells bytes text told h =
 
 pub solves : (words : List (List ℕ)) (old new : Ends) (s : Status) → RunsTo words old new s → SolvesWell words old new s
 solves words old new s runs grouping asked e =
-    let p = printed words old new s (Solve grouping) runs asked e in
-    record {
-      bytes = p.1.bytes;
-      read = p.1.input;
-      text = p.0;
-      printed = p.2;
-      said = of_game_classes grouping Solves IsSolved p.1.bytes p.0 (λ g lists h. h) p.1.says;
-    }
+    prints_so (Solve grouping) (OfGame (OfClasses grouping IsSolved)) old new
+    (λ bytes text h. of_game_classes grouping Solves IsSolved bytes text (λ g lists h. h) h) refl (printed words old new s (Solve grouping) runs asked e)
 
 pub plays : (words : List (List ℕ)) (old new : Ends) (s : Status) → RunsTo words old new s → PlaysWell words old new s
 plays words old new s runs grouping turns asked e =
-    let p = printed words old new s (Play grouping turns) runs asked e in
-    record {
-      bytes = p.1.bytes;
-      read = p.1.input;
-      text = p.0;
-      printed = p.2;
-      said = of_game_classes grouping (Plays turns) (IsPlayed turns) p.1.bytes p.0 (λ g lists h. h) p.1.says;
-    }
+    prints_so (Play grouping turns) (OfGame (OfClasses grouping (IsPlayed turns))) old new
+    (λ bytes text h. of_game_classes grouping (Plays turns) (IsPlayed turns) bytes text (λ g lists h. h) h) refl
+    (printed words old new s (Play grouping turns) runs asked e)
 
 pub paths : (words : List (List ℕ)) (old new : Ends) (s : Status) → RunsTo words old new s → PathsWell words old new s
 paths words old new s runs grouping asked e =
-    let p = printed words old new s (Path grouping) runs asked e in
-    record {
-      bytes = p.1.bytes;
-      read = p.1.input;
-      text = p.0;
-      printed = p.2;
-      said = of_game_classes grouping ShowsPath IsPathShown p.1.bytes p.0 (λ g lists h. h) p.1.says;
-    }
+    prints_so (Path grouping) (OfGame (OfClasses grouping IsPathShown)) old new
+    (λ bytes text h. of_game_classes grouping ShowsPath IsPathShown bytes text (λ g lists h. h) h) refl
+    (printed words old new s (Path grouping) runs asked e)
 
 -- ---- strategy files
 
@@ -157,15 +147,8 @@ pub of_strategy : (task : Task) (says : Strategy → Reply → Type 0) (tells : 
     → ((t : Strategy) (text : List ℕ) → says t (Prints text) → tells t text)
     → ((text bytes : List ℕ) → Asks task bytes (Prints text) → OfStrategy (SaysConfirmed says) bytes (Prints text)) → reads task ≡ true
     → IsPrinted task old new → PrintsSo (OfConfirmed tells) old new
-of_strategy task says tells old new told asks r p =
-    let said = asks p.0 p.1.bytes p.1.says in
-    record {
-      bytes = p.1.bytes;
-      read = subst (λ (b : Bool). Inputs b old new p.1.bytes) r p.1.input;
-      text = p.0;
-      printed = p.2;
-      said = confirmed says tells p.1.bytes p.0 said.read (λ t. told t p.0) said.reads said.said;
-    }
+of_strategy task says tells old new told asks r p = prints_so task (OfConfirmed tells) old new
+    (λ bytes text h. let said = asks text bytes h in confirmed says tells bytes text said.read (λ t. told t text) said.reads said.said) r p
 
 number_lines : (t : Strategy) (text : List ℕ) → SaysNumbers t (Prints text) → text ≡ verdict_text t.numbers
 number_lines t text h = cc
@@ -183,7 +166,7 @@ upgrades words old new s runs asked e =
     of_strategy Upgrade SaysUpgraded (λ t text. text ≡ strategy_text Two t) old new upgraded (λ text bytes h. h) refl
     (printed words old new s Upgrade runs asked e)
 
-same_text : (one two : List ℕ) → Prints one ≡ Prints two → two ≡ one
+pub same_text : (one two : List ℕ) → Prints one ≡ Prints two → two ≡ one
 same_text one two e = cc
 
 queried : (player : ℕ) (line signal : List ℕ) (t : Strategy) (text : List ℕ) → SaysQueried player line signal t (Prints text)

@@ -3,8 +3,7 @@ use Rattle.std.proofs.lemmas.Result.{IfOk-weaker}
 use Rattle.gs_certificate.specs.FaultTexts.{cert_text_fault_text}
 use Rattle.gs_certificate.specs.Reading.{Reads}
 use Rattle.gs_certificate.specs.declared.text_fault.CertTextFault.TheVariants.{Memory}
-use Rattle.gs_confirm.proofs.Faults.{answers_map}
-use Rattle.gs_reply.proofs.Refused.{tells_answer}
+use Rattle.gs_reply.proofs.Refused.{answers_more, tells_answer}
 use Rattle.gs_reply.specs.Refusals.{Bad_certificate}
 use Rattle.gs_reply.specs.Replies.{Refuses}
 use Rattle.gs_strategy.specs.Views.{stored_view}
@@ -16,7 +15,7 @@ pub returns-in-Ok : goal.returns-in-Ok
 returns-in-Ok c =
     let s = stored_view c.args.stored.now in
     let k = c.in-Ok.c in
-    IfOk-weaker c.of_strategy.result _ _ (λ a. answers_map (SaysChecked s k) (SaysVerified c.args.bytes.now s) (λ r said. inr (k, record { text = c.in-Ok.ensures.found; small = c.in-Ok.ensures.small }, said)) a) c.of_strategy.ensures
+    IfOk-weaker c.of_strategy.result _ _ (λ a. answers_more (SaysChecked s k) (SaysVerified c.args.bytes.now s) (λ r said. inr (k, record { text = c.in-Ok.ensures.found; small = c.in-Ok.ensures.small }, said)) a) c.of_strategy.ensures
 
 pub returns-in-Err : goal.returns-in-Err
 returns-in-Err c =
