@@ -1,5 +1,5 @@
 -- How a run ends where nothing outside fails.
-use Rattle.std.proofs.Common.{◌≡◌, ◌⊎◌, inl, inr, ⊎_elim, ℕ, ◌+◌, ◌<◌, ◌≤◌, ◌++◌, true, false, Bool, List, [], length, Result, Ok, Err, Some, None, Option, refl, sym, ap, ◌∙◌, subst, arith}
+use Rattle.std.proofs.Common.{◌≡◌, inl, inr, ℕ, ◌+◌, ◌≤◌, ◌++◌, true, false, Bool, List, [], length, Ok, Some, None, Option, refl, sym, ap, ◌∙◌, subst, arith}
 use Rattle.std.proofs.lemmas.List.{append-nil, length-append}
 use Rattle.std.specs.Io.KnownBytes.{Consumes, IsAtEnd}
 use Rattle.gs_answer.specs.Asking.{Asks, reads}
@@ -8,7 +8,6 @@ use Rattle.gs_file.specs.Reading.{FileGame, read_at}
 use Rattle.gs_file.specs.declared.version.Version.{Version}
 use Rattle.gs_group.specs.Checking.{ChecksGame}
 use Rattle.gs_group.specs.Shrinking.{ShrinksGame}
-use Rattle.gs_io.specs.Causes.{Rose}
 use Rattle.gs_made.specs.declared.kind.Kind.{Kind}
 use Rattle.gs_reply.specs.Refusals.{Refusal, Bad_game, Unlike_pair, Overflows, Many_pivots, Too_large, Bad_strategy, Wrong_number, Bad_query, Other_game, Bad_certificate, cause_of}
 use Rattle.gs_reply.specs.Replies.{OfReading, Reply, Prints, Refuses}
@@ -25,8 +24,8 @@ use Rattle.gs_words.specs.Requests.{request_of}
 use Rattle.gs_words.specs.Tasks.{Task, Shrink, Check, Make, Evaluate, Query, Upgrade, Certify, Verify, Solve, Play, Path, Judge, Duel}
 use Rattle.gs_words.specs.declared.request.Grouping.{Grouping}
 use Rattle.shrink_cli.proofs.Promised.{same_task}
-use Rattle.shrink_cli.specs.Promises.{AreUnlike, Completes, CompletesGame, CompletesStrategy, EndsChecked, EndsSo, EndsWell, FilesAtLast, MakesAtLast}
-use Rattle.shrink_cli.specs.Running.{Ends, RunsTo, Asked, Inputs, IsAnswered, IsRefused, ReadsWhole, most_bytes}
+use Rattle.shrink_cli.specs.Promises.{Completes, CompletesGame, CompletesStrategy, EndsChecked, EndsSo, EndsWell, FilesAtLast, MakesAtLast}
+use Rattle.shrink_cli.specs.Running.{Ends, RunsTo, Asked, Inputs, IsAnswered, IsRefused, ReadsWhole}
 use Rattle.shrink_cli.specs.Statuses.{status_of}
 use Rattle.shrink_cli.specs.declared.status.Status.{Status}
 use Rattle.shrink_cli.specs.declared.status.Status.TheVariants as status

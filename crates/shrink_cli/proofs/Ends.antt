@@ -1,11 +1,10 @@
 -- From what the callees say to what each status says.
-use Rattle.std.proofs.Common.{◌≡◌, ◌⊎◌, inl, inr, ℕ, ◌+◌, ◌<◌, ◌≤◌, ◌++◌, true, false, Bool, List, [], length, take, Result, Ok, Err, Some, None, Option, Vec, Global, refl, sym, subst, arith}
+use Rattle.std.proofs.Common.{◌≡◌, inl, inr, ℕ, ◌+◌, true, false, Bool, List, [], length, Result, Ok, Err, Some, None, Option, Vec, Global, refl, sym, subst, arith}
 use Rattle.std.proofs.Math.Seq.{take-length}
-use Rattle.std.specs.Io.KnownBytes.{Appends, Consumes, IsAtEnd}
+use Rattle.std.specs.Io.KnownBytes.{Consumes}
 use Rattle.gs_answer.specs.Asking.{reads}
 use Rattle.gs_io.specs.Causes.{Rose}
-use Rattle.gs_io.specs.Moves.{ReadsAll, TookPrefix, WritesAll}
-use Rattle.gs_io.specs.declared.ReadStop.{ReadStop}
+use Rattle.gs_io.specs.Moves.{TookPrefix, WritesAll}
 use Rattle.gs_io.specs.declared.ReadStop.TheVariants as read_stop
 use Rattle.gs_io.specs.declared.WriteStop.{WriteStop}
 use Rattle.gs_io.specs.declared.WriteStop.TheVariants as write_stop
@@ -13,11 +12,9 @@ use Rattle.gs_reply.specs.declared.answers.Cause.{Cause}
 use Rattle.gs_reply.specs.declared.answers.Cause.TheVariants as cause
 use Rattle.gs_words.specs.Requests.{request_of}
 use Rattle.gs_words.specs.Tasks.{Task}
-use Rattle.shrink_cli.specs.Running.{Ends, RunsTo, Asked, Inputs, IsRefused, ReadsInput, ReadsWhole, TookInput, most_bytes}
+use Rattle.shrink_cli.specs.Running.{Ends, RunsTo, Inputs, IsRefused, ReadsInput, TookInput, most_bytes}
 use Rattle.shrink_cli.specs.Statuses.{status_of}
 use Rattle.shrink_cli.specs.Told.{TellsTo}
-use Rattle.shrink_cli.specs.declared.status.Status.{Status}
-use Rattle.shrink_cli.specs.declared.status.Status.TheVariants as status
 
 -- ---- the errors' end
 

@@ -20,7 +20,6 @@ use Rattle.gs_settle.specs.Settling.{OfGrouping}
 use Rattle.gs_settle.specs.Solving.{IsSolved, Solves}
 use Rattle.gs_words.specs.declared.request.Grouping.{Grouping}
 use Rattle.gs_strategy.specs.Checks.{ReadResult, Reads}
-use Rattle.gs_strategy.specs.Confirmed.{IsConfirmed}
 use Rattle.gs_strategy.specs.Texts.{strategy_text}
 use Rattle.gs_strategy.specs.Values.{Strategy}
 use Rattle.gs_strategy.proofs.Only.{found}

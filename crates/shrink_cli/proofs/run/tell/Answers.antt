@@ -1,5 +1,4 @@
 use Rattle.shrink_cli.proofs.Ends.{tells}
-use Rattle.shrink_cli.specs.Told.{TellsTo}
 use Rattle.shrink_cli.proofs.run.tell.Goals as goal
 
 pub returns : goal.returns
