@@ -5,4 +5,5 @@ pub mod Options
 pub mod AnyOrder
 pub mod Rows
 pub mod Obeyed
+pub mod Levels
 pub mod Plain
