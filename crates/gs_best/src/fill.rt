@@ -39,11 +39,13 @@ fn fill_point(side: &Deviator<'_>, point: u32, table: &mut Table, scratch: &mut 
     requires point { point < point_count (frame_of side.now.form.now) }
     requires laid_out { IsLaidOut (frame_of side.now.form.now) (lists_of side.now.form.now) table.old }
     requires known { let f = frame_of side.now.form.now in let lists = lists_of side.now.form.now in
-        IsBestFrom f lists side.now.player (table_of f lists side.now.player (lifted f lists side.now.other.now) table.old.values.items) (moves_of f lists table.old.picks.items) (point + 1) }
+        IsBestFrom f lists side.now.player (table_of f lists side.now.player (lifted f lists side.now.other.now) table.old.values.items)
+        (moves_of f lists table.old.picks.items) (point + 1) }
     requires room { HasRoom (frame_of side.now.form.now) (lists_of side.now.form.now) scratch.old }
     ensures laid_out { IsLaidOut (frame_of side.now.form.now) (lists_of side.now.form.now) table.new }
     ensures known { let f = frame_of side.now.form.now in let lists = lists_of side.now.form.now in
-        IsBestFrom f lists side.now.player (table_of f lists side.now.player (lifted f lists side.now.other.now) table.new.values.items) (moves_of f lists table.new.picks.items) point }
+        IsBestFrom f lists side.now.player (table_of f lists side.now.player (lifted f lists side.now.other.now) table.new.values.items)
+        (moves_of f lists table.new.picks.items) point }
     ensures room { HasRoom (frame_of side.now.form.now) (lists_of side.now.form.now) scratch.new }
 {
     // called only for what its contract says

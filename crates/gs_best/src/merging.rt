@@ -62,10 +62,12 @@ pub(crate) fn merge_moves(side: &Deviator<'_>, point: u32, table: &Table, scratc
     requires point { point < point_count (frame_of side.now.form.now) }
     requires laid_out { IsLaidOut (frame_of side.now.form.now) (lists_of side.now.form.now) table.now }
     requires known { let f = frame_of side.now.form.now in let lists = lists_of side.now.form.now in
-        IsBestFrom f lists side.now.player (table_of f lists side.now.player (lifted f lists side.now.other.now) table.now.values.items) (moves_of f lists table.now.picks.items) (point + 1) }
+        IsBestFrom f lists side.now.player (table_of f lists side.now.player (lifted f lists side.now.other.now) table.now.values.items)
+        (moves_of f lists table.now.picks.items) (point + 1) }
     requires room { HasRoom (frame_of side.now.form.now) (lists_of side.now.form.now) scratch.old }
     ensures merged { let f = frame_of side.now.form.now in let lists = lists_of side.now.form.now in
-        IsMerged f lists side.now.player (class_worth f lists (table_of f lists side.now.player (lifted f lists side.now.other.now) table.now.values.items)) point scratch.new.best.items scratch.new.moves.items }
+        IsMerged f lists side.now.player (class_worth f lists (table_of f lists side.now.player (lifted f lists side.now.other.now) table.now.values.items))
+        point scratch.new.best.items scratch.new.moves.items }
     ensures room { HasRoom (frame_of side.now.form.now) (lists_of side.now.form.now) scratch.new }
 {
     // called only for what its contract says

@@ -1,3 +1,4 @@
+-- What the program's betting trees are to the definitions: an act, a fold, and an act that is made of its moves.
 use Rattle.std.proofs.Common.{◌≡◌, ℕ, List, [], ◌∷◌, refl, ◌∙◌, ap, map}
 use Rattle.std.specs.Global.{Vec}
 use Rattle.gs_bet.specs.declared.shape.Tree.{fold_out-Tree}

@@ -1,3 +1,4 @@
+-- The program's betting trees, acts and moves as the definitions see them.
 use Rattle.std.specs.Prelude.{ℕ, List, [], ◌∷◌}
 use Rattle.gs_bet.specs.declared.shape.Tree.{Tree, Tree-F, fold-Tree}
 use Rattle.gs_bet.specs.declared.shape.Tree.TheOpen.{Act, Fold, Even}

@@ -3,7 +3,8 @@
 ghost use Rattle.std.specs.Prelude.{◌≡◌, ◌≤◌, ◌<◌, ◌-◌, IfOk, IfErr, IsTrue, []};
 ghost use Rattle.gs_bet.specs.{Grammar.{is_tree, tree_text}, Faults.{IsFaultOf, ReadsAs, fault_of}, MoveLists.{has_letter, push_move}};
 ghost use Rattle.gs_bet.specs.{TreeView.{plain, plain_moves}, declared.shape.Move.{out-Move}};
-ghost use Rattle.gs_bet.specs.Reading.{Gives, player_at, letter_at, chips_at, expect_at, move_at, more_at, moves_at, inner_at, act_with, act_at, outer_at, all_of};
+ghost use Rattle.gs_bet.specs.Reading.{Gives, player_at, letter_at, chips_at, expect_at, move_at, more_at, moves_at, inner_at, act_with, act_at};
+ghost use Rattle.gs_bet.specs.Reading.{outer_at, all_of};
 ghost use Rattle.gs_model.specs.Betting.{Bet, none};
 
 use crate::fault::{Mistake, Stop, TreeFault};

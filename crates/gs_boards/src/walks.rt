@@ -38,7 +38,8 @@ pub(crate) fn descend(places: &[Place], pays: Pays, numbers: &[u64], sums: &mut 
     requires small { (n : ℕ) (d : Placed) → n < length places.now → unsigned_abs (get_or sums.old (slice_index_or places.now n d).signal (pos 0)) < 2 ^ 120 }
     ensures { (n : ℕ) (d : Placed) → n < length places.now →
         get_or sums.new (slice_index_or places.now n d).signal (pos 0)
-        ≡ get_or sums.old (slice_index_or places.now n d).signal (pos 0) +ℤ paid_by pays numbers.now (slice_index_or places.now n d) (drop (n + 1) places.now) }
+        ≡ get_or sums.old (slice_index_or places.now n d).signal (pos 0)
+        +ℤ paid_by pays numbers.now (slice_index_or places.now n d) (drop (n + 1) places.now) }
 {
     let mut behind = Running::new();
     for at in (0..places.len()).rev() {

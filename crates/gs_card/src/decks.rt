@@ -1,4 +1,5 @@
-ghost use Rattle.std.specs.Prelude.{◌≡◌, ◌<◌, ◌≤◌, ◌*◌, ◌||◌, ◌&&◌, ◌∷◌, [], IfOk, IfErr, IfSome, IfNone, MatchResult, IsTrue, ◌↔◌, ℕ, length, slice_index, nat_lt, ◌==◌, true, false, Some, position, All};
+ghost use Rattle.std.specs.Prelude.{◌≡◌, ◌<◌, ◌≤◌, ◌*◌, ◌||◌, ◌&&◌, ◌∷◌, [], IfOk, IfErr, IfSome, IfNone, MatchResult, IsTrue, ◌↔◌, ℕ, length};
+ghost use Rattle.std.specs.Prelude.{slice_index, nat_lt, ◌==◌, true, false, Some, position, All};
 ghost use Rattle.std.specs.{List.{list_all, range_with_len}, Char.{is_ascii_alphanumeric, is_ascii_digit}};
 ghost use Rattle.gs_model.specs.{Cards.{groups}, Outcome.{rank_of, suit_of}};
 ghost use Rattle.gs_card.specs.{Decks.{DeckValue, IsDeck, IsTextOf, kinds, repeats, counts_of, deck_of, card_text}, Groups.{IsGroup}};

@@ -39,7 +39,8 @@ pub fn walk_from(
 ) -> Result<Target, AllocError>
     requires { RoundsWalkable (plain_trees rounds.now) (place_of place (length walk.old.points.items) (length walk.old.ends.items)) }
     ensures { let start = place_of place (length walk.old.points.items) (length walk.old.ends.items) in
-        IfOk result (λ to. Grows walk.old.points.items walk.new.points.items walk.old.ends.items walk.new.ends.items to start (walk_rounds (plain_trees rounds.now) start)) }
+        IfOk result (λ to. Grows walk.old.points.items walk.new.points.items walk.old.ends.items walk.new.ends.items to start
+        (walk_rounds (plain_trees rounds.now) start)) }
 {
     match rounds {
         [first, rest @ ..] => walk_below(alloc, walk, rest, &first.tree.tree, place.next_round()),
@@ -58,7 +59,8 @@ fn walk_below(
 ) -> Result<Target, AllocError>
     requires { IsWalkable (plain_trees rest.now) (plain tree.now) (place_of place (length walk.old.points.items) (length walk.old.ends.items)) }
     ensures { let start = place_of place (length walk.old.points.items) (length walk.old.ends.items) in
-        IfOk result (λ to. Grows walk.old.points.items walk.new.points.items walk.old.ends.items walk.new.ends.items to start (walk_tree (walk_rounds (plain_trees rest.now)) (plain tree.now) start)) }
+        IfOk result (λ to. Grows walk.old.points.items walk.new.points.items walk.old.ends.items walk.new.ends.items to start
+        (walk_tree (walk_rounds (plain_trees rest.now)) (plain tree.now) start)) }
 {
     match tree {
         Tree::Act(act) => walk_act(alloc, walk, rest, act, place),
@@ -78,7 +80,8 @@ fn walk_act(
 ) -> Result<Target, AllocError>
     requires { IsWalkable (plain_trees rest.now) (plain_act act.now) (place_of place (length walk.old.points.items) (length walk.old.ends.items)) }
     ensures { let start = place_of place (length walk.old.points.items) (length walk.old.ends.items) in
-        IfOk result (λ to. Grows walk.old.points.items walk.new.points.items walk.old.ends.items walk.new.ends.items to start (walk_tree (walk_rounds (plain_trees rest.now)) (plain_act act.now) start)) }
+        IfOk result (λ to. Grows walk.old.points.items walk.new.points.items walk.old.ends.items walk.new.ends.items to start
+        (walk_tree (walk_rounds (plain_trees rest.now)) (plain_act act.now) start)) }
 {
     let point = walk.points.len() as u32;
     walk.points.push(Point {

@@ -1,3 +1,4 @@
+-- No run of pivots by Bland's rule comes back to the listed columns that it began with.
 use Rattle.std.proofs.Common.{◌≡◌, ◌≢◌, ℕ, zero, suc, ◌+◌, ◌-◌, ◌<◌, ◌≤◌, ◌⊎◌, inl, inr, ℤ, pos, ◌+ℤ◌, ◌-ℤ◌, ◌*ℤ◌, neg_ℤ, ◌≤ℤ◌, ◌<ℤ◌, refl, sym, ap, subst, ◌∙◌, arith}
 use Rattle.gs_rows.specs.Sums.{sum_to}
 use Rattle.std.proofs.lemmas.Bool.{cases_eq, cases_lt}

@@ -1,3 +1,4 @@
+-- A path made one step longer, by a pair of the opening or by a pivot.
 use Rattle.std.proofs.Common.{◌≡◌, ℕ, suc, ◌<◌, ◌≤◌, inl, inr, length, take, ℤ, refl, sym, subst, ◌∙◌, arith}
 use Rattle.std.proofs.lemmas.Bool.{cases_eq, cases_order, cases_lt}
 use Rattle.gs_rows.specs.declared.Program.{Program}

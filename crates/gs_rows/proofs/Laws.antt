@@ -1,3 +1,4 @@
+-- The rows' right sides tell that the basic vector is feasible, and where no row bounds the entering column the aim has no bound.
 use Rattle.std.proofs.Common.{◌≡◌, ℕ, suc, ◌+◌, ◌<◌, ◌≤◌, inl, inr, ℤ, pos, ◌+ℤ◌, ◌-ℤ◌, ◌*ℤ◌, neg_ℤ, ◌≤ℤ◌, ◌<ℤ◌, unsigned_abs, sym, ap, subst, ◌∙◌, arith}
 use Rattle.gs_rows.specs.Rows.{IsRegular, IsAimRow}
 use Rattle.gs_rows.specs.Sums.{sum_to}

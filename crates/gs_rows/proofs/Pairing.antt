@@ -1,3 +1,4 @@
+-- Rows times multipliers against columns times values, sums in blocks, and the prices that the multipliers of the aim's row give.
 use Rattle.std.proofs.Common.{◌≡◌, ℕ, zero, suc, ◌+◌, ◌<◌, ℤ, pos, ◌+ℤ◌, ◌-ℤ◌, ◌*ℤ◌, neg_ℤ, ◌≤ℤ◌, sym, ap, ◌∙◌, arith}
 use Rattle.gs_rows.specs.Sums.{sum_to}
 use Rattle.gs_rows.specs.Rows.{IsAimRow}

@@ -1,3 +1,4 @@
+-- What each row is after a pivot, the pivot row, the others and the aim's, and that proportional primitive rows are one row.
 use Rattle.std.proofs.Common.{◌≡◌, ◌≢◌, ℕ, zero, suc, ◌+◌, ◌-◌, ◌*◌, ◌<◌, ◌≤◌, inl, inr, ℤ, pos, negsuc, ◌+ℤ◌, ◌-ℤ◌, ◌*ℤ◌, neg_ℤ, ◌<ℤ◌, unsigned_abs, sym, ap, ◌∙◌, arith}
 use Rattle.gs_rows.specs.Rows.{IsCombination, IsUnlistedRow, IsListedRow, IsAimRow, IsPrimitive}
 use Rattle.gs_rows.specs.Sums.{sum_to}

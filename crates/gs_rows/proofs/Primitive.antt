@@ -1,3 +1,4 @@
+-- Each row of whole numbers is a positive multiple of a primitive row.
 use Rattle.std.proofs.Common.{◌≡◌, ℕ, zero, suc, ◌*◌, ◌/◌, ◌%◌, ◌<◌, ◌≤◌, inl, inr, ℤ, pos, negsuc, ◌*ℤ◌, neg_ℤ, ◌<ℤ◌, unsigned_abs, sym, ap, subst, ◌∙◌, arith}
 use Prim.Native.Nat.{◌∣◌}
 use Rattle.std.specs.Int.{IsGcd}

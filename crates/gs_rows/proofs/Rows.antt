@@ -1,3 +1,4 @@
+-- Rows mixed are combinations again, lists stay regular as columns enter and leave, and two rows of one place are proportional.
 use Rattle.std.proofs.Common.{◌≡◌, ◌≢◌, ℕ, zero, suc, ◌<◌, ◌≤◌, inl, inr, ℤ, pos, ◌+ℤ◌, ◌-ℤ◌, ◌*ℤ◌, sym, ap, ◌∙◌, arith}
 use Rattle.gs_rows.specs.Rows.{IsCombination, IsRegular, IsUnlistedRow, IsListedRow}
 use Rattle.gs_rows.specs.Sums.{sum_to}

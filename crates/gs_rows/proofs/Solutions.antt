@@ -1,3 +1,4 @@
+-- A table where every row is listed: what solves it solves the program, its basic solution exists, and what the aim is there.
 use Rattle.std.proofs.Common.{◌≡◌, ◌≢◌, ℕ, zero, suc, ◌<◌, ◌≤◌, ◌⊎◌, inl, inr, ℤ, pos, ◌+ℤ◌, ◌-ℤ◌, ◌*ℤ◌, neg_ℤ, ◌<ℤ◌, refl, sym, ap, subst, ◌∙◌, arith}
 use Rattle.gs_rows.specs.Rows.{IsCombination, IsRegular, IsListedRow, IsAimRow}
 use Rattle.gs_rows.specs.Sums.{sum_to}

@@ -1,3 +1,4 @@
+-- The states of a path, made of its lists, rows, aims, and entering and leaving columns.
 use Rattle.std.proofs.Common.{ℕ, ℤ}
 use Rattle.gs_rows.specs.Program.{Listing}
 use Rattle.gs_rows.specs.Path.{States}

@@ -1,3 +1,4 @@
+-- Sums of whole numbers: term by term, added, multiplied, exchanged, with one term other than 0, and not negative.
 use Rattle.std.proofs.Common.{◌≡◌, ◌≢◌, ℕ, zero, suc, ◌<◌, ◌⊎◌, inl, inr, ℤ, pos, ◌+ℤ◌, ◌*ℤ◌, ◌≤ℤ◌, refl, sym, ap, ◌∙◌, arith}
 use Rattle.gs_rows.specs.Sums.{sum_to}
 use Rattle.gs_rows.proofs.Ring.{linear, times_zero, times_sum}

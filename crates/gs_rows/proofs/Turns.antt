@@ -1,3 +1,4 @@
+-- What a pivot keeps: the next table is feasible, the aim's value does not fall, and where it stays, what the next basis gives here.
 use Rattle.std.proofs.Common.{◌≡◌, ◌≢◌, ℕ, suc, ◌<◌, ◌≤◌, inl, inr, ℤ, pos, ◌+ℤ◌, ◌-ℤ◌, ◌*ℤ◌, neg_ℤ, ◌≤ℤ◌, ◌<ℤ◌, sym, ap, subst, ◌∙◌, arith}
 use Rattle.gs_rows.specs.Rows.{IsAimRow}
 use Rattle.gs_rows.specs.Sums.{sum_to}

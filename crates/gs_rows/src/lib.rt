@@ -5,7 +5,8 @@
 //! Sources: Bland 1977, "New finite pivoting rules for the simplex method"; Edmonds 1967 for elimination in whole numbers.
 #![tactic(auto)]
 
-ghost use Rattle.gs_rows.specs.Laws.{RowsAreDetermined, TakenInTurnIsRegular, TakenInTurnHasRows, PivotKeepsRegular, LastNumberIsValue, StopsAreOne, BasesDiffer};
+ghost use Rattle.gs_rows.specs.Laws.{RowsAreDetermined, TakenInTurnIsRegular, TakenInTurnHasRows, PivotKeepsRegular, LastNumberIsValue, StopsAreOne};
+ghost use Rattle.gs_rows.specs.Laws.{BasesDiffer};
 
 /// A linear program in whole numbers: the aim, or objective, is maximised, the rows hold as equations, and a column that is not free is at least 0.
 #[derive(Debug, Drop)]

@@ -108,7 +108,8 @@ pub(crate) fn coming(
     requires class { IsClass classes.now.lists (round_of (frame_in game.now) (at_point point)) class }
     requires long { slots_before (frame_in game.now) classes.now.lists (player_at (frame_in game.now) point) point ≤ length weights.now }
     ensures { let f = frame_in game.now in let round = round_of f (at_point point) in
-        result ≡ number_before f (lift f classes.now.lists (plan_of f classes.now.lists total weights.now)) (last_step f (player_at f point) (at_point point)) round
+        result ≡ number_before f (lift f classes.now.lists (plan_of f classes.now.lists total weights.now))
+        (last_step f (player_at f point) (at_point point)) round
         (first_member classes.now.lists round class) }
 {
     let _rounds = classes.rounds();

@@ -59,7 +59,8 @@ fn order_of<'a>(
     listed: usize,
 ) -> Result<Option<BoardOrder<'a>>, AllocError>
     ensures { IfOk result (λ o. (b : Along) → o ≡ Some b
-        → HasSumsOf (rules_of b.signals.now) (rules_of lossless.entry.now.signals.now) × (listed < last_round (frame_in lossless.entry.now.signals.now.game.now))) }
+        → HasSumsOf (rules_of b.signals.now) (rules_of lossless.entry.now.signals.now)
+        × (listed < last_round (frame_in lossless.entry.now.signals.now.game.now))) }
 {
     let signals = lossless.signals();
     if listed < usize::from(signals.rounds()) {

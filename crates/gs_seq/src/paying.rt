@@ -81,7 +81,8 @@ impl<'a> Abstract<'a> {
         requires wide { end_classes (frame_of self.now) (lists_of self.now) end ≤ length numbers.old }
         requires room { start + end_classes (frame_of self.now) (lists_of self.now) end ≤ length sums.old }
         ensures here { let f = frame_of self.now in let lists = lists_of self.now in
-            (c : ℕ) → IsClass lists (round_of f (at_end end)) c → get_or sums.new (start + (c - 1)) (pos 0) ≡ end_sum f lists player (class_plan f lists other.now) end c }
+            (c : ℕ) → IsClass lists (round_of f (at_end end)) c → get_or sums.new (start + (c - 1)) (pos 0)
+            ≡ end_sum f lists player (class_plan f lists other.now) end c }
         ensures before { (i : ℕ) → i < start → get_or sums.new i (pos 0) ≡ get_or sums.old i (pos 0) }
         ensures behind { (i : ℕ) → start + end_classes (frame_of self.now) (lists_of self.now) end ≤ i
             → get_or sums.new i (pos 0) ≡ get_or sums.old i (pos 0) }

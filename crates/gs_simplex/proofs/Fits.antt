@@ -1,3 +1,4 @@
+-- Products, differences and quotients of narrow numbers fit their bits, so that the machine's numbers are the whole numbers meant.
 use Rattle.std.proofs.Common.{◌≡◌, ℕ, ◌+◌, ◌*◌, ◌<◌, ◌≤◌, ◌^◌, ℤ, pos, negsuc, ◌-ℤ◌, ◌*ℤ◌, neg_ℤ, unsigned_abs, FitsSigned, to_z, of_z, w64, Bool, true, false, not, ◌<ℤ◌, ◌≤ℤ◌, sym, ap, subst, ◌∙◌, arith}
 use mir.Syntax.{w128}
 use lib.Signed.{quot_z}

@@ -1,3 +1,4 @@
+-- Numbers of rows that stand one after the other in one list, and what is at each place after a part was written.
 use Rattle.std.proofs.Common.{◌≡◌, ◌≢◌, ℕ, suc, ◌+◌, ◌-◌, ◌*◌, ◌<◌, ◌≤◌, ◌⊎◌, inl, inr, List, ◌++◌, length, take, drop, ℤ, pos, ◌-ℤ◌, ◌*ℤ◌, unsigned_abs, refl, sym, ap, subst, ◌∙◌, arith}
 use Prim.Native.Nat.{◌∣◌}
 use borrow.Rule.Slice.PartMut.{put_mid}

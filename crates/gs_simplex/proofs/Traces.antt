@@ -1,3 +1,4 @@
+-- The pivots and bases noted on the way, with the aim's value at both ends, are the trace of the path; no basis comes twice.
 use Rattle.std.proofs.Common.{◌≡◌, ℕ, ◌+◌, ◌<◌, ◌≤◌, List, Vec, Global, inl, inr, [], ◌∷◌, ◌++◌, length, slice_index, slice_index_or, ℤ, ◌*ℤ◌, refl, sym, ap, subst, ◌∙◌, arith}
 use Rattle.std.specs.Prelude.{Contains}
 use Rattle.std.specs.List.{HoldsAt}

@@ -1,3 +1,4 @@
+-- The state of the method after some steps, and what comes next: the path ends, is unbounded, or goes on with a pivot.
 use Rattle.std.specs.Prelude.{◌≡◌, ℕ, ◌+◌, ◌*◌, ◌<◌, ◌≤◌, [], List, ℤ, pos, length, vec_len, slice_index_or, slice_set, Some}
 use Rattle.gs_rows.specs.declared.Program.{Program}
 use Rattle.gs_rows.specs.Program.{number, aim_of, Listing, IsPairList, IsRowsOf}

@@ -1,10 +1,12 @@
 // The arithmetic of one row: its products stay in place where they are narrow, and take 128 bits otherwise; a row is divided by its greatest common divisor.
 
-ghost use Rattle.std.specs.Prelude.{◌≡◌, ◌≢◌, MatchOption, ℕ, ◌+◌, ◌-◌, ◌*◌, ◌<◌, ◌≤◌, ◌^◌, IsTrue, ℤ, pos, ◌+ℤ◌, ◌-ℤ◌, ◌*ℤ◌, ◌<ℤ◌, unsigned_abs, length, slice_index};
+ghost use Rattle.std.specs.Prelude.{◌≡◌, ◌≢◌, MatchOption, ℕ, ◌+◌, ◌-◌, ◌*◌, ◌<◌, ◌≤◌, ◌^◌, IsTrue, ℤ, pos, ◌+ℤ◌, ◌-ℤ◌, ◌*ℤ◌, ◌<ℤ◌, unsigned_abs};
+ghost use Rattle.std.specs.Prelude.{length, slice_index};
 ghost use Prim.Native.Nat.{◌∣◌};
 ghost use Rattle.std.specs.Int.{IsGcd};
 ghost use Rattle.gs_rows.specs.Rows.{IsNarrow, IsPrimitive};
-ghost use Rattle.gs_simplex.specs.Numbers.{at, AllNarrow, AllWithin, AllAtMost, IsDivisor, IsShared, IsQuotient, IsWideQuotient, IsReduced, IsReducedTo, IsDivided};
+ghost use Rattle.gs_simplex.specs.Numbers.{at, AllNarrow, AllWithin, AllAtMost, IsDivisor, IsShared, IsQuotient, IsWideQuotient, IsReduced};
+ghost use Rattle.gs_simplex.specs.Numbers.{IsReducedTo, IsDivided};
 ghost use Rattle.gs_simplex.specs.Live.{IsSupport, IsChange, IsTouched};
 
 use crate::exact::{Divisor, short_gcd};
@@ -137,7 +139,8 @@ fn mix_narrow(lead: &[i64], row: &mut [i64], places: &[u32], found: usize, own: 
     requires narrow_lead { AllNarrow lead.now }
     requires narrow_row { AllNarrow row.old }
     requires narrow { (k : ℕ) → k < found →
-        unsigned_abs own * unsigned_abs (at row.old (slice_index places.now k)) + unsigned_abs far * unsigned_abs (at lead.now (slice_index places.now k)) < 2 ^ 62 }
+        unsigned_abs own * unsigned_abs (at row.old (slice_index places.now k)) + unsigned_abs far * unsigned_abs (at lead.now (slice_index places.now k))
+        < 2 ^ 62 }
     ensures mixed { (j : ℕ) → j < length row.old → at row.new j ≡ own *ℤ at row.old j -ℤ far *ℤ at lead.now j }
     ensures narrow { AllNarrow row.new }
 {

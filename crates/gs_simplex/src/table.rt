@@ -76,7 +76,8 @@ fn reduce_at(
     requires primitive { IsPrimitive (length lead.now.numbers.now - 1) (λ j. at numbers.old (start + j)) }
     ensures others { (k : ℕ) → (k < start) ⊎ (start + length lead.now.numbers.now ≤ k) → at numbers.new k ≡ at numbers.old k }
     ensures answer { MatchOption result
-        (IsReduced (at lead.now.numbers.now) lead.now.column (length lead.now.numbers.now) (λ j. at numbers.old (start + j)) (λ j. at numbers.new (start + j)) × AllNarrow numbers.new)
+        (IsReduced (at lead.now.numbers.now) lead.now.column (length lead.now.numbers.now) (λ j. at numbers.old (start + j)) (λ j. at numbers.new (start + j))
+        × AllNarrow numbers.new)
         (λ w. IsReducedTo (at lead.now.numbers.now) lead.now.column (length lead.now.numbers.now) (λ j. at numbers.old (start + j)) w.column w.number) }
 {
     let end = start + lead.numbers.len();
@@ -84,7 +85,8 @@ fn reduce_at(
     reduce_row(lead, row, mixed, places, found)
 }
 
-// Clears column `c` of all `count` rows but `r`, looking at the first `found` places, of which the first is the row's own. It answers the first number, by row and column, that is not narrow.
+// Clears column `c` of all `count` rows but `r`, looking at the first `found` places, of which the first is the row's own. It answers the first
+// number, by row and column, that is not narrow.
 fn clear_column(
     numbers: &mut [i64],
     count: usize,

@@ -1,3 +1,4 @@
+-- The program of two rows whose first step has a wide number is well shaped, and its two pairs are an opening.
 use Rattle.std.proofs.Common.{◌≡◌, ℕ, zero, suc, ◌+◌, ◌<◌, ◌⊎◌, inl, inr, List, [], ◌∷◌, Bool, false, IsTrue, length, vec_items, slice_index_or, take, ℤ, pos, negsuc, ◌+ℤ◌, ◌*ℤ◌, ◌≤ℤ◌, refl, sym, ap, subst, ◌∙◌, arith}
 use Rattle.std.proofs.lemmas.List.{length-map}
 use Rattle.gs_rows.specs.declared.Program.{Program}

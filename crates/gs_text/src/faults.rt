@@ -4,7 +4,8 @@ ghost use Rattle.std.specs.{Prelude.{◌≡◌, ◌≢◌, ◌++◌, IfOk, OnOk,
 ghost use Rattle.gs_file.specs.{Faults.{Fault, bad_version, game as broken_rule}, Answers.{FailsByRules}, Reading.{FileGame}};
 ghost use Rattle.gs_file.specs.declared.fault.FileFault.TheVariants as file;
 ghost use Rattle.gs_game.specs.Refusals.{Refusal, not_enough_cards, ranking_cards};
-ghost use Rattle.gs_text.specs.FaultText.{IsFault, deck_text as text_of_deck, fault_text, in_round as text_in_round, place_text as text_of_place, round_tree_text as text_of_round_tree, rule_text as text_of_rule, tree_text as text_of_tree};
+ghost use Rattle.gs_text.specs.FaultText.{IsFault, deck_text as text_of_deck, fault_text, in_round as text_in_round, place_text as text_of_place};
+ghost use Rattle.gs_text.specs.FaultText.{round_tree_text as text_of_round_tree, rule_text as text_of_rule, tree_text as text_of_tree};
 
 use gs_bet::TreeFault;
 use gs_card::DeckFault;

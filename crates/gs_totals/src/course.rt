@@ -28,8 +28,10 @@ pub struct Course<'a> {
     pub ghost placed: { IsPlaced (frame_of form.now) (lists_of form.now) places.now },
     pub ghost rows: { HasRows (frame_of form.now) (lists_of form.now) totals.now },
     pub ghost step_rows: { HasRows (frame_of form.now) (lists_of form.now) steps.now },
-    pub ghost paid: { AreEndSums (frame_of form.now) (lists_of form.now) player (class_plan (frame_of form.now) (lists_of form.now) other.now) totals.now.ends.items },
-    pub ghost step_paid: { AreEndSums (frame_of form.now) (lists_of form.now) player (class_plan (frame_of form.now) (lists_of form.now) more.now) steps.now.ends.items },
+    pub ghost paid: { AreEndSums (frame_of form.now) (lists_of form.now) player
+        (class_plan (frame_of form.now) (lists_of form.now) other.now) totals.now.ends.items },
+    pub ghost step_paid: { AreEndSums (frame_of form.now) (lists_of form.now) player
+        (class_plan (frame_of form.now) (lists_of form.now) more.now) steps.now.ends.items },
     pub ghost many: { start_of (frame_of form.now) (lists_of form.now) (point_count (frame_of form.now)) ≤ length picks.now },
     pub ghost best: { AreBestTotals (frame_of form.now) (lists_of form.now) player (class_plan (frame_of form.now) (lists_of form.now) other.now)
         (totals_of (frame_of form.now) (lists_of form.now) player (class_plan (frame_of form.now) (lists_of form.now) other.now) totals.now.points.items)

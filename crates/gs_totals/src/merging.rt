@@ -29,7 +29,8 @@ fn best_moves(at: &Reading<'_, '_>, worths: &mut [i128], best: &mut [i128], move
     requires best { at.now.count ≤ length best.old }
     requires moves { at.now.count ≤ length moves.old }
     ensures { let k = at.now.ledger in let f = frame_in k in
-        AreGreatest f (lists_in k) (total_worth f (lists_in k) (totals_in k.side.now at.now.totals.now.points.items)) at.now.point (move_count f at.now.point) best.new moves.new }
+        AreGreatest f (lists_in k) (total_worth f (lists_in k) (totals_in k.side.now at.now.totals.now.points.items)) at.now.point
+        (move_count f at.now.point) best.new moves.new }
 {
     for choice in 0..move_total(at.ledger.side.form, at.point) {
         let read = read_worths(&*at, choice, worths);
@@ -42,7 +43,8 @@ fn sum_moves(at: &Reading<'_, '_>, worths: &mut [i128], sums: &mut [i128])
     requires worths { IsWide (frame_in at.now.ledger) (lists_in at.now.ledger) (length worths.old) }
     requires sums { at.now.count ≤ length sums.old }
     ensures { let k = at.now.ledger in let f = frame_in k in
-        AreSums f (lists_in k) (total_worth f (lists_in k) (totals_in k.side.now at.now.totals.now.points.items)) at.now.point (move_count f at.now.point) sums.new }
+        AreSums f (lists_in k) (total_worth f (lists_in k) (totals_in k.side.now at.now.totals.now.points.items)) at.now.point
+        (move_count f at.now.point) sums.new }
 {
     for choice in 0..move_total(at.ledger.side.form, at.point) {
         let read = read_worths(&*at, choice, worths);
@@ -56,7 +58,8 @@ fn chosen_moves(at: &Reading<'_, '_>, picks: &[u8], worths: &mut [i128], row: &m
     requires worths { IsWide (frame_in at.now.ledger) (lists_in at.now.ledger) (length worths.old) }
     requires row { at.now.count ≤ length row.old }
     ensures { let k = at.now.ledger in let f = frame_in k in
-        AreChosen f (lists_in k) (totals_in k.side.now at.now.totals.now.points.items) (moves_in k picks.now) at.now.point (move_count f at.now.point) row.new }
+        AreChosen f (lists_in k) (totals_in k.side.now at.now.totals.now.points.items) (moves_in k picks.now) at.now.point
+        (move_count f at.now.point) row.new }
 {
     for choice in 0..move_total(at.ledger.side.form, at.point) {
         let read = read_worths(&*at, choice, worths);
@@ -75,7 +78,8 @@ pub(crate) fn merge_moves(
     requires best { IsWide (frame_in at.now.ledger) (lists_in at.now.ledger) (length best.old) }
     requires moves { IsWide (frame_in at.now.ledger) (lists_in at.now.ledger) (length moves.old) }
     ensures { let k = at.now.ledger in let f = frame_in k in
-        IsMerged f (lists_in k) k.side.now.player (total_worth f (lists_in k) (totals_in k.side.now at.now.totals.now.points.items)) at.now.point best.new moves.new }
+        IsMerged f (lists_in k) k.side.now.player (total_worth f (lists_in k) (totals_in k.side.now at.now.totals.now.points.items)) at.now.point best.new
+        moves.new }
 {
     if chooser(at.ledger.side.form, at.point) == at.ledger.side.player {
         best_moves(at, worths, best, moves);

@@ -30,7 +30,8 @@ pub(crate) fn read_end(
     requires wide { IsWide (frame_of side.now.form.now) (lists_of side.now.form.now) (length numbers.old) }
     requires room { start + end_classes (frame_of side.now.form.now) (lists_of side.now.form.now) end ≤ length sums.old }
     ensures here { let f = frame_of side.now.form.now in let lists = lists_of side.now.form.now in
-        (c : ℕ) → IsClass lists (round_of f (at_end end)) c → get_or sums.new (start + (c - 1)) (pos 0) ≡ end_sum f lists side.now.player (class_plan f lists side.now.other.now) end c }
+        (c : ℕ) → IsClass lists (round_of f (at_end end)) c → get_or sums.new (start + (c - 1)) (pos 0)
+        ≡ end_sum f lists side.now.player (class_plan f lists side.now.other.now) end c }
     ensures before { (i : ℕ) → i < start → get_or sums.new i (pos 0) ≡ get_or sums.old i (pos 0) }
     ensures behind { (i : ℕ) → start + end_classes (frame_of side.now.form.now) (lists_of side.now.form.now) end ≤ i
         → get_or sums.new i (pos 0) ≡ get_or sums.old i (pos 0) }

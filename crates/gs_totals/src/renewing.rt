@@ -51,7 +51,8 @@ fn is_same_at(side: &Deviator<'_>, before: &[u64], end: u32) -> bool
     requires before { length before.now ≡ slot_count (frame_of side.now.form.now) (lists_of side.now.form.now) (other_player side.now.player) }
     requires end { end < end_count (frame_of side.now.form.now) }
     ensures { let f = frame_of side.now.form.now in let lists = lists_of side.now.form.now in
-        IsTrue result → AreSameAt f lists (other_player side.now.player) (plan_of f lists side.now.other.now.total before.now) (class_plan f lists side.now.other.now) end }
+        IsTrue result → AreSameAt f lists (other_player side.now.player) (plan_of f lists side.now.other.now.total before.now)
+        (class_plan f lists side.now.other.now) end }
 {
     let _rounds = round_total(side.form);
     match step_before(side.form, side.other.player, end) {
@@ -74,9 +75,11 @@ fn renew_end(
     requires wide { IsWide (frame_of side.now.form.now) (lists_of side.now.form.now) (length numbers.old) }
     requires room { start + end_classes (frame_of side.now.form.now) (lists_of side.now.form.now) end ≤ length sums.old }
     requires paid { let f = frame_of side.now.form.now in let lists = lists_of side.now.form.now in
-        (c : ℕ) → IsClass lists (round_of f (at_end end)) c → get_or sums.old (start + (c - 1)) (pos 0) ≡ end_sum f lists side.now.player (plan_of f lists side.now.other.now.total before.now) end c }
+        (c : ℕ) → IsClass lists (round_of f (at_end end)) c → get_or sums.old (start + (c - 1)) (pos 0)
+        ≡ end_sum f lists side.now.player (plan_of f lists side.now.other.now.total before.now) end c }
     ensures here { let f = frame_of side.now.form.now in let lists = lists_of side.now.form.now in
-        (c : ℕ) → IsClass lists (round_of f (at_end end)) c → get_or sums.new (start + (c - 1)) (pos 0) ≡ end_sum f lists side.now.player (class_plan f lists side.now.other.now) end c }
+        (c : ℕ) → IsClass lists (round_of f (at_end end)) c → get_or sums.new (start + (c - 1)) (pos 0)
+        ≡ end_sum f lists side.now.player (class_plan f lists side.now.other.now) end c }
     ensures before { (i : ℕ) → i < start → get_or sums.new i (pos 0) ≡ get_or sums.old i (pos 0) }
     ensures behind { (i : ℕ) → start + end_classes (frame_of side.now.form.now) (lists_of side.now.form.now) end ≤ i
         → get_or sums.new i (pos 0) ≡ get_or sums.old i (pos 0) }

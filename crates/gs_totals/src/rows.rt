@@ -94,7 +94,8 @@ pub(crate) fn read_worths<'a>(
     requires choice { choice < move_count (frame_in at.now.ledger) at.now.point }
     requires wide { IsWide (frame_in at.now.ledger) (lists_in at.now.ledger) (length sums.old) }
     ensures worths { let k = at.now.ledger in
-        AreWorths (frame_in k) (lists_in k) (total_worth (frame_in k) (lists_in k) (totals_in k.side.now at.now.totals.now.points.items)) at.now.point choice result.now }
+        AreWorths (frame_in k) (lists_in k) (total_worth (frame_in k) (lists_in k) (totals_in k.side.now at.now.totals.now.points.items)) at.now.point choice
+        result.now }
     ensures long { at.now.count ≤ length result.now }
 {
     let form = at.ledger.side.form;

@@ -1,6 +1,7 @@
 //! For how many turns choices last.
 
-ghost use Rattle.std.specs.Prelude.{ℕ, ◌≡◌, ◌≢◌, ◌+◌, ◌-◌, ◌/◌, ◌<◌, ◌≤◌, ◌^◌, ◌+ℤ◌, ◌-ℤ◌, ◌≤ℤ◌, ◌<ℤ◌, IsTrue, pos, length, get_or, slice_index, nat_lt, unsigned_abs, if◌then◌else◌};
+ghost use Rattle.std.specs.Prelude.{ℕ, ◌≡◌, ◌≢◌, ◌+◌, ◌-◌, ◌/◌, ◌<◌, ◌≤◌, ◌^◌, ◌+ℤ◌, ◌-ℤ◌, ◌≤ℤ◌, ◌<ℤ◌, IsTrue, pos, length, get_or, slice_index};
+ghost use Rattle.std.specs.Prelude.{nat_lt, unsigned_abs, if◌then◌else◌};
 ghost use Rattle.gs_model.specs.Frame.{move_count, player_at, point_count};
 ghost use Rattle.gs_best.specs.Sizes.{IsWide};
 ghost use Rattle.gs_totals.specs.{Courses.{Lasts, LastsAt, StaysBehind, frame_in, lists_in}, Room.{HasScratch}};

@@ -52,7 +52,8 @@ pub struct Signals<'g> {
 }
 
 impl<'g> Signals<'g> {
-    ghost use Rattle.std.specs.Prelude.{◌≡◌, ◌≢◌, ◌≤◌, ◌<◌, ◌+◌, ◌-◌, ◌++◌, ◌*◌, ◌==◌, ◌↔◌, ℕ, true, EachIndex, IfOk, IfSome, IsTrue, OnOk, slice_index, filter, map, length, string_bytes};
+    ghost use Rattle.std.specs.Prelude.{◌≡◌, ◌≢◌, ◌≤◌, ◌<◌, ◌+◌, ◌-◌, ◌++◌, ◌*◌, ◌==◌, ◌↔◌, ℕ, true, EachIndex, IfOk, IfSome, IsTrue, OnOk};
+    ghost use Rattle.std.specs.Prelude.{slice_index, filter, map, length, string_bytes};
     ghost use Rattle.std.specs.List.{range_with_len};
     ghost use Rattle.gs_model.specs.Game.{round_count};
     ghost use Rattle.gs_model.specs.Signals.{signals, parents as parents_in, signal_at, child_count, first_child, last_edge, left_by, own_cards, public_cards};

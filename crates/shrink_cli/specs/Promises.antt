@@ -314,7 +314,8 @@ pub record Keeps (words : List (List ℕ)) (old new : Ends) (s : Status) : Type 
   pub plays_at_last : (grouping : Grouping) (turns : ℕ) → CompletesGame (Play grouping turns) (λ g. EndsSo (OfGrouping grouping (Plays turns) g)) words old new s
   pub paths_at_last : (grouping : Grouping) → CompletesGame (Path grouping) (λ g. EndsSo (OfGrouping grouping ShowsPath g)) words old new s
   pub evaluates_at_last : CompletesStrategy Evaluate (SaysConfirmed SaysNumbers) words old new s
-  pub queries_at_last : (player : ℕ) (line signal : List ℕ) → CompletesStrategy (Query player line signal) (SaysConfirmed (SaysQueried player line signal)) words old new s
+  pub queries_at_last : (player : ℕ) (line signal : List ℕ)
+      → CompletesStrategy (Query player line signal) (SaysConfirmed (SaysQueried player line signal)) words old new s
   pub upgrades_at_last : CompletesStrategy Upgrade (SaysConfirmed SaysUpgraded) words old new s
   pub judges_at_last : CompletesStrategy Judge SaysJudged words old new s
   pub duels_at_last : DuelsAtLast words old new s

@@ -71,8 +71,22 @@ fn run_words<S: Source, O: Sink, E: Sink>(
     err: &mut E,
 ) -> Status
     ensures { RunsTo (map string_bytes words.now)
-        (record { left = S.left source.old; read_faults = S.faults source.old; given = O.given out.old; write_faults = O.faults out.old; told = E.given err.old; tell_faults = E.faults err.old })
-        (record { left = S.left source.new; read_faults = S.faults source.new; given = O.given out.new; write_faults = O.faults out.new; told = E.given err.new; tell_faults = E.faults err.new })
+        (record {
+          left = S.left source.old;
+          read_faults = S.faults source.old;
+          given = O.given out.old;
+          write_faults = O.faults out.old;
+          told = E.given err.old;
+          tell_faults = E.faults err.old;
+        })
+        (record {
+          left = S.left source.new;
+          read_faults = S.faults source.new;
+          given = O.given out.new;
+          write_faults = O.faults out.new;
+          told = E.given err.new;
+          tell_faults = E.faults err.new;
+        })
         result }
 {
     let request = match read_words(alloc, words) {
@@ -115,8 +129,22 @@ pub fn run<S: Source, O: Sink, E: Sink>(
     err: &mut E,
 ) -> Status
     ensures { Keeps (map string_bytes words.now)
-        (record { left = S.left source.old; read_faults = S.faults source.old; given = O.given out.old; write_faults = O.faults out.old; told = E.given err.old; tell_faults = E.faults err.old })
-        (record { left = S.left source.new; read_faults = S.faults source.new; given = O.given out.new; write_faults = O.faults out.new; told = E.given err.new; tell_faults = E.faults err.new })
+        (record {
+          left = S.left source.old;
+          read_faults = S.faults source.old;
+          given = O.given out.old;
+          write_faults = O.faults out.old;
+          told = E.given err.old;
+          tell_faults = E.faults err.old;
+        })
+        (record {
+          left = S.left source.new;
+          read_faults = S.faults source.new;
+          given = O.given out.new;
+          write_faults = O.faults out.new;
+          told = E.given err.new;
+          tell_faults = E.faults err.new;
+        })
         result }
 {
     run_words(alloc, words, source, out, err)
