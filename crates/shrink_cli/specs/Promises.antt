@@ -311,7 +311,8 @@ pub record Keeps (words : List (List ℕ)) (old new : Ends) (s : Status) : Type 
   pub shrinks_at_last : (summary : Bool) → CompletesGame (Shrink summary) (λ _ t. EndsWell t) words old new s
   pub checks_at_last : (grouping : Grouping) (summary : Bool) → CompletesGame (Check grouping summary) (EndsChecked grouping) words old new s
   pub solves_at_last : (grouping : Grouping) → CompletesGame (Solve grouping) (λ g. EndsSo (OfGrouping grouping Solves g)) words old new s
-  pub plays_at_last : (grouping : Grouping) (turns : ℕ) → CompletesGame (Play grouping turns) (λ g. EndsSo (OfGrouping grouping (Plays turns) g)) words old new s
+  pub plays_at_last : (grouping : Grouping) (turns : ℕ)
+      → CompletesGame (Play grouping turns) (λ g. EndsSo (OfGrouping grouping (Plays turns) g)) words old new s
   pub paths_at_last : (grouping : Grouping) → CompletesGame (Path grouping) (λ g. EndsSo (OfGrouping grouping ShowsPath g)) words old new s
   pub evaluates_at_last : CompletesStrategy Evaluate (SaysConfirmed SaysNumbers) words old new s
   pub queries_at_last : (player : ℕ) (line signal : List ℕ)
