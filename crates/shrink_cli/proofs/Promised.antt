@@ -149,8 +149,11 @@ pub of_strategy : (task : Task) (says : Strategy → Reply → Type 0) (tells : 
 of_strategy task says tells old new told asks r p = prints_so task (OfConfirmed tells) old new
     (λ bytes text h. let said = asks text bytes h in confirmed says tells bytes text said.read (λ t. told t text) said.reads said.said) r p
 
+pub same_text : (one two : List ℕ) → Prints one ≡ Prints two → two ≡ one
+same_text one two e = cc
+
 number_lines : (t : Strategy) (text : List ℕ) → SaysNumbers t (Prints text) → text ≡ verdict_text t.numbers
-number_lines t text h = cc
+number_lines t text h = sym (same_text text (verdict_text t.numbers) h)
 
 pub evaluates : (words : List (List ℕ)) (old new : Ends) (s : Status) → RunsTo words old new s → EvaluatesWell words old new s
 evaluates words old new s runs asked e =
@@ -164,9 +167,6 @@ pub upgrades : (words : List (List ℕ)) (old new : Ends) (s : Status) → RunsT
 upgrades words old new s runs asked e =
     of_strategy Upgrade SaysUpgraded (λ t text. text ≡ strategy_text Two t) old new upgraded (λ text bytes h. h) refl
     (printed words old new s Upgrade runs asked e)
-
-pub same_text : (one two : List ℕ) → Prints one ≡ Prints two → two ≡ one
-same_text one two e = cc
 
 queried : (player : ℕ) (line signal : List ℕ) (t : Strategy) (text : List ℕ) → SaysQueried player line signal t (Prints text)
     → IsQueried t player line signal text

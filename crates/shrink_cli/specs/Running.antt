@@ -26,6 +26,11 @@ pub record Ends : Type 0 where
   pub told : Option (List ℕ)
   pub tell_faults : ℕ
 
+-- the ends, by what each of them tells and counts
+abbrev pub ends : Option (List ℕ) → ℕ → Option (List ℕ) → ℕ → Option (List ℕ) → ℕ → Ends
+ends left read_faults given write_faults told tell_faults =
+    record { left = left; read_faults = read_faults; given = given; write_faults = write_faults; told = told; tell_faults = tell_faults }
+
 -- how long an input may be
 abbrev pub most_bytes : ℕ
 most_bytes = 16777216

@@ -4,7 +4,7 @@ ghost use Rattle.std.specs.Prelude.{◌≡◌, codes, map, string_bytes};
 ghost use Rattle.gs_answer.specs.Asking.{reads};
 ghost use Rattle.gs_words.specs.Tasks.{task_of};
 ghost use Rattle.shrink_cli.specs.Promises.{Keeps};
-ghost use Rattle.shrink_cli.specs.Running.{ReadsInput, RunsTo, usage_line};
+ghost use Rattle.shrink_cli.specs.Running.{ReadsInput, RunsTo, ends, usage_line};
 ghost use Rattle.shrink_cli.specs.Told.{TellsTo};
 ghost use Rattle.shrink_cli.specs.declared.status.Status.TheVariants as status;
 
@@ -71,22 +71,8 @@ fn run_words<S: Source, O: Sink, E: Sink>(
     err: &mut E,
 ) -> Status
     ensures { RunsTo (map string_bytes words.now)
-        (record {
-          left = S.left source.old;
-          read_faults = S.faults source.old;
-          given = O.given out.old;
-          write_faults = O.faults out.old;
-          told = E.given err.old;
-          tell_faults = E.faults err.old;
-        })
-        (record {
-          left = S.left source.new;
-          read_faults = S.faults source.new;
-          given = O.given out.new;
-          write_faults = O.faults out.new;
-          told = E.given err.new;
-          tell_faults = E.faults err.new;
-        })
+        (ends (S.left source.old) (S.faults source.old) (O.given out.old) (O.faults out.old) (E.given err.old) (E.faults err.old))
+        (ends (S.left source.new) (S.faults source.new) (O.given out.new) (O.faults out.new) (E.given err.new) (E.faults err.new))
         result }
 {
     let request = match read_words(alloc, words) {
@@ -129,22 +115,8 @@ pub fn run<S: Source, O: Sink, E: Sink>(
     err: &mut E,
 ) -> Status
     ensures { Keeps (map string_bytes words.now)
-        (record {
-          left = S.left source.old;
-          read_faults = S.faults source.old;
-          given = O.given out.old;
-          write_faults = O.faults out.old;
-          told = E.given err.old;
-          tell_faults = E.faults err.old;
-        })
-        (record {
-          left = S.left source.new;
-          read_faults = S.faults source.new;
-          given = O.given out.new;
-          write_faults = O.faults out.new;
-          told = E.given err.new;
-          tell_faults = E.faults err.new;
-        })
+        (ends (S.left source.old) (S.faults source.old) (O.given out.old) (O.faults out.old) (E.given err.old) (E.faults err.old))
+        (ends (S.left source.new) (S.faults source.new) (O.given out.new) (O.faults out.new) (E.given err.new) (E.faults err.new))
         result }
 {
     run_words(alloc, words, source, out, err)
