@@ -28,70 +28,110 @@ fn is_read(answer: &Result<Vec<u8>, ReadStop>, wanted: &Result<&[u8], ReadStop>)
     }
 }
 
+// Bytes, the longest piece, the call that fails, the limit, the answer, and the answer of a second read.
+type ReadRow = (
+    &'static [u8],
+    u32,
+    u32,
+    u64,
+    Result<&'static [u8], ReadStop>,
+    &'static [u8],
+);
+
+const READS: &[ReadRow] = &[
+    (b"hello", 2, 0, 9, Ok(b"hello"), b""),
+    (b"hello", 9, 0, 5, Ok(b"hello"), b""),
+    (b"", 1, 0, 0, Ok(b""), b""),
+    (b"hello", 2, 0, 4, Err(ReadStop::TooLong), b""),
+    (b"hello", 9, 0, 2, Err(ReadStop::TooLong), b"lo"),
+    (b"hello", 1, 0, 0, Err(ReadStop::TooLong), b"ello"),
+    (b"hello", 2, 1, 9, Err(ReadStop::Fault), b"hello"),
+    (b"hello", 2, 2, 9, Err(ReadStop::Fault), b"llo"),
+    (b"hello", 2, 4, 9, Err(ReadStop::Fault), b""),
+    (b"hello", 2, 9, 1, Err(ReadStop::TooLong), b"llo"),
+    (b"hello", 2, 6, 9, Ok(b"hello"), b""),
+    (b"", 2, 1, 0, Err(ReadStop::Fault), b""),
+];
+
+// Whether both answers of a source are those of its row.
+fn are_read<S: Source>(alloc: Global, source: &mut S, row: &ReadRow) -> bool
+    requires { row.now.3 < 2 ^ 32 }
+{
+    let (_, _, _, limit, first, second) = *row;
+    let answers = read_twice(alloc, source, limit);
+    is_read(&answers.0, &first) && is_read(&answers.1, &Ok(second))
+}
+
+// Whether a source in memory answers as its row says.
+fn reads(alloc: Global, row: &ReadRow) -> Result<bool, AllocError>
+    requires piece { 1 ≤ row.now.1 }
+    requires limit { row.now.3 < 2 ^ 32 }
+{
+    let fails = Vec::from_slice(alloc, &[row.2])?;
+    let bytes = Vec::from_slice(alloc, row.0)?;
+    let mut source = MemSource::new(bytes, row.1, fails);
+    Ok(are_read(alloc, &mut source, row))
+}
+
+// Whether a source that never fails answers as the row says.
+fn reads_surely(alloc: Global, row: &ReadRow) -> Result<bool, AllocError>
+    requires limit { row.now.3 < 2 ^ 32 }
+{
+    let mut source = SureSource::new(Vec::from_slice(alloc, row.0)?);
+    Ok(are_read(alloc, &mut source, row))
+}
+
 #[test]
 fn reads_everything_or_stops(rt: HostRuntime) -> Result<(), Fail> {
-    let alloc = rt.alloc();
-    // bytes, piece, the call that fails, limit, the answer, and the answer of a second read
-    let rows: [(&[u8], u32, u32, u64, Result<&[u8], ReadStop>, &[u8]); 12] = [
-        (b"hello", 2, 0, 9, Ok(b"hello"), b""),
-        (b"hello", 9, 0, 5, Ok(b"hello"), b""),
-        (b"", 1, 0, 0, Ok(b""), b""),
-        (b"hello", 2, 0, 4, Err(ReadStop::TooLong), b""),
-        (b"hello", 9, 0, 2, Err(ReadStop::TooLong), b"lo"),
-        (b"hello", 1, 0, 0, Err(ReadStop::TooLong), b"ello"),
-        (b"hello", 2, 1, 9, Err(ReadStop::Fault), b"hello"),
-        (b"hello", 2, 2, 9, Err(ReadStop::Fault), b"llo"),
-        (b"hello", 2, 4, 9, Err(ReadStop::Fault), b""),
-        (b"hello", 2, 9, 1, Err(ReadStop::TooLong), b"llo"),
-        (b"hello", 2, 6, 9, Ok(b"hello"), b""),
-        (b"", 2, 1, 0, Err(ReadStop::Fault), b""),
-    ];
-    for (index, (bytes, piece, fail, limit, first, second)) in rows.iter().enumerate() {
-        assert!(rt; 1 <= *piece && *limit < 99);
-        let fails = Vec::from_slice(alloc, &[*fail])?;
-        let mut source = MemSource::new(Vec::from_slice(alloc, bytes)?, *piece, fails);
-        let answers = read_twice(alloc, &mut source, *limit);
-        assert!(rt; is_read(&answers.0, first), "row {index}");
-        assert!(rt; is_read(&answers.1, &Ok(*second)), "row {index} again");
-        if *fail == 0 {
-            let mut source = SureSource::new(Vec::from_slice(alloc, bytes)?);
-            let answers = read_twice(alloc, &mut source, *limit);
-            assert!(rt; is_read(&answers.0, first), "row {index} surely");
-            assert!(rt;
-                is_read(&answers.1, &Ok(*second)),
-                "row {index} surely again"
-            );
-        }
+    for (index, row) in READS.iter().enumerate() {
+        assert!(rt; 1 <= row.1 && row.3 < 99);
+        assert!(rt; reads(rt.alloc(), row)?, "row {index}");
+        assert!(rt; row.2 != 0 || reads_surely(rt.alloc(), row)?, "row {index}");
     }
     Ok(())
 }
 
+// Bytes, room, the longest piece, the call that fails, and how many went out before the fault, if any.
+type WriteRow = (&'static [u8], u32, u32, u32, Option<usize>);
+
+const WRITES: &[WriteRow] = &[
+    (b"hello", 9, 3, 0, None),
+    (b"hello", 5, 1, 0, None),
+    (b"", 0, 1, 1, None),
+    (b"hello", 9, 3, 2, Some(3)),
+    (b"hello", 9, 3, 1, Some(0)),
+    (b"hello", 9, 3, 3, None),
+    (b"hello", 4, 3, 0, Some(4)),
+    (b"hello", 0, 3, 0, Some(0)),
+];
+
+// What writing the bytes of a row answers, and what went out.
+fn written(alloc: Global, row: &WriteRow) -> Result<(Result<(), WriteStop>, Vec<u8>), AllocError>
+    requires { 1 ≤ row.now.2 }
+{
+    let fails = Vec::from_slice(alloc, &[row.3])?;
+    let mut sink = MemSink::new(alloc, row.1, row.2, fails)?;
+    let answer = write_all(&mut sink, row.0);
+    let given = Vec::from_slice(alloc, sink.given())?;
+    Ok((answer, given))
+}
+
+// What writing is to answer.
+fn wanted(stop: Option<usize>) -> Result<(), WriteStop> {
+    match stop {
+        Some(written) => Err(WriteStop::Fault { written }),
+        None => Ok(()),
+    }
+}
+
 #[test]
 fn writes_everything_or_stops(rt: HostRuntime) -> Result<(), Fail> {
-    let alloc = rt.alloc();
-    // bytes, room, piece, the call that fails, how many went out before the fault, if any
-    let rows: [(&[u8], u32, u32, u32, Option<usize>); 8] = [
-        (b"hello", 9, 3, 0, None),
-        (b"hello", 5, 1, 0, None),
-        (b"", 0, 1, 1, None),
-        (b"hello", 9, 3, 2, Some(3)),
-        (b"hello", 9, 3, 1, Some(0)),
-        (b"hello", 9, 3, 3, None),
-        (b"hello", 4, 3, 0, Some(4)),
-        (b"hello", 0, 3, 0, Some(0)),
-    ];
-    for (index, (bytes, room, piece, fail, stop)) in rows.iter().enumerate() {
-        assert!(rt; 1 <= *piece);
-        let mut sink = MemSink::new(alloc, *room, *piece, Vec::from_slice(alloc, &[*fail])?)?;
-        let answer = write_all(&mut sink, bytes);
-        let written = stop.unwrap_or(bytes.len());
-        let wanted = match stop {
-            Some(written) => Err(WriteStop::Fault { written: *written }),
-            None => Ok(()),
-        };
-        assert_eq!(rt; answer, wanted, "row {index}");
-        assert!(rt; bytes.starts_with(sink.given()), "row {index}");
-        assert_eq!(rt; sink.given().len(), written, "row {index}");
+    for (index, row) in WRITES.iter().enumerate() {
+        assert!(rt; 1 <= row.2);
+        let (answer, given) = written(rt.alloc(), row)?;
+        let front = row.0.get(..row.4.unwrap_or(row.0.len()));
+        assert_eq!(rt; answer, wanted(row.4), "row {index}");
+        assert_eq!(rt; Some(given.as_slice()), front, "row {index}");
     }
     Ok(())
 }
@@ -149,27 +189,29 @@ impl Write for Script<'_> {
     }
 }
 
+// Whether a read meets the failing turn, and the next one what stands behind it.
+fn reads_turns(alloc: Global, turns: &[Turn]) -> bool {
+    let mut source = StdSource::new(Script { turns });
+    let answers = read_twice(alloc, &mut source, 9);
+    is_read(&answers.0, &Err(ReadStop::Fault)) && is_read(&answers.1, &Ok(b"aa"))
+}
+
+// What two writes answer.
+fn written_in_turns(turns: &[Turn]) -> (Result<(), WriteStop>, Result<(), WriteStop>) {
+    let mut sink = StdSink::new(Script { turns });
+    let first = write_all(&mut sink, b"hello");
+    (first, write_all(&mut sink, b"lo"))
+}
+
 #[test]
-fn real_ends_fail_at_every_error(rt: HostRuntime) -> Result<(), Fail> {
-    let alloc = rt.alloc();
+fn real_ends_fail_at_every_error(rt: HostRuntime) {
     for kind in [ErrorKind::Interrupted, ErrorKind::BrokenPipe] {
         let turns = [Turn::Moves(3), Turn::Fails(kind), Turn::Moves(2)];
-        let mut source = StdSource::new(Script { turns: &turns });
-        let answers = read_twice(alloc, &mut source, 9);
-        assert!(rt; is_read(&answers.0, &Err(ReadStop::Fault)), "{kind:?}");
-        assert!(rt; is_read(&answers.1, &Ok(b"aa")), "{kind:?}");
-        let mut sink = StdSink::new(Script { turns: &turns });
-        let stop = write_all(&mut sink, b"hello");
-        assert_eq!(rt; stop, Err(WriteStop::Fault { written: 3 }), "{kind:?}");
-        assert_eq!(rt; write_all(&mut sink, b"lo"), Ok(()), "{kind:?}");
+        assert!(rt; reads_turns(rt.alloc(), &turns), "{kind:?}");
+        let stopped = Err(WriteStop::Fault { written: 3 });
+        assert_eq!(rt; written_in_turns(&turns), (stopped, Ok(())), "{kind:?}");
     }
     // a write that takes no byte
-    let mut sink = StdSink::new(Script {
-        turns: &[Turn::Moves(4), Turn::Moves(0), Turn::Moves(1)],
-    });
-    assert_eq!(rt;
-        write_all(&mut sink, b"hello"),
-        Err(WriteStop::Fault { written: 4 })
-    );
-    Ok(())
+    let (stop, _) = written_in_turns(&[Turn::Moves(4), Turn::Moves(0), Turn::Moves(1)]);
+    assert_eq!(rt; stop, Err(WriteStop::Fault { written: 4 }));
 }

@@ -4,12 +4,11 @@
 ghost use Rattle.std.specs.Prelude.{◌≡◌, IfOk, length};
 ghost use Rattle.gs_tree.specs.{Trees.{rules_of}, Walk.{last_count}};
 
+use crate::asked::{Question, asked};
 use gs_alike::stand_ins;
-use gs_game::ValidGame;
 use gs_samples::decks::{
     KUHN, LEDUC, LEDUC_OF_COPIES, RHODE_OF_BONUSES, RHODE_TJQK, TWO_OWN_CARDS,
 };
-use gs_samples::game_of;
 use gs_tree::Signals;
 use std::alloc::{AllocError, Global};
 use std::test::Fail;
@@ -72,18 +71,37 @@ fn own_stand_ins(alloc: Global, signals: &Signals, keys: &[u32]) -> Result<Optio
     Ok(Some(own))
 }
 
-/// How many signals of a game stand for themselves: with one key for all, and with two keys by turns.
-fn counts(alloc: Global, game: &ValidGame) -> Result<(Option<u32>, Option<u32>), Fail> {
-    let signals = Signals::of(alloc, game)?;
-    let keys = one_key(alloc, &signals)?;
-    let one = own_stand_ins(alloc, &signals, &keys)?;
-    let keys = two_keys(alloc, &signals)?;
-    let two = own_stand_ins(alloc, &signals, &keys)?;
-    Ok((one, two))
+/// How many signals stand for themselves where all have one key.
+fn own_with_one(alloc: Global, signals: &Signals) -> Result<Option<u32>, Fail> {
+    let keys = one_key(alloc, signals)?;
+    own_stand_ins(alloc, signals, &keys)
+}
+
+/// How many signals stand for themselves with two keys by turns.
+fn own_with_two(alloc: Global, signals: &Signals) -> Result<Option<u32>, Fail> {
+    let keys = two_keys(alloc, signals)?;
+    own_stand_ins(alloc, signals, &keys)
+}
+
+/// How many signals stand for themselves: with one key for all, and with two keys by turns.
+struct StandIns;
+
+impl Question for StandIns {
+    type Answer = (Option<u32>, Option<u32>);
+
+    fn answer(
+        &self,
+        alloc: Global,
+        signals: &Signals<'_>,
+    ) -> Result<(Option<u32>, Option<u32>), Fail> {
+        let one = own_with_one(alloc, signals)?;
+        let two = own_with_two(alloc, signals)?;
+        Ok((one, two))
+    }
 }
 
 /// Games, and how many of their signals stand for themselves: with one key for all, and with two keys by turns.
-const CASES: [(&str, u32, u32); 6] = [
+const CASES: &[(&str, u32, u32)] = &[
     (TWO_OWN_CARDS, 12, 12),
     (LEDUC_OF_COPIES, 9, 9),
     (LEDUC, 3, 10),
@@ -94,10 +112,12 @@ const CASES: [(&str, u32, u32); 6] = [
 
 #[test]
 fn stand_ins_see_the_same(rt: HostRuntime) -> Result<(), Fail> {
-    let alloc = rt.alloc();
-    for (line, one, two) in CASES {
-        let game = game_of(alloc, line)?;
-        assert_eq!(rt; counts(alloc, &game)?, (Some(one), Some(two)), "{line}");
+    for &(line, one, two) in CASES {
+        assert_eq!(rt;
+            asked(rt.alloc(), line, &StandIns)?,
+            (Some(one), Some(two)),
+            "{line}"
+        );
     }
     Ok(())
 }

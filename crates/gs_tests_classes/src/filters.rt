@@ -1,6 +1,6 @@
 //! Information filters: that calls succeed, and worked values by hand.
 
-ghost use Rattle.std.specs.Prelude.{◌<◌, ◌≤◌, length};
+ghost use Rattle.std.specs.Prelude.{IfOk, ◌<◌, ◌≤◌, length};
 ghost use Rattle.gs_filter.specs.{Rows.{rows}, Filter.{AreParents}};
 
 use gs_filter::{ClassFault, Classes};
@@ -11,19 +11,44 @@ use std::test::Fail;
 fn lists_of(alloc: Global, text: &str) -> Result<Vec<Vec<u32>>, AllocError> {
     let mut lists = Vec::new(alloc);
     for word in text.split(' ') {
-        let mut list = Vec::new(alloc);
-        for digit in word.chars() {
-            list.push(digit.to_digit(10).unwrap_or(0))?;
-        }
-        lists.push(list)?;
+        lists.push(digits_of(alloc, word)?)?;
     }
     Ok(lists)
 }
 
-fn fault_of(alloc: Global, parents: &[Vec<u32>], lists: Vec<Vec<u32>>) -> Option<ClassFault>
-    requires { AreParents (rows parents.now) }
+/// The digits of a word.
+fn digits_of(alloc: Global, word: &str) -> Result<Vec<u32>, AllocError> {
+    let mut list = Vec::new(alloc);
+    for digit in word.chars() {
+        list.push(digit.to_digit(10).unwrap_or(0))?;
+    }
+    Ok(list)
+}
+
+/// Parents of three signals, and of two below each of them.
+fn worked_parents(alloc: Global) -> Result<Vec<Vec<u32>>, AllocError>
+    ensures { IfOk result (λ v. AreParents (rows v.items)) }
 {
-    Classes::new(alloc, parents, lists).err()
+    let first = vec![in alloc; 0, 0, 0]?;
+    let second = vec![in alloc; 0, 0, 1, 1, 2, 2]?;
+    Ok(vec![in alloc; first, second]?)
+}
+
+/// The classes of lists of digits over the worked parents, or what is wrong with them.
+fn classes_in(alloc: Global, text: &str) -> Result<Classes, ClassFault> {
+    let parents = worked_parents(alloc)?;
+    Classes::new(alloc, &parents, lists_of(alloc, text)?)
+}
+
+/// What is wrong with lists of digits over the worked parents.
+fn fault_in(alloc: Global, text: &str) -> Option<ClassFault> {
+    classes_in(alloc, text).err()
+}
+
+/// A class for each signal of the worked parents.
+fn singles(alloc: Global) -> Result<Classes, AllocError> {
+    let parents = worked_parents(alloc)?;
+    Classes::identity(alloc, &parents)
 }
 
 /// Size, first member and parents' class of a class of a round from the second.
@@ -45,68 +70,113 @@ fn class_of(classes: &Classes, round: u8, signal: u32) -> Option<u32> {
     Some(classes.class_of(round, signal))
 }
 
+/// Rounds, classes, and their size, first member and parents' class in the worked filter.
+const NUMBERS: &[(u8, u32, Option<(u32, u32, u32)>)] = &[
+    (2, 1, Some((2, 0, 1))),
+    (2, 3, Some((2, 2, 2))),
+    (2, 4, None),
+];
+
+/// Rounds, signals, and their class in the worked filter.
+const CLASSES: &[(u8, u32, Option<u32>)] = &[(1, 2, Some(1)), (2, 4, Some(1)), (2, 6, None)];
+
+/// Lists of digits over the worked parents, and what is wrong with them.
+const FAULTS: &[(&str, Option<ClassFault>)] = &[
+    ("121 123312", None),
+    ("121", Some(ClassFault::Length { round: 2 })),
+    ("121 123312 1", Some(ClassFault::Length { round: 3 })),
+    ("12 123312", Some(ClassFault::Length { round: 1 })),
+    ("131 12331", Some(ClassFault::Length { round: 2 })),
+    (
+        "131 123312",
+        Some(ClassFault::NotFirstSeen { round: 1, at: 1 }),
+    ),
+    (
+        "211 123312",
+        Some(ClassFault::NotFirstSeen { round: 1, at: 0 }),
+    ),
+    (
+        "101 123312",
+        Some(ClassFault::NotFirstSeen { round: 1, at: 1 }),
+    ),
+    (
+        "121 121911",
+        Some(ClassFault::NotFirstSeen { round: 2, at: 3 }),
+    ),
+    (
+        "121 121311",
+        Some(ClassFault::ParentsApart {
+            round: 2,
+            a: 0,
+            b: 2,
+        }),
+    ),
+    (
+        "123 123312",
+        Some(ClassFault::ParentsApart {
+            round: 2,
+            a: 0,
+            b: 4,
+        }),
+    ),
+];
+
+/// The first row of faults that is not so, with the fault that there is.
+fn other_fault(alloc: Global) -> Option<(&'static str, Option<ClassFault>)> {
+    for &(text, fault) in FAULTS {
+        let found = fault_in(alloc, text);
+        if found != fault {
+            return Some((text, found));
+        }
+    }
+    None
+}
+
+/// The first row of classes' numbers that is not so.
+fn other_numbers(classes: &Classes) -> Option<(u8, u32)> {
+    for &(round, class, numbers) in NUMBERS {
+        if class_numbers(classes, round, class) != numbers {
+            return Some((round, class));
+        }
+    }
+    None
+}
+
+/// The first row of signals' classes that is not so.
+fn other_class(classes: &Classes) -> Option<(u8, u32)> {
+    for &(round, signal, class) in CLASSES {
+        if class_of(classes, round, signal) != class {
+            return Some((round, signal));
+        }
+    }
+    None
+}
+
+/// The first rows of numbers and of classes that are not so in the worked filter.
+fn others(alloc: Global) -> Result<(Option<(u8, u32)>, Option<(u8, u32)>), ClassFault> {
+    let classes = classes_in(alloc, "121 123312")?;
+    Ok((other_numbers(&classes), other_class(&classes)))
+}
+
+/// The second round's classes and parents where each signal is a class, and the fifth class's numbers.
+fn singles_text(alloc: Global) -> Result<String, AllocError> {
+    let single = singles(alloc)?;
+    format!(in alloc;
+        "{:?} {:?} {:?}",
+        single.lists().get(1),
+        single.parents().get(1),
+        class_numbers(&single, 2, 5)
+    )
+}
+
 #[test]
 fn worked_values(rt: HostRuntime) -> Result<(), Fail> {
     let alloc = rt.alloc();
-    let parents = vec![in alloc; vec![in alloc; 0, 0, 0]?, vec![in alloc; 0, 0, 1, 1, 2, 2]?]?;
-    for (text, fault) in [
-        ("121 123312", None),
-        ("121", Some(ClassFault::Length { round: 2 })),
-        ("121 123312 1", Some(ClassFault::Length { round: 3 })),
-        ("12 123312", Some(ClassFault::Length { round: 1 })),
-        ("131 12331", Some(ClassFault::Length { round: 2 })),
-        (
-            "131 123312",
-            Some(ClassFault::NotFirstSeen { round: 1, at: 1 }),
-        ),
-        (
-            "211 123312",
-            Some(ClassFault::NotFirstSeen { round: 1, at: 0 }),
-        ),
-        (
-            "101 123312",
-            Some(ClassFault::NotFirstSeen { round: 1, at: 1 }),
-        ),
-        (
-            "121 121911",
-            Some(ClassFault::NotFirstSeen { round: 2, at: 3 }),
-        ),
-        (
-            "121 121311",
-            Some(ClassFault::ParentsApart {
-                round: 2,
-                a: 0,
-                b: 2,
-            }),
-        ),
-        (
-            "123 123312",
-            Some(ClassFault::ParentsApart {
-                round: 2,
-                a: 0,
-                b: 4,
-            }),
-        ),
-    ] {
-        assert_eq!(rt;
-            fault_of(alloc, &parents, lists_of(alloc, text)?),
-            fault,
-            "at {text}"
-        );
-    }
-    let classes = Classes::new(alloc, &parents, lists_of(alloc, "121 123312")?)?;
-    assert_eq!(rt; class_numbers(&classes, 2, 1), Some((2, 0, 1)));
-    assert_eq!(rt; class_numbers(&classes, 2, 3), Some((2, 2, 2)));
-    assert_eq!(rt; class_numbers(&classes, 2, 4), None);
-    assert_eq!(rt; class_of(&classes, 1, 2), Some(1));
-    assert_eq!(rt; class_of(&classes, 2, 4), Some(1));
-    assert_eq!(rt; class_of(&classes, 2, 6), None);
-    let single = Classes::identity(alloc, &parents)?;
-    assert_eq!(rt; single.lists()[1].as_slice(), [1, 2, 3, 4, 5, 6].as_slice());
+    assert_eq!(rt; other_fault(alloc), None);
+    assert_eq!(rt; others(alloc)?, (None, None));
     assert_eq!(rt;
-        single.parents()[1].as_slice(),
-        [0, 0, 1, 1, 2, 2].as_slice()
+        singles_text(alloc)?.as_str(),
+        "Some([1, 2, 3, 4, 5, 6]) Some([0, 0, 1, 1, 2, 2]) Some((1, 4, 3))"
     );
-    assert_eq!(rt; class_numbers(&single, 2, 5), Some((1, 4, 3)));
     Ok(())
 }

@@ -1,8 +1,8 @@
 //! Classes of whole games, as a separate program found them by the definitions, and pairings in Leduc's game.
 
+use crate::asked::{Question, asked};
 use gs_iso::{pairing, shrink};
 use gs_samples::decks::{KUHN, KUHN_OF_TWO_SUITS, LEDUC, RHODE_JQ, TWO_JACKS, TWO_OWN_CARDS};
-use gs_samples::game_of;
 use gs_tree::Signals;
 use std::alloc::Global;
 use std::test::Fail;
@@ -28,16 +28,20 @@ fn first_place(
     }
 }
 
-/// The classes of a game as one text.
-fn shrunk(alloc: Global, line: &str) -> Result<String, Fail> {
-    let game = game_of(alloc, line)?;
-    let signals = Signals::of(alloc, &game)?;
-    let classes = shrink(alloc, &signals)?;
-    Ok(format!(in alloc; "{:?}", classes.lists())?)
+/// The classes of signals as one text.
+struct Shrunk;
+
+impl Question for Shrunk {
+    type Answer = String;
+
+    fn answer(&self, alloc: Global, signals: &Signals<'_>) -> Result<String, Fail> {
+        let classes = shrink(alloc, signals)?;
+        Ok(format!(in alloc; "{:?}", classes.lists())?)
+    }
 }
 
 /// Games, and the numbers of their signal classes.
-const CASES: [(&str, &str); 6] = [
+const CASES: &[(&str, &str)] = &[
     (KUHN, "[[1, 2, 3]]"),
     (KUHN_OF_TWO_SUITS, "[[1, 1, 2, 2, 3, 3]]"),
     (
@@ -57,22 +61,45 @@ const CASES: [(&str, &str); 6] = [
 
 #[test]
 fn classes_of_games(rt: HostRuntime) -> Result<(), Fail> {
-    for (line, classes) in CASES {
-        assert_eq!(rt; shrunk(rt.alloc(), line)?.as_str(), classes, "{line}");
+    for &(line, classes) in CASES {
+        assert_eq!(rt;
+            asked(rt.alloc(), line, &Shrunk)?.as_str(),
+            classes,
+            "{line}"
+        );
     }
     Ok(())
+}
+
+/// The place for the first child in the pairing of two signals of a round.
+#[derive(Clone, Copy)]
+struct Paired {
+    round: u8,
+    a: u32,
+    b: u32,
+}
+
+impl Question for Paired {
+    type Answer = Option<u32>;
+
+    fn answer(&self, alloc: Global, signals: &Signals<'_>) -> Result<Option<u32>, Fail> {
+        first_place(alloc, signals, self.round, self.a, self.b)
+    }
+}
+
+/// The place for the first child in a pairing of Leduc hold'em.
+fn place_in_leduc(alloc: Global, round: u8, a: u32, b: u32) -> Result<Option<u32>, Fail> {
+    asked(alloc, LEDUC, &Paired { round, a, b })
 }
 
 #[test]
 fn pairings_in_leduc(rt: HostRuntime) -> Result<(), Fail> {
     let alloc = rt.alloc();
-    let game = game_of(alloc, LEDUC)?;
-    let signals = Signals::of(alloc, &game)?;
     // Js/+Qs and Js/+Ks
-    assert_eq!(rt; first_place(alloc, &signals, 2, 1, 3)?, Some(0));
+    assert_eq!(rt; place_in_leduc(alloc, 2, 1, 3)?, Some(0));
     // Js/+Jh and Qs/+Qh
-    assert!(rt; first_place(alloc, &signals, 2, 0, 12)?.is_some());
+    assert!(rt; place_in_leduc(alloc, 2, 0, 12)?.is_some());
     // Js and Qs
-    assert_eq!(rt; first_place(alloc, &signals, 1, 0, 2)?, None);
+    assert_eq!(rt; place_in_leduc(alloc, 1, 0, 2)?, None);
     Ok(())
 }

@@ -5,6 +5,8 @@
 #[cfg(test)]
 mod alike;
 #[cfg(test)]
+mod asked;
+#[cfg(test)]
 mod filters;
 #[cfg(test)]
 mod isomorphic;

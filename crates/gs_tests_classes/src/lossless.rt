@@ -1,39 +1,78 @@
 //! Classes of whole games, with the answers of a separate program that works by the definitions.
 
-use gs_lossless::{CheckStop, check};
+ghost use Rattle.std.specs.Prelude.{◌≡◌};
+ghost use Rattle.gs_model.specs.Frame.{frame_of};
+ghost use Rattle.gs_tree.specs.Trees.{rules_of};
+
+use crate::asked::{Question, asked};
+use gs_filter::Classes;
+use gs_lossless::{CheckStop, Lossless, check};
 use gs_samples::decks::{KUHN, LEDUC, LEDUC_OF_TWO_RANKS, RHODE_KA, TWO_JACKS};
-use gs_samples::{classes_of, game_of, signal_text};
+use gs_samples::{classes_of, signal_text};
 use gs_tree::Signals;
-use std::alloc::Global;
+use std::alloc::{AllocError, Global};
 use std::test::Fail;
 
-/// What the check answers: `lossless`, or the unlike pair.
-fn answer(alloc: Global, line: &str, classes: &str) -> Result<String, Fail> {
-    let game = game_of(alloc, line)?;
-    let signals = Signals::of(alloc, &game)?;
-    let classes = classes_of(alloc, &signals, classes)?;
-    match check(alloc, &signals, &classes) {
-        Ok(lossless) => {
-            let same = lossless.signals().rounds() == lossless.classes().rounds();
-            Ok(format!(in alloc; "lossless {same}")?)
-        }
-        Err(
-            CheckStop::Unlike {
-                round,
-                first,
-                second,
-            },
-        ) => {
-            let first = signal_text(alloc, &signals, round, first)?;
-            let second = signal_text(alloc, &signals, round, second)?;
-            Ok(format!(in alloc; "round {round} {first} {second}")?)
-        }
-        Err(CheckStop::Memory) => Ok(format!(in alloc; "{}", CheckStop::Memory)?),
+/// The two signals of an unlike pair.
+fn pair_text(
+    alloc: Global,
+    signals: &Signals<'_>,
+    round: u8,
+    first: u32,
+    second: u32,
+) -> Result<String, AllocError> {
+    let first = signal_text(alloc, signals, round, first)?;
+    let second = signal_text(alloc, signals, round, second)?;
+    format!(in alloc; "round {round} {first} {second}")
+}
+
+/// What a stop of the check says: the unlike pair, where there is one.
+fn stop_text(alloc: Global, signals: &Signals<'_>, stop: CheckStop) -> Result<String, AllocError> {
+    match stop {
+        CheckStop::Unlike {
+            round,
+            first,
+            second,
+        } => pair_text(alloc, signals, round, first, second),
+        CheckStop::Memory => format!(in alloc; "{}", CheckStop::Memory),
+    }
+}
+
+/// What lossless classes say: whether they have the rounds of their signals.
+fn lossless_text(alloc: Global, lossless: &Lossless<'_>) -> Result<String, AllocError> {
+    let same = lossless.signals().rounds() == lossless.classes().rounds();
+    format!(in alloc; "lossless {same}")
+}
+
+/// What the check says of classes of signals.
+fn answer_over(
+    alloc: Global,
+    signals: &Signals<'_>,
+    classes: &Classes,
+) -> Result<String, AllocError>
+    requires { classes.now.parents ≡ (frame_of (rules_of signals.now)).parents }
+{
+    match check(alloc, signals, classes) {
+        Ok(lossless) => lossless_text(alloc, &lossless),
+        Err(stop) => stop_text(alloc, signals, stop),
+    }
+}
+
+/// What the check answers to the classes of a text: `lossless`, or the unlike pair.
+#[derive(Clone, Copy)]
+struct Checked<'t>(&'t str);
+
+impl Question for Checked<'_> {
+    type Answer = String;
+
+    fn answer(&self, alloc: Global, signals: &Signals<'_>) -> Result<String, Fail> {
+        let classes = classes_of(alloc, signals, self.0)?;
+        Ok(answer_over(alloc, signals, &classes)?)
     }
 }
 
 /// Games, classes of their signals, and what the check says of them.
-const CASES: [(&str, &str, &str); 10] = [
+const CASES: &[(&str, &str, &str)] = &[
     (KUHN, "1 2 3", "lossless true"),
     (KUHN, "1 2 2", "round 1 Qs Ks"),
     (LEDUC, "isomorphic", "round 2 Js/+Qs Js/+Ks"),
@@ -56,9 +95,12 @@ const CASES: [(&str, &str, &str); 10] = [
 
 #[test]
 fn classes_of_whole_games(rt: HostRuntime) -> Result<(), Fail> {
-    let alloc = rt.alloc();
-    for (line, classes, said) in CASES {
-        assert_eq!(rt; answer(alloc, line, classes)?.as_str(), said, "{line}");
+    for &(line, classes, said) in CASES {
+        assert_eq!(rt;
+            asked(rt.alloc(), line, &Checked(classes))?.as_str(),
+            said,
+            "{line}"
+        );
     }
     Ok(())
 }

@@ -1,40 +1,67 @@
 //! Matchings of worked graphs, by hand.
 
-ghost use Rattle.std.specs.Prelude.{◌<◌, All};
+ghost use Rattle.std.specs.Prelude.{◌↔◌, ◌<◌, All, IsTrue};
+ghost use Rattle.gs_match.specs.Adjacency.{AreEdgesInRange};
 
 use gs_match::{Graph, perfect};
 use std::alloc::{AllocError, Global};
 use std::test::Fail;
 
-/// The matching of the graph of these edges, or what is said of there being none.
-fn answer(alloc: Global, left: u32, right: u32, edges: &[(u32, u32)]) -> Result<String, AllocError>
-    requires { All (λ e. (e.0 < left) × (e.1 < right)) edges.now }
+/// Whether the edges join left and right nodes of so many.
+fn are_in_range(left: u32, right: u32, edges: &[(u32, u32)]) -> bool
+    ensures { IsTrue result ↔ All (λ e. (e.0 < left) × (e.1 < right)) edges.now }
 {
-    let graph = Graph {
-        left,
-        right,
-        edges: Vec::from_slice(alloc, edges)?,
-    };
-    match perfect(alloc, &graph) {
+    edges.iter().all(|edge| edge.0 < left && edge.1 < right)
+}
+
+/// The matching of a graph, or what is said of there being none.
+fn answer_of(alloc: Global, graph: &Graph) -> Result<String, AllocError>
+    requires { AreEdgesInRange graph.now }
+{
+    match perfect(alloc, graph) {
         Ok(matching) => format!(in alloc; "{:?}", matching.to),
         Err(fault) => format!(in alloc; "{fault}"),
     }
 }
 
+/// The matching of the graph of these edges, or what is said of there being none; no text where an edge is out of range.
+fn answer(
+    alloc: Global,
+    left: u32,
+    right: u32,
+    edges: &[(u32, u32)],
+) -> Result<String, AllocError> {
+    if !are_in_range(left, right, edges) {
+        return Ok(String::new(alloc));
+    }
+    let edges = Vec::from_slice(alloc, edges)?;
+    answer_of(alloc, &Graph { left, right, edges })
+}
+
+/// Graphs by the counts of their left and right nodes and their edges, and what is said of their matchings.
+const CASES: &[(u32, u32, &[(u32, u32)], &str)] = &[
+    (2, 2, &[(0, 0), (0, 1), (1, 0)], "[1, 0]"),
+    (
+        2,
+        2,
+        &[(0, 0), (1, 0)],
+        "too few neighbours of left nodes [0, 1]",
+    ),
+    (1, 2, &[(0, 0)], "1 left nodes and 2 right nodes"),
+    (0, 0, &[], "[]"),
+    (
+        3,
+        3,
+        &[(0, 0), (1, 1), (1, 0), (2, 0)],
+        "too few neighbours of left nodes [0, 2]",
+    ),
+    (3, 3, &[(0, 0), (0, 1), (1, 0), (1, 2), (2, 0)], "[1, 2, 0]"),
+];
+
 #[test]
 fn worked_graphs(rt: HostRuntime) -> Result<(), Fail> {
-    let alloc = rt.alloc();
-    let turned = answer(alloc, 2, 2, &[(0, 0), (0, 1), (1, 0)])?;
-    assert_eq!(rt; turned.as_str(), "[1, 0]");
-    let crowded = answer(alloc, 2, 2, &[(0, 0), (1, 0)])?;
-    assert_eq!(rt; crowded.as_str(), "too few neighbours of left nodes [0, 1]");
-    let uneven = answer(alloc, 1, 2, &[(0, 0)])?;
-    assert_eq!(rt; uneven.as_str(), "1 left nodes and 2 right nodes");
-    let empty = answer(alloc, 0, 0, &[])?;
-    assert_eq!(rt; empty.as_str(), "[]");
-    let between = answer(alloc, 3, 3, &[(0, 0), (1, 1), (1, 0), (2, 0)])?;
-    assert_eq!(rt; between.as_str(), "too few neighbours of left nodes [0, 2]");
-    let round = answer(alloc, 3, 3, &[(0, 0), (0, 1), (1, 0), (1, 2), (2, 0)])?;
-    assert_eq!(rt; round.as_str(), "[1, 2, 0]");
+    for &(left, right, edges, said) in CASES {
+        assert_eq!(rt; answer(rt.alloc(), left, right, edges)?.as_str(), said);
+    }
     Ok(())
 }

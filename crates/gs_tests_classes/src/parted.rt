@@ -1,23 +1,55 @@
 //! How classes of whole games are parted, with the answers of a separate program that works by the definitions.
 
+ghost use Rattle.std.specs.Prelude.{◌≡◌};
+ghost use Rattle.gs_model.specs.Frame.{frame_of};
+ghost use Rattle.gs_tree.specs.Trees.{rules_of};
+
+use crate::asked::{Question, asked};
+use gs_filter::Classes;
 use gs_lossless::check;
+use gs_samples::classes_of;
 use gs_samples::decks::{KUHN, LEDUC, LEDUC_OF_TWO_RANKS, RHODE_KA};
-use gs_samples::{classes_of, game_of};
 use gs_split::split;
 use gs_tree::Signals;
-use std::alloc::Global;
+use std::alloc::{AllocError, Global};
 use std::test::Fail;
 
-/// Whether classes of a game's signals are parted into others, which are lossless and stay.
-fn parts_into(alloc: Global, line: &str, from: &str, to: &str) -> Result<bool, Fail> {
-    let game = game_of(alloc, line)?;
-    let signals = Signals::of(alloc, &game)?;
-    let classes = classes_of(alloc, &signals, from)?;
-    let wanted = classes_of(alloc, &signals, to)?;
-    let parted = split(alloc, &signals, &classes)?;
-    let again = split(alloc, &signals, &parted)?;
-    let lossless = check(alloc, &signals, &parted).is_ok();
-    Ok(lossless && parted.lists() == wanted.lists() && again.lists() == wanted.lists())
+/// Whether classes are lossless, and are not parted further.
+fn stays(alloc: Global, signals: &Signals<'_>, classes: &Classes) -> Result<bool, AllocError>
+    requires { classes.now.parents ≡ (frame_of (rules_of signals.now)).parents }
+{
+    let again = split(alloc, signals, classes)?;
+    Ok(again.lists() == classes.lists() && check(alloc, signals, classes).is_ok())
+}
+
+/// Whether classes are parted into the wanted ones, which stay.
+fn parts_as(
+    alloc: Global,
+    signals: &Signals<'_>,
+    from: &Classes,
+    wanted: &Classes,
+) -> Result<bool, AllocError>
+    requires { from.now.parents ≡ (frame_of (rules_of signals.now)).parents }
+{
+    let parted = split(alloc, signals, from)?;
+    Ok(stays(alloc, signals, &parted)? && parted.lists() == wanted.lists())
+}
+
+/// Whether the classes of one text are parted into those of another, which are lossless and stay.
+#[derive(Clone, Copy)]
+struct Parted<'t> {
+    from: &'t str,
+    to: &'t str,
+}
+
+impl Question for Parted<'_> {
+    type Answer = bool;
+
+    fn answer(&self, alloc: Global, signals: &Signals<'_>) -> Result<bool, Fail> {
+        let from = classes_of(alloc, signals, self.from)?;
+        let wanted = classes_of(alloc, signals, self.to)?;
+        Ok(parts_as(alloc, signals, &from, &wanted)?)
+    }
 }
 
 /// A class for each signal of Leduc hold'em.
@@ -25,7 +57,7 @@ const SINGLES: &str =
     "1 2 3 4 5 6/1 2 3 4 5 6 7 8 9 10 11 12 13 14 15 16 17 18 19 20 21 22 23 24 25 26 27 28 29 30";
 
 /// Games, classes of their signals, and those that they are parted into.
-const CASES: [(&str, &str, &str); 7] = [
+const CASES: &[(&str, &str, &str)] = &[
     (KUHN, "1 1 1", "1 2 3"),
     (LEDUC, "isomorphic", "ranks"),
     (
@@ -45,8 +77,11 @@ const CASES: [(&str, &str, &str); 7] = [
 
 #[test]
 fn classes_of_whole_games(rt: HostRuntime) -> Result<(), Fail> {
-    for (line, from, to) in CASES {
-        assert!(rt; parts_into(rt.alloc(), line, from, to)?, "{line} {from}");
+    for &(line, from, to) in CASES {
+        assert!(rt;
+            asked(rt.alloc(), line, &Parted { from, to })?,
+            "{line} {from}"
+        );
     }
     Ok(())
 }

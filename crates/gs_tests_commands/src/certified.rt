@@ -1,9 +1,9 @@
 //! The certificate of a worked strategy, and certificates and files that break one rule each.
 
-use crate::confirmed::text_of;
-use gs_certify::{certify_answer, verify_answer};
+use crate::answered::{answer_of, answers, check_changed};
 use gs_reply::{Answer, Cause};
 use gs_samples::{KUHN_FILE, changed};
+use std::alloc::Global;
 use std::test::Fail;
 
 const CERTIFIED: &str =
@@ -27,28 +27,26 @@ const CHANGES: &str = "\
 \"version\":2}~|\"version\":2}|bad strategy: not JSON~
 ";
 
+/// A change of the file of Kuhn's game: its first gap is another number.
+const OTHER_GAP: &str = "\"gap1\":\"13/12\"|\"gap1\":\"0/1\"|";
+
+/// Why the file of Kuhn's game is not certified where a row changes it, or none where it is.
+fn cause_of(alloc: Global, row: &str) -> Result<Option<Cause>, Fail> {
+    let (wrong, _) = changed(alloc, KUHN_FILE, row)?.ok_or("no such part")?;
+    match answer_of(alloc, "certify", wrong.as_bytes())? {
+        Answer::Prints(_) => Ok(None),
+        Answer::Refuses { cause, .. } => Ok(Some(cause)),
+    }
+}
+
 #[test]
 fn a_strategy_is_certified(rt: HostRuntime) -> Result<(), Fail> {
-    let alloc = rt.alloc();
-    let said = text_of(certify_answer(alloc, KUHN_FILE.as_bytes())?);
-    assert_eq!(rt; said.as_slice(), CERTIFIED.as_bytes());
-    let (wrong, _) = changed(alloc, KUHN_FILE, "\"gap1\":\"13/12\"|\"gap1\":\"0/1\"|")?.ok_or(
-        "no such part",
-    )?;
-    match certify_answer(alloc, wrong.as_bytes())? {
-        Answer::Prints(_) => panic!(rt; "certified"),
-        Answer::Refuses { cause, .. } => assert_eq!(rt; cause, Cause::WrongNumbers),
-    }
+    assert!(rt; answers(rt.alloc(), "certify", KUHN_FILE, CERTIFIED)?);
+    assert!(rt; cause_of(rt.alloc(), OTHER_GAP)? == Some(Cause::WrongNumbers));
     Ok(())
 }
 
 #[test]
 fn certificates_are_verified(rt: HostRuntime) -> Result<(), Fail> {
-    let alloc = rt.alloc();
-    for row in CHANGES.lines() {
-        let (lines, text) = changed(alloc, CERTIFIED, row)?.ok_or("no such part")?;
-        let said = text_of(verify_answer(alloc, lines.as_bytes())?);
-        assert_eq!(rt; said.as_slice(), text.as_bytes(), "at {row}");
-    }
-    Ok(())
+    check_changed(&rt, rt.alloc(), "verify", CERTIFIED, CHANGES)
 }

@@ -3,9 +3,9 @@
 #![tactic(auto)]
 
 #[cfg(test)]
-mod certified;
+mod answered;
 #[cfg(test)]
-mod compared;
+mod certified;
 #[cfg(test)]
 mod confirmed;
 #[cfg(test)]

@@ -14,8 +14,14 @@ fn words_of(alloc: Global, line: &str) -> Result<Vec<String>, Fail> {
     Ok(words)
 }
 
+/// Whether this is what the words of a line ask for, or why they ask for nothing.
+fn reads(alloc: Global, line: &str, want: Result<Request<'_>, WordsStop>) -> Result<bool, Fail> {
+    let words = words_of(alloc, line)?;
+    Ok(read_words(alloc, &words) == want)
+}
+
 /// Lines of words, and what they ask for.
-const LINES: [(&str, Request<'static>); 26] = [
+const LINES: &[(&str, Request<'static>)] = &[
     ("shrink", Request::Shrink { summary: false }),
     ("shrink --summary", Request::Shrink { summary: true }),
     // Where nothing follows it, `--` is no word of the command's.
@@ -160,84 +166,85 @@ const LINES: [(&str, Request<'static>); 26] = [
 
 #[test]
 fn requests(rt: HostRuntime) -> Result<(), Fail> {
-    for (line, request) in LINES {
-        let words = words_of(rt.alloc(), line)?;
-        assert_eq!(rt; read_words(rt.alloc(), &words), Ok(request), "at {line:?}");
+    for &(line, request) in LINES {
+        assert!(rt; reads(rt.alloc(), line, Ok(request))?, "at {line:?}");
     }
     Ok(())
 }
 
-/// Lines of words that no command takes.
-const REFUSED: [&str; 57] = [
-    "",
-    "frob",
-    "help",
-    "help shrink",
-    "--help",
-    "-h",
-    "--version",
-    "play --turns 01",
-    "shrink --help",
-    "shrink -h",
-    "shrink --summary --summary",
-    "shrink --classes ogi",
-    "shrink more",
-    "shrink -- --summary",
-    "--summary shrink",
-    "check ogi",
-    "check --classes all",
-    "check --classes",
-    "check --classes ",
-    "check --classes -x",
-    "check --classes --summary",
-    "check --classes raw --classes raw",
-    "check --summary=true",
-    "make",
-    "make --ranks 3 --suits 1 --cap 1",
-    "make --kind kuhn --suits 1 --cap 1",
-    "make --kind kuhn --ranks 3 --cap 1",
-    "make --kind kuhn --ranks 3 --suits 1",
-    "make --kind kuhn --ranks 3 --suits 1 --cap 1 --cap 1",
-    "make --kind kuhn --ranks 3 --suits 1 --cap 1 --summary --summary",
-    "play",
-    "play --turns 1000001",
-    "play --turns -1",
-    "play --turns 1 --summary",
-    "solve --turns 1",
-    "evaluate --classes raw",
-    "query --player 1 --line /",
-    "query --player 0 --line / --signal Js",
-    "query --player 3 --line / --signal Js",
-    "query --player 1 --line / --signal -Js",
-    "upgrade more",
-    "judge --summary",
-    "duel duel",
-    "certify verify",
-    "path --turns 1",
-    "make --kind poker --ranks 3 --suits 1 --cap 1",
-    "make --kind kuhn --ranks 0 --suits 1 --cap 1",
-    "make --kind kuhn --ranks 14 --suits 1 --cap 1",
-    "make --kind kuhn --ranks 01 --suits 1 --cap 1",
-    "make --kind kuhn --ranks +1 --suits 1 --cap 1",
-    "make --kind kuhn --ranks -1 --suits 1 --cap 1",
-    "make --kind kuhn --ranks three --suits 1 --cap 1",
-    "make --kind kuhn --ranks 4294967299 --suits 1 --cap 1",
-    "make --kind kuhn --ranks 3 --suits 0 --cap 1",
-    "make --kind kuhn --ranks 3 --suits 5 --cap 1",
-    "make --kind kuhn --ranks 3 --suits 1 --cap 9",
-    "make --kind kuhn --ranks 3 --suits 1 --cap 00",
-];
+/// Lines of words that no command takes; the first one is empty.
+const REFUSED: &str = "
+frob
+help
+help shrink
+--help
+-h
+--version
+play --turns 01
+shrink --help
+shrink -h
+shrink --summary --summary
+shrink --classes ogi
+shrink more
+shrink -- --summary
+--summary shrink
+check ogi
+check --classes all
+check --classes
+check --classes\u{20}
+check --classes -x
+check --classes --summary
+check --classes raw --classes raw
+check --summary=true
+make
+make --ranks 3 --suits 1 --cap 1
+make --kind kuhn --suits 1 --cap 1
+make --kind kuhn --ranks 3 --cap 1
+make --kind kuhn --ranks 3 --suits 1
+make --kind kuhn --ranks 3 --suits 1 --cap 1 --cap 1
+make --kind kuhn --ranks 3 --suits 1 --cap 1 --summary --summary
+play
+play --turns 1000001
+play --turns -1
+play --turns 1 --summary
+solve --turns 1
+evaluate --classes raw
+query --player 1 --line /
+query --player 0 --line / --signal Js
+query --player 3 --line / --signal Js
+query --player 1 --line / --signal -Js
+upgrade more
+judge --summary
+duel duel
+certify verify
+path --turns 1
+make --kind poker --ranks 3 --suits 1 --cap 1
+make --kind kuhn --ranks 0 --suits 1 --cap 1
+make --kind kuhn --ranks 14 --suits 1 --cap 1
+make --kind kuhn --ranks 01 --suits 1 --cap 1
+make --kind kuhn --ranks +1 --suits 1 --cap 1
+make --kind kuhn --ranks -1 --suits 1 --cap 1
+make --kind kuhn --ranks three --suits 1 --cap 1
+make --kind kuhn --ranks 4294967299 --suits 1 --cap 1
+make --kind kuhn --ranks 3 --suits 0 --cap 1
+make --kind kuhn --ranks 3 --suits 5 --cap 1
+make --kind kuhn --ranks 3 --suits 1 --cap 9
+make --kind kuhn --ranks 3 --suits 1 --cap 00
+";
 
 #[test]
 fn refused_words(rt: HostRuntime) -> Result<(), Fail> {
-    assert_eq!(rt; read_words(rt.alloc(), &[]), Err(WordsStop::Usage));
-    for line in REFUSED {
-        let words = words_of(rt.alloc(), line)?;
-        assert_eq!(rt;
-            read_words(rt.alloc(), &words),
-            Err(WordsStop::Usage),
+    for line in REFUSED.lines() {
+        assert!(rt;
+            reads(rt.alloc(), line, Err(WordsStop::Usage))?,
             "at {line:?}"
         );
     }
+    Ok(())
+}
+
+#[test]
+fn no_words(rt: HostRuntime) -> Result<(), Fail> {
+    assert!(rt; read_words(rt.alloc(), &[]) == Err(WordsStop::Usage));
     Ok(())
 }

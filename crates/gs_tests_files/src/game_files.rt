@@ -1,11 +1,12 @@
 //! Game files that are read and refused: the weight of all deals, or the fault.
 
 use gs_file::read_game;
-use std::alloc::Global;
+use gs_samples::{check_row, check_rows};
+use std::alloc::{AllocError, Global};
 use std::test::Fail;
 
-/// Files, and what is said of them.
-const FILES: [(&str, &str); 54] = [
+/// Files that are read, and those whose text, version or whole keys are refused, and what is said of them.
+const FILES: &[(&str, &str)] = &[
     (
         "version=1\nranks='JQK'\nsuits='s'\nranking='high'\nante=1\nround=[{private=1,public=0,bet=1,cap=1}]",
         "weight 6",
@@ -40,6 +41,10 @@ const FILES: [(&str, &str); 54] = [
         "version=1\nbonus=[1]\nranks='JQK'\nsuits='s'\nranking='high'\nante=1\nround=[{private=1,public=0,bet=1,cap=1}]",
         "UnknownKey { round: 0 }",
     ),
+];
+
+/// Files with a key of the game that is missing or of the wrong type, and what is said of them.
+const KEYS: &[(&str, &str)] = &[
     ("version=1", "MissingKey(Place { key: Ranks, round: 0 })"),
     (
         "version=1\nranks=1",
@@ -89,6 +94,10 @@ const FILES: [(&str, &str); 54] = [
         "version=1\nranks='JQK'\nsuits='s'\nranking='high'\nante=1\nround=[{},1]",
         "WrongType(Place { key: Round, round: 0 })",
     ),
+];
+
+/// Files with rounds that are too few, too many or refused by a key, and what is said of them.
+const ROUNDS: &[(&str, &str)] = &[
     (
         "version=1\nranks='JQK'\nsuits='s'\nranking='high'\nante=1\nround=[]",
         "Game(Rounds { count: 0 })",
@@ -137,6 +146,10 @@ const FILES: [(&str, &str); 54] = [
         "version=1\nranks='JQK'\nsuits='s'\nranking='high'\nante=1\nround=[{private=1,public=0,bet=1,cap='a'}]",
         "WrongType(Place { key: Cap, round: 1 })",
     ),
+];
+
+/// Files with a value out of its range or a game that is refused, and what is said of them.
+const VALUES: &[(&str, &str)] = &[
     (
         "version=1\nranks='JQK'\nsuits='s'\nranking='low'\nante=0\nround=[{private=1,public=0,bet=1,cap=1}]",
         "Range(Place { key: Ranking, round: 0 })",
@@ -203,21 +216,41 @@ const FILES: [(&str, &str); 54] = [
     ),
 ];
 
-/// What is said of a file.
-fn told(alloc: Global, bytes: &[u8]) -> Result<String, Fail> {
+/// What is said of bytes.
+fn told_of(alloc: Global, bytes: &[u8]) -> Result<String, AllocError> {
     match read_game(alloc, bytes) {
-        Ok(game) => Ok(format!(in alloc; "weight {}", game.weight())?),
-        Err(fault) => Ok(format!(in alloc; "{fault:?}")?),
+        Ok(game) => format!(in alloc; "weight {}", game.weight()),
+        Err(fault) => format!(in alloc; "{fault:?}"),
     }
+}
+
+/// What is said of a file.
+fn told(alloc: Global, file: &str) -> Result<String, Fail> {
+    Ok(told_of(alloc, file.as_bytes())?)
 }
 
 #[test]
 fn files_are_read(rt: HostRuntime) -> Result<(), Fail> {
-    for (file, wanted) in FILES {
-        let text = told(rt.alloc(), file.as_bytes())?;
-        assert_eq!(rt; text.as_str(), wanted, "{file}");
-    }
-    let text = told(rt.alloc(), &[0xff])?;
-    assert_eq!(rt; text.as_str(), "NotText");
-    Ok(())
+    check_rows(rt.alloc(), FILES, told)
+}
+
+#[test]
+fn a_byte_that_is_no_text(rt: HostRuntime) -> Result<(), Fail> {
+    let said = told_of(rt.alloc(), &[0xff])?;
+    check_row(rt.alloc(), "0xff", said.as_str(), "NotText")
+}
+
+#[test]
+fn keys_are_read(rt: HostRuntime) -> Result<(), Fail> {
+    check_rows(rt.alloc(), KEYS, told)
+}
+
+#[test]
+fn rounds_are_read(rt: HostRuntime) -> Result<(), Fail> {
+    check_rows(rt.alloc(), ROUNDS, told)
+}
+
+#[test]
+fn values_are_read(rt: HostRuntime) -> Result<(), Fail> {
+    check_rows(rt.alloc(), VALUES, told)
 }

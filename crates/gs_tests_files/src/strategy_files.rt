@@ -1,40 +1,73 @@
 //! The files of the worked examples, and files that break one rule each.
 
-use gs_samples::{ALWAYS_BETS, KUHN_FILE, KUHN_FILE_2, ONE_RANK, SOLVED, changed};
+use gs_samples::{ALWAYS_BETS, KUHN_FILE, KUHN_FILE_2, ONE_RANK, SOLVED, changed, check_row};
 use gs_strategy::{Stored, read_strategy, write_strategy};
-use std::alloc::Global;
+use std::alloc::{AllocError, Global};
+use std::process::Abort;
 use std::test::Fail;
+
+/// The strategy of a file.
+fn stored(alloc: Global, text: &str) -> Result<Stored, Fail> {
+    Ok(read_strategy(alloc, text.as_bytes()).map_err(|_| "read")?)
+}
+
+/// The fault that the text meets.
+fn fault_of(alloc: Global, text: &str) -> Result<String, AllocError> {
+    match read_strategy(alloc, text.as_bytes()).err() {
+        None => String::from_str(alloc, "accepted"),
+        Some(fault) => format!(in alloc; "{fault:?}"),
+    }
+}
+
+/// Compares a strategy, written as a file, with the file of Kuhn's game.
+fn compare_file(rt: &impl Abort, alloc: Global, stored: &Stored) -> Result<(), AllocError> {
+    let file = write_strategy(
+        alloc,
+        &stored.game,
+        &stored.classes,
+        &stored.one,
+        &stored.two,
+        &stored.verdict,
+    )?;
+    assert_eq!(rt;
+        (file.as_slice(), stored.one.total),
+        (KUHN_FILE_2.as_bytes(), 2)
+    );
+    Ok(())
+}
+
+/// Compares a file's strategy, written again, with the file of Kuhn's game.
+fn compare_written(rt: &impl Abort, alloc: Global, text: &str) -> Result<(), Fail> {
+    let stored = stored(alloc, text)?;
+    Ok(compare_file(rt, alloc, &stored)?)
+}
+
+/// Compares weights with those that are wanted.
+fn compare_weights(rt: &impl Abort, found: &[u64], wanted: &[u64]) {
+    assert_eq!(rt; found, wanted);
+}
+
+/// Compares the weights of the second plan of a file's strategy with those that are wanted.
+fn compare_second(rt: &impl Abort, alloc: Global, text: &str, wanted: &[u64]) -> Result<(), Fail> {
+    let stored = stored(alloc, text)?;
+    compare_weights(rt, &stored.two.weights, wanted);
+    Ok(())
+}
+
+/// Compares the fault that a text meets with the one that is wanted.
+fn compare_fault(alloc: Global, text: &str, wanted: &str, at: &str) -> Result<(), Fail> {
+    let fault = fault_of(alloc, text)?;
+    check_row(alloc, at, fault.as_str(), wanted)
+}
 
 #[test]
 fn worked_files(rt: HostRuntime) -> Result<(), Fail> {
     let alloc = rt.alloc();
-    for text in [KUHN_FILE, KUHN_FILE_2] {
-        let Stored {
-            game,
-            classes,
-            one,
-            two,
-            verdict,
-            ..
-        } = read_strategy(alloc, text.as_bytes()).map_err(|_| "read")?;
-        assert_eq!(rt; one.total, 2);
-        let written = write_strategy(alloc, &game, &classes, &one, &two, &verdict)?;
-        assert_eq!(rt; written.as_slice(), KUHN_FILE_2.as_bytes());
-    }
-    for text in [SOLVED, ALWAYS_BETS] {
-        assert_eq!(rt; fault_of(alloc, text)?.as_str(), "accepted");
-    }
-    let stored = read_strategy(alloc, ONE_RANK.as_bytes()).map_err(|_| "read")?;
-    assert_eq!(rt; stored.two.weights.as_slice(), [0u64, 1, 0, 1].as_slice());
-    Ok(())
-}
-
-// The fault that the text meets.
-fn fault_of(alloc: Global, text: &str) -> Result<String, Fail> {
-    match read_strategy(alloc, text.as_bytes()) {
-        Ok(_) => Ok(String::from_str(alloc, "accepted")?),
-        Err(fault) => Ok(format!(in alloc; "{fault:?}")?),
-    }
+    compare_written(&rt, alloc, KUHN_FILE)?;
+    compare_written(&rt, alloc, KUHN_FILE_2)?;
+    compare_fault(alloc, SOLVED, "accepted", "the solved file")?;
+    compare_fault(alloc, ALWAYS_BETS, "accepted", "always bets")?;
+    compare_second(&rt, alloc, ONE_RANK, &[0, 1, 0, 1])
 }
 
 /// A part of the file of Kuhn's game, what is put in its place, and the fault that the file then meets.
@@ -62,25 +95,26 @@ const CHANGES: &str = "\
 ";
 
 /// Whole texts, and the fault that they meet.
-const TEXTS: [(&str, &str); 3] = [
+const TEXTS: &[(&str, &str)] = &[
     ("", "NotJson"),
     ("[]", "Shape(Version)"),
     ("{\"version\":1}", "Shape(Top)"),
 ];
 
+/// Compares the fault that the file of Kuhn's game meets with one part of it changed by a row with the fault that the row names.
+fn compare_changed(alloc: Global, row: &str) -> Result<(), Fail> {
+    let (file, fault) = changed(alloc, KUHN_FILE, row)?.ok_or("no such part")?;
+    compare_fault(alloc, &file, &fault, row)
+}
+
 #[test]
 fn broken_files(rt: HostRuntime) -> Result<(), Fail> {
     let alloc = rt.alloc();
     for row in CHANGES.lines() {
-        let (file, fault) = changed(alloc, KUHN_FILE, row)?.ok_or("no such part")?;
-        assert_eq!(rt;
-            fault_of(alloc, &file)?.as_str(),
-            fault.as_str(),
-            "at {row}"
-        );
+        compare_changed(alloc, row)?;
     }
-    for (text, fault) in TEXTS {
-        assert_eq!(rt; fault_of(alloc, text)?.as_str(), fault, "at {text:?}");
+    for &(text, fault) in TEXTS {
+        compare_fault(alloc, text, fault, text)?;
     }
     Ok(())
 }

@@ -1,8 +1,21 @@
 //! Texts of betting trees: what is printed, and what is refused and where.
 
+ghost use Rattle.std.specs.Prelude.{◌≤◌};
+
 use gs_bet::{limit_tree, parse_tree, tree_text};
+use gs_samples::{check_row, check_rows};
 use std::alloc::{AllocError, Global};
 use std::test::Fail;
+
+/// The text of a limit tree.
+fn limit_text(alloc: Global, bet: u16, cap: u8) -> Result<String, AllocError>
+    requires some { 1 ≤ bet }
+    requires bet { bet ≤ 2048 }
+    requires cap { cap ≤ 8 }
+{
+    let tree = limit_tree(alloc, bet, cap)?;
+    tree_text(alloc, &tree)
+}
 
 // By hand from the rules of betting.
 #[test]
@@ -17,35 +30,41 @@ fn limit_texts(rt: HostRuntime) -> Result<(), Fail> {
         ),
     ];
     for (bet, cap, want) in table {
-        let tree = limit_tree(rt.alloc(), bet, cap)?;
-        let text = tree_text(rt.alloc(), &tree)?;
-        assert_eq!(rt; text.as_str(), want, "{bet} {cap}");
+        let text = limit_text(rt.alloc(), bet, cap)?;
+        check_row(rt.alloc(), want, text.as_str(), want)?;
     }
     Ok(())
 }
 
+/// Texts of trees.
+const TREES: &[&str] = &[
+    "=",
+    "1[k:!]",
+    "1[b4096:!]",
+    "1[k:2[k:=],b:!]",
+    "1[a:=,b:=,c1:=,d20:=,i4096:2[z:!]]",
+    "1[k:1[k:1[k:1[k:1[k:1[k:1[k:1[k:1[k:1[k:1[k:1[k:1[k:1[k:1[k:1[k:=]]]]]]]]]]]]]]]]",
+    "1[k:1[k:1[k:1[k:1[k:1[k:1[k:1[k:1[k:1[k:1[k:1[k:1[k:1[k:1[k:1[k:!]]]]]]]]]]]]]]]]",
+    "1[a:=,b:=,c:=,d:=,e:=,f:=,g:=,h:=,i:=,j:=,k:=,l:=,m:=,n:=,o:=,p:=,q:=,r:=,s:=,t:=,u:=,v:=,w:=,x:=,y:=,z:=]",
+];
+
+/// A tree's text, read and printed again.
+fn printed(alloc: Global, text: &str) -> Result<String, Fail> {
+    let tree = parse_tree(alloc, text)?;
+    Ok(tree_text(alloc, &tree)?)
+}
+
 #[test]
 fn trees_print_their_text(rt: HostRuntime) -> Result<(), Fail> {
-    let table = [
-        "=",
-        "1[k:!]",
-        "1[b4096:!]",
-        "1[k:2[k:=],b:!]",
-        "1[a:=,b:=,c1:=,d20:=,i4096:2[z:!]]",
-        "1[k:1[k:1[k:1[k:1[k:1[k:1[k:1[k:1[k:1[k:1[k:1[k:1[k:1[k:1[k:1[k:=]]]]]]]]]]]]]]]]",
-        "1[k:1[k:1[k:1[k:1[k:1[k:1[k:1[k:1[k:1[k:1[k:1[k:1[k:1[k:1[k:1[k:!]]]]]]]]]]]]]]]]",
-        "1[a:=,b:=,c:=,d:=,e:=,f:=,g:=,h:=,i:=,j:=,k:=,l:=,m:=,n:=,o:=,p:=,q:=,r:=,s:=,t:=,u:=,v:=,w:=,x:=,y:=,z:=]",
-    ];
-    for text in table {
-        let tree = parse_tree(rt.alloc(), text)?;
-        let again = tree_text(rt.alloc(), &tree)?;
-        assert_eq!(rt; again.as_str(), text);
+    for &text in TREES {
+        let again = printed(rt.alloc(), text)?;
+        check_row(rt.alloc(), text, again.as_str(), text)?;
     }
     Ok(())
 }
 
 /// Texts that are no tree, and their fault, from a reader of trees that was written apart from this one.
-const BROKEN: [(&str, &str); 31] = [
+const BROKEN: &[(&str, &str)] = &[
     ("", "Syntax { at: 0 }"),
     ("!", "Syntax { at: 0 }"),
     ("==", "Syntax { at: 1 }"),
@@ -101,17 +120,14 @@ const BROKEN: [(&str, &str); 31] = [
 ];
 
 /// What is said of a text.
-fn told(alloc: Global, text: &str) -> Result<String, AllocError> {
+fn told(alloc: Global, text: &str) -> Result<String, Fail> {
     match parse_tree(alloc, text) {
-        Ok(_) => String::from_str(alloc, "a tree"),
-        Err(fault) => format!(in alloc; "{fault:?}"),
+        Ok(_) => Ok(String::from_str(alloc, "a tree")?),
+        Err(fault) => Ok(format!(in alloc; "{fault:?}")?),
     }
 }
 
 #[test]
 fn faults_and_places(rt: HostRuntime) -> Result<(), Fail> {
-    for (text, want) in BROKEN {
-        assert_eq!(rt; told(rt.alloc(), text)?.as_str(), want, "at {text}");
-    }
-    Ok(())
+    check_rows(rt.alloc(), BROKEN, told)
 }

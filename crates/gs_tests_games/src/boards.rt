@@ -4,14 +4,15 @@ ghost use Rattle.std.specs.Prelude.{◌≡◌, IfOk, length};
 ghost use Rattle.gs_tree.specs.{Trees.{rules_of}, Walk.{last_count}};
 
 use gs_boards::{BoardOrder, Pays};
-use gs_samples::game_of;
+use gs_game::ValidGame;
+use gs_samples::{check_rows, game_of};
 use gs_tree::Signals;
 use std::alloc::{AllocError, Global};
 use std::test::Fail;
 
 /// Games, and what their signals are paid where each deal takes 3 chips and at a showdown for 5: the first one, and a sum over all that changes where one
 /// is paid otherwise. The order does not apply to two copies of a card, nor to two private cards.
-const CASES: [(&str, &str); 7] = [
+const CASES: &[(&str, &str)] = &[
     (
         "JQK, s, high, 1 0 check",
         "fixed -162 -606 showdown -270 -310",
@@ -72,23 +73,37 @@ fn paid(
     Ok(mixed(&sums))
 }
 
+/// What is said of the payments to the signals of a game that has an order.
+fn said(alloc: Global, order: &BoardOrder<'_>, count: usize) -> Result<String, AllocError>
+    requires { count ≡ last_count (rules_of order.now.signals.now) }
+{
+    let (one, all) = paid(alloc, order, count, Pays::Fixed(-3))?;
+    let (first, sum) = paid(alloc, order, count, Pays::Showdown(5))?;
+    format!(in alloc; "fixed {one} {all} showdown {first} {sum}")
+}
+
+/// What is said of the payments to signals, where they have an order.
+fn ordered(alloc: Global, signals: &Signals<'_>) -> Result<String, AllocError> {
+    let count = signals.count(signals.rounds()) as usize;
+    match BoardOrder::of(alloc, signals)? {
+        Some(order) => said(alloc, &order, count),
+        None => String::from_str(alloc, "no order"),
+    }
+}
+
 /// What is said of the payments to the signals of a game.
+fn told_of(alloc: Global, game: &ValidGame) -> Result<String, AllocError> {
+    let signals = Signals::of(alloc, game)?;
+    ordered(alloc, &signals)
+}
+
+/// What is said of the payments to the signals of the game of a line.
 fn told(alloc: Global, line: &str) -> Result<String, Fail> {
     let game = game_of(alloc, line)?;
-    let signals = Signals::of(alloc, &game)?;
-    let count = signals.count(signals.rounds()) as usize;
-    let Some(order) = BoardOrder::of(alloc, &signals)? else {
-        return Ok(String::from_str(alloc, "no order")?);
-    };
-    let (one, all) = paid(alloc, &order, count, Pays::Fixed(-3))?;
-    let (first, sum) = paid(alloc, &order, count, Pays::Showdown(5))?;
-    Ok(format!(in alloc; "fixed {one} {all} showdown {first} {sum}")?)
+    Ok(told_of(alloc, &game)?)
 }
 
 #[test]
 fn signals_are_paid(rt: HostRuntime) -> Result<(), Fail> {
-    for (line, said) in CASES {
-        assert_eq!(rt; told(rt.alloc(), line)?.as_str(), said, "{line}");
-    }
-    Ok(())
+    check_rows(rt.alloc(), CASES, told)
 }

@@ -2,50 +2,83 @@
 
 ghost use Rattle.std.specs.Prelude.{◌≤◌};
 
-use gs_card::{Card, Deck, DeckFault, ways};
+use gs_card::{Deck, DeckFault, ways};
 use std::alloc::{AllocError, Global};
+use std::process::Abort;
 use std::test::Fail;
+
+/// One rank more than a deck may have kinds.
+const MANY: &str = "ABCDEFGHIJKLMNOPQRSTUVWXYZabcdefghijklmnopqrstuvwxyz0";
+
+/// Decks, by ranks, suits and copies, and the first fault that they have.
+const DECKS: &[(&str, &str, &str, Option<DeckFault>)] = &[
+    ("", "s", "", Some(DeckFault::NoCards)),
+    ("J", "", "x", Some(DeckFault::NoCards)),
+    ("J-J", "ss", "", Some(DeckFault::BadLetter)),
+    ("JQ", "é", "", Some(DeckFault::BadLetter)),
+    ("JQJ", "s", "x", Some(DeckFault::RepeatedLetter)),
+    ("JQ", "shs", "", Some(DeckFault::RepeatedLetter)),
+    (MANY, "s", "x", Some(DeckFault::TooManyKinds)),
+    ("ABCDEFGHI", "abcdef", "", Some(DeckFault::TooManyKinds)),
+    ("JQ", "sh", "111", Some(DeckFault::BadCopies)),
+    ("JQ", "sh", "11a1", Some(DeckFault::BadCopies)),
+    ("JQ", "sh", "11111", Some(DeckFault::BadCopies)),
+    ("J", "J", "9", None),
+    ("JQ", "sh", "3210", None),
+    ("JQK", "shdc", "", None),
+    ("ABCDEFGHIJKLM", "shdc", "", None),
+];
 
 #[test]
 fn decks_are_refused_in_order(rt: HostRuntime) -> Result<(), Fail> {
-    let many = "ABCDEFGHIJKLMNOPQRSTUVWXYZabcdefghijklmnopqrstuvwxyz0";
-    for (ranks, suits, copies, want) in [
-        ("", "s", "", Some(DeckFault::NoCards)),
-        ("J", "", "x", Some(DeckFault::NoCards)),
-        ("J-J", "ss", "", Some(DeckFault::BadLetter)),
-        ("JQ", "é", "", Some(DeckFault::BadLetter)),
-        ("JQJ", "s", "x", Some(DeckFault::RepeatedLetter)),
-        ("JQ", "shs", "", Some(DeckFault::RepeatedLetter)),
-        (many, "s", "x", Some(DeckFault::TooManyKinds)),
-        ("ABCDEFGHI", "abcdef", "", Some(DeckFault::TooManyKinds)),
-        ("JQ", "sh", "111", Some(DeckFault::BadCopies)),
-        ("JQ", "sh", "11a1", Some(DeckFault::BadCopies)),
-        ("JQ", "sh", "11111", Some(DeckFault::BadCopies)),
-        ("J", "J", "9", None),
-        ("JQ", "sh", "3210", None),
-        ("JQK", "shdc", "", None),
-        ("ABCDEFGHIJKLM", "shdc", "", None),
-    ] {
+    for &(ranks, suits, copies, want) in DECKS {
         let found = Deck::new(rt.alloc(), ranks, suits, copies).err();
         assert_eq!(rt; found, want, "at {ranks} {suits} {copies}");
     }
     Ok(())
 }
 
-#[test]
-fn cards_have_texts(rt: HostRuntime) -> Result<(), Fail> {
-    let deck = Deck::new(rt.alloc(), "JQK", "sh", "")?;
-    for (text, number) in [("Js", 0), ("Jh", 1), ("Kh", 5)] {
-        assert_eq!(rt; deck.card_of(text), Some(Card::new(number)), "at {text}");
+/// Texts, and the number of the card of three ranks and two suits that each is of.
+const TEXTS: &[(&str, Option<u8>)] = &[
+    ("Js", Some(0)),
+    ("Jh", Some(1)),
+    ("Kh", Some(5)),
+    ("", None),
+    ("J", None),
+    ("sJ", None),
+    ("Jd", None),
+    ("As", None),
+    ("Jss", None),
+    ("js", None),
+];
+
+/// The number of the card of a text.
+fn number_of(deck: &Deck, text: &str) -> Option<u8> {
+    Some(deck.card_of(text)?.number())
+}
+
+/// Compares the numbers of the cards of all texts.
+fn compare_numbers(rt: &impl Abort, deck: &Deck) {
+    for &(text, number) in TEXTS {
+        assert_eq!(rt; number_of(deck, text), number, "at {text}");
     }
-    for text in ["", "J", "sJ", "Jd", "As", "Jss", "js"] {
-        assert_eq!(rt; deck.card_of(text), None, "at {text}");
-    }
-    let mut texts = Vec::new(rt.alloc());
+}
+
+/// The texts of all cards of a deck.
+fn texts_of(rt: &impl Abort, alloc: Global, deck: &Deck) -> Result<Vec<u8>, AllocError> {
+    let mut texts = Vec::new(alloc);
     for card in deck.cards() {
         assert!(rt; card.number() < deck.kinds());
         texts.extend_from_slice(&deck.card_text(card))?;
     }
+    Ok(texts)
+}
+
+#[test]
+fn cards_have_texts(rt: HostRuntime) -> Result<(), Fail> {
+    let deck = Deck::new(rt.alloc(), "JQK", "sh", "")?;
+    compare_numbers(&rt, &deck);
+    let texts = texts_of(&rt, rt.alloc(), &deck)?;
     assert_eq!(rt; texts.as_slice(), b"JsJhQsQhKsKh".as_slice());
     Ok(())
 }
@@ -64,20 +97,34 @@ fn listed(alloc: Global, deck: &Deck, size: u8) -> Result<Vec<u64>, AllocError>
     Ok(found)
 }
 
+/// The groups of two cards of a deck of four cards with 3, 2, 1 and 0 copies, in their order, each followed by the ways of taking it.
+const PAIRS: &[u64] = &[0, 0, 3, 0, 1, 6, 0, 2, 3, 1, 1, 1, 1, 2, 2];
+
+/// The groups of three cards of this deck.
+const TRIPLES: &[u64] = &[
+    0, 0, 0, 1, 0, 0, 1, 6, 0, 0, 2, 3, 0, 1, 1, 3, 0, 1, 2, 6, 1, 1, 2, 1,
+];
+
+/// Compares the groups of a deck's copies with those that are wanted.
+fn compare_groups(
+    rt: &impl Abort,
+    alloc: Global,
+    deck: &Deck,
+    size: u8,
+    wanted: &[u64],
+) -> Result<(), AllocError>
+    requires { size ≤ 3 }
+{
+    let found = listed(alloc, deck, size)?;
+    assert_eq!(rt; found.as_slice(), wanted);
+    Ok(())
+}
+
 #[test]
 fn groups_stand_in_order(rt: HostRuntime) -> Result<(), Fail> {
     let deck = Deck::new(rt.alloc(), "JQ", "sh", "3210")?;
-    assert_eq!(rt; listed(rt.alloc(), &deck, 0)?.as_slice(), [1].as_slice());
-    assert_eq!(rt;
-        listed(rt.alloc(), &deck, 2)?.as_slice(),
-        [0, 0, 3, 0, 1, 6, 0, 2, 3, 1, 1, 1, 1, 2, 2].as_slice()
-    );
-    assert_eq!(rt;
-        listed(rt.alloc(), &deck, 3)?.as_slice(),
-        [
-            0, 0, 0, 1, 0, 0, 1, 6, 0, 0, 2, 3, 0, 1, 1, 3, 0, 1, 2, 6, 1, 1, 2, 1
-        ]
-        .as_slice()
-    );
+    compare_groups(&rt, rt.alloc(), &deck, 0, &[1])?;
+    compare_groups(&rt, rt.alloc(), &deck, 2, PAIRS)?;
+    compare_groups(&rt, rt.alloc(), &deck, 3, TRIPLES)?;
     Ok(())
 }

@@ -1,8 +1,8 @@
 //! Games that are accepted and refused: what they have, and why.
 
 use gs_game::{Target, ValidGame};
-use gs_samples::{KUHN, SampleFault, game_of};
-use std::alloc::Global;
+use gs_samples::{KUHN, SampleFault, check_rows, game_of};
+use std::alloc::{AllocError, Global};
 use std::test::Fail;
 
 /// What is said of a game: its sizes, or the rule that it breaks.
@@ -20,7 +20,7 @@ fn told(alloc: Global, line: &str) -> Result<String, Fail> {
 }
 
 /// Games, and what is said of them, from the rules of games by hand.
-const CASES: [(&str, &str); 20] = [
+const CASES: &[(&str, &str)] = &[
     ("JQK, s, high", "Rounds { count: 0 }"),
     (
         "JQK, s, high, 1 0 =, 0 0 =, 0 0 =, 0 0 =, 0 0 =",
@@ -93,14 +93,11 @@ const CASES: [(&str, &str); 20] = [
 
 #[test]
 fn refusals(rt: HostRuntime) -> Result<(), Fail> {
-    for (line, said) in CASES {
-        assert_eq!(rt; told(rt.alloc(), line)?.as_str(), said, "{line}");
-    }
-    Ok(())
+    check_rows(rt.alloc(), CASES, told)
 }
 
 /// Whether a position is one of the game's and has this text.
-fn has_text(alloc: Global, game: &ValidGame, at: Target, text: &str) -> Result<bool, Fail> {
+fn has_text(alloc: Global, game: &ValidGame, at: Target, text: &str) -> Result<bool, AllocError> {
     let points = game.points().len();
     let ends = game.ends().len();
     let within = match at {
@@ -119,7 +116,7 @@ const TWO: &str = "JQK, s, high, 1 0 kuhn, 0 0 kuhn";
 const LATE: &str = "JQK, s, high, 1 0 =, 0 0 kuhn";
 
 /// Games, the text of a line, and the position that it names, from the rules of such texts by hand.
-const LINES: [(&str, &str, Option<Target>); 19] = [
+const LINES: &[(&str, &str, Option<Target>)] = &[
     (KUHN, "/", Some(Target::Point(0))),
     (KUHN, "/k", Some(Target::Point(1))),
     (KUHN, "/kk", Some(Target::End(0))),
@@ -141,14 +138,20 @@ const LINES: [(&str, &str, Option<Target>); 19] = [
     (LATE, "/", None),
 ];
 
+/// The position that a text names in a game, and whether there is one and it has this text.
+fn named(alloc: Global, line: &str, text: &str) -> Result<(Option<Target>, bool), Fail> {
+    let game = game_of(alloc, line)?;
+    match game.line_of(text) {
+        Some(at) => Ok((Some(at), has_text(alloc, &game, at, text)?)),
+        None => Ok((None, false)),
+    }
+}
+
 #[test]
 fn line_names(rt: HostRuntime) -> Result<(), Fail> {
-    for (line, text, want) in LINES {
-        let game = game_of(rt.alloc(), line)?;
-        assert_eq!(rt; game.line_of(text), want, "{line} {text}");
-        if let Some(at) = want {
-            assert!(rt; has_text(rt.alloc(), &game, at, text)?, "{line} {text}");
-        }
+    for &(line, text, want) in LINES {
+        let found = named(rt.alloc(), line, text)?;
+        assert_eq!(rt; found, (want, want.is_some()), "{line} {text}");
     }
     Ok(())
 }

@@ -25,37 +25,47 @@ fn strengths(
     )
 }
 
+/// An own card, two public ones, and the strengths of the three.
+const HANDS: &[(&str, &str, &str, (u32, u32, u32))] = &[
+    ("Qs", "Ks", "As", (1359872, 10, 10)),
+    ("As", "3h", "2s", (49216, 12, 12)),
+    ("2s", "2h", "Ah", (262912, 64, 0)),
+    ("9d", "Tc", "8s", (819200, 7, 7)),
+    ("2h", "4h", "9h", (553088, 0, 0)),
+    ("7s", "7h", "7d", (1069056, 69, 5)),
+    ("Kc", "Ah", "Kd", (307968, 75, 11)),
+    ("5c", "9s", "Jd", (37315, 3, 3)),
+];
+
+/// Compares the strengths of all hands.
+fn compare(rt: &impl Abort, ranker: &Ranker<'_>) {
+    for &(own, first, second, want) in HANDS {
+        let found = strengths(rt, ranker, own, first, second);
+        assert_eq!(rt; found, want, "at {own}");
+    }
+}
+
 #[test]
 fn hands_have_strengths(rt: HostRuntime) -> Result<(), Fail> {
     let deck = Deck::new(rt.alloc(), "23456789TJQKA", "shdc", "")?;
     let ranker = Ranker::of(rt.alloc(), &deck)?;
-    for (own, first, second, want) in [
-        ("Qs", "Ks", "As", (1359872, 10, 10)),
-        ("As", "3h", "2s", (49216, 12, 12)),
-        ("2s", "2h", "Ah", (262912, 64, 0)),
-        ("9d", "Tc", "8s", (819200, 7, 7)),
-        ("2h", "4h", "9h", (553088, 0, 0)),
-        ("7s", "7h", "7d", (1069056, 69, 5)),
-        ("Kc", "Ah", "Kd", (307968, 75, 11)),
-        ("5c", "9s", "Jd", (37315, 3, 3)),
-    ] {
-        assert_eq!(rt;
-            strengths(&rt, &ranker, own, first, second),
-            want,
-            "at {own}"
-        );
-    }
+    compare(&rt, &ranker);
     Ok(())
+}
+
+/// Compares an outcome with the one that is wanted.
+fn compare_outcome(rt: &impl Abort, found: i8, wanted: i8) {
+    assert_eq!(rt; found, wanted);
 }
 
 #[test]
 fn bonuses_are_of_the_winner(rt: HostRuntime) {
     let bonus = [1, 2, 3, 4, 5, 9];
     assert_eq!(rt; category(Ranking::Three, 1359872), 5);
-    assert_eq!(rt; outcome(&bonus, Ranking::Three, 1359872, 49216), 9);
-    assert_eq!(rt; outcome(&bonus, Ranking::Three, 49216, 1359872), -9);
-    assert_eq!(rt; outcome(&bonus, Ranking::Three, 262912, 262912), 0);
-    assert_eq!(rt; outcome(&bonus, Ranking::Three, 262912, 49216), 2);
-    assert_eq!(rt; outcome(&[1, 3], Ranking::Pair, 12, 64), -3);
-    assert_eq!(rt; outcome(&[7], Ranking::High, 12, 0), 7);
+    compare_outcome(&rt, outcome(&bonus, Ranking::Three, 1359872, 49216), 9);
+    compare_outcome(&rt, outcome(&bonus, Ranking::Three, 49216, 1359872), -9);
+    compare_outcome(&rt, outcome(&bonus, Ranking::Three, 262912, 262912), 0);
+    compare_outcome(&rt, outcome(&bonus, Ranking::Three, 262912, 49216), 2);
+    compare_outcome(&rt, outcome(&[1, 3], Ranking::Pair, 12, 64), -3);
+    compare_outcome(&rt, outcome(&[7], Ranking::High, 12, 0), 7);
 }

@@ -1,6 +1,7 @@
 //! Raw signals and deals of whole games, against sums that a separate program took by the definitions.
 
-use gs_samples::{game_of, signal_text};
+use gs_game::ValidGame;
+use gs_samples::{check_row, game_of, signal_text};
 use gs_tree::Signals;
 use std::alloc::{AllocError, Global};
 use std::test::Fail;
@@ -8,7 +9,7 @@ use std::test::Fail;
 /// A game; texts that no signal of its last round has, with a comma between two; and what is said of the game: the texts of the middle and of the last
 /// signal of the last round, the number of deals, the weight of all, a sum over all that changes where one deal does, the sum of the last edges of all
 /// signals of the last round, and the strength of the one in the middle.
-const CASES: [(&str, &str, &str); 7] = [
+const CASES: &[(&str, &str, &str)] = &[
     (
         "JQK, s, high, 1 0 check",
         ",J,Jh,Qs/,QsKs",
@@ -120,14 +121,34 @@ fn names(alloc: Global, signals: &Signals<'_>, nothing: &str) -> Result<bool, Al
     )
 }
 
+/// What is said of signals and their deals, and whether the texts name what they should.
+fn found(
+    alloc: Global,
+    signals: &Signals<'_>,
+    nothing: &str,
+) -> Result<(String, bool), AllocError> {
+    let named = names(alloc, signals, nothing)?;
+    Ok((told(alloc, signals)?, named))
+}
+
+/// What is found of the signals of a game.
+fn found_of(alloc: Global, game: &ValidGame, nothing: &str) -> Result<(String, bool), AllocError> {
+    let signals = Signals::of(alloc, game)?;
+    found(alloc, &signals, nothing)
+}
+
+/// What is found of the signals of the game of a line.
+fn found_in(alloc: Global, line: &str, nothing: &str) -> Result<(String, bool), Fail> {
+    let game = game_of(alloc, line)?;
+    Ok(found_of(alloc, &game, nothing)?)
+}
+
 #[test]
 fn signals_and_deals(rt: HostRuntime) -> Result<(), Fail> {
-    let alloc = rt.alloc();
-    for (line, nothing, said) in CASES {
-        let game = game_of(alloc, line)?;
-        let signals = Signals::of(alloc, &game)?;
-        assert_eq!(rt; told(alloc, &signals)?.as_str(), said, "{line}");
-        assert!(rt; names(alloc, &signals, nothing)?, "{line}");
+    for &(line, nothing, said) in CASES {
+        let (text, named) = found_in(rt.alloc(), line, nothing)?;
+        check_row(rt.alloc(), line, text.as_str(), said)?;
+        assert!(rt; named, "{line}");
     }
     Ok(())
 }

@@ -1,12 +1,11 @@
 //! Leduc's program, as it is stated from outside and as `gs_solve` makes it, and what stops its path.
 
+use crate::forms::{Question, told};
 use crate::stops::stop_text;
-use gs_lossless::check;
 use gs_rows::Program;
-use gs_samples::{classes_of, game_of, numbers_in};
+use gs_samples::numbers_in;
 use gs_seq::Abstract;
-use gs_simplex::run;
-use gs_tree::Signals;
+use gs_simplex::{Best, Stop, run};
 use std::alloc::{AllocError, Global};
 use std::test::Fail;
 
@@ -46,14 +45,17 @@ fn put(numbers: &mut [Vec<i64>], row: i64, column: i64, number: i64) {
     }
 }
 
-fn filled(alloc: Global) -> Result<Vec<Vec<i64>>, AllocError> {
-    let mut numbers = zeros(alloc)?;
-    let all = numbers_in::<i64>(alloc, NUMBERS)?;
+fn put_all(numbers: &mut [Vec<i64>], all: &[i64]) {
     for place in all.chunks_exact(3) {
         if let [row, column, number] = place {
-            put(&mut numbers, *row, *column, *number);
+            put(numbers, *row, *column, *number);
         }
     }
+}
+
+fn filled(alloc: Global) -> Result<Vec<Vec<i64>>, AllocError> {
+    let mut numbers = zeros(alloc)?;
+    put_all(&mut numbers, &numbers_in::<i64>(alloc, NUMBERS)?);
     Ok(numbers)
 }
 
@@ -85,24 +87,66 @@ fn pairs_in(alloc: Global, text: &str) -> Result<Vec<(u32, u32)>, AllocError> {
     Ok(pairs)
 }
 
+/// The first part of a program that is not as the stated one's.
+fn other_part(program: &Program, want: &Program) -> Option<&'static str> {
+    if program.rows != want.rows || program.cols != want.cols {
+        return Some("rows and columns");
+    }
+    if program.free != want.free {
+        return Some("free columns");
+    }
+    if program.numbers != want.numbers {
+        return Some("numbers");
+    }
+    if program.aim != want.aim {
+        return Some("aim");
+    }
+    None
+}
+
+/// Whether the opening is the stated one.
+fn is_stated_opening(alloc: Global, opening: &[(u32, u32)]) -> Result<bool, AllocError> {
+    let want = pairs_in(alloc, OPENING)?;
+    Ok(opening == want.as_slice())
+}
+
+/// The first part of a program and its opening that is not as it is stated.
+fn other_than_stated(
+    alloc: Global,
+    program: &Program,
+    opening: &[(u32, u32)],
+) -> Result<Option<&'static str>, AllocError> {
+    if !is_stated_opening(alloc, opening)? {
+        return Ok(Some("opening"));
+    }
+    let want = stated(alloc)?;
+    Ok(other_part(program, &want))
+}
+
+/// The part that is not as it is stated, or what stopped the path where there is none.
+fn part_or_stop(
+    alloc: Global,
+    other: Option<&str>,
+    answer: &Result<Best, Stop>,
+) -> Result<String, Fail> {
+    match other {
+        Some(part) => Ok(String::from_str(alloc, part)?),
+        None => Ok(stop_text(alloc, answer)?),
+    }
+}
+
+/// What stops the path of a form's program, or before that the first part that is not as it is stated.
+pub(crate) fn stop_of_stated(alloc: Global, form: &Abstract<'_>) -> Result<String, Fail> {
+    let (program, opening) = gs_solve::program(alloc, form)?;
+    let other = other_than_stated(alloc, &program, &opening)?;
+    let answer = run(alloc, &program, &opening, 8192);
+    part_or_stop(alloc, other, &answer)
+}
+
 #[test]
 fn leducs_program(rt: HostRuntime) -> Result<(), Fail> {
-    let alloc = rt.alloc();
-    let game = game_of(alloc, LEDUC)?;
-    let signals = Signals::of(alloc, &game)?;
-    let classes = classes_of(alloc, &signals, "ranks")?;
-    let lossless = check(alloc, &signals, &classes)?;
-    let form = Abstract::of(alloc, &lossless)?;
-    let (program, opening) = gs_solve::program(alloc, &form)?;
-    let want = stated(alloc)?;
-    assert_eq!(rt; (program.rows, program.cols), (want.rows, want.cols));
-    assert!(rt; program.free == want.free, "free columns");
-    assert!(rt; program.numbers == want.numbers, "numbers");
-    assert!(rt; program.aim == want.aim, "aim");
-    assert!(rt; opening == pairs_in(alloc, OPENING)?, "opening");
-    let text = stop_text(alloc, &run(alloc, &program, &opening, 8192))?;
     assert_eq!(rt;
-        text.as_str(),
+        told(rt.alloc(), LEDUC, "ranks", Question::Stop)?.as_str(),
         "Wide { step: 1686, row: 50, col: 15, number: -4838826802217196096 }"
     );
     Ok(())

@@ -2,28 +2,21 @@
 
 ghost use Rattle.std.specs.Prelude.{◌≡◌, ◌≤◌, ◌<◌};
 
-use gs_lossless::check;
-use gs_samples::{KUHN, classes_of, game_of};
-use gs_seq::Abstract;
-use gs_simplex::trace;
+use crate::forms::{Question, told};
+use gs_samples::KUHN;
+use gs_seq::{Abstract, Plan};
+use gs_simplex::{PathTrace, trace};
 use gs_solve::{program, solve};
-use gs_tree::Signals;
-use std::alloc::Global;
+use std::alloc::{AllocError, Global};
 use std::fmt::Write;
 use std::test::Fail;
 
 /// Two cards of one rank.
 const ONE_RANK: &str = "A, sh, high, 1 0 kuhn";
 
-/// The path of a game's program: the aim's value at its opening, and the pivots.
-fn path_text(alloc: Global, form: &Abstract<'_>) -> Result<String, Fail> {
+/// A path: the aim's value at its opening, and the pivots.
+fn turns_text(alloc: Global, path: &PathTrace) -> Result<String, Fail> {
     let mut text = String::new(alloc);
-    let Ok((p, opening)) = program(alloc, form) else {
-        return Ok(text);
-    };
-    let Ok(path) = trace(alloc, &p, &opening, 100) else {
-        return Ok(text);
-    };
     write!(text, "{}/{} ", path.start.num, path.start.den)?;
     for turn in &path.turns {
         write!(text, "{}-{} ", turn.enter, turn.leave)?;
@@ -31,35 +24,40 @@ fn path_text(alloc: Global, form: &Abstract<'_>) -> Result<String, Fail> {
     Ok(text)
 }
 
+/// The path of a game's program; no text where there is none.
+fn path_text(alloc: Global, form: &Abstract<'_>) -> Result<String, Fail> {
+    let (p, opening) = program(alloc, form)?;
+    match trace(alloc, &p, &opening, 100) {
+        Ok(path) => turns_text(alloc, &path),
+        Err(_) => Ok(String::new(alloc)),
+    }
+}
+
+/// The totals and weights of two plans.
+fn plans_text(alloc: Global, one: &Plan, two: &Plan) -> Result<String, AllocError> {
+    format!(in alloc;
+        "{} {:?} {} {:?}",
+        one.total, one.weights, two.total, two.weights
+    )
+}
+
 /// The plans at the end of the path, or the stop.
-fn end_text(alloc: Global, form: &Abstract<'_>) -> Result<String, Fail> {
+fn end_text(alloc: Global, form: &Abstract<'_>) -> Result<String, AllocError> {
     match solve(alloc, form) {
-        Ok((one, two)) => Ok(format!(in alloc;
-            "{} {:?} {} {:?}",
-            one.total, one.weights, two.total, two.weights
-        )?),
-        Err(stop) => Ok(format!(in alloc; "{stop:?}")?),
+        Ok((one, two)) => plans_text(alloc, &one, &two),
+        Err(stop) => format!(in alloc; "{stop:?}"),
     }
 }
 
 /// The path and its end.
-fn text_of(alloc: Global, form: &Abstract<'_>) -> Result<String, Fail> {
+pub(crate) fn solution_text(alloc: Global, form: &Abstract<'_>) -> Result<String, Fail> {
     let path = path_text(alloc, form)?;
     let end = end_text(alloc, form)?;
     Ok(format!(in alloc; "{path}{end}")?)
 }
 
-/// What a game over classes is solved to.
-fn solved(alloc: Global, game: &str, classes: &str) -> Result<String, Fail> {
-    let game = game_of(alloc, game)?;
-    let signals = Signals::of(alloc, &game)?;
-    let classes = classes_of(alloc, &signals, classes)?;
-    let lossless = check(alloc, &signals, &classes)?;
-    text_of(alloc, &Abstract::of(alloc, &lossless)?)
-}
-
 /// Games and classes, and what they are solved to.
-const SOLVED: [(&str, &str, &str); 3] = [
+const SOLVED: &[(&str, &str, &str)] = &[
     (
         KUHN,
         "1 2 3",
@@ -79,8 +77,12 @@ const SOLVED: [(&str, &str, &str); 3] = [
 
 #[test]
 fn games_are_solved(rt: HostRuntime) -> Result<(), Fail> {
-    for (game, classes, want) in SOLVED {
-        assert_eq!(rt; solved(rt.alloc(), game, classes)?.as_str(), want, "{game}");
+    for &(game, classes, want) in SOLVED {
+        assert_eq!(rt;
+            told(rt.alloc(), game, classes, Question::Solution)?.as_str(),
+            want,
+            "{game}"
+        );
     }
     Ok(())
 }

@@ -1,6 +1,6 @@
 //! Programs that `run` of `gs_simplex` refuses, and one that it just does not.
 
-ghost use Rattle.std.specs.Prelude.{IfOk};
+ghost use Rattle.std.specs.Prelude.{◌<◌, ◌^◌, IfOk};
 ghost use Rattle.gs_tests_solutions.specs.Programs.{IsWideSample, IsRowless};
 
 use gs_rows::Program;
@@ -35,14 +35,17 @@ fn wide_program(alloc: Global) -> Result<Program, AllocError>
     })
 }
 
-#[test]
-fn a_wide_number_in_the_opening(rt: HostRuntime) -> Result<(), Fail> {
-    let alloc = rt.alloc();
+/// What stops the path of the wide program.
+fn wide_stop(alloc: Global) -> Result<String, AllocError> {
     let p = wide_program(alloc)?;
     let answer = run(alloc, &p, &[(1, 1), (2, 2)], 9);
-    let text = stop_text(alloc, &answer)?;
+    stop_text(alloc, &answer)
+}
+
+#[test]
+fn a_wide_number_in_the_opening(rt: HostRuntime) -> Result<(), Fail> {
     assert_eq!(rt;
-        text.as_str(),
+        wide_stop(rt.alloc())?.as_str(),
         "Wide { step: 1, row: 2, col: 2, number: 4611686018427387905 }"
     );
     Ok(())
@@ -62,14 +65,22 @@ fn rowless(alloc: Global, cols: u32) -> Result<Program, AllocError>
     })
 }
 
+/// What stops the path of the program of so many columns and no row.
+fn rowless_stop(alloc: Global, cols: u32) -> Result<String, AllocError>
+    requires { cols < 2 ^ 31 }
+{
+    let p = rowless(alloc, cols)?;
+    let answer = run(alloc, &p, &[], 9);
+    stop_text(alloc, &answer)
+}
+
 #[test]
 fn the_largest_table(rt: HostRuntime) -> Result<(), Fail> {
     let alloc = rt.alloc();
-    let p = rowless(alloc, 1_048_576)?;
-    let text = stop_text(alloc, &run(alloc, &p, &[], 9))?;
-    assert_eq!(rt; text.as_str(), "TableTooLarge { count: 1048577 }");
-    let p = rowless(alloc, 1_048_575)?;
-    let answer = run(alloc, &p, &[], 9);
-    assert!(rt; matches!(answer, Ok(_)));
+    assert_eq!(rt;
+        rowless_stop(alloc, 1_048_576)?.as_str(),
+        "TableTooLarge { count: 1048577 }"
+    );
+    assert_eq!(rt; rowless_stop(alloc, 1_048_575)?.as_str(), "");
     Ok(())
 }

@@ -2,8 +2,9 @@
 
 ghost use Rattle.std.specs.Prelude.{◌≡◌, ◌≤◌, ◌<◌};
 
-use gs_lossless::check;
-use gs_samples::{classes_of, game_of};
+use crate::rows::{agree, over_game};
+use gs_lossless::{Lossless, check};
+use gs_samples::classes_of;
 use gs_seq::{Abstract, Pair, SeqStop};
 use gs_tree::Signals;
 use std::alloc::Global;
@@ -37,25 +38,38 @@ fn answers(form: &Abstract<'_>, queries: &[Query]) -> bool {
     true
 }
 
+/// How many sequences both players have, and the answers to which queries.
+type Want<'a> = ((u32, u32), &'a [Query]);
+
+/// Whether there is a form that has so many sequences and gives these answers, or why there is none.
+fn formed(alloc: Global, lossless: &Lossless<'_>, want: Want<'_>) -> Result<bool, SeqStop> {
+    let form = Abstract::of(alloc, lossless)?;
+    let counts = (form.sequences(1), form.sequences(2));
+    Ok(counts == want.0 && answers(&form, want.1))
+}
+
+/// How the sequence form over classes of these signals ends.
+fn over_signals(
+    alloc: Global,
+    signals: &Signals<'_>,
+    classes: &str,
+    want: Want<'_>,
+) -> Result<Result<bool, SeqStop>, Fail> {
+    let classes = classes_of(alloc, signals, classes)?;
+    let lossless = check(alloc, signals, &classes)?;
+    Ok(formed(alloc, &lossless, want))
+}
+
 /// How the sequence form of a game over classes ends: that it has so many sequences of both players and its answers are these, or why there is none.
 fn outcome(
     alloc: Global,
     game: &str,
     classes: &str,
-    sequences: (u32, u32),
-    queries: &[Query],
+    want: Want<'_>,
 ) -> Result<Result<bool, SeqStop>, Fail> {
-    let game = game_of(alloc, game)?;
-    let signals = Signals::of(alloc, &game)?;
-    let classes = classes_of(alloc, &signals, classes)?;
-    let lossless = check(alloc, &signals, &classes)?;
-    match Abstract::of(alloc, &lossless) {
-        Ok(form) => {
-            let counts = (form.sequences(1), form.sequences(2));
-            Ok(Ok(counts == sequences && answers(&form, queries)))
-        }
-        Err(stop) => Ok(Err(stop)),
-    }
+    over_game(alloc, game, |signals| {
+        over_signals(alloc, signals, classes, want)
+    })
 }
 
 const OF_KUHN: &[Query] = &[
@@ -82,26 +96,23 @@ const OF_LEDUC: &[Query] = &[
 ];
 
 /// Games and classes, how many sequences both players have, pairs of classes, and whether there is a form.
-const CASES: [(&str, &str, (u32, u32), &[Query], Result<bool, SeqStop>); 3] = [
+const CASES: &[(&str, &str, Want<'static>, Result<bool, SeqStop>)] = &[
     (
         "JQK, s, high 1 2 1, 1 0 kuhn",
         "",
-        (13, 13),
-        OF_KUHN,
+        ((13, 13), OF_KUHN),
         Ok(true),
     ),
     (
         "JQK, sh, pair 1 2 1, 1 0 1[k:2[k:=]], 0 1 kuhn",
         "ranks",
-        (40, 40),
-        OF_LEDUC,
+        ((40, 40), OF_LEDUC),
         Ok(true),
     ),
     (
         "9TJQKA, shdc, high 1 2 1, 1 0 eight, 0 0 eight, 0 0 eight, 0 0 sixteen",
         "",
-        (0, 0),
-        &[],
+        ((0, 0), &[]),
         Err(SeqStop::TooManyCells { count: 4_521_984 }),
     ),
 ];
@@ -109,12 +120,8 @@ const CASES: [(&str, &str, (u32, u32), &[Query], Result<bool, SeqStop>); 3] = [
 #[test]
 fn forms_of_whole_games(rt: HostRuntime) -> Result<(), Fail> {
     let alloc = rt.alloc();
-    for (game, classes, sequences, queries, said) in CASES {
-        assert_eq!(rt;
-            outcome(alloc, game, classes, sequences, queries)?,
-            said,
-            "{game}"
-        );
+    for &(game, classes, want, said) in CASES {
+        agree(alloc, outcome(alloc, game, classes, want)?, said, game)?;
     }
     Ok(())
 }

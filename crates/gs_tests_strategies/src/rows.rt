@@ -3,12 +3,77 @@
 ghost use Rattle.std.specs.Prelude.{◌≤◌, ◌<◌, IfOk};
 ghost use Rattle.gs_seq.specs.{Abstracts.{frame_of, lists_of}, Plans.{IsPlanOf}};
 
-use gs_lossless::check;
+use gs_game::ValidGame;
+use gs_lossless::{Lossless, check};
 use gs_samples::{classes_of, game_of, numbers_in};
 use gs_seq::{Abstract, Plan};
 use gs_tree::Signals;
 use std::alloc::Global;
+use std::fmt::Debug;
 use std::test::Fail;
+
+/// Fails where one value is found for a row and another is wanted.
+pub(crate) fn agree<T: PartialEq + Debug + Drop>(
+    alloc: Global,
+    found: T,
+    want: T,
+    row: &str,
+) -> Result<(), Fail> {
+    if found == want {
+        return Ok(());
+    }
+    Err(Fail::new(format!(in alloc; "{found:?} in place of {want:?} at {row}")?))
+}
+
+/// What is said of the signals of a checked game.
+fn over_checked<R, F: FnOnce(&Signals<'_>) -> Result<R, Fail> + Drop>(
+    alloc: Global,
+    game: &ValidGame,
+    say: F,
+) -> Result<R, Fail>
+    requires { F.IsAlwaysCallable say }
+{
+    let signals = Signals::of(alloc, game)?;
+    say(&signals)
+}
+
+/// What is said of a game's signals, the game as `gs_samples` reads it.
+pub(crate) fn over_game<R, F: FnOnce(&Signals<'_>) -> Result<R, Fail> + Drop>(
+    alloc: Global,
+    game: &str,
+    say: F,
+) -> Result<R, Fail>
+    requires { F.IsAlwaysCallable say }
+{
+    let game = game_of(alloc, game)?;
+    over_checked(alloc, &game, say)
+}
+
+/// What is said of the form over lossless classes.
+fn over_lossless<R, F: FnOnce(&Abstract<'_>) -> Result<R, Fail> + Drop>(
+    alloc: Global,
+    lossless: &Lossless<'_>,
+    say: F,
+) -> Result<R, Fail>
+    requires { F.IsAlwaysCallable say }
+{
+    let form = Abstract::of(alloc, lossless)?;
+    say(&form)
+}
+
+/// What is said of the form over classes of these signals.
+fn over_signals<R, F: FnOnce(&Abstract<'_>) -> Result<R, Fail> + Drop>(
+    alloc: Global,
+    signals: &Signals<'_>,
+    classes: &str,
+    say: F,
+) -> Result<R, Fail>
+    requires { F.IsAlwaysCallable say }
+{
+    let classes = classes_of(alloc, signals, classes)?;
+    let lossless = check(alloc, signals, &classes)?;
+    over_lossless(alloc, &lossless, say)
+}
 
 /// What is said of the form of a game over classes of its signals, both as `gs_samples` reads them.
 pub(crate) fn over_form<R, F: FnOnce(&Abstract<'_>) -> Result<R, Fail> + Drop>(
@@ -19,12 +84,9 @@ pub(crate) fn over_form<R, F: FnOnce(&Abstract<'_>) -> Result<R, Fail> + Drop>(
 ) -> Result<R, Fail>
     requires { F.IsAlwaysCallable say }
 {
-    let game = game_of(alloc, game)?;
-    let signals = Signals::of(alloc, &game)?;
-    let classes = classes_of(alloc, &signals, classes)?;
-    let lossless = check(alloc, &signals, &classes)?;
-    let form = Abstract::of(alloc, &lossless)?;
-    say(&form)
+    over_game(alloc, game, |signals| {
+        over_signals(alloc, signals, classes, say)
+    })
 }
 
 /// A player's plan by its total and its weights, or by the word `first` the first moves everywhere.

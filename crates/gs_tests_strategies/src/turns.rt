@@ -1,15 +1,13 @@
 //! Turns of play of Kuhn's game, against the weights that a separate program added up.
 
-ghost use Rattle.std.specs.Prelude.{◌≤◌};
-
-use crate::rows::over_form;
+use crate::rows::{agree, over_form};
 use gs_play::play;
 use gs_samples::KUHN;
 use std::alloc::Global;
 use std::test::Fail;
 
 /// Turns, and the total and the weights of both plans after so many.
-const TURNS: [(u32, &str); 3] = [
+const TURNS: &[(u32, &str)] = &[
     (
         0,
         "1 [1, 0, 1, 0, 1, 0, 1, 0, 1, 0, 1, 0] 1 [1, 0, 1, 0, 1, 0, 1, 0, 1, 0, 1, 0]",
@@ -25,9 +23,10 @@ const TURNS: [(u32, &str); 3] = [
 ];
 
 /// What is said of the plans after so many turns.
-fn told(alloc: Global, turns: u32) -> Result<String, Fail>
-    requires { turns ≤ 1000000 }
-{
+fn told(alloc: Global, turns: u32) -> Result<String, Fail> {
+    if turns > 1_000_000 {
+        return Err("too many turns".into());
+    }
     over_form(alloc, KUHN, "1 2 3", |form| {
         let (one, two) = play(alloc, form, turns)?;
         Ok(format!(in alloc;
@@ -39,9 +38,13 @@ fn told(alloc: Global, turns: u32) -> Result<String, Fail>
 
 #[test]
 fn turns_of_kuhn(rt: HostRuntime) -> Result<(), Fail> {
-    for (turns, plans) in TURNS {
-        assert!(rt; turns <= 1_000_000);
-        assert_eq!(rt; told(rt.alloc(), turns)?.as_str(), plans, "{turns}");
+    for &(turns, plans) in TURNS {
+        agree(
+            rt.alloc(),
+            told(rt.alloc(), turns)?.as_str(),
+            plans,
+            "Kuhn's game",
+        )?;
     }
     Ok(())
 }

@@ -5,7 +5,7 @@ ghost use Rattle.std.specs.Prelude.{◌≤◌, ◌<◌};
 ghost use Rattle.gs_model.specs.Frame.{other_player};
 ghost use Rattle.gs_seq.specs.{Abstracts.{frame_of, lists_of}, Plans.{IsPlanOf}};
 
-use crate::rows::{over_form, plan_in};
+use crate::rows::{agree, over_form, plan_in};
 use gs_best::{Work, best, choices, verdict};
 use gs_frac::Verdict;
 use gs_samples::numbers_in;
@@ -112,13 +112,34 @@ JQK, sh, pair, 1 0 1[k:2[k:=,b2:1[f:!,c2:=,r4:2[f:!,c2:=]]],b2:2[f:!,c2:=,r4:1[f
     9|1|first|1|first|0 1 1 1 1 1
 ";
 
-/// A verdict as a text.
-fn text_of(alloc: Global, verdict: &Verdict) -> Result<String, AllocError> {
-    let Verdict { value, gap1, gap2 } = *verdict;
+/// The verdict on two plans as a text.
+fn text_of(alloc: Global, form: &Abstract<'_>, one: &Plan, two: &Plan) -> Result<String, AllocError>
+    requires one { IsPlanOf (frame_of form.now) (lists_of form.now) 1 one.now }
+    requires two { IsPlanOf (frame_of form.now) (lists_of form.now) 2 two.now }
+{
+    let mut work = Work::new(alloc, form)?;
+    let Verdict { value, gap1, gap2 } = verdict(form, one, two, &mut work);
     format!(in alloc;
         "{} {} {} {} {} {}",
         value.num, value.den, gap1.num, gap1.den, gap2.num, gap2.den
     )
+}
+
+/// Whether these are a player's choices against a plan.
+fn chooses(
+    alloc: Global,
+    form: &Abstract<'_>,
+    player: u8,
+    other: &Plan,
+    moves: &str,
+) -> Result<bool, AllocError>
+    requires some { 0 < player }
+    requires two { player ≤ 2 }
+    requires other { IsPlanOf (frame_of form.now) (lists_of form.now) (other_player player) other.now }
+{
+    let listed = choices(alloc, form, player, other)?;
+    let wanted = numbers_in::<u8>(alloc, moves)?;
+    Ok(*listed == *wanted)
 }
 
 /// Whether a player's best answer to a plan has these weights, and these are his choices.
@@ -135,40 +156,72 @@ fn is_answer(
     requires other { IsPlanOf (frame_of form.now) (lists_of form.now) (other_player player) other.now }
 {
     let answer = best(alloc, form, player, other)?;
-    let listed = choices(alloc, form, player, other)?;
-    let first = answer.player == player && answer.total == 1;
-    Ok(
-        first
-            && *answer.weights == *numbers_in::<u64>(alloc, weights)?
-            && *listed == *numbers_in::<u8>(alloc, moves)?,
-    )
+    let wanted = numbers_in::<u64>(alloc, weights)?;
+    let same = answer.player == player && answer.total == 1 && *answer.weights == *wanted;
+    Ok(same && chooses(alloc, form, player, other, moves)?)
 }
 
-/// The verdict on the plans of a row as a text, and whether the best answers are as the row has them.
-fn judged(alloc: Global, form: &Abstract<'_>, row: &[&str]) -> Result<(String, bool), Fail> {
+/// Whether the best answers to two plans are as a row has them, where it has any.
+fn answers_hold(
+    alloc: Global,
+    form: &Abstract<'_>,
+    one: &Plan,
+    two: &Plan,
+    row: &[&str],
+) -> Result<bool, AllocError>
+    requires one { IsPlanOf (frame_of form.now) (lists_of form.now) 1 one.now }
+    requires two { IsPlanOf (frame_of form.now) (lists_of form.now) 2 two.now }
+{
+    if row.len() < 9 {
+        return Ok(true);
+    }
+    let first = is_answer(alloc, form, 1, two, row[5], row[6])?;
+    Ok(first && is_answer(alloc, form, 2, one, row[7], row[8])?)
+}
+
+/// The verdict on two plans as a text, where the best answers are as a row has them.
+fn judged_plans(
+    alloc: Global,
+    form: &Abstract<'_>,
+    one: &Plan,
+    two: &Plan,
+    row: &[&str],
+) -> Result<String, AllocError>
+    requires one { IsPlanOf (frame_of form.now) (lists_of form.now) 1 one.now }
+    requires two { IsPlanOf (frame_of form.now) (lists_of form.now) 2 two.now }
+{
+    if answers_hold(alloc, form, one, two, row)? {
+        return text_of(alloc, form, one, two);
+    }
+    String::from_str(alloc, "other answers")
+}
+
+/// What is judged of the plans of a row.
+fn judged(alloc: Global, form: &Abstract<'_>, row: &[&str]) -> Result<String, Fail> {
     if row.len() < 5 {
         return Err("a row with no verdict".into());
     }
     let one = plan_in(alloc, form, 1, row[0], row[1])?;
     let two = plan_in(alloc, form, 2, row[2], row[3])?;
-    let mut work = Work::new(alloc, form)?;
-    let found = text_of(alloc, &verdict(form, &one, &two, &mut work))?;
-    let same = row.len() < 9
-        || is_answer(alloc, form, 1, &two, row[5], row[6])?
-            && is_answer(alloc, form, 2, &one, row[7], row[8])?;
-    Ok((found, same))
+    Ok(judged_plans(alloc, form, &one, &two, row)?)
+}
+
+/// What is judged of a line, and the verdict that it has.
+fn told(alloc: Global, line: &str) -> Result<(String, &str), Fail> {
+    let row: Vec<&str> = line.split('|').collect(alloc)?;
+    if row.len() != 7 && row.len() != 11 {
+        return Err("a line with too few parts or too many".into());
+    }
+    let others = &row[2..];
+    let found = over_form(alloc, row[0], row[1], |form| judged(alloc, form, others))?;
+    Ok((found, row[6]))
 }
 
 #[test]
 fn verdicts_and_answers_of_small_games(rt: HostRuntime) -> Result<(), Fail> {
-    let alloc = rt.alloc();
     for line in GAMES.lines() {
-        let row: Vec<&str> = line.split('|').collect(alloc)?;
-        assert!(rt; row.len() == 7 || row.len() == 11, "{line}");
-        let others = &row[2..];
-        let (found, same) = over_form(alloc, row[0], row[1], |form| judged(alloc, form, others))?;
-        assert_eq!(rt; found.as_str(), row[6], "{line}");
-        assert!(rt; same, "{line}");
+        let (found, want) = told(rt.alloc(), line)?;
+        agree(rt.alloc(), found.as_str(), want, line)?;
     }
     Ok(())
 }

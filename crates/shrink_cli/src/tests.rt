@@ -5,6 +5,7 @@ ghost use Rattle.std.specs.Prelude.{◌≤◌};
 use super::*;
 use gs_io::{MemSink, MemSource, SureSource};
 use std::alloc::{AllocError, Global};
+use std::process::Abort;
 use std::test::Fail;
 use strategies::STRATEGY_RUNS;
 
@@ -192,80 +193,114 @@ fn said(alloc: Global, end: &Outcome) -> Result<Vec<u8>, AllocError> {
     Ok(text)
 }
 
+/// Stops where a run says something else than it is to say.
+fn is_said(rt: &impl Abort, text: &[u8], wanted: &[u8], row: &str) {
+    assert_eq!(rt; text, wanted, "{row}");
+}
+
+/// What a run of these words says of an input.
+fn told(alloc: Global, words: &str, input: &[u8]) -> Result<Vec<u8>, AllocError> {
+    said(alloc, &run_over(alloc, words, input, NONE, SEVENS)?)
+}
+
+/// What a run says in which the calls of four numbers fail: that of the source, the longest piece that goes out, and those of the output and of the
+/// errors' end.
+fn told_with(
+    alloc: Global,
+    words: &str,
+    input: &[u8],
+    numbers: &[u32],
+) -> Result<Vec<u8>, AllocError> {
+    match *numbers {
+        [read, piece, write, tell] if 0 < piece => {
+            let pieces = (16, piece, 9);
+            said(
+                alloc,
+                &run_over(alloc, words, input, (read, write, tell), pieces)?,
+            )
+        }
+        _ => Vec::from_slice(alloc, b"no four numbers"),
+    }
+}
+
+/// What the run of a row's parts says: its words, two texts for Kuhn's file, four numbers, and what it is to say.
+fn answer_of(alloc: Global, parts: &[&str]) -> Result<Vec<u8>, AllocError> {
+    match *parts {
+        [words, old, new, numbers, _] => {
+            let input = changed(alloc, KUHN, old, new)?;
+            let numbers = numbers_in(alloc, numbers)?;
+            told_with(alloc, words, input.as_bytes(), &numbers)
+        }
+        _ => Vec::from_slice(alloc, b"no five parts"),
+    }
+}
+
 /// What the run of a row says, and what it is to say.
-fn answer(alloc: Global, row: &str) -> Result<(Vec<u8>, String), Fail> {
+fn answer(alloc: Global, row: &str) -> Result<(Vec<u8>, String), AllocError> {
     let parts: Vec<&str> = row.splitn(5, '|').collect(alloc)?;
-    if parts.len() != 5 {
-        return Err("a row of other parts".into());
-    }
-    let numbers = numbers_in(alloc, parts[3])?;
-    if numbers.len() != 4 || numbers[1] < 1 {
-        return Err("a row of other numbers".into());
-    }
-    let input = changed(alloc, KUHN, parts[1], parts[2])?;
-    let fails = (numbers[0], numbers[2], numbers[3]);
-    let end = run_over(
-        alloc,
-        parts[0],
-        input.as_bytes(),
-        fails,
-        (16, numbers[1], 9),
-    )?;
-    Ok((said(alloc, &end)?, text_of(alloc, parts[4])?))
+    let text = answer_of(alloc, &parts)?;
+    let wanted = text_of(alloc, parts.last().copied().unwrap_or(""))?;
+    Ok((text, wanted))
 }
 
 #[test]
 fn each_status_with_its_texts(rt: HostRuntime) -> Result<(), Fail> {
     for row in RUNS.lines().chain(STRATEGY_RUNS.lines()) {
         let (text, wanted) = answer(rt.alloc(), row)?;
-        assert_eq!(rt; text.as_slice(), wanted.as_bytes(), "{row}");
+        is_said(&rt, &text, wanted.as_bytes(), row);
     }
     Ok(())
 }
 
 #[test]
-fn a_file_that_is_cut_or_marked_is_no_game(rt: HostRuntime) -> Result<(), Fail> {
+fn a_file_that_is_cut_is_no_game(rt: HostRuntime) -> Result<(), Fail> {
     let alloc = rt.alloc();
     let file = text_of(alloc, KUHN)?;
     // the last byte ends the last line, which means the same without it
     for length in 0..file.len().saturating_sub(1) {
-        let end = run_over(
-            alloc,
-            "shrink",
-            &file.as_bytes()[..length],
-            NONE,
-            (16, 9, 9),
-        )?;
-        assert!(rt; said(alloc, &end)?.starts_with(b"7||"), "{length}");
+        let text = told(alloc, "shrink", &file.as_bytes()[..length])?;
+        assert!(rt; text.starts_with(b"7||"), "{length}");
     }
-    // a byte that begins no letter behind the file
-    let mut marked = Vec::from_slice(alloc, file.as_bytes())?;
-    marked.push(0xff)?;
-    let end = run_over(alloc, "shrink", &marked, NONE, (16, 9, 9))?;
-    assert_eq!(rt;
-        said(alloc, &end)?.as_slice(),
-        b"7||bad game: not UTF-8\n".as_slice()
-    );
+    Ok(())
+}
+
+/// The bytes of a text, and behind them one that begins no letter.
+fn marked(alloc: Global, row: &str) -> Result<Vec<u8>, AllocError> {
+    let text = text_of(alloc, row)?;
+    let mut bytes = Vec::from_slice(alloc, text.as_bytes())?;
+    bytes.push(0xff)?;
+    Ok(bytes)
+}
+
+#[test]
+fn a_file_that_is_marked_is_no_game(rt: HostRuntime) -> Result<(), Fail> {
+    let bytes = marked(rt.alloc(), KUHN)?;
+    let text = told(rt.alloc(), "shrink", &bytes)?;
+    is_said(&rt, &text, b"7||bad game: not UTF-8\n", "marked");
     Ok(())
 }
 
 /// A comment of the longest length, one of one byte more, and a byte that begins no letter; and what is said of each.
-const LONG: [(usize, u8, &str); 3] = [
+const LONG: &[(usize, u8, &str)] = &[
     (16_777_216, b'#', "7||bad game: missing key version\n"),
     (16_777_217, b'#', "6||input longer than 16777216 bytes\n"),
     (1, 0xff, "7||bad game: not UTF-8\n"),
 ];
 
+/// What `shrink` says of so many times one byte.
+fn told_of_many(alloc: Global, byte: u8, length: usize) -> Result<Vec<u8>, AllocError> {
+    let words = words_in(alloc, "shrink")?;
+    let mut source = SureSource::new(vec![in alloc; byte; length]?);
+    let mut out = MemSink::new(alloc, 9, 9, Vec::new(alloc))?;
+    let mut err = MemSink::new(alloc, 99, 9, Vec::new(alloc))?;
+    let status = run(alloc, &words, &mut source, &mut out, &mut err);
+    said(alloc, &Outcome { status, out, err })
+}
+
 #[test]
 fn long_inputs_and_bytes_that_are_no_text(rt: HostRuntime) -> Result<(), Fail> {
-    let alloc = rt.alloc();
-    let words = words_in(alloc, "shrink")?;
-    for (length, byte, wanted) in LONG {
-        let mut source = SureSource::new(vec![in alloc; byte; length]?);
-        let mut out = MemSink::new(alloc, 9, 9, Vec::new(alloc))?;
-        let mut err = MemSink::new(alloc, 99, 9, Vec::new(alloc))?;
-        let status = run(alloc, &words, &mut source, &mut out, &mut err);
-        let text = said(alloc, &Outcome { status, out, err })?;
+    for &(length, byte, wanted) in LONG {
+        let text = told_of_many(rt.alloc(), byte, length)?;
         assert_eq!(rt; text.as_slice(), wanted.as_bytes(), "{length}");
     }
     Ok(())

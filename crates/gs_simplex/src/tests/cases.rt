@@ -3,7 +3,7 @@
 /// A program with its opening as a text: the free columns, the numbers row by row, the aim and the opening's pairs; the most pivots; and what is said.
 pub(super) type Case = (&'static str, &'static str, u32, &'static str);
 
-pub(super) const CASES: [Case; 26] = [
+pub(super) const CASES: &[Case] = &[
     (
         "a wide number in a row of a pivot",
         "|1 0 1099511627777 3 7 0 1 1099511627776 5497558138880 9|0 0 2 1|1 1 2 2",
@@ -165,7 +165,7 @@ pub(super) const KUHN_END: &str =
     "9 | 1:1 2:2 3:4 4:6 5:8 6:10 7:25 8:14 10:15 12:16 13:17 15:18 17:19 19:20 9:26 11:13 14:11 16:29 18:3 20:7 | 1/1 1/1 0/1 1/1 0/1 1/1 0/1 1/1 0/1 2/3 1/3 0/1 1/1 -1/3 2/1 0/1 -7/3 0/1 0/1 0/1 0/1 0/1 0/1 0/1 1/1 1/3 0/1 0/1 0/1 0/1 0/1 0/1 0/1 | 0/1 0/1 0/1 0/1 1/3 0/1 0/1 0/1 1/1 0/1 0/1 1/1 0/1 0/1 0/1 0/1 0/1 0/1 0/1 0/1 1/1 2/3 1/3 1/1 0/1 0/1 1/1 1/1 0/1 2/3 1/3 0/1 1/1";
 
 /// The columns that enter and leave in each pivot.
-pub(super) const KUHN_PATH: [(u32, u32); 9] = [
+pub(super) const KUHN_PATH: &[(u32, u32)] = &[
     (3, 31),
     (5, 33),
     (7, 5),
@@ -178,7 +178,7 @@ pub(super) const KUHN_PATH: [(u32, u32); 9] = [
 ];
 
 /// How the paths of programs are reached: the aim's value after the opening, the pivots, the bases, and the aim's value at the end.
-pub(super) const TRACES: [Case; 4] = [
+pub(super) const TRACES: &[Case] = &[
     (
         "the game of one rank and two suits",
         "6 7 8|1 0 0 0 0 0 0 0 0 0 0 0 0 1 -1 1 1 0 0 0 0 0 0 0 0 0 0 0 0 -1 0 1 1 0 0 0 0 0 0 0 0 0 0 0 0 0 0 1 -1 -1 1 0 0 0 0 0 0 0 0 0 0 0 1 0 0 1 0 0 0 0 0 0 0 2 0 0 1 0 0 0 1 0 0 0 0 0 -2 0 0 0 0 1 0 0 0 1 0 0 0 0 0 0 0 0 0 1 0 0 0 0 1 0|0 0 0 0 0 1 0 0 0 0 0 0 0|1 1 2 2 3 4 4 6 6 7 7 8 5 10 8 13",

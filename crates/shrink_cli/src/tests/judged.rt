@@ -1,7 +1,7 @@
 //! Over lossless classes `judge` prints what `evaluate` prints. The expected lines are those of an implementation that was written from the rules
 //! alone.
 
-use super::{NONE, SEVENS, changed, run_over, said, text_of};
+use super::{NONE, SEVENS, is_said, run_over, text_of, told};
 use std::alloc::{AllocError, Global};
 use std::test::Fail;
 
@@ -24,32 +24,44 @@ play --turns 3|version = 1~ranks = \"JQK\"~suits = \"s\"~ranking = \"high\"~ante
 play --turns 3|version = 1~ranks = \"JQK\"~suits = \"sh\"~ranking = \"pair\"~ante = 1~~[[round]]~private = 1~public = 0~tree = \"=\"~~[[round]]~private = 0~public = 1~bet = 2~cap = 1~|value 1/16~gap1 51/80~gap2 51/80~
 ";
 
-/// What a run of these words says of an input.
-fn told(alloc: Global, words: &str, input: &[u8]) -> Result<Vec<u8>, AllocError> {
-    said(alloc, &run_over(alloc, words, input, NONE, SEVENS)?)
+/// The words of a row, its text, and the lines that it wants.
+fn parts_of(row: &str) -> Option<(&str, &str, &str)> {
+    let (words, others) = row.split_once('|')?;
+    let (input, lines) = others.split_once('|')?;
+    Some((words, input, lines))
 }
 
-/// What `evaluate` and `judge` say of the file of a row, and what they are to say.
-fn judged(alloc: Global, row: &str) -> Result<(Vec<u8>, Vec<u8>, String), Fail> {
-    let (words, others) = row.split_once('|').ok_or("words")?;
-    let (input, lines) = others.split_once('|').ok_or("input")?;
-    let mut file = text_of(alloc, input)?;
-    if !words.is_empty() {
-        let end = run_over(alloc, words, file.as_bytes(), NONE, SEVENS)?;
-        file = String::from_utf8(Vec::from_slice(alloc, end.out.given())?)?;
+/// The file of a row: its own text, or what the words print of it, where there are any.
+fn file_of(alloc: Global, words: &str, input: &str) -> Result<Vec<u8>, AllocError> {
+    let text = text_of(alloc, input)?;
+    if words.is_empty() {
+        return Vec::from_slice(alloc, text.as_bytes());
     }
-    let evaluated = told(alloc, "evaluate", file.as_bytes())?;
-    let judged = told(alloc, "judge", file.as_bytes())?;
-    let wanted = format!(in alloc; "0|{lines}|")?;
-    Ok((evaluated, judged, text_of(alloc, wanted.as_str())?))
+    let end = run_over(alloc, words, text.as_bytes(), NONE, SEVENS)?;
+    Vec::from_slice(alloc, end.out.given())
+}
+
+/// What `evaluate` and `judge` are to say.
+fn wanted_of(alloc: Global, lines: &str) -> Result<String, AllocError> {
+    let row = format!(in alloc; "0|{lines}|")?;
+    text_of(alloc, row.as_str())
+}
+
+/// What a command says of the file of a row, and what it is to say.
+fn judged(alloc: Global, command: &str, row: &str) -> Result<(Vec<u8>, String), AllocError> {
+    let (words, input, lines) = parts_of(row).unwrap_or(("", "", row));
+    let file = file_of(alloc, words, input)?;
+    let text = told(alloc, command, &file)?;
+    Ok((text, wanted_of(alloc, lines)?))
 }
 
 #[test]
 fn files_are_judged_as_they_are_evaluated(rt: HostRuntime) -> Result<(), Fail> {
     for row in FILES.lines() {
-        let (evaluated, judged, wanted) = judged(rt.alloc(), row)?;
-        assert_eq!(rt; evaluated.as_slice(), wanted.as_bytes(), "{row}");
-        assert_eq!(rt; judged.as_slice(), wanted.as_bytes(), "{row}");
+        for command in ["evaluate", "judge"] {
+            let (text, wanted) = judged(rt.alloc(), command, row)?;
+            is_said(&rt, &text, wanted.as_bytes(), row);
+        }
     }
     Ok(())
 }

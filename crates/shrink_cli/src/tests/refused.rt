@@ -1,7 +1,7 @@
 //! Strategy files and certificates that break one rule each, through the whole program: each refusal once, by its whole line. The expected lines are
 //! those of an implementation that was written from the rules alone.
 
-use super::{NONE, SEVENS, changed, run_over, text_of};
+use super::{NONE, SEVENS, changed, is_said, marked, run_over, text_of};
 use std::alloc::{AllocError, Global};
 use std::test::Fail;
 
@@ -108,46 +108,70 @@ fn written(alloc: Global, words: &str, input: &[u8]) -> Result<Vec<u8>, AllocErr
     Ok(text)
 }
 
-/// What a command says of the changed files of a row, one behind the other, and what it is to say.
-fn refusal(alloc: Global, words: &str, file: &str, row: &str) -> Result<(Vec<u8>, String), Fail> {
-    let (changes, line) = row.rsplit_once('|').ok_or("line")?;
-    let parts: Vec<&str> = changes.split('|').collect(alloc)?;
-    let mut input = String::new(alloc);
-    for change in parts.chunks_exact(2) {
+/// A file with the changes of a row, one behind the other: two texts for each.
+fn files_of(alloc: Global, file: &str, changes: &[&str]) -> Result<String, AllocError> {
+    let mut files = String::new(alloc);
+    for change in changes.chunks_exact(2) {
         if let [old, new] = change {
-            input.push_str(changed(alloc, file, old, new)?.as_str())?;
+            files.push_str(changed(alloc, file, old, new)?.as_str())?;
         }
     }
-    let text = written(alloc, words, input.as_bytes())?;
-    Ok((text, text_of(alloc, line)?))
+    Ok(files)
 }
+
+/// What a command says of a file with these changes.
+fn told_of(alloc: Global, words: &str, file: &str, changes: &str) -> Result<Vec<u8>, AllocError> {
+    let parts: Vec<&str> = changes.split('|').collect(alloc)?;
+    let files = files_of(alloc, file, &parts)?;
+    written(alloc, words, files.as_bytes())
+}
+
+/// What a command says of the changed files of a row, and what it is to say.
+fn refusal(
+    alloc: Global,
+    words: &str,
+    file: &str,
+    row: &str,
+) -> Result<(Vec<u8>, String), AllocError> {
+    let (changes, line) = row.rsplit_once('|').unwrap_or(("", row));
+    let text = told_of(alloc, words, file, changes)?;
+    let wanted = text_of(alloc, line)?;
+    Ok((text, wanted))
+}
+
+/// Words, a file, and rows that change it.
+const ROWS: &[(&str, &str, &str)] = &[
+    ("evaluate", KUHN, STRATEGIES),
+    ("verify", CERTIFIED, CERTIFICATES),
+    ("duel", KUHN, DUELS),
+];
 
 #[test]
 fn each_refusal_by_its_line(rt: HostRuntime) -> Result<(), Fail> {
-    for (words, file, rows) in [
-        ("evaluate", KUHN, STRATEGIES),
-        ("verify", CERTIFIED, CERTIFICATES),
-        ("duel", KUHN, DUELS),
-    ] {
+    for &(words, file, rows) in ROWS {
         for row in rows.lines() {
             let (text, wanted) = refusal(rt.alloc(), words, file, row)?;
-            assert_eq!(rt; text.as_slice(), wanted.as_bytes(), "{row}");
+            is_said(&rt, &text, wanted.as_bytes(), row);
         }
     }
     Ok(())
 }
 
+/// What `evaluate` says of bytes that are no text of JSON.
+const NO_JSON: &[u8] = b"bad strategy: not JSON\n";
+
 #[test]
 fn bytes_that_are_no_json(rt: HostRuntime) -> Result<(), Fail> {
-    let alloc = rt.alloc();
-    let deep = vec![in alloc; b'['; 200]?;
-    // a byte that begins no letter behind the file
-    let file = text_of(alloc, KUHN)?;
-    let mut marked = Vec::from_slice(alloc, file.as_bytes())?;
-    marked.push(0xff)?;
-    for bytes in [deep.as_slice(), marked.as_slice()] {
-        let text = written(alloc, "evaluate", bytes)?;
-        assert_eq!(rt; text.as_slice(), b"bad strategy: not JSON\n".as_slice());
-    }
+    let deep = vec![in rt.alloc(); b'['; 200]?;
+    let text = written(rt.alloc(), "evaluate", &deep)?;
+    is_said(&rt, &text, NO_JSON, "no JSON");
+    Ok(())
+}
+
+#[test]
+fn bytes_behind_a_file_are_no_json(rt: HostRuntime) -> Result<(), Fail> {
+    let bytes = marked(rt.alloc(), KUHN)?;
+    let text = written(rt.alloc(), "evaluate", &bytes)?;
+    is_said(&rt, &text, NO_JSON, "no JSON");
     Ok(())
 }

@@ -1,0 +1,25 @@
+//! What tests ask of the signals of sample games.
+
+use gs_samples::game_of;
+use gs_tree::Signals;
+use std::alloc::Global;
+use std::test::Fail;
+
+/// A question to the signals of a game.
+pub(crate) trait Question {
+    type Answer: Drop;
+
+    /// Its answer.
+    fn answer(&self, alloc: Global, signals: &Signals<'_>) -> Result<Self::Answer, Fail>;
+}
+
+/// The answer of a game's signals to a question.
+pub(crate) fn asked<Q: Question>(
+    alloc: Global,
+    line: &str,
+    question: &Q,
+) -> Result<Q::Answer, Fail> {
+    let game = game_of(alloc, line)?;
+    let signals = Signals::of(alloc, &game)?;
+    question.answer(alloc, &signals)
+}
