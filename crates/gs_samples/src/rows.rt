@@ -1,10 +1,14 @@
 //! Rows of tests: what is said of a line, and what should be said.
 
+ghost use Rattle.std.specs.Prelude.{◌≡◌, IfOk};
+
 use std::alloc::Global;
 use std::test::Fail;
 
 /// Fails, with the line, where what is said of a row's line is not what should be said.
-pub fn check_row(alloc: Global, line: &str, said: &str, wanted: &str) -> Result<(), Fail> {
+pub fn check_row(alloc: Global, line: &str, said: &str, wanted: &str) -> Result<(), Fail>
+    ensures { IfOk result (λ _. said.now ≡ wanted.now) }
+{
     if said == wanted {
         return Ok(());
     }

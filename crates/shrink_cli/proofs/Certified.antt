@@ -74,17 +74,13 @@ of_certificate : (t : Strategy) (c : Stated) (reply : Reply) → IsStated c → 
 of_certificate t c reply is (inl h) = let bad = certificate_only c (Err h.why) is h.reads in cc
 of_certificate t c reply is (inr h) = (h.0, sym (one_certificate c (certificate_view h.0) is (stated h.0 h.1.small) h.1.text), h.2)
 
--- what is said of two lines is said of what stands in the first one and behind it
-in_lines : (says : List ℕ → Strategy → Reply → Type 0) (bytes one rest : List ℕ) (reply : Reply) → first_line bytes ≡ (one, rest)
-    → OfStrategy (says (first_line bytes).1) (first_line bytes).0 reply → OfStrategy (says rest) one reply
-in_lines says bytes one rest reply parts = subst (λ (p : List ℕ × List ℕ). OfStrategy (says p.1) p.0 reply) parts
-
 of_lines : (version : Version) (t : Strategy) (c : Stated) (reply : Reply) → IsStrategy version t → IsStated c
     → Verifies (strategy_text version t ++ certificate_text c) reply
     → (d : Certificate) × (certificate_view d ≡ c) × SaysChecked t d reply
 of_lines version t c reply is is_stated h =
     let rest = certificate_text c in
-    let here = in_lines SaysVerified (strategy_text version t ++ rest) (strategy_text version t) rest reply (text_parted version t rest is) h in
+    let here : OfStrategy (SaysVerified rest) (strategy_text version t) reply =
+    subst (λ (p : List ℕ × List ℕ). OfStrategy (SaysVerified p.1) p.0 reply) (text_parted version t rest is) h in
     of_certificate t c reply is_stated (subst (λ (x : ReadResult). OfRead (SaysVerified rest) x reply) (only version t here.read is here.reads) here.said)
 
 pub verifies_at_last : (words : List (List ℕ)) (old new : Ends) (s : Status) → RunsTo words old new s → VerifiesAtLast words old new s

@@ -119,18 +119,13 @@ pub text_parted : (version : Version) (t : Strategy) (rest : List ℕ) → IsStr
     → first_line (strategy_text version t ++ rest) ≡ (strategy_text version t, rest)
 text_parted version t rest is = line_parted (strategy_data version t) rest (has_line version t is.written).canonical
 
--- what is said of two files is said of what stands in the first line and behind it
-in_two : (says : Strategy → Strategy → Reply → Type 0) (bytes one rest : List ℕ) (reply : Reply) → first_line bytes ≡ (one, rest)
-    → OfFile First (λ x. OfFile Second (says x) (first_line bytes).1) (first_line bytes).0 reply → OfFile First (λ x. OfFile Second (says x) rest) one reply
-in_two says bytes one rest reply parts =
-    subst (λ (p : List ℕ × List ℕ). OfFile First (λ x. OfFile Second (says x) p.1) p.0 reply) parts
-
 of_texts : (v w : Version) (one two : Strategy) (reply : Reply) → IsStrategy v one → IsStrategy w two
     → Duels (strategy_text v one ++ strategy_text w two) reply → SaysDuel one two reply
 of_texts v w one two reply is_one is_two h =
     let rest = strategy_text w two in
-    let first = in_two SaysDuel (strategy_text v one ++ rest) (strategy_text v one) rest reply (text_parted v one rest is_one) h in
-    of_text Second (SaysDuel one) w two reply is_two (of_text First (λ x. OfFile Second (SaysDuel x) rest) v one reply is_one first)
+    let here : OfFile First (λ x. OfFile Second (SaysDuel x) rest) (strategy_text v one) reply =
+    subst (λ (p : List ℕ × List ℕ). OfFile First (λ x. OfFile Second (SaysDuel x) p.1) p.0 reply) (text_parted v one rest is_one) h in
+    of_text Second (SaysDuel one) w two reply is_two (of_text First (λ x. OfFile Second (SaysDuel x) rest) v one reply is_one here)
 
 pub duels_at_last : (words : List (List ℕ)) (old new : Ends) (s : Status) → RunsTo words old new s → DuelsAtLast words old new s
 duels_at_last words old new s runs v w one two asked is_one is_two e few good =
