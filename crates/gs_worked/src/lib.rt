@@ -1,6 +1,6 @@
-//! Worked values of the definitions, as laws: two decks whose classes are known by hand.
+//! Worked values of the definitions: two decks whose classes are known by hand, as laws, and values of cards and of Kuhn's game, in `proofs/`.
 //!
-//! The crate runs nothing: a function here is a law, and its contract names the values. More worked values stand in `gs_model`.
+//! The crate runs nothing: a function here is a law, and its contract names the values.
 #![tactic(auto)]
 
 ghost use Rattle.gs_worked.specs.Decks.{OneRank, TwoSuits};
