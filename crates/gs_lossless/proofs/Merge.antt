@@ -1,5 +1,5 @@
 -- Sums by class and outcome: what joining neighbours of a sorted list gives, and that sums which agree are one list.
-use Rattle.std.proofs.Common.{reverse, take, drop, set, ◌++◌, length-take, drop-cons, ◌≡◌, ℕ, ℤ, suc, ◌+◌, ◌-◌, ◌<◌, ◌≤◌, Bool, true, false, cond, List, [], ◌∷◌, length, get_or, refl, sym, ap, ◌∙◌, subst, arith, true≢false, sum_by, IsPermutation}
+use Rattle.std.proofs.Common.{take, set, append_assoc, ◌++◌, length-take, ◌≡◌, ℕ, ℤ, suc, ◌+◌, ◌-◌, ◌<◌, ◌≤◌, Bool, true, false, cond, List, [], ◌∷◌, length, get_or, refl, sym, ap, ◌∙◌, subst, arith, true≢false, sum_by, IsPermutation}
 use Rattle.std.specs.Prelude.{◌==◌, ◌&&◌}
 use Rattle.std.specs.Bool.{Decides}
 use Rattle.std.specs.Cmp.{IsTotalOrder}
@@ -10,12 +10,12 @@ use Rattle.std.specs.declared.cmp.Ordering.{Ordering}
 use Rattle.std.specs.declared.cmp.Ordering.TheVariants.{Less, Equal, Greater}
 use Rattle.std.proofs.lemmas.Bool.Decides.{Decides-and, Decides-eqb, Decides-int_eq, Decides-like}
 use Rattle.std.proofs.lemmas.Cmp.{int_cmp_total, int_ranked, nat_cmp_total, on_total, ranked, then_total, tied_itself}
-use Rattle.std.proofs.lemmas.List.{reverse-append, take_all, take_more}
+use Rattle.std.proofs.lemmas.List.{take_all, take_more}
 use Rattle.std.proofs.Math.Seq.{set-append_seam}
 use Rattle.std.proofs.lemmas.List.Elements.{recursion_from_All}
 use Rattle.std.proofs.lemmas.List.Sorted.{sum_by-IsPermutation}
-use Rattle.std.proofs.lemmas.List.Sums.{sum_by_push, sum_by-cons, sum_by-drop_more, sum_by-take-drop}
-use Rattle.gs_lossless.specs.Sums.{AreSumsOf, Rises, is_at, key_cmp, merged, put, sum_at, weight_at}
+use Rattle.std.proofs.lemmas.List.Sums.{sum_by-cons, sum_by-drop_more, sum_by-take-drop}
+use Rattle.gs_lossless.specs.Sums.{AreSumsOf, Rises, is_at, key_cmp, merged, put, put_last, sum_at, weight_at}
 use Rattle.gs_lossless.specs.declared.parts.Part.{Part}
 
 total : IsTotalOrder key_cmp
@@ -228,57 +228,120 @@ sums_from parts sorted m s w = record {
   sum = λ c o. merged-sum c o sorted ∙ sum_by-IsPermutation (weight_at c o) parts sorted m;
 }
 
--- ---- the last of a list
+-- ---- parts taken in turn
 
-pub last_first : {X : Type 0} (xs : List X) (d : X) → 0 < length xs → reverse xs ≡ get_or xs (length xs - 1) d ∷ reverse (take (length xs - 1) xs)
-last_first xs d l =
-    let n = length xs - 1 in
-    let e : n + 1 ≡ length xs = omega arith in
-    ap reverse (sym (take_all (n + 1) xs (omega arith)) ∙ take_more xs n d (omega arith)) ∙ reverse-append (take n xs) (get_or xs n d ∷ [])
+-- a sum with a part of its key
+abbrev with_part : Part → Part → Part
+with_part q p = record q { weight = q.weight + p.weight }
 
-pub last_set : {X : Type 0} (xs : List X) (d v : X) → 0 < length xs → reverse (set xs (length xs - 1) v) ≡ v ∷ reverse (take (length xs - 1) xs)
-last_set xs d v l =
-    let n = length xs - 1 in
-    let s : length (take n xs) ≡ n = omega (arith, length-take n xs) in
-    let e : xs ≡ take n xs ++ get_or xs n d ∷ [] = sym (take_all (n + 1) xs (omega arith)) ∙ take_more xs n d (omega arith) in
-    ap (λ ys. reverse (set ys n v)) e ∙ ap (λ k. reverse (set (take n xs ++ get_or xs n d ∷ []) k v)) (sym s)
-    ∙ ap reverse (set-append_seam (take n xs) (get_or xs n d) [] v) ∙ reverse-append (take n xs) (v ∷ [])
+pub not_at : (p q : Part) → ((p.class ≡ q.class) × (p.outcome ≡ q.outcome) → ⊥) → is_at p q ≡ false
+not_at p q apart = by (is_at p q) refl
+  where
+    by : (b : Bool) → is_at p q ≡ b → b ≡ false
+    by true e = absurd (apart ((exact p q).0 e))
+    by false e = refl
 
-pub join_last : (xs : List Part) (last p : Part) → 0 < length xs → last ≡ get_or xs (length xs - 1) last → is_at last p ≡ true
-    → reverse (set xs (length xs - 1) (record last { weight = last.weight + p.weight })) ≡ put p (reverse xs)
-join_last xs last p l e t =
-    let rest = reverse (take (length xs - 1) xs) in
-    let same : put p (reverse xs) ≡ put p (last ∷ rest) = ap (put p) (last_first xs last l ∙ ap (λ q. q ∷ rest) (sym e)) in
-    let joined : put p (last ∷ rest) ≡ record last { weight = last.weight + p.weight } ∷ rest =
-    ap (λ b. cond b (record last { weight = last.weight + p.weight } ∷ rest) (p ∷ last ∷ rest)) t in
-    last_set xs last (record last { weight = last.weight + p.weight }) l ∙ sym joined ∙ sym same
+at_turned : (p q : Part) → is_at p q ≡ is_at q p
+at_turned p q = by (is_at p q) (is_at q p) refl refl
+  where
+    by : (a b : Bool) → is_at p q ≡ a → is_at q p ≡ b → a ≡ b
+    by true true s t = refl
+    by true false s t = let k = (exact p q).0 s in absurd (true≢false (sym ((exact q p).1 (sym k.0, sym k.1)) ∙ t))
+    by false true s t = let k = (exact q p).0 t in absurd (true≢false (sym ((exact p q).1 (sym k.0, sym k.1)) ∙ s))
+    by false false s t = refl
 
-sum_by-reverse : {X : Type 0} (f : X → ℕ) (xs : List X) → sum_by f (reverse xs) ≡ sum_by f xs
-sum_by-reverse f [] = refl
-sum_by-reverse f (x ∷ xs) = ap (sum_by f) (reverse-append (x ∷ []) xs) ∙ omega (arith, sum_by_push f (reverse xs) x, sum_by-reverse f xs, sum_by-cons f x xs)
+two_parts : (x p : Part) → cond (is_at p x) (with_part p x ∷ []) (x ∷ p ∷ []) ≡ cond (is_at x p) (with_part x p ∷ []) (x ∷ p ∷ [])
+two_parts x p = by (is_at x p) refl
+  where
+    by : (b : Bool) → is_at x p ≡ b → cond (is_at p x) (with_part p x ∷ []) (x ∷ p ∷ []) ≡ cond b (with_part x p ∷ []) (x ∷ p ∷ [])
+    by true e =
+        let k = (exact x p).0 e in
+        ap (λ b. cond b (with_part p x ∷ []) (x ∷ p ∷ [])) (at_turned p x ∙ e)
+        ∙ ap (λ q. q ∷ []) (part_is (with_part p x) (with_part x p) (sym k.0) (sym k.1) (omega arith))
+    by false e = ap (λ b. cond b (with_part p x ∷ []) (x ∷ p ∷ [])) (at_turned p x ∙ e)
+
+-- a part before others and one behind them can be put in any order
+puts_commute : (x p : Part) (qs : List Part) → put x (put_last p qs) ≡ put_last p (put x qs)
+puts_commute x p [] = two_parts x p
+puts_commute x p (q ∷ []) = by (is_at q p) (is_at q x) refl refl
+  where
+    by : (a b : Bool) → is_at q p ≡ a → is_at q x ≡ b
+        → put x (cond a (with_part q p ∷ []) (q ∷ p ∷ [])) ≡ put_last p (cond b (with_part q x ∷ []) (x ∷ q ∷ []))
+    by true true s t =
+        ap (λ b. cond b (with_part (with_part q p) x ∷ []) (x ∷ with_part q p ∷ [])) t
+        ∙ ap (λ n. record q { weight = n } ∷ []) (omega arith)
+        ∙ sym (ap (λ b. cond b (with_part (with_part q x) p ∷ []) (with_part q x ∷ p ∷ [])) s)
+    by true false s t =
+        ap (λ b. cond b (with_part (with_part q p) x ∷ []) (x ∷ with_part q p ∷ [])) t
+        ∙ sym (ap (λ b. x ∷ cond b (with_part q p ∷ []) (q ∷ p ∷ [])) s)
+    by false true s t =
+        ap (λ b. cond b (with_part q x ∷ p ∷ []) (x ∷ q ∷ p ∷ [])) t
+        ∙ sym (ap (λ b. cond b (with_part (with_part q x) p ∷ []) (with_part q x ∷ p ∷ [])) s)
+    by false false s t =
+        ap (λ b. cond b (with_part q x ∷ p ∷ []) (x ∷ q ∷ p ∷ [])) t
+        ∙ sym (ap (λ b. x ∷ cond b (with_part q p ∷ []) (q ∷ p ∷ [])) s)
+puts_commute x p (q ∷ r ∷ rs) = by (is_at q x)
+  where
+    by : (b : Bool) → cond b (with_part q x ∷ put_last p (r ∷ rs)) (x ∷ q ∷ put_last p (r ∷ rs)) ≡ put_last p (cond b (with_part q x ∷ r ∷ rs) (x ∷ q ∷ r ∷ rs))
+    by true = refl
+    by false = refl
+
+-- one part more
+merged_behind : (xs : List Part) (p : Part) → merged (xs ++ p ∷ []) ≡ put_last p (merged xs)
+merged_behind [] p = refl
+merged_behind (x ∷ xs) p = ap (put x) (merged_behind xs p) ∙ puts_commute x p (merged xs)
+
+pub merge_more : (sorted sums next : List Part) (at : ℕ) (d : Part) → at < length sorted → sums ≡ merged (take at sorted)
+    → next ≡ put_last (get_or sorted at d) sums → next ≡ merged (take (at + 1) sorted)
+merge_more sorted sums next at d l j n =
+    n ∙ ap (put_last (get_or sorted at d)) j
+    ∙ sym (ap merged (take_more sorted at d l) ∙ merged_behind (take at sorted) (get_or sorted at d))
 
 -- the next part fits beside what was added up
-pub fits_more : (parts sorted sums : List Part) (top : ℕ) (p : Part) → IsPermutation parts sorted → 0 < top → top ≤ length sorted
-    → p ≡ get_or sorted (top - 1) p → reverse sums ≡ merged (drop top sorted)
-    → sum_by (λ (p : Part). p.weight) sums + p.weight ≤ sum_by (λ (p : Part). p.weight) parts
-fits_more parts sorted sums top p m some l e j =
+pub fits_more : (parts sorted sums : List Part) (at : ℕ) (d : Part) → IsPermutation parts sorted → at < length sorted → sums ≡ merged (take at sorted)
+    → sum_by (λ (p : Part). p.weight) sums + (get_or sorted at d).weight ≤ sum_by (λ (p : Part). p.weight) parts
+fits_more parts sorted sums at d m l j =
     let w : Part → ℕ = λ p. p.weight in
-    let at = top - 1 in
-    let up : at + 1 ≡ top = omega arith in
-    let a : sum_by w sums ≡ sum_by w (drop (at + 1) sorted) = sym (sum_by-reverse w sums) ∙ ap (sum_by w) j ∙ merged-total (drop top sorted)
-    ∙ ap (λ k. sum_by w (drop k sorted)) (sym up) in
+    let a : sum_by w sums ≡ sum_by w (take at sorted) = ap (sum_by w) j ∙ merged-total (take at sorted) in
     let t = sum_by-IsPermutation w parts sorted m in
-    let i : p.weight ≡ (get_or sorted at p).weight = ap w e in
-    let more = sum_by-drop_more w sorted at p (omega arith) in
+    let more = sum_by-drop_more w sorted at d l in
     let whole = sum_by-take-drop w sorted at in
-    omega (arith, a, t, i, more, whole)
+    omega (arith, a, t, more, whole)
 
-pub merge_more : (sorted sums next : List Part) (top : ℕ) (p : Part) → 0 < top → top ≤ length sorted → p ≡ get_or sorted (top - 1) p
-    → reverse sums ≡ merged (drop top sorted)
-    → reverse next ≡ put p (reverse sums) → reverse next ≡ merged (drop (top - 1) sorted)
-merge_more sorted sums next top p some l e j n =
-    let at = top - 1 in
-    let up : suc at ≡ top = omega arith in
-    n ∙ ap (put p) j ∙ ap (λ q. put q (merged (drop top sorted))) e
-    ∙ ap (λ k. merged (get_or sorted at p ∷ drop k sorted)) (sym up)
-    ∙ ap merged (sym (drop-cons sorted at p (omega arith)))
+-- ---- the last of a list
+
+before_cond : (y : Part) (b : Bool) (one other : List Part) → y ∷ cond b one other ≡ cond b (y ∷ one) (y ∷ other)
+before_cond y true one other = refl
+before_cond y false one other = refl
+
+last_put : (ys : List Part) (last p : Part)
+    → put_last p (ys ++ last ∷ []) ≡ cond (is_at last p) (ys ++ with_part last p ∷ []) (ys ++ last ∷ p ∷ [])
+last_put [] last p = refl
+last_put (y ∷ []) last p = before_cond y (is_at last p) (with_part last p ∷ []) (last ∷ p ∷ [])
+last_put (y ∷ z ∷ zs) last p =
+    ap (λ qs. y ∷ qs) (last_put (z ∷ zs) last p)
+    ∙ before_cond y (is_at last p) (z ∷ zs ++ with_part last p ∷ []) (z ∷ zs ++ last ∷ p ∷ [])
+
+parted : (xs : List Part) (last : Part) → 0 < length xs → last ≡ get_or xs (length xs - 1) last → xs ≡ take (length xs - 1) xs ++ last ∷ []
+parted xs last l e =
+    sym (take_all (length xs - 1 + 1) xs (omega arith)) ∙ take_more xs (length xs - 1) last (omega arith)
+    ∙ ap (λ q. take (length xs - 1) xs ++ q ∷ []) (sym e)
+
+pub join_last : (xs : List Part) (last p : Part) → 0 < length xs → last ≡ get_or xs (length xs - 1) last → is_at last p ≡ true
+    → set xs (length xs - 1) (record last { weight = last.weight + p.weight }) ≡ put_last p xs
+join_last xs last p l e t =
+    let n = length xs - 1 in
+    let front = take n xs in
+    let v = with_part last p in
+    let s : length front ≡ n = omega (arith, length-take n xs) in
+    let whole = parted xs last l e in
+    ap (λ ys. set ys n v) whole ∙ ap (λ k. set (front ++ last ∷ []) k v) (sym s) ∙ set-append_seam front last [] v
+    ∙ sym (ap (put_last p) whole ∙ last_put front last p ∙ ap (λ b. cond b (front ++ v ∷ []) (front ++ last ∷ p ∷ [])) t)
+
+pub push_last : (xs : List Part) (last p : Part) → 0 < length xs → last ≡ get_or xs (length xs - 1) last → is_at last p ≡ false
+    → xs ++ p ∷ [] ≡ put_last p xs
+push_last xs last p l e t =
+    let front = take (length xs - 1) xs in
+    let whole = parted xs last l e in
+    ap (λ ys. ys ++ p ∷ []) whole ∙ append_assoc front (last ∷ []) (p ∷ [])
+    ∙ sym (ap (put_last p) whole ∙ last_put front last p ∙ ap (λ b. cond b (front ++ with_part last p ∷ []) (front ++ last ∷ p ∷ [])) t)

@@ -1,9 +1,9 @@
 -- The steps of the scans, and what their answers make of classes.
-use Rattle.std.proofs.Common.{◌≡◌, ◌≢◌, ℕ, ◌+◌, ◌-◌, ◌<◌, ◌≤◌, false, List, length, get_or, set, refl, sym, ap, ◌∙◌, subst, arith, ⊎_elim, reverse, true≢false, Option, Some, None, Vec, Global}
+use Rattle.std.proofs.Common.{◌≡◌, ◌≢◌, ℕ, ◌+◌, ◌-◌, ◌<◌, ◌≤◌, false, List, length, get_or, set, refl, sym, ap, ◌∙◌, subst, arith, ⊎_elim, true≢false, Option, Some, None, Vec, Global}
 use Rattle.std.specs.Option.{option_or}
 use Rattle.std.specs.Prelude.{is_some, unwrap_or}
 use Rattle.std.proofs.lemmas.Bool.{cases_eq, cases_lt}
-use Rattle.std.proofs.lemmas.List.{reverse-reverse, get_or-set_other, get_or-set_same}
+use Rattle.std.proofs.lemmas.List.{get_or-set_other, get_or-set_same}
 use Rattle.gs_filter.specs.Filter.{Filter, IsSound, single_classes}
 use Rattle.gs_filter.proofs.ClassLaws.{single_are_classes}
 use Rattle.gs_filter.proofs.TallyLaws.{first_member_of}
@@ -64,7 +64,7 @@ module _ (f : Frame) (lists : ClassLists) (side : Side) (round signal : ℕ) (ke
   -- past the first member, whose sums are kept
   pub stored_first : (sums : Vec Part Global) → class_of lists round signal - 1 < length kept → 0 < class_of lists round signal
       → first_member lists round (class_of lists round signal) ≡ signal
-      → AreAmounts f lists side round signal (reverse sums.items) → StoredBelow f lists side round (signal + 1)
+      → AreAmounts f lists side round signal sums.items → StoredBelow f lists side round (signal + 1)
       (set kept (class_of lists round signal - 1) sums)
   stored_first sums l some first here = λ k d a b m many. ⊎_elim
       (λ same.
@@ -72,15 +72,15 @@ module _ (f : Frame) (lists : ClassLists) (side : Side) (round signal : ℕ) (ke
       ap (λ j. get_or (set kept (class_of lists round signal - 1) sums) (j - 1) d) same
       ∙ get_or-set_same kept (class_of lists round signal - 1) sums d l in
       let own : first_member lists round k ≡ signal = ap (first_member lists round) same ∙ first in
-      subst (λ (v : Vec Part Global). AreAmounts f lists side round (first_member lists round k) (reverse v.items)) (sym read)
-      (subst (λ x. AreAmounts f lists side round x (reverse sums.items)) (sym own) here))
+      subst (λ (v : Vec Part Global). AreAmounts f lists side round (first_member lists round k) v.items) (sym read)
+      (subst (λ x. AreAmounts f lists side round x sums.items) (sym own) here))
       (λ other.
       let apart : k - 1 ≢ class_of lists round signal - 1 = λ e. other (omega (arith, e, a, some)) in
       let read : get_or (set kept (class_of lists round signal - 1) sums) (k - 1) d ≡ get_or kept (k - 1) d =
       get_or-set_other kept (class_of lists round signal - 1) (k - 1) sums d apart in
       let under : first_member lists round k < signal = ⊎_elim (λ u. u) (λ o. absurd (let e : first_member lists round k ≡ signal = omega (arith, m, o) in
       other (class_is lists round signal k n a b e))) (cases_lt (first_member lists round k) signal) in
-      subst (λ (v : Vec Part Global). AreAmounts f lists side round (first_member lists round k) (reverse v.items)) (sym read) (h k d a b under many))
+      subst (λ (v : Vec Part Global). AreAmounts f lists side round (first_member lists round k) v.items) (sym read) (h k d a b under many))
       (cases_eq k (class_of lists round signal))
 
 pub agree_more : (f : Frame) (lists : ClassLists) (side : Side) (round signal : ℕ) → AgreeBelow f lists side round signal
@@ -163,6 +163,3 @@ pub end_in : (f : Frame) (lists : ClassLists) (round count : ℕ) (apart : Optio
     → unwrap_or apart count ≤ count
 end_in f lists round count None h = omega arith
 end_in f lists round count (Some t) h = omega (arith, h.0)
-
-pub reverse_one : (xs ys : List Part) → reverse xs ≡ reverse ys → xs ≡ ys
-reverse_one xs ys e = sym (reverse-reverse xs) ∙ ap reverse e ∙ reverse-reverse ys

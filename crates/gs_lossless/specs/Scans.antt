@@ -1,5 +1,5 @@
 -- The first signal of a round that differs from the first member of its class.
-use Rattle.std.specs.Prelude.{ℕ, ◌-◌, ◌<◌, ◌≤◌, ◌≢◌, List, Option, Some, None, Vec, get_or, reverse}
+use Rattle.std.specs.Prelude.{ℕ, ◌-◌, ◌<◌, ◌≤◌, ◌≢◌, List, Option, Some, None, Vec, get_or}
 use Rattle.std.specs.declared.alloc.Global.{Global}
 use Rattle.gs_model.specs.Classes.{ClassLists, class_count, class_size, first_member}
 use Rattle.gs_model.specs.Frame.{Frame}
@@ -20,4 +20,4 @@ IsFirstApart f lists side round end (Some s) = (s < end) × AgreeBelow f lists s
 abbrev pub StoredBelow : Frame → ClassLists → Side → ℕ → ℕ → List (Vec Part Global) → Type 0
 StoredBelow f lists side round signal kept =
     (k : ℕ) (d : Vec Part Global) → 0 < k → k ≤ class_count lists round → first_member lists round k < signal → class_size lists round k ≢ 1
-    → AreAmounts f lists side round (first_member lists round k) (reverse (get_or kept (k - 1) d).items)
+    → AreAmounts f lists side round (first_member lists round k) (get_or kept (k - 1) d).items

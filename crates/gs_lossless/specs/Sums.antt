@@ -37,6 +37,12 @@ abbrev pub put : Part → List Part → List Part
 put p [] = p ∷ []
 put p (q ∷ qs) = if is_at q p then record q { weight = q.weight + p.weight } ∷ qs else p ∷ q ∷ qs
 
+-- a part behind others, joined to the last of them where both count for the same
+abbrev pub put_last : Part → List Part → List Part
+put_last p [] = p ∷ []
+put_last p (q ∷ []) = if is_at q p then record q { weight = q.weight + p.weight } ∷ [] else q ∷ p ∷ []
+put_last p (q ∷ r ∷ rs) = q ∷ put_last p (r ∷ rs)
+
 -- neighbours that count for the same joined
 abbrev pub merged : List Part → List Part
 merged [] = []

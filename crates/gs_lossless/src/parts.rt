@@ -1,7 +1,7 @@
 //! Weights by class and outcome, added up.
 
-ghost use Rattle.std.specs.Prelude.{◌≡◌, ◌↔◌, ◌+◌, ◌<◌, ◌^◌, All, IfOk, OnOk, IsTrue, reverse, sum_by};
-ghost use Rattle.gs_lossless.specs.Sums.{AreSumsOf, is_at, merged, put};
+ghost use Rattle.std.specs.Prelude.{◌≡◌, ◌↔◌, ◌+◌, ◌<◌, ◌^◌, All, IfOk, OnOk, IsTrue, sum_by};
+ghost use Rattle.gs_lossless.specs.Sums.{AreSumsOf, is_at, merged, put_last};
 
 use std::alloc::{AllocError, Global};
 
@@ -13,10 +13,10 @@ pub struct Part {
     pub weight: u32,
 }
 
-/// Adds a part to sums whose keys are none below its own: the last sum takes it, or it begins a new one.
+/// Adds a part to sums whose keys are none above its own: the last sum takes it, or it begins a new one.
 fn add(sums: &mut Vec<Part>, part: Part) -> Result<(), AllocError>
     requires { sum_by (λ p. p.weight) sums.old.items + part.weight < 2 ^ 32 }
-    ensures { OnOk result (reverse sums.new.items ≡ put part (reverse sums.old.items)) }
+    ensures { OnOk result (sums.new.items ≡ put_last part sums.old.items) }
 {
     let count = sums.len();
     if 0 < count {
@@ -30,16 +30,16 @@ fn add(sums: &mut Vec<Part>, part: Part) -> Result<(), AllocError>
     Ok(())
 }
 
-/// The sums of the weights of some parts, for each class and outcome that some part has.
+/// The sums of the weights of some parts, for each class and outcome that some part has, in ascending order.
 pub(crate) fn sums_of(alloc: Global, mut parts: Vec<Part>) -> Result<Vec<Part>, AllocError>
     requires some { All (λ p. 0 < p.weight) parts.items }
     requires fits { sum_by (λ p. p.weight) parts.items < 2 ^ 32 }
-    ensures { IfOk result (λ v. AreSumsOf parts.items (reverse v.items)) }
+    ensures { IfOk result (λ v. AreSumsOf parts.items v.items) }
 {
     parts.sort_unstable();
     let mut sums = Vec::with_capacity(alloc, parts.len())?;
-    for at in (0..parts.len()).rev() {
-        add(&mut sums, parts[at])?;
+    for part in &parts {
+        add(&mut sums, *part)?;
     }
     Ok(sums)
 }

@@ -1,6 +1,6 @@
 //! What is compared of a signal: the sums of its deals, or of its children.
 
-ghost use Rattle.std.specs.{Prelude.{◌≡◌, ◌-◌, ◌++◌, ◌<◌, ◌≤◌, ◌^◌, All, IfOk, OnOk, length, map, reverse}, List.{range_with_len}};
+ghost use Rattle.std.specs.{Prelude.{◌≡◌, ◌-◌, ◌++◌, ◌<◌, ◌≤◌, ◌^◌, All, IfOk, OnOk, length, map}, List.{range_with_len}};
 ghost use Rattle.gs_model.specs.{Classes.{ClassLists}, Deals.{Deal as Dealt, deals as all_deals}, Frame.{frame_of}};
 ghost use Rattle.gs_model.specs.Signals.{signals as signals_in};
 ghost use Rattle.gs_tree.specs.{Trees.{rules_of}, Walk.{last_count}};
@@ -90,7 +90,7 @@ fn child_parts(alloc: Global, keys: &[u32], run: Run) -> Result<Vec<Part>, Alloc
     Ok(parts)
 }
 
-/// The sums of a signal on one side, in descending order, by class and then by outcome. `keys` are those of the side. Signals that agree on the side
+/// The sums of a signal on one side, in ascending order, by class and then by outcome. `keys` are those of the side. Signals that agree on the side
 /// have one list of sums, and no others have.
 pub fn side_sums(
     alloc: Global,
@@ -104,7 +104,7 @@ pub fn side_sums(
     requires all { length keys.now ≡ key_count (rules_of signals.now) side round }
     requires in_range { signal < length (signals_in (rules_of signals.now) round) }
     ensures { IfOk result (λ v. (lists : ClassLists) → keys.now ≡ keys_of (frame_of (rules_of signals.now)) lists side round
-        → AreAmounts (frame_of (rules_of signals.now)) lists side round signal (reverse v.items)) }
+        → AreAmounts (frame_of (rules_of signals.now)) lists side round signal v.items) }
 {
     let parts = match side {
         Side::Children => {

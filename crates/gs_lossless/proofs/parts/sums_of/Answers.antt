@@ -1,4 +1,5 @@
-use Rattle.std.proofs.Common.{arith, ◌<◌, ◌≡◌, ap, sym, ◌∙◌, subst, drop}
+use Rattle.std.proofs.Common.{arith, ◌<◌, ◌≡◌, ap, sym, ◌∙◌, subst, IsPermutation, pos}
+use Rattle.std.proofs.lemmas.List.{take_all}
 use Rattle.std.proofs.lemmas.List.Sorted.{All-permutation}
 use Rattle.gs_lossless.specs.Sums.{AreSumsOf, merged}
 use Rattle.gs_lossless.specs.declared.parts.Part.{Part}
@@ -7,19 +8,22 @@ use Rattle.gs_lossless.proofs.parts.sums_of.Goals as goal
 
 pub add-requires : goal.add-requires
 add-requires c =
-    let f = fits_more c.args.parts.items c.sort_unstable.new.self.items c.loop-at.sums.items c.loop-at.at c.index.result.now c.sort_unstable.ensures.permutation c.loop-at-test.true c.loop-at.invariant.within c.index.ensures c.loop-at.invariant.joined in
+    let sorted = c.deref-part-items.result.now in
+    let same = subst (IsPermutation c.args.parts.items) (sym c.deref-part-items.ensures.value) c.sort_unstable.ensures.permutation in
+    let f = fits_more c.args.parts.items sorted c.loop-part.sums.items c.loop-part.part-index (record { class = 0; outcome = pos 0; weight = 0 }) same c.loop-part-test.true c.loop-part.invariant in
     omega (arith, f, c.requires.fits)
 
-pub loop-at-preserved : goal.loop-at-preserved
-loop-at-preserved c = record {
-  within = omega arith;
-  joined = merge_more c.sort_unstable.new.self.items c.loop-at.sums.items c.add.new.sums.items c.loop-at.at c.index.result.now c.loop-at-test.true c.loop-at.invariant.within c.index.ensures c.loop-at.invariant.joined c.in_ok-add.ensures;
-}
+pub loop-part-preserved : goal.loop-part-preserved
+loop-part-preserved c =
+    merge_more c.deref-part-items.result.now c.loop-part.sums.items c.add.new.sums.items c.loop-part.part-index (record { class = 0; outcome = pos 0; weight = 0 }) c.loop-part-test.true
+    c.loop-part.invariant c.in_ok-add.ensures
 
 pub returns : goal.returns
 returns c =
     let sorted = c.sort_unstable.new.self.items in
-    let none : c.loop-at.at ≡ 0 = omega arith in
-    subst (AreSumsOf c.args.parts.items) (sym (c.loop-at.invariant.joined ∙ ap (λ k. merged (drop k sorted)) none))
+    let items = c.deref-part-items.result.now in
+    let whole : c.loop-part.sums.items ≡ merged sorted = c.loop-part.invariant ∙ ap merged (take_all c.loop-part.part-index items c.loop-part-test.false)
+    ∙ ap merged c.deref-part-items.ensures.value in
+    subst (AreSumsOf c.args.parts.items) (sym whole)
     (sums_from c.args.parts.items sorted c.sort_unstable.ensures.permutation c.sort_unstable.ensures.sorted
     (All-permutation (λ (p : Part). 0 < p.weight) c.args.parts.items sorted c.sort_unstable.ensures.permutation c.requires.some))

@@ -1,5 +1,5 @@
 use Rattle.std.proofs.lemmas.List.{length-set}
-use Rattle.std.proofs.Common.{true, false, true≢false, rules, ◌≡◌, ◌≢◌, ◌+◌, ◌-◌, ◌≤◌, ℕ, List, ap, get_or, length, set, sym, ◌∙◌, subst, arith, reverse, Vec, Global}
+use Rattle.std.proofs.Common.{true, false, true≢false, rules, ◌≡◌, ◌≢◌, ◌+◌, ◌-◌, ◌≤◌, ℕ, List, ap, get_or, length, set, sym, ◌∙◌, subst, arith, Vec, Global}
 use Rattle.gs_model.specs.Classes.{class_of, class_size, first_member}
 use Rattle.gs_model.specs.Frame.{frame_of}
 use Rattle.gs_tree.specs.Trees.{rules_of}
@@ -7,7 +7,7 @@ use Rattle.gs_lossless.specs.Amounts.{Agree, AreAmounts}
 use Rattle.gs_lossless.specs.Scans.{StoredBelow}
 use Rattle.gs_lossless.specs.declared.parts.Part.{Part}
 use Rattle.gs_lossless.proofs.Descent.{keys_long, last_is, list_long, playable}
-use Rattle.gs_lossless.proofs.Scanned.{reverse_one, agree_more, agree_self, side_in, stored_first, stored_later, stored_single}
+use Rattle.gs_lossless.proofs.Scanned.{agree_more, agree_self, side_in, stored_first, stored_later, stored_single}
 use Rattle.gs_lossless.proofs.Settled.{first_le, agree_if_same, same_if_agree, single_agrees}
 use Rattle.gs_lossless.proofs.scan.first_apart.Goals as goal
 use Rattle.gs_lossless.proofs.scan.first_apart.Goals.{After-first, then-first-signal, else-first-signal+else-not-are_same}
@@ -46,7 +46,7 @@ loop-signal-preserved-then-size-eq1 c =
 
 -- the first member of the class stands before another one, and its sums are kept
 earlier : (c : After-first) → c.first.result ≢ c.loop-signal.signal → (d : Vec Part Global)
-    → AreAmounts (frame_of (rules_of c.args.grouped.now.signals.now)) c.args.grouped.now.classes.now.lists c.args.side c.args.round (first_member c.args.grouped.now.classes.now.lists c.args.round c.class_of-class.result) (reverse (get_or c.loop-signal.kept.items (c.class_of-class.result - 1) d).items)
+    → AreAmounts (frame_of (rules_of c.args.grouped.now.signals.now)) c.args.grouped.now.classes.now.lists c.args.side c.args.round (first_member c.args.grouped.now.classes.now.lists c.args.round c.class_of-class.result) (get_or c.loop-signal.kept.items (c.class_of-class.result - 1) d).items
 earlier c other d =
     let g = rules_of c.args.grouped.now.signals.now in
     let lists = c.args.grouped.now.classes.now.lists in
@@ -70,8 +70,7 @@ returns-then-not-are_same c =
       c.loop-signal.invariant.agree,
       (λ a.
           let own = subst (λ (x : ℕ). Agree f lists c.args.side c.args.round (first_member lists c.args.round x) c.loop-signal.signal) (sym c.class_of-class.ensures.value) a in
-          let turned = same_if_agree f lists c.args.side c.args.round (first_member lists c.args.round c.class_of-class.result) c.loop-signal.signal (reverse kept.items) (reverse sums.items) first here own in
-          let items = reverse_one kept.items sums.items turned in
+          let items = same_if_agree f lists c.args.side c.args.round (first_member lists c.args.round c.class_of-class.result) c.loop-signal.signal kept.items sums.items first here own in
           let same = c.deref-else-first-signal.ensures.value ∙ ap (λ (v : Vec Part Global). v.items) c.index.ensures ∙ items ∙ sym c.deref-else-first-signal-2.ensures.value in
           true≢false (sym (c.are_same.ensures.1 same) ∙ no)),
     )
@@ -111,8 +110,8 @@ loop-signal-preserved c =
           let later : first_member lists round (class_of lists round signal) ≡ signal → ⊥ = λ q. w.if-first-signal.false (c.first.ensures.value ∙ ap (first_member lists round) is ∙ q) in
           let first = earlier (goal.at.loop-signal-preserved c).After-first w.if-first-signal.false d in
           let yes : w.are_same.result ≡ true = search rules in
-          let same = ap (λ (v : Vec Part Global). reverse v.items) (sym w.index.ensures) ∙ ap reverse (sym w.deref-else-first-signal.ensures.value ∙ w.are_same.ensures.0 yes ∙ w.deref-else-first-signal-2.ensures.value) in
-          let agrees = agree_if_same f lists side round (first_member lists round class) signal (reverse (get_or kept (class - 1) d).items) (reverse sums.items) first here same in
+          let same = ap (λ (v : Vec Part Global). v.items) (sym w.index.ensures) ∙ sym w.deref-else-first-signal.ensures.value ∙ w.are_same.ensures.0 yes ∙ w.deref-else-first-signal-2.ensures.value in
+          let agrees = agree_if_same f lists side round (first_member lists round class) signal (get_or kept (class - 1) d).items sums.items first here same in
           record {
             long = ap (λ (v : List (Vec Part Global)). length v) items ∙ c.loop-signal.invariant.long;
             stored = subst (StoredBelow f lists side round (signal + 1)) (sym items) (stored_later f lists side round signal kept n c.loop-signal.invariant.stored later);
