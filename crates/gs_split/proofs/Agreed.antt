@@ -1,5 +1,5 @@
 -- Sums of one signal and of another, and the numbers that they get.
-use Rattle.std.proofs.Common.{◌≡◌, ◌↔◌, ℕ, ℤ, pos, ◌-◌, ◌<◌, Bool, true, false, true≢false, cond, List, [], length, get_or, refl, sym, ap, ◌∙◌, subst, arith, reverse}
+use Rattle.std.proofs.Common.{◌≡◌, ◌↔◌, ℕ, ℤ, pos, ◌-◌, ◌<◌, Bool, true, false, true≢false, cond, List, [], length, get_or, refl, sym, ap, ◌∙◌, subst, arith}
 use Rattle.std.specs.Prelude.{◌==◌}
 use Rattle.std.specs.Bool.{Decides}
 use Rattle.std.specs.Ordering.{int_eq}
@@ -11,7 +11,6 @@ use Rattle.gs_lossless.specs.Amounts.{Agree, AgreesWithFirst, AreAmounts, amount
 use Rattle.gs_lossless.specs.declared.parts.Part.{Part}
 use Rattle.gs_lossless.specs.declared.sides.Side.{Side}
 use Rattle.gs_lossless.specs.declared.sides.Side.TheVariants.{Deals, Children}
-use Rattle.gs_lossless.proofs.Scanned.{reverse_one}
 use Rattle.gs_lossless.proofs.Settled.{agree_if_same, same_if_agree}
 use Rattle.gs_split.specs.Turns.{AreClassSums, AreSettled, AreSideFirsts, AreSideNumbers, AreTurnNumbers, HaveSameSums, IsSettled, key_eq}
 
@@ -39,8 +38,8 @@ module _ (f : Frame) (lists : ClassLists) (round : ℕ) where
       by false none =
           let x = ha.made (λ one. true≢false (sym one ∙ none)) in
           let y = hb.made (λ two. true≢false (sym two ∙ ap (λ c. get_or settled (c - 1) false) (sym same) ∙ none)) in (
-            (λ e. agree_if_same f lists side round i j (reverse a) (reverse b) x y (ap reverse e)),
-            (λ g. reverse_one a b (same_if_agree f lists side round i j (reverse a) (reverse b) x y g)),
+            agree_if_same f lists side round i j a b x y,
+            same_if_agree f lists side round i j a b x y,
           )
 
   -- none where the class of a signal is settled
@@ -50,7 +49,7 @@ module _ (f : Frame) (lists : ClassLists) (round : ℕ) where
 
   -- and else its own
   pub sums_made : (side : Side) (settled : List Bool) (s : ℕ) (sums : List Part) → get_or settled (class_of lists round s - 1) false ≡ false
-      → AreAmounts f lists side round s (reverse sums)
+      → AreAmounts f lists side round s sums
       → AreClassSums f lists side round settled s sums
   sums_made side settled s sums apart made = record { none = λ is. absurd (true≢false (sym is ∙ apart)); made = λ _. made }
 

@@ -1,5 +1,5 @@
 -- What a turn of the refinement looks at, round by round.
-use Rattle.std.specs.Prelude.{ℕ, ◌-◌, ◌<◌, ◌≤◌, ◌≡◌, ◌↔◌, ◌==◌, ◌&&◌, ℤ, Bool, true, false, List, [], ◌∷◌, get_or, length, reverse}
+use Rattle.std.specs.Prelude.{ℕ, ◌-◌, ◌<◌, ◌≤◌, ◌≡◌, ◌↔◌, ◌==◌, ◌&&◌, ℤ, Bool, true, false, List, [], ◌∷◌, get_or, length}
 use Rattle.std.specs.Ordering.{int_eq}
 use Rattle.gs_model.specs.Classes.{ClassLists, InOneClass, class_count, class_of, first_member, list_of}
 use Rattle.gs_model.specs.Frame.{Frame, last_round, parents_of, signal_count}
@@ -30,7 +30,7 @@ pub record AreSettled (lists : ClassLists) (round : ℕ) (firsts : List ℕ) (se
 -- the sums of a signal on one side, none where its class is settled
 pub record AreClassSums (f : Frame) (lists : ClassLists) (side : Side) (round : ℕ) (settled : List Bool) (s : ℕ) (sums : List Part) : Type 0 where
   pub none : IsSettled lists round settled s → sums ≡ []
-  pub made : (IsSettled lists round settled s → ⊥) → AreAmounts f lists side round s (reverse sums)
+  pub made : (IsSettled lists round settled s → ⊥) → AreAmounts f lists side round s sums
 
 -- numbers of the signals of a round: within a class equal exactly where the signals agree on one side
 pub record AreSideNumbers (f : Frame) (lists : ClassLists) (side : Side) (round : ℕ) (numbers : List ℕ) : Type 0 where

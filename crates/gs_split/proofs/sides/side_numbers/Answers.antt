@@ -1,4 +1,4 @@
-use Rattle.std.proofs.Common.{◌≡◌, ◌-◌, ◌<◌, ◌∙◌, ℕ, List, false, ap, arith, get_or, length, reverse, subst, sym, Vec, Global}
+use Rattle.std.proofs.Common.{◌≡◌, ◌-◌, ◌<◌, ◌∙◌, ℕ, List, false, ap, arith, get_or, length, subst, sym, Vec, Global}
 use Rattle.std.proofs.lemmas.List.{get_or_read}
 use Rattle.gs_model.specs.Classes.{class_of}
 use Rattle.gs_model.specs.Frame.{frame_of, signal_count}
@@ -74,7 +74,7 @@ made c =
     elim c.if-index.branch [
       | then-index w ↦ sums_none f lists c.args.round c.side_at-side.result settled signal _ (sym is ∙ w.if-index.true) (ap (λ (v : Vec Part Global). v.items) w.sums-is ∙ w.new-sums.ensures.items)
       | else-index+in_ok-sums w ↦ sums_made f lists c.args.round c.side_at-side.result settled signal _ (sym is ∙ w.if-index.false)
-          (subst (λ (v : Vec Part Global). AreAmounts f lists c.side_at-side.result c.args.round signal (reverse v.items)) (sym w.sums-is) (w.in_ok-sums.ensures lists (w.deref-else-index.ensures.value ∙ c.in_ok-keys.ensures)))
+          (subst (λ (v : Vec Part Global). AreAmounts f lists c.side_at-side.result c.args.round signal v.items) (sym w.sums-is) (w.in_ok-sums.ensures lists (w.deref-else-index.ensures.value ∙ c.in_ok-keys.ensures)))
     ]
 
 pub loop-signal-preserved : goal.loop-signal-preserved
