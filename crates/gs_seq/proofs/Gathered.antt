@@ -1,19 +1,20 @@
 -- Rows from the sums of one member of a class: what they hold for a class, and that their classes ascend.
-use Rattle.std.proofs.Common.{◌≡◌, ℕ, ℤ, pos, ◌+◌, ◌-◌, ◌*◌, ◌<◌, ◌≤◌, Bool, true, false, cond, List, [], ◌∷◌, ◌++◌, length, get_or, set, take, reverse, refl, sym, ap, ◌∙◌, arith, sum_by, FitsSigned, ◌^◌}
+use Rattle.std.proofs.Common.{◌⊎◌, ⊎_elim, ◌≡◌, ℕ, ℤ, pos, ◌+◌, ◌-◌, ◌*◌, ◌<◌, ◌≤◌, Bool, true, false, cond, List, [], ◌∷◌, ◌++◌, length, length-take, get_or, set, take, reverse, refl, sym, ap, ◌∙◌, arith, sum_by, FitsSigned, ◌^◌}
 use Rattle.std.specs.Prelude.{◌==◌, ◌+ℤ◌, ◌*ℤ◌, unsigned_abs}
 use Rattle.std.specs.Ordering.{nat_cmp, ordering_then, int_cmp}
 use Rattle.std.specs.declared.cmp.Ordering.{Ordering}
 use Rattle.std.specs.declared.cmp.Ordering.TheVariants.{Less, Equal, Greater}
+use Rattle.std.proofs.lemmas.Bool.{cases_eq}
 use Rattle.std.proofs.lemmas.Bool.Decides.{Decides-eqb}
 use Rattle.std.proofs.lemmas.Cmp.{ranked}
 use Rattle.std.specs.Int.{w8}
 use Rattle.std.proofs.Math.Nat.{mul-le-mul_left, mul-le-mul_right}
+use Rattle.std.proofs.Math.Seq.{set-append_seam}
 use Rattle.std.proofs.lemmas.Int.{ints, unsigned_abs-mul}
-use Rattle.std.proofs.lemmas.List.{reverse-append, take_more}
-use Rattle.std.proofs.lemmas.List.Sums.{sum_by-cons, sum_by_more_le, sum_by_push}
+use Rattle.std.proofs.lemmas.List.{length-reverse, reverse-append, reverse-reverse, take_all, take_more}
+use Rattle.std.proofs.lemmas.List.Sums.{sum_by-cons, sum_by_more_le}
 use Rattle.gs_lossless.specs.Sums.{key_cmp}
 use Rattle.gs_lossless.specs.declared.parts.Part.{Part}
-use Rattle.gs_lossless.proofs.Merge.{last_first, last_set}
 use Rattle.gs_model.specs.Sums.{sum_z}
 use Rattle.std.proofs.Math.IntN.{*ℤ-zero}
 use borrow.Author.Differences.{product_is}
@@ -123,13 +124,28 @@ head_from p (q ∷ qs) = at (q.two == p.two) refl
 
 -- ---- the last of a row
 
+join_same : (p q : Pair) (qs : List Pair) → q.two ≡ p.two → join p (q ∷ qs) ≡ together q p ∷ qs
+join_same p q qs e = ap (λ b. cond b (together q p ∷ qs) (p ∷ q ∷ qs)) ((Decides-eqb q.two p.two).1 e)
+
+join_other : (p q : Pair) (qs : List Pair) → (q.two ≡ p.two → ⊥) → join p (q ∷ qs) ≡ p ∷ q ∷ qs
+join_other p q qs n = ap (λ b. cond b (together q p ∷ qs) (p ∷ q ∷ qs)) (not_eq q.two p.two n)
+
+front_last : (row : List Pair) (last : Pair) → 0 < length row → last ≡ get_or row (length row - 1) last → row ≡ take (length row - 1) row ++ last ∷ []
+front_last row last l e =
+    sym (take_all (length row - 1 + 1) row (omega arith)) ∙ take_more row (length row - 1) last (omega arith)
+    ∙ ap (λ q. take (length row - 1) row ++ q ∷ []) (sym e)
+
 pub join_last : (row : List Pair) (last p : Pair) → 0 < length row → last ≡ get_or row (length row - 1) last → last.two ≡ p.two
     → reverse (set row (length row - 1) (together last p)) ≡ join p (reverse row)
 join_last row last p l e t =
-    let rest = reverse (take (length row - 1) row) in
-    let split : reverse row ≡ last ∷ rest = last_first row last l ∙ ap (λ q. q ∷ rest) (sym e) in
-    let test = (Decides-eqb last.two p.two).1 t in
-    last_set row last (together last p) l ∙ sym (ap (join p) split ∙ ap (λ b. cond b (together last p ∷ rest) (p ∷ last ∷ rest)) test)
+    let n = length row - 1 in
+    let front = take n row in
+    let more = together last p in
+    let long : length front ≡ n = omega (arith, length-take n row) in
+    let whole = front_last row last l e in
+    ap (λ qs. reverse (set qs n more)) whole ∙ ap (λ k. reverse (set (front ++ last ∷ []) k more)) (sym long)
+    ∙ ap reverse (set-append_seam front last [] more) ∙ reverse-append front (more ∷ [])
+    ∙ sym (ap (λ qs. join p (reverse qs)) whole ∙ ap (join p) (reverse-append front (last ∷ [])) ∙ join_same p last (reverse front) t)
 
 pub join_none : (p : Pair) → reverse (p ∷ []) ≡ join p (reverse [])
 join_none p = refl
@@ -137,10 +153,90 @@ join_none p = refl
 pub join_next : (row : List Pair) (last p : Pair) → 0 < length row → last ≡ get_or row (length row - 1) last → (last.two ≡ p.two → ⊥)
     → reverse (row ++ p ∷ []) ≡ join p (reverse row)
 join_next row last p l e t =
-    let rest = reverse (take (length row - 1) row) in
-    let split : reverse row ≡ last ∷ rest = last_first row last l ∙ ap (λ q. q ∷ rest) (sym e) in
-    let test = not_eq last.two p.two t in
-    reverse-append row (p ∷ []) ∙ ap (λ qs. p ∷ qs) split ∙ sym (ap (join p) split ∙ ap (λ b. cond b (together last p ∷ rest) (p ∷ last ∷ rest)) test)
+    let front = take (length row - 1) row in
+    let back : reverse row ≡ last ∷ reverse front = ap reverse (front_last row last l e) ∙ reverse-append front (last ∷ []) in
+    reverse-append row (p ∷ []) ∙ ap (λ qs. p ∷ qs) back ∙ sym (ap (join p) back ∙ join_other p last (reverse front) t)
+
+-- ---- the row of one more part
+
+-- a pair behind a row: the last pair takes it where both are of one class
+abbrev behind : List Pair → Pair → List Pair
+behind row p = reverse (join p (reverse row))
+
+join_before : (p : Pair) (row : List Pair) (q : Pair) → 0 < length row → join p (row ++ q ∷ []) ≡ join p row ++ q ∷ []
+join_before p [] q l = absurd (omega (arith, l))
+join_before p (r ∷ rs) q l = by (r.two == p.two)
+  where
+    by : (b : Bool) → cond b (together r p ∷ rs ++ q ∷ []) (p ∷ r ∷ rs ++ q ∷ []) ≡ cond b (together r p ∷ rs) (p ∷ r ∷ rs) ++ q ∷ []
+    by true = refl
+    by false = refl
+
+behind_more : (q r : Pair) (rs : List Pair) (p : Pair) → behind (q ∷ r ∷ rs) p ≡ q ∷ behind (r ∷ rs) p
+behind_more q r rs p =
+    let back = reverse (r ∷ rs) in
+    let some : 0 < length back = omega (arith, length-reverse (r ∷ rs)) in
+    ap (λ qs. reverse (join p qs)) (reverse-append (q ∷ []) (r ∷ rs)) ∙ ap reverse (join_before p back q some) ∙ reverse-append (join p back) (q ∷ [])
+
+same_pair : (p q : Pair) → p.two ≡ q.two → p.weight ≡ q.weight → p.signed ≡ q.signed → p ≡ q
+same_pair p q a b c =
+    ap (λ (n : ℕ). let x : Pair = record p { two = n } in x) a
+    ∙ ap (λ (n : ℕ). let x : Pair = record { two = q.two; weight = n; signed = p.signed } in x) b
+    ∙ ap (λ (z : ℤ). let x : Pair = record q { signed = z } in x) c
+
+-- one pair joins the front of a row and one the end, whichever is first
+join_behind : (x p : Pair) (row : List Pair) → join x (behind row p) ≡ behind (join x row) p
+join_behind x p [] = ⊎_elim same other (cases_eq p.two x.two)
+  where
+    same : p.two ≡ x.two → join x (p ∷ []) ≡ behind (x ∷ []) p
+    same e =
+        let both : together p x ≡ together x p = same_pair (together p x) (together x p) e (omega arith) (omega (arith, ints)) in
+        join_same x p [] e ∙ ap (λ q. q ∷ []) both ∙ sym (ap reverse (join_same p x [] (sym e)))
+
+    other : (p.two ≡ x.two → ⊥) → join x (p ∷ []) ≡ behind (x ∷ []) p
+    other n = join_other x p [] n ∙ sym (ap reverse (join_other p x [] (λ e. n (sym e))))
+join_behind x p (q ∷ []) = ⊎_elim (λ e. ⊎_elim (both e) (first e) at_end) (λ n. ⊎_elim (last n) (none n) at_end) (cases_eq q.two x.two)
+  where
+    at_end : (q.two ≡ p.two) ⊎ (q.two ≡ p.two → ⊥)
+    at_end = cases_eq q.two p.two
+
+    both : q.two ≡ x.two → q.two ≡ p.two → join x (behind (q ∷ []) p) ≡ behind (join x (q ∷ [])) p
+    both e k =
+        let all : together (together q p) x ≡ together (together q x) p =
+        same_pair (together (together q p) x) (together (together q x) p) refl (omega arith) (omega (arith, ints)) in
+        ap (λ r. join x (reverse r)) (join_same p q [] k) ∙ join_same x (together q p) [] e ∙ ap (λ r. r ∷ []) all
+        ∙ sym (ap (λ r. behind r p) (join_same x q [] e) ∙ ap reverse (join_same p (together q x) [] k))
+
+    first : q.two ≡ x.two → (q.two ≡ p.two → ⊥) → join x (behind (q ∷ []) p) ≡ behind (join x (q ∷ [])) p
+    first e m =
+        ap (λ r. join x (reverse r)) (join_other p q [] m) ∙ join_same x q (p ∷ []) e
+        ∙ sym (ap (λ r. behind r p) (join_same x q [] e) ∙ ap reverse (join_other p (together q x) [] m))
+
+    last : (q.two ≡ x.two → ⊥) → q.two ≡ p.two → join x (behind (q ∷ []) p) ≡ behind (join x (q ∷ [])) p
+    last n k =
+        ap (λ r. join x (reverse r)) (join_same p q [] k) ∙ join_other x (together q p) [] n
+        ∙ sym (ap (λ r. behind r p) (join_other x q [] n) ∙ ap reverse (join_same p q (x ∷ []) k))
+
+    none : (q.two ≡ x.two → ⊥) → (q.two ≡ p.two → ⊥) → join x (behind (q ∷ []) p) ≡ behind (join x (q ∷ [])) p
+    none n m =
+        ap (λ r. join x (reverse r)) (join_other p q [] m) ∙ join_other x q (p ∷ []) n
+        ∙ sym (ap (λ r. behind r p) (join_other x q [] n) ∙ ap reverse (join_other p q (x ∷ []) m))
+join_behind x p (q ∷ r ∷ rs) = ap (join x) (behind_more q r rs p) ∙ by (q.two == x.two)
+  where
+    by : (b : Bool) → cond b (together q x ∷ behind (r ∷ rs) p) (x ∷ q ∷ behind (r ∷ rs) p) ≡ behind (cond b (together q x ∷ r ∷ rs) (x ∷ q ∷ r ∷ rs)) p
+    by true = sym (behind_more (together q x) r rs p)
+    by false = sym (behind_more x q (r ∷ rs) p ∙ ap (λ qs. x ∷ qs) (behind_more q r rs p))
+
+gathered_push : (m : ℕ) (ps : List Part) (p : Part) → gathered m (ps ++ p ∷ []) ≡ behind (gathered m ps) (pair_of m p)
+gathered_push m [] p = refl
+gathered_push m (x ∷ ps) p = ap (join (pair_of m x)) (gathered_push m ps p) ∙ join_behind (pair_of m x) (pair_of m p) (gathered m ps)
+
+pub gathered_more : (m : ℕ) (sums : List Part) (i : ℕ) (d : Part) (row more : List Pair) → i < length sums → row ≡ gathered m (take i sums)
+    → reverse more ≡ join (pair_of m (get_or sums i d)) (reverse row)
+    → more ≡ gathered m (take (i + 1) sums)
+gathered_more m sums i d row more l e j =
+    let part = get_or sums i d in
+    sym (reverse-reverse more) ∙ ap reverse j ∙ ap (λ qs. behind qs (pair_of m part)) e
+    ∙ sym (ap (gathered m) (take_more sums i d l) ∙ gathered_push m (take i sums) part)
 
 -- ---- sizes
 
@@ -151,24 +247,14 @@ scaled_size w o f =
     let m = mul-le-mul_right w small in
     omega (arith, e, m)
 
-pub sum_by-reverse : {X : Type 0} (f : X → ℕ) (xs : List X) → sum_by f (reverse xs) ≡ sum_by f xs
-sum_by-reverse f [] = refl
-sum_by-reverse f (x ∷ xs) = ap (sum_by f) (reverse-append (x ∷ []) xs) ∙ omega (arith, sum_by_push f (reverse xs) x, sum_by-reverse f xs, sum_by-cons f x xs)
-
 -- the next part of one member fits beside the row so far
-pub gathered_few : (m : ℕ) (sums : List Part) (i : ℕ) (d : Part) (row : List Pair) → i < length sums → reverse row ≡ gathered m (reverse (take i sums))
+pub gathered_few : (m : ℕ) (sums : List Part) (i : ℕ) (d : Part) (row : List Pair) → i < length sums → row ≡ gathered m (take i sums)
     → m * sum_by (λ (p : Part). p.weight) sums < 2 ^ 32
     → sum_by (λ (q : Pair). q.weight) row + m * (get_or sums i d).weight < 2 ^ 32
 gathered_few m sums i d row l e few =
     let w : Part → ℕ = λ p. p.weight in
     let v : Pair → ℕ = λ q. q.weight in
-    let so_far : sum_by v row ≡ m * sum_by w (take i sums) =
-    sym (sum_by-reverse v row) ∙ ap (sum_by v) e ∙ gathered-total m (reverse (take i sums)) ∙ ap (λ k. m * k) (sum_by-reverse w (take i sums)) in
+    let so_far : sum_by v row ≡ m * sum_by w (take i sums) = ap (sum_by v) e ∙ gathered-total m (take i sums) in
     let more = sum_by_more_le w sums i d l in
     let up : m * (sum_by w (take i sums) + w (get_or sums i d)) ≤ m * sum_by w sums = mul-le-mul_left m more in
     omega (arith, so_far, up, few)
-
--- the row of one more part
-pub gathered_more : (m : ℕ) (sums : List Part) (i : ℕ) (d : Part) → i < length sums
-    → gathered m (reverse (take (i + 1) sums)) ≡ join (pair_of m (get_or sums i d)) (gathered m (reverse (take i sums)))
-gathered_more m sums i d l = ap (λ ps. gathered m (reverse ps)) (take_more sums i d l) ∙ ap (gathered m) (reverse-append (take i sums) (get_or sums i d ∷ []))

@@ -1,5 +1,5 @@
 -- The row of a class of a round before the last, from the deals of its first member where the game stops after the round.
-use Rattle.std.proofs.Common.{◌≡◌, ◌≢◌, ℕ, ℤ, pos, ◌+◌, ◌*◌, ◌<◌, ◌≤◌, ◌^◌, Bool, true, false, cond, List, [], ◌∷◌, length, get_or, map, reverse, refl, sym, ap, ◌∙◌, subst, arith, sum_by}
+use Rattle.std.proofs.Common.{◌≡◌, ◌≢◌, ℕ, ℤ, pos, ◌+◌, ◌*◌, ◌<◌, ◌≤◌, ◌^◌, Bool, true, false, cond, List, [], ◌∷◌, length, get_or, map, refl, sym, ap, ◌∙◌, subst, arith, sum_by}
 use Rattle.std.specs.Prelude.{◌==◌, ◌/◌, ◌*ℤ◌}
 use Rattle.std.specs.List.{AllByRecursion, range_with_len}
 use Rattle.std.specs.Ordering.{int_eq}
@@ -30,7 +30,7 @@ use Rattle.gs_seq.specs.Games.{frame_in}
 use Rattle.gs_seq.specs.Rows.{IsRow, gathered, join, pair_of}
 use Rattle.gs_seq.specs.declared.pair.Pair.{Pair}
 use Rattle.gs_seq.proofs.ClassRows.{sum-same, sum_by-map}
-use Rattle.gs_seq.proofs.Gathered.{gathered-total, sum_by-reverse}
+use Rattle.gs_seq.proofs.Gathered.{gathered-total}
 use Rattle.gs_seq.proofs.RowFacts.{class_weight, classes_weigh, row_weighs, times_sum}
 use Rattle.gs_seq.proofs.RowLaws.{is_row, size_is, size_some}
 use Rattle.gs_seq.proofs.RowRoom.{table}
@@ -147,14 +147,14 @@ module _ (g h : ValidGame) (round : ℕ) (some : 0 < round) (top : round ≤ rou
       ≡ (frame_in g).parents) (sound : IsSound c) (lossless : IsLossless (frame_in g) c.lists) (others : ClassLists) (same : list_of others round
       ≡ list_of c.lists round)
       (class first members : ℕ) (size : members ≡ class_size c.lists round class) (sums : List Part)
-      (a : AreAmounts (frame_in h) others Deals round first (reverse sums)) where
+      (a : AreAmounts (frame_in h) others Deals round first sums) where
     one_less : round < last_round (frame_in g)
     one_less = omega (arith, last_round_of (game_of g.game), before)
 
-    scaled : AreAmounts (frame_in g) c.lists Deals round first (map (times ways) (reverse sums))
+    scaled : AreAmounts (frame_in g) c.lists Deals round first (map (times ways) sums)
     scaled = record {
-      rises = rises_times ways some_on (reverse sums) a.rises;
-      sum = λ k o. sum_times ways (reverse sums) k o ∙ ap (λ n. ways * n) (a.sum k o ∙ by_class (frame_in h) others round first k o less)
+      rises = rises_times ways some_on sums a.rises;
+      sum = λ k o. sum_times ways sums k o ∙ ap (λ n. ways * n) (a.sum k o ∙ by_class (frame_in h) others round first k o less)
           ∙ out (int_eq (pos 0) o) ways (weight_against (frame_in h) others round first k)
           ∙ ap (λ n. cond (int_eq (pos 0) o) n 0) (sym (goes_on c.lists others same first k)) ∙ sym (by_class (frame_in g) c.lists round first k o one_less);
     }
@@ -163,24 +163,22 @@ module _ (g h : ValidGame) (round : ℕ) (some : 0 < round) (top : round ≤ rou
     long = (over (frame_in g) c e sound).lengths round some (omega (arith, one_less))
 
     pub row_is : first < length (list_of c.lists round) → class_of c.lists round first ≡ class
-        → IsRow (frame_in g) c.lists round class (gathered (members * ways) (reverse sums))
+        → IsRow (frame_in g) c.lists round class (gathered (members * ways) sums)
     row_is l member =
-        subst (IsRow (frame_in g) c.lists round class) (gathered_times members ways (reverse sums))
-        (is_row (frame_in g) (table g) c.lists lossless round some (omega (arith, one_less)) first class members (map (times ways) (reverse sums))
+        subst (IsRow (frame_in g) c.lists round class) (gathered_times members ways sums)
+        (is_row (frame_in g) (table g) c.lists lossless round some (omega (arith, one_less)) first class members (map (times ways) sums)
         (omega (arith, l, long)) member (size ∙ size_is (frame_in g) c.lists round class long) scaled
         (let one = size_some c.lists round class first l member in omega (arith, size, one)))
 
     pub row_fits : first < length (list_of c.lists round) → class_of c.lists round first ≡ class
         → (members * ways) * sum_by (λ (p : Part). p.weight) sums < 2 ^ 32
     row_fits l member =
-        let w : Part → ℕ = λ p. p.weight in
         let k = over (frame_in g) c e sound in
         let weigh = class_weight (frame_in g) (table g) c.lists k round some (omega (arith, one_less)) in
         omega (
           arith,
-          gathered-total (members * ways) (reverse sums),
-          ap (λ n. (members * ways) * n) (sum_by-reverse w sums),
-          row_weighs (frame_in g) (table g) c.lists k round some (omega (arith, one_less)) class (gathered (members * ways) (reverse sums)) (row_is l member),
+          gathered-total (members * ways) sums,
+          row_weighs (frame_in g) (table g) c.lists k round some (omega (arith, one_less)) class (gathered (members * ways) sums) (row_is l member),
           classes_weigh (frame_in g) (table g) c.lists k round some (omega (arith, one_less)) class 1,
           sum_by-cons weigh class [],
           g.limits.weight_in,

@@ -112,7 +112,6 @@ fn row_above(
     let _rounds = classes.rounds();
     let mut parts = parts_above(alloc, classes, round, below, rows)?;
     parts.sort_unstable();
-    parts.reverse();
     row_of(alloc, &parts, 1)
 }
 

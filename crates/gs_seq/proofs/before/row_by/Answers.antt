@@ -1,4 +1,4 @@
-use Rattle.std.proofs.Common.{◌≡◌, ◌*◌, ◌≤◌, sum_by, length, reverse, ap, sym, ◌∙◌, subst, arith}
+use Rattle.std.proofs.Common.{◌≡◌, ◌*◌, ◌≤◌, sum_by, length, ap, sym, ◌∙◌, subst, arith}
 use Rattle.std.specs.Prelude.{◌==◌}
 use Rattle.std.proofs.Math.Nat.{mul-le-mul_right}
 use Rattle.std.proofs.lemmas.List.{length-map}
@@ -23,9 +23,9 @@ top : (c : After-rounds-rounds) → c.args.at.now.round ≤ round_count (rules_o
 top c = omega (arith, c.args.at.now.before_last)
 
 -- the sums of the first member
-amounts : (c : After-deref) → AreAmounts (frame_in c.args.at.now.stopped.now.game.now) c.args.at.now.seen.now.lists Deals c.args.at.now.round c.first-first.result (reverse c.deref.result.now)
+amounts : (c : After-deref) → AreAmounts (frame_in c.args.at.now.stopped.now.game.now) c.args.at.now.seen.now.lists Deals c.args.at.now.round c.first-first.result c.deref.result.now
 amounts c =
-    subst (λ xs. AreAmounts (frame_in c.args.at.now.stopped.now.game.now) c.args.at.now.seen.now.lists Deals c.args.at.now.round c.first-first.result (reverse xs)) (sym c.deref.ensures.value)
+    subst (AreAmounts (frame_in c.args.at.now.stopped.now.game.now) c.args.at.now.seen.now.lists Deals c.args.at.now.round c.first-first.result) (sym c.deref.ensures.value)
     (c.in_ok-sums.ensures c.args.at.now.seen.now.lists c.requires.keys)
 
 pub side_sums-requires-clause-side : goal.side_sums-requires-clause-side
@@ -72,6 +72,6 @@ returns c =
     let row = row_is c.args.at.now.signals.now.game.now c.args.at.now.stopped.now.game.now c.args.at.now.round c.args.at.now.some (top at.After-rounds-rounds) c.args.at.now.stops c.args.at.now.before_last c.args.at.now.classes.now c.args.at.now.parents
     c.rounds-rounds.ensures.sound c.args.at.now.lossless c.args.at.now.seen.now.lists c.args.at.now.same c.args.class c.first-first.result c.from.result (c.from.ensures ∙ c.size.ensures) sums (amounts at.After-deref) c.first-first.ensures.within
     c.first-first.ensures.member in
-    let here = subst (λ n. IsRow f lists c.args.at.now.round c.args.class (gathered (c.from.result * n) (reverse sums))) (sym c.requires.ways) row in
-    if_ok c.row_of.result (λ v. v.items ≡ gathered (c.from.result * c.args.ways) (reverse sums)) (λ v. IsRow f lists c.args.at.now.round c.args.class v.items)
+    let here = subst (λ n. IsRow f lists c.args.at.now.round c.args.class (gathered (c.from.result * n) sums)) (sym c.requires.ways) row in
+    if_ok c.row_of.result (λ v. v.items ≡ gathered (c.from.result * c.args.ways) sums) (λ v. IsRow f lists c.args.at.now.round c.args.class v.items)
     (λ v e. subst (IsRow f lists c.args.at.now.round c.args.class) (sym e) here) c.row_of.ensures

@@ -1,6 +1,5 @@
-use Rattle.std.proofs.Common.{◌≡◌, ◌+◌, All, reverse, get_or, sym, ap, ◌∙◌, subst, arith, map, sum_by}
+use Rattle.std.proofs.Common.{◌≡◌, ◌+◌, All, get_or, sym, ap, ◌∙◌, subst, arith, map, sum_by}
 use Rattle.std.specs.Prelude.{flat_map}
-use Rattle.std.proofs.lemmas.List.{reverse-reverse}
 use Rattle.gs_filter.specs.Filter.{Filter, IsSound}
 use Rattle.gs_lossless.proofs.Settled.{if_ok}
 use Rattle.gs_lossless.specs.declared.parts.Part.{Part}
@@ -8,7 +7,6 @@ use Rattle.gs_model.specs.Classes.{class_count}
 use Rattle.gs_seq.specs.Games.{frame_in}
 use Rattle.gs_seq.specs.Rows.{HasPairsBelow, IsRow, below_class, gathered, part_up, row_at}
 use Rattle.gs_seq.proofs.EarlierRows.{classes_in, pairs_in, parts_fit, row_from}
-use Rattle.gs_seq.proofs.Gathered.{sum_by-reverse}
 use Rattle.gs_seq.proofs.earlier.row_above.Goals as goal
 use Rattle.gs_seq.proofs.earlier.row_above.Goals.{After-rounds-rounds, In_ok-parts}
 
@@ -46,7 +44,7 @@ row_of-requires c =
     let sorted = c.sort_unstable.new.self.items in
     let few = parts_fit c.args.lossless.now.signals.now.game.now c.args.lossless.now.classes.now (parents at.After-rounds-rounds) (sound at.After-rounds-rounds) c.args.round c.requires.some c.requires.before_last c.args.rows.now
     c.requires.rows c.args.class c.in_ok-parts.parts.items sorted (parts_are at.In_ok-parts) c.sort_unstable.ensures.permutation in
-    omega (arith, few, ap (sum_by (λ (p : Part). p.weight)) (c.deref.ensures.value ∙ c.reverse.ensures.items) ∙ sum_by-reverse (λ (p : Part). p.weight) sorted)
+    omega (arith, few, ap (sum_by (λ (p : Part). p.weight)) c.deref.ensures.value)
 
 pub returns : goal.returns
 returns c =
@@ -56,6 +54,5 @@ returns c =
     let sorted = c.sort_unstable.new.self.items in
     let row = row_from g f (parents at.After-rounds-rounds) (sound at.After-rounds-rounds) c.args.round c.requires.some c.requires.before_last c.args.rows.now c.requires.rows c.args.class c.in_ok-parts.parts.items sorted
     (parts_are at.In_ok-parts) c.sort_unstable.ensures.permutation c.sort_unstable.ensures.sorted in
-    let back = ap reverse (c.deref.ensures.value ∙ c.reverse.ensures.items) ∙ reverse-reverse sorted in
-    if_ok c.row_of.result (λ v. v.items ≡ gathered 1 (reverse c.deref.result.now)) (λ v. IsRow (frame_in g) f.lists c.args.round c.args.class v.items)
-    (λ v e. subst (IsRow (frame_in g) f.lists c.args.round c.args.class) (sym (e ∙ ap (gathered 1) back)) row) c.row_of.ensures
+    if_ok c.row_of.result (λ v. v.items ≡ gathered 1 c.deref.result.now) (λ v. IsRow (frame_in g) f.lists c.args.round c.args.class v.items)
+    (λ v e. subst (IsRow (frame_in g) f.lists c.args.round c.args.class) (sym (e ∙ ap (gathered 1) c.deref.ensures.value)) row) c.row_of.ensures

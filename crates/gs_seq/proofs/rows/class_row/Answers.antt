@@ -1,4 +1,4 @@
-use Rattle.std.proofs.Common.{◌≡◌, length, reverse, ap, sym, ◌∙◌, subst, arith}
+use Rattle.std.proofs.Common.{◌≡◌, length, ap, sym, ◌∙◌, subst, arith}
 use Rattle.gs_lossless.specs.Amounts.{AreAmounts}
 use Rattle.gs_lossless.specs.declared.sides.Side.TheVariants.{Deals}
 use Rattle.gs_lossless.proofs.Descent.{keys_long, last_is, list_long, playable}
@@ -24,7 +24,7 @@ row_of-requires c =
     let lists = c.args.classes.now.lists in
     let first = c.first-first.result in
     let sums = c.deref.result.now in
-    let amounts = subst (λ xs. AreAmounts (frame_in c.args.signals.now.game.now) lists Deals c.args.round first (reverse xs)) (sym c.deref.ensures.value) (c.in_ok-sums.ensures lists c.requires.keys) in
+    let amounts = subst (AreAmounts (frame_in c.args.signals.now.game.now) lists Deals c.args.round first) (sym c.deref.ensures.value) (c.in_ok-sums.ensures lists c.requires.keys) in
     row_fits c.args.signals.now.game.now c.args.classes.now c.requires.parents c.rounds-rounds.ensures.sound c.requires.lossless c.args.round c.requires.some c.requires.top
     c.args.class first c.from.result (c.from.ensures ∙ c.size.ensures) sums amounts c.first-first.ensures.within c.first-first.ensures.member
 
@@ -34,8 +34,8 @@ returns c =
     let lists = c.args.classes.now.lists in
     let first = c.first-first.result in
     let sums = c.deref.result.now in
-    let amounts = subst (λ xs. AreAmounts f lists Deals c.args.round first (reverse xs)) (sym c.deref.ensures.value) (c.in_ok-sums.ensures lists c.requires.keys) in
+    let amounts = subst (AreAmounts f lists Deals c.args.round first) (sym c.deref.ensures.value) (c.in_ok-sums.ensures lists c.requires.keys) in
     let row = row_is c.args.signals.now.game.now c.args.classes.now c.requires.parents c.rounds-rounds.ensures.sound c.requires.lossless c.args.round c.requires.some c.requires.top
     c.args.class first c.from.result (c.from.ensures ∙ c.size.ensures) sums amounts c.first-first.ensures.within c.first-first.ensures.member in
-    if_ok c.row_of.result (λ v. v.items ≡ gathered c.from.result (reverse sums)) (λ v. IsRow f lists c.args.round c.args.class v.items)
+    if_ok c.row_of.result (λ v. v.items ≡ gathered c.from.result sums) (λ v. IsRow f lists c.args.round c.args.class v.items)
     (λ v e. subst (IsRow f lists c.args.round c.args.class) (sym e) row) c.row_of.ensures
