@@ -322,8 +322,9 @@ last_put (y ∷ z ∷ zs) last p =
     ap (λ qs. y ∷ qs) (last_put (z ∷ zs) last p)
     ∙ before_cond y (is_at last p) (z ∷ zs ++ with_part last p ∷ []) (z ∷ zs ++ last ∷ p ∷ [])
 
-parted : (xs : List Part) (last : Part) → 0 < length xs → last ≡ get_or xs (length xs - 1) last → xs ≡ take (length xs - 1) xs ++ last ∷ []
-parted xs last l e =
+pub front_last : {X : Type 0} (xs : List X) (last : X) → 0 < length xs → last ≡ get_or xs (length xs - 1) last
+    → xs ≡ take (length xs - 1) xs ++ last ∷ []
+front_last xs last l e =
     sym (take_all (length xs - 1 + 1) xs (omega arith)) ∙ take_more xs (length xs - 1) last (omega arith)
     ∙ ap (λ q. take (length xs - 1) xs ++ q ∷ []) (sym e)
 
@@ -334,7 +335,7 @@ join_last xs last p l e t =
     let front = take n xs in
     let v = with_part last p in
     let s : length front ≡ n = omega (arith, length-take n xs) in
-    let whole = parted xs last l e in
+    let whole = front_last xs last l e in
     ap (λ ys. set ys n v) whole ∙ ap (λ k. set (front ++ last ∷ []) k v) (sym s) ∙ set-append_seam front last [] v
     ∙ sym (ap (put_last p) whole ∙ last_put front last p ∙ ap (λ b. cond b (front ++ v ∷ []) (front ++ last ∷ p ∷ [])) t)
 
@@ -342,6 +343,6 @@ pub push_last : (xs : List Part) (last p : Part) → 0 < length xs → last ≡ 
     → xs ++ p ∷ [] ≡ put_last p xs
 push_last xs last p l e t =
     let front = take (length xs - 1) xs in
-    let whole = parted xs last l e in
+    let whole = front_last xs last l e in
     ap (λ ys. ys ++ p ∷ []) whole ∙ append_assoc front (last ∷ []) (p ∷ [])
     ∙ sym (ap (put_last p) whole ∙ last_put front last p ∙ ap (λ b. cond b (front ++ with_part last p ∷ []) (front ++ last ∷ p ∷ [])) t)

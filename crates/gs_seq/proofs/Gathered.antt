@@ -11,9 +11,10 @@ use Rattle.std.specs.Int.{w8}
 use Rattle.std.proofs.Math.Nat.{mul-le-mul_left, mul-le-mul_right}
 use Rattle.std.proofs.Math.Seq.{set-append_seam}
 use Rattle.std.proofs.lemmas.Int.{ints, unsigned_abs-mul}
-use Rattle.std.proofs.lemmas.List.{length-reverse, reverse-append, reverse-reverse, take_all, take_more}
+use Rattle.std.proofs.lemmas.List.{length-reverse, reverse-append, reverse-reverse, take_more}
 use Rattle.std.proofs.lemmas.List.Sums.{sum_by-cons, sum_by_more_le}
 use Rattle.gs_lossless.specs.Sums.{key_cmp}
+use Rattle.gs_lossless.proofs.Merge.{front_last}
 use Rattle.gs_lossless.specs.declared.parts.Part.{Part}
 use Rattle.gs_model.specs.Sums.{sum_z}
 use Rattle.std.proofs.Math.IntN.{*ℤ-zero}
@@ -129,11 +130,6 @@ join_same p q qs e = ap (λ b. cond b (together q p ∷ qs) (p ∷ q ∷ qs)) ((
 
 join_other : (p q : Pair) (qs : List Pair) → (q.two ≡ p.two → ⊥) → join p (q ∷ qs) ≡ p ∷ q ∷ qs
 join_other p q qs n = ap (λ b. cond b (together q p ∷ qs) (p ∷ q ∷ qs)) (not_eq q.two p.two n)
-
-front_last : (row : List Pair) (last : Pair) → 0 < length row → last ≡ get_or row (length row - 1) last → row ≡ take (length row - 1) row ++ last ∷ []
-front_last row last l e =
-    sym (take_all (length row - 1 + 1) row (omega arith)) ∙ take_more row (length row - 1) last (omega arith)
-    ∙ ap (λ q. take (length row - 1) row ++ q ∷ []) (sym e)
 
 pub join_last : (row : List Pair) (last p : Pair) → 0 < length row → last ≡ get_or row (length row - 1) last → last.two ≡ p.two
     → reverse (set row (length row - 1) (together last p)) ≡ join p (reverse row)
