@@ -1,6 +1,6 @@
 //! The numbers of signals before the last round, by their children's.
 
-ghost use Rattle.std.specs.{Cow.{cow_slice_items}, Prelude.{ℕ, ◌≡◌, ◌<◌, ◌≤◌, ◌+◌, IfOk, OnOk, length, map}, List.{range_with_len}};
+ghost use Rattle.std.specs.{Cow.{cow_slice_items}, Prelude.{ℕ, ◌≡◌, ◌<◌, ◌≤◌, ◌+◌, IfOk, List, OnOk, [], length, map}, List.{range_with_len}};
 ghost use Rattle.gs_model.specs.{Game.{round_count}, Signals.{child_count, first_child, signals as signals_in}};
 ghost use Rattle.gs_model.specs.Signatures.{IsSignature};
 ghost use Rattle.gs_tree.specs.Trees.{rules_of};
@@ -90,6 +90,48 @@ fn sign_children(
     Ok(())
 }
 
+/// For each signal of a round before the last a number, by the marks of the signals of the next round. `seen` is empty.
+fn number_each(
+    alloc: Global,
+    seen: &mut IndexSet<Vec<u32>>,
+    signature: &mut Vec<u32>,
+    signals: &Signals,
+    round: u8,
+    marks: &[u32],
+) -> Result<Vec<u32>, AllocError>
+    requires some { 0 < round }
+    requires before_last { round < round_count (rules_of signals.now) }
+    requires marks { (below : List ℕ) × IsNumbering (rules_of signals.now) (round + 1) below × AreMarks (rules_of signals.now) (round + 1) below marks.now }
+    requires unseen { seen.old.keys ≡ [] }
+    ensures { IfOk result (λ v. IsNumbering (rules_of signals.now) round v.items) }
+{
+    let count = signals.count(round);
+    let mut numbers = Vec::with_capacity(alloc, count as usize)?;
+    for signal in 0..count {
+        sign_children(signature, signals, round, signal, marks)?;
+        let number = number_of_list(alloc, seen, signature)?;
+        numbers.push(number)?;
+    }
+    Ok(numbers)
+}
+
+/// For each signal of a round before the last a number, by those marks alone.
+fn numbers_by_marks(
+    alloc: Global,
+    signals: &Signals,
+    round: u8,
+    marks: &[u32],
+) -> Result<Vec<u32>, AllocError>
+    requires some { 0 < round }
+    requires before_last { round < round_count (rules_of signals.now) }
+    requires marks { (below : List ℕ) × IsNumbering (rules_of signals.now) (round + 1) below × AreMarks (rules_of signals.now) (round + 1) below marks.now }
+    ensures { IfOk result (λ v. IsNumbering (rules_of signals.now) round v.items) }
+{
+    let mut seen = IndexSet::new(alloc);
+    let mut signature = Vec::new(alloc);
+    number_each(alloc, &mut seen, &mut signature, signals, round, marks)
+}
+
 /// For each signal of a round before the last a number: equal exactly where the signals are isomorphic. `below` has the numbers of the next round.
 pub(crate) fn child_numbers(
     alloc: Global,
@@ -103,15 +145,5 @@ pub(crate) fn child_numbers(
     ensures { IfOk result (λ v. IsNumbering (rules_of signals.now) round v.items) }
 {
     let kept = edge_marks(alloc, signals, round + 1, below)?;
-    let marks = kept.as_slice();
-    let count = signals.count(round);
-    let mut seen = IndexSet::new(alloc);
-    let mut signature = Vec::new(alloc);
-    let mut numbers = Vec::with_capacity(alloc, count as usize)?;
-    for signal in 0..count {
-        sign_children(&mut signature, signals, round, signal, marks)?;
-        let number = number_of_list(alloc, &mut seen, &signature)?;
-        numbers.push(number)?;
-    }
-    Ok(numbers)
+    numbers_by_marks(alloc, signals, round, kept.as_slice())
 }

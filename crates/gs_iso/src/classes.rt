@@ -1,6 +1,6 @@
 //! The classes of one round.
 
-ghost use Rattle.std.specs.Prelude.{◌≡◌, ◌+◌, ◌≤◌, ◌<◌, ◌^◌, All, IfOk, IfSome, length};
+ghost use Rattle.std.specs.Prelude.{◌≡◌, ◌+◌, ◌≤◌, ◌<◌, ◌^◌, All, IfOk, IfSome, [], length};
 ghost use Rattle.gs_numbers.specs.Numbers.{HasClassOf, IsKeyClasses};
 ghost use Rattle.gs_iso.specs.Numbers.{class_key};
 
@@ -53,6 +53,32 @@ impl RoundItems<'_> {
     }
 }
 
+/// The classes of a round, item by item. `last` has for each number the last item so far with it; `seen` is empty.
+fn classes_each(
+    alloc: Global,
+    items: RoundItems<'_>,
+    last: &mut [u32],
+    seen: &mut IndexSet<ClassKey>,
+) -> Result<Vec<u32>, AllocError>
+    requires few { length items.numbers.now + 1 < 2 ^ 32 }
+    requires unseen { seen.old.keys ≡ [] }
+    ensures long { IfOk result (λ v. length v.items ≡ length items.entry.numbers.now) }
+    ensures classes { IfOk result (λ v. IsKeyClasses (class_key items.entry.above.now items.entry.parents.now items.entry.numbers.now) v.items) }
+{
+    let mut classes = Vec::with_capacity(alloc, items.numbers.len())?;
+    for (at, number) in items.numbers.iter().enumerate() {
+        let key = items.key(at);
+        let item = noted(last, *number, at as u32);
+        if let Some(class) = items.class_again(&classes, item, key) {
+            classes.push(class)?;
+            continue;
+        }
+        let class = number_of(seen, key)?;
+        classes.push(class)?;
+    }
+    Ok(classes)
+}
+
 /// The classes of a round, numbered from 1 by first member: two signals are of one class where their parents are, in the round before, and
 /// their numbers are equal.
 pub(crate) fn round_classes(alloc: Global, items: RoundItems<'_>) -> Result<Vec<u32>, AllocError>
@@ -63,16 +89,5 @@ pub(crate) fn round_classes(alloc: Global, items: RoundItems<'_>) -> Result<Vec<
     let most = items.numbers.iter().max().copied().unwrap_or(0);
     let mut last = vec![in alloc; 0; most as usize + 1]?;
     let mut seen = IndexSet::new(alloc);
-    let mut classes = Vec::with_capacity(alloc, items.numbers.len())?;
-    for (at, number) in items.numbers.iter().enumerate() {
-        let key = items.key(at);
-        let item = noted(&mut last, *number, at as u32);
-        if let Some(class) = items.class_again(&classes, item, key) {
-            classes.push(class)?;
-            continue;
-        }
-        let class = number_of(&mut seen, key)?;
-        classes.push(class)?;
-    }
-    Ok(classes)
+    classes_each(alloc, items, &mut last, &mut seen)
 }

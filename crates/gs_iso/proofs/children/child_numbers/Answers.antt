@@ -1,38 +1,9 @@
-use Rattle.std.proofs.Common.{◌≡◌, ◌+◌, ◌∙◌, ℕ, List, ap, arith, length, subst, sym}
-use Rattle.std.specs.Prelude.{nat_eq}
-use Rattle.std.proofs.lemmas.Bool.Decides.{Decides-eqb}
-use Rattle.gs_model.specs.Isomorphism.{Isomorphic}
-use Rattle.gs_model.specs.Signals.{signal_at, signals}
-use Rattle.gs_model.specs.Signatures.{IsSignature}
-use Rattle.gs_numbers.proofs.Numbered.{numbered_more, numbers_are}
+use Rattle.std.proofs.Common.{◌+◌, ℕ, List, subst, sym}
 use Rattle.gs_tree.specs.Trees.{rules_of}
-use Rattle.gs_iso.specs.Numbers.{AreMarks, marks_under}
-use Rattle.gs_iso.specs.Orders.{mark_lt}
-use Rattle.gs_iso.proofs.Below.{mark_law_at}
+use Rattle.gs_iso.specs.Numbers.{AreMarks}
 use Rattle.gs_iso.proofs.children.child_numbers.Goals as goal
 
-pub sign_children-requires-clause-marks : goal.sign_children-requires-clause-marks
-sign_children-requires-clause-marks c = ap length c.as_slice-marks.ensures.value ∙ c.in_ok-kept.ensures.long
-
-pub loop-signal-preserved : goal.loop-signal-preserved
-loop-signal-preserved c =
-    let sign : ℕ → List ℕ → Type 0 = λ i a. IsSignature mark_lt (marks_under (rules_of c.args.signals.now) c.args.round c.as_slice-marks.result.now i) a in
-    let n = c.in_ok-number.ensures in
-    let signs = subst (sign c.loop-signal.signal) (sym c.deref.ensures.value) c.in_ok-sign_children.ensures in
-    numbered_more nat_eq Decides-eqb sign _ _ _ _ _ _ _ c.loop-signal.invariant signs n.kept n.number n.few n.unique c.in_ok-push.ensures.items
-
-pub returns : goal.returns
-returns c =
-    let g = rules_of c.args.signals.now in
-    let r = c.args.round in
-    let below = c.args.below.now in
-    let marks = c.as_slice-marks.result.now in
-    let are_marks = subst (λ (ms : List ℕ). AreMarks g (r + 1) below ms) (sym c.as_slice-marks.ensures.value) c.in_ok-kept.ensures in
-    let numbers = c.loop-signal.numbers.items in
-    let count : length numbers ≡ length (signals g r) = omega (arith, c.count-count.ensures.value, c.loop-signal.invariant.long) in
-    record {
-      long = count;
-      same = λ i j li lj. numbers_are nat_eq Decides-eqb (λ i a. IsSignature mark_lt (marks_under g r marks i) a) c.loop-signal.seen.keys numbers c.loop-signal.invariant.distinct c.loop-signal.invariant.leads
-          (λ i j. Unit {0}) (λ i j. Isomorphic g r (signal_at g r i) (signal_at g r j))
-          (λ i j a b li lj one ha hb. mark_law_at g r (r + 1) (omega arith) c.requires.before_last below marks c.requires.numbers are_marks i j (omega (arith, li, count)) (omega (arith, lj, count)) a b ha hb) i j li lj tt;
-    }
+pub numbers_by_marks-requires-clause-marks : goal.numbers_by_marks-requires-clause-marks
+numbers_by_marks-requires-clause-marks c =
+    let are_marks = subst (λ (ms : List ℕ). AreMarks (rules_of c.args.signals.now) (c.args.round + 1) c.args.below.now ms) (sym c.as_slice.ensures.value) c.in_ok-kept.ensures in
+    (c.args.below.now, c.requires.numbers, are_marks)

@@ -1,10 +1,15 @@
 use Rattle.std.proofs.Common.{ℕ, List, subst, sym}
 use Rattle.gs_numbers.specs.Numbers.{HasClassOf}
-use Rattle.gs_numbers.proofs.FirstSeen.{seen_again, seen_more}
+use Rattle.gs_numbers.proofs.FirstSeen.{seen_again, seen_more, seen_none}
 use Rattle.gs_iso.specs.Numbers.{class_key}
 use Rattle.gs_iso.specs.Orders.{child_eq}
 use Rattle.gs_iso.proofs.Exact.{child_exact}
-use Rattle.gs_iso.proofs.classes.round_classes.Goals as goal
+use Rattle.gs_iso.proofs.classes.classes_each.Goals as goal
+
+pub loop-at-init : goal.loop-at-init
+loop-at-init c =
+    let key = class_key c.args.items.above.now c.args.items.parents.now c.args.items.numbers.now in
+    seen_none child_eq child_exact key _ _ c.requires.unseen c.in_ok-classes.ensures.items
 
 pub loop-at-preserved-in-Some : goal.loop-at-preserved-in-Some
 loop-at-preserved-in-Some c =

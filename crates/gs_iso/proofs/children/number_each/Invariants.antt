@@ -5,7 +5,7 @@ use Rattle.gs_numbers.proofs.Numbered.{AreNumbered}
 use Rattle.gs_tree.specs.Trees.{rules_of}
 use Rattle.gs_iso.specs.Numbers.{marks_under}
 use Rattle.gs_iso.specs.Orders.{mark_lt}
-use Rattle.gs_iso.proofs.children.child_numbers.Given as goal
+use Rattle.gs_iso.proofs.children.number_each.Given as goal
 
 abbrev pub invariant-loop-signal : goal.invariant-loop-signal
 invariant-loop-signal l =
