@@ -1,4 +1,5 @@
 mod Ends
+mod Words
 mod Promised
 mod Completed
 mod Judged

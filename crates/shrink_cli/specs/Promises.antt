@@ -1,5 +1,5 @@
 -- What a run promises of each command beyond what each status says: what is printed, and that it ends well.
-use Rattle.std.specs.Prelude.{◌≡◌, ◌⊎◌, ℕ, ◌≤◌, ◌++◌, List, Bool, length, Some, Ok, true, false}
+use Rattle.std.specs.Prelude.{◌≡◌, ◌⊎◌, ℕ, ◌≤◌, ◌++◌, ◌∷◌, List, Bool, length, Some, Ok, true, false, IsTrue}
 use Rattle.std.specs.Io.KnownBytes.{Appends}
 use Rattle.gs_answer.specs.Asking.{Asks, reads}
 use Rattle.gs_certificate.specs.TextLaws.{IsStated}
@@ -40,14 +40,25 @@ use Rattle.gs_strategy.specs.Laws.{IsStrategy, IsTextOf}
 use Rattle.gs_strategy.specs.Texts.{strategy_text}
 use Rattle.gs_strategy.specs.Values.{Numbers, Parts, Strategy, frame_in}
 use Rattle.gs_text.specs.VerdictText.{verdict_text}
+use Rattle.gs_words.specs.Commands.{command_word}
+use Rattle.gs_words.specs.Plain.{Given, are_plain, option_words}
 use Rattle.gs_words.specs.Requests.{request_of}
 use Rattle.gs_words.specs.Tasks.{Task, Shrink, Check, Make, Evaluate, Query, Upgrade, Judge, Duel, Certify, Verify, Solve, Play, Path}
+use Rattle.gs_words.specs.declared.names.CommandName.{CommandName}
 use Rattle.gs_words.specs.declared.request.Grouping.{Grouping}
 use Rattle.gs_words.specs.declared.request.Grouping.TheVariants.{Isomorphism}
 use Rattle.shrink_cli.specs.Running.{Ends, ReadsWhole, RunsTo, Unread, most_bytes}
 use Rattle.shrink_cli.specs.Statuses.{status_of}
 use Rattle.shrink_cli.specs.declared.status.Status.{Status}
 use Rattle.shrink_cli.specs.declared.status.Status.TheVariants as status
+
+-- ---- which words are taken
+
+-- plain words are never refused: a command and then options of it in any order, each once and each that is required
+abbrev pub TakesPlainWords : List (List ℕ) → Status → Type 0
+TakesPlainWords words s =
+    (command : CommandName) (options : List Given) → IsTrue (are_plain command options) → words ≡ command_word command ∷ option_words options
+    → s ≡ status.Usage → ⊥
 
 -- ---- what is printed at status 0
 
@@ -291,6 +302,7 @@ FilesAtLast words old new s =
 pub record Keeps (words : List (List ℕ)) (old new : Ends) (s : Status) : Type 0 where
   -- each status says what went to the three ends, and why
   pub runs : RunsTo words old new s
+  pub takes_plain_words : TakesPlainWords words s
   -- at status 0
   pub prints : PrintsWell words old new s
   pub shrinks : ShrinksWell words old new s

@@ -3,6 +3,7 @@ use Rattle.shrink_cli.proofs.Certified.{certified_at_last, certifies, certifies_
 use Rattle.shrink_cli.proofs.Completed.{checks_at_last, completes, evaluates_at_last, files_at_last, makes_at_last, paths_at_last, plays_at_last, queries_at_last, shrinks_at_last, solves_at_last, upgrades_at_last}
 use Rattle.shrink_cli.proofs.Judged.{duels, duels_at_last, judges, judges_at_last}
 use Rattle.shrink_cli.proofs.Promised.{checks, evaluates, makes, paths, plays, prints, queries, shrinks, solves, upgrades}
+use Rattle.shrink_cli.proofs.Words.{takes_plain_words}
 use Rattle.shrink_cli.specs.Promises.{Keeps}
 use Rattle.shrink_cli.specs.Running.{Ends, RunsTo}
 use Rattle.shrink_cli.specs.declared.status.Status.{Status}
@@ -12,6 +13,7 @@ use Rattle.shrink_cli.proofs.run.run.Goals as goal
 kept : (words : List (List ℕ)) (old new : Ends) (s : Status) → RunsTo words old new s → Keeps words old new s
 kept words old new s h = record {
   runs = h;
+  takes_plain_words = takes_plain_words words old new s h;
   prints = prints words old new s h;
   shrinks = shrinks words old new s h;
   checks = checks words old new s h;
