@@ -1,5 +1,5 @@
-//! Tests of the words of the command line, and of commands over strategy files: what they print and how they refuse. They go through the public calls of
-//! `gs_words`, `gs_confirm`, `gs_certify` and `gs_compare`.
+//! Tests of the words of the command line, of commands over strategy files, what they print and how they refuse, and of the lines of limits. They go through
+//! the public calls of `gs_words`, `gs_confirm`, `gs_certify`, `gs_compare` and `gs_reply`.
 #![tactic(auto)]
 
 #[cfg(test)]

@@ -8,11 +8,13 @@ use std::alloc::{AllocError, Global};
 use std::process::Abort;
 use std::test::Fail;
 use strategies::STRATEGY_RUNS;
+use worked::WORKED_RUNS;
 
 mod failing;
 mod judged;
 mod refused;
 mod strategies;
+mod worked;
 
 /// Pieces of 7 bytes, for all three ends.
 const SEVENS: (u32, u32, u32) = (7, 7, 7);
@@ -243,11 +245,16 @@ fn answer(alloc: Global, row: &str) -> Result<(Vec<u8>, String), AllocError> {
     Ok((text, wanted))
 }
 
+/// The tables of runs.
+const TABLES: &[&str] = &[RUNS, STRATEGY_RUNS, WORKED_RUNS];
+
 #[test]
 fn each_status_with_its_texts(rt: HostRuntime) -> Result<(), Fail> {
-    for row in RUNS.lines().chain(STRATEGY_RUNS.lines()) {
-        let (text, wanted) = answer(rt.alloc(), row)?;
-        is_said(&rt, &text, wanted.as_bytes(), row);
+    for rows in TABLES {
+        for row in rows.lines() {
+            let (text, wanted) = answer(rt.alloc(), row)?;
+            is_said(&rt, &text, wanted.as_bytes(), row);
+        }
     }
     Ok(())
 }
@@ -287,11 +294,16 @@ const LONG: &[(usize, u8, &str)] = &[
     (1, 0xff, "7||bad game: not UTF-8\n"),
 ];
 
-/// What `shrink` says of so many times one byte.
-fn told_of_many(alloc: Global, byte: u8, length: usize) -> Result<Vec<u8>, AllocError> {
-    let words = words_in(alloc, "shrink")?;
-    let mut source = SureSource::new(vec![in alloc; byte; length]?);
-    let mut out = MemSink::new(alloc, 9, 9, Vec::new(alloc))?;
+/// What a run over bytes of which no read fails says, with so much room for what goes out.
+fn told_in_room(
+    alloc: Global,
+    words: &str,
+    bytes: Vec<u8>,
+    room: u32,
+) -> Result<Vec<u8>, AllocError> {
+    let words = words_in(alloc, words)?;
+    let mut source = SureSource::new(bytes);
+    let mut out = MemSink::new(alloc, room, 4096, Vec::new(alloc))?;
     let mut err = MemSink::new(alloc, 99, 9, Vec::new(alloc))?;
     let status = run(alloc, &words, &mut source, &mut out, &mut err);
     said(alloc, &Outcome { status, out, err })
@@ -300,7 +312,8 @@ fn told_of_many(alloc: Global, byte: u8, length: usize) -> Result<Vec<u8>, Alloc
 #[test]
 fn long_inputs_and_bytes_that_are_no_text(rt: HostRuntime) -> Result<(), Fail> {
     for &(length, byte, wanted) in LONG {
-        let text = told_of_many(rt.alloc(), byte, length)?;
+        let bytes = vec![in rt.alloc(); byte; length]?;
+        let text = told_in_room(rt.alloc(), "shrink", bytes, 9)?;
         assert_eq!(rt; text.as_slice(), wanted.as_bytes(), "{length}");
     }
     Ok(())

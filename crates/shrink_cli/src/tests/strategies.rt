@@ -1,4 +1,4 @@
-//! Runs over strategies, from the worked rows of the program's description and from a program that was written from the rules alone.
+//! Runs over strategies: worked examples, and answers of a program that was written from the rules alone.
 
 /// Words, `-`, the input with `~` for the end of a line, no failing calls and pieces of 99 bytes, the status, the output, the errors.
 pub const STRATEGY_RUNS: &str = "\
