@@ -11,7 +11,7 @@ use Rattle.gs_model.specs.Play.{IsFictitiousPlay, IsPlanSum}
 use Rattle.gs_model.specs.Positions.{at_point}
 use Rattle.gs_totals.specs.ClassTotals.{AreBestTotals, IsFollowed}
 use Rattle.gs_totals.specs.Jumps.{AreBeforeChange, tables_after}
-use Rattle.gs_totals.specs.KeptSums.{AreAlike, plus_times}
+use Rattle.gs_totals.specs.PlanSums.{AreAlike, plus_times}
 use Rattle.gs_totals.proofs.JumpLaws.{best_alike, choices_stay}
 use Rattle.gs_totals.proofs.TotalAnswers.{chosen_is_best}
 use Rattle.gs_play.specs.Staying.{AnswerStays}

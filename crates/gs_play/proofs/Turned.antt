@@ -14,7 +14,7 @@ use Rattle.gs_seq.specs.Slots.{plan_of, slot_of}
 use Rattle.gs_best.specs.Puts.{ArePutBefore}
 use Rattle.gs_totals.specs.ClassTotals.{AreBestTotals, IsFollowed}
 use Rattle.gs_totals.specs.Jumps.{AreBeforeChange, tables_after}
-use Rattle.gs_totals.specs.KeptSums.{AreAlike, plus_times}
+use Rattle.gs_totals.specs.PlanSums.{AreAlike, plus_times}
 use Rattle.gs_totals.specs.Places.{AreEndLines, AreEndSums, ArePointLines, end_start, totals_of}
 use Rattle.gs_totals.proofs.JumpLaws.{best_alike, best_same, choices_stay}
 use Rattle.gs_totals.proofs.SumLaws.{end_plus, kept_alike}

@@ -5,7 +5,7 @@ ghost use Rattle.gs_filter.specs.Filter.{IsSound};
 ghost use Rattle.gs_model.specs.{Classes.{IsClass}, Frame.{end_count, other_player, point_count, round_of}, Play.{IsFirstMoves}, Positions.{at_end}};
 ghost use Rattle.gs_seq.specs.{Abstracts.{frame_of, lists_of}, Plans.{IsPlanOf, class_plan}, Slots.{plan_of, slot_count}};
 ghost use Rattle.gs_best.specs.{Puts.{ArePutBefore}, Tables.{AreInMoves, moves_of, start_of}};
-ghost use Rattle.gs_totals.specs.{ClassTotals.{AreBestTotals}, Jumps.{AreBeforeChange}, KeptSums.{AreAlike, plus_times}};
+ghost use Rattle.gs_totals.specs.{ClassTotals.{AreBestTotals}, Jumps.{AreBeforeChange}, PlanSums.{AreAlike, plus_times}};
 ghost use Rattle.gs_totals.specs.Places.{AreEndLines, AreEndSums, ArePointLines, AreSmallPoints, AreSmallRows, totals_of};
 ghost use Rattle.gs_totals.specs.Room.{HasRows, HasScratch, IsPlaced};
 ghost use Rattle.gs_play.specs.{Seats.{HasAnswered, HasRises, HasRoom, IsSeat}, Staying.{AnswerStays}};

@@ -1,6 +1,6 @@
 -- Fewer turns keep what more turns keep, and what keeps each move behind keeps the choices.
 use Rattle.std.proofs.Common.{◌≡◌, ◌≢◌, ℕ, ◌+◌, ◌<◌, ◌≤◌, Bool, true, false, List, get_or, sym, ap, ◌∙◌, subst, arith, ⊎_elim}
-use Rattle.std.specs.Prelude.{ℤ, pos, ◌+ℤ◌, ◌-ℤ◌, ◌≤ℤ◌, nat_lt, slice_index, unsigned_abs}
+use Rattle.std.specs.Prelude.{ℤ, pos, ◌+ℤ◌, ◌-ℤ◌, ◌≤ℤ◌, ◌<ℤ◌, nat_lt, slice_index, unsigned_abs}
 use Rattle.std.proofs.lemmas.Bool.{cases_eq}
 use Rattle.std.proofs.lemmas.Int.{ints}
 use borrow.Author.Differences.{abs_is}
@@ -10,6 +10,7 @@ use Rattle.gs_totals.specs.ClassTotals.{total_worth}
 use Rattle.gs_totals.specs.Courses.{LastsAt, StaysBehind, frame_in, lists_in, moves_chosen, totals_added, totals_now}
 use Rattle.gs_totals.specs.Lasting.{AreBehind, IsBehind, IsWithinGap}
 use Rattle.gs_totals.specs.declared.course.Course.{Course}
+use Rattle.gs_totals.proofs.Overtaking.{stays_most, stays_less_than}
 
 within_less : (before : Bool) (gap gain times less : ℕ) → less ≤ times → IsWithinGap before gap gain times → IsWithinGap before gap gain less
 within_less before gap gain times less l h = omega (arith, h, l)
@@ -72,14 +73,21 @@ lasts_by k q times lq own h c lc =
     let value_is : totals_now k (at_point q) c ≡ worth place = k.best.followed.reached q c lq own lc in
     let slope_is : totals_added k (at_point q) c ≡ rise place = k.rise.reached q c lq own lc in
     let inr : place < move_count f q = k.best.followed.in_range q c lq own lc in
+    -- within how many turns a move that rises faster does not overtake the chosen one
+    let within : (m gap gain : ℕ) → m < move_count f q → m ≢ place → worth place ≡ worth m +ℤ pos gap → rise m ≡ rise place +ℤ pos gain → 0 < gain
+    → IsWithinGap (nat_lt m place) gap gain times =
+    λ m gap gain inside ne e g some. h m inside c lc (λ s. ne (sym s)) gap gain (value_is ∙ e) (g ∙ ap (λ x. x +ℤ pos gain) (sym slope_is)) some in
     record {
-      later = λ m gap gain behind inside e g some.
-          let w = h m inside c lc (λ s. omega (arith, behind, s)) gap gain (value_is ∙ e) (g ∙ ap (λ x. x +ℤ pos gain) (sym slope_is)) some in
-          subst (λ b. IsWithinGap b gap gain times) (behind_is m place behind) w;
-      earlier = λ m gap gain before e g some.
-          let w = h m (omega (arith, before, inr)) c lc (λ s. omega (arith, before, s)) gap gain (value_is ∙ e) (g
-          ∙ ap (λ x. x +ℤ pos gain) (sym slope_is)) some in
-          subst (λ b. IsWithinGap b gap gain times) (before_is m place before) w;
+      later = λ m n behind inside soon.
+          stays_most (worth place) (rise place) (worth m) (rise m) times n soon
+          (subst (λ x. worth m ≤ℤ x) value_is (k.best.greatest.none_more q m c lq own inside lc))
+          (λ gap gain e g some. subst (λ b. IsWithinGap b gap gain times) (behind_is m place behind)
+          (within m gap gain inside (λ s. omega (arith, behind, s)) e g some));
+      earlier = λ m n before soon.
+          stays_less_than (worth place) (rise place) (worth m) (rise m) times n soon
+          (subst (λ x. worth m <ℤ x) value_is (k.best.greatest.none_before q m c lq own lc before))
+          (λ gap gain e g some. subst (λ b. IsWithinGap b gap gain times) (before_is m place before)
+          (within m gap gain (omega (arith, before, inr)) (λ s. omega (arith, before, s)) e g some));
     }
 
 -- the same numbers
@@ -93,6 +101,6 @@ pub lasts_less : (k : Course) (q times less : ℕ) → less ≤ times → LastsA
 lasts_less k q times less l h c lc =
     let b = h c lc in
     record {
-      later = λ m gap gain behind inside e g some. let n = b.later m gap gain behind inside e g some in omega (arith, n, l);
-      earlier = λ m gap gain before e g some. let n = b.earlier m gap gain before e g some in omega (arith, n, l);
+      later = λ m n behind inside soon. b.later m n behind inside (omega (arith, soon, l));
+      earlier = λ m n before soon. b.earlier m n before (omega (arith, soon, l));
     }

@@ -1,12 +1,9 @@
--- Choices that stay: totals at fixed choices move on straight lines, and within a quotient of turns no choice changes.
-use Rattle.std.proofs.Common.{◌≡◌, ℕ, ◌+◌, ◌-◌, ◌*◌, ◌/◌, ◌<◌, ◌≤◌, Bool, true, false, cond, refl, sym, ap, ◌∙◌, subst, arith, ⊎_elim}
-use Rattle.std.specs.Prelude.{◌==◌, ◌⊎◌, ℤ, pos, ◌+ℤ◌, ◌*ℤ◌, ◌≤ℤ◌, ◌<ℤ◌}
-use Rattle.std.proofs.Common.{inl, inr}
-use Rattle.std.proofs.Math.IntN.{*ℤ-zero, pos-*ℤ-pos}
-use Rattle.std.proofs.Math.Nat.{div-mul-le_self, mul-le-mul_right}
+-- Choices that stay: totals at fixed choices move on straight lines, and a choice stays while no move overtakes it.
+use Rattle.std.proofs.Common.{◌≡◌, ℕ, ◌<◌, ◌≤◌, Bool, true, false, cond, refl, sym, ap, ◌∙◌, subst, arith, ⊎_elim}
+use Rattle.std.specs.Prelude.{◌==◌, ℤ, pos, ◌+ℤ◌, ◌*ℤ◌, ◌≤ℤ◌, ◌<ℤ◌}
+use Rattle.std.proofs.Math.IntN.{*ℤ-zero}
 use Rattle.std.proofs.lemmas.Bool.{cases_eq, cases_lt}
 use Rattle.std.proofs.lemmas.Int.{ints}
-use borrow.Author.Differences.{up, down, le_out}
 use Rattle.gs_model.specs.BestAnswers.{Values}
 use Rattle.gs_model.specs.Classes.{ClassLists, IsClass, IsClasses, class_count, classes_in}
 use Rattle.gs_model.specs.Frame.{Frame, choices_at, leads_to, move_count, other_player, payoff_to, point_count, round_of}
@@ -14,93 +11,27 @@ use Rattle.gs_model.specs.FrameFacts.{InRange, IsInside, IsWalked}
 use Rattle.gs_model.specs.Plans.{Plan}
 use Rattle.gs_model.specs.Positions.{Target, at_end, at_point}
 use Rattle.gs_model.specs.Sums.{sum_z}
-use Rattle.gs_model.proofs.Total.{mul-add_right, mul-le, sum_z-add, sum_z-mul, sum_z-same}
+use Rattle.gs_model.proofs.Total.{sum_z-add, sum_z-mul, sum_z-same}
 use Rattle.gs_seq.specs.Payoffs.{end_sum}
 use Rattle.gs_best.proofs.Ranges.{sum_same}
 use Rattle.gs_totals.specs.ClassTotals.{AreBestTotals, IsFollowed, class_above, gathered, total_worth}
 use Rattle.gs_totals.specs.Jumps.{AreBeforeChange, IsBeforeChange, line, tables_after}
-use Rattle.gs_totals.specs.KeptSums.{AreAlike, plus_times}
+use Rattle.gs_totals.specs.PlanSums.{AreAlike, plus_times}
 use Rattle.gs_totals.proofs.SumLaws.{end_plus, kept_alike}
-
--- ---- order
-
-le_or_gt : (a b : ℤ) → (a ≤ℤ b) ⊎ (b <ℤ a)
-le_or_gt a b = ⊎_elim (λ (l : up b + down a < up a + down b). inr (omega (arith, ints, l)))
-    (λ (l : up a + down b ≤ up b + down a). inl (omega (arith, ints, l))) (cases_lt (up b + down a) (up a + down b))
-
--- by how much a number is at most another
-record IsGap (a b : ℤ) (gap : ℕ) : Type 0 where
-  is : b ≡ a +ℤ pos gap
-
-gap_of : (a b : ℤ) → a ≤ℤ b → (gap : ℕ) × IsGap a b gap
-gap_of a b l = ((up b + down a) - (up a + down b), record { is = (let o = le_out a b l in omega (arith, ints, o)) })
 
 -- ---- one choice
 
--- k turns within a quotient
-later_within : (gap gain times k : ℕ) → 0 < gain → times ≤ gap / gain + 1 → k < times → k * gain ≤ gap
-later_within gap gain times k some t l =
-    let few : k ≤ gap / gain = omega arith in
-    omega (arith, mul-le-mul_right gain few, div-mul-le_self gap gain)
-
-earlier_within : (gap gain times k : ℕ) → 0 < gain → times ≤ (gap + gain - 1) / gain → k < times → k * gain < gap
-earlier_within gap gain times k some t l =
-    let few : k + 1 ≤ (gap + gain - 1) / gain = omega arith in
-    omega (arith, mul-le-mul_right gain few, div-mul-le_self (gap + gain - 1) gain, some)
-
--- a line below another that rises no faster stays below, and one that rises faster does while the gap lasts
-below_stays : (a s b t : ℤ) (k : ℕ) → a ≤ℤ b → s ≤ℤ t → line a s k ≤ℤ line b t k
-below_stays a s b t k l m = let more = mul-le k s t m in omega (arith, ints, l, more)
-
-under_stays : (a s b t : ℤ) (k : ℕ) → a <ℤ b → s ≤ℤ t → line a s k <ℤ line b t k
-under_stays a s b t k l m = let more = mul-le k s t m in omega (arith, ints, l, more)
-
-faster : (a b s t : ℤ) (gap gain k : ℕ) → b ≡ a +ℤ pos gap → s ≡ t +ℤ pos gain → line a s k +ℤ pos gap ≡ line b t k +ℤ pos (k * gain)
-faster a b s t gap gain k e g =
-    let product : pos k *ℤ s ≡ pos k *ℤ t +ℤ pos (k * gain) = ap (λ x. pos k *ℤ x) g ∙ mul-add_right (pos k) t (pos gain)
-    ∙ ap (λ x. pos k *ℤ t +ℤ x) (pos-*ℤ-pos k gain) in
-    omega (arith, ints, e, product)
-
-module _ (worth rise : ℕ → ℤ) (n place times : ℕ) (within : IsBeforeChange worth rise n place times) (k : ℕ) (soon : k < times) where
-  later_stays : (m : ℕ) → place < m → m < n → worth m ≤ℤ worth place → line (worth m) (rise m) k ≤ℤ line (worth place) (rise place) k
-  later_stays m behind inside le = ⊎_elim
-      (λ slow. below_stays (worth m) (rise m) (worth place) (rise place) k le slow)
-      (λ (fast : rise place <ℤ rise m).
-      let g = gap_of (worth m) (worth place) le in
-      let s = gap_of (rise place) (rise m) (omega (arith, ints, fast)) in
-      let e = g.1.is in
-      let h = s.1.is in
-      let some : 0 < s.0 = omega (arith, ints, fast, h) in
-      let room = later_within g.0 s.0 times k some (within.later m g.0 s.0 behind inside e h some) soon in
-      let both = faster (worth m) (worth place) (rise m) (rise place) g.0 s.0 k e h in
-      omega (arith, ints, both, room))
-      (le_or_gt (rise m) (rise place))
-
-  earlier_stays : (m : ℕ) → m < place → worth m <ℤ worth place → line (worth m) (rise m) k <ℤ line (worth place) (rise place) k
-  earlier_stays m before lt = ⊎_elim
-      (λ slow. under_stays (worth m) (rise m) (worth place) (rise place) k lt slow)
-      (λ (fast : rise place <ℤ rise m).
-      let g = gap_of (worth m) (worth place) (omega (arith, ints, lt)) in
-      let s = gap_of (rise place) (rise m) (omega (arith, ints, fast)) in
-      let e = g.1.is in
-      let h = s.1.is in
-      let some : 0 < s.0 = omega (arith, ints, fast, h) in
-      let room = earlier_within g.0 s.0 times k some (within.earlier m g.0 s.0 before e h some) soon in
-      let both = faster (worth m) (worth place) (rise m) (rise place) g.0 s.0 k e h in
-      omega (arith, ints, both, room))
-      (le_or_gt (rise m) (rise place))
-
-  -- none becomes greater
-  pub none_more_stays : ((m : ℕ) → m < n → worth m ≤ℤ worth place) → ((m : ℕ) → m < place → worth m <ℤ worth place) → (m : ℕ) → m < n
-      → line (worth m) (rise m) k ≤ℤ line (worth place) (rise place) k
-  none_more_stays more before m inside = ⊎_elim
-      (λ (first : m < place). let s = earlier_stays m first (before m first) in omega (arith, ints, s))
-      (λ (from : place ≤ m). ⊎_elim
-      (λ (same : m ≡ place). subst (λ i. line (worth m) (rise m) k ≤ℤ line (worth i) (rise i) k) same (let e : line (worth m) (rise m) k
-      ≡ line (worth m) (rise m) k = refl in omega (arith, ints, e)))
-      (λ (other : m ≡ place → ⊥). later_stays m (omega arith) inside (more m inside))
-      (cases_eq m place))
-      (cases_lt m place)
+-- none becomes greater
+none_more_stays : (worth rise : ℕ → ℤ) (n place times : ℕ) → IsBeforeChange worth rise n place times → (k : ℕ) → k < times → (m : ℕ) → m < n
+    → line (worth m) (rise m) k ≤ℤ line (worth place) (rise place) k
+none_more_stays worth rise n place times within k soon m inside = ⊎_elim
+    (λ (first : m < place). let s = within.earlier m k first soon in omega (arith, ints, s))
+    (λ (from : place ≤ m). ⊎_elim
+    (λ (same : m ≡ place). subst (λ i. line (worth m) (rise m) k ≤ℤ line (worth i) (rise i) k) same (let e : line (worth m) (rise m) k
+    ≡ line (worth m) (rise m) k = refl in omega (arith, ints, e)))
+    (λ (other : m ≡ place → ⊥). within.later m k (omega arith) inside soon)
+    (cases_eq m place))
+    (cases_lt m place)
 
 -- ---- tables
 
@@ -154,20 +85,14 @@ choices_stay f lists player y b v d move times k h g within soon =
       followed = later;
       greatest = record {
         none_more = λ q m c lq own lm lc.
-            let e = h.followed.reached q c lq own lc in
             let stays =
             none_more_stays (λ i. total_worth f lists v q i c) (λ i. total_worth f lists d q i c) (move_count f q) (move q c) times
-            (within q c lq own lc) k soon
-            (λ i li. subst (λ x. total_worth f lists v q i c ≤ℤ x) e (h.greatest.none_more q i c lq own li lc))
-            (λ i li. subst (λ x. total_worth f lists v q i c <ℤ x) e (h.greatest.none_before q i c lq own lc li)) m lm in
+            (within q c lq own lc) k soon m lm in
             subst (λ x. x ≤ℤ tables_after v d k (at_point q) c) (sym (worth_line f lists v d k q m c))
             (subst (λ x. line (total_worth f lists v q m c) (total_worth f lists d q m c) k
             ≤ℤ x) (sym (later.reached q c lq own lc ∙ worth_line f lists v d k q (move q c) c)) stays);
         none_before = λ q m c lq own lc lm.
-            let e = h.followed.reached q c lq own lc in
-            let stays =
-            earlier_stays (λ i. total_worth f lists v q i c) (λ i. total_worth f lists d q i c) (move_count f q) (move q c) times
-            (within q c lq own lc) k soon m lm (subst (λ x. total_worth f lists v q m c <ℤ x) e (h.greatest.none_before q m c lq own lc lm)) in
+            let stays = (within q c lq own lc).earlier m k lm soon in
             subst (λ x. x <ℤ tables_after v d k (at_point q) c) (sym (worth_line f lists v d k q m c))
             (subst (λ x. line (total_worth f lists v q m c) (total_worth f lists d q m c) k
             <ℤ x) (sym (later.reached q c lq own lc ∙ worth_line f lists v d k q (move q c) c)) stays);

@@ -2,6 +2,7 @@ pub mod WorthTotals
 pub mod Last
 pub mod TotalsBest
 pub mod SumLaws
+mod Overtaking
 pub mod JumpLaws
 pub mod TotalAnswers
 pub mod TotalBounds

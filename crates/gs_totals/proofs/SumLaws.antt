@@ -1,4 +1,4 @@
--- Kept sums: they give what ends pay, they add up as plans do, and a plan's sums are the pushes of its slots.
+-- Sums of what ends pay, up to chips, by the other player's plan so far: they give what ends pay, and they add up as plans do.
 use Rattle.std.proofs.Common.{◌≡◌, ℕ, ◌+◌, ◌*◌, ◌<◌, refl, sym, ap, ◌∙◌, arith, Option, Some, None}
 use Rattle.std.specs.Prelude.{◌⊎◌, ℤ, pos, ◌+ℤ◌, ◌*ℤ◌}
 use Rattle.std.proofs.Math.IntN.{*ℤ_comm, pos-*ℤ-pos}
@@ -7,7 +7,7 @@ use Rattle.gs_model.specs.Classes.{ClassLists, IsClass, IsClasses, class_count, 
 use Rattle.gs_model.specs.Frame.{Frame, ancestor, end_at, end_count, last_step, other_player, payoff_to, round_of}
 use Rattle.gs_model.specs.FrameFacts.{InRange, IsWalked}
 use Rattle.gs_model.specs.Pairs.{pair_sum}
-use Rattle.gs_model.specs.Plans.{Plan}
+use Rattle.gs_model.specs.Plans.{Plan, lift, number_before}
 use Rattle.gs_model.specs.Play.{IsPlanSum}
 use Rattle.gs_model.specs.Positions.{EndKind, Folded1, Folded2, Show, Step, at_end, at_point}
 use Rattle.gs_model.specs.Sums.{sum_z}
@@ -17,8 +17,38 @@ use Rattle.gs_model.proofs.Total.{mul-add_right, mul_assoc_z, sum_z-add, sum_z-m
 use Rattle.gs_seq.specs.Payoffs.{end_sum, stake}
 use Rattle.gs_seq.proofs.EndSums.{folded, folded_other, shown}
 use Rattle.gs_totals.specs.ClassTotals.{class_above}
-use Rattle.gs_totals.specs.KeptSums.{AreAlike, kept_sum, number_after, paid_as, paid_by_sums, plus_times}
+use Rattle.gs_totals.specs.PlanSums.{AreAlike, plus_times}
 use Rattle.gs_best.proofs.Ranges.{sum_same}
+
+-- ---- the sums
+
+-- a player's number of a plan over classes after a step, or before any, at a class of a round
+abbrev number_after : Frame → ClassLists → Plan → Option Step → ℕ → ℕ → ℕ
+number_after f lists y u round e = number_before f (lift f lists y) u round (first_member lists round e)
+
+-- over the other's classes of a round his number after a step, times a value of the outcome added up over the deals of both classes
+abbrev kept_sum : Frame → ClassLists → (ℤ → ℤ) → ℕ → Option Step → Plan → ℕ → ℤ
+kept_sum f lists value round u y c = sum_z (λ e. pos (number_after f lists y u round e) *ℤ pair_sum f lists lists round value c e) (classes_in lists round)
+
+-- with 1 as the value, and with the outcome
+abbrev weight_sum : Frame → ClassLists → ℕ → Option Step → Plan → ℕ → ℤ
+weight_sum f lists = kept_sum f lists (λ o. pos 1)
+
+-- a part of the one above
+abbrev signed_sum : Frame → ClassLists → ℕ → Option Step → Plan → ℕ → ℤ
+signed_sum f lists = kept_sum f lists (λ o. o)
+
+-- what an end of a kind pays the members of a class together, by the sums of its group: the ends of one round and one last step of the other player
+abbrev paid_as : Frame → ClassLists → ℕ → Plan → ℕ → ℕ → EndKind → ℤ
+paid_as f lists player y z c Folded1 = stake player 1 (end_at f z).put *ℤ weight_sum f lists (round_of f (at_end z))
+    (last_step f (other_player player) (at_end z)) y c
+paid_as f lists player y z c Folded2 = stake player 2 (end_at f z).put *ℤ weight_sum f lists (round_of f (at_end z))
+    (last_step f (other_player player) (at_end z)) y c
+paid_as f lists player y z c Show = pos (end_at f z).put *ℤ signed_sum f lists (round_of f (at_end z)) (last_step f (other_player player) (at_end z)) y c
+
+-- what an end pays them
+abbrev paid_by_sums : Frame → ClassLists → ℕ → Plan → ℕ → ℕ → ℤ
+paid_by_sums f lists player y z c = paid_as f lists player y z c (end_at f z).kind
 
 -- ---- products
 

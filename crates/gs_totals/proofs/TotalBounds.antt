@@ -1,7 +1,7 @@
 -- Class totals are small: at each position at most the greatest payoff times what the class faces there, so at most that times the other's total times the weight
 -- of all deals. The other's numbers at his moves add up to the number before, so his points add nothing.
 use Rattle.std.proofs.Common.{◌≡◌, ◌≢◌, ℕ, zero, suc, ◌+◌, ◌-◌, ◌*◌, ◌<◌, ◌≤◌, Bool, true, false, cond, List, [], ◌∷◌, length, get_or, refl, sym, ap, ◌∙◌, subst, arith, eqb, ⊎_elim, Option, Some, None}
-use Rattle.std.specs.Prelude.{◌==◌, ℤ, pos, ◌*ℤ◌, unsigned_abs, sum_by, All}
+use Rattle.std.specs.Prelude.{◌==◌, if◌then◌else◌, ℤ, pos, ◌*ℤ◌, unsigned_abs, sum_by, All}
 use Rattle.std.specs.List.{range_with_len}
 use Rattle.std.proofs.Math.Nat.{mul-le-mul_left}
 use Rattle.std.proofs.lemmas.Bool.{cases_eq}
@@ -35,12 +35,18 @@ use Rattle.gs_model.proofs.Total.{sum_z-regroup, sum_z-same, sum_z-same_all}
 use Rattle.gs_seq.specs.Payoffs.{end_sum}
 use Rattle.gs_seq.proofs.RowFacts.{abs_all, times_sum}
 use Rattle.gs_totals.specs.ClassTotals.{class_above, total_worth}
-use Rattle.gs_totals.specs.Faced.{faced}
 use Rattle.gs_totals.specs.Places.{IsFollowedFrom}
 use Rattle.gs_best.proofs.Below.{range_add}
 use Rattle.gs_best.proofs.Ranges.{sum_same}
 use Rattle.gs_best.proofs.Shares.{first_class}
 use Rattle.gs_totals.proofs.Last.{IsLast, all_last, next_last}
+
+-- what the members of a class face at a position: over their deals the weight times the other's number before
+abbrev faced : Frame → ClassLists → ℕ → Plan → Target → ℕ → ℕ
+faced f lists player y g c =
+    sum_by (λ (d : Deal). if class_of lists (round_of f g) (at_round f (round_of f g) d.one) == c
+    then d.weight * number_before f (lift f lists y) (last_step f (other_player player) g) (round_of f g) (at_round f (round_of f g) d.two)
+    else 0) f.deals
 
 -- ---- sums
 

@@ -47,6 +47,6 @@ LastsAt k q times =
     → IsBeforeChange (λ m. total_worth (frame_in k) (lists_in k) (totals_now k) q m c) (λ m. total_worth (frame_in k) (lists_in k) (totals_added k) q m c)
     (move_count (frame_in k) q) (moves_chosen k q c) times
 
--- and none at all
+-- so many turns change no choice of the player
 abbrev pub Lasts : Course → ℕ → Type 0
 Lasts k times = AreBeforeChange (frame_in k) (lists_in k) k.player (totals_now k) (totals_added k) (moves_chosen k) times

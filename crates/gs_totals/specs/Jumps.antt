@@ -1,6 +1,6 @@
 -- Turns in which no choice changes. While both players' choices stay, each turn adds the same answers, so all totals move on straight lines; a choice stays as
--- long as no move overtakes it, and how long that is, is a quotient.
-use Rattle.std.specs.Prelude.{ℕ, ◌+◌, ◌-◌, ◌/◌, ◌<◌, ◌≤◌, ◌≡◌, ℤ, pos, ◌+ℤ◌, ◌*ℤ◌}
+-- long as no move overtakes it.
+use Rattle.std.specs.Prelude.{ℕ, ◌<◌, ◌≡◌, ℤ, pos, ◌+ℤ◌, ◌*ℤ◌, ◌≤ℤ◌, ◌<ℤ◌}
 use Rattle.gs_model.specs.BestAnswers.{Values}
 use Rattle.gs_model.specs.Classes.{ClassLists, IsClass}
 use Rattle.gs_model.specs.Frame.{Frame, move_count, player_at, point_count, round_of}
@@ -17,8 +17,8 @@ tables_after v d k g c = line (v g c) (d g c) k
 
 -- a number of turns within which the chosen place among n worths stays the first greatest: no later place becomes greater, and no earlier one as great
 pub record IsBeforeChange (worth rise : ℕ → ℤ) (n place times : ℕ) : Type 0 where
-  pub later : (m gap gain : ℕ) → place < m → m < n → worth place ≡ worth m +ℤ pos gap → rise m ≡ rise place +ℤ pos gain → 0 < gain → times ≤ gap / gain + 1
-  pub earlier : (m gap gain : ℕ) → m < place → worth place ≡ worth m +ℤ pos gap → rise m ≡ rise place +ℤ pos gain → 0 < gain → times ≤ (gap + gain - 1) / gain
+  pub later : (m k : ℕ) → place < m → m < n → k < times → line (worth m) (rise m) k ≤ℤ line (worth place) (rise place) k
+  pub earlier : (m k : ℕ) → m < place → k < times → line (worth m) (rise m) k <ℤ line (worth place) (rise place) k
 
 -- a number of turns within which no choice of a player changes, by his class totals and what each turn adds to them
 abbrev pub AreBeforeChange : Frame → ClassLists → ℕ → Values → Values → (ℕ → ℕ → ℕ) → ℕ → Type 0

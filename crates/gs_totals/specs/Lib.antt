@@ -1,7 +1,6 @@
 pub mod ClassTotals
-pub mod KeptSums
+pub mod PlanSums
 pub mod Jumps
-pub mod Faced
 pub mod Places
 pub mod Renewed
 pub mod Merged

@@ -5,7 +5,7 @@ use Rattle.std.proofs.lemmas.List.{with_items_is}
 use Rattle.gs_seq.specs.Abstracts.{frame_of, lists_of}
 use Rattle.gs_seq.specs.Slots.{plan_of}
 use Rattle.gs_best.proofs.Forms.{form_classes, form_in_range, form_walked}
-use Rattle.gs_totals.specs.KeptSums.{AreAlike, plus_times}
+use Rattle.gs_totals.specs.PlanSums.{AreAlike, plus_times}
 use Rattle.gs_play.specs.Added.{AreAdded}
 use Rattle.gs_play.proofs.Within.{added_alike, weight_within}
 use Rattle.gs_play.proofs.adding.add_times.Goals as goal

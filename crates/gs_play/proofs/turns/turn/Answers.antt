@@ -7,7 +7,7 @@ use Rattle.gs_seq.specs.declared.plan.Plan.{Plan}
 use Rattle.gs_best.proofs.Forms.{form_classes, form_in_range, form_walked}
 use Rattle.gs_best.specs.Tables.{moves_of}
 use Rattle.gs_totals.specs.Jumps.{AreBeforeChange}
-use Rattle.gs_totals.specs.KeptSums.{AreAlike, plus_times}
+use Rattle.gs_totals.specs.PlanSums.{AreAlike, plus_times}
 use Rattle.gs_totals.specs.Places.{AreEndSums, totals_of}
 use Rattle.gs_totals.proofs.SmallEnds.{small_ends, small_points}
 use Rattle.gs_play.specs.Seats.{HasAnswered}
