@@ -50,6 +50,7 @@ abbrev pub worth_of : Pays → Place → ℕ → ℕ
 worth_of (Fixed stake) q number = number
 worth_of (Showdown chips) q number = number * q.win
 
+-- the same, by the number of its signal
 abbrev pub worth_at : Pays → List ℕ → Place → ℕ
 worth_at pays numbers q = worth_of pays q (number_at numbers q)
 

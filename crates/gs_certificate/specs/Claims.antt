@@ -10,10 +10,11 @@ use Rattle.gs_certificate.specs.Numbers.{AreNumbers}
 use Rattle.gs_certificate.specs.Paid.{ArePaid}
 use Rattle.gs_certificate.specs.declared.claim.Claim.{Claim}
 
--- the game and its classes
+-- the game
 abbrev pub frame_in : Claim → Frame
 frame_in c = frame_of c.side.now.form.now
 
+-- its classes
 abbrev pub lists_in : Claim → ClassLists
 lists_in c = lists_of c.side.now.form.now
 

@@ -39,7 +39,7 @@ abbrev pub SaysHands : Strategy → Strategy → Reply → Type 0
 SaysHands one two = OnRawCards (λ n reply. (hands : List Parts) × AreHands one two hands
     × (reply ≡ Prints (verdict_text n ++ hands_text one.game.deck (rules_of one.game) hands))) one two
 
--- two strategies of two games are refused
+-- what `duel` says of two strategies: of one game their numbers and the hands, of two games a refusal
 abbrev pub SaysDuel : Strategy → Strategy → Reply → Type 0
 SaysDuel one two reply = ((one.game ≢ two.game) × (reply ≡ Refuses Other_game)) ⊎ ((one.game ≡ two.game) × SaysHands one two reply)
 

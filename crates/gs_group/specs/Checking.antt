@@ -40,7 +40,7 @@ pub record IsUnlikePair (g : FileGame) (round : ℕ) (one two : List ℕ) : Type
   pub first_text : one ≡ signal_text g.deck (signal_at (rules_of g) round first)
   pub second_text : two ≡ signal_text g.deck (signal_at (rules_of g) round second)
 
--- the coarsest classes and signals by themselves are never refused
+-- what `check` says of a game: the text of its classes; only the signal classes are refused, by the first unlike pair
 abbrev pub ChecksGame : Grouping → Bool → FileGame → Reply → Type 0
 ChecksGame grouping summary g (Prints text) = IsChecked grouping summary g text
 ChecksGame grouping summary g (Refuses (Unlike_pair round one two)) = (grouping ≡ Isomorphism) × IsUnlikePair g round one two

@@ -19,7 +19,7 @@ pub record IsShrunk (summary : Bool) (g : FileGame) (text : List ℕ) : Type 0 w
   pub are : IsSignalClasses (rules_of g) classes
   pub printed : text ≡ told summary g.deck (rules_of g) classes
 
--- no game is refused
+-- what `shrink` says of a game: the text of its signal classes; no game is refused
 abbrev pub ShrinksGame : Bool → FileGame → Reply → Type 0
 ShrinksGame summary g (Prints text) = IsShrunk summary g text
 ShrinksGame summary g (Refuses why) = ⊥

@@ -15,7 +15,7 @@ pub record Rises (row : List Pair) : Type 0 where
   pub ascends : (i j : ℕ) (d : Pair) → i < j → j < length row → (get_or row i d).two < (get_or row j d).two
   pub some : (i : ℕ) (d : Pair) → i < length row → 0 < (get_or row i d).weight
 
--- what a row holds for a class: the weight, and the signed weight
+-- the weight that a row holds for a class
 abbrev pub weight_in : List Pair → ℕ → ℕ
 weight_in row e = sum_by (λ p. if p.two == e then p.weight else 0) row
 

@@ -16,7 +16,7 @@ pub record IsPlayed (turns : ℕ) (g : FileGame) (lists : ClassLists) (text : Li
   pub played : IsFictitiousPlay (frame_in g) lists turns (class_plan (frame_in g) lists one) (class_plan (frame_in g) lists two)
   pub told : IsTextOf g lists one two text
 
--- no game is refused
+-- what `play` says of a game over classes: the strategy after so many turns; no game is refused
 abbrev pub Plays : ℕ → FileGame → ClassLists → Reply → Type 0
 Plays turns g lists (Prints text) = IsPlayed turns g lists text
 Plays turns g lists (Refuses why) = ⊥

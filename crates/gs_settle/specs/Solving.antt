@@ -26,7 +26,7 @@ SaysStopped g lists (Overflows (At_step step row column number)) = IsSolveStop (
 SaysStopped g lists Many_pivots = IsSolveStop (frame_in g) lists Pivots
 SaysStopped g lists why = ⊥
 
--- a solution is also refused where a plan's least total is too large
+-- why a game over classes has no solution printed: its path stops, or a plan's least total is too large
 abbrev pub SaysUnsolved : FileGame → ClassLists → Refusal → Type 0
 SaysUnsolved g lists (Overflows (At_total player multiple)) = IsSolveStop (frame_in g) lists (Total player multiple)
 SaysUnsolved g lists why = SaysStopped g lists why

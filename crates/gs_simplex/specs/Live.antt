@@ -4,6 +4,7 @@ use Rattle.gs_rows.specs.declared.Program.{Program}
 use Rattle.gs_rows.specs.Program.{Listing, IsListed, RowListed}
 use Rattle.gs_simplex.specs.declared.live.Live.{Live}
 
+-- there is room for each column and row of a program, and for a row's own column
 pub record HasPlaces (p : Program) (v : Live) : Type 0 where
   pub rows : vec_len v.rows ≡ p.cols
   pub places : vec_len v.places ≡ p.cols + 2
