@@ -1,9 +1,9 @@
 -- Products, differences and quotients of narrow numbers fit their bits, so that the machine's numbers are the whole numbers meant.
-use Rattle.std.proofs.Common.{◌≡◌, ℕ, ◌+◌, ◌*◌, ◌<◌, ◌≤◌, ◌^◌, ℤ, pos, negsuc, ◌-ℤ◌, ◌*ℤ◌, neg_ℤ, unsigned_abs, FitsSigned, to_z, of_z, w64, Bool, true, false, not, ◌<ℤ◌, ◌≤ℤ◌, sym, ap, subst, ◌∙◌, arith}
+use Rattle.std.proofs.Common.{◌≡◌, ℕ, ◌+◌, ◌*◌, ◌<◌, ◌≤◌, ◌^◌, ℤ, pos, negsuc, ◌-ℤ◌, ◌*ℤ◌, neg_ℤ, unsigned_abs, FitsSigned, to_z, of_z, w64, Bool, true, false, not, ◌<ℤ◌, ◌≤ℤ◌, refl, sym, ap, subst, ◌∙◌, arith}
 use mir.Syntax.{w128}
 use lib.Signed.{quot_z}
 use lib.Dec.{T}
-use Rattle.std.specs.Int.Signed.{lt_z, lt_z_yes, lt_z_no}
+use Rattle.std.specs.Int.Signed.{lt_z, lt_z_yes, lt_z_no, le_z, le_z_yes}
 use Prim.Native.Nat.{◌∣◌, zero, suc, ◌/◌}
 use Rattle.std.proofs.Math.Nat.{mul-div_cancel'}
 use Rattle.std.proofs.lemmas.Int.{ints, to_z_pos, to_z-of_z, fits_signed_from_abs, unsigned_abs-mul}
@@ -21,6 +21,12 @@ widened a r h e = ap (λ t. to_z w128 (of_z w128 t)) (e ∙ kept_64 a h) ∙ kep
 
 pub product_small : (a b : ℤ) → unsigned_abs a < 2 ^ 62 → unsigned_abs b < 2 ^ 62 → unsigned_abs (a *ℤ b) ≤ 2 ^ 124
 product_small a b h k = omega (arith, unsigned_abs-mul a b, mul-le (unsigned_abs a) (unsigned_abs b) (2 ^ 62) (2 ^ 62) (omega (arith, h)) (omega (arith, k)))
+
+pub product_fits : (a b r s : ℤ) → unsigned_abs a < 2 ^ 62 → unsigned_abs b < 2 ^ 62 → r ≡ to_z w64 (of_z w64 a) → s ≡ to_z w64 (of_z w64 b)
+    → FitsSigned w128 (to_z w128 (of_z w128 r) *ℤ to_z w128 (of_z w128 s))
+product_fits a b r s h k e f =
+    let P : ℤ → Type 0 = λ t. FitsSigned w128 (t *ℤ to_z w128 (of_z w128 s)) in let Q : ℤ → Type 0 = λ t. FitsSigned w128 (a *ℤ t) in
+    subst P (sym (widened a r h e)) (subst Q (sym (widened b s k f)) (fits_signed_from_abs w128 (a *ℤ b) (omega (arith, product_small a b h k))))
 
 pub product_kept : (a b r s : ℤ) → unsigned_abs a < 2 ^ 62 → unsigned_abs b < 2 ^ 62 → r ≡ to_z w64 (of_z w64 a) → s ≡ to_z w64 (of_z w64 b)
     → to_z w128 (of_z w128 (to_z w128 (of_z w128 r) *ℤ to_z w128 (of_z w128 s))) ≡ a *ℤ b
@@ -81,6 +87,17 @@ lt_true a b e = lt_z_yes (let P : Bool → Type 0 = λ t. T t in subst P (sym e)
 
 pub lt_false : (a b : ℤ) → lt_z a b ≡ false → b ≤ℤ a
 lt_false a b e = lt_z_no (let P : Bool → Type 0 = λ t. T (not t) in subst P (sym e) tt)
+
+pub le_true : (a b : ℤ) → le_z a b ≡ true → a ≤ℤ b
+le_true a b e = le_z_yes (let P : Bool → Type 0 = λ t. T t in subst P (sym e) tt)
+
+-- what is not at most a number is above it
+not_at_most : (a b : ℤ) (t : Bool) → le_z a b ≡ false → lt_z b a ≡ t → b <ℤ a
+not_at_most a b true _ h = lt_true b a h
+not_at_most a b false e h = absurd (let P : Bool → Type 0 = λ t. T t in subst P e (lt_false b a h).le)
+
+pub le_false : (a b : ℤ) → le_z a b ≡ false → b <ℤ a
+le_false a b e = not_at_most a b (lt_z b a) e refl
 
 -- the division of two numbers of fewer than 62 bits
 pub quotient_64 : (k : ℕ) (z a r : ℤ) (b : ℤ) → k ∣ unsigned_abs z → unsigned_abs z < 2 ^ 62 → k < 2 ^ 62 → a ≡ z → b ≡ pos k
