@@ -13,6 +13,9 @@ use Rattle.std.proofs.lemmas.Nat.{mul-le}
 pub kept_64 : (a : ℤ) → unsigned_abs a < 2 ^ 62 → to_z w64 (of_z w64 a) ≡ a
 kept_64 a h = to_z-of_z w64 a (fits_signed_from_abs w64 a (omega (arith, h)))
 
+pub narrow_passed : (a : ℤ) → unsigned_abs a < 2 ^ 62 → unsigned_abs (to_z w64 (of_z w64 a)) < 2 ^ 62
+narrow_passed a h = let P : ℤ → Type 0 = λ t. unsigned_abs t < 2 ^ 62 in subst P (sym (kept_64 a h)) h
+
 pub kept_128 : (a : ℤ) → unsigned_abs a < 2 ^ 126 → to_z w128 (of_z w128 a) ≡ a
 kept_128 a h = to_z-of_z w128 a (fits_signed_from_abs w128 a (omega (arith, h)))
 

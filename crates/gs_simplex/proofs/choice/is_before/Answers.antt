@@ -3,11 +3,10 @@ use mir.Syntax.{w128}
 use Rattle.std.specs.Int.Signed.{lt_z}
 use lib.Dec.{ltb}
 use Rattle.std.proofs.lemmas.Bool.{ltb-true, ltb-false}
-use Rattle.gs_rows.specs.Rows.{IsNarrow}
 use Rattle.gs_rows.proofs.Ring.{linear}
 use Rattle.gs_simplex.specs.declared.choice.Ratio.{Ratio}
 use Rattle.gs_simplex.specs.Choice.{Before, NotAfter}
-use Rattle.gs_simplex.proofs.Fits.{kept_64, kept_128, lt_true, lt_false}
+use Rattle.gs_simplex.proofs.Fits.{kept_64, narrow_passed, kept_128, lt_true, lt_false}
 use Rattle.gs_simplex.proofs.choice.is_before.Goals as goal
 use Rattle.gs_simplex.proofs.choice.is_before.Goals.{After-product-right}
 
@@ -20,19 +19,16 @@ same_le x y e = omega (arith, linear)
 product_is : (z x y : ℤ) → z ≡ to_z w64 (of_z w64 x) *ℤ to_z w64 (of_z w64 y) → unsigned_abs x < 2 ^ 62 → unsigned_abs y < 2 ^ 62 → z ≡ x *ℤ y
 product_is z x y e h k = e ∙ ap (λ t. t *ℤ to_z w64 (of_z w64 y)) (kept_64 x h) ∙ ap (λ t. x *ℤ t) (kept_64 y k)
 
-passed : (x : ℤ) → IsNarrow x → IsNarrow (to_z w64 (of_z w64 x))
-passed x h = let P : ℤ → Type 0 = λ t. IsNarrow t in subst P (sym (kept_64 x h)) h
-
 pub product-left-requires : goal.product-left-requires
 product-left-requires c = record {
-  narrow = passed c.args.a.now.side c.requires.narrow_side;
-  narrow_other = passed c.args.b.now.over c.requires.narrow_other_over;
+  narrow = narrow_passed c.args.a.now.side c.requires.narrow_side;
+  narrow_other = narrow_passed c.args.b.now.over c.requires.narrow_other_over;
 }
 
 pub product-right-requires : goal.product-right-requires
 product-right-requires c = record {
-  narrow = passed c.args.b.now.side c.requires.narrow_other;
-  narrow_other = passed c.args.a.now.over c.requires.narrow_over;
+  narrow = narrow_passed c.args.b.now.side c.requires.narrow_other;
+  narrow_other = narrow_passed c.args.a.now.over c.requires.narrow_over;
 }
 
 -- the two numbers that are compared are the products, and stay themselves

@@ -1,12 +1,49 @@
-use Rattle.std.proofs.Common.{◌≡◌, MatchOption, Some, None, ℕ, ◌+◌, ◌*◌, ◌<◌, ◌≤◌, ◌^◌, ℤ, ◌-ℤ◌, ◌*ℤ◌, unsigned_abs, length, slice_index, to_z, of_z, w64, sym, ap, subst, ◌∙◌, arith}
-use Rattle.gs_rows.specs.Rows.{IsNarrow}
+use Rattle.std.proofs.Common.{◌≡◌, MatchOption, Some, None, ℕ, ◌+◌, ◌-◌, ◌*◌, ◌<◌, ◌≤◌, ◌^◌, ℤ, pos, ◌-ℤ◌, ◌*ℤ◌, ◌<ℤ◌, unsigned_abs, length, slice_index, to_z, of_z, w64, sym, ap, subst, ◌∙◌, arith}
+use Rattle.gs_rows.specs.Rows.{IsNarrow, IsPrimitive}
 use Rattle.gs_simplex.specs.Numbers.{at, AllNarrow, IsShared, IsQuotient, IsWideQuotient, IsReduced, IsReducedTo, IsDivided}
 use Rattle.std.proofs.lemmas.Nat.{mul-le}
 use Rattle.gs_simplex.specs.Live.{IsSupport}
-use Rattle.gs_simplex.proofs.Fits.{kept_64}
+use Rattle.gs_simplex.proofs.Fits.{kept_64, narrow_passed}
 use Rattle.gs_simplex.proofs.Lives.{change_touched, support_mixed}
-use Rattle.gs_simplex.proofs.Reduce.{divisor_small, by_divides, reduced_divided, reduced_from, reduced_wide}
+use Rattle.gs_simplex.proofs.Reduce.{kept_reduced, divisor_small, by_divides, reduced_divided, reduced_from, reduced_wide}
 use Rattle.gs_simplex.proofs.row.reduce_row.Goals as goal
+
+-- a row with 0 in the column stays
+stored_zero : (x : ℤ) → IsNarrow x → of_z w64 x ≡ 0 → x ≡ pos 0
+stored_zero x h e = sym (kept_64 x h) ∙ ap (to_z w64) e
+
+pub returns-then-row-lead-eq0 : goal.returns-then-row-lead-eq0
+returns-then-row-lead-eq0 c =
+    let q = c.requires in let lead = c.args.lead.now.numbers.now in let row = c.args.row.now in let k = c.args.lead.now.column in
+    let zero : at row k ≡ pos 0 = stored_zero (at row k) (q.narrow_row k (omega (arith, q.long, q.inside))) c.if-row-lead-eq0.true in
+    let P : ℕ → Type 0 = λ n. IsPrimitive (n - 1) (at row) in
+    (kept_reduced (at lead) (at row) k (length lead) q.own zero (subst P q.long q.primitive), q.narrow_row)
+
+-- the multipliers and the numbers that they are of are narrow as they are passed
+pub multipliers-own-requires-clause-own : goal.multipliers-own-requires-clause-own
+multipliers-own-requires-clause-own c =
+    let q = c.requires in let x = at c.args.lead.now.numbers.now c.args.lead.now.column in
+    let P : ℤ → Type 0 = λ t. pos 0 <ℤ t in subst P (sym (kept_64 x (q.narrow_lead c.args.lead.now.column q.inside))) q.own
+
+pub multipliers-own-requires-clause-narrow_own : goal.multipliers-own-requires-clause-narrow_own
+multipliers-own-requires-clause-narrow_own c =
+    let k = c.args.lead.now.column in narrow_passed (at c.args.lead.now.numbers.now k) (c.requires.narrow_lead k c.requires.inside)
+
+pub multipliers-own-requires-clause-narrow_far : goal.multipliers-own-requires-clause-narrow_far
+multipliers-own-requires-clause-narrow_far c =
+    let q = c.requires in let k = c.args.lead.now.column in narrow_passed (at c.args.row.now k) (q.narrow_row k (omega (arith, q.long, q.inside)))
+
+pub stays_narrow-requires-clause-narrow_own : goal.stays_narrow-requires-clause-narrow_own
+stays_narrow-requires-clause-narrow_own c = narrow_passed c.multipliers-own.result.0 c.multipliers-own.ensures.narrow_own
+
+pub stays_narrow-requires-clause-narrow_far : goal.stays_narrow-requires-clause-narrow_far
+stays_narrow-requires-clause-narrow_far c = narrow_passed c.multipliers-own.result.1 c.multipliers-own.ensures.narrow_far
+
+pub mix-requires-clause-narrow_own : goal.mix-requires-clause-narrow_own
+mix-requires-clause-narrow_own c = narrow_passed c.multipliers-own.result.0 c.multipliers-own.ensures.narrow_own
+
+pub mix-requires-clause-narrow_far : goal.mix-requires-clause-narrow_far
+mix-requires-clause-narrow_far c = narrow_passed c.multipliers-own.result.1 c.multipliers-own.ensures.narrow_far
 
 -- the places at which the row changes
 pub mix_narrow-requires-clause-change : goal.mix_narrow-requires-clause-change
