@@ -4,4 +4,5 @@ pub mod Weighed
 pub mod PartsOf
 pub mod Settled
 pub mod Scanned
+pub mod Alike
 pub mod Transfer

@@ -14,14 +14,14 @@ use Rattle.gs_model.specs.Lossless.{Alike, IsFirstUnlike, IsLossless}
 use Rattle.gs_model.specs.Numbering.{IsNumbered}
 use Rattle.gs_model.specs.Signals.{signals}
 use Rattle.gs_model.proofs.Ranges.{signal_count_is}
-use Rattle.gs_lossless.specs.Amounts.{Agree, AgreesWithFirst, AreAmounts, HasSide}
+use Rattle.gs_lossless.specs.Amounts.{Agree, AgreesWithFirst, AreAmounts, AreSideFirsts, HasSide}
 use Rattle.gs_lossless.specs.Scans.{AgreeBelow, IsFirstApart, StoredBelow}
 use Rattle.gs_lossless.specs.Stops.{AreAlikeBelow, IsChildrenApart, MatchUnlike}
 use Rattle.gs_lossless.specs.declared.parts.Part.{Part}
 use Rattle.gs_lossless.specs.declared.sides.Side.{Side}
 use Rattle.gs_lossless.specs.declared.sides.Side.TheVariants.{Deals, Children}
 use Rattle.gs_lossless.proofs.Descent.{last_is, list_long}
-use Rattle.gs_lossless.proofs.Settled.{agree_children, agree_deals, alike_from, not_lossless, over, singles}
+use Rattle.gs_lossless.proofs.Settled.{agree_children, agree_deals, alike_from, first_le, not_lossless, over, singles}
 
 pub side_in : (f : Frame) (side : Side) (round : ℕ) → HasSide f side round → (0 < round) × (round ≤ last_round f)
 side_in f Deals round h = h
@@ -87,6 +87,19 @@ pub agree_more : (f : Frame) (lists : ClassLists) (side : Side) (round signal : 
     → AgreesWithFirst f lists side round signal → AgreeBelow f lists side round (signal + 1)
 agree_more f lists side round signal h here s l = ⊎_elim (λ under. h s under) (λ over. let e : signal ≡ s = omega (arith, l, over) in
     subst (AgreesWithFirst f lists side round) e here) (cases_lt s signal)
+
+-- a signal that an earlier one stands for is not the first member of its class, and agrees with that one
+module _ (f : Frame) (lists : ClassLists) (side : Side) (round signal : ℕ) (firsts : List ℕ) (h : AreSideFirsts f lists side round firsts)
+    (l : signal < length firsts) (under : get_or firsts signal 0 < signal) where
+  pub stood_later : signal < length (list_of lists round) → first_member lists round (class_of lists round signal) ≡ signal → ⊥
+  stood_later within e =
+      let le = first_le lists round (get_or firsts signal 0) (omega (arith, under, within)) in
+      let own = ap (first_member lists round) (h.class signal l) in
+      absurd (omega (arith, le, own, e, under))
+
+  pub stood_agrees : AgreeBelow f lists side round signal → AgreesWithFirst f lists side round signal
+  stood_agrees below = subst (λ (k : ℕ). Agree f lists side round (first_member lists round k) signal) (h.class signal l)
+      (λ c o. below (get_or firsts signal 0) under c o ∙ h.agree signal l c o)
 
 -- the first member agrees with itself
 pub agree_self : (f : Frame) (lists : ClassLists) (side : Side) (round signal : ℕ) → first_member lists round (class_of lists round signal) ≡ signal

@@ -1,7 +1,7 @@
 -- The first signal of a round that differs from the first member of its class.
-use Rattle.std.specs.Prelude.{ℕ, ◌-◌, ◌<◌, ◌≤◌, ◌≢◌, List, Option, Some, None, Vec, get_or}
+use Rattle.std.specs.Prelude.{ℕ, ◌-◌, ◌<◌, ◌≤◌, ◌≡◌, ◌≢◌, List, Option, Some, None, Vec, get_or}
 use Rattle.std.specs.declared.alloc.Global.{Global}
-use Rattle.gs_model.specs.Classes.{ClassLists, class_count, class_size, first_member}
+use Rattle.gs_model.specs.Classes.{ClassLists, class_count, class_of, class_size, first_member}
 use Rattle.gs_model.specs.Frame.{Frame}
 use Rattle.gs_lossless.specs.Amounts.{AgreesWithFirst, AreAmounts}
 use Rattle.gs_lossless.specs.declared.parts.Part.{Part}
@@ -15,6 +15,10 @@ AgreeBelow f lists side round end = (s : ℕ) → s < end → AgreesWithFirst f 
 abbrev pub IsFirstApart : Frame → ClassLists → Side → ℕ → ℕ → Option ℕ → Type 0
 IsFirstApart f lists side round end None = AgreeBelow f lists side round end
 IsFirstApart f lists side round end (Some s) = (s < end) × AgreeBelow f lists side round s × (AgreesWithFirst f lists side round s → ⊥)
+
+-- the signals of a round before `end` are the only members of their classes
+abbrev pub AreAloneBelow : ClassLists → ℕ → ℕ → Type 0
+AreAloneBelow lists round end = (s : ℕ) → s < end → class_size lists round (class_of lists round s) ≡ 1
 
 -- of classes with more than one member whose first member stands before a signal, the sums of that member are kept
 abbrev pub StoredBelow : Frame → ClassLists → Side → ℕ → ℕ → List (Vec Part Global) → Type 0

@@ -8,6 +8,7 @@ mod parts;
 mod runs;
 mod scan;
 mod sides;
+mod standing;
 mod stop;
 mod stopped;
 

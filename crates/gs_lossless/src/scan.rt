@@ -1,14 +1,16 @@
 //! The first signal of a round that differs from the first member of its class.
 
-ghost use Rattle.std.specs.Prelude.{◌≡◌, ◌≤◌, IfOk, length};
-ghost use Rattle.gs_model.specs.{Frame.{frame_of}, Signals.{signals as signals_in}};
+ghost use Rattle.std.specs.Prelude.{◌≡◌, ◌<◌, ◌≤◌, IfOk, IsTrue, length};
+ghost use Rattle.gs_model.specs.{Classes.{list_of}, Frame.{frame_of}, Signals.{signals as signals_in}};
 ghost use Rattle.gs_tree.specs.Trees.{rules_of};
-ghost use Rattle.gs_lossless.specs.{Amounts.{HasSide}, Scans.{IsFirstApart}};
+ghost use Rattle.gs_lossless.specs.{Amounts.{HasSide}, Scans.{AreAloneBelow, IsFirstApart}};
 
 use crate::grouped::Grouped;
 use crate::keys::side_keys;
 use crate::parts::{Part, are_same};
 use crate::sides::{Side, side_sums};
+use crate::standing::{has_earlier, side_stand_ins};
+use gs_filter::Classes;
 use std::alloc::{AllocError, Global};
 
 /// A list for each class of a round, all empty.
@@ -22,8 +24,22 @@ fn empty_lists(alloc: Global, classes: u32) -> Result<Vec<Vec<Part>>, AllocError
     Ok(lists)
 }
 
+/// Whether each class of a round has one member.
+fn are_alone(classes: &Classes, round: u8) -> bool
+    requires some { 0 < round }
+    requires top { round ≤ length classes.now.lists }
+    ensures { IsTrue result → AreAloneBelow classes.now.lists round (length (list_of classes.now.lists round)) }
+{
+    for signal in 0..classes.signals(round) {
+        if classes.size(round, classes.class_of(round, signal)) != 1 {
+            return false;
+        }
+    }
+    true
+}
+
 /// The first signal of a round, of those before `end`, that differs on one side from the first member of its class. The sums of a first member are
-/// kept where the class has more members.
+/// kept where the class has more members. None are made of a signal that an earlier one stands for, and none where each class has one member.
 pub(crate) fn first_apart(
     alloc: Global,
     grouped: &Grouped<'_>,
@@ -38,9 +54,16 @@ pub(crate) fn first_apart(
     let Grouped { signals, classes } = *grouped;
     // called only for what its contract says
     let _rounds = classes.rounds();
+    if are_alone(classes, round) {
+        return Ok(None);
+    }
     let keys = side_keys(alloc, signals, classes, side, round)?;
+    let firsts = side_stand_ins(alloc, signals, side, round, &keys)?;
     let mut kept = empty_lists(alloc, classes.classes(round))?;
     for signal in 0..end {
+        if has_earlier(&firsts, signal) {
+            continue;
+        }
         let class = classes.class_of(round, signal);
         if classes.size(round, class) == 1 {
             continue;

@@ -1,18 +1,21 @@
 -- Sums of one signal and of another, and the numbers that they get.
-use Rattle.std.proofs.Common.{◌≡◌, ◌↔◌, ℕ, ℤ, pos, ◌-◌, ◌<◌, Bool, true, false, true≢false, cond, List, [], length, get_or, refl, sym, ap, ◌∙◌, subst, arith}
+use Rattle.std.proofs.Common.{◌≡◌, ◌↔◌, ℕ, ℤ, pos, ◌-◌, ◌<◌, ◌≤◌, Bool, true, false, true≢false, cond, List, [], length, get_or, refl, sym, ap, ◌∙◌, subst, arith}
 use Rattle.std.specs.Prelude.{◌==◌}
 use Rattle.std.specs.Bool.{Decides}
 use Rattle.std.specs.Ordering.{int_eq}
 use Rattle.std.proofs.lemmas.Bool.Decides.{Decides-and, Decides-eqb, Decides-like}
 use Rattle.gs_model.specs.Classes.{ClassLists, class_of, first_member}
-use Rattle.gs_model.specs.Frame.{Frame, last_round}
+use Rattle.gs_model.specs.Frame.{Frame, frame_of, last_round}
+use Rattle.gs_model.specs.Game.{Game, round_count}
 use Rattle.gs_model.specs.Lossless.{weight_against, weight_with}
-use Rattle.gs_lossless.specs.Amounts.{Agree, AgreesWithFirst, AreAmounts, amount}
+use Rattle.gs_model.specs.Signals.{signals}
+use Rattle.gs_model.proofs.Ranges.{signal_count_is}
+use Rattle.gs_lossless.specs.Amounts.{Agree, AgreesWithFirst, AreAmounts, AreSideFirsts, amount}
 use Rattle.gs_lossless.specs.declared.parts.Part.{Part}
 use Rattle.gs_lossless.specs.declared.sides.Side.{Side}
 use Rattle.gs_lossless.specs.declared.sides.Side.TheVariants.{Deals, Children}
 use Rattle.gs_lossless.proofs.Settled.{agree_if_same, same_if_agree}
-use Rattle.gs_split.specs.Turns.{AreClassSums, AreSettled, AreSideFirsts, AreSideNumbers, AreTurnNumbers, HaveSameSums, IsSettled, key_eq}
+use Rattle.gs_split.specs.Turns.{AreClassSums, AreSettled, AreSideNumbers, AreTurnNumbers, HaveSameSums, IsSettled, key_eq}
 
 module _ (f : Frame) (lists : ClassLists) (round : ℕ) where
   -- members of a settled class agree with its first member
@@ -94,6 +97,20 @@ module _ (f : Frame) (lists : ClassLists) (round : ℕ) where
     long = h.long;
     same = λ i j li lj e. let a = h.same i j li lj e in let b = deals_same i j l in (λ x. b.0 (a.0 x), λ y. a.1 (b.1 y));
   }
+
+-- each signal stands for itself
+pub firsts_of_themselves : (g : Game) (side : Side) (round n : ℕ) (lists : ClassLists) (firsts : List ℕ) → 0 < round → round ≤ round_count g
+    → n ≡ length (signals g round) → length firsts ≡ n
+    → ((s : ℕ) → s < n → get_or firsts s 0 ≡ s) → AreSideFirsts (frame_of g) lists side round firsts
+firsts_of_themselves g side round n lists firsts some top e long each =
+    let f = frame_of g in
+    let all = signal_count_is g round some top in
+    record {
+      long = long ∙ e ∙ sym all;
+      before = λ s l. let x = each s (omega (arith, l, long)) in omega (arith, x);
+      class = λ s l. ap (class_of lists round) (each s (omega (arith, l, long)));
+      agree = λ s l c o. ap (λ (x : ℕ). amount f lists side round x c o) (each s (omega (arith, l, long)));
+    }
 
 -- three numbers are equal exactly where the test says so
 pub triples : (p q : ℕ × ℕ × ℕ) → p.0 ≡ q.0 → p.1 ≡ q.1 → p.2 ≡ q.2 → p ≡ q

@@ -2,6 +2,5 @@ pub mod Each
 pub mod Agreed
 pub mod Turned
 pub mod Splits
-pub mod Alike
 pub mod Known
 pub mod Proposed

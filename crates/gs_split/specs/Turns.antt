@@ -11,13 +11,6 @@ use Rattle.gs_lossless.specs.declared.sides.Side.{Side}
 
 -- ---- sums
 
--- each signal of a round has one that stands for it on one side: of its class, no later, and one that it agrees with
-pub record AreSideFirsts (f : Frame) (lists : ClassLists) (side : Side) (round : ℕ) (firsts : List ℕ) : Type 0 where
-  pub long : length firsts ≡ signal_count f round
-  pub before : (s : ℕ) → s < length firsts → get_or firsts s 0 ≤ s
-  pub class : (s : ℕ) → s < length firsts → class_of lists round (get_or firsts s 0) ≡ class_of lists round s
-  pub agree : (s : ℕ) → s < length firsts → Agree f lists side round (get_or firsts s 0) s
-
 -- the class of a signal is settled, by a list with an entry for each class
 abbrev pub IsSettled : ClassLists → ℕ → List Bool → ℕ → Type 0
 IsSettled lists round settled s = get_or settled (class_of lists round s - 1) false ≡ true

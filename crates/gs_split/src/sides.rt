@@ -3,8 +3,8 @@
 ghost use Rattle.std.specs.Prelude.{◌≡◌, ◌<◌, ◌≤◌, ℕ, IfOk, List, length};
 ghost use Rattle.gs_model.specs.{Classes.{ClassLists, list_of}, Frame.{frame_of, last_round}};
 ghost use Rattle.gs_tree.specs.Trees.{rules_of};
-ghost use Rattle.gs_lossless.specs.Amounts.{HasSide, key_count, keys_of};
-ghost use Rattle.gs_split.specs.Turns.{AreSettled, AreSideFirsts, AreSideNumbers, AreTurnNumbers};
+ghost use Rattle.gs_lossless.specs.Amounts.{AreSideFirsts, HasSide, key_count, keys_of};
+ghost use Rattle.gs_split.specs.Turns.{AreSettled, AreSideNumbers, AreTurnNumbers};
 
 use gs_alike::Boards;
 use gs_filter::Classes;

@@ -1,16 +1,16 @@
 use Rattle.std.proofs.lemmas.List.{length-set}
-use Rattle.std.proofs.Common.{true, false, true≢false, rules, ◌≡◌, ◌≢◌, ◌+◌, ◌-◌, ◌≤◌, ℕ, List, ap, get_or, length, set, sym, ◌∙◌, subst, arith, Vec, Global}
-use Rattle.gs_model.specs.Classes.{class_of, class_size, first_member}
+use Rattle.std.proofs.Common.{true, false, true≢false, rules, ◌≡◌, ◌≢◌, ◌+◌, ◌-◌, ◌<◌, ◌≤◌, ℕ, List, ap, get_or, length, set, sym, ◌∙◌, subst, arith, Vec, Global}
+use Rattle.gs_model.specs.Classes.{class_of, class_size, first_member, list_of}
 use Rattle.gs_model.specs.Frame.{frame_of}
 use Rattle.gs_tree.specs.Trees.{rules_of}
-use Rattle.gs_lossless.specs.Amounts.{Agree, AreAmounts}
+use Rattle.gs_lossless.specs.Amounts.{Agree, AreAmounts, key_count}
 use Rattle.gs_lossless.specs.Scans.{StoredBelow}
 use Rattle.gs_lossless.specs.declared.parts.Part.{Part}
 use Rattle.gs_lossless.proofs.Descent.{keys_long, last_is, list_long, playable}
-use Rattle.gs_lossless.proofs.Scanned.{agree_more, agree_self, side_in, stored_first, stored_later, stored_single}
+use Rattle.gs_lossless.proofs.Scanned.{agree_more, agree_self, side_in, stored_first, stored_later, stored_single, stood_agrees, stood_later}
 use Rattle.gs_lossless.proofs.Settled.{first_le, agree_if_same, same_if_agree, single_agrees}
 use Rattle.gs_lossless.proofs.scan.first_apart.Goals as goal
-use Rattle.gs_lossless.proofs.scan.first_apart.Goals.{After-first, then-first-signal, else-first-signal+else-not-are_same}
+use Rattle.gs_lossless.proofs.scan.first_apart.Goals.{After-first, In_ok-keys, then-first-signal, else-first-signal+else-not-are_same}
 
 pub class_of-class-requires-clause-within : goal.class_of-class-requires-clause-within
 class_of-class-requires-clause-within c =
@@ -19,11 +19,49 @@ class_of-class-requires-clause-within c =
     let n = list_long g c.args.grouped.now.classes.now c.args.grouped.now.parents c.rounds-rounds.ensures.sound c.args.round h.0 (omega (arith, h.1, last_is g)) in
     omega (arith, n, c.requires.within)
 
-pub side_sums-requires-clause-all : goal.side_sums-requires-clause-all
-side_sums-requires-clause-all c =
+pub returns-then-are_alone : goal.returns-then-are_alone
+returns-then-are_alone c =
     let g = rules_of c.args.grouped.now.signals.now in
-    ap (λ (l : List ℕ). length l) (c.deref.ensures.value ∙ c.in_ok-keys.ensures)
-    ∙ keys_long g c.args.grouped.now.classes.now c.args.grouped.now.parents c.rounds-rounds.ensures.sound (playable c.args.grouped.now.signals.now) c.args.side c.args.round c.requires.side
+    let lists = c.args.grouped.now.classes.now.lists in
+    let h = side_in (frame_of g) c.args.side c.args.round c.requires.side in
+    let n = list_long g c.args.grouped.now.classes.now c.args.grouped.now.parents c.rounds-rounds.ensures.sound c.args.round h.0 (omega (arith, h.1, last_is g)) in
+    λ s l. let within : s < length (list_of lists c.args.round) = omega (arith, n, l, c.requires.within) in
+    single_agrees (frame_of g) lists c.args.side c.args.round s within (c.are_alone.ensures c.if-are_alone.true s within)
+
+-- there are as many keys as the side has
+many : (c : In_ok-keys) (keys : List ℕ) → keys ≡ c.in_ok-keys.keys.items → length keys ≡ key_count (rules_of c.args.grouped.now.signals.now) c.args.side c.args.round
+many c keys is =
+    ap (λ (l : List ℕ). length l) (is ∙ c.in_ok-keys.ensures)
+    ∙ keys_long (rules_of c.args.grouped.now.signals.now) c.args.grouped.now.classes.now c.args.grouped.now.parents c.rounds-rounds.ensures.sound (playable c.args.grouped.now.signals.now) c.args.side c.args.round c.requires.side
+
+pub side_stand_ins-requires-clause-all : goal.side_stand_ins-requires-clause-all
+side_stand_ins-requires-clause-all c = many (goal.at.side_stand_ins-requires-clause-all c).In_ok-keys c.deref.result.now c.deref.ensures.value
+
+pub side_sums-requires-clause-all : goal.side_sums-requires-clause-all
+side_sums-requires-clause-all c = many (goal.at.side_sums-requires-clause-all c).In_ok-keys c.deref-in-loop-signal-2.result.now c.deref-in-loop-signal-2.ensures.value
+
+pub loop-signal-preserved-then-has_earlier : goal.loop-signal-preserved-then-has_earlier
+loop-signal-preserved-then-has_earlier c =
+    let g = rules_of c.args.grouped.now.signals.now in
+    let f = frame_of g in
+    let lists = c.args.grouped.now.classes.now.lists in
+    let signal = c.loop-signal.signal in
+    let firsts = c.in_ok-firsts.firsts.items in
+    let h = side_in f c.args.side c.args.round c.requires.side in
+    let sound = c.rounds-rounds.ensures.sound in
+    let top : c.args.round ≤ length c.args.grouped.now.classes.now.parents = omega (arith, h.1, ap (λ (ps : List (List ℕ)). length ps) c.args.grouped.now.parents) in
+    let n = sound.classes.numbered c.args.round h.0 top in
+    let long = list_long g c.args.grouped.now.classes.now c.args.grouped.now.parents sound c.args.round h.0 (omega (arith, h.1, last_is g)) in
+    let within : signal < length (list_of lists c.args.round) = omega (arith, long, c.requires.within, c.loop-signal-test.true) in
+    let found = subst (λ (xs : List ℕ). (signal < length xs) × (get_or xs signal 0 < signal)) c.deref-in-loop-signal.ensures.value (c.has_earlier.ensures c.if-has_earlier.true) in
+    let stand = c.in_ok-firsts.ensures lists (c.deref.ensures.value ∙ c.in_ok-keys.ensures) (omega (arith, found.0)) in
+    record {
+      long = c.loop-signal.invariant.long;
+      stored = stored_later f lists c.args.side c.args.round signal c.loop-signal.kept.items n c.loop-signal.invariant.stored
+          (stood_later f lists c.args.side c.args.round signal firsts stand found.0 found.1 within);
+      agree = agree_more f lists c.args.side c.args.round signal c.loop-signal.invariant.agree
+          (stood_agrees f lists c.args.side c.args.round signal firsts stand found.0 found.1 c.loop-signal.invariant.agree);
+    }
 
 pub loop-signal-preserved-then-size-eq1 : goal.loop-signal-preserved-then-size-eq1
 loop-signal-preserved-then-size-eq1 c =
@@ -64,7 +102,7 @@ returns-then-not-are_same c =
     let kept = get_or c.loop-signal.kept.items (c.class_of-class.result - 1) c.index.result.now in
     let sums = c.in_ok-sums.sums in
     let first = earlier (goal.at.returns-then-not-are_same c).After-first c.if-first-signal.false c.index.result.now in
-    let here = c.in_ok-sums.ensures lists (c.deref.ensures.value ∙ c.in_ok-keys.ensures) in
+    let here = c.in_ok-sums.ensures lists (c.deref-in-loop-signal-2.ensures.value ∙ c.in_ok-keys.ensures) in
     let no : c.are_same.result ≡ false = search rules in (
       c.loop-signal-test.true,
       c.loop-signal.invariant.agree,
@@ -92,7 +130,7 @@ loop-signal-preserved c =
     let n = sound.classes.numbered round h.0 top in
     let is = c.class_of-class.ensures.value in
     let in_class = c.class_of-class.ensures.class in
-    let here = c.in_ok-sums.ensures lists (c.deref.ensures.value ∙ c.in_ok-keys.ensures) in
+    let here = c.in_ok-sums.ensures lists (c.deref-in-loop-signal-2.ensures.value ∙ c.in_ok-keys.ensures) in
     elim c.if-first-signal.branch [
       | then-first-signal w ↦
           let items = ap (λ (v : Vec (Vec Part Global) Global). v.items) w.kept-is in

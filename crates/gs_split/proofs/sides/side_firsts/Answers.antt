@@ -6,9 +6,10 @@ use Rattle.gs_tree.specs.Trees.{rules_of}
 use Rattle.gs_tree.specs.Walk.{last_count}
 use Rattle.gs_tree.specs.declared.signals.Signals.{Signals}
 use Rattle.gs_alike.specs.Alike.{AreStandIns}
+use Rattle.gs_lossless.proofs.Alike.{firsts_of_deals, last_keys}
 use Rattle.gs_lossless.proofs.Descent.{last_is, playable}
 use Rattle.gs_lossless.proofs.Scanned.{side_in}
-use Rattle.gs_split.proofs.Alike.{firsts_of_deals, firsts_of_themselves, last_keys}
+use Rattle.gs_split.proofs.Agreed.{firsts_of_themselves}
 use Rattle.gs_split.proofs.sides.side_firsts.Goals as goal
 
 pub stand_ins-requires : goal.stand_ins-requires

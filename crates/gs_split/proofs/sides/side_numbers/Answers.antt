@@ -4,12 +4,12 @@ use Rattle.gs_model.specs.Classes.{class_of}
 use Rattle.gs_model.specs.Frame.{frame_of, signal_count}
 use Rattle.gs_numbers.proofs.Numbered.{numbered_again, numbered_more, numbers_are}
 use Rattle.gs_tree.specs.Trees.{rules_of}
-use Rattle.gs_lossless.specs.Amounts.{Agree, AreAmounts, key_count}
+use Rattle.gs_lossless.specs.Amounts.{Agree, AreAmounts, AreSideFirsts, key_count}
 use Rattle.gs_lossless.specs.declared.parts.Part.{Part}
 use Rattle.gs_lossless.proofs.Descent.{keys_long, playable}
 use Rattle.gs_lossless.proofs.Merge.{part_decides}
 use Rattle.gs_lossless.proofs.Scanned.{side_classes, side_signals, side_top}
-use Rattle.gs_split.specs.Turns.{AreClassSums, AreSettled, AreSideFirsts, part_eq}
+use Rattle.gs_split.specs.Turns.{AreClassSums, AreSettled, part_eq}
 use Rattle.gs_split.proofs.Agreed.{sums_again, sums_law, sums_made, sums_none}
 use Rattle.gs_split.proofs.sides.side_numbers.Goals as goal
 use Rattle.gs_split.proofs.sides.side_numbers.Goals.{In_ok-firsts, In_ok-keys, In_ok-settled, Joined-index, else-index+in_ok-sums, then-index}

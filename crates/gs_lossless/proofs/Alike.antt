@@ -1,5 +1,5 @@
 -- Signals that see the same deals agree on the side of deals.
-use Rattle.std.proofs.Common.{◌≡◌, ◌+◌, ◌-◌, ◌<◌, ◌≤◌, ◌==◌, ◌∷◌, [], ℕ, ℤ, true, List, length, map, get_or, refl, sym, ap, ◌∙◌, subst, arith}
+use Rattle.std.proofs.Common.{◌≡◌, ◌+◌, ◌-◌, ◌<◌, ◌==◌, ◌∷◌, [], ℕ, ℤ, true, List, map, get_or, refl, sym, ap, ◌∙◌, subst, arith}
 use Rattle.std.specs.Prelude.{flat_map}
 use Rattle.std.specs.List.{filter, range_with_len}
 use Rattle.std.specs.List.Sorted.{IsPermutation}
@@ -12,17 +12,14 @@ use Rattle.gs_model.specs.Classes.{ClassLists, class_of}
 use Rattle.gs_model.specs.Deals.{Deal, deals}
 use Rattle.gs_model.specs.Frame.{at_round, frame_of, last_round, signal_count}
 use Rattle.gs_model.specs.Game.{Game, IsPlayable, round_count}
-use Rattle.gs_model.specs.Signals.{signals}
-use Rattle.gs_model.proofs.Ranges.{signal_count_is}
 use Rattle.gs_tree.specs.Walk.{last_count}
-use Rattle.gs_lossless.specs.Amounts.{Agree, HasSide, amount, deal_part, key_count, keys_of}
+use Rattle.gs_lossless.specs.Amounts.{Agree, AreSideFirsts, HasSide, amount, deal_part, key_count, keys_of}
 use Rattle.gs_lossless.specs.Sums.{sum_at, weight_at}
 use Rattle.gs_lossless.specs.declared.parts.Part.{Part}
 use Rattle.gs_lossless.specs.declared.sides.Side.{Side}
 use Rattle.gs_lossless.specs.declared.sides.Side.TheVariants.{Deals, Children}
 use Rattle.gs_lossless.proofs.Descent.{count_last, last_is, run_start, tabled}
 use Rattle.gs_lossless.proofs.Weighed.{deals_amount}
-use Rattle.gs_split.specs.Turns.{AreSideFirsts}
 
 -- the part that a deal is, from how it is seen
 abbrev part : ℕ × ℤ × ℕ → Part
@@ -94,17 +91,3 @@ pub last_keys : (g : Game) (side : Side) (round n : ℕ) → HasSide (frame_of g
     → n ≡ last_count g
 last_keys g Children round n side e all = absurd (omega (arith, side.1, e, last_is g))
 last_keys g Deals round n side e all = all
-
--- each signal stands for itself
-pub firsts_of_themselves : (g : Game) (side : Side) (round n : ℕ) (lists : ClassLists) (firsts : List ℕ) → 0 < round → round ≤ round_count g
-    → n ≡ length (signals g round) → length firsts ≡ n
-    → ((s : ℕ) → s < n → get_or firsts s 0 ≡ s) → AreSideFirsts (frame_of g) lists side round firsts
-firsts_of_themselves g side round n lists firsts some top e long each =
-    let f = frame_of g in
-    let all = signal_count_is g round some top in
-    record {
-      long = long ∙ e ∙ sym all;
-      before = λ s l. let x = each s (omega (arith, l, long)) in omega (arith, x);
-      class = λ s l. ap (class_of lists round) (each s (omega (arith, l, long)));
-      agree = λ s l c o. ap (λ (x : ℕ). amount f lists side round x c o) (each s (omega (arith, l, long)));
-    }
