@@ -1,7 +1,6 @@
 //! The command `path`.
 
 ghost use Rattle.std.specs.Prelude.{◌≡◌, IfOk};
-ghost use Rattle.gs_filter.specs.Filter.{IsSound};
 ghost use Rattle.gs_reply.specs.Replies.{Answers};
 ghost use Rattle.gs_rows.specs.{Program.{Listing}, declared.Program.{Program}};
 ghost use Rattle.gs_seq.specs.Abstracts.{frame_of, lists_of};
@@ -10,6 +9,7 @@ ghost use Rattle.gs_simplex.specs.Answer.{IsStop};
 ghost use Rattle.gs_solve.specs.{Solutions.{IsGamePath, IsProgramStop, most_pivots}, Stops.{IsMet}};
 
 use crate::lines::path_text;
+use gs_best::round_total;
 use gs_reply::{Answer, many_pivots, many_table_numbers, overflow_at_step};
 use gs_seq::Abstract;
 use gs_simplex::{Program, Stop, trace};
@@ -29,13 +29,6 @@ fn unmade(alloc: Global, form: &Abstract, stop: SolveStop) -> Result<Answer, All
         SolveStop::Wide { .. } | SolveStop::Pivots | SolveStop::Total { .. } | SolveStop::Memory =>
             Err(AllocError),
     }
-}
-
-/// How many rounds there are.
-fn round_total(form: &Abstract) -> u8
-    ensures sound { IsSound form.now.lossless.now.classes.now }
-{
-    form.lossless().classes().rounds()
 }
 
 /// The refusal of a game whose path stops before its end. The table of its program is small, and the path is never unbounded.
