@@ -1,22 +1,11 @@
 //! What an end pays the members of each class together.
 
 ghost use Rattle.std.specs.Prelude.{◌≡◌, ◌-◌, ◌+◌, ◌<◌, ◌≤◌, ℕ, length, pos, get_or};
-ghost use Rattle.gs_game.specs.Seen.{end_of};
-ghost use Rattle.gs_model.specs.{Classes.{IsClass}, Frame.{end_at, end_count, round_of}, Positions.{at_end}};
+ghost use Rattle.gs_model.specs.{Classes.{IsClass}, Frame.{end_count, round_of}, Positions.{at_end}};
 ghost use Rattle.gs_seq.specs.{Abstracts.{frame_of, lists_of}, Payoffs.{end_classes, end_sum}, Plans.{class_plan}};
 ghost use Rattle.gs_best.specs.Sizes.{IsWide};
 
-use gs_best::{Deviator, game};
-use gs_game::End;
-use gs_seq::Abstract;
-
-/// An end of the game.
-pub(crate) fn end_in(form: &Abstract, end: u32) -> End
-    requires { end < end_count (frame_of form.now) }
-    ensures { end_of result ≡ end_at (frame_of form.now) end }
-{
-    game(form).ends()[end as usize]
-}
+use gs_best::Deviator;
 
 /// What an end pays the members of each class together, from a place of a list on, over numbers that are written anew.
 pub(crate) fn read_end(

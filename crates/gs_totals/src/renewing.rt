@@ -1,8 +1,8 @@
 //! What ends pay against a plan, from what they pay against another one: only the ends where both differ are read anew.
 
-ghost use Rattle.std.specs.Prelude.{◌≡◌, ◌↔◌, ◌+◌, ◌-◌, ◌<◌, ◌≤◌, ℕ, IsTrue, length, pos, get_or, option_map};
+ghost use Rattle.std.specs.Prelude.{◌≡◌, ◌↔◌, ◌+◌, ◌-◌, ◌<◌, ◌≤◌, ℕ, IsTrue, length, pos, get_or};
 ghost use Rattle.gs_game.specs.Seen.{step_of};
-ghost use Rattle.gs_model.specs.{Classes.{IsClass}, Frame.{end_count, last_step, move_count, other_player, player_at, point_count, round_of}};
+ghost use Rattle.gs_model.specs.{Classes.{IsClass}, Frame.{end_count, move_count, other_player, player_at, point_count, round_of}};
 ghost use Rattle.gs_model.specs.Positions.{at_end};
 ghost use Rattle.gs_seq.specs.{Abstracts.{frame_of, lists_of}, Payoffs.{end_classes, end_sum}, Plans.{class_plan}, Slots.{plan_of, slot_count}};
 ghost use Rattle.gs_best.specs.Sizes.{IsWide};
@@ -10,20 +10,11 @@ ghost use Rattle.gs_totals.specs.{Ledgers.{ArePaid, facing, frame_in, lists_in},
 ghost use Rattle.gs_totals.specs.Room.{HasRows, HasScratch};
 
 use crate::ledger::Ledger;
-use crate::paying::{end_in, read_end};
+use crate::paying::read_end;
 use crate::places::{Scratch, Totals};
-use gs_best::{Deviator, class_total, end_total, round_at, round_total};
+use gs_best::{Deviator, class_total, end_total, game, round_at, round_total};
 use gs_game::Step;
-use gs_seq::Abstract;
-
-/// A player's last step before an end.
-fn step_before(form: &Abstract, player: u8, end: u32) -> Option<Step>
-    requires { end < end_count (frame_of form.now) }
-    ensures { last_step (frame_of form.now) player (at_end end) ≡ option_map step_of result }
-{
-    let at = end_in(form, end);
-    if player == 1 { at.one } else { at.two }
-}
+use gs_seq::{Abstract, end_step};
 
 /// Whether two lists of a player's weights agree at a step of his, at each class of its point.
 fn agree_at(form: &Abstract, step: Step, before: &[u64], now: &[u64]) -> bool
@@ -55,7 +46,7 @@ fn is_same_at(side: &Deviator<'_>, before: &[u64], end: u32) -> bool
         (class_plan f lists side.now.other.now) end }
 {
     let _rounds = round_total(side.form);
-    match step_before(side.form, side.other.player, end) {
+    match end_step(game(side.form), side.other.player, end) {
         None => true,
         Some(step) => agree_at(side.form, step, before, &side.other.weights),
     }

@@ -1,9 +1,14 @@
-use Rattle.std.proofs.Common.{◌≡◌, ℕ, List, Some, None, length, sym, ap, ◌∙◌, subst}
+use Rattle.std.proofs.Common.{◌≡◌, ◌<◌, ℕ, List, Option, Some, None, length, sym, ap, ◌∙◌, subst}
 use Rattle.std.specs.Prelude.{option_map}
 use Rattle.gs_game.specs.Seen.{step_of}
-use Rattle.gs_model.specs.Frame.{last_step, other_player, player_at}
+use Rattle.gs_game.specs.declared.positions.Step.{Step}
+use Rattle.gs_game.specs.declared.valid.ValidGame.{ValidGame}
+use Rattle.gs_model.specs.Frame.{end_count, last_step, other_player, player_at}
 use Rattle.gs_model.specs.Positions.{at_end}
+use Rattle.gs_seq.specs.Games.{frame_in}
 use Rattle.gs_seq.specs.Slots.{slot_count}
+use Rattle.gs_best.specs.Forms.{game_in}
+use Rattle.gs_best.specs.declared.deviator.Deviator.{Deviator}
 use Rattle.gs_best.proofs.Forms.{form_in_range}
 use Rattle.gs_best.proofs.Sides.{classes, frame, lists, other_walked}
 use Rattle.gs_totals.specs.Renewed.{AgreeAt}
@@ -11,14 +16,22 @@ use Rattle.gs_totals.proofs.Renewals.{none_same, step_same}
 use Rattle.gs_totals.proofs.renewing.is_same_at.Goals.{In-Some}
 use Rattle.gs_totals.proofs.renewing.is_same_at.Goals as goal
 
+-- a step of the form's game is one of its frame
+last_is : (d : Deviator) (z : ℕ) (g : ValidGame) (made : Option Step) → g ≡ game_in d.form.now
+    → option_map step_of made ≡ last_step (frame_in g) d.other.now.player (at_end z) → last_step (frame d) d.other.now.player (at_end z) ≡ option_map step_of made
+last_is d z g made is h = sym (subst (λ v. option_map step_of made ≡ last_step (frame_in v) d.other.now.player (at_end z)) is h)
+
 -- the other player's last step
 made : (c : In-Some) → last_step (frame c.args.side.now) (other_player c.args.side.now.player) (at_end c.args.end) ≡ Some (step_of c.in-Some.step)
 made c =
     let d = c.args.side.now in
-    subst (λ p. last_step (frame d) p (at_end c.args.end) ≡ Some (step_of c.in-Some.step)) d.plan.player_is (c.step_before.ensures ∙ ap (option_map step_of) c.in-Some.is)
+    subst (λ p. last_step (frame d) p (at_end c.args.end) ≡ Some (step_of c.in-Some.step)) d.plan.player_is (last_is d c.args.end c.game.result.now c.end_step.result c.game.ensures c.end_step.ensures ∙ ap (option_map step_of) c.in-Some.is)
 
 own_slots : (c : In-Some) → slot_count (frame c.args.side.now) (lists c.args.side.now) (other_player c.args.side.now.player) ≡ slot_count (frame c.args.side.now) (lists c.args.side.now) (player_at (frame c.args.side.now) c.in-Some.step.point)
 own_slots c = ap (slot_count (frame c.args.side.now) (lists c.args.side.now)) (sym ((other_walked c.args.side.now).chosen_end c.args.end (step_of c.in-Some.step) c.requires.end (made c)).0)
+
+pub end_step-requires : goal.end_step-requires
+end_step-requires c = subst (λ g. c.args.end < end_count (frame_in g)) (sym c.game.ensures) c.requires.end
 
 pub agree_at-requires-clause-point : goal.agree_at-requires-clause-point
 agree_at-requires-clause-point c = (other_walked c.args.side.now).earlier_end c.args.end (step_of c.in-Some.step) c.requires.end (made (goal.at.agree_at-requires-clause-point c).In-Some)
@@ -38,7 +51,7 @@ returns-in-None c =
     let f = frame d in
     let z = c.args.end in
     let none : last_step f (other_player d.player) (at_end z) ≡ None =
-    subst (λ p. last_step f p (at_end z) ≡ None) d.plan.player_is (c.step_before.ensures ∙ ap (option_map step_of) c.in-None.is) in
+    subst (λ p. last_step f p (at_end z) ≡ None) d.plan.player_is (last_is d z c.game.result.now c.end_step.result c.game.ensures c.end_step.ensures ∙ ap (option_map step_of) c.in-None.is) in
     λ t. none_same f (lists d) (other_player d.player) z d.other.now.total c.args.before.now d.other.now.weights.items none
 
 pub returns-in-Some : goal.returns-in-Some
