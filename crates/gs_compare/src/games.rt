@@ -56,12 +56,7 @@ fn same_deck(one: &Deck, two: &Deck) -> bool
 fn same_ranking(one: Ranking, two: Ranking) -> bool
     ensures { IsTrue result ↔ (ranking_of one ≡ ranking_of two) }
 {
-    match (one, two) {
-        (Ranking::High, Ranking::High) => true,
-        (Ranking::Pair, Ranking::Pair) => true,
-        (Ranking::Three, Ranking::Three) => true,
-        _ => false,
-    }
+    one == two
 }
 
 // Whether two games are the same but for their rounds.
