@@ -7,7 +7,7 @@ ghost use Rattle.gs_seq.specs.{Abstracts.{frame_of, lists_of}, Plans.{IsPlanOf, 
 ghost use Rattle.gs_raw.specs.{Answers.{AreHandValuesOf, IsHandValueOf}, Hands.{hand_pays_at, signal_pays, signal_weighs, signals_pay}};
 
 use crate::hands::{hand_weight, paid_over};
-use gs_best::{Deviator, end_round, end_value, run_below, signal_total};
+use gs_best::{Deviator, end_round, end_total, end_value, run_below, signal_total};
 use gs_frac::Fraction;
 use gs_lossless::{Run, descendants};
 use gs_seq::{Abstract, Plan, plus, scaled};
@@ -22,14 +22,6 @@ pub(crate) struct Spread<'a> {
     pub ghost singles: { lists_of form.now ≡ single_classes (frame_of form.now).parents },
     pub ghost one_plan: { IsPlanOf (frame_of form.now) (lists_of form.now) 1 one.now },
     pub ghost two_plan: { IsPlanOf (frame_of form.now) (lists_of form.now) 2 two.now },
-}
-
-/// How many ends a game has.
-fn end_total(form: &Abstract) -> u32
-    ensures value { result ≡ end_count (frame_of form.now) }
-    ensures few { result ≤ 8192 }
-{
-    form.lossless().signals().game().ends().len() as u32
 }
 
 /// What the deals of a signal of an end's round pay player 1 there.

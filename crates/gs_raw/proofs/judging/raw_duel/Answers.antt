@@ -1,11 +1,9 @@
 use Rattle.std.proofs.Common.{◌≤◌, subst}
 use Rattle.std.proofs.lemmas.Result.{err_from_is_err_and}
-use Rattle.gs_model.specs.Frame.{Frame}
 use Rattle.gs_seq.specs.Games.{frame_in}
 use Rattle.gs_tree.specs.declared.signals.Signals.{Signals}
-use Rattle.gs_raw.specs.Answers.{AreHandValuesOf, IsJudgedOf}
 use Rattle.gs_raw.specs.Cells.{raw_cell_count}
-use Rattle.gs_raw.proofs.Overs.{are_over, same_frame, stopped}
+use Rattle.gs_raw.proofs.Overs.{are_spread, hands_alike, judged_alike, stopped}
 use Rattle.gs_raw.proofs.judging.raw_duel.Goals as goal
 
 pub returns-in_err-form-clause-refused : goal.returns-in_err-form-clause-refused
@@ -13,21 +11,21 @@ returns-in_err-form-clause-refused c =
     let e = err_from_is_err_and c.from_residual-in_err-form.result c.from_residual-in_err-form.ensures.1 in
     stopped c.known-known.result c.args.signals.now c.from_residual-in_err-form.result e.0 c.in_err-form.field-0.0 e.1 e.2 c.known-known.ensures.held_signals c.in_err-form.ensures.refused
 
-pub invariant_of-over : goal.invariant_of-over
-invariant_of-over c =
-    let o = are_over c.in_ok-form.form c.known-known.result c.args.signals.now c.in_ok-alone.alone c.args.first.now c.args.one.now c.args.second.now c.args.two.now c.in_ok-form.ensures.held c.known-known.ensures.held_signals
-    c.known-known.ensures.held_classes c.in_ok-alone.ensures.lists c.requires.first c.requires.one c.requires.second c.requires.two in
-    record { singles = o.singles; first_parents = o.first_parents; one_plan = o.one_plan; second_parents = o.second_parents; two_plan = o.two_plan }
+pub invariant_of-side : goal.invariant_of-side
+invariant_of-side c =
+    let plans = c.in_ok-raw_one.ensures in
+    let o = are_spread c.in_ok-form.form c.known-known.result c.args.signals.now c.in_ok-alone.alone c.in_ok-form.ensures.held c.known-known.ensures.held_signals c.known-known.ensures.held_classes c.in_ok-alone.ensures.lists c.in_ok-raw_one.raw_one c.in_ok-raw_one.raw_two plans.one plans.two in
+    record { singles = o.singles; one_plan = o.one_plan; two_plan = o.two_plan }
 
 pub returns-clause-verdict : goal.returns-clause-verdict
 returns-clause-verdict c =
-    subst (λ (h : Frame). IsJudgedOf h c.args.first.now.lists c.args.one.now c.args.second.now.lists c.args.two.now c.in_ok-verdict.verdict) (same_frame c.in_ok-form.form c.known-known.result c.args.signals.now c.in_ok-form.ensures.held c.known-known.ensures.held_signals)
-    c.in_ok-verdict.ensures
+    let plans = c.in_ok-raw_one.ensures in
+    judged_alike c.in_ok-form.form c.known-known.result c.args.signals.now c.in_ok-alone.alone c.in_ok-form.ensures.held c.known-known.ensures.held_signals c.known-known.ensures.held_classes c.in_ok-alone.ensures.lists c.args.first.now.lists c.args.second.now.lists c.args.one.now c.args.two.now c.in_ok-raw_one.raw_one c.in_ok-raw_one.raw_two plans.same_one plans.same_two c.in_ok-verdict.verdict c.in_ok-verdict.ensures
 
 pub returns-clause-hands : goal.returns-clause-hands
 returns-clause-hands c =
-    subst (λ (h : Frame). AreHandValuesOf h c.args.first.now.lists c.args.one.now c.args.second.now.lists c.args.two.now c.in_ok-hands.hands.items)
-    (same_frame c.in_ok-form.form c.known-known.result c.args.signals.now c.in_ok-form.ensures.held c.known-known.ensures.held_signals) c.in_ok-hands.ensures
+    let plans = c.in_ok-raw_one.ensures in
+    hands_alike c.in_ok-form.form c.known-known.result c.args.signals.now c.in_ok-alone.alone c.in_ok-form.ensures.held c.known-known.ensures.held_signals c.known-known.ensures.held_classes c.in_ok-alone.ensures.lists c.args.first.now.lists c.args.second.now.lists c.args.one.now c.args.two.now c.in_ok-raw_one.raw_one c.in_ok-raw_one.raw_two plans.same_one plans.same_two c.in_ok-hands.hands.items c.in_ok-hands.ensures
 
 pub returns-clause-small : goal.returns-clause-small
 returns-clause-small c = subst (λ (s : Signals). raw_cell_count (frame_in s.game.now) ≤ 16777216) c.known-known.ensures.held_signals c.in_ok-form.ensures.small

@@ -2,6 +2,7 @@ use Rattle.std.proofs.Common.{◌≡◌, ◌+◌, ◌*◌, ◌^◌, ap, ◌∙�
 use Rattle.std.specs.List.{range_with_len}
 use mir.Syntax.{w128}
 use mir.Val.{to_z}
+use Rattle.gs_best.proofs.Forms.{form_modest}
 use Rattle.gs_model.specs.Frame.{end_count}
 use Rattle.gs_model.specs.Sums.{sum_z}
 use Rattle.gs_seq.specs.Abstracts.{frame_of, lists_of}
@@ -21,7 +22,7 @@ adding c =
     let side = c.args.side.now in
     let f = frame_of side.form.now in
     let lists = lists_of side.form.now in
-    ends_added (hand_pays_at f (lifted f lists side.one.now) (lifted f lists side.two.now) c.args.signal) c.loop-end.end _ c.end_gain.result (omega (arith, c.loop-end-test.true, c.end_total-end-end.ensures.few)) c.loop-end.invariant.sum_is
+    ends_added (hand_pays_at f (lifted f lists side.one.now) (lifted f lists side.two.now) c.args.signal) c.loop-end.end _ c.end_gain.result (omega (arith, c.loop-end-test.true, c.end_total-end-end.ensures, (form_modest side.form.now).ends)) c.loop-end.invariant.sum_is
     c.loop-end.invariant.within c.end_gain.ensures.value c.end_gain.ensures.few
 
 pub plus-sum-requires : goal.plus-sum-requires
@@ -38,8 +39,8 @@ returns c =
     let lists = lists_of side.form.now in
     let x = lifted f lists side.one.now in
     let y = lifted f lists side.two.now in
-    let all : c.loop-end.end ≡ end_count f = omega (arith, c.end_total-end-end.ensures.value, c.loop-end-test.false, c.loop-end.auto.end-end) in
+    let all : c.loop-end.end ≡ end_count f = omega (arith, c.end_total-end-end.ensures, c.loop-end-test.false, c.loop-end.auto.end-end) in
     record {
       value = c.loop-end.invariant.sum_is ∙ ap (λ n. sum_z (hand_pays_at f x y c.args.signal) (range_with_len 0 n)) all ∙ all_ends f x y c.args.signal;
-      few = omega (arith, c.loop-end.invariant.within, all, c.end_total-end-end.ensures.few, c.end_total-end-end.ensures.value);
+      few = omega (arith, c.loop-end.invariant.within, all, (form_modest side.form.now).ends);
     }
