@@ -13,27 +13,25 @@ use Rattle.gs_best.proofs.Sides.{against, frame, lists, side_walked}
 use Rattle.gs_certificate.specs.Worths.{sum_below, worth_at}
 use Rattle.gs_certificate.proofs.Ends.{end_small}
 use Rattle.gs_certificate.proofs.Runs.{end_own, run_small, worth_small}
-use Rattle.gs_certificate.proofs.sums.end_below.Goals.{After-over}
+use Rattle.gs_certificate.proofs.sums.end_below.Goals.{After-share_of}
 use Rattle.gs_certificate.proofs.sums.end_below.Goals as goal
 
 -- the end's round is one of the game's
 round_in : (d : Deviator) (z to : ℕ) → z < end_count (frame d) → to ≡ round_of (frame d) (at_end z) → to ≤ last_round (frame d)
 round_in d z to l e = let top = (side_walked d).end_in z l in omega (arith, top, e)
 
-pub paid_together-together-requires-clause-class : goal.paid_together-together-requires-clause-class
-paid_together-together-requires-clause-class c = subst (λ j. IsClass (lists c.args.claim.now.side.now) j c.args.class) c.if-from-to.true c.requires.class
+pub share_of-requires-clause-class : goal.share_of-requires-clause-class
+share_of-requires-clause-class c = subst (λ j. IsClass (lists c.args.claim.now.side.now) j c.args.class) c.if-from-to.true c.requires.class
 
 -- the share of each member is what the end is worth to the first
-share_is : (c : After-over) → let d = c.args.claim.now.side.now in to_z w128 (of_z w128 c.over.result) ≡ end_worth (frame d) d.player (against d) c.args.end (first_member (lists d) (round_of (frame d) (at_end c.args.end)) c.args.class)
-share_is c =
-    let each = read_back c.paid_together-together.result.0 _ (search rules) c.paid_together-together.ensures.each in
-    read_back c.over.result _ (record { sfits = c.over.type_inv }) (c.over.ensures.share _ each)
+share_is : (c : After-share_of) → let d = c.args.claim.now.side.now in to_z w128 (of_z w128 c.share_of.result) ≡ end_worth (frame d) d.player (against d) c.args.end (first_member (lists d) (round_of (frame d) (at_end c.args.end)) c.args.class)
+share_is c = read_back c.share_of.result _ (record { sfits = c.share_of.type_inv }) c.share_of.ensures
 
 pub returns-then-from-to-clause-value : goal.returns-then-from-to-clause-value
 returns-then-from-to-clause-value c =
     let d = c.args.claim.now.side.now in
     let top = round_in d c.args.end c.args.to c.requires.end c.requires.to in
-    share_is (goal.at.returns-then-from-to-clause-value c).After-over
+    share_is (goal.at.returns-then-from-to-clause-value c).After-share_of
     ∙ end_own d c.round_total-rounds.ensures.sound c.args.end c.args.from c.args.class (c.if-from-to.true ∙ c.requires.to) c.requires.some (omega (arith, c.if-from-to.true, top)) c.requires.class
 
 pub returns-then-from-to-clause-small : goal.returns-then-from-to-clause-small
@@ -41,7 +39,7 @@ returns-then-from-to-clause-small c =
     let d = c.args.claim.now.side.now in
     let class = subst (λ j. IsClass (lists d) j c.args.class) (c.if-from-to.true ∙ c.requires.to) c.requires.class in
     let small = end_small d c.round_total-rounds.ensures.sound c.args.end c.args.class c.requires.end class in
-    omega (arith, small, ap unsigned_abs (share_is (goal.at.returns-then-from-to-clause-small c).After-over))
+    omega (arith, small, ap unsigned_abs (share_is (goal.at.returns-then-from-to-clause-small c).After-share_of))
 
 pub run_below-run-requires-clause-top : goal.run_below-run-requires-clause-top
 run_below-run-requires-clause-top c = round_in c.args.claim.now.side.now c.args.end c.args.to c.requires.end c.requires.to
