@@ -1,9 +1,9 @@
 -- The first signal of a round that differs from the first member of its class.
-use Rattle.std.specs.Prelude.{ℕ, ◌-◌, ◌<◌, ◌≤◌, ◌≡◌, ◌≢◌, List, Option, Some, None, Vec, get_or}
+use Rattle.std.specs.Prelude.{ℕ, ◌-◌, ◌<◌, ◌≤◌, ◌≡◌, ◌≢◌, List, Option, Some, None, Vec, get_or, length}
 use Rattle.std.specs.declared.alloc.Global.{Global}
 use Rattle.gs_model.specs.Classes.{ClassLists, class_count, class_of, class_size, first_member}
 use Rattle.gs_model.specs.Frame.{Frame}
-use Rattle.gs_lossless.specs.Amounts.{AgreesWithFirst, AreAmounts}
+use Rattle.gs_lossless.specs.Amounts.{AgreesWithFirst, AreAmounts, AreSideFirsts}
 use Rattle.gs_lossless.specs.declared.parts.Part.{Part}
 use Rattle.gs_lossless.specs.declared.sides.Side.{Side}
 
@@ -15,6 +15,10 @@ AgreeBelow f lists side round end = (s : ℕ) → s < end → AgreesWithFirst f 
 abbrev pub IsFirstApart : Frame → ClassLists → Side → ℕ → ℕ → Option ℕ → Type 0
 IsFirstApart f lists side round end None = AgreeBelow f lists side round end
 IsFirstApart f lists side round end (Some s) = (s < end) × AgreeBelow f lists side round s × (AgreesWithFirst f lists side round s → ⊥)
+
+-- signals that are listed, if any are, stand for those of the round on the side
+abbrev pub StandFor : Frame → ClassLists → Side → ℕ → List ℕ → Type 0
+StandFor f lists side round firsts = 0 < length firsts → AreSideFirsts f lists side round firsts
 
 -- the signals of a round before `end` are the only members of their classes
 abbrev pub AreAloneBelow : ClassLists → ℕ → ℕ → Type 0

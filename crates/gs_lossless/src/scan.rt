@@ -9,7 +9,7 @@ use crate::grouped::Grouped;
 use crate::keys::side_keys;
 use crate::parts::{Part, are_same};
 use crate::sides::{Side, side_sums};
-use crate::standing::{has_earlier, side_stand_ins};
+use crate::standing::{has_earlier, stand_ins_at};
 use gs_filter::Classes;
 use std::alloc::{AllocError, Global};
 
@@ -39,7 +39,8 @@ fn are_alone(classes: &Classes, round: u8) -> bool
 }
 
 /// The first signal of a round, of those before `end`, that differs on one side from the first member of its class. The sums of a first member are
-/// kept where the class has more members. None are made of a signal that an earlier one stands for, and none where each class has one member.
+/// kept where the class has more members. None are made where each class has one member, and behind the first signals none of a signal that an earlier one
+/// stands for.
 pub(crate) fn first_apart(
     alloc: Global,
     grouped: &Grouped<'_>,
@@ -58,9 +59,10 @@ pub(crate) fn first_apart(
         return Ok(None);
     }
     let keys = side_keys(alloc, signals, classes, side, round)?;
-    let firsts = side_stand_ins(alloc, signals, side, round, &keys)?;
+    let mut firsts = Vec::new(alloc);
     let mut kept = empty_lists(alloc, classes.classes(round))?;
     for signal in 0..end {
+        firsts = stand_ins_at(alloc, firsts, signal, signals, side, round, &keys)?;
         if has_earlier(&firsts, signal) {
             continue;
         }

@@ -3,16 +3,22 @@
 ghost use Rattle.std.specs.Prelude.{◌≡◌, ◌<◌, IfOk, IsTrue, get_or, length};
 ghost use Rattle.gs_model.specs.{Classes.{ClassLists}, Frame.{frame_of}};
 ghost use Rattle.gs_tree.specs.Trees.{rules_of};
-ghost use Rattle.gs_lossless.specs.Amounts.{AreSideFirsts, HasSide, key_count, keys_of};
+ghost use Rattle.gs_lossless.specs.{Amounts.{HasSide, key_count, keys_of}, Scans.{StandFor}};
 
 use crate::sides::Side;
 use gs_alike::stand_ins;
 use gs_tree::Signals;
 use std::alloc::{AllocError, Global};
 
-/// For each signal of the last round one that stands for it, no later than itself: it sees the same deals. In a round before it none is listed.
-pub(crate) fn side_stand_ins(
+/// How many signals are looked at before stand-ins are asked for: most signals that differ are found among so many.
+const SOON: u32 = 4096;
+
+/// The stand-ins that are listed when a signal is reached. In the last round they are made at one signal, for each signal of the round one that stands for
+/// it, no later than itself: it sees the same deals. Until then, and in a round before the last, they stay what they were.
+pub(crate) fn stand_ins_at(
     alloc: Global,
+    listed: Vec<u32>,
+    signal: u32,
     signals: &Signals,
     side: Side,
     round: u8,
@@ -20,13 +26,14 @@ pub(crate) fn side_stand_ins(
 ) -> Result<Vec<u32>, AllocError>
     requires side { HasSide (frame_of (rules_of signals.now)) side round }
     requires all { length keys.now ≡ key_count (rules_of signals.now) side round }
-    ensures { IfOk result (λ v. (lists : ClassLists) → keys.now ≡ keys_of (frame_of (rules_of signals.now)) lists side round → 0 < length v.items
-        → AreSideFirsts (frame_of (rules_of signals.now)) lists side round v.items) }
+    ensures { IfOk result (λ v. (lists : ClassLists) → keys.now ≡ keys_of (frame_of (rules_of signals.now)) lists side round
+        → StandFor (frame_of (rules_of signals.now)) lists side round listed.items
+        → StandFor (frame_of (rules_of signals.now)) lists side round v.items) }
 {
-    if round == signals.rounds() {
+    if signal == SOON && round == signals.rounds() {
         stand_ins(alloc, signals, keys)
     } else {
-        Ok(Vec::new(alloc))
+        Ok(listed)
     }
 }
 

@@ -1,16 +1,16 @@
 use Rattle.std.proofs.lemmas.List.{length-set}
 use Rattle.std.proofs.Common.{true, false, true≢false, rules, ◌≡◌, ◌≢◌, ◌+◌, ◌-◌, ◌<◌, ◌≤◌, ℕ, List, ap, get_or, length, set, sym, ◌∙◌, subst, arith, Vec, Global}
-use Rattle.gs_model.specs.Classes.{class_of, class_size, first_member, list_of}
+use Rattle.gs_model.specs.Classes.{ClassLists, class_of, class_size, first_member, list_of}
 use Rattle.gs_model.specs.Frame.{frame_of}
 use Rattle.gs_tree.specs.Trees.{rules_of}
-use Rattle.gs_lossless.specs.Amounts.{Agree, AreAmounts, key_count}
-use Rattle.gs_lossless.specs.Scans.{StoredBelow}
+use Rattle.gs_lossless.specs.Amounts.{Agree, AreAmounts, key_count, keys_of}
+use Rattle.gs_lossless.specs.Scans.{StandFor, StoredBelow}
 use Rattle.gs_lossless.specs.declared.parts.Part.{Part}
 use Rattle.gs_lossless.proofs.Descent.{keys_long, last_is, list_long, playable}
 use Rattle.gs_lossless.proofs.Scanned.{agree_more, agree_self, side_in, stored_first, stored_later, stored_single, stood_agrees, stood_later}
 use Rattle.gs_lossless.proofs.Settled.{first_le, agree_if_same, same_if_agree, single_agrees}
 use Rattle.gs_lossless.proofs.scan.first_apart.Goals as goal
-use Rattle.gs_lossless.proofs.scan.first_apart.Goals.{After-first, In_ok-keys, then-first-signal, else-first-signal+else-not-are_same}
+use Rattle.gs_lossless.proofs.scan.first_apart.Goals.{After-first, In_ok-firsts, In_ok-keys, then-first-signal, else-first-signal+else-not-are_same}
 
 pub class_of-class-requires-clause-within : goal.class_of-class-requires-clause-within
 class_of-class-requires-clause-within c =
@@ -34,8 +34,13 @@ many c keys is =
     ap (λ (l : List ℕ). length l) (is ∙ c.in_ok-keys.ensures)
     ∙ keys_long (rules_of c.args.grouped.now.signals.now) c.args.grouped.now.classes.now c.args.grouped.now.parents c.rounds-rounds.ensures.sound (playable c.args.grouped.now.signals.now) c.args.side c.args.round c.requires.side
 
-pub side_stand_ins-requires-clause-all : goal.side_stand_ins-requires-clause-all
-side_stand_ins-requires-clause-all c = many (goal.at.side_stand_ins-requires-clause-all c).In_ok-keys c.deref.result.now c.deref.ensures.value
+pub stand_ins_at-requires-clause-all : goal.stand_ins_at-requires-clause-all
+stand_ins_at-requires-clause-all c = many (goal.at.stand_ins_at-requires-clause-all c).In_ok-keys c.deref.result.now c.deref.ensures.value
+
+-- what is listed stands for signals, whether it was listed before or is only now
+standing : (c : In_ok-firsts) → let f = frame_of (rules_of c.args.grouped.now.signals.now) in
+    (lists : ClassLists) → c.in_ok-keys.keys.items ≡ keys_of f lists c.args.side c.args.round → StandFor f lists c.args.side c.args.round c.in_ok-firsts.firsts.items
+standing c lists keys = c.in_ok-firsts.ensures lists (c.deref.ensures.value ∙ keys) (c.loop-signal.invariant.stand lists keys)
 
 pub side_sums-requires-clause-all : goal.side_sums-requires-clause-all
 side_sums-requires-clause-all c = many (goal.at.side_sums-requires-clause-all c).In_ok-keys c.deref-in-loop-signal-2.result.now c.deref-in-loop-signal-2.ensures.value
@@ -54,11 +59,13 @@ loop-signal-preserved-then-has_earlier c =
     let long = list_long g c.args.grouped.now.classes.now c.args.grouped.now.parents sound c.args.round h.0 (omega (arith, h.1, last_is g)) in
     let within : signal < length (list_of lists c.args.round) = omega (arith, long, c.requires.within, c.loop-signal-test.true) in
     let found = subst (λ (xs : List ℕ). (signal < length xs) × (get_or xs signal 0 < signal)) c.deref-in-loop-signal.ensures.value (c.has_earlier.ensures c.if-has_earlier.true) in
-    let stand = c.in_ok-firsts.ensures lists (c.deref.ensures.value ∙ c.in_ok-keys.ensures) (omega (arith, found.0)) in
+    let at = (goal.at.loop-signal-preserved-then-has_earlier c).In_ok-firsts in
+    let stand = standing at lists c.in_ok-keys.ensures (omega (arith, found.0)) in
     record {
       long = c.loop-signal.invariant.long;
       stored = stored_later f lists c.args.side c.args.round signal c.loop-signal.kept.items n c.loop-signal.invariant.stored
           (stood_later f lists c.args.side c.args.round signal firsts stand found.0 found.1 within);
+      stand = standing at;
       agree = agree_more f lists c.args.side c.args.round signal c.loop-signal.invariant.agree
           (stood_agrees f lists c.args.side c.args.round signal firsts stand found.0 found.1 c.loop-signal.invariant.agree);
     }
@@ -78,6 +85,7 @@ loop-signal-preserved-then-size-eq1 c =
     record {
       long = c.loop-signal.invariant.long;
       stored = stored_single f lists c.args.side c.args.round c.loop-signal.signal c.loop-signal.kept.items n c.loop-signal.invariant.stored one;
+      stand = standing (goal.at.loop-signal-preserved-then-size-eq1 c).In_ok-firsts;
       agree = agree_more f lists c.args.side c.args.round c.loop-signal.signal c.loop-signal.invariant.agree
           (single_agrees f lists c.args.side c.args.round c.loop-signal.signal (omega (arith, long, c.requires.within)) one);
     }
@@ -140,6 +148,7 @@ loop-signal-preserved c =
             long = ap (λ (v : List (Vec Part Global)). length v) items ∙ length-set kept (class - 1) sums ∙ c.loop-signal.invariant.long;
             stored = subst (StoredBelow f lists side round (signal + 1)) (sym (items ∙ put))
                 (stored_first f lists side round signal kept n c.loop-signal.invariant.stored sums (omega (arith, is, in_class.0, in_class.1, c.loop-signal.invariant.long)) (omega (arith, is, in_class.0)) own here);
+            stand = standing (goal.at.loop-signal-preserved c).In_ok-firsts;
             agree = agree_more f lists side round signal c.loop-signal.invariant.agree (agree_self f lists side round signal own);
           }
       | else-first-signal+else-not-are_same w ↦
@@ -153,6 +162,7 @@ loop-signal-preserved c =
           record {
             long = ap (λ (v : List (Vec Part Global)). length v) items ∙ c.loop-signal.invariant.long;
             stored = subst (StoredBelow f lists side round (signal + 1)) (sym items) (stored_later f lists side round signal kept n c.loop-signal.invariant.stored later);
+            stand = standing (goal.at.loop-signal-preserved c).In_ok-firsts;
             agree = agree_more f lists side round signal c.loop-signal.invariant.agree (subst (λ (x : ℕ). Agree f lists side round (first_member lists round x) signal) is agrees);
           }
     ]
