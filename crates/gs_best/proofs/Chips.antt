@@ -6,7 +6,7 @@ use Rattle.std.proofs.lemmas.Int.{ints, unsigned_abs-mul}
 use borrow.Author.Differences.{abs_is}
 use Rattle.gs_game.specs.Games.{game_of}
 use Rattle.gs_game.specs.Money.{most_in}
-use Rattle.gs_game.specs.Refusals.{greatest}
+use Rattle.gs_model.specs.Numbering.{greatest}
 use Rattle.gs_game.specs.declared.valid.ValidGame.{ValidGame}
 use Rattle.gs_model.specs.Deals.{Deal}
 use Rattle.gs_model.specs.Frame.{Frame, end_at, end_count, payoff_to, total_weight, trees_of}

@@ -5,7 +5,7 @@ use Rattle.std.proofs.lemmas.List.{get_or_default}
 use Rattle.gs_model.specs.Numbering.{greatest, IsNumbered}
 use Rattle.gs_model.specs.Classes.{ClassLists, list_of, IsClasses}
 use Rattle.gs_filter.specs.declared.tally.Tally.{Tally}
-use Rattle.gs_filter.specs.Rows.{rows}
+use Rattle.gs_model.specs.Rows.{rows}
 use Rattle.gs_filter.specs.Tallies.{tallies_of, AreReady}
 use Rattle.gs_filter.specs.Filter.{AreParents}
 use Rattle.gs_filter.specs.Faults.{class_above, first_beside, StaysTogether, Agree, AllNumbered, AllTogether}

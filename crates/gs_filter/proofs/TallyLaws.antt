@@ -11,7 +11,7 @@ use Rattle.gs_model.proofs.Numbered.{greatest_push, occurs, whole}
 use Rattle.gs_model.proofs.Push.{le_greatest}
 use Rattle.gs_filter.specs.declared.tally.Tally.{Tally}
 use Rattle.gs_model.specs.Classes.{ClassLists, list_of}
-use Rattle.gs_filter.specs.Rows.{rows}
+use Rattle.gs_model.specs.Rows.{rows}
 use Rattle.gs_filter.proofs.RowLaws.{row_read, length-rows}
 use Rattle.gs_filter.specs.Tallies.{tally_of, tallies_of, IsNextNumber}
 

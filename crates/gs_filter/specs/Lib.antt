@@ -1,4 +1,3 @@
-pub mod Rows
 pub mod Filter
 pub mod Tallies
 pub mod Faults

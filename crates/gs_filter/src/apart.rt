@@ -1,7 +1,8 @@
 //! The search for members of one class whose parents are of two.
 
 ghost use Rattle.std.specs.Prelude.{◌≡◌, map, MatchOption};
-ghost use Rattle.gs_filter.specs.{Rows.{rows}, Tallies.{tallies_of, AreReady}, Filter.{AreParents}};
+ghost use Rattle.gs_model.specs.Rows.{rows};
+ghost use Rattle.gs_filter.specs.{Tallies.{tallies_of, AreReady}, Filter.{AreParents}};
 ghost use Rattle.gs_filter.specs.Faults.{Agree, AllNumbered, AllTogether, AreTogether, AreFirstApartIn, IsApart};
 
 use crate::fault::ClassFault;

@@ -1,8 +1,8 @@
 //! Classes of signals.
 
 ghost use Rattle.std.specs.Prelude.{◌≡◌, ◌-◌, ◌<◌, ◌≤◌, ◌^◌, length, IfOk, IfErr, get_or};
-ghost use Rattle.gs_model.specs.Classes.{list_of, class_of, class_count, class_size, first_member, IsClass, IsClasses};
-ghost use Rattle.gs_filter.specs.{Rows.{rows}, Filter.{AreParents, IsSound, IsParentClass, single_classes}};
+ghost use Rattle.gs_model.specs.{Rows.{rows}, Classes.{list_of, class_of, class_count, class_size, first_member, IsClass, IsClasses}};
+ghost use Rattle.gs_filter.specs.Filter.{AreParents, IsSound, IsParentClass, single_classes};
 
 use crate::apart::first_apart;
 use crate::fault::ClassFault;
@@ -28,7 +28,8 @@ impl Model for Classes {
 
     ghost Value = { Filter };
 
-    ghost use Rattle.gs_filter.specs.{Rows.{rows}, Tallies.{tallies_of}};
+    ghost use Rattle.gs_model.specs.Rows.{rows};
+    ghost use Rattle.gs_filter.specs.Tallies.{tallies_of};
 
     ghost view = { λ c. record { parents = rows c.parents.items; lists = rows c.lists.items } };
 

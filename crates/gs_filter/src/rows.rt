@@ -1,8 +1,8 @@
 //! Lists of lists, one for each round.
 
 ghost use Rattle.std.specs.{Prelude.{◌≡◌, ◌<◌, ◌≤◌, length, IfOk, MatchOption, ◌+◌}, List.{range_with_len}};
-ghost use Rattle.gs_model.specs.Classes.{list_of};
-ghost use Rattle.gs_filter.specs.{Rows.{rows}, Faults.{Agree, IsFirstLength}, Filter.{AreParents, single_classes}};
+ghost use Rattle.gs_model.specs.{Rows.{rows}, Classes.{list_of}};
+ghost use Rattle.gs_filter.specs.{Faults.{Agree, IsFirstLength}, Filter.{AreParents, single_classes}};
 
 use std::alloc::{AllocError, Global};
 

@@ -1,8 +1,8 @@
 //! Sizes and first members of the classes of a list.
 
 ghost use Rattle.std.specs.Prelude.{◌≡◌, ◌<◌, ◌≤◌, ◌^◌, ℕ, length, map, IfOk, OnOk, IfErr};
-ghost use Rattle.gs_model.specs.Numbering.{IsNumbered};
-ghost use Rattle.gs_filter.specs.{Rows.{rows}, Tallies.{tallies_of, IsStopOf}, Filter.{AreShort}, Faults.{AllNumbered, IsUnseen}};
+ghost use Rattle.gs_model.specs.{Rows.{rows}, Numbering.{IsNumbered}};
+ghost use Rattle.gs_filter.specs.{Tallies.{tallies_of, IsStopOf}, Filter.{AreShort}, Faults.{AllNumbered, IsUnseen}};
 
 use crate::fault::ClassFault;
 use crate::rows::of_round;

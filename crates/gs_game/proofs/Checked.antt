@@ -24,7 +24,8 @@ use Rattle.gs_game.specs.Games.{HasFewCards, game_of, round_of, plain_trees}
 use Rattle.gs_game.specs.Limits.{IsDealable, IsWithinLimits}
 use Rattle.gs_game.specs.Lines.{RoundsFollow}
 use Rattle.gs_game.specs.Money.{first_of, most_in}
-use Rattle.gs_game.specs.Refusals.{greatest, put_too_large, too_many_lines, too_heavy, too_many_signals, too_many_deals, card_refusal, betting_refusal, even_refusal, uneven_refusal, put_refusal, lines_refusal, deal_refusal, weight_refusal, signals_from, signals_refusal, deals_refusal, first_refusal}
+use Rattle.gs_model.specs.Numbering.{greatest}
+use Rattle.gs_game.specs.Refusals.{put_too_large, too_many_lines, too_heavy, too_many_signals, too_many_deals, card_refusal, betting_refusal, even_refusal, uneven_refusal, put_refusal, lines_refusal, deal_refusal, weight_refusal, signals_from, signals_refusal, deals_refusal, first_refusal}
 use Rattle.gs_game.specs.Valid.{IsWalkOf}
 use Rattle.gs_game.specs.Walks.{Grows, RoundsWalkable}
 use Rattle.gs_game.proofs.DealChecks.{cards_pass}

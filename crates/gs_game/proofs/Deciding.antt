@@ -14,7 +14,8 @@ use Rattle.gs_game.specs.Answers.{Answers}
 use Rattle.gs_game.specs.Counts.{ends_in}
 use Rattle.gs_game.specs.Games.{round_of, game_of, plain_trees}
 use Rattle.gs_game.specs.Money.{first_of, most_in}
-use Rattle.gs_game.specs.Refusals.{Refusal, put_too_large, too_many_lines, greatest, no_even_from, uneven_from, even_refusal, uneven_refusal, put_refusal, lines_refusal, betting_refusal}
+use Rattle.gs_model.specs.Numbering.{greatest}
+use Rattle.gs_game.specs.Refusals.{Refusal, put_too_large, too_many_lines, no_even_from, uneven_from, even_refusal, uneven_refusal, put_refusal, lines_refusal, betting_refusal}
 use Rattle.gs_game.proofs.EndLaws.{rounds_count}
 
 -- a fault of the first test is the fault of both

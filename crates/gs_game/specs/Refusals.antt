@@ -1,9 +1,10 @@
 -- Which refusal a game meets, in order. Source: this project's game files.
-use Rattle.std.specs.Prelude.{ℕ, zero, suc, ◌+◌, ◌-◌, ◌*◌, ◌^◌, ◌==◌, ◌&&◌, Bool, min, max, List, [], ◌∷◌, length, sum, sum_by, nat_lt, nat_le, Option, Some, None, if◌then◌else◌, option_map}
+use Rattle.std.specs.Prelude.{ℕ, zero, suc, ◌+◌, ◌-◌, ◌*◌, ◌^◌, ◌==◌, ◌&&◌, Bool, min, List, [], ◌∷◌, length, sum, sum_by, nat_lt, nat_le, Option, Some, None, if◌then◌else◌, option_map}
 use Rattle.gs_model.specs.Betting.{Bet}
 use Rattle.gs_model.specs.Deals.{deals}
 use Rattle.gs_model.specs.Frame.{frame_of, total_weight, trees_of}
 use Rattle.gs_model.specs.Game.{Game, Round, Ranking, High, Pair, Three, round_count, round_at}
+use Rattle.gs_model.specs.Numbering.{greatest}
 use Rattle.gs_model.specs.Signals.{signals}
 use Rattle.gs_model.specs.Walk.{walk}
 use Rattle.gs_game.specs.Money.{first_of, has_even, uneven_path, most_in}
@@ -75,11 +76,6 @@ no_even_from round (t ∷ u ∷ ts) = if has_even t then no_even_from (round + 1
 abbrev pub uneven_from : ℕ → List Bet → Option Refusal
 uneven_from round [] = None
 uneven_from round (t ∷ ts) = first_of (option_map (uneven round) (uneven_path [] 0 0 t)) (uneven_from (round + 1) ts)
-
--- the greatest of some numbers, 0 of none
-abbrev pub greatest : List ℕ → ℕ
-greatest [] = 0
-greatest (x ∷ xs) = max x (greatest xs)
 
 -- a round before the last has no even leaf
 unfoldable pub even_refusal : Game → Option Refusal

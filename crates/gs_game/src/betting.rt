@@ -2,8 +2,9 @@
 
 ghost use Rattle.std.specs.Prelude.{◌≡◌, ◌≤◌, ◌<◌, ◌+◌, ◌-◌, ◌*◌, ◌^◌, ℕ, None, MatchResult, All, length, min};
 ghost use Rattle.gs_bet.specs.TreeView.{plain};
+ghost use Rattle.gs_model.specs.Numbering.{greatest};
 ghost use Rattle.gs_game.specs.{Answers.{Answers}, Counts.{ends_in, ends_of}, Games.{game_of, plain_trees}, Money.{most_in}};
-ghost use Rattle.gs_game.specs.Refusals.{betting_refusal, greatest, lines_refusal, no_even_from, put_refusal, uneven_from};
+ghost use Rattle.gs_game.specs.Refusals.{betting_refusal, lines_refusal, no_even_from, put_refusal, uneven_from};
 
 use crate::faults::GameFault;
 use crate::game::{Game, Round};

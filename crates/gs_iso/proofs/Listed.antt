@@ -8,7 +8,7 @@ use Rattle.gs_model.specs.SignalClasses.{IsSignalClasses}
 use Rattle.gs_model.specs.Signals.{parents, signals}
 use Rattle.gs_model.proofs.Ranges.{length-parents}
 use Rattle.gs_game.specs.Limits.{IsWithinLimits}
-use Rattle.gs_filter.specs.Rows.{rows}
+use Rattle.gs_model.specs.Rows.{rows}
 use Rattle.gs_filter.proofs.RowLaws.{length-rows, row_read}
 use Rattle.gs_numbers.specs.Numbers.{IsKeyClasses}
 use Rattle.gs_iso.specs.Numbers.{AreNumberings, IsNumbering, class_key, classes_above}

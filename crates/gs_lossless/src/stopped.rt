@@ -3,8 +3,7 @@
 //! After a round all pairs of signals go on in as many ways, so the deals of the game that stops there are compared in place of all deals.
 
 ghost use Rattle.std.specs.Prelude.{◌≡◌, ◌<◌, ◌≤◌, IfOk, IfSome, MatchOption, length};
-ghost use Rattle.gs_filter.specs.Rows.{rows};
-ghost use Rattle.gs_model.specs.{Classes.{IsClasses, list_of}, Frame.{frame_of, signal_count}};
+ghost use Rattle.gs_model.specs.{Rows.{rows}, Classes.{IsClasses, list_of}, Frame.{frame_of, signal_count}};
 ghost use Rattle.gs_tree.specs.Trees.{rules_of};
 ghost use Rattle.gs_lossless.specs.{Amounts.{HasSide}, Scans.{IsFirstApart}, Stopped.{stopped_lists as lists_after}};
 ghost use Rattle.gs_lossless.specs.declared.sides.Side.TheVariants.{Deals};

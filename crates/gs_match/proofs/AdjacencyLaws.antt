@@ -5,7 +5,7 @@ use Rattle.std.proofs.lemmas.Bool.{cases_eq, cases_lt, ne_eqb, eq-eqb, eqb-true,
 use Rattle.std.proofs.lemmas.List.{get_or_append_left, get_or_push, get_or_past, map_push, get_or-set_same, get_or-set_other, length-set, length_push}
 use Rattle.std.proofs.lemmas.List.Folds.{list_any-append, list_any_at}
 use Rattle.gs_model.specs.Matching.{Edges, has_edge}
-use Rattle.gs_match.specs.Rows.{rows}
+use Rattle.gs_model.specs.Rows.{rows}
 use Rattle.gs_match.specs.Adjacency.{row_of, AreNeighbours, Near}
 
 -- one more empty list

@@ -1,4 +1,3 @@
-pub mod Rows
 pub mod Adjacency
 pub mod Search
 pub mod Refusal

@@ -1,7 +1,8 @@
 //! Adjacency lists.
 
 ghost use Rattle.std.specs.Prelude.{◌≡◌, ℕ, ◌<◌, IfOk, [], length, get_or};
-ghost use Rattle.gs_match.specs.{Rows.{rows}, Adjacency.{AreEdgesInRange, AreNeighbours, row_of}};
+ghost use Rattle.gs_model.specs.Rows.{rows};
+ghost use Rattle.gs_match.specs.Adjacency.{AreEdgesInRange, AreNeighbours, row_of};
 
 use crate::graph::Graph;
 use std::alloc::{AllocError, Global};

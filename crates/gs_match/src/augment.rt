@@ -1,7 +1,8 @@
 //! One more left node for a matching.
 
 ghost use Rattle.std.specs.Prelude.{◌≡◌, ◌+◌, ◌<◌, ℕ, MatchOption, IfOk, length};
-ghost use Rattle.gs_match.specs.{Rows.{rows}, Adjacency.{AreRowsIn}, Search.{IsMatching, HasClosed}};
+ghost use Rattle.gs_model.specs.Rows.{rows};
+ghost use Rattle.gs_match.specs.{Adjacency.{AreRowsIn}, Search.{IsMatching, HasClosed}};
 
 use crate::search::{Found, Visit, search};
 use std::alloc::{AllocError, Global};

@@ -1,5 +1,5 @@
 -- Numbers by first sight, and the keys that they lead to.
-use Rattle.std.specs.Prelude.{ℕ, ◌-◌, ◌<◌, ◌≡◌, Bool, true, List, Some, Vec, get_or, length, map, slice_get}
+use Rattle.std.specs.Prelude.{ℕ, ◌-◌, ◌<◌, ◌≡◌, Bool, true, List, Some, Vec, get_or, length, slice_get}
 use Rattle.std.specs.declared.alloc.Global.{Global}
 use lib.Pointwise.{pointwise}
 use Rattle.gs_model.specs.Numbering.{IsClassesOf}
@@ -7,10 +7,6 @@ use Rattle.gs_model.specs.Numbering.{IsClassesOf}
 -- whether two lists have the same parts, in order
 abbrev pub same_parts : {X : Type 0} → (X → X → Bool) → Vec X Global → Vec X Global → Bool
 same_parts eq a b = pointwise eq a.items b.items
-
--- the parts of each list
-abbrev pub parts_of : {X : Type 0} → List (Vec X Global) → List (List X)
-parts_of keys = map (λ (k : Vec _ Global). k.items) keys
 
 -- each key of the first list stands at its place in the second
 abbrev pub StayIn : {K : Type 0} → List K → List K → Type 0

@@ -3,7 +3,8 @@
 ghost use Rattle.std.specs.Prelude.{◌≡◌, ◌+◌, ◌-◌, ◌<◌, ◌≤◌, ◌^◌, IfOk, OnOk, Some, slice_get, true};
 ghost use lib.Pointwise.{pointwise};
 ghost use Rattle.indexmap.specs.IndexSet.{IsUnique, index_set_len, insert_key};
-ghost use Rattle.gs_numbers.specs.Numbers.{IsNumberOf, StayIn, parts_of, same_parts};
+ghost use Rattle.gs_model.specs.Rows.{rows};
+ghost use Rattle.gs_numbers.specs.Numbers.{IsNumberOf, StayIn, same_parts};
 
 use indexmap::IndexSet;
 use std::alloc::{AllocError, Global};
@@ -30,7 +31,7 @@ pub fn number_of_list<P: Copy + Eq + Hash + Drop>(
 ) -> Result<u32, AllocError>
     requires few { index_set_len lists.old + 1 < 2 ^ 32 }
     requires unique { IsUnique (same_parts P.eq) lists.old }
-    ensures grown { OnOk result (parts_of lists.new.keys ≡ insert_key (pointwise P.eq) (parts_of lists.old.keys) list.now) }
+    ensures grown { OnOk result (rows lists.new.keys ≡ insert_key (pointwise P.eq) (rows lists.old.keys) list.now) }
     ensures kept { OnOk result (StayIn lists.old.keys lists.new.keys) }
     ensures number { IfOk result (IsNumberOf P.eq lists.new.keys list.now) }
     ensures few { OnOk result (index_set_len lists.new ≤ index_set_len lists.old + 1) }

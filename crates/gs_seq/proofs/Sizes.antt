@@ -10,7 +10,8 @@ use borrow.Author.Differences.{abs_is}
 use borrow.Author.Tests.{ltb-false}
 use Rattle.gs_game.specs.Games.{game_of}
 use Rattle.gs_game.specs.Money.{first_of, most_in}
-use Rattle.gs_game.specs.Refusals.{Refusal, betting_refusal, card_refusal, deal_refusal, even_refusal, first_refusal, greatest, lines_refusal, put_refusal, put_too_large, too_many_lines, uneven_refusal}
+use Rattle.gs_model.specs.Numbering.{greatest}
+use Rattle.gs_game.specs.Refusals.{Refusal, betting_refusal, card_refusal, deal_refusal, even_refusal, first_refusal, lines_refusal, put_refusal, put_too_large, too_many_lines, uneven_refusal}
 use Rattle.gs_game.specs.declared.valid.ValidGame.{ValidGame}
 use Rattle.gs_game.proofs.Evenly.{neither}
 use Rattle.gs_game.proofs.Playable.{puts_within}

@@ -11,7 +11,7 @@ use Rattle.gs_model.specs.Game.{Game, round_at, round_count}
 use Rattle.gs_model.specs.RefinementTurn.{IsTurn}
 use Rattle.gs_model.specs.Signals.{children, parents}
 use Rattle.gs_model.proofs.Ranges.{in_range, parents_at}
-use Rattle.gs_filter.specs.Rows.{rows}
+use Rattle.gs_model.specs.Rows.{rows}
 use Rattle.gs_filter.proofs.RowLaws.{length-rows, row_read}
 use Rattle.gs_tree.specs.Trees.{rules_of}
 use Rattle.gs_tree.specs.declared.signals.Signals.{Signals}

@@ -1,8 +1,7 @@
 //! Classes parted by numbers of their members.
 
 ghost use Rattle.std.specs.Prelude.{◌≡◌, ◌-◌, ◌<◌, ◌≤◌, IfOk, length};
-ghost use Rattle.gs_model.specs.Frame.{frame_of, last_round, signal_count};
-ghost use Rattle.gs_filter.specs.Rows.{rows};
+ghost use Rattle.gs_model.specs.{Rows.{rows}, Frame.{frame_of, last_round, signal_count}};
 ghost use Rattle.gs_tree.specs.Trees.{rules_of};
 ghost use Rattle.gs_split.specs.Turns.{AreParted, HaveNumbers, IsRoundParted, classes_above};
 

@@ -1,8 +1,7 @@
 //! A proposal for the exact turns: classes parted by mixed sums, which part no more than a turn.
 
 ghost use Rattle.std.specs.{Prelude.{◌≡◌, ◌+◌, ◌*◌, ◌/◌, ◌<◌, ◌^◌, ℕ, pos, [], All, IfOk, IfSome, get_or, length, map}, Int.{int_rem_euclid}};
-ghost use Rattle.gs_model.specs.Frame.{frame_of, last_round};
-ghost use Rattle.gs_filter.specs.Rows.{rows};
+ghost use Rattle.gs_model.specs.{Rows.{rows}, Frame.{frame_of, last_round}};
 ghost use Rattle.gs_tree.specs.{Trees.{rules_of}, Walk.{last_count}};
 ghost use Rattle.gs_split.specs.Proposal.{AreFair, AreFairFrom, IsProposal, child_number, deal_number, mixed as mixed_of};
 

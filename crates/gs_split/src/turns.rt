@@ -1,8 +1,7 @@
 //! One turn of the refinement.
 
 ghost use Rattle.std.specs.Prelude.{◌≡◌, ◌<◌, ◌≤◌, ℕ, true, IfOk};
-ghost use Rattle.gs_model.specs.{Classes.{InOneClass}, Frame.{frame_of, last_round}, RefinementTurn.{IsTurn}};
-ghost use Rattle.gs_filter.specs.Rows.{rows};
+ghost use Rattle.gs_model.specs.{Rows.{rows}, Classes.{InOneClass}, Frame.{frame_of, last_round}, RefinementTurn.{IsTurn}};
 ghost use Rattle.gs_tree.specs.Trees.{rules_of};
 ghost use Rattle.gs_split.specs.Turns.{AreExact, AreKnown, AreTurnNumbers, HaveSameSums};
 

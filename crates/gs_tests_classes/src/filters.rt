@@ -1,7 +1,8 @@
 //! Information filters: that calls succeed, and worked values by hand.
 
 ghost use Rattle.std.specs.Prelude.{IfOk, ◌<◌, ◌≤◌, length};
-ghost use Rattle.gs_filter.specs.{Rows.{rows}, Filter.{AreParents}};
+ghost use Rattle.gs_model.specs.Rows.{rows};
+ghost use Rattle.gs_filter.specs.Filter.{AreParents};
 
 use gs_filter::{ClassFault, Classes};
 use std::alloc::{AllocError, Global};

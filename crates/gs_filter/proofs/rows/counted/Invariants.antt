@@ -1,5 +1,5 @@
 use Rattle.std.proofs.Common.{◌≡◌, take}
-use Rattle.gs_filter.specs.Rows.{rows}
+use Rattle.gs_model.specs.Rows.{rows}
 use Rattle.gs_filter.specs.Filter.{single_classes}
 use Rattle.gs_filter.proofs.rows.counted.Given as goal
 

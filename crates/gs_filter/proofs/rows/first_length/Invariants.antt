@@ -1,5 +1,5 @@
 use Rattle.std.proofs.Common.{◌<◌, ℕ}
-use Rattle.gs_filter.specs.Rows.{rows}
+use Rattle.gs_model.specs.Rows.{rows}
 use Rattle.gs_filter.specs.Faults.{AgreeIn}
 use Rattle.gs_filter.proofs.rows.first_length.Given as goal
 

@@ -1,5 +1,5 @@
 use Rattle.std.proofs.Common.{◌≡◌, ◌<◌, ℕ, suc, [], get_or, length}
-use Rattle.gs_filter.specs.Rows.{rows}
+use Rattle.gs_model.specs.Rows.{rows}
 use Rattle.gs_tree.specs.Trees.{rules_of}
 use Rattle.gs_iso.proofs.Listed.{AreClassesIn}
 use Rattle.gs_iso.proofs.signal_classes.class_lists.Given as goal

@@ -1,5 +1,5 @@
 use Rattle.std.proofs.Common.{◌≡◌, take}
-use Rattle.gs_filter.specs.Rows.{rows}
+use Rattle.gs_model.specs.Rows.{rows}
 use Rattle.gs_lossless.proofs.stopped.stopped_lists.Given as goal
 
 abbrev pub invariant-loop-list : goal.invariant-loop-list

@@ -1,7 +1,7 @@
 use Rattle.std.proofs.Common.{◌≡◌, ℕ, ◌+◌, ◌<◌, ◌++◌, [], ◌∷◌, List, length, take, get_or, set, arith, sym, ap, subst, ◌∙◌, Vec, Global}
 use Rattle.std.proofs.lemmas.List.{take_more, take_all, map-set, length-map}
 use Rattle.gs_model.specs.Matching.{Edges}
-use Rattle.gs_match.specs.Rows.{rows}
+use Rattle.gs_model.specs.Rows.{rows}
 use Rattle.gs_match.specs.Adjacency.{AreNeighbours, row_of}
 use Rattle.gs_match.proofs.AdjacencyLaws.{neighbours_none, neighbours_more}
 use Rattle.gs_match.proofs.RowLaws.{row_read}

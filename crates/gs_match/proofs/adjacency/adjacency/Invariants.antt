@@ -1,5 +1,5 @@
 use Rattle.std.proofs.Common.{take}
-use Rattle.gs_match.specs.Rows.{rows}
+use Rattle.gs_model.specs.Rows.{rows}
 use Rattle.gs_match.specs.Adjacency.{AreNeighbours}
 use Rattle.gs_match.proofs.adjacency.adjacency.Given as goal
 

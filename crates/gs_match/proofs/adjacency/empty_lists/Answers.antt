@@ -1,6 +1,6 @@
 use Rattle.std.proofs.Common.{◌≡◌, ℕ, [], ap, ◌∙◌, subst, sym, List, Vec, Global, arith, length}
 use Rattle.std.proofs.lemmas.List.{length_push}
-use Rattle.gs_match.specs.Rows.{rows}
+use Rattle.gs_model.specs.Rows.{rows}
 use Rattle.gs_match.specs.Adjacency.{row_of}
 use Rattle.gs_match.proofs.AdjacencyLaws.{empty_more}
 use Rattle.gs_match.proofs.adjacency.empty_lists.Goals as goal

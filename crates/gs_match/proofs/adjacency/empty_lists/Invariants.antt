@@ -1,5 +1,5 @@
 use Rattle.std.proofs.Common.{◌≡◌, ℕ, [], length}
-use Rattle.gs_match.specs.Rows.{rows}
+use Rattle.gs_model.specs.Rows.{rows}
 use Rattle.gs_match.specs.Adjacency.{row_of}
 use Rattle.gs_match.proofs.adjacency.empty_lists.Given as goal
 

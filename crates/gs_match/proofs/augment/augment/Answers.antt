@@ -3,7 +3,7 @@ use Rattle.std.proofs.lemmas.List.{get_or_default}
 use Rattle.gs_match.specs.declared.search.Visit.{Visit}
 use Rattle.gs_match.specs.declared.search.Found.{Found}
 use Rattle.gs_match.specs.declared.search.Found.TheVariants.{Free}
-use Rattle.gs_match.specs.Rows.{rows}
+use Rattle.gs_model.specs.Rows.{rows}
 use Rattle.gs_match.specs.Search.{IsFound, visit}
 use Rattle.gs_match.proofs.AugmentLaws.{IsShift, shift_start, shift_step, shift_end}
 use Rattle.gs_match.proofs.augment.augment.Goals as goal

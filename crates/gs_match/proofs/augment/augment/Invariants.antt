@@ -1,4 +1,4 @@
-use Rattle.gs_match.specs.Rows.{rows}
+use Rattle.gs_model.specs.Rows.{rows}
 use Rattle.gs_match.proofs.AugmentLaws.{IsShift}
 use Rattle.gs_match.proofs.augment.augment.Given as goal
 

@@ -2,7 +2,7 @@ use Rattle.std.proofs.Common.{◌≡◌, ◌+◌, ◌<◌, ℕ, List, length, ge
 use Rattle.gs_model.specs.Matching.{Edges, IsHall}
 use Rattle.gs_model.proofs.Graph.{hall_excludes}
 use Rattle.gs_match.specs.declared.search.Visit.{Visit}
-use Rattle.gs_match.specs.Rows.{rows}
+use Rattle.gs_model.specs.Rows.{rows}
 use Rattle.gs_match.specs.Search.{IsMatching, HasClosed, holder, lefts}
 use Rattle.gs_match.proofs.SearchLaws.{held_not_last}
 use Rattle.gs_match.proofs.HallLaws.{hall_from}

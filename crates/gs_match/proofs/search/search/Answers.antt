@@ -2,7 +2,7 @@ use Rattle.std.proofs.Common.{◌≡◌, ◌+◌, ◌++◌, ℕ, Bool, List, len
 use Rattle.std.proofs.lemmas.Bool.{cases_eq}
 use Rattle.std.proofs.lemmas.List.{take_at}
 use Rattle.gs_match.specs.declared.search.Visit.{Visit}
-use Rattle.gs_match.specs.Rows.{rows}
+use Rattle.gs_model.specs.Rows.{rows}
 use Rattle.gs_match.specs.Adjacency.{Near}
 use Rattle.gs_match.specs.Search.{IsTree, Extends, IsRowEnd, AreExplored, visit}
 use Rattle.gs_match.proofs.SearchLaws.{explored_more}

@@ -1,5 +1,5 @@
 use Rattle.std.proofs.Common.{◌≡◌, ◌<◌, ℕ, true, get_or}
-use Rattle.gs_match.specs.Rows.{rows}
+use Rattle.gs_model.specs.Rows.{rows}
 use Rattle.gs_match.specs.Search.{IsTree, Extends, is_reached}
 use Rattle.gs_match.proofs.search.visit_row.Given as goal
 

@@ -2,7 +2,7 @@ use Rattle.std.proofs.Common.{◌≡◌, List, ℕ, subst, sym}
 use Rattle.gs_model.specs.Classes.{ClassLists, IsClasses}
 use Rattle.gs_model.specs.Frame.{frame_of}
 use Rattle.gs_filter.specs.Filter.{AreParents, Filter}
-use Rattle.gs_filter.specs.Rows.{rows}
+use Rattle.gs_model.specs.Rows.{rows}
 use Rattle.gs_tree.specs.Trees.{rules_of}
 use Rattle.gs_lossless.proofs.Descent.{are_parents}
 use Rattle.gs_lossless.proofs.Settled.{if_ok}

@@ -2,7 +2,7 @@ use Rattle.std.proofs.Common.{List, Option, ℕ, subst, sym, Vec, Global}
 use Rattle.std.specs.Prelude.{IfSome}
 use Rattle.gs_model.specs.Frame.{frame_of, last_round}
 use Rattle.gs_model.proofs.Ranges.{in_range}
-use Rattle.gs_filter.specs.Rows.{rows}
+use Rattle.gs_model.specs.Rows.{rows}
 use Rattle.gs_tree.specs.Trees.{rules_of}
 use Rattle.gs_lossless.proofs.Descent.{playable}
 use Rattle.gs_split.specs.Proposal.{AreFair, AreFairFrom}

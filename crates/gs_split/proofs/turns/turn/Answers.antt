@@ -2,7 +2,7 @@ use Rattle.std.proofs.Common.{List, Vec, ℕ, Global, subst, sym}
 use Rattle.gs_model.specs.Frame.{frame_of}
 use Rattle.gs_model.specs.RefinementTurn.{IsTurn}
 use Rattle.gs_filter.specs.Filter.{Filter}
-use Rattle.gs_filter.specs.Rows.{rows}
+use Rattle.gs_model.specs.Rows.{rows}
 use Rattle.gs_tree.specs.Trees.{rules_of}
 use Rattle.gs_lossless.proofs.Settled.{if_ok}
 use Rattle.gs_split.specs.Turns.{AreExact, AreParted}

@@ -1,7 +1,7 @@
 use Rattle.std.proofs.Common.{◌≡◌, length, map, ◌∙◌, ap, subst, arith}
 use Rattle.gs_model.specs.Classes.{list_of, class_count}
 use Rattle.gs_filter.specs.Filter.{Filter, IsSound}
-use Rattle.gs_filter.specs.Rows.{rows}
+use Rattle.gs_model.specs.Rows.{rows}
 use Rattle.gs_filter.specs.Tallies.{tallies_of}
 use Rattle.gs_filter.proofs.TallyLaws.{round_tallies, length-tallies_of}
 use Rattle.gs_filter.proofs.ClassLaws.{count_fits}

@@ -1,6 +1,6 @@
 use Rattle.std.proofs.Common.{◌≡◌, ℕ, List, map, subst, sym, Vec, Global}
 use Rattle.gs_model.specs.Classes.{IsClasses}
-use Rattle.gs_filter.specs.Rows.{rows}
+use Rattle.gs_model.specs.Rows.{rows}
 use Rattle.gs_filter.specs.Filter.{IsSound}
 use Rattle.gs_filter.specs.Tallies.{tallies_of}
 use Rattle.gs_filter.specs.Faults.{Agree, AllNumbered, AllTogether}
