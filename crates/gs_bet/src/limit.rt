@@ -70,7 +70,7 @@ fn first_choice(alloc: Global, bet: u16, cap: u8) -> Result<Tree, AllocError>
     Ok(choice(1, moves))
 }
 
-/// Limit betting with this bet and cap.
+/// Limit betting: each bet puts `bet` chips, a raise twice as many, and a round has at most `cap` bets and raises. It fails for want of memory alone.
 pub fn limit_tree(alloc: Global, bet: u16, cap: u8) -> Result<BetTree, AllocError>
     requires some { 1 ≤ bet }
     requires bet { bet ≤ 2048 }

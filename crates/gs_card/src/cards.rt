@@ -1,3 +1,5 @@
+//! Kinds of cards, one after another.
+
 ghost use Rattle.std.specs.{Prelude.{◌≡◌}, Iterator.{YieldsFirst, item_count}};
 
 use std::marker::Model;

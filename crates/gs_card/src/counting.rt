@@ -1,3 +1,5 @@
+//! Ways of taking cards of some kinds.
+
 ghost use Rattle.std.specs.Prelude.{◌≡◌, ◌≤◌, ◌<◌, ◌==◌, All, count_by, length};
 ghost use Rattle.gs_model.specs.Cards.{ways};
 

@@ -1,3 +1,5 @@
+//! Why three texts are no deck.
+
 use std::alloc::AllocError;
 
 /// Why three texts are no deck. The first that applies is answered.

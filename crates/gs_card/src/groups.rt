@@ -1,3 +1,5 @@
+//! Groups of cards of a size.
+
 ghost use Rattle.std.specs.{Prelude.{◌≡◌, ◌≤◌, ◌++◌, All, IfOk, OnOk, length, map, vec_len}, List.Sorted.{IsNonDecreasing}};
 ghost use Rattle.gs_model.specs.Cards.{groups, groups_above};
 

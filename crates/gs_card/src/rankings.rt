@@ -1,3 +1,5 @@
+//! How hands are ranked.
+
 ghost use Rattle.std.specs.Prelude.{◌≡◌};
 ghost use Rattle.gs_model.specs.Outcome.{categories};
 ghost use Rattle.gs_card.specs.Rankings.{ranking_of};

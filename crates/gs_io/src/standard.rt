@@ -22,6 +22,7 @@ impl<T> Model for Counted<T> {
 }
 
 impl<T> Counted<T> {
+    /// An end over `inner`; no error is counted yet.
     pub fn new(inner: T) -> Counted<T>
         ensures { result ≡ (inner, 0) }
     {

@@ -15,7 +15,7 @@ leaf_of path d = (d.weight / path, d.outcome)
 abbrev pub leaf_mark : ℕ × ℤ → ℕ
 leaf_mark l = l.0 * 512 + (if int_lt l.1 (pos 0) then 256 else 0) + unsigned_abs l.1
 
--- whether two leaves are the same, and two children
+-- whether two leaves are the same
 abbrev pub leaf_eq : ℕ × ℤ → ℕ × ℤ → Bool
 leaf_eq x y = (x.0 == y.0) && int_eq x.1 y.1
 

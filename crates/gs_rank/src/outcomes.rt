@@ -1,3 +1,5 @@
+//! Categories of hands, and who wins how much.
+
 ghost use Rattle.std.specs.Prelude.{◌≡◌};
 ghost use Rattle.gs_model.specs.Outcome.{IsBonus, category, outcome};
 ghost use Rattle.gs_card.specs.Rankings.{ranking_of};

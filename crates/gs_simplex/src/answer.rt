@@ -1,4 +1,4 @@
-// Answers and stops.
+//! Answers and stops.
 
 ghost use Rattle.std.specs.Prelude.{◌≡◌};
 

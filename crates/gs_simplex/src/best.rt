@@ -1,4 +1,4 @@
-// Values and prices at the last basis.
+//! Values and prices at the last basis.
 
 ghost use Rattle.std.specs.Prelude.{◌≡◌, ℕ, ◌+◌, ◌-◌, ◌*◌, ◌^◌, ◌<◌, ◌≤◌, ◌⊎◌, ℤ, pos, neg_ℤ, ◌*ℤ◌, ◌<ℤ◌, length, slice_index, IfOk};
 ghost use Rattle.std.specs.List.{HoldsAt};

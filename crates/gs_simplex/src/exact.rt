@@ -1,4 +1,4 @@
-// Exact quotients without division. A quotient is guessed by an inverse modulo 2^64, and counts only where its product with the divisor is the number.
+//! Exact quotients without division. A quotient is guessed by an inverse modulo 2^64, and counts only where its product with the divisor is the number.
 
 ghost use Rattle.std.specs.{Prelude.{◌≡◌, ◌*ℤ◌}, Int.{IsGcd}, Option.{ForSome}};
 

@@ -1,4 +1,4 @@
-// The path: the pairs of the opening one after the other, and then pivots.
+//! The path: the pairs of the opening one after the other, and then pivots.
 
 ghost use Rattle.std.specs.Prelude.{◌≡◌, ◌≢◌, MatchOption, MatchResult, ℕ, ◌+◌, ◌*◌, ◌<◌, ◌≤◌, ◌^◌, ℤ, pos, length, slice_index_or, slice_set};
 ghost use Rattle.std.specs.Prelude.{unsigned_abs, Some};

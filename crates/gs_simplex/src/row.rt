@@ -1,4 +1,4 @@
-// The arithmetic of one row: its products stay in place where they are narrow, and take 128 bits otherwise; a row is divided by its greatest common divisor.
+//! The arithmetic of one row: its products stay in place where they are narrow, and take 128 bits otherwise; a row is divided by its greatest common divisor.
 
 ghost use Rattle.std.specs.Prelude.{◌≡◌, ◌≢◌, MatchOption, ℕ, ◌+◌, ◌-◌, ◌*◌, ◌<◌, ◌≤◌, ◌^◌, IsTrue, ℤ, pos, ◌+ℤ◌, ◌-ℤ◌, ◌*ℤ◌, ◌<ℤ◌, unsigned_abs};
 ghost use Rattle.std.specs.Prelude.{length, slice_index};

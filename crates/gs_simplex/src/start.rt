@@ -1,4 +1,4 @@
-// The rows of the empty list: the program's, each divided by its greatest common divisor.
+//! The rows of the empty list: the program's, each divided by its greatest common divisor.
 
 ghost use Rattle.std.specs.Prelude.{◌≡◌, ℕ, ◌+◌, ◌-◌, ◌*◌, ◌^◌, ◌<◌, ◌≤◌, ◌++◌, [], ◌∷◌, ◌⊎◌, ℤ, pos, ◌*ℤ◌, length, OnOk, IfOk, slice_index_or};
 ghost use Rattle.gs_rows.specs.Program.{IsShaped, IsRowsOf};

@@ -1,4 +1,4 @@
-// All rows in one piece of memory, and the pivot that clears a column in each but one.
+//! All rows in one piece of memory, and the pivot that clears a column in each but one.
 
 ghost use Rattle.std.specs.Prelude.{◌≡◌, ◌≢◌, MatchOption, ℕ, ◌+◌, ◌-◌, ◌*◌, ◌<◌, ◌≤◌, ◌^◌, ◌⊎◌, ℤ, pos, neg_ℤ, ◌+ℤ◌, ◌-ℤ◌, ◌*ℤ◌, ◌<ℤ◌, unsigned_abs, length};
 ghost use Rattle.gs_rows.specs.{Rows.{IsNarrow, IsPrimitive}, Program.{IsPairList, IsRowsOf}};

@@ -1,4 +1,4 @@
-// What is noted of a path: its pivots, its bases, and the aim's value.
+//! What is noted of a path: its pivots, its bases, and the aim's value.
 
 ghost use Rattle.std.specs.Prelude.{MatchResult, IfOk, OnOk, ℕ, ◌+◌, ◌<◌, ◌^◌, ℤ, pos, ◌<ℤ◌, List, length};
 ghost use Rattle.gs_rows.specs.Program.{IsPairList};

@@ -64,7 +64,7 @@ command_word command = (entry_of command).word
 abbrev pub options_of : CommandName → List OptionOf
 options_of command = (entry_of command).options
 
--- all commands, in the order in which they were made
+-- all commands, in the order of the usage line
 abbrev pub commands : List CommandName
 commands = Shrink ∷ Check ∷ Solve ∷ Play ∷ Evaluate ∷ Query ∷ Make ∷ Upgrade ∷ Judge ∷ Duel ∷ Certify ∷ Verify ∷ Path ∷ []
 

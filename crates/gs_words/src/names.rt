@@ -21,7 +21,7 @@ pub enum CommandName {
     Path,
 }
 
-/// All commands, in the order in which they were made.
+/// All commands, in the order of the usage line.
 pub(crate) const COMMANDS: [CommandName; 13] = [
     CommandName::Shrink,
     CommandName::Check,
