@@ -1,5 +1,6 @@
 pub mod Runs
 pub mod Payments
+pub mod Chips
 pub mod Steps
 pub mod Added
 pub mod Once
