@@ -1,100 +1,30 @@
--- Fewer turns keep what more turns keep, and what keeps each move behind keeps the choices.
-use Rattle.std.proofs.Common.{◌≡◌, ◌≢◌, ℕ, ◌+◌, ◌<◌, ◌≤◌, Bool, true, false, List, get_or, sym, ap, ◌∙◌, subst, arith, ⊎_elim}
-use Rattle.std.specs.Prelude.{ℤ, pos, ◌+ℤ◌, ◌-ℤ◌, ◌≤ℤ◌, ◌<ℤ◌, nat_lt, slice_index, unsigned_abs}
-use Rattle.std.proofs.lemmas.Bool.{cases_eq}
+-- What holds for all of some turns holds for fewer, and choices stay just as long as each move stays behind.
+use Rattle.std.proofs.Common.{◌≡◌, ◌≢◌, ℕ, ◌+◌, ◌<◌, ◌≤◌, Bool, true, List, get_or, sym, ap, ◌∙◌, subst, arith, ⊎_elim}
+use Rattle.std.specs.Prelude.{ℤ, pos, IsTrue, ◌<ℤ◌, nat_lt, slice_index}
+use Rattle.std.proofs.lemmas.Bool.{cases_eq, cases_lt}
 use Rattle.std.proofs.lemmas.Int.{ints}
-use borrow.Author.Differences.{abs_is}
-use Rattle.gs_model.specs.Frame.{move_count, player_at, point_count}
+use Rattle.gs_model.specs.Classes.{IsClass}
+use Rattle.gs_model.specs.Frame.{move_count, player_at, point_count, round_of}
 use Rattle.gs_model.specs.Positions.{at_point}
 use Rattle.gs_totals.specs.ClassTotals.{total_worth}
 use Rattle.gs_totals.specs.Courses.{LastsAt, StaysBehind, frame_in, lists_in, moves_chosen, totals_added, totals_now}
-use Rattle.gs_totals.specs.Lasting.{AreBehind, IsBehind, IsWithinGap}
+use Rattle.gs_totals.specs.Jumps.{line}
+use Rattle.gs_totals.specs.Lasting.{AreBehind, IsBehind, IsNotAhead}
 use Rattle.gs_totals.specs.declared.course.Course.{Course}
-use Rattle.gs_totals.proofs.Overtaking.{stays_most, stays_less_than}
 
-within_less : (before : Bool) (gap gain times less : ℕ) → less ≤ times → IsWithinGap before gap gain times → IsWithinGap before gap gain less
-within_less before gap gain times less l h = omega (arith, h, l)
+-- ---- fewer turns
 
-pub behind_less : (before : Bool) (value worth slope rise : ℤ) (times less : ℕ) → less ≤ times → IsBehind before value worth slope rise times
-    → IsBehind before value worth slope rise less
-behind_less before value worth slope rise times less l h gap gain e g some = within_less before gap gain times less l (h gap gain e g some)
+-- with one part more, the greatest number for the parts so far becomes the greatest for all
+pub greatest_with : (Before Here Both : ℕ → Type 0) (times left less : ℕ) → less ≤ left → (left < times → Before (left + 1) → ⊥)
+    → (less < left → Here (less + 1) → ⊥) → ((n : ℕ) → Both n → Before n) → ((n : ℕ) → Both n → Here n) → less < times → Both (less + 1) → ⊥
+greatest_with Before Here Both times left less most before here first last l h = ⊎_elim
+    (λ (fewer : less < left). here fewer (last (less + 1) h))
+    (λ (from : left ≤ less).
+    let e : less ≡ left = omega (arith, most, from) in before (omega (arith, l, e)) (subst (λ n. Before (n + 1)) e (first (less + 1) h)))
+    (cases_lt less left)
 
 pub stays_less : (k : Course) (q m times less : ℕ) → less ≤ times → StaysBehind k q m times → StaysBehind k q m less
-stays_less k q m times less l h c lc ne =
-    behind_less (nat_lt m (moves_chosen k q c)) (totals_now k (at_point q) c) (total_worth (frame_in k) (lists_in k) (totals_now k) q m c)
-    (totals_added k (at_point q) c) (total_worth (frame_in k) (lists_in k) (totals_added k) q m c) times less l (h c lc ne)
-
--- one class more
-pub behind_more : (n choice start : ℕ) (picks : List ℕ) (values worths slopes rises : List ℤ) (times less : ℕ) → less ≤ times
-    → AreBehind n choice start picks values worths slopes rises times
-    → (slice_index picks (start + n) ≢ choice
-    → IsBehind (nat_lt choice (slice_index picks (start + n))) (get_or values (start + n) (pos 0)) (get_or worths n (pos 0))
-    (get_or slopes (start + n) (pos 0)) (get_or rises n (pos 0)) less)
-    → AreBehind (n + 1) choice start picks values worths slopes rises less
-behind_more n choice start picks values worths slopes rises times less l h here k lk = ⊎_elim
-    (λ (same : k ≡ n). let P : ℕ → Type 0 = λ k. slice_index picks (start + k) ≢ choice
-    → IsBehind (nat_lt choice (slice_index picks (start + k))) (get_or values (start + k) (pos 0)) (get_or worths k (pos 0))
-    (get_or slopes (start + k) (pos 0)) (get_or rises k (pos 0)) less in subst P (sym same) here)
-    (λ (other : k ≡ n → ⊥). λ ne.
-    behind_less (nat_lt choice (slice_index picks (start + k))) (get_or values (start + k) (pos 0)) (get_or worths k (pos 0))
-    (get_or slopes (start + k) (pos 0)) (get_or rises k (pos 0)) times less l (h k (omega arith) ne))
-    (cases_eq k n)
-
--- the distance of two numbers
-pub distance : (a b : ℤ) (n : ℕ) → a ≡ b +ℤ pos n → unsigned_abs (a -ℤ b) ≡ n
-distance a b n e = omega (arith, ints, e, abs_is (a -ℤ b))
-
-pub behind_by : (before : Bool) (value worth slope rise : ℤ) (gap gain times : ℕ) → gap ≡ unsigned_abs (value -ℤ worth) → gain ≡ unsigned_abs (rise -ℤ slope)
-    → IsWithinGap before gap gain times → IsBehind before value worth slope rise times
-behind_by before value worth slope rise gap gain times a b h n m e g some =
-    let p : gap ≡ n = a ∙ distance value worth n e in
-    let q : gain ≡ m = b ∙ distance rise slope m g in
-    subst (λ n. IsWithinGap before n m times) p (subst (λ m. IsWithinGap before gap m times) q h)
-
--- where a worth rises no faster there is no gain
-pub no_gain : (before : Bool) (value worth slope rise : ℤ) (times : ℕ) → rise ≤ℤ slope → IsBehind before value worth slope rise times
-no_gain before value worth slope rise times l n m e g some = absurd (omega (arith, ints, l, g, some))
-
-before_is : (m n : ℕ) → m < n → nat_lt m n ≡ true
-before_is m n l = grind arith
-
-behind_is : (m n : ℕ) → n < m → nat_lt m n ≡ false
-behind_is m n l = grind arith
-
--- moves that all stay behind change no choice
-pub lasts_by : (k : Course) (q times : ℕ) → q < point_count (frame_in k) → player_at (frame_in k) q ≡ k.player
-    → ((m : ℕ) → m < move_count (frame_in k) q → StaysBehind k q m times) → LastsAt k q times
-lasts_by k q times lq own h c lc =
-    let f = frame_in k in
-    let lists = lists_in k in
-    let place = moves_chosen k q c in
-    let worth : ℕ → ℤ = λ m. total_worth f lists (totals_now k) q m c in
-    let rise : ℕ → ℤ = λ m. total_worth f lists (totals_added k) q m c in
-    let value_is : totals_now k (at_point q) c ≡ worth place = k.best.followed.reached q c lq own lc in
-    let slope_is : totals_added k (at_point q) c ≡ rise place = k.rise.reached q c lq own lc in
-    let inr : place < move_count f q = k.best.followed.in_range q c lq own lc in
-    -- within how many turns a move that rises faster does not overtake the chosen one
-    let within : (m gap gain : ℕ) → m < move_count f q → m ≢ place → worth place ≡ worth m +ℤ pos gap → rise m ≡ rise place +ℤ pos gain → 0 < gain
-    → IsWithinGap (nat_lt m place) gap gain times =
-    λ m gap gain inside ne e g some. h m inside c lc (λ s. ne (sym s)) gap gain (value_is ∙ e) (g ∙ ap (λ x. x +ℤ pos gain) (sym slope_is)) some in
-    record {
-      later = λ m n behind inside soon.
-          stays_most (worth place) (rise place) (worth m) (rise m) times n soon
-          (subst (λ x. worth m ≤ℤ x) value_is (k.best.greatest.none_more q m c lq own inside lc))
-          (λ gap gain e g some. subst (λ b. IsWithinGap b gap gain times) (behind_is m place behind)
-          (within m gap gain inside (λ s. omega (arith, behind, s)) e g some));
-      earlier = λ m n before soon.
-          stays_less_than (worth place) (rise place) (worth m) (rise m) times n soon
-          (subst (λ x. worth m <ℤ x) value_is (k.best.greatest.none_before q m c lq own lc before))
-          (λ gap gain e g some. subst (λ b. IsWithinGap b gap gain times) (before_is m place before)
-          (within m gap gain (omega (arith, before, inr)) (λ s. omega (arith, before, s)) e g some));
-    }
-
--- the same numbers
-pub behind_same : (before : Bool) (a a' b b' c c' d d' : ℤ) (times : ℕ) → a ≡ a' → b ≡ b' → c ≡ c' → d ≡ d' → IsBehind before a b c d times
-    → IsBehind before a' b' c' d' times
-behind_same before a a' b b' c c' d d' times ea eb ec ed h n m e g some =
-    h n m (ea ∙ e ∙ ap (λ x. x +ℤ pos n) (sym eb)) (ed ∙ g ∙ ap (λ x. x +ℤ pos m) (sym ec)) some
+stays_less k q m times less l h c lc ne i soon = h c lc ne i (omega (arith, soon, l))
 
 -- fewer turns change no choice at a point either
 pub lasts_less : (k : Course) (q times less : ℕ) → less ≤ times → LastsAt k q times → LastsAt k q less
@@ -104,3 +34,84 @@ lasts_less k q times less l h c lc =
       later = λ m n behind inside soon. b.later m n behind inside (omega (arith, soon, l));
       earlier = λ m n before soon. b.earlier m n before (omega (arith, soon, l));
     }
+
+-- ---- the classes of a move
+
+module _ (choice start : ℕ) (picks : List ℕ) (values worths slopes rises : List ℤ) where
+  -- a class that has not chosen the move
+  abbrev pub BehindAt : ℕ → ℕ → Type 0
+  BehindAt k times = slice_index picks (start + k) ≢ choice
+      → IsBehind (nat_lt choice (slice_index picks (start + k))) (get_or values (start + k) (pos 0)) (get_or worths k (pos 0))
+      (get_or slopes (start + k) (pos 0)) (get_or rises k (pos 0)) times
+
+  -- one class more
+  pub behind_more : (n times less : ℕ) → less ≤ times → AreBehind n choice start picks values worths slopes rises times → BehindAt n less
+      → AreBehind (n + 1) choice start picks values worths slopes rises less
+  behind_more n times less l h here k lk = ⊎_elim
+      (λ (same : k ≡ n). subst (λ k. BehindAt k less) (sym same) here)
+      (λ (other : k ≡ n → ⊥). λ ne i soon. h k (omega arith) ne i (omega (arith, soon, l)))
+      (cases_eq k n)
+
+  -- and one class fewer
+  pub behind_fewer : (n times : ℕ) → AreBehind (n + 1) choice start picks values worths slopes rises times
+      → AreBehind n choice start picks values worths slopes rises times
+  behind_fewer n times h k lk = h k (omega (arith, lk))
+
+-- the same numbers
+pub behind_same : (before : Bool) (a a' b b' c c' d d' : ℤ) (times : ℕ) → a ≡ a' → b ≡ b' → c ≡ c' → d ≡ d' → IsBehind before a b c d times
+    → IsBehind before a' b' c' d' times
+behind_same before a a' b b' c c' d d' times ea eb ec ed h =
+    subst (λ x. IsBehind before x b' c' d' times) ea (subst (λ x. IsBehind before a x c' d' times) eb
+    (subst (λ x. IsBehind before a b x d' times) ec (subst (λ x. IsBehind before a b c x times) ed h)))
+
+-- ---- the moves of a point
+
+-- a worth below the value
+under : (before : Bool) (value worth : ℤ) → worth <ℤ value → IsNotAhead before value worth
+under before value worth l = record { most = omega (arith, ints, l); less = λ t. l }
+
+before_is : (m n : ℕ) → m < n → nat_lt m n ≡ true
+before_is m n l = grind arith
+
+past : (m n : ℕ) → m ≤ n → m ≢ n → m < n
+past m n l ne = omega (arith, l, ne)
+
+pub before_from : (m n : ℕ) → IsTrue (nat_lt m n) → m < n
+before_from m n t = grind (arith, t)
+
+module _ (k : Course) (q : ℕ) (lq : q < point_count (frame_in k)) (own : player_at (frame_in k) q ≡ k.player) where
+  -- what the chosen move is worth after so many turns
+  value_after : (c : ℕ) → IsClass (lists_in k) (round_of (frame_in k) (at_point q)) c → (n : ℕ)
+      → line (totals_now k (at_point q) c) (totals_added k (at_point q) c) n
+      ≡ line (total_worth (frame_in k) (lists_in k) (totals_now k) q (moves_chosen k q c) c)
+      (total_worth (frame_in k) (lists_in k) (totals_added k) q (moves_chosen k q c) c) n
+  value_after c lc n =
+      ap (λ v. line v (totals_added k (at_point q) c) n) (k.best.followed.reached q c lq own lc)
+      ∙ ap (λ s. line (total_worth (frame_in k) (lists_in k) (totals_now k) q (moves_chosen k q c) c) s n) (k.rise.reached q c lq own lc)
+
+  -- moves that all stay behind change no choice
+  pub lasts_by : (times : ℕ) → ((m : ℕ) → m < move_count (frame_in k) q → StaysBehind k q m times) → LastsAt k q times
+  lasts_by times h c lc =
+      let place = moves_chosen k q c in
+      let inr : place < move_count (frame_in k) q = k.best.followed.in_range q c lq own lc in
+      let after : ℕ → ℕ → ℤ = λ m n. line (total_worth (frame_in k) (lists_in k) (totals_now k) q m c)
+      (total_worth (frame_in k) (lists_in k) (totals_added k) q m c) n in
+      let stays : (m n : ℕ) → m < move_count (frame_in k) q → m ≢ place → n < times → IsNotAhead (nat_lt m place) (after place n) (after m n) =
+      λ m n inside ne soon. subst (λ x. IsNotAhead (nat_lt m place) x (after m n)) (value_after c lc n) (h m inside c lc (λ s. ne (sym s)) n soon) in
+      record {
+        later = λ m n behind inside soon. (stays m n inside (λ s. omega (arith, behind, s)) soon).most;
+        earlier = λ m n before soon. (stays m n (omega (arith, before, inr)) (λ s. omega (arith, before, s)) soon).less (before_is m place before);
+      }
+
+  -- and where no choice changes all stay behind
+  pub stays_by : (times : ℕ) → LastsAt k q times → (m : ℕ) → m < move_count (frame_in k) q → StaysBehind k q m times
+  stays_by times h m inside c lc ne n soon =
+      let place = moves_chosen k q c in
+      let b = h c lc in
+      subst (λ x. IsNotAhead (nat_lt m place) x (line (total_worth (frame_in k) (lists_in k) (totals_now k) q m c)
+      (total_worth (frame_in k) (lists_in k) (totals_added k) q m c) n)) (sym (value_after c lc n))
+      (⊎_elim
+      (λ (before : m < place). under (nat_lt m place) _ _ (b.earlier m n before soon))
+      (λ (from : place ≤ m).
+      record { most = b.later m n (past place m from ne) inside soon; less = λ t. absurd (let l = before_from m place t in omega (arith, l, from)) })
+      (cases_lt m place))

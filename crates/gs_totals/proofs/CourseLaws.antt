@@ -1,7 +1,6 @@
 -- What a course holds: its totals and steps are small, and no move is ahead of the chosen one.
-use Rattle.std.proofs.Common.{◌≡◌, ◌≢◌, ℕ, ◌+◌, ◌-◌, ◌*◌, ◌/◌, ◌^◌, ◌<◌, ◌≤◌, Bool, true, false, refl, List, get_or, sym, ap, ◌∙◌, subst, arith}
-use Rattle.std.specs.Prelude.{IsTrue, ℤ, pos, ◌-ℤ◌, nat_lt, slice_index, unsigned_abs}
-use Rattle.std.proofs.Math.Nat.{le-div_iff_mul-le}
+use Rattle.std.proofs.Common.{◌≡◌, ◌≢◌, ℕ, ◌+◌, ◌-◌, ◌^◌, ◌<◌, ◌≤◌, List, get_or, sym, ap, ◌∙◌, subst, arith}
+use Rattle.std.specs.Prelude.{ℤ, pos, ◌-ℤ◌, nat_lt, slice_index, unsigned_abs}
 use Rattle.std.proofs.lemmas.Int.{ints}
 use borrow.Author.Differences.{abs_is}
 use Rattle.gs_filter.specs.Filter.{IsSound}
@@ -14,10 +13,11 @@ use Rattle.gs_best.specs.declared.deviator.Deviator.{Deviator}
 use Rattle.gs_best.proofs.Placed.{IsRow}
 use Rattle.gs_totals.specs.ClassTotals.{total_worth}
 use Rattle.gs_totals.specs.Courses.{StaysBehind, frame_in, lists_in, moves_chosen, totals_added, totals_now}
-use Rattle.gs_totals.specs.Lasting.{AreBehind, IsBehind, IsNotAhead, IsWithinGap}
+use Rattle.gs_totals.specs.Jumps.{line}
+use Rattle.gs_totals.specs.Lasting.{AreBehind, IsBehind, IsNotAhead}
 use Rattle.gs_totals.specs.Merged.{AreModestFrom}
 use Rattle.gs_totals.specs.declared.course.Course.{Course}
-use Rattle.gs_totals.proofs.Behind.{behind_same}
+use Rattle.gs_totals.proofs.Behind.{BehindAt, before_from, behind_same}
 use Rattle.gs_totals.proofs.Known.{known_modest, worth_modest}
 use Rattle.gs_totals.proofs.Stepping.{from_some}
 
@@ -61,24 +61,23 @@ module _ (k : Course) (s : IsSound k.form.now.lossless.now.classes.now) where
       most = k.best.greatest.none_more q m c lq own lm lc;
       less = λ t. k.best.greatest.none_before q m c lq own lc (before_from m (moves_chosen k q c) t);
     }
-      where
-        before_from : (m n : ℕ) → IsTrue (nat_lt m n) → m < n
-        before_from m n t = grind (arith, t)
+
+line_now : (a s : ℤ) → a ≡ line a s 0
+line_now a s = omega (arith, ints)
 
 -- in one turn nothing is overtaken, since the choices are those of now
-within_once : (before : Bool) (gap gain times : ℕ) → times ≤ 1 → 0 < gain → (IsTrue before → 0 < gap) → IsWithinGap before gap gain times
-within_once true gap gain times l some more =
-    let up : 1 * gain ≤ gap + gain - 1 = (let m = more refl in omega (arith, m, some)) in
-    let one : 1 ≤ (gap + gain - 1) / gain = (le-div_iff_mul-le {k = gain} {x = 1} {y = gap + gain - 1} some).1 up in
-    omega (arith, l, one)
-within_once false gap gain times l some more = omega (arith, l)
-
 pub once_behind : (k : Course) → IsSound k.form.now.lossless.now.classes.now → (q m times : ℕ) → q < point_count (frame_in k) → m < move_count (frame_in k) q
     → player_at (frame_in k) q ≡ k.player → times ≤ 1 → StaysBehind k q m times
-once_behind k s q m times lq lm own l c lc ne =
-    let here = not_ahead k s q m c lq lm lc own in
-    λ gap gain e g some.
-    within_once (nat_lt m (moves_chosen k q c)) gap gain times l some (λ t. let less = here.less t in omega (arith, ints, less, e))
+once_behind k s q m times lq lm own few c lc ne n soon =
+    let before = nat_lt m (moves_chosen k q c) in
+    let value = totals_now k (at_point q) c in
+    let slope = totals_added k (at_point q) c in
+    let worth = total_worth (frame_in k) (lists_in k) (totals_now k) q m c in
+    let rise = total_worth (frame_in k) (lists_in k) (totals_added k) q m c in
+    let now : 0 ≡ n = omega (arith, few, soon) in
+    subst (λ n. IsNotAhead before (line value slope n) (line worth rise n)) now
+    (subst (λ v. IsNotAhead before v (line worth rise 0)) (line_now value slope)
+    (subst (λ w. IsNotAhead before value w) (line_now worth rise) (not_ahead k s q m c lq lm lc own)))
 
 -- a move's rows, class by class
 module _ (k : Course) (q m start count : ℕ) (row : IsRow (classes_at (frame_in k) (lists_in k)) (point_count (frame_in k)) q start count)
@@ -127,18 +126,36 @@ module _ (k : Course) (q m start count : ℕ) (row : IsRow (classes_at (frame_in
         (subst (λ x. IsNotAhead (nat_lt m (moves_chosen k q (i + 1))) (totals_now k (at_point q) (i + 1)) x) (sym (worth_at i l))
         (not_ahead k s q m (i + 1) lq lm (class_at i l) own)))
 
+  -- the chosen move of a class, and where the class stands
+  abbrev Here : ℕ → ℕ → Type 0
+  Here i times = BehindAt m start k.picks.now values worths slopes rises i times
+
+  abbrev There : ℕ → ℕ → Type 0
+  There c times = moves_chosen k q c ≢ m → IsBehind (nat_lt m (moves_chosen k q c)) (totals_now k (at_point q) c)
+      (total_worth (frame_in k) (lists_in k) (totals_now k) q m c)
+      (totals_added k (at_point q) c) (total_worth (frame_in k) (lists_in k) (totals_added k) q m c) times
+
+  there : (i times : ℕ) → i < count → Here i times → There (i + 1) times
+  there i times l h ne =
+      subst (λ p. IsBehind (nat_lt m p) (totals_now k (at_point q) (i + 1)) (total_worth (frame_in k) (lists_in k) (totals_now k) q m (i + 1))
+      (totals_added k (at_point q) (i + 1)) (total_worth (frame_in k) (lists_in k) (totals_added k) q m (i + 1)) times) (pick_at i)
+      (behind_same (nat_lt m (get_or k.picks.now (start + i) 0)) _ _ _ _ _ _ _ _ times (value_at i) (worth_at i l) (slope_at i) (rise_at i l)
+      (h (λ x. ne (sym (pick_at i) ∙ x))))
+
+  here : (i times : ℕ) → i < count → There (i + 1) times → Here i times
+  here i times l h ne =
+      behind_same (nat_lt m (get_or k.picks.now (start + i) 0)) _ _ _ _ _ _ _ _ times (sym (value_at i)) (sym (worth_at i l)) (sym (slope_at i))
+      (sym (rise_at i l))
+      (subst (λ p. IsBehind (nat_lt m p) (totals_now k (at_point q) (i + 1)) (total_worth (frame_in k) (lists_in k) (totals_now k) q m (i + 1))
+      (totals_added k (at_point q) (i + 1)) (total_worth (frame_in k) (lists_in k) (totals_added k) q m (i + 1)) times) (sym (pick_at i))
+      (h (λ x. ne (pick_at i ∙ x))))
+
+  -- a move stays behind just where each class of its row does
   pub all_behind : (times : ℕ) → AreBehind count m start k.picks.now values worths slopes rises times → StaysBehind k q m times
-  all_behind times h c lc ne =
-      let i = c - 1 in
-      let e : i + 1 ≡ c = omega (arith, lc.0) in
-      let l : i < count = omega (arith, lc.0, lc.1, row.count_is) in
-      let pick = pick_at i ∙ ap (moves_chosen k q) e in
-      let b = h i l (λ x. ne (sym pick ∙ x)) in
-      subst (λ p. IsBehind (nat_lt m p) (totals_now k (at_point q) c) (total_worth (frame_in k) (lists_in k) (totals_now k) q m c)
-      (totals_added k (at_point q) c) (total_worth (frame_in k) (lists_in k) (totals_added k) q m c) times) pick
-      (behind_same (nat_lt m (get_or k.picks.now (start + i) 0)) (get_or values (start + i) (pos 0)) (totals_now k (at_point q) c) (get_or worths i (pos 0))
-      (total_worth (frame_in k) (lists_in k) (totals_now k) q m c) (get_or slopes (start + i) (pos 0))
-      (totals_added k (at_point q) c) (get_or rises i (pos 0)) (total_worth (frame_in k) (lists_in k) (totals_added k) q m c) times (value_at i
-      ∙ ap (totals_now k (at_point q)) e)
-      (worth_at i l ∙ ap (total_worth (frame_in k) (lists_in k) (totals_now k) q m) e) (slope_at i ∙ ap (totals_added k (at_point q)) e) (rise_at i l
-      ∙ ap (total_worth (frame_in k) (lists_in k) (totals_added k) q m) e) b)
+  all_behind times h c lc =
+      let e : c - 1 + 1 ≡ c = omega (arith, lc.0) in
+      let l : c - 1 < count = omega (arith, lc.0, lc.1, row.count_is) in
+      subst (λ c. There c times) e (there (c - 1) times l (h (c - 1) l))
+
+  pub each_behind : (times : ℕ) → StaysBehind k q m times → AreBehind count m start k.picks.now values worths slopes rises times
+  each_behind times h i l = here i times l (h (i + 1) (class_at i l))

@@ -1,98 +1,75 @@
 -- How long a line stays below another one that it overtakes in the end.
-use Rattle.std.proofs.Common.{◌≡◌, ℕ, ◌+◌, ◌-◌, ◌*◌, ◌/◌, ◌<◌, ◌≤◌, ap, ◌∙◌, arith, ⊎_elim}
-use Rattle.std.specs.Prelude.{◌⊎◌, ℤ, pos, ◌+ℤ◌, ◌*ℤ◌, ◌≤ℤ◌, ◌<ℤ◌}
-use Rattle.std.proofs.Common.{inl, inr}
+use Rattle.std.proofs.Common.{◌≡◌, ℕ, ◌+◌, ◌-◌, ◌*◌, ◌/◌, ◌<◌, ◌≤◌, Bool, true, false, refl, ap, ◌∙◌, subst, arith}
+use Rattle.std.specs.Prelude.{ℤ, pos, ◌+ℤ◌, ◌-ℤ◌, ◌*ℤ◌, ◌≤ℤ◌, ◌<ℤ◌, if◌then◌else◌, unsigned_abs}
 use Rattle.std.proofs.Math.IntN.{pos-*ℤ-pos}
-use Rattle.std.proofs.Math.Nat.{div-mul-le_self, mul-le-mul_right}
-use Rattle.std.proofs.lemmas.Bool.{cases_lt}
+use Rattle.std.proofs.Math.Nat.{div-mul-le_self, lt-div-mul-add, mul-le-mul_right}
+use Rattle.std.proofs.lemmas.Bool.{false≢true}
 use Rattle.std.proofs.lemmas.Int.{ints}
-use borrow.Author.Differences.{up, down, le_out}
+use borrow.Author.Differences.{abs_is}
 use Rattle.gs_model.proofs.Total.{mul-add_right, mul-le}
 use Rattle.gs_totals.specs.Jumps.{line}
-
--- ---- order
-
-le_or_gt : (a b : ℤ) → (a ≤ℤ b) ⊎ (b <ℤ a)
-le_or_gt a b = ⊎_elim (λ (l : up b + down a < up a + down b). inr (omega (arith, ints, l)))
-    (λ (l : up a + down b ≤ up b + down a). inl (omega (arith, ints, l))) (cases_lt (up b + down a) (up a + down b))
-
--- by how much a number is at most another
-record IsGap (a b : ℤ) (gap : ℕ) : Type 0 where
-  is : b ≡ a +ℤ pos gap
-
-gap_of : (a b : ℤ) → a ≤ℤ b → (gap : ℕ) × IsGap a b gap
-gap_of a b l = ((up b + down a) - (up a + down b), record { is = (let o = le_out a b l in omega (arith, ints, o)) })
+use Rattle.gs_totals.specs.Lasting.{IsBehind, IsNotAhead, IsWithinGap}
 
 -- ---- quotients
 
--- k turns within a quotient
-later_within : (gap gain times k : ℕ) → 0 < gain → times ≤ gap / gain + 1 → k < times → k * gain ≤ gap
-later_within gap gain times k some t l =
+-- the greatest number of turns in which a gain does not close a gap, as a quotient
+abbrev pub turns_within : Bool → ℕ → ℕ → ℕ
+turns_within before gap gain = if before then ((gap + gain - 1) / gain) else (gap / gain + 1)
+
+-- it does not so far
+pub within_quotient : (before : Bool) (gap gain most times : ℕ) → 0 < gain → most ≡ turns_within before gap gain → times ≤ most
+    → IsWithinGap before gap gain times
+within_quotient true gap gain most times some e t k l =
+    let few : k + 1 ≤ (gap + gain - 1) / gain = omega arith in
+    omega (arith, mul-le-mul_right gain few, div-mul-le_self (gap + gain - 1) gain, some)
+within_quotient false gap gain most times some e t k l =
     let few : k ≤ gap / gain = omega arith in
     omega (arith, mul-le-mul_right gain few, div-mul-le_self gap gain)
 
-earlier_within : (gap gain times k : ℕ) → 0 < gain → times ≤ (gap + gain - 1) / gain → k < times → k * gain < gap
-earlier_within gap gain times k some t l =
-    let few : k + 1 ≤ (gap + gain - 1) / gain = omega arith in
-    omega (arith, mul-le-mul_right gain few, div-mul-le_self (gap + gain - 1) gain, some)
+-- and does in one turn more
+pub past_quotient : (before : Bool) (gap gain most : ℕ) → 0 < gain → most ≡ turns_within before gap gain → IsWithinGap before gap gain (most + 1) → ⊥
+past_quotient true gap gain most some e h =
+    let last : (gap + gain - 1) / gain * gain < gap = subst (λ n. n * gain < gap) e (h most (omega arith)) in
+    omega (arith, last, some, lt-div-mul-add {a = gap + gain - 1} {b = gain} some)
+past_quotient false gap gain most some e h =
+    let last : (gap / gain + 1) * gain < gap + 1 = subst (λ n. n * gain < gap + 1) e (h most (omega arith)) in
+    omega (arith, last, lt-div-mul-add {a = gap} {b = gain} some)
 
--- a line below another that rises no faster stays below, and one that rises faster does while the gap lasts
-below_stays : (a s b t : ℤ) (k : ℕ) → a ≤ℤ b → s ≤ℤ t → line a s k ≤ℤ line b t k
-below_stays a s b t k l m = let more = mul-le k s t m in omega (arith, ints, l, more)
+-- ---- lines
 
-under_stays : (a s b t : ℤ) (k : ℕ) → a <ℤ b → s ≤ℤ t → line a s k <ℤ line b t k
-under_stays a s b t k l m = let more = mul-le k s t m in omega (arith, ints, l, more)
+-- a line behind another that rises no faster stays behind
+pub slower_stays : (before : Bool) (value worth slope rise : ℤ) (times : ℕ) → rise ≤ℤ slope → IsNotAhead before value worth
+    → IsBehind before value worth slope rise times
+slower_stays before value worth slope rise times m here k soon =
+    let more = mul-le k rise slope m in
+    record {
+      most = omega (arith, ints, here.most, more);
+      less = λ t. let l = here.less t in omega (arith, ints, l, more);
+    }
 
-faster : (a b s t : ℤ) (gap gain k : ℕ) → b ≡ a +ℤ pos gap → s ≡ t +ℤ pos gain → line a s k +ℤ pos gap ≡ line b t k +ℤ pos (k * gain)
-faster a b s t gap gain k e g =
-    let product : pos k *ℤ s ≡ pos k *ℤ t +ℤ pos (k * gain) = ap (λ x. pos k *ℤ x) g ∙ mul-add_right (pos k) t (pos gain)
-    ∙ ap (λ x. pos k *ℤ t +ℤ x) (pos-*ℤ-pos k gain) in
-    omega (arith, ints, e, product)
+-- a worth that stands behind a value by a gap and gains on it each turn
+module _ (value worth slope rise : ℤ) (gap gain : ℕ) (gap_is : gap ≡ unsigned_abs (value -ℤ worth)) (gain_is : gain ≡ unsigned_abs (rise -ℤ slope))
+    (under : worth ≤ℤ value) (fast : slope <ℤ rise) where
+  apart : (k : ℕ) → line worth rise k +ℤ pos gap ≡ line value slope k +ℤ pos (k * gain)
+  apart k =
+      let e : value ≡ worth +ℤ pos gap = omega (arith, ints, abs_is (value -ℤ worth), gap_is, under) in
+      let g : rise ≡ slope +ℤ pos gain = omega (arith, ints, abs_is (rise -ℤ slope), gain_is, fast) in
+      let product : pos k *ℤ rise ≡ pos k *ℤ slope +ℤ pos (k * gain) = ap (λ x. pos k *ℤ x) g ∙ mul-add_right (pos k) slope (pos gain)
+      ∙ ap (λ x. pos k *ℤ slope +ℤ x) (pos-*ℤ-pos k gain) in
+      omega (arith, ints, e, product)
 
--- by how much a worth gains on a value each turn
-record Gains (value slope worth rise : ℤ) (k : ℕ) : Type 0 where
-  gap : ℕ
-  gain : ℕ
-  below : value ≡ worth +ℤ pos gap
-  more : rise ≡ slope +ℤ pos gain
-  some : 0 < gain
-  both : line worth rise k +ℤ pos gap ≡ line value slope k +ℤ pos (k * gain)
+  -- stays behind while the gap lasts
+  pub behind_by : (before : Bool) (times : ℕ) → IsWithinGap before gap gain times → IsBehind before value worth slope rise times
+  behind_by true times h k soon = record {
+    most = (let l = h k soon in omega (arith, ints, apart k, l));
+    less = λ t. let l = h k soon in omega (arith, ints, apart k, l);
+  }
+  behind_by false times h k soon = record {
+    most = (let l = h k soon in omega (arith, ints, apart k, l));
+    less = λ t. absurd (false≢true t);
+  }
 
--- a value and a worth that rise by so much a turn each, and for how many turns the one is to stay ahead
-module _ (value slope worth rise : ℤ) (times k : ℕ) (soon : k < times) where
-  -- a worth that is not above the value gains on it, or rises no faster
-  slow_or_gains : worth ≤ℤ value → (rise ≤ℤ slope) ⊎ Gains value slope worth rise k
-  slow_or_gains le = ⊎_elim inl
-      (λ (fast : slope <ℤ rise).
-      let g = gap_of worth value le in
-      let s = gap_of slope rise (omega (arith, ints, fast)) in
-      let h = s.1.is in
-      inr (record {
-        gap = g.0;
-        gain = s.0;
-        below = g.1.is;
-        more = h;
-        some = omega (arith, ints, fast, h);
-        both = faster worth value rise slope g.0 s.0 k g.1.is h;
-      }))
-      (le_or_gt rise slope)
-
-  -- at most as great
-  pub stays_most : worth ≤ℤ value
-      → ((gap gain : ℕ) → value ≡ worth +ℤ pos gap → rise ≡ slope +ℤ pos gain → 0 < gain → times ≤ gap / gain + 1)
-      → line worth rise k ≤ℤ line value slope k
-  stays_most le within = ⊎_elim (below_stays worth rise value slope k le)
-      (λ (n : Gains value slope worth rise k).
-      let room = later_within n.gap n.gain times k n.some (within n.gap n.gain n.below n.more n.some) soon in
-      omega (arith, ints, n.both, room))
-      (slow_or_gains le)
-
-  -- less
-  pub stays_less_than : worth <ℤ value
-      → ((gap gain : ℕ) → value ≡ worth +ℤ pos gap → rise ≡ slope +ℤ pos gain → 0 < gain → times ≤ (gap + gain - 1) / gain)
-      → line worth rise k <ℤ line value slope k
-  stays_less_than lt within = ⊎_elim (under_stays worth rise value slope k lt)
-      (λ (n : Gains value slope worth rise k).
-      let room = earlier_within n.gap n.gain times k n.some (within n.gap n.gain n.below n.more n.some) soon in
-      omega (arith, ints, n.both, room))
-      (slow_or_gains (omega (arith, ints, lt)))
+  -- and no longer
+  pub within_by : (before : Bool) (times : ℕ) → IsBehind before value worth slope rise times → IsWithinGap before gap gain times
+  within_by true times h k soon = let l = (h k soon).less refl in omega (arith, ints, apart k, l)
+  within_by false times h k soon = let l = (h k soon).most in omega (arith, ints, apart k, l)

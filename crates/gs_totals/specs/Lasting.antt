@@ -1,19 +1,19 @@
 -- For how many turns a chosen move stays ahead of another one.
-use Rattle.std.specs.Prelude.{ℕ, ◌+◌, ◌-◌, ◌/◌, ◌<◌, ◌≤◌, ◌≡◌, ◌≢◌, Bool, IsTrue, List, get_or, slice_index, nat_lt, ℤ, pos, ◌+ℤ◌, ◌≤ℤ◌, ◌<ℤ◌, if◌then◌else◌}
+use Rattle.std.specs.Prelude.{ℕ, ◌+◌, ◌*◌, ◌<◌, ◌≢◌, Bool, IsTrue, List, get_or, slice_index, nat_lt, ℤ, pos, ◌≤ℤ◌, ◌<ℤ◌, if◌then◌else◌}
+use Rattle.gs_totals.specs.Jumps.{line}
 
 -- a number of turns in which a gain each turn does not close a gap; a move before the chosen one overtakes it as soon as it is as great
 abbrev pub IsWithinGap : Bool → ℕ → ℕ → ℕ → Type 0
-IsWithinGap before gap gain times = times ≤ (if before then (gap + gain - 1) / gain else (gap / gain + 1))
-
--- a number of turns in which a worth that rises does not overtake a value that rises
-abbrev pub IsBehind : Bool → ℤ → ℤ → ℤ → ℤ → ℕ → Type 0
-IsBehind before value worth slope rise times = (gap gain : ℕ) → value ≡ worth +ℤ pos gap → rise ≡ slope +ℤ pos gain → 0 < gain
-    → IsWithinGap before gap gain times
+IsWithinGap before gap gain times = (k : ℕ) → k < times → k * gain < (if before then gap else (gap + 1))
 
 -- where a worth stands: at most the value, and below it where its move is before the chosen one
 pub record IsNotAhead (before : Bool) (value worth : ℤ) : Type 0 where
   pub most : worth ≤ℤ value
   pub less : IsTrue before → worth <ℤ value
+
+-- a number of turns in which a worth that rises does not overtake a value that rises
+abbrev pub IsBehind : Bool → ℤ → ℤ → ℤ → ℤ → ℕ → Type 0
+IsBehind before value worth slope rise times = (k : ℕ) → k < times → IsNotAhead before (line value slope k) (line worth rise k)
 
 -- so for each of so many classes that have not chosen the move
 abbrev pub AreBehind : ℕ → ℕ → ℕ → List ℕ → List ℤ → List ℤ → List ℤ → List ℤ → ℕ → Type 0

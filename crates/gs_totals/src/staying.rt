@@ -14,12 +14,13 @@ use crate::reading::Reading;
 use crate::rows::read_worths;
 use gs_best::{Deviator, chooser, move_total, point_total, round_total};
 
-/// A number of turns, at most so many, in which a gain each turn does not close a gap.
+/// The greatest number of turns, at most so many, in which a gain each turn does not close a gap.
 fn within_gap(before: bool, gap: u128, gain: u128, times: u32) -> u32
     requires gain { 0 < gain }
     requires gap { IsTrue before → 0 < gap }
     requires small { gap + gain < 2 ^ 128 }
     ensures within { IsWithinGap before gap gain result }
+    ensures greatest { result < times → IsWithinGap before gap gain (result + 1) → ⊥ }
     ensures most { result ≤ times }
     ensures some { 0 < times → 0 < result }
 {
@@ -44,12 +45,13 @@ fn above(greater: i128, less: i128) -> u128
     (greater - less).unsigned_abs()
 }
 
-/// A number of turns, at most so many, in which a worth that rises does not overtake a value that rises.
+/// The greatest number of turns, at most so many, in which a worth that rises does not overtake a value that rises.
 fn behind(before: bool, value: i128, worth: i128, slope: i128, rise: i128, times: u32) -> u32
     requires ahead { IsNotAhead before value worth }
     requires gap { unsigned_abs (value -ℤ worth) < 2 ^ 120 }
     requires gain { unsigned_abs (rise -ℤ slope) < 2 ^ 120 }
     ensures behind { IsBehind before value worth slope rise result }
+    ensures greatest { result < times → IsBehind before value worth slope rise (result + 1) → ⊥ }
     ensures most { result ≤ times }
     ensures some { 0 < times → 0 < result }
 {
@@ -62,7 +64,7 @@ fn behind(before: bool, value: i128, worth: i128, slope: i128, rise: i128, times
     }
 }
 
-/// A number of turns, at most so many, in which no class that has chosen another move of a point turns to this one.
+/// The greatest number of turns, at most so many, in which no class that has chosen another move of a point turns to this one.
 fn behind_all(
     choice: u8,
     picks: &[u8],
@@ -84,6 +86,7 @@ fn behind_all(
     requires gaps { (k : ℕ) → k < count → unsigned_abs (get_or values.now (start + k) (pos 0) -ℤ get_or worths.now k (pos 0)) < 2 ^ 120 }
     requires gains { (k : ℕ) → k < count → unsigned_abs (get_or rises.now k (pos 0) -ℤ get_or slopes.now (start + k) (pos 0)) < 2 ^ 120 }
     ensures behind { AreBehind count choice start picks.now values.now worths.now slopes.now rises.now result }
+    ensures greatest { result < times → AreBehind count choice start picks.now values.now worths.now slopes.now rises.now (result + 1) → ⊥ }
     ensures most { result ≤ times }
     ensures some { 0 < times → 0 < result }
 {
@@ -104,8 +107,8 @@ fn behind_all(
     left
 }
 
-/// A number of turns, at most so many, in which no class of an own point turns to a move: at once where one turn is asked for, since its choices are
-/// known. Both rows may be written anew.
+/// The greatest number of turns, at most so many, in which no class of an own point turns to a move: at once where one turn is asked for, since its
+/// choices are known. Both rows may be written anew.
 fn lasting_move(
     course: &Course<'_>,
     point: u32,
@@ -120,6 +123,7 @@ fn lasting_move(
     requires worths { IsWide (frame_in course.now) (lists_in course.now) (length worths.old) }
     requires rises { IsWide (frame_in course.now) (lists_in course.now) (length rises.old) }
     ensures behind { StaysBehind course.now point choice result }
+    ensures greatest { result < times → StaysBehind course.now point choice (result + 1) → ⊥ }
     ensures most { result ≤ times }
     ensures some { 0 < times → 0 < result }
 {
@@ -163,13 +167,14 @@ fn lasting_move(
     )
 }
 
-/// A number of turns, at most so many, in which no choice at an own point changes.
+/// The greatest number of turns, at most so many, in which no choice at an own point changes.
 fn lasting_point(course: &Course<'_>, point: u32, scratch: &mut Scratch, times: u32) -> u32
     requires point { point < point_count (frame_in course.now) }
     requires own { player_at (frame_in course.now) point ≡ course.now.player }
     requires scratch { HasScratch (frame_in course.now) (lists_in course.now) scratch.old }
     ensures scratch { HasScratch (frame_in course.now) (lists_in course.now) scratch.new }
     ensures lasts { LastsAt course.now point result }
+    ensures greatest { result < times → LastsAt course.now point (result + 1) → ⊥ }
     ensures most { result ≤ times }
     ensures some { 0 < times → 0 < result }
 {
@@ -187,11 +192,12 @@ fn lasting_point(course: &Course<'_>, point: u32, scratch: &mut Scratch, times: 
     left
 }
 
-/// A number of turns, at most so many, in which no choice of the player changes.
+/// The greatest number of turns, at most so many, in which no choice of the player changes.
 pub fn lasting(course: &Course<'_>, scratch: &mut Scratch, times: u32) -> u32
     requires { HasScratch (frame_in course.now) (lists_in course.now) scratch.old }
     ensures scratch { HasScratch (frame_in course.now) (lists_in course.now) scratch.new }
     ensures lasts { Lasts course.now result }
+    ensures greatest { result < times → Lasts course.now (result + 1) → ⊥ }
     ensures most { result ≤ times }
     ensures some { 0 < times → 0 < result }
 {

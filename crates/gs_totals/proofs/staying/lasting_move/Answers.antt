@@ -9,7 +9,7 @@ use Rattle.gs_best.proofs.Placed.{IsRow}
 use Rattle.gs_totals.specs.ClassTotals.{total_worth}
 use Rattle.gs_totals.specs.Courses.{totals_added, totals_now}
 use Rattle.gs_totals.specs.Ledgers.{frame_in, lists_in, totals_in}
-use Rattle.gs_totals.proofs.CourseLaws.{added_modest, all_ahead, all_behind, all_gains, all_gaps, now_modest, once_behind}
+use Rattle.gs_totals.proofs.CourseLaws.{added_modest, all_ahead, all_behind, all_gains, all_gaps, each_behind, now_modest, once_behind}
 use Rattle.gs_totals.proofs.Readings.{brought, carried, row_of}
 use Rattle.gs_totals.proofs.staying.lasting_move.Goals.{After-of-now, After-read_worths-worth, After-read_worths-rise}
 use Rattle.gs_totals.proofs.staying.lasting_move.Goals as goal
@@ -71,6 +71,11 @@ pub returns-clause-behind : goal.returns-clause-behind
 returns-clause-behind c =
     let at = goal.at.returns-clause-behind c in
     all_behind c.args.course.now c.args.point c.args.choice _ _ (row at.After-of-now) _ _ _ _ c.deref.ensures.value c.deref-2.ensures.value (worths at.After-read_worths-worth) (rises at.After-read_worths-rise) c.behind_all.result c.behind_all.ensures.behind
+
+pub returns-clause-greatest : goal.returns-clause-greatest
+returns-clause-greatest c =
+    let at = goal.at.returns-clause-greatest c in
+    λ l h. c.behind_all.ensures.greatest l (each_behind c.args.course.now c.args.point c.args.choice _ _ (row at.After-of-now) _ _ _ _ c.deref.ensures.value c.deref-2.ensures.value (worths at.After-read_worths-worth) (rises at.After-read_worths-rise) (c.behind_all.result + 1) h)
 
 pub returns-then-times-le1-clause-behind : goal.returns-then-times-le1-clause-behind
 returns-then-times-le1-clause-behind c = once_behind c.args.course.now c.round_total-rounds.ensures.sound c.args.point c.args.choice c.args.times c.requires.point c.requires.choice c.requires.own (omega arith)

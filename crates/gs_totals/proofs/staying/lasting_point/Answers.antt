@@ -1,9 +1,9 @@
-use Rattle.std.proofs.Common.{◌≡◌, List, length, sym, ap, subst, arith, ⊎_elim}
+use Rattle.std.proofs.Common.{◌≡◌, ℕ, ◌+◌, ◌<◌, List, length, sym, ap, subst, arith, ⊎_elim}
 use Rattle.std.specs.Prelude.{ℤ}
 use Rattle.std.proofs.lemmas.Bool.{cases_eq}
 use Rattle.gs_model.specs.Frame.{move_count}
 use Rattle.gs_totals.specs.Courses.{StaysBehind, frame_in, lists_in}
-use Rattle.gs_totals.proofs.Behind.{lasts_by, stays_less}
+use Rattle.gs_totals.proofs.Behind.{greatest_with, lasts_by, stays_by, stays_less}
 use Rattle.gs_totals.proofs.PlacedRows.{wide_written}
 use Rattle.gs_totals.proofs.staying.lasting_point.Goals as goal
 
@@ -14,6 +14,10 @@ loop-choice-preserved c =
     let i = c.loop-choice.invariant in
     let e = c.lasting_move-left.ensures in
     let was = c.loop-choice.scratch in
+    let choice = c.loop-choice.choice in
+    let left = c.loop-choice.left in
+    let less = c.lasting_move-left.result in
+    let All : ℕ → ℕ → Type 0 = λ n t. (m : ℕ) → m < n → StaysBehind k q m t in
     record {
       scratch = record {
         numbers = i.scratch.numbers;
@@ -22,9 +26,11 @@ loop-choice-preserved c =
         moves = i.scratch.moves;
       };
       behind = λ m lm. ⊎_elim
-          (λ (same : m ≡ c.loop-choice.choice). subst (λ n. StaysBehind k q n c.lasting_move-left.result) (sym same) e.behind)
-          (λ (other : m ≡ c.loop-choice.choice → ⊥). stays_less k q m c.loop-choice.left c.lasting_move-left.result e.most (i.behind m (omega arith)))
-          (cases_eq m c.loop-choice.choice);
+          (λ (same : m ≡ choice). subst (λ n. StaysBehind k q n less) (sym same) e.behind)
+          (λ (other : m ≡ choice → ⊥). stays_less k q m left less e.most (i.behind m (omega arith)))
+          (cases_eq m choice);
+      greatest = greatest_with (All choice) (StaysBehind k q choice) (All (choice + 1)) c.args.times left less e.most i.greatest e.greatest
+          (λ t h m lm. h m (omega (arith, lm))) (λ t h. h choice (omega arith));
       most = omega (arith, i.most, e.most);
       some = λ s. e.some (i.some s);
     }
@@ -34,4 +40,11 @@ returns-clause-lasts c =
     let k = c.args.course.now in
     let q = c.args.point in
     let all : c.loop-choice.choice ≡ move_count (frame_in k) q = omega (arith, c.loop-choice-test.false, c.loop-choice.auto.choice-end, c.move_total-choice-end.ensures.value) in
-    lasts_by k q c.loop-choice.left c.requires.point c.requires.own (λ m lm. c.loop-choice.invariant.behind m (omega (arith, lm, all)))
+    lasts_by k q c.requires.point c.requires.own c.loop-choice.left (λ m lm. c.loop-choice.invariant.behind m (omega (arith, lm, all)))
+
+pub returns-clause-greatest : goal.returns-clause-greatest
+returns-clause-greatest c =
+    let k = c.args.course.now in
+    let q = c.args.point in
+    let all : c.loop-choice.choice ≡ move_count (frame_in k) q = omega (arith, c.loop-choice-test.false, c.loop-choice.auto.choice-end, c.move_total-choice-end.ensures.value) in
+    λ l h. c.loop-choice.invariant.greatest l (λ m lm. stays_by k q c.requires.point c.requires.own (c.loop-choice.left + 1) h m (omega (arith, lm, all)))

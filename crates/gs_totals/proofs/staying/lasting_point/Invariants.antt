@@ -1,4 +1,4 @@
-use Rattle.std.proofs.Common.{ℕ, ◌<◌, ◌≤◌}
+use Rattle.std.proofs.Common.{ℕ, ◌+◌, ◌<◌, ◌≤◌}
 use Rattle.gs_totals.specs.Courses.{StaysBehind, frame_in, lists_in}
 use Rattle.gs_totals.specs.Room.{HasScratch}
 use Rattle.gs_totals.proofs.staying.lasting_point.Given as goal
@@ -7,6 +7,7 @@ abbrev pub invariant-loop-choice : goal.invariant-loop-choice
 invariant-loop-choice l = record {
   scratch : HasScratch (frame_in l.course) (lists_in l.course) l.scratch;
   behind : (m : ℕ) → m < l.choice → StaysBehind l.course l.point m l.left;
+  greatest : l.left < l.times → ((m : ℕ) → m < l.choice → StaysBehind l.course l.point m (l.left + 1)) → ⊥;
   most : l.left ≤ l.times;
   some : 0 < l.times → 0 < l.left;
 }
