@@ -22,6 +22,8 @@ pub(crate) struct WideNumber {
 /// The row of a pivot, as the other rows meet it.
 #[derive(Clone, Copy)]
 pub(crate) struct Lead<'a> {
+    /// The row, from 0.
+    pub(crate) row: usize,
     pub(crate) numbers: &'a [i64],
     /// No number is greater in size.
     pub(crate) most: u64,

@@ -85,48 +85,38 @@ fn reduce_at(
     reduce_row(lead, row, mixed, places, found)
 }
 
-// Clears column `c` of all `count` rows but `r`, looking at the first `found` places, of which the first is the row's own. It answers the first
+// Clears the lead's column of all rows but its own, looking at the first `found` places, of which the first is the row's own. It answers the first
 // number, by row and column, that is not narrow.
 fn clear_column(
     numbers: &mut [i64],
-    count: usize,
-    r: usize,
-    lead: &[i64],
-    c: usize,
+    lead: &Lead<'_>,
     mixed: &mut [i128],
     places: &mut [u32],
     found: usize,
     owns: &[u32],
-    filled: &mut [u32],
 ) -> Option<WideCell>
-    requires small { length lead.now < 2 ^ 32 }
-    requires room_filled { length filled.old ≡ length lead.now }
-    requires live { IsLive places.old owns.now found count r (length lead.now) (cell numbers.old (length lead.now)) (at lead.now) }
-    requires long { length numbers.old ≡ count * length lead.now }
-    requires column { c < length lead.now }
-    requires room { length mixed.old ≡ length lead.now }
-    requires own { pos 0 <ℤ at lead.now c }
-    requires narrow_lead { AllNarrow lead.now }
+    requires filled { IsSupport lead.now.filled.now lead.now.count (length lead.now.numbers.now) (at lead.now.numbers.now) (at lead.now.numbers.now) }
+    requires room { length mixed.old ≡ length lead.now.numbers.now }
+    requires live { let w = length lead.now.numbers.now in
+        IsLive places.old owns.now found (length owns.now) lead.now.row w (cell numbers.old w) (at lead.now.numbers.now) }
+    requires long { length numbers.old ≡ length owns.now * length lead.now.numbers.now }
+    requires most { AllAtMost lead.now.numbers.now lead.now.most }
+    requires column { lead.now.column < length lead.now.numbers.now }
+    requires own { pos 0 <ℤ at lead.now.numbers.now lead.now.column }
+    requires narrow_lead { AllNarrow lead.now.numbers.now }
     requires narrow { AllNarrow numbers.old }
-    requires primitive { (i : ℕ) → i < count → IsRowPrimitive numbers.old (length lead.now) i }
-    ensures { MatchOption result
-        (IsCleared numbers.old numbers.new count (length lead.now) r c (at lead.now))
-        (λ w. IsClearedTo numbers.old count (length lead.now) r c (at lead.now) w.row w.column w.number) }
+    requires primitive { (i : ℕ) → i < length owns.now → IsRowPrimitive numbers.old (length lead.now.numbers.now) i }
+    ensures { let k = lead.now in let count = length owns.now in let w = length k.numbers.now in MatchOption result
+        (IsCleared numbers.old numbers.new count w k.row k.column (at k.numbers.now))
+        (λ x. IsClearedTo numbers.old count w k.row k.column (at k.numbers.now) x.row x.column x.number) }
 {
-    let width = lead.len();
-    let taken = Lead {
-        numbers: lead,
-        most: greatest(lead),
-        column: c,
-        count: fill(lead, filled),
-        filled,
-    };
-    for i in 0..count {
-        if i == r {
+    let width = lead.numbers.len();
+    for i in 0..owns.len() {
+        if i == lead.row {
             continue;
         }
         places[0] = owns[i];
-        if let Some(wide) = reduce_at(numbers, i * width, &taken, mixed, places, found) {
+        if let Some(wide) = reduce_at(numbers, i * width, lead, mixed, places, found) {
             return Some(WideCell {
                 row: i,
                 column: wide.column,
@@ -171,20 +161,25 @@ impl Table {
             (λ w. IsWideAfter p.now self.old.numbers.items r c w.row w.column w.number) }
     {
         let width = p.cols as usize + 2;
-        let count = p.rows as usize + 1;
         take_lead(&mut self.numbers, r * width, c, &mut self.lead);
         let found = self.live.find(p, basis, r);
+        let numbers: &[i64] = &self.lead;
+        let filled: &mut [u32] = &mut self.live.filled;
+        let lead = Lead {
+            row: r,
+            numbers,
+            most: greatest(numbers),
+            column: c,
+            count: fill(numbers, filled),
+            filled,
+        };
         clear_column(
             &mut self.numbers,
-            count,
-            r,
-            &self.lead,
-            c,
+            &lead,
             &mut self.mixed,
             &mut self.live.places,
             found,
             &self.live.owns,
-            &mut self.live.filled,
         )
     }
 }

@@ -2,15 +2,14 @@ use Rattle.std.proofs.Common.{◌≡◌, ℕ, ◌≤◌, ◌++◌, List, length,
 use Rattle.std.specs.Prelude.{ℤ}
 use Rattle.std.specs.declared.alloc.Global.{Global}
 use Rattle.gs_model.specs.Frame.{point_count}
-use Rattle.gs_seq.specs.Abstracts.{frame_of, lists_of}
-use Rattle.gs_seq.specs.Plans.{class_plan}
 use Rattle.gs_seq.specs.Slots.{IsPlan, slot_count}
 use Rattle.gs_best.specs.Puts.{ArePutBefore}
-use Rattle.gs_best.specs.Tables.{moves_of, start_of}
+use Rattle.gs_best.specs.Tables.{start_of}
 use Rattle.gs_best.proofs.Filled.{written}
 use Rattle.gs_best.proofs.Forms.{form_classes, form_in_range, form_lossless, form_walked}
 use Rattle.gs_totals.specs.ClassTotals.{AreBestTotals}
-use Rattle.gs_totals.specs.Places.{AreEndSums, totals_of}
+use Rattle.gs_totals.specs.Places.{AreEndSums}
+use Rattle.gs_play.specs.Roles.{frame_in, lists_in, moves_in, plan_in, totals_in}
 use Rattle.gs_play.proofs.Answering.{put_plan}
 use Rattle.gs_play.proofs.seats.answer_anew.Goals.{After-find, After-swap}
 use Rattle.gs_play.proofs.seats.answer_anew.Goals as goal
@@ -32,42 +31,42 @@ find-requires-clause-long c = ap (λ (l : List ℕ). length l) c.deref_mut-2.ens
 
 pub returns-clause-answered : goal.returns-clause-answered
 returns-clause-answered c =
-    let f = frame_of c.args.form.now in
-    let lists = lists_of c.args.form.now in
-    let y = class_plan f lists c.args.other.now in
-    let picks = c.find.new.picks in
     let at = goal.at.returns-clause-answered c in
+    let k = c.args.role.now in
+    let f = frame_in k in
+    let lists = lists_in k in
+    let other = c.args.other.now in
     record {
-      best = subst (λ l. AreBestTotals f lists c.args.player y (totals_of f lists c.args.player y c.find.new.totals.points.items) (moves_of f lists l)) (sym (picks_are at.After-find)) c.find.ensures.best;
-      puts = subst (λ l. ArePutBefore f lists c.args.player (moves_of f lists l) c.swap.new.y.items (point_count f)) (sym (picks_are at.After-find))
-          (subst (λ l. ArePutBefore f lists c.args.player (moves_of f lists picks) l (point_count f)) (sym (answer_is at.After-swap)) c.find.ensures.puts);
+      best = subst (λ l. AreBestTotals f lists k.player (plan_in k other) (totals_in k other c.find.new.totals.points.items) (moves_in k l)) (sym (picks_are at.After-find)) c.find.ensures.best;
+      puts = subst (λ l. ArePutBefore f lists k.player (moves_in k l) c.swap.new.y.items (point_count f)) (sym (picks_are at.After-find))
+          (subst (λ l. ArePutBefore f lists k.player (moves_in k c.find.new.picks) l (point_count f)) (sym (answer_is at.After-swap)) c.find.ensures.puts);
     }
 
 pub returns-clause-seat : goal.returns-clause-seat
 returns-clause-seat c =
-    let f = frame_of c.args.form.now in
-    let lists = lists_of c.args.form.now in
-    let room = c.requires.seat.room in
-    let player = c.args.player in
-    let y = class_plan f lists c.args.other.now in
-    let picks = c.find.new.picks in
-    let weights = c.find.new.weights in
     let at = goal.at.returns-clause-seat c in
-    let long : length weights ≡ slot_count f lists player = c.find.auto.weights ∙ ap (λ (l : List ℕ). length l) c.deref_mut-2.ensures.value ∙ room.next in
-    let plan = put_plan f (form_in_range c.args.form.now) lists (form_classes c.args.form.now c.round_total-rounds.ensures.sound) (form_lossless c.args.form.now) player (form_walked c.args.form.now player c.requires.some c.requires.two) y (totals_of f lists player y c.find.new.totals.points.items) (moves_of f lists picks) weights
+    let k = c.args.role.now in
+    let a = k.form.now in
+    let f = frame_in k in
+    let lists = lists_in k in
+    let room = c.requires.seat.room in
+    let other = c.args.other.now in
+    let weights = c.find.new.weights in
+    let long : length weights ≡ slot_count f lists k.player = c.find.auto.weights ∙ ap (λ (l : List ℕ). length l) c.deref_mut-2.ensures.value ∙ room.next in
+    let plan = put_plan f (form_in_range a) lists (form_classes a c.round_total-rounds.ensures.sound) (form_lossless a) k.player (form_walked a k.player k.some k.two) (plan_in k other) (totals_in k other c.find.new.totals.points.items) (moves_in k c.find.new.picks) weights
     c.find.ensures.best c.find.ensures.puts long in
     record {
       room = record {
         answer = record {
           player_is = room.answer.player_is;
-          plan = subst (λ t. IsPlan f lists player t c.swap.new.y.items) (sym room.one) (subst (IsPlan f lists player 1) (sym (answer_is at.After-swap)) plan);
+          plan = subst (λ t. IsPlan f lists k.player t c.swap.new.y.items) (sym room.one) (subst (IsPlan f lists k.player 1) (sym (answer_is at.After-swap)) plan);
         };
         one = room.one;
         next = ap (λ (v : Vec ℕ Global). length v.items) c.swap.ensures.x_after ∙ room.answer.plan.long;
         rows = c.find.ensures.rows;
         picks = subst (λ l. start_of f lists (point_count f) ≤ length l) (sym (picks_are at.After-find)) (omega (arith, room.picks, c.find.auto.picks, ap (λ (l : List ℕ). length l) c.deref_mut.ensures.value));
       };
-      paid = subst (λ (l : Vec ℤ Global). AreEndSums f lists player y l.items) (sym c.find.ensures.paid) c.requires.seat.paid;
+      paid = subst (λ (l : Vec ℤ Global). AreEndSums f lists k.player (plan_in k other) l.items) (sym c.find.ensures.paid) c.requires.seat.paid;
     }
 
 pub returns-clause-same : goal.returns-clause-same

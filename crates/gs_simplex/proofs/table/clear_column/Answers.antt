@@ -5,12 +5,12 @@ use Rattle.gs_simplex.proofs.Lives.{support_same, support_of}
 use Rattle.gs_simplex.proofs.Places.{primitive_same_row, reduced_same, reduced_to_same, row_ends, row_apart}
 use Rattle.gs_simplex.proofs.table.clear_column.Goals as goal
 
-pub loop-i-preserved-then-i-r : goal.loop-i-preserved-then-i-r
-loop-i-preserved-then-i-r c =
+pub loop-i-preserved-then-i-lead : goal.loop-i-preserved-then-i-lead
+loop-i-preserved-then-i-lead c =
     let v = c.loop-i.invariant in
     record {
       width = refl;
-      done = below_more _ c.loop-i.i v.done (λ ne. absurd (ne c.if-i-r.true));
+      done = below_more _ c.loop-i.i v.done (λ ne. absurd (ne c.if-i-lead.true));
       left = λ h l j jw. v.left h (omega arith) j jw;
       kept = v.kept;
       narrow = v.narrow;
@@ -19,33 +19,36 @@ loop-i-preserved-then-i-r c =
 
 pub reduce_at-requires-clause-support : goal.reduce_at-requires-clause-support
 reduce_at-requires-clause-support c =
-    let v = c.loop-i.invariant in let w = length c.args.lead.now in let i = c.loop-i.i in let old = c.args.numbers.now in let now = c.loop-i.numbers in let lead = at c.args.lead.now in
-    support_same _ c.args.found w (cell old w i) (cell now w i) lead lead (λ j h. sym (v.left i (omega arith) j h)) (λ j h. refl)
-    (support_of c.args.places.now c.loop-i.places c.args.owns.now c.args.found c.args.count c.args.r w i (cell old w) lead c.requires.live c.loop-i-test.true c.if-i-r.false c.loop-i.auto.places v.places)
+    let lead = c.args.lead.now in let count = length c.args.owns.now in
+    let v = c.loop-i.invariant in let w = length lead.numbers.now in let i = c.loop-i.i in let old = c.args.numbers.now in let now = c.loop-i.numbers in let row = at lead.numbers.now in
+    support_same _ c.args.found w (cell old w i) (cell now w i) row row (λ j h. sym (v.left i (omega arith) j h)) (λ j h. refl)
+    (support_of c.args.places.now c.loop-i.places c.args.owns.now c.args.found count lead.row w i (cell old w) row c.requires.live c.loop-i-test.true c.if-i-lead.false c.loop-i.auto.places v.places)
 
 pub reduce_at-requires-clause-primitive : goal.reduce_at-requires-clause-primitive
 reduce_at-requires-clause-primitive c =
-    let w = length c.args.lead.now in let i = c.loop-i.i in
-    let cw : c.args.c < w = c.requires.column in
+    let lead = c.args.lead.now in
+    let w = length lead.numbers.now in let i = c.loop-i.i in
+    let cw : lead.column < w = c.requires.column in
     primitive_same_row (w - 1) (cell c.args.numbers.now w i) (cell c.loop-i.numbers w i) (λ j h. sym (c.loop-i.invariant.left i (omega arith) j (omega arith))) (c.requires.primitive i c.loop-i-test.true)
 
 pub returns-in-Some : goal.returns-in-Some
 returns-in-Some c =
-    let w = length c.args.lead.now in let i = c.loop-i.i in let old = c.args.numbers.now in let now = c.loop-i.numbers in
-    let lead = at c.args.lead.now in
+    let lead = c.args.lead.now in let count = length c.args.owns.now in
+    let w = length lead.numbers.now in let i = c.loop-i.i in let old = c.args.numbers.now in let now = c.loop-i.numbers in
+    let row = at lead.numbers.now in
     let z = c.in-Some.wide.number in
-    let here : IsReducedTo lead c.args.c w (cell old w i) c.in-Some.wide.column z =
-    reduced_to_same lead lead c.args.c w (cell now w i) (cell old w i) c.in-Some.wide.column z c.requires.column (λ j h. refl) (λ j h. c.loop-i.invariant.left i (omega arith) j h) c.in-Some.ensures.answer in
-    let P : ℤ → Type 0 = λ t. IsClearedTo old c.args.count w c.args.r c.args.c lead i c.in-Some.wide.column t in
+    let here : IsReducedTo row lead.column w (cell old w i) c.in-Some.wide.column z =
+    reduced_to_same row row lead.column w (cell now w i) (cell old w i) c.in-Some.wide.column z c.requires.column (λ j h. refl) (λ j h. c.loop-i.invariant.left i (omega arith) j h) c.in-Some.ensures.answer in
+    let P : ℤ → Type 0 = λ t. IsClearedTo old count w lead.row lead.column row i c.in-Some.wide.column t in
     subst P (sym (kept_128 z (omega (arith, here.size)))) (record {
       inside = c.loop-i-test.true;
-      apart = c.if-i-r.false;
+      apart = c.if-i-lead.false;
       here = here;
       before = λ h l ne. (
         cell now w h,
         c.loop-i.invariant.done h l ne,
-        λ k kw. c.loop-i.invariant.narrow (h * w + k) (let e : length now ≡ c.args.count * w = omega (arith, c.loop-i.auto.numbers, c.requires.long) in
-            omega (arith, Rattle.gs_simplex.proofs.Places.row_inside c.args.count w h k (omega arith) kw)),
+        λ k kw. c.loop-i.invariant.narrow (h * w + k) (let e : length now ≡ count * w = omega (arith, c.loop-i.auto.numbers, c.requires.long) in
+            omega (arith, Rattle.gs_simplex.proofs.Places.row_inside count w h k (omega arith) kw)),
       );
     })
 
@@ -75,16 +78,17 @@ none_of (Some x) P Q e h = absurd (cc)
 
 pub loop-i-preserved : goal.loop-i-preserved
 loop-i-preserved c =
-    let w = length c.args.lead.now in let i = c.loop-i.i in let old = c.args.numbers.now in let now = c.loop-i.numbers in let new = c.reduce_at.new.numbers in
-    let lead = at c.args.lead.now in
+    let lead = c.args.lead.now in let count = length c.args.owns.now in
+    let w = length lead.numbers.now in let i = c.loop-i.i in let old = c.args.numbers.now in let now = c.loop-i.numbers in let new = c.reduce_at.new.numbers in
+    let row = at lead.numbers.now in
     let v = c.loop-i.invariant in
-    let a : IsReduced lead c.args.c w (cell now w i) (cell new w i) × AllNarrow new =
-    none_of c.reduce_at.result (IsReduced lead c.args.c w (cell now w i) (cell new w i) × AllNarrow new) (λ x. IsReducedTo lead c.args.c w (cell now w i) x.column x.number) c.in_default.is c.reduce_at.ensures.answer in
+    let a : IsReduced row lead.column w (cell now w i) (cell new w i) × AllNarrow new =
+    none_of c.reduce_at.result (IsReduced row lead.column w (cell now w i) (cell new w i) × AllNarrow new) (λ x. IsReducedTo row lead.column w (cell now w i) x.column x.number) c.in_default.is c.reduce_at.ensures.answer in
     record {
       width = refl;
-      done = done_more old now new lead c.args.count w c.args.r c.args.c i c.requires.column c.if-i-r.false v.done v.left v.kept c.reduce_at.ensures.others a.0;
-      left = left_more old now new lead c.args.count w c.args.r c.args.c i c.requires.column c.if-i-r.false v.done v.left v.kept c.reduce_at.ensures.others a.0;
-      kept = kept_more old now new lead c.args.count w c.args.r c.args.c i c.requires.column c.if-i-r.false v.done v.left v.kept c.reduce_at.ensures.others a.0;
+      done = done_more old now new row count w lead.row lead.column i c.requires.column c.if-i-lead.false v.done v.left v.kept c.reduce_at.ensures.others a.0;
+      left = left_more old now new row count w lead.row lead.column i c.requires.column c.if-i-lead.false v.done v.left v.kept c.reduce_at.ensures.others a.0;
+      kept = kept_more old now new row count w lead.row lead.column i c.requires.column c.if-i-lead.false v.done v.left v.kept c.reduce_at.ensures.others a.0;
       narrow = a.1;
       places = λ k h. get_or-set_other c.loop-i.places 0 k (slice_index c.args.owns.now i) 0 (λ e. omega arith) ∙ v.places k h;
     }

@@ -14,7 +14,7 @@ use Rattle.gs_simplex.specs.Live.{IsFound, IsLive}
 use Rattle.gs_simplex.proofs.Lives.{live_of}
 use Rattle.gs_simplex.proofs.Paths.{primitive_of}
 use Rattle.gs_simplex.proofs.table.Table.list.Goals as goal
-use Rattle.gs_simplex.proofs.table.Table.list.Goals.{After-deref, After-deref_mut-3, After-take_lead}
+use Rattle.gs_simplex.proofs.table.Table.list.Goals.{After-deref, After-deref-numbers, After-deref_mut-3, After-take_lead}
 
 taken : (n : ℕ) (xs ys : List ℤ) → length xs ≡ n → take n (xs ++ ys) ≡ xs
 taken n xs ys e = take_at xs ys n e
@@ -144,27 +144,31 @@ taken_lead c = record {
 same_numbers : (c : After-deref_mut-3) → c.deref_mut-3.result.now ≡ c.take_lead.new.numbers
 same_numbers c = c.deref_mut-3.ensures.value ∙ taken c.args.self.now.numbers.len c.take_lead.new.numbers (drop (length c.take_lead.new.numbers) c.args.self.now.numbers.items) (omega (arith, c.take_lead.auto.numbers, c.deref_mut.ensures.len))
 
-same_lead : (c : After-deref) → c.deref.result.now ≡ c.take_lead.new.lead
-same_lead c = c.deref.ensures.value ∙ taken c.args.self.now.lead.len c.take_lead.new.lead (drop (length c.take_lead.new.lead) c.args.self.now.lead.items) (omega (arith, c.take_lead.auto.lead, c.deref_mut-2.ensures.len))
+same_lead : (c : After-deref-numbers) → c.deref-numbers.result.now ≡ c.take_lead.new.lead
+same_lead c = c.deref-numbers.ensures.value ∙ taken c.args.self.now.lead.len c.take_lead.new.lead (drop (length c.take_lead.new.lead) c.args.self.now.lead.items) (omega (arith, c.take_lead.auto.lead, c.deref_mut-2.ensures.len))
+
+owns_long : (c : After-deref) → length c.deref.result.now ≡ c.args.p.now.rows + 1
+owns_long c = ap (λ (l : List ℕ). length l) c.deref.ensures.value ∙ c.find-found.ensures.found.owns_long
 
 pub clear_column-requires-clause-live : goal.clear_column-requires-clause-live
 clear_column-requires-clause-live c =
     let w = goal.at.clear_column-requires-clause-live c in
-    live' c.args.p.now c.args.self.now.numbers.items c.deref_mut.result.now c.take_lead.new.numbers c.deref_mut-3.result.now c.take_lead.new.lead c.deref.result.now c.args.r c.args.c c.requires.row c.requires.column c.requires.table (primitive_of c.args.p.now c.args.basis.now c.args.self.now.numbers.items c.requires.rows) c.requires.nonzero (taken_lead w.After-take_lead)
-    c.deref_mut.ensures.value (same_numbers w.After-deref_mut-3) (same_lead w.After-deref)
-    c.args.basis.now c.find-found.new.self.places.items c.deref_mut-5.result.now c.find-found.new.self.owns.items c.deref-2.result.now c.find-found.result c.requires.pairs c.requires.rows c.find-found.ensures.found c.deref_mut-5.ensures.value c.deref-2.ensures.value
+    subst (λ n. IsLive c.deref_mut-5.result.now c.deref.result.now c.find-found.result n c.args.r (length c.deref-numbers.result.now) (cell c.deref_mut-3.result.now (length c.deref-numbers.result.now)) (at c.deref-numbers.result.now)) (sym (owns_long w.After-deref))
+    (live' c.args.p.now c.args.self.now.numbers.items c.deref_mut.result.now c.take_lead.new.numbers c.deref_mut-3.result.now c.take_lead.new.lead c.deref-numbers.result.now c.args.r c.args.c c.requires.row c.requires.column c.requires.table (primitive_of c.args.p.now c.args.basis.now c.args.self.now.numbers.items c.requires.rows) c.requires.nonzero (taken_lead w.After-take_lead)
+    c.deref_mut.ensures.value (same_numbers w.After-deref_mut-3) (same_lead w.After-deref-numbers)
+    c.args.basis.now c.find-found.new.self.places.items c.deref_mut-5.result.now c.find-found.new.self.owns.items c.deref.result.now c.find-found.result c.requires.pairs c.requires.rows c.find-found.ensures.found c.deref_mut-5.ensures.value c.deref.ensures.value)
 
 pub clear_column-requires-clause-narrow : goal.clear_column-requires-clause-narrow
 clear_column-requires-clause-narrow c =
     let w = goal.at.clear_column-requires-clause-narrow c in
-    narrow' c.args.p.now c.args.self.now.numbers.items c.deref_mut.result.now c.take_lead.new.numbers c.deref_mut-3.result.now c.take_lead.new.lead c.deref.result.now c.args.r c.args.c c.requires.row c.requires.column c.requires.table (primitive_of c.args.p.now c.args.basis.now c.args.self.now.numbers.items c.requires.rows) c.requires.nonzero (taken_lead w.After-take_lead)
-    c.deref_mut.ensures.value (same_numbers w.After-deref_mut-3) (same_lead w.After-deref)
+    narrow' c.args.p.now c.args.self.now.numbers.items c.deref_mut.result.now c.take_lead.new.numbers c.deref_mut-3.result.now c.take_lead.new.lead c.deref-numbers.result.now c.args.r c.args.c c.requires.row c.requires.column c.requires.table (primitive_of c.args.p.now c.args.basis.now c.args.self.now.numbers.items c.requires.rows) c.requires.nonzero (taken_lead w.After-take_lead)
+    c.deref_mut.ensures.value (same_numbers w.After-deref_mut-3) (same_lead w.After-deref-numbers)
 
 pub clear_column-requires-clause-primitive : goal.clear_column-requires-clause-primitive
 clear_column-requires-clause-primitive c =
     let w = goal.at.clear_column-requires-clause-primitive c in
-    primitive' c.args.p.now c.args.self.now.numbers.items c.deref_mut.result.now c.take_lead.new.numbers c.deref_mut-3.result.now c.take_lead.new.lead c.deref.result.now c.args.r c.args.c c.requires.row c.requires.column c.requires.table (primitive_of c.args.p.now c.args.basis.now c.args.self.now.numbers.items c.requires.rows) c.requires.nonzero (taken_lead w.After-take_lead)
-    c.deref_mut.ensures.value (same_numbers w.After-deref_mut-3) (same_lead w.After-deref)
+    λ i l. primitive' c.args.p.now c.args.self.now.numbers.items c.deref_mut.result.now c.take_lead.new.numbers c.deref_mut-3.result.now c.take_lead.new.lead c.deref-numbers.result.now c.args.r c.args.c c.requires.row c.requires.column c.requires.table (primitive_of c.args.p.now c.args.basis.now c.args.self.now.numbers.items c.requires.rows) c.requires.nonzero (taken_lead w.After-take_lead)
+    c.deref_mut.ensures.value (same_numbers w.After-deref_mut-3) (same_lead w.After-deref-numbers) i (omega (arith, l, owns_long w.After-deref))
 
 pub returns-clause-listed : goal.returns-clause-listed
 returns-clause-listed c =
@@ -173,8 +177,9 @@ returns-clause-listed c =
     let n = c.args.self.now.numbers.len in
     let em = same_numbers w.After-deref_mut-3 in
     let rest = drop (length new) (take n (mid ++ drop (length mid) c.args.self.now.numbers.items)) in
-    answer' c.args.p.now c.args.self.now.numbers.items c.deref_mut.result.now c.take_lead.new.numbers c.deref_mut-3.result.now c.take_lead.new.lead c.deref.result.now c.args.r c.args.c c.requires.row c.requires.column c.requires.table (primitive_of c.args.p.now c.args.basis.now c.args.self.now.numbers.items c.requires.rows) c.requires.nonzero (taken_lead w.After-take_lead)
-    c.deref_mut.ensures.value (same_numbers w.After-deref_mut-3) (same_lead w.After-deref)
+    answer' c.args.p.now c.args.self.now.numbers.items c.deref_mut.result.now c.take_lead.new.numbers c.deref_mut-3.result.now c.take_lead.new.lead c.deref-numbers.result.now c.args.r c.args.c c.requires.row c.requires.column c.requires.table (primitive_of c.args.p.now c.args.basis.now c.args.self.now.numbers.items c.requires.rows) c.requires.nonzero (taken_lead w.After-take_lead)
+    c.deref_mut.ensures.value (same_numbers w.After-deref_mut-3) (same_lead w.After-deref-numbers)
     new (take n (new ++ rest)) c.clear_column.result
     (taken n new rest (omega (arith, c.clear_column.auto.numbers, c.take_lead.auto.numbers, c.deref_mut.ensures.len, ap length em)))
-    (c.clear_column.auto.numbers ∙ ap length em) c.clear_column.ensures
+    (c.clear_column.auto.numbers ∙ ap length em)
+    (subst (λ n. MatchOption c.clear_column.result (IsCleared c.deref_mut-3.result.now new n (length c.deref-numbers.result.now) c.args.r c.args.c (at c.deref-numbers.result.now)) (λ x. IsClearedTo c.deref_mut-3.result.now n (length c.deref-numbers.result.now) c.args.r c.args.c (at c.deref-numbers.result.now) x.row x.column x.number)) (owns_long w.After-deref) c.clear_column.ensures)

@@ -1,0 +1,41 @@
+-- A player's plans, moves and class totals in his game. Of private functions.
+use Rattle.std.specs.Prelude.{ℕ, List, ℤ}
+use Rattle.gs_model.specs.BestAnswers.{Values}
+use Rattle.gs_model.specs.Classes.{ClassLists}
+use Rattle.gs_model.specs.Frame.{Frame, other_player}
+use Rattle.gs_model.specs.Plans.{Plan as ModelPlan}
+use Rattle.gs_seq.specs.Abstracts.{frame_of, lists_of}
+use Rattle.gs_seq.specs.Plans.{IsPlanOf, class_plan}
+use Rattle.gs_seq.specs.declared.plan.Plan.{Plan}
+use Rattle.gs_best.specs.Tables.{moves_of}
+use Rattle.gs_totals.specs.Places.{AreEndSums, totals_of}
+use Rattle.gs_totals.specs.declared.places.Totals.{Totals}
+use Rattle.gs_play.specs.declared.role.Role.{Role}
+
+-- the frame of a player's game
+abbrev pub frame_in : Role → Frame
+frame_in k = frame_of k.form.now
+
+-- a plan over its classes
+abbrev pub plan_in : Role → Plan → ModelPlan
+plan_in k p = class_plan (frame_of k.form.now) (lists_of k.form.now) p
+
+-- the classes of his game
+abbrev pub lists_in : Role → ClassLists
+lists_in k = lists_of k.form.now
+
+-- the moves of a list
+abbrev pub moves_in : Role → List ℕ → ℕ → ℕ → ℕ
+moves_in k picks = moves_of (frame_in k) (lists_in k) picks
+
+-- his class totals against a plan of the other's, as a list has them at points
+abbrev pub totals_in : Role → Plan → List ℤ → Values
+totals_in k other values = totals_of (frame_in k) (lists_in k) k.player (plan_in k other) values
+
+-- a plan is one of the other player's
+abbrev pub IsOthers : Role → Plan → Type 0
+IsOthers k p = IsPlanOf (frame_in k) (lists_in k) (other_player k.player) p
+
+-- class totals have what each end pays him against a plan of the other's
+abbrev pub ArePaid : Role → Plan → Totals → Type 0
+ArePaid k other t = AreEndSums (frame_in k) (lists_in k) k.player (plan_in k other) t.ends.items
