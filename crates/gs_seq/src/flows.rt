@@ -13,7 +13,7 @@ use gs_filter::Classes;
 use gs_game::ValidGame;
 
 /// The greatest total of a plan.
-const MOST_TOTAL: u64 = 1 << 36;
+pub const MOST_TOTAL: u64 = 1 << 36;
 
 /// A player's last step before a position.
 #[derive(Clone, Copy, Debug)]

@@ -42,8 +42,8 @@ impl<'a> Abstract<'a> {
     ghost use Rattle.gs_seq.specs.{Plans.{IsPlanOf, class_plan}, Rows.{IsRow, IsSingleIn}, Singles.{HasSumsOf}};
     ghost use Rattle.gs_tree.specs.Trees.{rules_of};
 
-    /// An end of the game.
-    pub(crate) fn end_in(&self, end: u32) -> End
+    /// An end of the game, with its round.
+    pub fn end_in(&self, end: u32) -> End
         requires { end < end_count (frame_of self.now) }
         ensures value { end_of result ≡ end_at (frame_of self.now) end }
         ensures round { result.round ≡ round_of (frame_of self.now) (at_end end) }

@@ -13,11 +13,8 @@ use gs_best::round_total;
 use gs_reply::{Answer, many_pivots, many_table_numbers, overflow_at_step};
 use gs_seq::Abstract;
 use gs_simplex::{Program, Stop, trace};
-use gs_solve::{SolveStop, program};
+use gs_solve::{MOST_PIVOTS, SolveStop, program};
 use std::alloc::{AllocError, Global};
-
-/// The most pivots of a path that is shown.
-const MOST_PIVOTS: u32 = 8_192;
 
 /// The refusal of a game whose program is not made.
 fn unmade(alloc: Global, form: &Abstract, stop: SolveStop) -> Result<Answer, AllocError>

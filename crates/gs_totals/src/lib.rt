@@ -2,7 +2,6 @@
 //! In the literature: counterfactual values, summed over a class.
 #![tactic(auto)]
 
-mod above;
 mod advancing;
 mod course;
 mod ends;

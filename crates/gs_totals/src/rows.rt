@@ -6,9 +6,8 @@ ghost use Rattle.gs_seq.specs.Abstracts.{frame_of, lists_of};
 ghost use Rattle.gs_best.specs.{Rows.{AreWorths}, Sizes.{IsWide}, Tables.{classes_at}};
 ghost use Rattle.gs_totals.specs.{ClassTotals.{total_worth}, Ledgers.{frame_in, lists_in, totals_in}, Merged.{AreGathered}, Rows.{IsLaterRow, IsRowOf}};
 
-use crate::above::class_above;
 use crate::reading::Reading;
-use gs_best::{class_total, end_round, round_at, round_total, target_at};
+use gs_best::{class_above, class_total, end_round, round_at, round_total, target_at};
 use gs_game::Target;
 use gs_seq::{Abstract, plus};
 

@@ -48,7 +48,7 @@ inside c =
 
 pays_is : (c : After-pays) → to_z w64 (of_z w64 c.pays.result) ≡ pair_pays 1 (end_at (frame_of c.args.form.now) c.args.end) c.in-Some.pair
 pays_is c =
-    let fits : FitsSigned w64 c.pays.result = search rules in to_z-of_z {w = w64} {z = c.pays.result} fits ∙ c.pays.ensures ∙ ap (λ e. pair_pays 1 e c.in-Some.pair) c.end_by-at.ensures
+    let fits : FitsSigned w64 c.pays.result = search rules in to_z-of_z {w = w64} {z = c.pays.result} fits ∙ c.pays.ensures ∙ ap (λ e. pair_pays 1 e c.in-Some.pair) c.end_in-at.ensures.value
 
 pub loop-pair-init : goal.loop-pair-init
 loop-pair-init c =

@@ -3,7 +3,7 @@ use Rattle.gs_lossless.specs.declared.checking.Lossless.{Lossless}
 use Rattle.gs_seq.specs.Abstracts.{frame_of}
 use Rattle.gs_seq.specs.Sources.{IsClassAbove}
 use Rattle.gs_best.proofs.Forms.{form_in_range}
-use Rattle.gs_totals.proofs.above.class_above.Goals as goal
+use Rattle.gs_best.proofs.form.class_above.Goals as goal
 
 pub returns-clause-value : goal.returns-clause-value
 returns-clause-value c =
