@@ -11,7 +11,6 @@ use Rattle.gs_model.specs.Frame.{Frame, choices_at, end_count, leads_to, move_co
 use Rattle.gs_model.specs.FrameFacts.{IsFrom, IsInside, IsWalked, ends_of, next_of, points_of}
 use Rattle.gs_model.specs.Positions.{Target, at_end, at_point}
 use Rattle.gs_model.proofs.FirstBest.{one_choice, sum-same_range}
-use Rattle.gs_model.proofs.Sparse.{range_append}
 use Rattle.gs_seq.proofs.ClassRows.{sum_by-map}
 use Rattle.gs_seq.proofs.SlotLaws.{not_eq, sum_range_more}
 
@@ -44,16 +43,6 @@ range_add f g (suc n) =
       sum_range_more f n,
       sum_range_more g n,
       range_add f g n,
-    )
-
-pub prefix_le : (f : ℕ → ℕ) (m n : ℕ) → m ≤ n → sum_by f (range_with_len 0 m) ≤ sum_by f (range_with_len 0 n)
-prefix_le f m n l =
-    let e : n ≡ m + (n - m) = omega arith in
-    omega (
-      arith,
-      ap (λ k. sum_by f (range_with_len 0 k)) e,
-      ap (sum_by f) (range_append 0 m (n - m)),
-      sum_by-append f (range_with_len 0 m) (range_with_len (0 + m) (n - m)),
     )
 
 pub ones_are : {X : Type 0} (xs : List X) → sum_by (λ (x : X). 1) xs ≡ length xs

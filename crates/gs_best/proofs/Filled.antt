@@ -32,23 +32,6 @@ pub by_class : {A : Type 0} (F : ℕ → A) (row : List A) (n : ℕ) (d : A) →
     → get_or row (c - 1) d ≡ F c
 by_class F row n d h c some top = let e : c - 1 + 1 ≡ c = omega arith in h (c - 1) (omega arith) ∙ ap F e
 
--- copies from a place on
-pub copy_more : {A : Type 0} (row values : List A) (start i : ℕ) (v d : A) → start + i < length values → v ≡ get_or row i d
-    → ((k : ℕ) → k < i → get_or values (start + k) d ≡ get_or row k d)
-    → (k : ℕ) → k < i + 1 → get_or (set values (start + i) v) (start + k) d ≡ get_or row k d
-copy_more row values start i v d l e h k lk = ⊎_elim
-    (λ (same : k ≡ i). get_or-set_at values (start + i) (start + k) v d (omega arith) l ∙ e ∙ ap (λ j. get_or row j d) (sym same))
-    (λ (other : k ≡ i → ⊥). get_or-set_other values (start + i) (start + k) v d (λ w. other (omega arith)) ∙ h k (omega arith))
-    (cases_eq k i)
-
-pub copy_before : {A : Type 0} (values old : List A) (start i : ℕ) (v d : A) → ((k : ℕ) → k < start → get_or values k d ≡ get_or old k d) → (k : ℕ)
-    → k < start → get_or (set values (start + i) v) k d ≡ get_or old k d
-copy_before values old start i v d h k lk = get_or-set_other values (start + i) k v d (λ w. omega arith) ∙ h k lk
-
-pub copy_behind : {A : Type 0} (values old : List A) (start i : ℕ) (v d : A) → ((k : ℕ) → start + i ≤ k → get_or values k d ≡ get_or old k d)
-    → (k : ℕ) → start + (i + 1) ≤ k → get_or (set values (start + i) v) k d ≡ get_or old k d
-copy_behind values old start i v d h k lk = get_or-set_other values (start + i) k v d (λ w. omega arith) ∙ h k (omega arith)
-
 -- what was written through a slice of a list
 pub written : {A : Type 0} (n : ℕ) (xs ys : List A) → length xs ≡ n → take n (xs ++ ys) ≡ xs
 written zero [] ys e = refl

@@ -7,10 +7,9 @@ use Rattle.std.proofs.lemmas.List.{get_or-append-add, get_or-drop, get_or-take, 
 use Rattle.gs_model.specs.Classes.{ClassLists, IsClass}
 use Rattle.gs_model.specs.Frame.{Frame, player_at, round_of}
 use Rattle.gs_model.specs.Positions.{at_point}
-use Rattle.gs_seq.proofs.SlotLaws.{not_eq, sum_range_more}
+use Rattle.gs_seq.proofs.SlotLaws.{not_eq, sum_range_le, sum_range_more}
 use Rattle.gs_best.specs.Answers.{choices_before}
 use Rattle.gs_best.specs.Tables.{classes_at, moves_of, start_of}
-use Rattle.gs_best.proofs.Below.{prefix_le}
 
 module _ (f : Frame) (lists : ClassLists) (player : ℕ) where
   abbrev choices_at_point : ℕ → ℕ
@@ -26,7 +25,7 @@ module _ (f : Frame) (lists : ClassLists) (player : ℕ) where
       omega (arith, sum_range_more choices_at_point q, e)
 
   pub choices_le : (m n : ℕ) → m ≤ n → choices_before f lists player m ≤ choices_before f lists player n
-  choices_le m n l = prefix_le choices_at_point m n l
+  choices_le m n l = sum_range_le choices_at_point m n l
 
   -- the choices at the points before one are listed
   abbrev pub AreListed : List ℕ → List ℕ → ℕ → Type 0

@@ -3,8 +3,7 @@ use Rattle.std.proofs.Common.{◌≡◌, ℕ, zero, suc, ◌+◌, ◌-◌, ◌<�
 use Rattle.std.specs.List.{range_with_len}
 use Rattle.std.proofs.lemmas.Bool.{cases_lt}
 use Rattle.std.proofs.lemmas.List.{get_or_read}
-use Rattle.gs_seq.proofs.SlotLaws.{sum_range_more}
-use Rattle.gs_best.proofs.Below.{prefix_le}
+use Rattle.gs_seq.proofs.SlotLaws.{sum_range_le, sum_range_more}
 
 -- behind all rows before it
 abbrev pub row_start : (ℕ → ℕ) → ℕ → ℕ
@@ -21,7 +20,7 @@ pub row_read : (width : ℕ → ℕ) (n q start count : ℕ) (starts : List ℕ)
     → start ≡ get_or starts q start → count ≡ width q → IsRow width n q start count
 row_read width n q start count starts l many all read e =
     let at : start ≡ row_start width q = get_or_read starts q start (omega (arith, l, many)) read 0 ∙ all q l in
-    record { start_is = at; count_is = e; within = omega (arith, at, e, sum_range_more width q, prefix_le width (q + 1) n (omega (arith, l))) }
+    record { start_is = at; count_is = e; within = omega (arith, at, e, sum_range_more width q, sum_range_le width (q + 1) n (omega (arith, l))) }
 
 -- the next row starts where it ends
 pub row_next : (width : ℕ → ℕ) (q start count : ℕ) → start ≡ row_start width q → count ≡ width q → start + count ≡ row_start width (q + 1)
@@ -29,11 +28,11 @@ row_next width q start count at e = omega (arith, at, e, sum_range_more width q)
 
 -- a later row starts behind
 pub row_later : (width : ℕ → ℕ) (q start count later : ℕ) → start ≡ row_start width q → count ≡ width q → q < later → start + count ≤ row_start width later
-row_later width q start count later at e l = omega (arith, at, e, sum_range_more width q, prefix_le width (q + 1) later (omega (arith, l)))
+row_later width q start count later at e l = omega (arith, at, e, sum_range_more width q, sum_range_le width (q + 1) later (omega (arith, l)))
 
 -- the place of a number of a row lies before any later row
 pub place_inside : (width : ℕ → ℕ) (later q c : ℕ) → q < later → (0 < c) × (c ≤ width q) → row_start width q + (c - 1) < row_start width later
-place_inside width later q c l lc = omega (arith, sum_range_more width q, prefix_le width (q + 1) later (omega (arith, l)), lc.0, lc.1)
+place_inside width later q c l lc = omega (arith, sum_range_more width q, sum_range_le width (q + 1) later (omega (arith, l)), lc.0, lc.1)
 
 -- what holds at each place of each row holds at all places
 pub all_places : (width : ℕ → ℕ) (P : ℕ → Type 0) (n : ℕ) → ((q k : ℕ) → q < n → k < width q → P (row_start width q + k)) → (i : ℕ) → i < row_start width n

@@ -25,7 +25,8 @@ use Rattle.gs_model.proofs.RawBound.{All-range}
 use Rattle.gs_model.proofs.Tables.{is_table}
 use Rattle.gs_best.specs.Tables.{IsBestFrom}
 use Rattle.gs_seq.proofs.RowFacts.{abs_all}
-use Rattle.gs_best.proofs.Below.{below_end, below_le, below_point, ends_below, prefix_le}
+use Rattle.gs_seq.proofs.SlotLaws.{sum_range_le}
+use Rattle.gs_best.proofs.Below.{below_end, below_le, below_point, ends_below}
 use Rattle.gs_best.proofs.Chips.{IsModest, product_le}
 use Rattle.gs_best.proofs.Weights.{own_le, own_weight, weight_alike, weight_all, weight_below}
 
@@ -258,7 +259,7 @@ module _ (f : Frame) (r : InRange f) (lists : ClassLists) (k : IsClasses f.paren
         let h = moves_le v q c n lq ln lc (λ m e lm le. value_le (point_count f) (q + 1) (leads_to f q m) e (omega arith) lo (w.inside q m lq lm)
         (w.later q m lq lm) le) in
         let few : sum_by (λ m. ends_below f (leads_to f q m)) (range_with_len 0 n) ≤ 8192 =
-        omega (arith, prefix_le (λ m. ends_below f (leads_to f q m)) n (move_count f q) ln, below_point f p w q lq, below_few (at_point q) lq) in
+        omega (arith, sum_range_le (λ m. ends_below f (leads_to f q m)) n (move_count f q) ln, below_point f p w q lq, below_few (at_point q) lq) in
         omega (
           arith,
           h,

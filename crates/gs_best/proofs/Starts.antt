@@ -9,17 +9,17 @@ use Rattle.gs_seq.specs.Abstracts.{frame_of, lists_of}
 use Rattle.gs_seq.specs.Slots.{slots_at}
 use Rattle.gs_seq.specs.declared.form.Abstract.{Abstract}
 use Rattle.gs_seq.proofs.Points.{players}
-use Rattle.gs_seq.proofs.SlotLaws.{sum_range_more}
+use Rattle.gs_seq.proofs.SlotLaws.{sum_range_le, sum_range_more}
 use Rattle.gs_best.specs.Forms.{game_in}
 use Rattle.gs_best.specs.Tables.{classes_at, start_of}
-use Rattle.gs_best.proofs.Below.{prefix_le, range_add, range_le}
+use Rattle.gs_best.proofs.Below.{range_add, range_le}
 use Rattle.gs_best.proofs.Forms.{form_moves}
 
 pub starts_more : (f : Frame) (lists : ClassLists) (q : ℕ) → start_of f lists (q + 1) ≡ start_of f lists q + classes_at f lists q
 starts_more f lists q = sum_range_more (classes_at f lists) q
 
 pub starts_le : (f : Frame) (lists : ClassLists) (m n : ℕ) → m ≤ n → start_of f lists m ≤ start_of f lists n
-starts_le f lists m n l = prefix_le (classes_at f lists) m n l
+starts_le f lists m n l = sum_range_le (classes_at f lists) m n l
 
 -- the place of a class of a point lies before the next point, and so before any later one
 pub place_before : (f : Frame) (lists : ClassLists) (q c later : ℕ) → IsClass lists (round_of f (at_point q)) c → q < later

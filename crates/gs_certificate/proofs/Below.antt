@@ -37,9 +37,6 @@ module _ (f : Frame) (lists : ClassLists) (v : Values) (q : ℕ) where
     pub above : (m : ℕ) → m < moves → AreAbove (leads_to f q m) low
     pub below : low < count → (m : ℕ) × (m < moves) × (v (at_point q) (low + 1) <ℤ class_worth f lists v q m (low + 1))
 
-  pub none_yet : (count : ℕ) → IsLeast 0 count count
-  none_yet count = record { within = omega arith; above = λ m l. absurd (omega arith); below = λ l. absurd (omega arith) }
-
   pub one_move : (n count low next : ℕ) (t : Target) → t ≡ leads_to f q n → IsLeast n count low → IsFirstBelow f lists v q t low next
       → IsLeast (n + 1) count next
   one_move n count low next t e h k =

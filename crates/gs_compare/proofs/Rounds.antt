@@ -8,9 +8,6 @@ module _ {X Y : Type 0} (f : X → Y) (xs ys : List X) where
   abbrev pub Same : ℕ → Type 0
   Same n = (k : ℕ) (d : Y) → k < n → get_or (map f xs) k d ≡ get_or (map f ys) k d
 
-  pub same_none : Same 0
-  same_none k d l = absurd (omega arith)
-
   pub same_more : (n : ℕ) (x y : X) → n < length xs → n < length ys → x ≡ get_or xs n x → y ≡ get_or ys n y → f x ≡ f y → Same n → Same (n + 1)
   same_more n x y lx ly ix iy e h k d l = ⊎_elim
       (λ (here : k ≡ n). subst (λ v. get_or (map f xs) v d ≡ get_or (map f ys) v d) (sym here)

@@ -62,7 +62,7 @@ pub(crate) fn first_apart(
     let mut firsts = Vec::new(alloc);
     let mut kept = empty_lists(alloc, classes.classes(round))?;
     for signal in 0..end {
-        firsts = stand_ins_at(alloc, firsts, signal, signals, side, round, &keys)?;
+        firsts = stand_ins_at(alloc, signals, round, &keys, signal, firsts)?;
         if has_earlier(&firsts, signal) {
             continue;
         }

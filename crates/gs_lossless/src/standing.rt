@@ -1,32 +1,32 @@
 //! Signals that an earlier one stands for: it is of their class and has their sums.
 
 ghost use Rattle.std.specs.Prelude.{◌≡◌, ◌<◌, IfOk, IsTrue, get_or, length};
-ghost use Rattle.gs_model.specs.{Classes.{ClassLists}, Frame.{frame_of}};
-ghost use Rattle.gs_tree.specs.Trees.{rules_of};
-ghost use Rattle.gs_lossless.specs.{Amounts.{HasSide, key_count, keys_of}, Scans.{StandFor}};
+ghost use Rattle.gs_model.specs.{Classes.{ClassLists}, Frame.{frame_of}, Game.{round_count}};
+ghost use Rattle.gs_tree.specs.{Trees.{rules_of}, Walk.{last_count}};
+ghost use Rattle.gs_lossless.specs.{Amounts.{HasSide, keys_of}, Scans.{StandFor}};
+ghost use Rattle.gs_lossless.specs.declared.sides.Side.{Side};
 
-use crate::sides::Side;
 use gs_alike::stand_ins;
 use gs_tree::Signals;
 use std::alloc::{AllocError, Global};
 
-/// How many signals are looked at before stand-ins are asked for: most signals that differ are found among so many.
+/// How many signals are looked at before stand-ins are asked for: where a signal differs from the first member of its class early in the last round,
+/// listing them would take longer than what they save.
 const SOON: u32 = 4096;
 
 /// The stand-ins that are listed when a signal is reached. In the last round they are made at one signal, for each signal of the round one that stands for
 /// it, no later than itself: it sees the same deals. Until then, and in a round before the last, they stay what they were.
 pub(crate) fn stand_ins_at(
     alloc: Global,
-    listed: Vec<u32>,
-    signal: u32,
     signals: &Signals,
-    side: Side,
     round: u8,
     keys: &[u32],
+    signal: u32,
+    listed: Vec<u32>,
 ) -> Result<Vec<u32>, AllocError>
-    requires side { HasSide (frame_of (rules_of signals.now)) side round }
-    requires all { length keys.now ≡ key_count (rules_of signals.now) side round }
-    ensures { IfOk result (λ v. (lists : ClassLists) → keys.now ≡ keys_of (frame_of (rules_of signals.now)) lists side round
+    requires { round ≡ round_count (rules_of signals.now) → length keys.now ≡ last_count (rules_of signals.now) }
+    ensures { IfOk result (λ v. (side : Side) (lists : ClassLists) → HasSide (frame_of (rules_of signals.now)) side round
+        → keys.now ≡ keys_of (frame_of (rules_of signals.now)) lists side round
         → StandFor (frame_of (rules_of signals.now)) lists side round listed.items
         → StandFor (frame_of (rules_of signals.now)) lists side round v.items) }
 {

@@ -32,9 +32,6 @@ use Rattle.gs_raw.specs.Lifts.{AreSame, AreSpreadBefore, IsSpreadBehind}
 
 -- ---- the signals of a point
 
-pub spread_none : (f : Frame) (lists : ClassLists) (q : ℕ) (weights before : List ℕ) → IsSpreadBehind f lists q 0 weights before before
-spread_none f lists q weights before = record { long = omega arith; kept = λ k l. refl; row = λ s m ls lm. absurd (omega arith) }
-
 -- one signal more
 pub spread_more : (f : Frame) (lists : ClassLists) (q s start moves : ℕ) (weights before mid after : List ℕ) → moves ≡ move_count f q
     → start ≡ slot_of f lists q (class_of lists (round_of f (at_point q)) s) 0

@@ -28,7 +28,8 @@ sum_range_more f n =
     let zero_on : 0 + n ≡ n = omega arith in
     omega (arith, ap (sum_by f) (range_append 0 n 1), sum_by-append f (range_with_len 0 n) (range_with_len (0 + n) 1), sum_by-cons f (0 + n) [], ap f zero_on)
 
-sum_range_le : (f : ℕ → ℕ) (m n : ℕ) → m ≤ n → sum_by f (range_with_len 0 m) ≤ sum_by f (range_with_len 0 n)
+-- a longer range has no smaller sum
+pub sum_range_le : (f : ℕ → ℕ) (m n : ℕ) → m ≤ n → sum_by f (range_with_len 0 m) ≤ sum_by f (range_with_len 0 n)
 sum_range_le f m n l =
     let e : n ≡ m + (n - m) = omega arith in
     omega (

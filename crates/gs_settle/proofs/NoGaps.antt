@@ -18,9 +18,6 @@ use Rattle.gs_rows.proofs.Ring.{cancel_nonneg, linear, ring, times_nonneg, times
 positive : (n : ℕ) → 0 < n → pos 0 <ℤ pos n
 positive n some = omega (arith, ints)
 
-at_least : (n : ℕ) → pos 0 ≤ℤ pos n
-at_least n = omega (arith, ints)
-
 -- a plan z that gains num over den, where none gains anything
 not_above : (D X Z W p q num : ℤ) → pos 0 <ℤ D → pos 0 <ℤ Z → pos 0 <ℤ W → (D *ℤ X) *ℤ q ≡ Z *ℤ (D *ℤ p +ℤ num *ℤ W) → (X *ℤ q) ≤ℤ (Z *ℤ p)
     → pos 0 ≤ℤ neg_ℤ num

@@ -6,8 +6,7 @@ use Rattle.gs_model.specs.Frame.{Frame, end_count, round_of}
 use Rattle.gs_model.specs.Positions.{at_end}
 use Rattle.gs_seq.specs.Abstracts.{frame_of, lists_of}
 use Rattle.gs_seq.specs.declared.form.Abstract.{Abstract}
-use Rattle.gs_seq.proofs.SlotLaws.{sum_range_more}
-use Rattle.gs_best.proofs.Below.{prefix_le}
+use Rattle.gs_seq.proofs.SlotLaws.{sum_range_le, sum_range_more}
 use Rattle.gs_best.proofs.Forms.{form_class_few, form_modest, form_walked}
 use Rattle.gs_seq.specs.Payoffs.{end_classes}
 use Rattle.gs_totals.specs.Places.{end_start}
@@ -16,7 +15,7 @@ pub end_starts_more : (f : Frame) (lists : ClassLists) (z : ℕ) → end_start f
 end_starts_more f lists z = sum_range_more (end_classes f lists) z
 
 pub end_starts_le : (f : Frame) (lists : ClassLists) (m n : ℕ) → m ≤ n → end_start f lists m ≤ end_start f lists n
-end_starts_le f lists m n l = prefix_le (end_classes f lists) m n l
+end_starts_le f lists m n l = sum_range_le (end_classes f lists) m n l
 
 module _ (a : Abstract) (sound : IsSound a.lossless.now.classes.now) where
   end_starts_by : (z : ℕ) → z ≤ end_count (frame_of a) → end_start (frame_of a) (lists_of a) z ≤ z * 200000

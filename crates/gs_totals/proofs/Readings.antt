@@ -5,9 +5,9 @@ use Rattle.gs_model.specs.BestAnswers.{Values}
 use Rattle.gs_model.specs.Classes.{IsClass, class_count}
 use Rattle.gs_model.specs.Frame.{end_count, leads_to, move_count, point_count, round_of}
 use Rattle.gs_model.specs.Positions.{Target, at_end, at_point}
+use Rattle.gs_seq.proofs.SlotLaws.{sum_range_le}
 use Rattle.gs_best.specs.Sizes.{IsWide}
 use Rattle.gs_best.specs.Tables.{classes_at, start_of}
-use Rattle.gs_best.proofs.Below.{prefix_le}
 use Rattle.gs_best.proofs.Placed.{IsRow, row_next}
 use Rattle.gs_best.proofs.Sides.{side_walked}
 use Rattle.gs_totals.specs.Ledgers.{frame_in, lists_in, totals_in}
@@ -31,7 +31,7 @@ row_at at =
       within = omega (
         arith,
         row_next width at.point at.start at.count at.start_is at.count_is,
-        prefix_le width (at.point + 1) (point_count (frame_in at.ledger)) (omega (arith, at.inside)),
+        sum_range_le width (at.point + 1) (point_count (frame_in at.ledger)) (omega (arith, at.inside)),
       );
     }
 

@@ -24,16 +24,6 @@ none_followed f lists player v move from h = record {
   at_others = λ q c lo l. absurd (omega arith);
 }
 
-pub none_best : (f : Frame) (lists : ClassLists) (player : ℕ) (v : Values) (move : ℕ → ℕ → ℕ) (from : ℕ) → point_count f ≤ from
-    → AreBestFrom f lists player v move from
-none_best f lists player v move from h = record {
-  followed = none_followed f lists player v move from h;
-  greatest = record {
-    none_more = λ q m c lo l. absurd (omega arith);
-    none_before = λ q m c lo l. absurd (omega arith);
-  };
-}
-
 -- and at last all are
 pub all_followed : (f : Frame) (lists : ClassLists) (player : ℕ) (y : Plan) (values : List ℤ) (move : ℕ → ℕ → ℕ)
     → IsFollowedFrom f lists player (totals_of f lists player y values) move 0 → IsFollowed f lists player y (totals_of f lists player y values) move

@@ -8,7 +8,7 @@ use Rattle.std.proofs.lemmas.Bool.{cases_eq}
 use Rattle.std.proofs.lemmas.Bool.Decides.{Decides-eqb}
 use Rattle.std.proofs.lemmas.Int.{ints, unsigned_abs-mul}
 use Rattle.std.proofs.lemmas.List.Elements.{All-head, All-tail}
-use Rattle.std.proofs.lemmas.List.Sums.{sum_by-append, sum_by-cons}
+use Rattle.std.proofs.lemmas.List.Sums.{sum_by-cons}
 use Rattle.std.proofs.lemmas.List.FromFn.{get_or-range_with_len, length-range_with_len}
 use borrow.Author.Differences.{abs_is}
 use Rattle.gs_model.specs.BestAnswers.{Values, end_worth}
@@ -29,7 +29,6 @@ use Rattle.gs_model.proofs.Lift.{one_guard}
 use Rattle.gs_model.proofs.PlanLaws.{numbers_within}
 use Rattle.gs_model.proofs.RawBound.{range_once}
 use Rattle.gs_model.proofs.Regroup.{sum_z-pos}
-use Rattle.gs_model.proofs.Sparse.{range_append}
 use Rattle.gs_model.proofs.Tables.{is_table}
 use Rattle.gs_model.proofs.Total.{sum_z-regroup, sum_z-same, sum_z-same_all}
 use Rattle.gs_seq.specs.Payoffs.{end_sum}
@@ -74,16 +73,6 @@ few_over f g (x ∷ xs) h = omega (
 tested_few : (b : Bool) (w n t : ℕ) → n ≤ t → cond b (w * n) 0 ≤ t * w
 tested_few true w n t l = omega (arith, mul-le-mul_left w l)
 tested_few false w n t l = omega arith
-
-some_first : (f : ℕ → ℕ) (m n : ℕ) → m ≤ n → sum_by f (range_with_len 1 m) ≤ sum_by f (range_with_len 1 n)
-some_first f m n l =
-    let e : n ≡ m + (n - m) = omega arith in
-    omega (
-      arith,
-      ap (λ k. sum_by f (range_with_len 1 k)) e,
-      ap (sum_by f) (range_append 1 m (n - m)),
-      sum_by-append f (range_with_len 1 m) (range_with_len (1 + m) (n - m)),
-    )
 
 tested_sum : {X : Type 0} (b : Bool) (g : X → ℕ) (xs : List X) → sum_by (λ x. cond b (g x) 0) xs ≡ cond b (sum_by g xs) 0
 tested_sum true g xs = refl

@@ -1,19 +1,16 @@
 -- From what the callees say to what each status says.
-use Rattle.std.proofs.Common.{◌≡◌, inl, inr, ℕ, ◌+◌, true, false, Bool, List, [], length, Result, Ok, Err, Some, None, Option, Vec, Global, refl, sym, subst, arith}
+use Rattle.std.proofs.Common.{◌≡◌, inl, inr, ℕ, ◌+◌, true, false, Bool, List, [], length, Result, Ok, Err, Some, None, Option, refl, sym, subst, arith}
 use Rattle.std.proofs.Math.Seq.{take-length}
 use Rattle.std.specs.Io.KnownBytes.{Consumes}
 use Rattle.gs_answer.specs.Asking.{reads}
-use Rattle.gs_io.specs.Causes.{Rose}
 use Rattle.gs_io.specs.Moves.{TookPrefix, WritesAll}
 use Rattle.gs_io.specs.declared.ReadStop.TheVariants as read_stop
 use Rattle.gs_io.specs.declared.WriteStop.{WriteStop}
 use Rattle.gs_io.specs.declared.WriteStop.TheVariants as write_stop
-use Rattle.gs_reply.specs.declared.answers.Cause.{Cause}
 use Rattle.gs_reply.specs.declared.answers.Cause.TheVariants as cause
 use Rattle.gs_words.specs.Requests.{request_of}
 use Rattle.gs_words.specs.Tasks.{Task}
-use Rattle.shrink_cli.specs.Running.{Ends, RunsTo, Inputs, IsRefused, ReadsInput, TookInput, most_bytes}
-use Rattle.shrink_cli.specs.Statuses.{status_of}
+use Rattle.shrink_cli.specs.Running.{Ends, Inputs, ReadsInput, TookInput, most_bytes}
 use Rattle.shrink_cli.specs.Told.{TellsTo}
 
 -- ---- the errors' end
@@ -39,11 +36,6 @@ none_taken words old new e = record {
   unread = inl e;
 }
 
-pub fault_reads : (b : Bool) (old new : Option (List ℕ)) (before now : ℕ) → ReadsInput b old new before now (Err read_stop.Fault)
-    → (b ≡ true) × (TookPrefix (most_bytes + 1) old new × Rose before now)
-fault_reads true old new before now h = (refl, h)
-fault_reads false old new before now h = absurd h
-
 pub too_long : (b : Bool) (old new : Option (List ℕ)) (before now : ℕ) → ReadsInput b old new before now (Err read_stop.TooLong)
     → (b ≡ true) × ((bytes : List ℕ) × Consumes old new bytes × (length bytes ≡ most_bytes + 1)) × (now ≡ before)
 too_long true old new before now h = (refl, h.0, h.1)
@@ -54,29 +46,9 @@ pub no_room : (words : List (List ℕ)) (task : Task) (b : Bool) (old new : Ends
 no_room words task true old new asked e h = (record { front = h.0; unread = inr (task, asked, e) }, h.1)
 no_room words task false old new asked e h = absurd h
 
-pub inputs : (b : Bool) (old new : Ends) (v : Vec ℕ Global) → ReadsInput b old.left new.left old.read_faults new.read_faults (Ok v) → Inputs b old new v.items
-inputs true old new v h = record { taken = h.0; end = h.1; few = h.2; faults = h.3 }
-inputs false old new v h = (h.0, (h.1, h.2))
-
 -- an input is a front of what was left
 pub taken : (words : List (List ℕ)) (task : Task) (b : Bool) (old new : Ends) (bytes : List ℕ) → request_of words ≡ Some task → reads task ≡ b
     → Inputs b old new bytes
     → TookInput words old new × (new.read_faults ≡ old.read_faults)
 taken words task true old new bytes asked e h = (record { front = (bytes, h.taken, omega (arith, h.few)); unread = inr (task, asked, e) }, h.faults)
 taken words task false old new bytes asked e h = (none_taken words old new h.1.0, h.1.1)
-
--- ---- refusals
-
--- an answer that refuses is told by its own status
-pub refused_runs : (words : List (List ℕ)) (old new : Ends) (task : Task) (kind : Cause) → request_of words ≡ Some task
-    → IsRefused task old new (status_of kind) → RunsTo words old new (status_of kind)
-refused_runs words old new task cause.BadGame asked h = (task, asked, h)
-refused_runs words old new task cause.Unlike asked h = (task, asked, h)
-refused_runs words old new task cause.Overflow asked h = (task, asked, h)
-refused_runs words old new task cause.PivotLimit asked h = (task, asked, h)
-refused_runs words old new task cause.TooLarge asked h = (task, asked, h)
-refused_runs words old new task cause.BadStrategy asked h = (task, asked, h)
-refused_runs words old new task cause.WrongNumbers asked h = (task, asked, h)
-refused_runs words old new task cause.BadQuery asked h = (task, asked, h)
-refused_runs words old new task cause.OtherGame asked h = (task, asked, h)
-refused_runs words old new task cause.BadCertificate asked h = (task, asked, h)

@@ -6,6 +6,7 @@ use Rattle.gs_tree.specs.Trees.{rules_of}
 use Rattle.gs_lossless.specs.Amounts.{Agree, AreAmounts, key_count, keys_of}
 use Rattle.gs_lossless.specs.Scans.{StandFor, StoredBelow}
 use Rattle.gs_lossless.specs.declared.parts.Part.{Part}
+use Rattle.gs_lossless.proofs.Alike.{last_keys}
 use Rattle.gs_lossless.proofs.Descent.{keys_long, last_is, list_long, playable}
 use Rattle.gs_lossless.proofs.Scanned.{agree_more, agree_self, side_in, stored_first, stored_later, stored_single, stood_agrees, stood_later}
 use Rattle.gs_lossless.proofs.Settled.{first_le, agree_if_same, same_if_agree, single_agrees}
@@ -34,13 +35,14 @@ many c keys is =
     ap (λ (l : List ℕ). length l) (is ∙ c.in_ok-keys.ensures)
     ∙ keys_long (rules_of c.args.grouped.now.signals.now) c.args.grouped.now.classes.now c.args.grouped.now.parents c.rounds-rounds.ensures.sound (playable c.args.grouped.now.signals.now) c.args.side c.args.round c.requires.side
 
-pub stand_ins_at-requires-clause-all : goal.stand_ins_at-requires-clause-all
-stand_ins_at-requires-clause-all c = many (goal.at.stand_ins_at-requires-clause-all c).In_ok-keys c.deref.result.now c.deref.ensures.value
+pub stand_ins_at-requires : goal.stand_ins_at-requires
+stand_ins_at-requires c last = last_keys (rules_of c.args.grouped.now.signals.now) c.args.side c.args.round (length c.deref.result.now) c.requires.side last
+    (many (goal.at.stand_ins_at-requires c).In_ok-keys c.deref.result.now c.deref.ensures.value)
 
 -- what is listed stands for signals, whether it was listed before or is only now
 standing : (c : In_ok-firsts) → let f = frame_of (rules_of c.args.grouped.now.signals.now) in
     (lists : ClassLists) → c.in_ok-keys.keys.items ≡ keys_of f lists c.args.side c.args.round → StandFor f lists c.args.side c.args.round c.in_ok-firsts.firsts.items
-standing c lists keys = c.in_ok-firsts.ensures lists (c.deref.ensures.value ∙ keys) (c.loop-signal.invariant.stand lists keys)
+standing c lists keys = c.in_ok-firsts.ensures c.args.side lists c.requires.side (c.deref.ensures.value ∙ keys) (c.loop-signal.invariant.stand lists keys)
 
 pub side_sums-requires-clause-all : goal.side_sums-requires-clause-all
 side_sums-requires-clause-all c = many (goal.at.side_sums-requires-clause-all c).In_ok-keys c.deref-in-loop-signal-2.result.now c.deref-in-loop-signal-2.ensures.value

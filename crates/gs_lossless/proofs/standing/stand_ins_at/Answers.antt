@@ -1,18 +1,17 @@
-use Rattle.std.proofs.Common.{◌∙◌, length}
+use Rattle.std.proofs.Common.{◌∙◌}
 use Rattle.std.proofs.lemmas.Result.{IfOk-weaker}
 use Rattle.gs_tree.specs.Trees.{rules_of}
 use Rattle.gs_alike.specs.Alike.{AreStandIns}
-use Rattle.gs_lossless.proofs.Alike.{firsts_of_deals, last_keys}
+use Rattle.gs_lossless.proofs.Alike.{firsts_of_deals}
 use Rattle.gs_lossless.proofs.Descent.{playable}
 use Rattle.gs_lossless.proofs.standing.stand_ins_at.Goals as goal
 
 pub stand_ins-requires : goal.stand_ins-requires
-stand_ins-requires c =
-    last_keys (rules_of c.args.signals.now) c.args.side c.args.round (length c.args.keys.now) c.requires.side (c.if-round-rounds.true ∙ c.rounds.ensures.value) c.requires.all
+stand_ins-requires c = c.requires (c.if-round-rounds.true ∙ c.rounds.ensures.value)
 
 pub returns-then-round-rounds : goal.returns-then-round-rounds
 returns-then-round-rounds c =
     let g = rules_of c.args.signals.now in
     IfOk-weaker c.stand_ins.result (λ v. AreStandIns g c.args.keys.now v.items) _
-    (λ v h lists e was some. firsts_of_deals g (playable c.args.signals.now) c.args.side c.args.round c.requires.side (c.if-round-rounds.true ∙ c.rounds.ensures.value) lists c.args.keys.now v.items e h)
+    (λ v h side lists has e was some. firsts_of_deals g (playable c.args.signals.now) side c.args.round has (c.if-round-rounds.true ∙ c.rounds.ensures.value) lists c.args.keys.now v.items e h)
     c.stand_ins.ensures
