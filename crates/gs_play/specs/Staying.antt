@@ -7,8 +7,8 @@ use Rattle.gs_model.specs.Plans.{Plan, lift}
 use Rattle.gs_totals.specs.Jumps.{AreBeforeChange}
 use Rattle.gs_totals.specs.PlanSums.{AreAlike, plus_times}
 use Rattle.gs_totals.specs.declared.places.Totals.{Totals}
-use Rattle.gs_play.specs.Roles.{frame_in, lists_in, moves_in, totals_in}
-use Rattle.gs_play.specs.declared.role.Role.{Role}
+use Rattle.gs_totals.specs.Roles.{frame_in, lists_in, moves_in, totals_in}
+use Rattle.gs_totals.specs.declared.role.Role.{Role}
 use Rattle.gs_play.specs.declared.seats.Seat.{Seat}
 
 -- an answer is the first best one for so many turns, in each of which `more` is added to the other's plan y

@@ -1,23 +1,21 @@
 //! What each player holds while the turns go on.
 
 ghost use Rattle.std.specs.Prelude.{◌≡◌, ◌↔◌, IsTrue, false, ◌+◌, ◌<◌, ◌≤◌, ◌^◌, IfOk, length};
-ghost use Rattle.gs_filter.specs.Filter.{IsSound};
-ghost use Rattle.gs_model.specs.{Classes.{IsClass}, Frame.{end_count, other_player, point_count, round_of}, Play.{IsFirstMoves}, Positions.{at_end}};
+ghost use Rattle.gs_model.specs.{Frame.{other_player, point_count}, Play.{IsFirstMoves}};
 ghost use Rattle.gs_seq.specs.{Abstracts.{frame_of, lists_of}, Plans.{IsPlanOf, class_plan}, Slots.{plan_of, slot_count}};
 ghost use Rattle.gs_best.specs.{Puts.{ArePutBefore}, Tables.{AreInMoves, start_of}};
 ghost use Rattle.gs_totals.specs.{ClassTotals.{AreBestTotals}, PlanSums.{AreAlike, plus_times}};
 ghost use Rattle.gs_totals.specs.Places.{AreEndLines, AreEndSums, ArePointLines, AreSmallPoints, AreSmallRows};
 ghost use Rattle.gs_totals.specs.Room.{HasRows, HasScratch};
-ghost use Rattle.gs_play.specs.Roles.{ArePaid, IsOthers, frame_in, lists_in, moves_in, plan_in, totals_in};
+ghost use Rattle.gs_totals.specs.Roles.{ArePaid, IsOthers, frame_in, lists_in, moves_in, plan_in, totals_in};
 ghost use Rattle.gs_play.specs.{Seats.{HasAnswered, HasRises, HasRoom, IsSeat}, Staying.{AnswerStays, ChoicesStay}};
 
 use crate::adding::add_times;
-use crate::role::Role;
 use gs_best::{Deviator, round_total};
 use gs_seq::{Abstract, Plan};
 use gs_totals::{
-    Course, Ledger, Scratch, Totals, advance, fill, follow, lasting, picks_for, put_all, read_ends,
-    renew_ends,
+    Course, Ledger, Role, Scratch, Totals, advance, fill, follow, lasting, picks_for, put_all,
+    read_ends, renew_ends,
 };
 use std::alloc::{AllocError, Global};
 use std::mem::swap;
@@ -248,11 +246,9 @@ fn lasts(
     ensures some { 0 < times → 0 < result }
 {
     let course = Course {
-        form: role.form,
-        player: role.player,
+        role: *role,
         other: &other.plan,
         more: &other.answer,
-        places: role.places,
         totals: &seat.totals,
         steps,
         picks: &seat.picks,

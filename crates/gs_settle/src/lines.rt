@@ -1,6 +1,6 @@
 //! The lines of a path.
 
-ghost use Rattle.std.specs.Prelude.{◌≡◌, ◌+◌, ◌++◌, IfOk, OnOk, codes, string_bytes};
+ghost use Rattle.std.specs.Prelude.{◌≡◌, ◌+◌, ◌++◌, IfOk, OnOk, string_bytes};
 ghost use Rattle.gs_settle.specs.Paths.{path_text as text_of_path, turn_line, turn_lines, value_line};
 
 use gs_frac::Fraction;

@@ -1,8 +1,8 @@
 //! The command `path`.
 
-ghost use Rattle.std.specs.Prelude.{◌≡◌, IfOk};
+ghost use Rattle.std.specs.Prelude.{IfOk};
 ghost use Rattle.gs_reply.specs.Replies.{Answers};
-ghost use Rattle.gs_rows.specs.{Program.{Listing}, declared.Program.{Program}};
+ghost use Rattle.gs_rows.specs.{declared.Program.{Program}};
 ghost use Rattle.gs_seq.specs.Abstracts.{frame_of, lists_of};
 ghost use Rattle.gs_settle.specs.{Paths.{ShowsPath}, Settling.{game_in}};
 ghost use Rattle.gs_simplex.specs.Answer.{IsStop};

@@ -1,7 +1,6 @@
 //! The command `solve`.
 
-ghost use Rattle.std.specs.Prelude.{◌≡◌, ◌≢◌, IfOk};
-ghost use Rattle.gs_model.specs.Classes.{ClassLists};
+ghost use Rattle.std.specs.Prelude.{IfOk};
 ghost use Rattle.gs_reply.specs.Replies.{Answers};
 ghost use Rattle.gs_seq.specs.{Abstracts.{frame_of, lists_of}, Stops.{IsSmall}};
 ghost use Rattle.gs_settle.specs.{Settling.{game_in}, Solving.{Solves}};

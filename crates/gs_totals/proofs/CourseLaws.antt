@@ -12,51 +12,52 @@ use Rattle.gs_best.specs.Tables.{classes_at, start_of}
 use Rattle.gs_best.specs.declared.deviator.Deviator.{Deviator}
 use Rattle.gs_best.proofs.Placed.{IsRow}
 use Rattle.gs_totals.specs.ClassTotals.{total_worth}
-use Rattle.gs_totals.specs.Courses.{StaysBehind, frame_in, lists_in, moves_chosen, totals_added, totals_now}
+use Rattle.gs_totals.specs.Courses.{StaysBehind, moves_chosen, totals_added, totals_now}
 use Rattle.gs_totals.specs.Jumps.{line}
 use Rattle.gs_totals.specs.Lasting.{AreBehind, IsBehind, IsNotAhead}
 use Rattle.gs_totals.specs.Merged.{AreModestFrom}
+use Rattle.gs_totals.specs.Roles.{frame_in, lists_in}
 use Rattle.gs_totals.specs.declared.course.Course.{Course}
 use Rattle.gs_totals.proofs.Behind.{BehindAt, before_from, behind_same}
 use Rattle.gs_totals.proofs.Known.{known_modest, worth_modest}
 use Rattle.gs_totals.proofs.Stepping.{from_some}
 
 abbrev pub now_side : Course → Deviator
-now_side k = record { form = k.form; player = k.player; other = k.other; some = k.some; two = k.two; plan = k.plan }
+now_side k = record { form = k.role.form; player = k.role.player; other = k.other; some = k.role.some; two = k.role.two; plan = k.plan }
 
 abbrev pub added_side : Course → Deviator
-added_side k = record { form = k.form; player = k.player; other = k.more; some = k.some; two = k.two; plan = k.added }
+added_side k = record { form = k.role.form; player = k.role.player; other = k.more; some = k.role.some; two = k.role.two; plan = k.added }
 
 apart : (a b : ℤ) → unsigned_abs a < 2 ^ 110 → unsigned_abs b < 2 ^ 110 → unsigned_abs (a -ℤ b) < 2 ^ 120
 apart a b h g = omega (arith, ints, abs_is a, abs_is b, abs_is (a -ℤ b), h, g)
 
-module _ (k : Course) (s : IsSound k.form.now.lossless.now.classes.now) where
-  pub now_modest : (q : ℕ) → AreModestFrom (frame_in k) (lists_in k) (totals_now k) q
+module _ (k : Course) (s : IsSound k.role.form.now.lossless.now.classes.now) where
+  pub now_modest : (q : ℕ) → AreModestFrom (frame_in k.role) (lists_in k.role) (totals_now k) q
   now_modest q = known_modest (now_side k) s k.totals.now.points.items (moves_chosen k) q
-      (from_some (frame_in k) (lists_in k) k.player _ (totals_now k) (moves_chosen k) q k.best.followed)
+      (from_some (frame_in k.role) (lists_in k.role) k.role.player _ (totals_now k) (moves_chosen k) q k.best.followed)
 
-  pub added_modest : (q : ℕ) → AreModestFrom (frame_in k) (lists_in k) (totals_added k) q
+  pub added_modest : (q : ℕ) → AreModestFrom (frame_in k.role) (lists_in k.role) (totals_added k) q
   added_modest q = known_modest (added_side k) s k.steps.now.points.items (moves_chosen k) q
-      (from_some (frame_in k) (lists_in k) k.player _ (totals_added k) (moves_chosen k) q k.rise)
+      (from_some (frame_in k.role) (lists_in k.role) k.role.player _ (totals_added k) (moves_chosen k) q k.rise)
 
-  module _ (q m c : ℕ) (lq : q < point_count (frame_in k)) (lm : m < move_count (frame_in k) q)
-      (lc : IsClass (lists_in k) (round_of (frame_in k) (at_point q)) c) where
-    pub gap_small : unsigned_abs (totals_now k (at_point q) c -ℤ total_worth (frame_in k) (lists_in k) (totals_now k) q m c) < 2 ^ 120
+  module _ (q m c : ℕ) (lq : q < point_count (frame_in k.role)) (lm : m < move_count (frame_in k.role) q)
+      (lc : IsClass (lists_in k.role) (round_of (frame_in k.role) (at_point q)) c) where
+    pub gap_small : unsigned_abs (totals_now k (at_point q) c -ℤ total_worth (frame_in k.role) (lists_in k.role) (totals_now k) q m c) < 2 ^ 120
     gap_small =
         let even : q ≤ q = omega arith in
         let a = now_modest q (at_point q) c lq even lc in
         let b = worth_modest (now_side k) s (totals_now k) q m c (now_modest (q + 1)) lq lm lc in
-        apart (totals_now k (at_point q) c) (total_worth (frame_in k) (lists_in k) (totals_now k) q m c) (omega (arith, a)) (omega (arith, b))
+        apart (totals_now k (at_point q) c) (total_worth (frame_in k.role) (lists_in k.role) (totals_now k) q m c) (omega (arith, a)) (omega (arith, b))
 
-    pub gain_small : unsigned_abs (total_worth (frame_in k) (lists_in k) (totals_added k) q m c -ℤ totals_added k (at_point q) c) < 2 ^ 120
+    pub gain_small : unsigned_abs (total_worth (frame_in k.role) (lists_in k.role) (totals_added k) q m c -ℤ totals_added k (at_point q) c) < 2 ^ 120
     gain_small =
         let even : q ≤ q = omega arith in
         let a = added_modest q (at_point q) c lq even lc in
         let b = worth_modest (added_side k) s (totals_added k) q m c (added_modest (q + 1)) lq lm lc in
-        apart (total_worth (frame_in k) (lists_in k) (totals_added k) q m c) (totals_added k (at_point q) c) (omega (arith, b)) (omega (arith, a))
+        apart (total_worth (frame_in k.role) (lists_in k.role) (totals_added k) q m c) (totals_added k (at_point q) c) (omega (arith, b)) (omega (arith, a))
 
-    pub not_ahead : player_at (frame_in k) q ≡ k.player → IsNotAhead (nat_lt m (moves_chosen k q c)) (totals_now k (at_point q) c)
-        (total_worth (frame_in k) (lists_in k) (totals_now k) q m c)
+    pub not_ahead : player_at (frame_in k.role) q ≡ k.role.player → IsNotAhead (nat_lt m (moves_chosen k q c)) (totals_now k (at_point q) c)
+        (total_worth (frame_in k.role) (lists_in k.role) (totals_now k) q m c)
     not_ahead own = record {
       most = k.best.greatest.none_more q m c lq own lm lc;
       less = λ t. k.best.greatest.none_before q m c lq own lc (before_from m (moves_chosen k q c) t);
@@ -66,29 +67,29 @@ line_now : (a s : ℤ) → a ≡ line a s 0
 line_now a s = omega (arith, ints)
 
 -- in one turn nothing is overtaken, since the choices are those of now
-pub once_behind : (k : Course) → IsSound k.form.now.lossless.now.classes.now → (q m times : ℕ) → q < point_count (frame_in k) → m < move_count (frame_in k) q
-    → player_at (frame_in k) q ≡ k.player → times ≤ 1 → StaysBehind k q m times
+pub once_behind : (k : Course) → IsSound k.role.form.now.lossless.now.classes.now → (q m times : ℕ) → q < point_count (frame_in k.role) → m < move_count (frame_in k.role) q
+    → player_at (frame_in k.role) q ≡ k.role.player → times ≤ 1 → StaysBehind k q m times
 once_behind k s q m times lq lm own few c lc ne n soon =
     let before = nat_lt m (moves_chosen k q c) in
     let value = totals_now k (at_point q) c in
     let slope = totals_added k (at_point q) c in
-    let worth = total_worth (frame_in k) (lists_in k) (totals_now k) q m c in
-    let rise = total_worth (frame_in k) (lists_in k) (totals_added k) q m c in
+    let worth = total_worth (frame_in k.role) (lists_in k.role) (totals_now k) q m c in
+    let rise = total_worth (frame_in k.role) (lists_in k.role) (totals_added k) q m c in
     let now : 0 ≡ n = omega (arith, few, soon) in
     subst (λ n. IsNotAhead before (line value slope n) (line worth rise n)) now
     (subst (λ v. IsNotAhead before v (line worth rise 0)) (line_now value slope)
     (subst (λ w. IsNotAhead before value w) (line_now worth rise) (not_ahead k s q m c lq lm lc own)))
 
 -- a move's rows, class by class
-module _ (k : Course) (q m start count : ℕ) (row : IsRow (classes_at (frame_in k) (lists_in k)) (point_count (frame_in k)) q start count)
+module _ (k : Course) (q m start count : ℕ) (row : IsRow (classes_at (frame_in k.role) (lists_in k.role)) (point_count (frame_in k.role)) q start count)
     (values worths slopes rises : List ℤ) (values_are : values ≡ k.totals.now.points.items)
-    (slopes_are : slopes ≡ k.steps.now.points.items) (w : AreWorths (frame_in k) (lists_in k)
-    (total_worth (frame_in k) (lists_in k) (totals_now k)) q m worths)
-    (r : AreWorths (frame_in k) (lists_in k) (total_worth (frame_in k) (lists_in k) (totals_added k)) q m rises) where
-  class_at : (i : ℕ) → i < count → IsClass (lists_in k) (round_of (frame_in k) (at_point q)) (i + 1)
+    (slopes_are : slopes ≡ k.steps.now.points.items) (w : AreWorths (frame_in k.role) (lists_in k.role)
+    (total_worth (frame_in k.role) (lists_in k.role) (totals_now k)) q m worths)
+    (r : AreWorths (frame_in k.role) (lists_in k.role) (total_worth (frame_in k.role) (lists_in k.role) (totals_added k)) q m rises) where
+  class_at : (i : ℕ) → i < count → IsClass (lists_in k.role) (round_of (frame_in k.role) (at_point q)) (i + 1)
   class_at i l = (omega arith, omega (arith, l, row.count_is))
 
-  place : (i : ℕ) → start + i ≡ start_of (frame_in k) (lists_in k) q + (i + 1 - 1)
+  place : (i : ℕ) → start + i ≡ start_of (frame_in k.role) (lists_in k.role) q + (i + 1 - 1)
   place i = omega (arith, row.start_is)
 
   pick_at : (i : ℕ) → get_or k.picks.now (start + i) 0 ≡ moves_chosen k q (i + 1)
@@ -100,13 +101,13 @@ module _ (k : Course) (q m start count : ℕ) (row : IsRow (classes_at (frame_in
   slope_at : (i : ℕ) → get_or slopes (start + i) (pos 0) ≡ totals_added k (at_point q) (i + 1)
   slope_at i = ap (λ (l : List ℤ). get_or l (start + i) (pos 0)) slopes_are ∙ ap (λ n. get_or k.steps.now.points.items n (pos 0)) (place i)
 
-  worth_at : (i : ℕ) → i < count → get_or worths i (pos 0) ≡ total_worth (frame_in k) (lists_in k) (totals_now k) q m (i + 1)
+  worth_at : (i : ℕ) → i < count → get_or worths i (pos 0) ≡ total_worth (frame_in k.role) (lists_in k.role) (totals_now k) q m (i + 1)
   worth_at i l = let e : i ≡ i + 1 - 1 = omega arith in ap (λ n. get_or worths n (pos 0)) e ∙ w (i + 1) (class_at i l)
 
-  rise_at : (i : ℕ) → i < count → get_or rises i (pos 0) ≡ total_worth (frame_in k) (lists_in k) (totals_added k) q m (i + 1)
+  rise_at : (i : ℕ) → i < count → get_or rises i (pos 0) ≡ total_worth (frame_in k.role) (lists_in k.role) (totals_added k) q m (i + 1)
   rise_at i l = let e : i ≡ i + 1 - 1 = omega arith in ap (λ n. get_or rises n (pos 0)) e ∙ r (i + 1) (class_at i l)
 
-  module _ (s : IsSound k.form.now.lossless.now.classes.now) (lq : q < point_count (frame_in k)) (lm : m < move_count (frame_in k) q) where
+  module _ (s : IsSound k.role.form.now.lossless.now.classes.now) (lq : q < point_count (frame_in k.role)) (lm : m < move_count (frame_in k.role) q) where
     pub all_gaps : (i : ℕ) → i < count → unsigned_abs (get_or values (start + i) (pos 0) -ℤ get_or worths i (pos 0)) < 2 ^ 120
     all_gaps i l =
         subst (λ x. unsigned_abs (x -ℤ get_or worths i (pos 0)) < 2 ^ 120) (sym (value_at i))
@@ -115,10 +116,10 @@ module _ (k : Course) (q m start count : ℕ) (row : IsRow (classes_at (frame_in
     pub all_gains : (i : ℕ) → i < count → unsigned_abs (get_or rises i (pos 0) -ℤ get_or slopes (start + i) (pos 0)) < 2 ^ 120
     all_gains i l =
         subst (λ x. unsigned_abs (x -ℤ get_or slopes (start + i) (pos 0)) < 2 ^ 120) (sym (rise_at i l))
-        (subst (λ x. unsigned_abs (total_worth (frame_in k) (lists_in k) (totals_added k) q m (i + 1) -ℤ x)
+        (subst (λ x. unsigned_abs (total_worth (frame_in k.role) (lists_in k.role) (totals_added k) q m (i + 1) -ℤ x)
         < 2 ^ 120) (sym (slope_at i)) (gain_small k s q m (i + 1) lq lm (class_at i l)))
 
-    pub all_ahead : player_at (frame_in k) q ≡ k.player → (i : ℕ) → i < count → slice_index k.picks.now (start + i) ≢ m
+    pub all_ahead : player_at (frame_in k.role) q ≡ k.role.player → (i : ℕ) → i < count → slice_index k.picks.now (start + i) ≢ m
         → IsNotAhead (nat_lt m (slice_index k.picks.now (start + i))) (get_or values (start + i) (pos 0)) (get_or worths i (pos 0))
     all_ahead own i l ne =
         subst (λ p. IsNotAhead (nat_lt m p) (get_or values (start + i) (pos 0)) (get_or worths i (pos 0))) (sym (pick_at i))
@@ -132,13 +133,13 @@ module _ (k : Course) (q m start count : ℕ) (row : IsRow (classes_at (frame_in
 
   abbrev There : ℕ → ℕ → Type 0
   There c times = moves_chosen k q c ≢ m → IsBehind (nat_lt m (moves_chosen k q c)) (totals_now k (at_point q) c)
-      (total_worth (frame_in k) (lists_in k) (totals_now k) q m c)
-      (totals_added k (at_point q) c) (total_worth (frame_in k) (lists_in k) (totals_added k) q m c) times
+      (total_worth (frame_in k.role) (lists_in k.role) (totals_now k) q m c)
+      (totals_added k (at_point q) c) (total_worth (frame_in k.role) (lists_in k.role) (totals_added k) q m c) times
 
   there : (i times : ℕ) → i < count → Here i times → There (i + 1) times
   there i times l h ne =
-      subst (λ p. IsBehind (nat_lt m p) (totals_now k (at_point q) (i + 1)) (total_worth (frame_in k) (lists_in k) (totals_now k) q m (i + 1))
-      (totals_added k (at_point q) (i + 1)) (total_worth (frame_in k) (lists_in k) (totals_added k) q m (i + 1)) times) (pick_at i)
+      subst (λ p. IsBehind (nat_lt m p) (totals_now k (at_point q) (i + 1)) (total_worth (frame_in k.role) (lists_in k.role) (totals_now k) q m (i + 1))
+      (totals_added k (at_point q) (i + 1)) (total_worth (frame_in k.role) (lists_in k.role) (totals_added k) q m (i + 1)) times) (pick_at i)
       (behind_same (nat_lt m (get_or k.picks.now (start + i) 0)) _ _ _ _ _ _ _ _ times (value_at i) (worth_at i l) (slope_at i) (rise_at i l)
       (h (λ x. ne (sym (pick_at i) ∙ x))))
 
@@ -146,8 +147,8 @@ module _ (k : Course) (q m start count : ℕ) (row : IsRow (classes_at (frame_in
   here i times l h ne =
       behind_same (nat_lt m (get_or k.picks.now (start + i) 0)) _ _ _ _ _ _ _ _ times (sym (value_at i)) (sym (worth_at i l)) (sym (slope_at i))
       (sym (rise_at i l))
-      (subst (λ p. IsBehind (nat_lt m p) (totals_now k (at_point q) (i + 1)) (total_worth (frame_in k) (lists_in k) (totals_now k) q m (i + 1))
-      (totals_added k (at_point q) (i + 1)) (total_worth (frame_in k) (lists_in k) (totals_added k) q m (i + 1)) times) (sym (pick_at i))
+      (subst (λ p. IsBehind (nat_lt m p) (totals_now k (at_point q) (i + 1)) (total_worth (frame_in k.role) (lists_in k.role) (totals_now k) q m (i + 1))
+      (totals_added k (at_point q) (i + 1)) (total_worth (frame_in k.role) (lists_in k.role) (totals_added k) q m (i + 1)) times) (sym (pick_at i))
       (h (λ x. ne (pick_at i ∙ x))))
 
   -- a move stays behind just where each class of its row does

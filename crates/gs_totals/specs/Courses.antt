@@ -1,52 +1,41 @@
 -- A course: best class totals, and what each turn adds to them.
 use Rattle.std.specs.Prelude.{ℕ, ◌≢◌, nat_lt}
 use Rattle.gs_model.specs.BestAnswers.{Values}
-use Rattle.gs_model.specs.Classes.{ClassLists, IsClass}
-use Rattle.gs_model.specs.Frame.{Frame, move_count, round_of}
+use Rattle.gs_model.specs.Classes.{IsClass}
+use Rattle.gs_model.specs.Frame.{move_count, round_of}
 use Rattle.gs_model.specs.Positions.{at_point}
-use Rattle.gs_seq.specs.Abstracts.{frame_of, lists_of}
-use Rattle.gs_seq.specs.Plans.{class_plan}
-use Rattle.gs_best.specs.Tables.{moves_of}
 use Rattle.gs_totals.specs.ClassTotals.{total_worth}
 use Rattle.gs_totals.specs.Jumps.{AreBeforeChange, IsBeforeChange}
 use Rattle.gs_totals.specs.Lasting.{IsBehind}
-use Rattle.gs_totals.specs.Places.{totals_of}
+use Rattle.gs_totals.specs.Roles.{frame_in, lists_in, moves_in, totals_in}
 use Rattle.gs_totals.specs.declared.course.Course.{Course}
-
--- the frame of a course's game
-abbrev pub frame_in : Course → Frame
-frame_in k = frame_of k.form.now
-
--- the classes of a course
-abbrev pub lists_in : Course → ClassLists
-lists_in k = lists_of k.form.now
 
 -- the class totals as they stand, against the other's plan so far
 abbrev pub totals_now : Course → Values
-totals_now k = totals_of (frame_in k) (lists_in k) k.player (class_plan (frame_in k) (lists_in k) k.other.now) k.totals.now.points.items
+totals_now k = totals_in k.role k.other.now k.totals.now.points.items
 
 -- what a turn adds to them: the class totals against the plan that a turn adds
 abbrev pub totals_added : Course → Values
-totals_added k = totals_of (frame_in k) (lists_in k) k.player (class_plan (frame_in k) (lists_in k) k.more.now) k.steps.now.points.items
+totals_added k = totals_in k.role k.more.now k.steps.now.points.items
 
 -- the move that is chosen at each point and class
 abbrev pub moves_chosen : Course → ℕ → ℕ → ℕ
-moves_chosen k = moves_of (frame_in k) (lists_in k) k.picks.now
+moves_chosen k = moves_in k.role k.picks.now
 
 -- in so many turns a move of a point overtakes no chosen one
 abbrev pub StaysBehind : Course → ℕ → ℕ → ℕ → Type 0
 StaysBehind k q m times =
-    (c : ℕ) → IsClass (lists_in k) (round_of (frame_in k) (at_point q)) c → moves_chosen k q c ≢ m
-    → IsBehind (nat_lt m (moves_chosen k q c)) (totals_now k (at_point q) c) (total_worth (frame_in k) (lists_in k) (totals_now k) q m c)
-    (totals_added k (at_point q) c) (total_worth (frame_in k) (lists_in k) (totals_added k) q m c) times
+    (c : ℕ) → IsClass (lists_in k.role) (round_of (frame_in k.role) (at_point q)) c → moves_chosen k q c ≢ m
+    → IsBehind (nat_lt m (moves_chosen k q c)) (totals_now k (at_point q) c) (total_worth (frame_in k.role) (lists_in k.role) (totals_now k) q m c)
+    (totals_added k (at_point q) c) (total_worth (frame_in k.role) (lists_in k.role) (totals_added k) q m c) times
 
 -- so many turns change no choice at a point
 abbrev pub LastsAt : Course → ℕ → ℕ → Type 0
 LastsAt k q times =
-    (c : ℕ) → IsClass (lists_in k) (round_of (frame_in k) (at_point q)) c
-    → IsBeforeChange (λ m. total_worth (frame_in k) (lists_in k) (totals_now k) q m c) (λ m. total_worth (frame_in k) (lists_in k) (totals_added k) q m c)
-    (move_count (frame_in k) q) (moves_chosen k q c) times
+    (c : ℕ) → IsClass (lists_in k.role) (round_of (frame_in k.role) (at_point q)) c
+    → IsBeforeChange (λ m. total_worth (frame_in k.role) (lists_in k.role) (totals_now k) q m c) (λ m. total_worth (frame_in k.role) (lists_in k.role) (totals_added k) q m c)
+    (move_count (frame_in k.role) q) (moves_chosen k q c) times
 
 -- so many turns change no choice of the player
 abbrev pub Lasts : Course → ℕ → Type 0
-Lasts k times = AreBeforeChange (frame_in k) (lists_in k) k.player (totals_now k) (totals_added k) (moves_chosen k) times
+Lasts k times = AreBeforeChange (frame_in k.role) (lists_in k.role) k.role.player (totals_now k) (totals_added k) (moves_chosen k) times

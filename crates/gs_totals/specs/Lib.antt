@@ -6,6 +6,7 @@ pub mod Renewed
 pub mod Merged
 pub mod Room
 pub mod Lasting
+pub mod Roles
 pub mod Courses
 pub mod Ledgers
 pub mod Rows

@@ -14,6 +14,7 @@ mod places;
 mod putting;
 mod reading;
 mod renewing;
+mod role;
 mod rows;
 mod staying;
 
@@ -26,4 +27,5 @@ pub use ledger::Ledger;
 pub use places::{Places, Scratch, Totals, picks_for};
 pub use putting::put_all;
 pub use renewing::renew_ends;
+pub use role::Role;
 pub use staying::lasting;

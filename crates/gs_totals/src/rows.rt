@@ -3,7 +3,7 @@
 ghost use Rattle.std.specs.Prelude.{◌≡◌, ◌<◌, ◌≤◌, ℕ, pos, length, get_or};
 ghost use Rattle.gs_model.specs.{Classes.{class_count}, Frame.{leads_to, move_count, round_of}, Positions.{at_point}};
 ghost use Rattle.gs_seq.specs.Abstracts.{frame_of, lists_of};
-ghost use Rattle.gs_best.specs.{Rows.{AreWorths}, Sizes.{IsWide}, Tables.{classes_at}};
+ghost use Rattle.gs_best.specs.{Rows.{AreWorths}, Sizes.{IsWide}};
 ghost use Rattle.gs_totals.specs.{ClassTotals.{total_worth}, Ledgers.{frame_in, lists_in, totals_in}, Merged.{AreGathered}, Rows.{IsLaterRow, IsRowOf}};
 
 use crate::reading::Reading;

@@ -1,10 +1,10 @@
 //! For how many turns choices last.
 
-ghost use Rattle.std.specs.Prelude.{ℕ, ◌≡◌, ◌≢◌, ◌+◌, ◌-◌, ◌/◌, ◌<◌, ◌≤◌, ◌^◌, ◌+ℤ◌, ◌-ℤ◌, ◌≤ℤ◌, ◌<ℤ◌, IsTrue, pos, length, get_or, slice_index};
-ghost use Rattle.std.specs.Prelude.{nat_lt, unsigned_abs, if◌then◌else◌};
+ghost use Rattle.std.specs.Prelude.{ℕ, ◌≡◌, ◌≢◌, ◌+◌, ◌-◌, ◌/◌, ◌<◌, ◌≤◌, ◌^◌, ◌-ℤ◌, IsTrue, pos, length, get_or, slice_index};
+ghost use Rattle.std.specs.Prelude.{nat_lt, unsigned_abs};
 ghost use Rattle.gs_model.specs.Frame.{move_count, player_at, point_count};
 ghost use Rattle.gs_best.specs.Sizes.{IsWide};
-ghost use Rattle.gs_totals.specs.{Courses.{Lasts, LastsAt, StaysBehind, frame_in, lists_in}, Room.{HasScratch}};
+ghost use Rattle.gs_totals.specs.{Courses.{Lasts, LastsAt, StaysBehind}, Roles.{frame_in, lists_in}, Room.{HasScratch}};
 ghost use Rattle.gs_totals.specs.Lasting.{AreBehind, IsBehind, IsNotAhead, IsWithinGap};
 
 use crate::course::Course;
@@ -117,38 +117,38 @@ fn lasting_move(
     rises: &mut [i128],
     times: u32,
 ) -> u32
-    requires point { point < point_count (frame_in course.now) }
-    requires own { player_at (frame_in course.now) point ≡ course.now.player }
-    requires choice { choice < move_count (frame_in course.now) point }
-    requires worths { IsWide (frame_in course.now) (lists_in course.now) (length worths.old) }
-    requires rises { IsWide (frame_in course.now) (lists_in course.now) (length rises.old) }
+    requires point { point < point_count (frame_in course.now.role) }
+    requires own { player_at (frame_in course.now.role) point ≡ course.now.role.player }
+    requires choice { choice < move_count (frame_in course.now.role) point }
+    requires worths { IsWide (frame_in course.now.role) (lists_in course.now.role) (length worths.old) }
+    requires rises { IsWide (frame_in course.now.role) (lists_in course.now.role) (length rises.old) }
     ensures behind { StaysBehind course.now point choice result }
     ensures greatest { result < times → StaysBehind course.now point choice (result + 1) → ⊥ }
     ensures most { result ≤ times }
     ensures some { 0 < times → 0 < result }
 {
     // called only for what its contract says
-    let _rounds = round_total(course.form);
+    let _rounds = round_total(course.role.form);
     if times <= 1 {
         return times;
     }
     let side = Deviator {
-        form: course.form,
-        player: course.player,
+        form: course.role.form,
+        player: course.role.player,
         other: course.other,
     };
     let added = Deviator {
-        form: course.form,
-        player: course.player,
+        form: course.role.form,
+        player: course.role.player,
         other: course.more,
     };
     let ledger = Ledger {
         side: &side,
-        places: course.places,
+        places: course.role.places,
     };
     let rising = Ledger {
         side: &added,
-        places: course.places,
+        places: course.role.places,
     };
     let now = Reading::of(&ledger, course.totals, point);
     let step = Reading::of(&rising, course.steps, point);
@@ -169,17 +169,17 @@ fn lasting_move(
 
 /// The greatest number of turns, at most so many, in which no choice at an own point changes.
 fn lasting_point(course: &Course<'_>, point: u32, scratch: &mut Scratch, times: u32) -> u32
-    requires point { point < point_count (frame_in course.now) }
-    requires own { player_at (frame_in course.now) point ≡ course.now.player }
-    requires scratch { HasScratch (frame_in course.now) (lists_in course.now) scratch.old }
-    ensures scratch { HasScratch (frame_in course.now) (lists_in course.now) scratch.new }
+    requires point { point < point_count (frame_in course.now.role) }
+    requires own { player_at (frame_in course.now.role) point ≡ course.now.role.player }
+    requires scratch { HasScratch (frame_in course.now.role) (lists_in course.now.role) scratch.old }
+    ensures scratch { HasScratch (frame_in course.now.role) (lists_in course.now.role) scratch.new }
     ensures lasts { LastsAt course.now point result }
     ensures greatest { result < times → LastsAt course.now point (result + 1) → ⊥ }
     ensures most { result ≤ times }
     ensures some { 0 < times → 0 < result }
 {
     let mut left = times;
-    for choice in 0..move_total(course.form, point) {
+    for choice in 0..move_total(course.role.form, point) {
         left = lasting_move(
             course,
             point,
@@ -194,16 +194,16 @@ fn lasting_point(course: &Course<'_>, point: u32, scratch: &mut Scratch, times: 
 
 /// The greatest number of turns, at most so many, in which no choice of the player changes.
 pub fn lasting(course: &Course<'_>, scratch: &mut Scratch, times: u32) -> u32
-    requires { HasScratch (frame_in course.now) (lists_in course.now) scratch.old }
-    ensures scratch { HasScratch (frame_in course.now) (lists_in course.now) scratch.new }
+    requires { HasScratch (frame_in course.now.role) (lists_in course.now.role) scratch.old }
+    ensures scratch { HasScratch (frame_in course.now.role) (lists_in course.now.role) scratch.new }
     ensures lasts { Lasts course.now result }
     ensures greatest { result < times → Lasts course.now (result + 1) → ⊥ }
     ensures most { result ≤ times }
     ensures some { 0 < times → 0 < result }
 {
     let mut left = times;
-    for point in 0..point_total(course.form) {
-        if chooser(course.form, point) == course.player {
+    for point in 0..point_total(course.role.form) {
+        if chooser(course.role.form, point) == course.role.player {
             left = lasting_point(course, point, scratch, left);
         }
     }

@@ -9,7 +9,7 @@ use Rattle.gs_best.proofs.Filled.{written}
 use Rattle.gs_best.proofs.Forms.{form_classes, form_in_range, form_lossless, form_walked}
 use Rattle.gs_totals.specs.ClassTotals.{AreBestTotals}
 use Rattle.gs_totals.specs.Places.{AreEndSums}
-use Rattle.gs_play.specs.Roles.{frame_in, lists_in, moves_in, plan_in, totals_in}
+use Rattle.gs_totals.specs.Roles.{frame_in, lists_in, moves_in, plan_in, totals_in}
 use Rattle.gs_play.proofs.Answering.{put_plan}
 use Rattle.gs_play.proofs.seats.answer_anew.Goals.{After-find, After-swap}
 use Rattle.gs_play.proofs.seats.answer_anew.Goals as goal

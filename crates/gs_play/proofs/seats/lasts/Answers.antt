@@ -3,7 +3,7 @@ use Rattle.gs_model.specs.Frame.{point_count}
 use Rattle.gs_best.specs.Tables.{start_of}
 use Rattle.gs_totals.specs.ClassTotals.{AreBestTotals, IsFollowed}
 use Rattle.gs_totals.specs.Jumps.{AreBeforeChange}
-use Rattle.gs_play.specs.Roles.{frame_in, lists_in, moves_in, plan_in, totals_in}
+use Rattle.gs_totals.specs.Roles.{frame_in, lists_in, moves_in, plan_in, totals_in}
 use Rattle.gs_play.proofs.seats.lasts.Goals as goal
 
 pub invariant_of-course : goal.invariant_of-course
@@ -14,11 +14,8 @@ invariant_of-course c =
     let y = c.args.other.now.plan in
     let b = c.args.other.now.answer in
     record {
-      some = k.some;
-      two = k.two;
       plan = c.requires.other;
       added = c.requires.more;
-      placed = k.placed;
       rows = c.requires.seat.room.rows;
       step_rows = c.requires.rows;
       paid = c.requires.seat.paid;

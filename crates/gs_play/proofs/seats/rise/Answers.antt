@@ -5,7 +5,7 @@ use Rattle.gs_model.specs.Frame.{point_count}
 use Rattle.gs_best.specs.Tables.{start_of}
 use Rattle.gs_totals.specs.ClassTotals.{IsFollowed}
 use Rattle.gs_totals.specs.Places.{AreEndSums}
-use Rattle.gs_play.specs.Roles.{frame_in, lists_in, moves_in, plan_in, totals_in}
+use Rattle.gs_totals.specs.Roles.{frame_in, lists_in, moves_in, plan_in, totals_in}
 use Rattle.gs_play.proofs.seats.rise.Goals as goal
 
 pub follow-requires-clause-ready : goal.follow-requires-clause-ready

@@ -2,8 +2,8 @@ use Rattle.std.proofs.Common.{arith}
 use Rattle.gs_model.specs.Frame.{other_player}
 use Rattle.gs_model.specs.FrameFacts.{IsWalked}
 use Rattle.gs_best.proofs.Forms.{form_classes, form_in_range, form_lossless, form_walked}
-use Rattle.gs_play.specs.Roles.{frame_in, lists_in}
-use Rattle.gs_play.specs.declared.role.Role.{Role}
+use Rattle.gs_totals.specs.Roles.{frame_in, lists_in}
+use Rattle.gs_totals.specs.declared.role.Role.{Role}
 use Rattle.gs_play.proofs.Turned.{put_stays, put_stays_once}
 use Rattle.gs_play.proofs.seats.stays.Goals as goal
 

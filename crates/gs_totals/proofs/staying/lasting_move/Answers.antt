@@ -14,14 +14,14 @@ use Rattle.gs_totals.proofs.Readings.{brought, carried, row_of}
 use Rattle.gs_totals.proofs.staying.lasting_move.Goals.{After-of-now, After-read_worths-worth, After-read_worths-rise}
 use Rattle.gs_totals.proofs.staying.lasting_move.Goals as goal
 
-row : (c : After-of-now) → let a = c.args.course.now.form.now in IsRow (classes_at (frame_of a) (lists_of a)) (point_count (frame_of a)) c.args.point c.of-now.result.start c.of-now.result.count
+row : (c : After-of-now) → let a = c.args.course.now.role.form.now in IsRow (classes_at (frame_of a) (lists_of a)) (point_count (frame_of a)) c.args.point c.of-now.result.start c.of-now.result.count
 row c = row_of _ c.args.course.now.totals.now c.args.point c.of-now.result c.of-now.ensures.ledger c.of-now.ensures.totals c.of-now.ensures.point
 
-worths : (c : After-read_worths-worth) → let a = c.args.course.now.form.now in AreWorths (frame_of a) (lists_of a) (total_worth (frame_of a) (lists_of a) (totals_now c.args.course.now)) c.args.point c.args.choice c.read_worths-worth.result.now
+worths : (c : After-read_worths-worth) → let a = c.args.course.now.role.form.now in AreWorths (frame_of a) (lists_of a) (total_worth (frame_of a) (lists_of a) (totals_now c.args.course.now)) c.args.point c.args.choice c.read_worths-worth.result.now
 worths c = carried _ c.args.course.now.totals.now c.args.point c.of-now.result c.of-now.ensures.ledger c.of-now.ensures.totals c.of-now.ensures.point
     (λ k t q. AreWorths (frame_in k) (lists_in k) (total_worth (frame_in k) (lists_in k) (totals_in k.side.now t.points.items)) q c.args.choice c.read_worths-worth.result.now) c.read_worths-worth.ensures.worths
 
-rises : (c : After-read_worths-rise) → let a = c.args.course.now.form.now in AreWorths (frame_of a) (lists_of a) (total_worth (frame_of a) (lists_of a) (totals_added c.args.course.now)) c.args.point c.args.choice c.read_worths-rise.result.now
+rises : (c : After-read_worths-rise) → let a = c.args.course.now.role.form.now in AreWorths (frame_of a) (lists_of a) (total_worth (frame_of a) (lists_of a) (totals_added c.args.course.now)) c.args.point c.args.choice c.read_worths-rise.result.now
 rises c = carried _ c.args.course.now.steps.now c.args.point c.of-step.result c.of-step.ensures.ledger c.of-step.ensures.totals c.of-step.ensures.point
     (λ k t q. AreWorths (frame_in k) (lists_in k) (total_worth (frame_in k) (lists_in k) (totals_in k.side.now t.points.items)) q c.args.choice c.read_worths-rise.result.now) c.read_worths-rise.ensures.worths
 

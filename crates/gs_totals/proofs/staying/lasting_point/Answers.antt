@@ -2,7 +2,8 @@ use Rattle.std.proofs.Common.{◌≡◌, ℕ, ◌+◌, ◌<◌, List, length, sy
 use Rattle.std.specs.Prelude.{ℤ}
 use Rattle.std.proofs.lemmas.Bool.{cases_eq}
 use Rattle.gs_model.specs.Frame.{move_count}
-use Rattle.gs_totals.specs.Courses.{StaysBehind, frame_in, lists_in}
+use Rattle.gs_totals.specs.Courses.{StaysBehind}
+use Rattle.gs_totals.specs.Roles.{frame_in, lists_in}
 use Rattle.gs_totals.proofs.Behind.{greatest_with, lasts_by, stays_by, stays_less}
 use Rattle.gs_totals.proofs.PlacedRows.{wide_written}
 use Rattle.gs_totals.proofs.staying.lasting_point.Goals as goal
@@ -21,8 +22,8 @@ loop-choice-preserved c =
     record {
       scratch = record {
         numbers = i.scratch.numbers;
-        worths = wide_written (frame_in k) (lists_in k) was.worths.len was.worths.items c.lasting_move-left.new.worths i.scratch.worths (omega (arith, was.worths.ok.0)) (omega (arith, c.lasting_move-left.auto.worths, ap (λ (l : List ℤ). length l) c.deref_mut.ensures.value, was.worths.ok.0));
-        best = wide_written (frame_in k) (lists_in k) was.best.len was.best.items c.lasting_move-left.new.rises i.scratch.best (omega (arith, was.best.ok.0)) (omega (arith, c.lasting_move-left.auto.rises, ap (λ (l : List ℤ). length l) c.deref_mut-in-loop-choice.ensures.value, was.best.ok.0));
+        worths = wide_written (frame_in k.role) (lists_in k.role) was.worths.len was.worths.items c.lasting_move-left.new.worths i.scratch.worths (omega (arith, was.worths.ok.0)) (omega (arith, c.lasting_move-left.auto.worths, ap (λ (l : List ℤ). length l) c.deref_mut.ensures.value, was.worths.ok.0));
+        best = wide_written (frame_in k.role) (lists_in k.role) was.best.len was.best.items c.lasting_move-left.new.rises i.scratch.best (omega (arith, was.best.ok.0)) (omega (arith, c.lasting_move-left.auto.rises, ap (λ (l : List ℤ). length l) c.deref_mut-in-loop-choice.ensures.value, was.best.ok.0));
         moves = i.scratch.moves;
       };
       behind = λ m lm. ⊎_elim
@@ -39,12 +40,12 @@ pub returns-clause-lasts : goal.returns-clause-lasts
 returns-clause-lasts c =
     let k = c.args.course.now in
     let q = c.args.point in
-    let all : c.loop-choice.choice ≡ move_count (frame_in k) q = omega (arith, c.loop-choice-test.false, c.loop-choice.auto.choice-end, c.move_total-choice-end.ensures.value) in
+    let all : c.loop-choice.choice ≡ move_count (frame_in k.role) q = omega (arith, c.loop-choice-test.false, c.loop-choice.auto.choice-end, c.move_total-choice-end.ensures.value) in
     lasts_by k q c.requires.point c.requires.own c.loop-choice.left (λ m lm. c.loop-choice.invariant.behind m (omega (arith, lm, all)))
 
 pub returns-clause-greatest : goal.returns-clause-greatest
 returns-clause-greatest c =
     let k = c.args.course.now in
     let q = c.args.point in
-    let all : c.loop-choice.choice ≡ move_count (frame_in k) q = omega (arith, c.loop-choice-test.false, c.loop-choice.auto.choice-end, c.move_total-choice-end.ensures.value) in
+    let all : c.loop-choice.choice ≡ move_count (frame_in k.role) q = omega (arith, c.loop-choice-test.false, c.loop-choice.auto.choice-end, c.move_total-choice-end.ensures.value) in
     λ l h. c.loop-choice.invariant.greatest l (λ m lm. stays_by k q c.requires.point c.requires.own (c.loop-choice.left + 1) h m (omega (arith, lm, all)))

@@ -1,4 +1,4 @@
--- A player's plans, moves and class totals in his game. Of private functions.
+-- A player's plans, moves and class totals in his game.
 use Rattle.std.specs.Prelude.{ℕ, List, ℤ}
 use Rattle.gs_model.specs.BestAnswers.{Values}
 use Rattle.gs_model.specs.Classes.{ClassLists}
@@ -10,19 +10,19 @@ use Rattle.gs_seq.specs.declared.plan.Plan.{Plan}
 use Rattle.gs_best.specs.Tables.{moves_of}
 use Rattle.gs_totals.specs.Places.{AreEndSums, totals_of}
 use Rattle.gs_totals.specs.declared.places.Totals.{Totals}
-use Rattle.gs_play.specs.declared.role.Role.{Role}
+use Rattle.gs_totals.specs.declared.role.Role.{Role}
 
 -- the frame of a player's game
 abbrev pub frame_in : Role → Frame
 frame_in k = frame_of k.form.now
 
--- a plan over its classes
-abbrev pub plan_in : Role → Plan → ModelPlan
-plan_in k p = class_plan (frame_of k.form.now) (lists_of k.form.now) p
-
 -- the classes of his game
 abbrev pub lists_in : Role → ClassLists
 lists_in k = lists_of k.form.now
+
+-- a plan over its classes
+abbrev pub plan_in : Role → Plan → ModelPlan
+plan_in k p = class_plan (frame_of k.form.now) (lists_of k.form.now) p
 
 -- the moves of a list
 abbrev pub moves_in : Role → List ℕ → ℕ → ℕ → ℕ
