@@ -9,7 +9,7 @@ use Rattle.gs_rows.proofs.Solutions.{find_col}
 use Rattle.gs_rows.proofs.PairLists.{pair_list_is_list, row_decided, column_decided}
 use Rattle.gs_simplex.specs.Numbers.{at, cell, IsTurned}
 use Rattle.gs_simplex.specs.Table.{table_rows, table_aim, IsTable}
-use Rattle.gs_simplex.specs.Live.{IsOutside, ArePlaces, IsFound, IsSupport, IsChange, IsTouched, IsLive}
+use Rattle.gs_simplex.specs.Live.{IsOutside, ArePlaces, IsFound, IsSupport, IsChange, IsLive}
 use Rattle.gs_simplex.proofs.Tables.{flipped_other}
 
 -- a column at one of the places, or at none
@@ -79,18 +79,6 @@ change_of_lead places found width row lead own far e u = record {
   differ = u.differ;
   outside = λ j h none. one_less_none own far (row j) (lead j) e (u.outside j h none).1;
 }
-
-pub change_touched : (places filled touched : List ℕ) (found count n width : ℕ) (row lead : ℕ → ℤ) (own far : ℤ)
-    → IsTouched own places found filled count touched n → IsSupport places found width row lead → IsSupport filled count width lead lead
-    → IsChange touched n width row lead own far
-change_touched places filled touched found count n width row lead own far t u v =
-    let P : List ℕ → Type 0 = λ x. IsChange x n width row lead own far in
-    elim t [
-      | inl w ↦ (let Q : ℕ → Type 0 = λ x. IsChange filled x width row lead own far in
-          subst P (sym w.1) (subst Q (sym w.2) (change_of_lead filled count width row lead own far w.0 v)))
-      | inr w ↦ (let Q : ℕ → Type 0 = λ x. IsChange places x width row lead own far in
-          subst P (sym w.0) (subst Q (sym w.1) (change_of_row places found width row lead own far u)))
-    ]
 
 -- the first `found` places are different columns
 pub record AreColumns (places : List ℕ) (found width : ℕ) : Type 0 where

@@ -81,10 +81,6 @@ pub record IsChange (places : List ℕ) (found width : ℕ) (row lead : ℕ → 
   pub differ : (k h : ℕ) → k < found → h < found → slice_index places k ≡ slice_index places h → k ≡ h
   pub outside : (j : ℕ) → j < width → ((k : ℕ) → k < found → slice_index places k ≢ j) → own *ℤ row j -ℤ far *ℤ lead j ≡ row j
 
--- the first n numbers of `at` are the lead's places where own is 1, and otherwise all places
-abbrev pub IsTouched : ℤ → List ℕ → ℕ → List ℕ → ℕ → List ℕ → ℕ → Type 0
-IsTouched own places found filled count at n = ((own ≡ pos 1) × (at ≡ filled) × (n ≡ count)) ⊎ ((at ≡ places) × (n ≡ found))
-
 -- the columns below `below` in which the row is not 0, in order
 pub record AreFilled (row : ℕ → ℤ) (filled : List ℕ) (count below : ℕ) : Type 0 where
   pub few : count ≤ below

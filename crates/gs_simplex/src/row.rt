@@ -1,13 +1,13 @@
 //! The arithmetic of one row: its products stay in place where they are narrow, and take 128 bits otherwise; a row is divided by its greatest common divisor.
 
-ghost use Rattle.std.specs.Prelude.{◌≡◌, ◌≢◌, MatchOption, ℕ, ◌+◌, ◌-◌, ◌*◌, ◌<◌, ◌≤◌, ◌^◌, IsTrue, ℤ, pos, ◌+ℤ◌, ◌-ℤ◌, ◌*ℤ◌, ◌<ℤ◌, unsigned_abs};
+ghost use Rattle.std.specs.Prelude.{◌≡◌, ◌≢◌, MatchOption, ℕ, ◌+◌, ◌-◌, ◌*◌, ◌<◌, ◌≤◌, ◌^◌, IsTrue, ℤ, pos, ◌-ℤ◌, ◌*ℤ◌, ◌<ℤ◌, unsigned_abs};
 ghost use Rattle.std.specs.Prelude.{length, slice_index};
 ghost use Prim.Native.Nat.{◌∣◌};
 ghost use Rattle.std.specs.Int.{IsGcd};
 ghost use Rattle.gs_rows.specs.Rows.{IsNarrow, IsPrimitive};
 ghost use Rattle.gs_simplex.specs.Numbers.{at, AllNarrow, AllWithin, AllAtMost, IsDivisor, IsShared, IsQuotient, IsWideQuotient, IsReduced};
 ghost use Rattle.gs_simplex.specs.Numbers.{IsReducedTo, IsDivided};
-ghost use Rattle.gs_simplex.specs.Live.{IsSupport, IsChange, IsTouched};
+ghost use Rattle.gs_simplex.specs.Live.{IsSupport, IsChange};
 
 use crate::exact::{Divisor, short_gcd};
 use gs_frac::gcd;
@@ -19,19 +19,20 @@ pub(crate) struct WideNumber {
     pub(crate) number: i128,
 }
 
-/// The row of a pivot, as the other rows meet it.
+/// The row of a pivot, from 0, as the other rows meet it: it clears `column`, and outside the first `count` places of `filled` its numbers are 0.
 #[derive(Clone, Copy)]
 pub(crate) struct Lead<'a> {
-    /// The row, from 0.
     pub(crate) row: usize,
     pub(crate) numbers: &'a [i64],
-    /// No number is greater in size.
     pub(crate) most: u64,
-    /// The column that the pivot clears, where the number is above 0.
     pub(crate) column: usize,
-    /// The columns in which the row is not 0 stand at the first `count` places.
     pub(crate) filled: &'a [u32],
     pub(crate) count: usize,
+    pub(crate) ghost narrow: { AllNarrow numbers.now },
+    pub(crate) ghost bound: { AllAtMost numbers.now most },
+    pub(crate) ghost inside: { column < length numbers.now },
+    pub(crate) ghost own: { pos 0 <ℤ at numbers.now column },
+    pub(crate) ghost support: { IsSupport filled.now count (length numbers.now) (at numbers.now) (at numbers.now) },
 }
 
 // The greatest size of a number.
@@ -126,7 +127,8 @@ fn narrow_mixed_number(own: i64, x: i64, far: i64, y: i64) -> i64
 
 // Which places change when a row becomes `own` times itself less `far` times the lead: those of the lead where `own` is 1, and otherwise all that the row has.
 fn touched<'a>(lead: &Lead<'a>, own: i64, places: &'a [u32], found: usize) -> (&'a [u32], usize)
-    ensures { IsTouched own places.now found lead.now.filled.now lead.now.count result.0.now result.1 }
+    ensures { let numbers = lead.now.numbers.now in (row : ℕ → ℤ) (far : ℤ) → IsSupport places.now found (length numbers) row (at numbers)
+        → IsChange result.0.now result.1 (length numbers) row (at numbers) own far }
 {
     if own == 1 {
         return (lead.filled, lead.count);
@@ -388,16 +390,11 @@ pub(crate) fn reduce_row(
     places: &[u32],
     found: usize,
 ) -> Option<WideNumber>
-    requires support { IsSupport places.now found (length row.old) (at row.old) (at lead.now.numbers.now) }
-    requires filled { IsSupport lead.now.filled.now lead.now.count (length row.old) (at lead.now.numbers.now) (at lead.now.numbers.now) }
+    requires support { IsSupport places.now found (length lead.now.numbers.now) (at row.old) (at lead.now.numbers.now) }
     requires long { length row.old ≡ length lead.now.numbers.now }
-    requires room { length mixed.old ≡ length row.old }
-    requires most { AllAtMost lead.now.numbers.now lead.now.most }
-    requires inside { lead.now.column < length lead.now.numbers.now }
-    requires own { pos 0 <ℤ at lead.now.numbers.now lead.now.column }
-    requires narrow_lead { AllNarrow lead.now.numbers.now }
-    requires narrow_row { AllNarrow row.old }
-    requires primitive { IsPrimitive (length row.old - 1) (at row.old) }
+    requires room { length mixed.old ≡ length lead.now.numbers.now }
+    requires narrow { AllNarrow row.old }
+    requires primitive { IsPrimitive (length lead.now.numbers.now - 1) (at row.old) }
     ensures { MatchOption result (IsReduced (at lead.now.numbers.now) lead.now.column (length lead.now.numbers.now) (at row.old) (at row.new)
         × AllNarrow row.new)
         (λ w. IsReducedTo (at lead.now.numbers.now) lead.now.column (length lead.now.numbers.now) (at row.old) w.column w.number) }

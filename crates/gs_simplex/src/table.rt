@@ -1,9 +1,9 @@
 //! All rows in one piece of memory, and the pivot that clears a column in each but one.
 
-ghost use Rattle.std.specs.Prelude.{◌≡◌, ◌≢◌, MatchOption, ℕ, ◌+◌, ◌-◌, ◌*◌, ◌<◌, ◌≤◌, ◌^◌, ◌⊎◌, ℤ, pos, neg_ℤ, ◌+ℤ◌, ◌-ℤ◌, ◌*ℤ◌, ◌<ℤ◌, unsigned_abs, length};
-ghost use Rattle.gs_rows.specs.{Rows.{IsNarrow, IsPrimitive}, Program.{IsPairList, IsRowsOf}};
-ghost use Rattle.gs_simplex.specs.{Live.{IsSupport, IsLive}, Table.{table_rows, table_aim, IsTable, IsPrimitiveTable, IsTableAfter, IsWideAfter}};
-ghost use Rattle.gs_simplex.specs.Numbers.{at, cell, AllNarrow, AllAtMost, IsReduced, IsReducedTo, IsTurned, IsCleared, IsClearedTo, IsRowPrimitive};
+ghost use Rattle.std.specs.Prelude.{◌≡◌, ◌≢◌, MatchOption, ℕ, ◌+◌, ◌-◌, ◌*◌, ◌<◌, ◌≤◌, ◌^◌, ◌⊎◌, pos, neg_ℤ, length};
+ghost use Rattle.gs_rows.specs.{Rows.{IsPrimitive}, Program.{IsPairList, IsRowsOf}};
+ghost use Rattle.gs_simplex.specs.{Live.{IsSupport, IsLive}, Table.{table_rows, table_aim, IsTable, IsTableAfter, IsWideAfter}};
+ghost use Rattle.gs_simplex.specs.Numbers.{at, cell, AllNarrow, IsReduced, IsReducedTo, IsTurned, IsCleared, IsClearedTo, IsRowPrimitive};
 
 use crate::live::{Live, fill};
 use crate::row::{Lead, WideNumber, greatest, reduce_row};
@@ -65,13 +65,8 @@ fn reduce_at(
     found: usize,
 ) -> Option<WideNumber>
     requires support { IsSupport places.now found (length lead.now.numbers.now) (λ j. at numbers.old (start + j)) (at lead.now.numbers.now) }
-    requires filled { IsSupport lead.now.filled.now lead.now.count (length lead.now.numbers.now) (at lead.now.numbers.now) (at lead.now.numbers.now) }
     requires inside { start + length lead.now.numbers.now ≤ length numbers.old }
-    requires most { AllAtMost lead.now.numbers.now lead.now.most }
-    requires column { lead.now.column < length lead.now.numbers.now }
     requires room { length mixed.old ≡ length lead.now.numbers.now }
-    requires own { pos 0 <ℤ at lead.now.numbers.now lead.now.column }
-    requires narrow_lead { AllNarrow lead.now.numbers.now }
     requires narrow { AllNarrow numbers.old }
     requires primitive { IsPrimitive (length lead.now.numbers.now - 1) (λ j. at numbers.old (start + j)) }
     ensures others { (k : ℕ) → (k < start) ⊎ (start + length lead.now.numbers.now ≤ k) → at numbers.new k ≡ at numbers.old k }
@@ -95,15 +90,10 @@ fn clear_column(
     found: usize,
     owns: &[u32],
 ) -> Option<WideCell>
-    requires filled { IsSupport lead.now.filled.now lead.now.count (length lead.now.numbers.now) (at lead.now.numbers.now) (at lead.now.numbers.now) }
-    requires room { length mixed.old ≡ length lead.now.numbers.now }
     requires live { let w = length lead.now.numbers.now in
         IsLive places.old owns.now found (length owns.now) lead.now.row w (cell numbers.old w) (at lead.now.numbers.now) }
     requires long { length numbers.old ≡ length owns.now * length lead.now.numbers.now }
-    requires most { AllAtMost lead.now.numbers.now lead.now.most }
-    requires column { lead.now.column < length lead.now.numbers.now }
-    requires own { pos 0 <ℤ at lead.now.numbers.now lead.now.column }
-    requires narrow_lead { AllNarrow lead.now.numbers.now }
+    requires room { length mixed.old ≡ length lead.now.numbers.now }
     requires narrow { AllNarrow numbers.old }
     requires primitive { (i : ℕ) → i < length owns.now → IsRowPrimitive numbers.old (length lead.now.numbers.now) i }
     ensures { let k = lead.now in let count = length owns.now in let w = length k.numbers.now in MatchOption result

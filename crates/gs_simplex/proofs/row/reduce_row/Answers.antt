@@ -1,12 +1,13 @@
-use Rattle.std.proofs.Common.{◌≡◌, MatchOption, Some, None, ℕ, ◌+◌, ◌-◌, ◌*◌, ◌<◌, ◌≤◌, ◌^◌, ℤ, pos, ◌-ℤ◌, ◌*ℤ◌, ◌<ℤ◌, unsigned_abs, length, slice_index, to_z, of_z, w64, sym, ap, subst, ◌∙◌, arith}
-use Rattle.gs_rows.specs.Rows.{IsNarrow, IsPrimitive}
+use Rattle.std.proofs.Common.{◌≡◌, MatchOption, Some, None, ℕ, ◌+◌, ◌*◌, ◌<◌, ◌≤◌, ◌^◌, ℤ, pos, ◌-ℤ◌, ◌*ℤ◌, ◌<ℤ◌, unsigned_abs, length, slice_index, to_z, of_z, w64, sym, ap, subst, ◌∙◌, arith}
+use Rattle.gs_rows.specs.Rows.{IsNarrow}
 use Rattle.gs_simplex.specs.Numbers.{at, AllNarrow, IsShared, IsQuotient, IsWideQuotient, IsReduced, IsReducedTo, IsDivided}
 use Rattle.std.proofs.lemmas.Nat.{mul-le}
-use Rattle.gs_simplex.specs.Live.{IsSupport}
+use Rattle.gs_simplex.specs.Live.{IsSupport, IsChange}
 use Rattle.gs_simplex.proofs.Fits.{kept_64, narrow_passed}
-use Rattle.gs_simplex.proofs.Lives.{change_touched, support_mixed}
+use Rattle.gs_simplex.proofs.Lives.{support_mixed}
 use Rattle.gs_simplex.proofs.Reduce.{kept_reduced, divisor_small, by_divides, reduced_divided, reduced_from, reduced_wide}
 use Rattle.gs_simplex.proofs.row.reduce_row.Goals as goal
+use Rattle.gs_simplex.proofs.row.reduce_row.Goals.{After-touched-count}
 
 -- a row with 0 in the column stays
 stored_zero : (x : ℤ) → IsNarrow x → of_z w64 x ≡ 0 → x ≡ pos 0
@@ -14,24 +15,23 @@ stored_zero x h e = sym (kept_64 x h) ∙ ap (to_z w64) e
 
 pub returns-then-row-lead-eq0 : goal.returns-then-row-lead-eq0
 returns-then-row-lead-eq0 c =
-    let q = c.requires in let lead = c.args.lead.now.numbers.now in let row = c.args.row.now in let k = c.args.lead.now.column in
-    let zero : at row k ≡ pos 0 = stored_zero (at row k) (q.narrow_row k (omega (arith, q.long, q.inside))) c.if-row-lead-eq0.true in
-    let P : ℕ → Type 0 = λ n. IsPrimitive (n - 1) (at row) in
-    (kept_reduced (at lead) (at row) k (length lead) q.own zero (subst P q.long q.primitive), q.narrow_row)
+    let q = c.requires in let l = c.args.lead.now in let lead = l.numbers.now in let row = c.args.row.now in
+    let zero : at row l.column ≡ pos 0 = stored_zero (at row l.column) (q.narrow l.column (omega (arith, q.long, l.inside))) c.if-row-lead-eq0.true in
+    (kept_reduced (at lead) (at row) l.column (length lead) l.own zero q.primitive, q.narrow)
 
 -- the multipliers and the numbers that they are of are narrow as they are passed
 pub multipliers-own-requires-clause-own : goal.multipliers-own-requires-clause-own
 multipliers-own-requires-clause-own c =
-    let q = c.requires in let x = at c.args.lead.now.numbers.now c.args.lead.now.column in
-    let P : ℤ → Type 0 = λ t. pos 0 <ℤ t in subst P (sym (kept_64 x (q.narrow_lead c.args.lead.now.column q.inside))) q.own
+    let l = c.args.lead.now in let x = at l.numbers.now l.column in
+    let P : ℤ → Type 0 = λ t. pos 0 <ℤ t in subst P (sym (kept_64 x (l.narrow l.column l.inside))) l.own
 
 pub multipliers-own-requires-clause-narrow_own : goal.multipliers-own-requires-clause-narrow_own
 multipliers-own-requires-clause-narrow_own c =
-    let k = c.args.lead.now.column in narrow_passed (at c.args.lead.now.numbers.now k) (c.requires.narrow_lead k c.requires.inside)
+    let l = c.args.lead.now in narrow_passed (at l.numbers.now l.column) (l.narrow l.column l.inside)
 
 pub multipliers-own-requires-clause-narrow_far : goal.multipliers-own-requires-clause-narrow_far
 multipliers-own-requires-clause-narrow_far c =
-    let q = c.requires in let k = c.args.lead.now.column in narrow_passed (at c.args.row.now k) (q.narrow_row k (omega (arith, q.long, q.inside)))
+    let q = c.requires in let l = c.args.lead.now in narrow_passed (at c.args.row.now l.column) (q.narrow l.column (omega (arith, q.long, l.inside)))
 
 pub stays_narrow-requires-clause-narrow_own : goal.stays_narrow-requires-clause-narrow_own
 stays_narrow-requires-clause-narrow_own c = narrow_passed c.multipliers-own.result.0 c.multipliers-own.ensures.narrow_own
@@ -46,23 +46,21 @@ pub mix-requires-clause-narrow_far : goal.mix-requires-clause-narrow_far
 mix-requires-clause-narrow_far c = narrow_passed c.multipliers-own.result.1 c.multipliers-own.ensures.narrow_far
 
 -- the places at which the row changes
+changed : (c : After-touched-count) → let t = c.touched-count.result in let m = c.multipliers-own.result in
+    IsChange t.0.now t.1 (length c.args.row.now) (at c.args.row.now) (at c.args.lead.now.numbers.now) (to_z w64 (of_z w64 m.0)) (to_z w64 (of_z w64 m.1))
+changed c =
+    let t = c.touched-count.result in let m = c.multipliers-own.result in let row = at c.args.row.now in let far = to_z w64 (of_z w64 m.1) in
+    let P : ℕ → Type 0 = λ w. IsChange t.0.now t.1 w row (at c.args.lead.now.numbers.now) (to_z w64 (of_z w64 m.0)) far in
+    subst P (sym c.requires.long) (c.touched-count.ensures row far c.requires.support)
+
 pub mix_narrow-requires-clause-change : goal.mix_narrow-requires-clause-change
-mix_narrow-requires-clause-change c =
-    let m = c.multipliers-own in let t = c.touched-count in
-    change_touched c.args.places.now c.args.lead.now.filled.now t.result.0.now c.args.found c.args.lead.now.count t.result.1 (length c.args.row.now) (at c.args.row.now) (at c.args.lead.now.numbers.now) (to_z w64 (of_z w64 m.result.0)) (to_z w64 (of_z w64 m.result.1))
-    t.ensures c.requires.support c.requires.filled
+mix_narrow-requires-clause-change c = changed (goal.at.mix_narrow-requires-clause-change c).After-touched-count
 
 pub greatest_at-requires-clause-few : goal.greatest_at-requires-clause-few
-greatest_at-requires-clause-few c =
-    let m = c.multipliers-own in let t = c.touched-count in
-    (change_touched c.args.places.now c.args.lead.now.filled.now t.result.0.now c.args.found c.args.lead.now.count t.result.1 (length c.args.row.now) (at c.args.row.now) (at c.args.lead.now.numbers.now) (to_z w64 (of_z w64 m.result.0)) (to_z w64 (of_z w64 m.result.1))
-    t.ensures c.requires.support c.requires.filled).few
+greatest_at-requires-clause-few c = (changed (goal.at.greatest_at-requires-clause-few c).After-touched-count).few
 
 pub greatest_at-requires-clause-inside : goal.greatest_at-requires-clause-inside
-greatest_at-requires-clause-inside c =
-    let m = c.multipliers-own in let t = c.touched-count in
-    (change_touched c.args.places.now c.args.lead.now.filled.now t.result.0.now c.args.found c.args.lead.now.count t.result.1 (length c.args.row.now) (at c.args.row.now) (at c.args.lead.now.numbers.now) (to_z w64 (of_z w64 m.result.0)) (to_z w64 (of_z w64 m.result.1))
-    t.ensures c.requires.support c.requires.filled).inside
+greatest_at-requires-clause-inside c = (changed (goal.at.greatest_at-requires-clause-inside c).After-touched-count).inside
 
 -- a bound on the numbers bounds their products
 products_below : (a b x y most top : ℕ) → x ≤ most → y ≤ top → a * most + b * top < 2 ^ 62 → a * x + b * y < 2 ^ 62
@@ -70,17 +68,15 @@ products_below a b x y most top h k l = omega (arith, l, mul-le a x a most (omeg
 
 pub mix_narrow-requires-clause-narrow : goal.mix_narrow-requires-clause-narrow
 mix_narrow-requires-clause-narrow c = λ k h.
-    let m = c.multipliers-own in let t = c.touched-count in let j = slice_index t.result.0.now k in
-    let u = change_touched c.args.places.now c.args.lead.now.filled.now t.result.0.now c.args.found c.args.lead.now.count t.result.1 (length c.args.row.now) (at c.args.row.now) (at c.args.lead.now.numbers.now) (to_z w64 (of_z w64 m.result.0)) (to_z w64 (of_z w64 m.result.1))
-    t.ensures c.requires.support c.requires.filled in
-    let inside : j < length c.args.row.now = u.inside k h in
-    products_below _ _ (unsigned_abs (at c.args.row.now j)) (unsigned_abs (at c.args.lead.now.numbers.now j)) c.greatest_at.result c.args.lead.now.most (c.greatest_at.ensures k h) (c.requires.most j (omega (arith, c.requires.long))) (c.stays_narrow.ensures c.if-stays_narrow.true)
+    let l = c.args.lead.now in let j = slice_index c.touched-count.result.0.now k in
+    let inside : j < length c.args.row.now = (changed (goal.at.mix_narrow-requires-clause-narrow c).After-touched-count).inside k h in
+    products_below _ _ (unsigned_abs (at c.args.row.now j)) (unsigned_abs (at l.numbers.now j)) c.greatest_at.result l.most (c.greatest_at.ensures k h) (l.bound j (omega (arith, c.requires.long))) (c.stays_narrow.ensures c.if-stays_narrow.true)
 
 pub divide_row_at-requires-clause-support : goal.divide_row_at-requires-clause-support
 divide_row_at-requires-clause-support c =
     let lead = c.args.lead.now.numbers.now in let row = c.args.row.now in let mid = c.mix_narrow.new.row in let m = c.multipliers-own in
     let P : ℕ → Type 0 = λ w. IsSupport c.args.places.now c.args.found w (at mid) (at mid) in
-    subst P (sym c.mix_narrow.auto.row) (support_mixed c.args.places.now c.args.found (length row) (at row) (at lead) (at mid) (to_z w64 (of_z w64 m.result.0)) (to_z w64 (of_z w64 m.result.1)) c.requires.support c.mix_narrow.ensures.mixed)
+    subst P (sym (c.mix_narrow.auto.row ∙ c.requires.long)) (support_mixed c.args.places.now c.args.found (length lead) (at row) (at lead) (at mid) (to_z w64 (of_z w64 m.result.0)) (to_z w64 (of_z w64 m.result.1)) c.requires.support (λ j h. c.mix_narrow.ensures.mixed j (omega (arith, c.requires.long))))
 
 pub narrow_into-requires-clause-small : goal.narrow_into-requires-clause-small
 narrow_into-requires-clause-small c =
@@ -108,9 +104,9 @@ stored_shared lc rc own far nl nr na nb sh = record {
 pub returns-then-stays_narrow : goal.returns-then-stays_narrow
 returns-then-stays_narrow c =
     let lead = c.args.lead.now.numbers.now in let row = c.args.row.now in let mid = c.mix_narrow.new.row in let k = c.args.lead.now.column in let m = c.multipliers-own in
-    let inside : k < length lead = c.requires.inside in
+    let inside : k < length lead = c.args.lead.now.inside in
     let long : length mid ≡ length lead = omega (arith, c.mix_narrow.auto.row, c.requires.long) in
-    let sh = stored_shared (at lead k) (at row k) m.result.0 m.result.1 (c.requires.narrow_lead k inside) (c.requires.narrow_row k (omega (arith, c.requires.long))) m.ensures.narrow_own m.ensures.narrow_far m.ensures.shared in (
+    let sh = stored_shared (at lead k) (at row k) m.result.0 m.result.1 (c.args.lead.now.narrow k inside) (c.requires.narrow k (omega (arith, c.requires.long))) m.ensures.narrow_own m.ensures.narrow_far m.ensures.shared in (
       reduced_divided (at lead) (at row) (at mid) (at c.divide_row_at.new.row) k (length lead) (to_z w64 (of_z w64 m.result.0)) (to_z w64 (of_z w64 m.result.1)) sh (λ j l. c.mix_narrow.ensures.mixed j (omega (arith, c.requires.long)))
           (let P : ℕ → Type 0 = λ t. IsDivided t (at mid) (at c.divide_row_at.new.row) in subst P long c.divide_row_at.ensures.divided),
       c.divide_row_at.ensures.narrow,
@@ -119,10 +115,10 @@ returns-then-stays_narrow c =
 pub returns : goal.returns
 returns c =
     let lead = c.args.lead.now.numbers.now in let row = c.args.row.now in let mixed = c.mix.new.mixed in let new = c.narrow_into.new.row in let k = c.args.lead.now.column in let m = c.multipliers-own in
-    let inside : k < length lead = c.requires.inside in
+    let inside : k < length lead = c.args.lead.now.inside in
     let long : length mixed ≡ length lead = omega (arith, c.mix.auto.mixed, c.requires.long, c.requires.room) in
     let some : 0 < length lead = omega arith in
-    let sh = stored_shared (at lead k) (at row k) m.result.0 m.result.1 (c.requires.narrow_lead k inside) (c.requires.narrow_row k (omega (arith, c.requires.long))) m.ensures.narrow_own m.ensures.narrow_far m.ensures.shared in
+    let sh = stored_shared (at lead k) (at row k) m.result.0 m.result.1 (c.args.lead.now.narrow k inside) (c.requires.narrow k (omega (arith, c.requires.long))) m.ensures.narrow_own m.ensures.narrow_far m.ensures.shared in
     let own = to_z w64 (of_z w64 m.result.0) in let far = to_z w64 (of_z w64 m.result.1) in
     let is : (j : ℕ) → j < length lead → at mixed j ≡ own *ℤ at row j -ℤ far *ℤ at lead j = λ j l. c.mix.ensures.mixed j (omega (arith, c.requires.long)) in
     let u = c.divisor.ensures in

@@ -28,7 +28,7 @@ pub reduce_at-requires-clause-primitive : goal.reduce_at-requires-clause-primiti
 reduce_at-requires-clause-primitive c =
     let lead = c.args.lead.now in
     let w = length lead.numbers.now in let i = c.loop-i.i in
-    let cw : lead.column < w = c.requires.column in
+    let cw : lead.column < w = lead.inside in
     primitive_same_row (w - 1) (cell c.args.numbers.now w i) (cell c.loop-i.numbers w i) (λ j h. sym (c.loop-i.invariant.left i (omega arith) j (omega arith))) (c.requires.primitive i c.loop-i-test.true)
 
 pub returns-in-Some : goal.returns-in-Some
@@ -38,7 +38,7 @@ returns-in-Some c =
     let row = at lead.numbers.now in
     let z = c.in-Some.wide.number in
     let here : IsReducedTo row lead.column w (cell old w i) c.in-Some.wide.column z =
-    reduced_to_same row row lead.column w (cell now w i) (cell old w i) c.in-Some.wide.column z c.requires.column (λ j h. refl) (λ j h. c.loop-i.invariant.left i (omega arith) j h) c.in-Some.ensures.answer in
+    reduced_to_same row row lead.column w (cell now w i) (cell old w i) c.in-Some.wide.column z lead.inside (λ j h. refl) (λ j h. c.loop-i.invariant.left i (omega arith) j h) c.in-Some.ensures.answer in
     let P : ℤ → Type 0 = λ t. IsClearedTo old count w lead.row lead.column row i c.in-Some.wide.column t in
     subst P (sym (kept_128 z (omega (arith, here.size)))) (record {
       inside = c.loop-i-test.true;
@@ -86,9 +86,9 @@ loop-i-preserved c =
     none_of c.reduce_at.result (IsReduced row lead.column w (cell now w i) (cell new w i) × AllNarrow new) (λ x. IsReducedTo row lead.column w (cell now w i) x.column x.number) c.in_default.is c.reduce_at.ensures.answer in
     record {
       width = refl;
-      done = done_more old now new row count w lead.row lead.column i c.requires.column c.if-i-lead.false v.done v.left v.kept c.reduce_at.ensures.others a.0;
-      left = left_more old now new row count w lead.row lead.column i c.requires.column c.if-i-lead.false v.done v.left v.kept c.reduce_at.ensures.others a.0;
-      kept = kept_more old now new row count w lead.row lead.column i c.requires.column c.if-i-lead.false v.done v.left v.kept c.reduce_at.ensures.others a.0;
+      done = done_more old now new row count w lead.row lead.column i lead.inside c.if-i-lead.false v.done v.left v.kept c.reduce_at.ensures.others a.0;
+      left = left_more old now new row count w lead.row lead.column i lead.inside c.if-i-lead.false v.done v.left v.kept c.reduce_at.ensures.others a.0;
+      kept = kept_more old now new row count w lead.row lead.column i lead.inside c.if-i-lead.false v.done v.left v.kept c.reduce_at.ensures.others a.0;
       narrow = a.1;
       places = λ k h. get_or-set_other c.loop-i.places 0 k (slice_index c.args.owns.now i) 0 (λ e. omega arith) ∙ v.places k h;
     }

@@ -1,4 +1,4 @@
-use Rattle.std.proofs.Common.{◌≡◌, ◌≢◌, MatchOption, Option, Some, None, ◌⊎◌, inl, inr, ℕ, ◌+◌, ◌-◌, ◌*◌, ◌<◌, ◌≤◌, ℤ, pos, neg_ℤ, unsigned_abs, List, ◌++◌, length, take, drop, sym, ap, subst, ◌∙◌, arith}
+use Rattle.std.proofs.Common.{◌≡◌, ◌≢◌, MatchOption, Option, Some, None, ◌⊎◌, inl, inr, ℕ, ◌+◌, ◌-◌, ◌*◌, ◌<◌, ◌≤◌, ℤ, pos, neg_ℤ, ◌<ℤ◌, unsigned_abs, List, ◌++◌, length, take, drop, sym, ap, subst, ◌∙◌, arith}
 use Rattle.std.proofs.lemmas.List.{take_at}
 use Rattle.std.proofs.lemmas.Bool.{cases_eq, cases_lt}
 use Rattle.std.proofs.lemmas.Int.{ints}
@@ -8,7 +8,7 @@ use Rattle.gs_simplex.specs.declared.table.WideCell.{WideCell}
 use Rattle.gs_simplex.specs.Numbers.{at, cell, AllNarrow, IsTurned, IsCleared, IsClearedTo}
 use Rattle.gs_simplex.specs.Table.{table_rows, table_aim, IsTable, IsPrimitiveTable, IsTableAfter, IsWideAfter}
 use Rattle.gs_simplex.proofs.Places.{row_inside, row_apart, primitive_same_row}
-use Rattle.gs_simplex.proofs.Tables.{rows_primitive, primitive_flipped, table_after, wide_from}
+use Rattle.gs_simplex.proofs.Tables.{own, rows_primitive, primitive_flipped, table_after, wide_from}
 use Rattle.gs_rows.specs.Program.{Listing, IsPairList, IsRowsOf}
 use Rattle.gs_simplex.specs.Live.{IsFound, IsLive}
 use Rattle.gs_simplex.proofs.Lives.{live_of}
@@ -36,6 +36,9 @@ module _ (p : Program) (old mid lead : List ℤ) (r c : ℕ) (rows : r < p.rows)
 
   others_at : (k : ℕ) → (k < r * (p.cols + 2)) ⊎ (r * (p.cols + 2) + (p.cols + 2) ≤ k) → at mid k ≡ at old k
   others_at k s = elim s [ inl l ↦ u.others k (inl l) | inr l ↦ u.others k (inr (omega (arith, u.wide))) ]
+
+  own_at : pos 0 <ℤ at lead c
+  own_at = own p old mid (at lead) r c rows cols table others_at same_at turned_at nonzero
 
   narrow_neg : (x y : ℤ) → x ≡ neg_ℤ y → IsNarrow y → IsNarrow x
   narrow_neg x y e h = let q : unsigned_abs (neg_ℤ y) ≡ unsigned_abs y = omega (arith, ints) in omega (arith, h, ap unsigned_abs e)
@@ -95,6 +98,12 @@ module _ (p : Program) (items old mid mid' lead lead' : List ℤ) (r c : ℕ) (r
   wide' : length lead' ≡ p.cols + 2
   wide' = ap length el ∙ u.wide
 
+  own' : pos 0 <ℤ at lead' c
+  own' = let P : List ℤ → Type 0 = λ x. pos 0 <ℤ at x c in subst P (sym el) (own_at p old mid lead r c rows cols table_old prim_old nonzero_old u)
+
+  narrow_lead' : AllNarrow lead'
+  narrow_lead' = let P : List ℤ → Type 0 = λ x. AllNarrow x in subst P (sym el) (λ k h. narrow_lead p old mid lead r c rows cols table_old prim_old nonzero_old u k (omega (arith, h, u.wide)))
+
   narrow' : AllNarrow mid'
   narrow' = let P : List ℤ → Type 0 = λ x. AllNarrow x in subst P (sym em) (narrow_mid p old mid lead r c rows cols table_old prim_old nonzero_old u)
 
@@ -149,6 +158,18 @@ same_lead c = c.deref-numbers.ensures.value ∙ taken c.args.self.now.lead.len c
 
 owns_long : (c : After-deref) → length c.deref.result.now ≡ c.args.p.now.rows + 1
 owns_long c = ap (λ (l : List ℕ). length l) c.deref.ensures.value ∙ c.find-found.ensures.found.owns_long
+
+pub invariant_of-lead-clause-narrow : goal.invariant_of-lead-clause-narrow
+invariant_of-lead-clause-narrow c =
+    let w = goal.at.invariant_of-lead-clause-narrow c in
+    narrow_lead' c.args.p.now c.args.self.now.numbers.items c.deref_mut.result.now c.take_lead.new.numbers c.deref_mut-3.result.now c.take_lead.new.lead c.deref-numbers.result.now c.args.r c.args.c c.requires.row c.requires.column c.requires.table (primitive_of c.args.p.now c.args.basis.now c.args.self.now.numbers.items c.requires.rows) c.requires.nonzero (taken_lead w.After-take_lead)
+    c.deref_mut.ensures.value (same_numbers w.After-deref_mut-3) (same_lead w.After-deref-numbers)
+
+pub invariant_of-lead-clause-own : goal.invariant_of-lead-clause-own
+invariant_of-lead-clause-own c =
+    let w = goal.at.invariant_of-lead-clause-own c in
+    own' c.args.p.now c.args.self.now.numbers.items c.deref_mut.result.now c.take_lead.new.numbers c.deref_mut-3.result.now c.take_lead.new.lead c.deref-numbers.result.now c.args.r c.args.c c.requires.row c.requires.column c.requires.table (primitive_of c.args.p.now c.args.basis.now c.args.self.now.numbers.items c.requires.rows) c.requires.nonzero (taken_lead w.After-take_lead)
+    c.deref_mut.ensures.value (same_numbers w.After-deref_mut-3) (same_lead w.After-deref-numbers)
 
 pub clear_column-requires-clause-live : goal.clear_column-requires-clause-live
 clear_column-requires-clause-live c =
