@@ -41,12 +41,6 @@ before_then n b x np bp xp s w = elim s [
   )
 ]
 
-before_not_after : (n b : Ratio) → Before n b → NotAfter n b
-before_not_after n b s = elim s [
-  | inl less ↦ (omega (arith, linear), λ e. absurd (omega (arith, linear)))
-  | inr q ↦ ((let e : n.side *ℤ b.over ≡ b.side *ℤ n.over = q.0 in omega (arith, linear)), λ e. (let l : n.column < b.column = q.1 in omega arith))
-]
-
 same_not_after : (a : Ratio) → NotAfter a a
 same_not_after a = (omega (arith, linear), λ e. omega arith)
 

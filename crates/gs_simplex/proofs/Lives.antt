@@ -34,14 +34,6 @@ support_same places found width row row' lead lead' er el u = record {
   outside = λ j h none. (sym (er j h) ∙ (u.outside j h none).0, sym (el j h) ∙ (u.outside j h none).1);
 }
 
-pub support_alone : (places : List ℕ) (found width : ℕ) (row lead : ℕ → ℤ) → IsSupport places found width row lead → IsSupport places found width row row
-support_alone places found width row lead u = record {
-  few = u.few;
-  inside = u.inside;
-  differ = u.differ;
-  outside = λ j h none. ((u.outside j h none).0, (u.outside j h none).0);
-}
-
 both_zero : (own far x y : ℤ) → x ≡ pos 0 → y ≡ pos 0 → own *ℤ x -ℤ far *ℤ y ≡ pos 0
 both_zero own far x y e f =
     let a : own *ℤ x ≡ pos 0 = ap (λ t. own *ℤ t) e ∙ times_zero own in let b : far *ℤ y ≡ pos 0 = ap (λ t. far *ℤ t) f ∙ times_zero far in
@@ -130,9 +122,6 @@ all_written Q places found width now here none j h = elim (place_or_none places 
   | inl f ↦ (let P : ℕ → Type 0 = λ t. Q t (at now t) in subst P f.2 (here f.0 f.1))
   | inr out ↦ none j h out
 ]
-
-pub mixed_zero : (own far x y z : ℤ) → z ≡ x → x ≡ pos 0 → y ≡ pos 0 → z ≡ own *ℤ x -ℤ far *ℤ y
-mixed_zero own far x y z e f g = e ∙ f ∙ sym (both_zero own far x y f g)
 
 -- ---- the support of each row of a pivot
 own_first : (places : List ℕ) (own : ℕ) → 0 < length places → slice_index (slice_set places 0 own) 0 ≡ own

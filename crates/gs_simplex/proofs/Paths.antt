@@ -292,13 +292,6 @@ empty_pairs p = record {
   columns_differ = λ k h kl hl e. absurd (omega arith);
 }
 
--- where a number that is not narrow can stand
-pub wide_row : (p : Program) (xs : List ℤ) (r c i j : ℕ) (z : ℤ) → IsWideAfter p xs r c i j z → i ≤ p.rows
-wide_row p xs r c i j z w = w.rows.3.row
-
-pub wide_column : (p : Program) (xs : List ℤ) (r c i j : ℕ) (z : ℤ) → IsWideAfter p xs r c i j z → j ≤ p.cols + 1
-wide_column p xs r c i j z w = elim w.rows.3.here [ inl h ↦ omega (arith, h.1) | inr h ↦ h.1 ]
-
 -- ---- a pivot of the path
 same_names : (l : Listing) (q r c k d : ℕ) → slice_index_or l q (0, 0) ≡ (r + 1, c + 1) → slice_index_or l q (0, 0) ≡ (k + 1, d + 1) → (r ≡ k) × (c ≡ d)
 same_names l q r c k d a b =

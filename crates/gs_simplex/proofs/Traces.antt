@@ -28,11 +28,6 @@ holds_push P xs x n long old new k h d = elim (cases_lt k n) [
       let R : ℕ → Type 0 = λ t. P t x in let Q = P k in subst Q (sym (get_or_push xs x d k q)) (subst R (sym e) new))
 ]
 
--- the basis of the list that a path has
-pub basis_at : (p : Program) (o : Listing) (t : ℕ) (l : Listing) (xs : List ℤ) → IsSoFar p o t l xs → (columns : List ℕ) → IsBasis l columns
-    → IsBasisAt p o t columns
-basis_at p o t l xs u columns b = let P : Listing → Type 0 = λ x. IsBasis x columns in (u.states.0, u.states.1, subst P (sym u.states.2) b)
-
 -- one more pivot and basis noted
 pub noted_more : (p : Program) (o : Listing) (n : ℕ) (turns new_turns : List Turn) (bases new_bases : List (Vec ℕ Global)) (turn : Turn)
     (basis : Vec ℕ Global) → IsNoted p o n turns bases
