@@ -8,7 +8,7 @@ ghost use Rattle.gs_strategy.specs.Views.{stored_view};
 
 use crate::games::same_game;
 use crate::hands::push_hands;
-use gs_raw::{RawStop, raw_duel, raw_verdict};
+use gs_raw::{Facing, RawStop, raw_duel, raw_verdict};
 use gs_reply::{Answer, many_raw_cells, other_game};
 use gs_strategy::Stored;
 use gs_text::verdict_text;
@@ -39,14 +39,14 @@ fn fought(alloc: Global, one: &Stored, two: &Stored) -> Result<Answer, AllocErro
     ensures { IfOk result (Answers (SaysHands (stored_view one.now) (stored_view two.now))) }
 {
     let signals = Signals::of(alloc, &one.game)?;
-    match raw_duel(
-        alloc,
-        &signals,
-        &one.classes,
-        &one.one,
-        &two.classes,
-        &two.two,
-    ) {
+    let facing = Facing {
+        signals: &signals,
+        first: &one.classes,
+        one: &one.one,
+        second: &two.classes,
+        two: &two.two,
+    };
+    match raw_duel(alloc, &facing) {
         Ok(duel) => {
             let mut text = verdict_text(alloc, &duel.verdict)?;
             push_hands(&mut text, alloc, &signals, &duel.hands)?;

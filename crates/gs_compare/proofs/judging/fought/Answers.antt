@@ -21,21 +21,18 @@ use Rattle.gs_compare.proofs.Judged.{are_hands, are_judged}
 use Rattle.gs_compare.proofs.Replies.{too_many}
 use Rattle.gs_compare.proofs.judging.fought.Goals as goal
 
-pub raw_duel-requires-clause-first : goal.raw_duel-requires-clause-first
-raw_duel-requires-clause-first c = subst (λ (g : ValidGame). c.args.one.now.classes.parents ≡ (frame_in g).parents) (sym c.in_ok-signals.ensures) c.args.one.now.parents
-
-pub raw_duel-requires-clause-second : goal.raw_duel-requires-clause-second
-raw_duel-requires-clause-second c =
-    let frames : frame_in c.in_ok-signals.signals.game.now ≡ frame_in c.args.two.now.game = ap frame_in c.in_ok-signals.ensures ∙ ap (λ (v : FileGame). frame (rules_in v)) c.requires in
-    c.args.two.now.parents ∙ ap (λ (h : Frame). h.parents) (sym frames)
-
-pub raw_duel-requires-clause-one : goal.raw_duel-requires-clause-one
-raw_duel-requires-clause-one c = subst (λ (g : ValidGame). IsPlanOf (frame_in g) c.args.one.now.classes.lists 1 c.args.one.now.one) (sym c.in_ok-signals.ensures) c.args.one.now.first
-
-pub raw_duel-requires-clause-two : goal.raw_duel-requires-clause-two
-raw_duel-requires-clause-two c =
-    let frames : frame_in c.in_ok-signals.signals.game.now ≡ frame_in c.args.two.now.game = ap frame_in c.in_ok-signals.ensures ∙ ap (λ (v : FileGame). frame (rules_in v)) c.requires in
-    subst (λ (h : Frame). IsPlanOf h c.args.two.now.classes.lists 2 c.args.two.now.two) (sym frames) c.args.two.now.second
+pub invariant_of-facing : goal.invariant_of-facing
+invariant_of-facing c =
+    let x = c.args.one.now in
+    let y = c.args.two.now in
+    let held = c.in_ok-signals.ensures in
+    let frames : frame_in c.in_ok-signals.signals.game.now ≡ frame_in y.game = ap frame_in held ∙ ap (λ (v : FileGame). frame (rules_in v)) c.requires in
+    record {
+      first_parents = subst (λ (g : ValidGame). x.classes.parents ≡ (frame_in g).parents) (sym held) x.parents;
+      second_parents = y.parents ∙ ap (λ (h : Frame). h.parents) (sym frames);
+      one_plan = subst (λ (g : ValidGame). IsPlanOf (frame_in g) x.classes.lists 1 x.one) (sym held) x.first;
+      two_plan = subst (λ (h : Frame). IsPlanOf h y.classes.lists 2 y.two) (sym frames) y.second;
+    }
 
 pub push_hands-requires : goal.push_hands-requires
 push_hands-requires c =
