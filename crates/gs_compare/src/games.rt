@@ -3,7 +3,7 @@
 ghost use Rattle.std.specs.Prelude.{◌≡◌, ◌↔◌, IfOk, IsTrue, map};
 ghost use Rattle.gs_bet.specs.TreeView.{plain};
 ghost use Rattle.gs_card.specs.Rankings.{ranking_of};
-ghost use Rattle.gs_file.specs.Views.{game_view, valid_view};
+ghost use Rattle.gs_file.specs.Views.{valid_view};
 ghost use Rattle.gs_game.specs.Games.{round_of};
 
 use gs_bet::{BetTree, tree_text};

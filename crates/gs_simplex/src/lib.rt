@@ -72,6 +72,7 @@ pub fn trace(
     } = begin(alloc, p, opening)?;
     let start = aim_value(p, &table.numbers);
     let mut log = Log::start(alloc, p, opening, &basis)?;
+    // how many there were, the log tells
     let _pivots = log.follow(alloc, p, opening, limit, &mut basis, &mut table)?;
     let aim = aim_value(p, &table.numbers);
     let Log { turns, bases } = log;

@@ -67,7 +67,8 @@ line_now : (a s : ℤ) → a ≡ line a s 0
 line_now a s = omega (arith, ints)
 
 -- in one turn nothing is overtaken, since the choices are those of now
-pub once_behind : (k : Course) → IsSound k.role.form.now.lossless.now.classes.now → (q m times : ℕ) → q < point_count (frame_in k.role) → m < move_count (frame_in k.role) q
+pub once_behind : (k : Course) → IsSound k.role.form.now.lossless.now.classes.now → (q m times : ℕ) → q < point_count (frame_in k.role)
+    → m < move_count (frame_in k.role) q
     → player_at (frame_in k.role) q ≡ k.role.player → times ≤ 1 → StaysBehind k q m times
 once_behind k s q m times lq lm own few c lc ne n soon =
     let before = nat_lt m (moves_chosen k q c) in

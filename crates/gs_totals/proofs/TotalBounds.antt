@@ -1,5 +1,4 @@
--- Class totals are small: at each position at most the greatest payoff times what the class faces there, so at most that times the other's total times the weight
--- of all deals. The other's numbers at his moves add up to the number before, so his points add nothing.
+-- Class totals are small: at most the greatest payoff times the other player's total times the weight of all deals.
 use Rattle.std.proofs.Common.{◌≡◌, ◌≢◌, ℕ, zero, suc, ◌+◌, ◌-◌, ◌*◌, ◌<◌, ◌≤◌, Bool, true, false, cond, List, [], ◌∷◌, length, get_or, refl, sym, ap, ◌∙◌, subst, arith, eqb, ⊎_elim, Option, Some, None}
 use Rattle.std.specs.Prelude.{◌==◌, if◌then◌else◌, ℤ, pos, ◌*ℤ◌, unsigned_abs, sum_by, All}
 use Rattle.std.specs.List.{range_with_len}

@@ -33,7 +33,8 @@ StaysBehind k q m times =
 abbrev pub LastsAt : Course → ℕ → ℕ → Type 0
 LastsAt k q times =
     (c : ℕ) → IsClass (lists_in k.role) (round_of (frame_in k.role) (at_point q)) c
-    → IsBeforeChange (λ m. total_worth (frame_in k.role) (lists_in k.role) (totals_now k) q m c) (λ m. total_worth (frame_in k.role) (lists_in k.role) (totals_added k) q m c)
+    → IsBeforeChange (λ m. total_worth (frame_in k.role) (lists_in k.role) (totals_now k) q m c)
+    (λ m. total_worth (frame_in k.role) (lists_in k.role) (totals_added k) q m c)
     (move_count (frame_in k.role) q) (moves_chosen k q c) times
 
 -- so many turns change no choice of the player

@@ -1,12 +1,11 @@
 -- Strategies and their certificates: what `certify` and `verify` print, and how they end where nothing outside fails.
 use Rattle.std.proofs.Common.{◌≡◌, inl, inr, ℕ, List, ◌++◌, Ok, Err, refl, sym, subst}
-use Rattle.gs_certificate.specs.Checks.{AreSmall}
 use Rattle.gs_certificate.specs.TextLaws.{IsStated}
 use Rattle.gs_certificate.specs.Texts.{Stated, certificate_text}
 use Rattle.gs_certificate.specs.Views.{certificate_view}
 use Rattle.gs_certificate.specs.declared.certificate.Certificate.{Certificate}
 use Rattle.gs_certificate.proofs.OneText.{one_certificate}
-use Rattle.gs_certificate.proofs.Only.{only as certificate_only}
+use Rattle.gs_certificate.proofs.Only.{only as certificate_only, stated}
 use Rattle.gs_certify.specs.Certificates.{IsCertified, SaysCertified}
 use Rattle.gs_certify.specs.Verifying.{SaysChecked, SaysVerified, Verifies}
 use Rattle.gs_certify.proofs.Lines.{lines_verified}
@@ -64,9 +63,6 @@ pub certifies_at_last : (words : List (List ℕ)) (old new : Ends) (s : Status) 
     → CompletesStrategy Certify (SaysConfirmed SaysCertified) words old new s
 certifies_at_last words old new s runs version t asked is e few good =
     over_strategy (SaysConfirmed SaysCertified) version t s is (completes words old new s runs Certify (strategy_text version t) asked refl e few good)
-
-stated : (c : Certificate) → AreSmall c → IsStated (certificate_view c)
-stated c small = record { one = record { bound = c.bound1.reduced; values = small.one }; two = record { bound = c.bound2.reduced; values = small.two } }
 
 -- what is said of a certificate's text is said of a certificate of that text
 of_certificate : (t : Strategy) (c : Stated) (reply : Reply) → IsStated c → SaysVerified (certificate_text c) t reply

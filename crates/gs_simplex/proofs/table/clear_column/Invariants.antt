@@ -5,9 +5,12 @@ use Rattle.gs_simplex.proofs.table.clear_column.Given as goal
 abbrev pub invariant-loop-i : goal.invariant-loop-i
 invariant-loop-i l = record {
   width : l.width ≡ length l.lead.numbers.now;
-  done : (h : ℕ) → h < l.i → h ≢ l.lead.row → IsReduced (at l.lead.numbers.now) l.lead.column (length l.lead.numbers.now) (cell l.fn.numbers (length l.lead.numbers.now) h) (cell l.numbers (length l.lead.numbers.now) h);
-  left : (h : ℕ) → (l.i ≤ h) → (j : ℕ) → j < length l.lead.numbers.now → cell l.numbers (length l.lead.numbers.now) h j ≡ cell l.fn.numbers (length l.lead.numbers.now) h j;
-  kept : (j : ℕ) → j < length l.lead.numbers.now → cell l.numbers (length l.lead.numbers.now) l.lead.row j ≡ cell l.fn.numbers (length l.lead.numbers.now) l.lead.row j;
+  done : (h : ℕ) → h < l.i → h ≢ l.lead.row → IsReduced (at l.lead.numbers.now) l.lead.column (length l.lead.numbers.now)
+      (cell l.fn.numbers (length l.lead.numbers.now) h) (cell l.numbers (length l.lead.numbers.now) h);
+  left : (h : ℕ) → (l.i ≤ h) → (j : ℕ) → j < length l.lead.numbers.now
+      → cell l.numbers (length l.lead.numbers.now) h j ≡ cell l.fn.numbers (length l.lead.numbers.now) h j;
+  kept : (j : ℕ) → j < length l.lead.numbers.now
+      → cell l.numbers (length l.lead.numbers.now) l.lead.row j ≡ cell l.fn.numbers (length l.lead.numbers.now) l.lead.row j;
   narrow : AllNarrow l.numbers;
   places : (k : ℕ) → 0 < k → slice_index l.places k ≡ slice_index l.fn.places k;
 }
