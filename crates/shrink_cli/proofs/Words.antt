@@ -1,8 +1,6 @@
 -- Plain words are never refused.
-use Rattle.std.proofs.Common.{◌≡◌, ◌∷◌, ℕ, List, true, true≢false, sym, ap, ◌∙◌, subst}
+use Rattle.std.proofs.Common.{◌≡◌, ℕ, List, true, true≢false, sym, ap, ◌∙◌, subst}
 use Rattle.std.specs.Prelude.{is_some}
-use Rattle.gs_words.specs.Commands.{command_word}
-use Rattle.gs_words.specs.Plain.{option_words}
 use Rattle.gs_words.specs.Requests.{request_of}
 use Rattle.gs_words.proofs.Plain.{plain_read}
 use Rattle.shrink_cli.specs.Promises.{TakesPlainWords}

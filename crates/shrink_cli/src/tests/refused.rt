@@ -1,7 +1,7 @@
-//! Strategy files and certificates that break one rule each, through the whole program: each refusal once, by its whole line. The expected lines are
-//! those of an implementation that was written from the rules alone.
+//! Strategy files and certificates that break one rule each, through the whole program: each refusal once, by its code and its whole line. The expected
+//! lines are those of an implementation that was written from the rules alone.
 
-use super::{NONE, SEVENS, changed, is_said, marked, run_over, text_of};
+use super::{changed, is_said, marked, text_of, told};
 use std::alloc::{AllocError, Global};
 use std::test::Fail;
 
@@ -100,14 +100,6 @@ const DUELS: &str = "\
 -|{\"classes\":[[1,1]],\"game\":{\"ante\":1,\"copies\":\"11\",\"ranking\":\"high\",\"ranks\":\"A\",\"rounds\":[{\"private\":1,\"public\":0,\"tree\":\"1[k:2[k:=,b1:1[f:!,c1:=]],b1:2[f:!,c1:=]]\"}],\"suits\":\"sh\",\"version\":1},\"gap1\":\"0/1\",\"gap2\":\"0/1\",\"player1\":{\"total\":1,\"weights\":[1,0,0,1]},\"player2\":{\"total\":1,\"weights\":[0,1,0,1]},\"value\":\"0/1\",\"version\":1}~|}~|}~|other game~
 ";
 
-/// What a run over memory writes, to one of its ends.
-fn written(alloc: Global, words: &str, input: &[u8]) -> Result<Vec<u8>, AllocError> {
-    let end = run_over(alloc, words, input, NONE, SEVENS)?;
-    let mut text = Vec::from_slice(alloc, end.out.given())?;
-    text.extend_from_slice(end.err.given())?;
-    Ok(text)
-}
-
 /// A file with the changes of a row, one behind the other: two texts for each.
 fn files_of(alloc: Global, file: &str, changes: &[&str]) -> Result<String, AllocError> {
     let mut files = String::new(alloc);
@@ -123,7 +115,28 @@ fn files_of(alloc: Global, file: &str, changes: &[&str]) -> Result<String, Alloc
 fn told_of(alloc: Global, words: &str, file: &str, changes: &str) -> Result<Vec<u8>, AllocError> {
     let parts: Vec<&str> = changes.split('|').collect(alloc)?;
     let files = files_of(alloc, file, &parts)?;
-    written(alloc, words, files.as_bytes())
+    told(alloc, words, files.as_bytes())
+}
+
+/// By how a text begins, what stands before and behind it where a run says it: the code, and whether it goes out or is told.
+const ENDS: &[(&str, &str, &str)] = &[
+    ("value", "0|", "|"),
+    ("bad strategy", "12||", ""),
+    ("wrong numbers", "13||", ""),
+    ("other game", "16||", ""),
+    ("bad certificate", "17||", ""),
+];
+
+/// What a run is to say whose text is this.
+fn wanted_of(alloc: Global, row: &str) -> Result<String, AllocError> {
+    let text = text_of(alloc, row)?;
+    for &(begins, before, behind) in ENDS {
+        if row.as_bytes().starts_with(begins.as_bytes()) {
+            let text = text.as_str();
+            return format!(in alloc; "{before}{text}{behind}");
+        }
+    }
+    Ok(text)
 }
 
 /// What a command says of the changed files of a row, and what it is to say.
@@ -135,7 +148,7 @@ fn refusal(
 ) -> Result<(Vec<u8>, String), AllocError> {
     let (changes, line) = row.rsplit_once('|').unwrap_or(("", row));
     let text = told_of(alloc, words, file, changes)?;
-    let wanted = text_of(alloc, line)?;
+    let wanted = wanted_of(alloc, line)?;
     Ok((text, wanted))
 }
 
@@ -158,12 +171,12 @@ fn each_refusal_by_its_line(rt: HostRuntime) -> Result<(), Fail> {
 }
 
 /// What `evaluate` says of bytes that are no text of JSON.
-const NO_JSON: &[u8] = b"bad strategy: not JSON\n";
+const NO_JSON: &[u8] = b"12||bad strategy: not JSON\n";
 
 #[test]
 fn bytes_that_are_no_json(rt: HostRuntime) -> Result<(), Fail> {
     let deep = vec![in rt.alloc(); b'['; 200]?;
-    let text = written(rt.alloc(), "evaluate", &deep)?;
+    let text = told(rt.alloc(), "evaluate", &deep)?;
     is_said(&rt, &text, NO_JSON, "no JSON");
     Ok(())
 }
@@ -171,7 +184,7 @@ fn bytes_that_are_no_json(rt: HostRuntime) -> Result<(), Fail> {
 #[test]
 fn bytes_behind_a_file_are_no_json(rt: HostRuntime) -> Result<(), Fail> {
     let bytes = marked(rt.alloc(), KUHN)?;
-    let text = written(rt.alloc(), "evaluate", &bytes)?;
+    let text = told(rt.alloc(), "evaluate", &bytes)?;
     is_said(&rt, &text, NO_JSON, "no JSON");
     Ok(())
 }
