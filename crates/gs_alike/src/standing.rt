@@ -1,14 +1,13 @@
 //! A signal for each signal of the last round that stands for it.
 
-ghost use Rattle.std.specs.{Prelude.{◌≡◌, ◌<◌, ℕ, EachIndex, IfOk, IsTrue, length, slice_index}, List.{All}};
-ghost use Rattle.gs_tree.specs.{Plain.{IsPlain}, Trees.{rules_of}, Walk.{last_count}};
+ghost use Rattle.std.specs.{Prelude.{◌≡◌, ◌<◌, EachIndex, IfOk, IsTrue, length, slice_index}, List.{All}};
+ghost use Rattle.gs_tree.specs.{Trees.{rules_of}, Walk.{last_count}};
 ghost use Rattle.gs_alike.specs.{Alike.{AreStandIns}, Boards.{IsBoard}, Firsts.{AreMarks}};
 
 use crate::board::{Board, boards_of};
 use crate::firsts::{NONE, first_items};
 use crate::kinds::{Kinds, kind_of, list_hands};
 use crate::marks::mark_board;
-use gs_game::are_single;
 use gs_tree::Signals;
 use std::alloc::{AllocError, Global};
 use std::collections::HashMap;
@@ -21,14 +20,6 @@ pub struct Boards<'a> {
     list: Vec<Board>,
     by_rank: bool,
     ghost each: { All (IsBoard (rules_of signals.now) by_rank) list.items },
-}
-
-/// Whether no kind of cards has more than one copy, and each player is dealt one private card.
-fn is_plain(signals: &Signals) -> bool
-    ensures { IsTrue result → IsPlain (rules_of signals.now) }
-{
-    let copies = signals.game().game().deck.counts();
-    signals.own_count() == 1 && are_single(copies)
 }
 
 /// Whether each bonus is 1.
@@ -44,7 +35,7 @@ impl<'a> Boards<'a> {
         ensures { IfOk result (λ boards. boards.signals.now ≡ signals.entry.now) }
     {
         let by_rank = are_ones(&signals.game().game().bonus);
-        let list = if is_plain(signals) {
+        let list = if signals.is_plain() {
             boards_of(alloc, signals, by_rank)?
         } else {
             Vec::new(alloc)

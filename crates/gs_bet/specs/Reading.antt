@@ -13,6 +13,7 @@ use Rattle.gs_bet.specs.Grammar.{is_letter}
 abbrev pub Read : Type 0 → Type 0
 Read A = Result (A × List ℕ) (Mistake × List ℕ)
 
+-- what is read next, of the bytes that are left, where there was no mistake so far
 infixl 10 ◌>>=◌
 abbrev pub ◌>>=◌ : {A B : Type 0} → Read A → (A × List ℕ → Read B) → Read B
 (Ok x) >>= f = f x

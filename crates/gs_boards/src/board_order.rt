@@ -1,23 +1,14 @@
 //! The last-round signals of a game in the order of boards and strengths.
 
-ghost use Rattle.std.specs.Prelude.{◌≡◌, ◌<◌, IfOk, MatchBool, length};
+ghost use Rattle.std.specs.Prelude.{◌≡◌, ◌<◌, IfOk, length};
 ghost use Rattle.gs_tree.specs.{Plain.{IsPlain}, Trees.{rules_of}, Walk.{last_count}};
 ghost use Rattle.gs_boards.specs.Boards.{ArePlaces};
 
 use crate::pays::Pays;
 use crate::place::{Place, places_of, sort_places};
 use crate::walks::{climb, descend};
-use gs_game::are_single;
 use gs_tree::Signals;
 use std::alloc::{AllocError, Global};
-
-/// Whether no kind of cards has more than one copy, and each player is dealt one private card.
-fn is_plain(signals: &Signals) -> bool
-    ensures { MatchBool result (IsPlain (rules_of signals.now)) (IsPlain (rules_of signals.now) → last_count (rules_of signals.now) ≡ 0) }
-{
-    let copies = signals.game().game().deck.counts();
-    signals.own_count() == 1 && are_single(copies)
-}
 
 /// The last-round signals of a game in which any two different signals that show the same public cards are as likely: board by board, and on each
 /// board by strength. What each of them is paid in its deals is then a sum that runs along its board, and no deal is looked at.
@@ -38,7 +29,7 @@ impl<'s> BoardOrder<'s> {
         ensures { IfOk result (λ o. MatchOption o (IsPlain (rules_of signals.entry.now)
             → last_count (rules_of signals.entry.now) ≡ 0) (λ b. b.signals.now ≡ signals.entry.now)) }
     {
-        if !is_plain(signals) {
+        if !signals.is_plain() {
             return Ok(None);
         }
         let mut places = places_of(alloc, signals)?;

@@ -8,9 +8,9 @@ use Rattle.std.proofs.lemmas.List.{get_or-set_same, get_or-set_other, length-map
 use Rattle.std.proofs.lemmas.List.Elements.{All-contains, All-from_recursion, Contains-append_left, Contains-append_right}
 use Rattle.std.proofs.lemmas.List.Sums.{sum_by-cons}
 use Rattle.gs_model.specs.Cards.{groups, groups_above, groups_with}
+use Rattle.gs_model.proofs.Listed.{times}
 use Rattle.gs_model.proofs.Ranges.{every-append}
 use Rattle.gs_card.specs.Groups.{IsGroup}
-use Rattle.gs_card.proofs.TakenCards.{times}
 
 times-here : (k : ℕ) (g : List ℕ) → times k (k ∷ g) ≡ suc (times k g)
 times-here k g =

@@ -1,12 +1,12 @@
 -- The ways of taking a group, card by card.
 use Rattle.std.proofs.Common.{◌≡◌, ◌≢◌, ℕ, zero, suc, ◌+◌, ◌-◌, ◌*◌, ◌/◌, ◌^◌, ◌<◌, ◌≤◌, List, [], ◌∷◌, ◌++◌, length, take, get_or, refl, ap, sym, ◌∙◌, cond, eqb, arith, ⊎_elim, subst, add-one, true, false}
-use Rattle.std.specs.Prelude.{count_by, ◌==◌}
 use Rattle.std.proofs.lemmas.Bool.{cases_lt, eq-eqb, ne_eqb}
 use Rattle.std.proofs.lemmas.List.{take_more}
 use Rattle.std.proofs.lemmas.List.Sums.{sum_by_push}
 use Rattle.std.proofs.Math.Nat.{mul-div_cancel, div-le_self, pow-succ'}
 use Rattle.gs_model.specs.Cards.{choose, ways, ways_from}
 use Rattle.gs_model.proofs.Choose.{choose-zero}
+use Rattle.gs_model.proofs.Listed.{times}
 
 -- one more of n things is chosen: each choice of t + 1 comes from t + 1 choices of t
 pub choose_more : (n t : ℕ) → choose n (suc t) * suc t ≡ choose n t * (n - t)
@@ -41,10 +41,6 @@ choose_more (suc n) (suc t) =
       ap (λ k. choose n (suc t) * k) f,
     ))
     (cases_lt n (suc t))
-
--- how often a card stands in a group
-abbrev pub times : ℕ → List ℕ → ℕ
-times k g = count_by (λ x. x == k) g
 
 pub times_here : (k : ℕ) (g : List ℕ) → times k (g ++ k ∷ []) ≡ suc (times k g)
 times_here k g =

@@ -7,8 +7,9 @@ use crate::cards::Card;
 use crate::groups::Group;
 
 /// How often the card stands among the cards.
-fn times(cards: &[Card], card: Card) -> u64
-    ensures { result ≡ count_by (λ other. other == card) cards.now }
+pub fn times(cards: &[Card], card: Card) -> u64
+    ensures value { result ≡ count_by (λ other. other == card) cards.now }
+    ensures bound { result ≤ length cards.now }
 {
     cards
         .iter()

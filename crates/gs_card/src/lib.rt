@@ -14,7 +14,7 @@ mod groups;
 mod rankings;
 
 pub use cards::{Card, Cards};
-pub use counting::ways;
+pub use counting::{times, ways};
 pub use decks::Deck;
 pub use faults::DeckFault;
 pub use groups::Group;

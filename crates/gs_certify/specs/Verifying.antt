@@ -10,7 +10,7 @@ use Rattle.gs_certificate.specs.declared.fault.CertFault.{CertFault}
 use Rattle.gs_certificate.specs.declared.text_fault.CertTextFault.{CertTextFault}
 use Rattle.gs_confirm.specs.Commands.{OfStrategy}
 use Rattle.gs_confirm.specs.Troubles.{IsTooLarge, IsUnlikePair}
-use Rattle.gs_frac.specs.Texts.{fraction_text}
+use Rattle.gs_frac.specs.Texts.{number_line}
 use Rattle.gs_json.specs.FirstLine.{first_line}
 use Rattle.gs_model.specs.Lossless.{IsLossless}
 use Rattle.gs_model.specs.Verdict.{IsValue}
@@ -21,14 +21,10 @@ use Rattle.gs_strategy.specs.Confirmed.{frame_of, over, raw_plan}
 use Rattle.gs_strategy.specs.Values.{IsFractionOf, Parts, Strategy}
 use Rattle.gs_certify.specs.Certificates.{IsCertificateOf}
 
--- a line of words and a number
-abbrev pub number_line : List ℕ → Parts → List ℕ
-number_line words p = words ++ fraction_text p.0 p.1 ++ codes "\n"
-
 -- the value of the plans, and each player's bound
 abbrev pub bounds_text : Parts → Stated → List ℕ
-bounds_text value c = number_line (codes "value ") value ++ number_line (codes "player1 at most ") c.one.bound
-    ++ number_line (codes "player2 at most ") c.two.bound
+bounds_text value c = number_line (codes "value") value ++ number_line (codes "player1 at most") c.one.bound
+    ++ number_line (codes "player2 at most") c.two.bound
 
 -- the classes are lossless, the certificate holds of the plans, and these are their value and the bounds
 pub record IsVerified (s : Strategy) (c : Certificate) (text : List ℕ) : Type 0 where

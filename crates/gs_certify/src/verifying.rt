@@ -1,45 +1,31 @@
 //! A certificate beside the plans of a strategy.
 
-ghost use Rattle.std.specs.Prelude.{◌≡◌, ◌++◌, IfOk, OnOk, string_bytes};
+ghost use Rattle.std.specs.Prelude.{◌≡◌, IfOk};
 ghost use Rattle.gs_certificate.specs.{Checks.{AreSmall}, FaultTexts.{cert_fault_text as text_of_fault, cert_text_fault_text as text_of_text_fault}};
 ghost use Rattle.gs_certificate.specs.Views.{certificate_view};
 ghost use Rattle.gs_confirm.specs.Held.{IsFormOf};
 ghost use Rattle.gs_reply.specs.{Refusals.{Bad_certificate}, Replies.{Answers, Tells}};
 ghost use Rattle.gs_strategy.specs.Views.{parts_of, stored_view};
-ghost use Rattle.gs_certify.specs.Verifying.{SaysChecked, bounds_text as text_of_bounds, number_line};
+ghost use Rattle.gs_certify.specs.Verifying.{SaysChecked, bounds_text as text_of_bounds};
 
 use crate::value::value_of;
 use gs_certificate::{
     CertFault, CertTextFault, Certificate, cert_fault_text, cert_text_fault_text, certified_payoff,
 };
-use gs_frac::Fraction;
+use gs_frac::{Fraction, push_line};
 use gs_reply::{Answer, bad_certificate};
 use gs_seq::Abstract;
 use gs_strategy::Stored;
 use std::alloc::{AllocError, Global};
-
-// Adds a line of words and a number.
-fn push_line(
-    text: &mut String,
-    alloc: Global,
-    words: &str,
-    number: &Fraction,
-) -> Result<(), AllocError>
-    ensures { OnOk result (string_bytes text.new ≡ string_bytes text.old ++ number_line words.now (parts_of number.now)) }
-{
-    text.push_str(words)?;
-    text.push_str(number.to_text(alloc)?.as_str())?;
-    text.push_str("\n")
-}
 
 // The value of two plans, and each player's bound.
 fn bounds_text(alloc: Global, value: &Fraction, c: &Certificate) -> Result<Vec<u8>, AllocError>
     ensures { IfOk result (λ text. text.items ≡ text_of_bounds (parts_of value.now) (certificate_view c.now)) }
 {
     let mut text = String::new(alloc);
-    push_line(&mut text, alloc, "value ", value)?;
-    push_line(&mut text, alloc, "player1 at most ", &c.bound1)?;
-    push_line(&mut text, alloc, "player2 at most ", &c.bound2)?;
+    push_line(&mut text, "value", value)?;
+    push_line(&mut text, "player1 at most", &c.bound1)?;
+    push_line(&mut text, "player2 at most", &c.bound2)?;
     Ok(text.into_bytes())
 }
 

@@ -3,6 +3,7 @@
 use Rattle.std.specs.Prelude.{◌≡◌, ◌++◌, ◌<◌, ℕ, List, codes, get_or, length, pos}
 use Rattle.std.specs.List.{flat_map, range_with_len}
 use Rattle.gs_card.specs.Decks.{DeckValue}
+use Rattle.gs_frac.specs.Texts.{number_line}
 use Rattle.gs_model.specs.Frame.{signal_count}
 use Rattle.gs_model.specs.Game.{Game}
 use Rattle.gs_model.specs.Payoff.{IsHandValue}
@@ -12,7 +13,6 @@ use Rattle.gs_model.specs.Verdict.{IsJudgedVerdict}
 use Rattle.gs_seq.specs.Slots.{plan_of}
 use Rattle.gs_strategy.specs.Confirmed.{frame_of, over, raw_plan}
 use Rattle.gs_strategy.specs.Values.{IsFractionOf, Numbers, Parts, Strategy, Weights}
-use Rattle.gs_text.specs.VerdictText.{number_line}
 use Rattle.gs_tree.specs.Texts.{signal_text}
 
 -- the plan over a strategy's classes that weights are

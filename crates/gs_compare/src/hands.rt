@@ -6,7 +6,7 @@ ghost use Rattle.gs_model.specs.Signals.{signals as signals_in};
 ghost use Rattle.gs_strategy.specs.Views.{parts_of};
 ghost use Rattle.gs_tree.specs.Trees.{deck_of, rules_of};
 
-use gs_frac::Fraction;
+use gs_frac::{Fraction, push_line};
 use gs_tree::Signals;
 use std::alloc::{AllocError, Global};
 
@@ -25,10 +25,7 @@ fn push_hand(
     // called only for what its contract says
     let _rounds = signals.rounds();
     text.push_str("hand ")?;
-    text.push_str(signals.text(alloc, 1, signal)?.as_str())?;
-    text.push_str(" ")?;
-    text.push_str(value.to_text(alloc)?.as_str())?;
-    text.push_str("\n")
+    push_line(text, signals.text(alloc, 1, signal)?.as_str(), value)
 }
 
 // The lines of all raw signals of round 1.

@@ -1,18 +1,14 @@
 -- What the checks of a strategy find is what a command answers.
-use Rattle.std.proofs.Common.{◌≡◌, ◌<◌, ◌≤◌, ℕ, List, inr, length, refl, sym, ap, subst, ◌∙◌, arith}
+use Rattle.std.proofs.Common.{◌≡◌, ℕ, List, inr, refl, sym, subst}
 use Rattle.gs_best.specs.Judged.{parts}
 use Rattle.gs_filter.specs.Filter.{Filter}
 use Rattle.gs_frac.specs.declared.value.Verdict.{Verdict}
 use Rattle.gs_game.specs.Games.{game_of}
 use Rattle.gs_game.specs.declared.valid.ValidGame.{ValidGame}
-use Rattle.gs_model.specs.Classes.{ClassLists, IsClasses, class_of, first_member, list_of}
 use Rattle.gs_model.specs.Frame.{frame_of as rules_frame}
-use Rattle.gs_model.specs.Game.{Game, round_count}
 use Rattle.gs_model.specs.Lossless.{IsFirstUnlike, IsLossless}
 use Rattle.gs_model.specs.Signals.{signal_at, signals}
 use Rattle.gs_model.specs.Verdict.{IsVerdict}
-use Rattle.gs_model.proofs.Ranges.{signal_count_is}
-use Rattle.gs_model.proofs.Walked.{last_round_of}
 use Rattle.gs_reply.proofs.Refused.{answers_more, tells_answer}
 use Rattle.gs_reply.specs.Refusals.{Unlike_pair, Limit, Too_large, Wrong_number}
 use Rattle.gs_reply.specs.Replies.{Answers, Reply, Tells}
@@ -36,39 +32,14 @@ unlike_refused says s a h = answers_more (SaysUnlike s) (OfConfirmed says s) (λ
 -- ---- classes
 
 -- the first unlike pair of a strategy's classes, by the texts of its signals
-pub pair_told : (w : ValidGame) (s : Stored) (round named first second : ℕ) (a : Answer) → w ≡ s.game
-    → IsFirstUnlike (frame_in w) s.classes.lists round named second → (IsLossless (frame_in w) s.classes.lists → ⊥)
-    → first ≡ first_member s.classes.lists round (class_of s.classes.lists round second)
+pub pair_told : (w : ValidGame) (s : Stored) (round first second : ℕ) (a : Answer) → w ≡ s.game
+    → IsFirstUnlike (frame_in w) s.classes.lists round first second → (IsLossless (frame_in w) s.classes.lists → ⊥)
     → Tells a (Unlike_pair round (signal_text w.game.deck (signal_at (game_of w.game) round first))
     (signal_text w.game.deck (signal_at (game_of w.game) round second))) → Answers (SaysUnlike (stored_view s)) a
-pair_told w s round named first second a e unlike not is t =
-    let same : named ≡ first = unlike.member ∙ sym is in
-    let here : IsFirstUnlike (frame_in w) s.classes.lists round first second =
-    subst (λ n. IsFirstUnlike (frame_in w) s.classes.lists round n second) same unlike in
+pair_told w s round first second a e unlike not t =
     let told = tells_answer (SaysUnlike (strategy_of w s.classes s.one s.two s.verdict)) a (Unlike_pair round _ _)
-    (round, _, _, record { first = first; second = second; unlike = here; not_lossless = not; first_text = refl; second_text = refl }, refl) t in
+    (round, _, _, record { first = first; second = second; unlike = unlike; not_lossless = not; first_text = refl; second_text = refl }, refl) t in
     subst (λ (x : ValidGame). Answers (SaysUnlike (strategy_of x s.classes s.one s.two s.verdict)) a) e told
-
--- the two signals of an unlike pair are signals of a round of the game
-pub record IsPairIn (g : Game) (round first second : ℕ) : Type 0 where
-  pub last : round ≤ round_count g
-  pub first_in : first < length (signals g round)
-  pub second_in : second < length (signals g round)
-
-pub pair_in : (g : Game) (parents : List (List ℕ)) (lists : ClassLists) (round named first second : ℕ) → parents ≡ (rules_frame g).parents
-    → IsClasses parents lists → IsFirstUnlike (rules_frame g) lists round named second
-    → first < length (list_of lists round) → IsPairIn g round first second
-pair_in g parents lists round named first second e h unlike within =
-    let some : 0 < round = unlike.round_in.0 in
-    let top : round ≤ length (rules_frame g).parents = unlike.round_in.1 in
-    let n = last_round_of g in
-    let last : round ≤ round_count g = omega (arith, top, n) in
-    let count = signal_count_is g round some last in
-    let m : length parents ≡ length (rules_frame g).parents = ap (λ (ps : List (List ℕ)). length ps) e in
-    let long = h.lengths round some (omega (arith, top, m)) in
-    let at : length (list_of parents round) ≡ length (list_of (rules_frame g).parents round) = ap (λ (ps : List (List ℕ)). length (list_of ps round)) e in
-    let second_in = unlike.second_in in
-    record { last = last; first_in = omega (arith, within, long, at, count); second_in = omega (arith, second_in, count) }
 
 -- ---- sizes
 

@@ -3,7 +3,6 @@
 ghost use Rattle.std.specs.Prelude.{◌≡◌, IfErr, IfOk, MatchOption};
 ghost use Rattle.gs_model.specs.{Frame.{frame_of as rules_frame}, Lossless.{IsLossless}};
 ghost use Rattle.gs_tree.specs.Trees.{rules_of};
-ghost use Rattle.gs_seq.specs.Stops.{IsSmall};
 ghost use Rattle.gs_strategy.specs.{Confirmed.{IsConfirmed, frame_of}, Views.{stored_view}};
 ghost use Rattle.gs_reply.specs.Replies.{Answers};
 ghost use Rattle.gs_confirm.specs.{Held.{Holds, IsFormOf}, Troubles.{SaysLarge, SaysUnlike, SaysWrong}};
@@ -29,15 +28,15 @@ pub fn lossless_of<'a>(
     ensures lossless { IfOk result (λ found. IfOk found (λ _. IsLossless (frame_of (stored_view stored.entry.now)) stored.entry.now.classes.lists)) }
     ensures unlike { IfOk result (λ found. IfErr found (Answers (SaysUnlike (stored_view stored.entry.now)))) }
 {
-    let classes = &stored.classes;
-    // called only for what its contract says
-    let _rounds = classes.rounds();
-    match check(alloc, signals, classes) {
+    match check(alloc, signals, &stored.classes) {
         Ok(lossless) => Ok(Ok(lossless)),
-        Err(CheckStop::Unlike { round, second, .. }) => {
-            let first = classes.first(round, classes.class_of(round, second));
-            Ok(Err(unlike(alloc, signals, round, first, second)?))
-        }
+        Err(
+            CheckStop::Unlike {
+                round,
+                first,
+                second,
+            },
+        ) => Ok(Err(unlike(alloc, signals, round, first, second)?)),
         Err(CheckStop::Memory) => Err(AllocError),
     }
 }

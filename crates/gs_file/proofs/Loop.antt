@@ -4,9 +4,10 @@ use Rattle.std.proofs.lemmas.List.{append-nil, drop_all}
 use Rattle.std.proofs.Math.Seq.{drop-cons}
 use Rattle.gs_game.specs.declared.faults.GameFault.{GameFault}
 use Rattle.gs_game.specs.declared.faults.GameFault.TheVariants as rules
+use Rattle.gs_json.specs.Steps.{◌>>=◌}
 use Rattle.gs_file.specs.declared.fault.FileFault.{FileFault}
 use Rattle.gs_file.specs.declared.fault.FileFault.TheVariants as fault
-use Rattle.gs_file.specs.Faults.{Fault, ◌>>=◌}
+use Rattle.gs_file.specs.Faults.{Fault}
 use Rattle.gs_file.specs.Answers.{Fails, FailsByRules}
 use Rattle.gs_file.specs.Tables.{each}
 

@@ -1,7 +1,8 @@
 -- What stands at the top of a game file, as facts on its table: the values by their keys, and their types.
 use Rattle.std.proofs.Common.{◌≡◌, ℕ, zero, suc, List, [], Option, Some, None, Ok, ℤ, pos, negsuc, refl, sym, ap, ◌∙◌, subst, inl, inr, ◌⊎◌, arith}
 use Rattle.toml.specs.Data.{Data, Members, as_integer, as_str, get_member}
-use Rattle.gs_file.specs.Faults.{bad_version, wrong_type, missing_key, ◌>>=◌}
+use Rattle.gs_json.specs.Steps.{◌>>=◌}
+use Rattle.gs_file.specs.Faults.{bad_version, wrong_type, missing_key}
 use Rattle.gs_file.specs.JsonForm.{version_number}
 use Rattle.gs_file.specs.Keys.{key_in, top, top_keys}
 use Rattle.gs_file.specs.Reading.{Top, TopValues, bonus_numbers, bonus_value, typed_at, values_at, version_at, version_of}

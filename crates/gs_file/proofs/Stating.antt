@@ -4,7 +4,8 @@ use Rattle.std.specs.Prelude.{◌↔◌, if◌then◌else◌}
 use Rattle.std.specs.Option.{ok_or}
 use Rattle.std.proofs.lemmas.Bool.{and_parts, le-leb, leb-true}
 use Rattle.toml.specs.Data.{Data, Members, as_array, as_table, as_integer}
-use Rattle.gs_file.specs.Faults.{Fault, unknown_key, range, wrong_type, ◌>>=◌}
+use Rattle.gs_json.specs.Steps.{◌>>=◌}
+use Rattle.gs_file.specs.Faults.{Fault, unknown_key, range, wrong_type}
 use Rattle.gs_file.specs.Keys.{has_only}
 use Rattle.gs_file.specs.States.{HasOnly, IsList, OneByOne}
 use Rattle.gs_file.specs.Tables.{each, list_of, only, table_in, array_in, tables_in, whole_number, whole_numbers_in, within}

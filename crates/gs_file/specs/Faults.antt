@@ -1,5 +1,5 @@
 -- What a game file may have wrong, and which fault of the program says so.
-use Rattle.std.specs.Prelude.{ℕ, ℤ, Result, Ok, Err}
+use Rattle.std.specs.Prelude.{ℕ, ℤ}
 use Rattle.gs_bet.specs.declared.fault.TreeFault.{TreeFault}
 use Rattle.gs_card.specs.declared.faults.DeckFault.{DeckFault}
 use Rattle.gs_game.specs.Refusals.{Refusal}
@@ -18,9 +18,3 @@ pub data Fault : Type 0 where
   deck : DeckFault → Fault
   tree_text : ℕ → TreeFault → Fault
   game : Refusal → Fault
-
--- what is read next, where nothing was wrong so far
-infixl 10 ◌>>=◌
-abbrev pub ◌>>=◌ : {A B : Type 0} → Result A Fault → (A → Result B Fault) → Result B Fault
-(Ok x) >>= f = f x
-(Err e) >>= f = Err e

@@ -12,10 +12,11 @@ use Rattle.gs_card.specs.DeckFaults.{fault_of as deck_fault_of}
 use Rattle.gs_card.specs.Decks.{DeckValue, deck_of}
 use Rattle.gs_card.specs.declared.faults.DeckFault.{DeckFault}
 use Rattle.gs_game.specs.Refusals.{first_refusal, rounds as rounds_refused, Refusal}
+use Rattle.gs_json.specs.Steps.{◌>>=◌}
 use Rattle.gs_model.specs.Betting.{Bet}
 use Rattle.gs_model.specs.Game.{Game, Round as RoundRules, Ranking, High, Pair, Three}
 use Rattle.gs_model.specs.Outcome.{categories}
-use Rattle.gs_file.specs.Faults.{Fault, not_text, not_toml, bad_version, range, deck, tree_text, game, ◌>>=◌}
+use Rattle.gs_file.specs.Faults.{Fault, not_text, not_toml, bad_version, range, deck, tree_text, game}
 use Rattle.gs_file.specs.Keys.{top, within_round, top_keys, tree_keys, limit_keys, key_text}
 use Rattle.gs_file.specs.Tables.{required, only, whole_number, text, text_or_empty, tables_in, whole_numbers_in, each, within}
 use Rattle.gs_file.specs.declared.fault.Key.{Key}

@@ -19,7 +19,7 @@ together : (parents : List (List ℕ)) (lists : ClassLists) (round b : ℕ) → 
 together parents lists round b h later top within =
     let list = list_of lists round in
     let a = first_beside list b in
-    let before : a ≤ b = first_before list b within in
+    let before : a ≤ b = first_before list b in
     let same : get_or list a 0 ≡ get_or list b 0 = eqb-true (get_or list a 0) (get_or list b 0)
     (passes_at_first (λ x. x == get_or list b 0) list 0 (omega arith)) in
     let long : length list ≡ length (list_of parents round) = h.lengths round (omega arith) top in

@@ -27,8 +27,8 @@ pub length-tallies_of : (xs : List ℕ) → length (tallies_of xs) ≡ greatest 
 length-tallies_of xs = length-map-range_with_len (tally_of xs) 1 (greatest xs)
 
 -- the first place of a member's class is not behind the member
-pub first_before : (xs : List ℕ) (s : ℕ) → s < length xs → position_or_len (λ x. x == get_or xs s 0) xs ≤ s
-first_before xs s l = ⊎_elim
+pub first_before : (xs : List ℕ) (s : ℕ) → position_or_len (λ x. x == get_or xs s 0) xs ≤ s
+first_before xs s = ⊎_elim
     (λ after. absurd (true≢false (sym (eq-eqb (get_or xs s 0) (get_or xs s 0) refl) ∙ fails_before_first (λ x. x == get_or xs s 0) xs s 0 after)))
     (λ before. before)
     (cases_lt s (position_or_len (λ x. x == get_or xs s 0) xs))
@@ -38,7 +38,7 @@ pub first_in : (xs : List ℕ) (c : ℕ) → IsNumbered xs → 0 < c → c ≤ g
 first_in xs c h some top =
     let r = occurs xs h (length xs) c (omega arith) some (subst (λ l. c ≤ greatest l) (sym (whole xs)) top) in
     let b = r.before in
-    let a = first_before xs r.at b in
+    let a = first_before xs r.at in
     let i : position_or_len (λ x. x == c) xs ≤ r.at = subst (λ v. position_or_len (λ x. x == v) xs ≤ r.at) r.here a in
     omega arith
 

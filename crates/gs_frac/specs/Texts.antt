@@ -1,5 +1,5 @@
 -- The texts of fractions.
-use Rattle.std.specs.Prelude.{ℕ, ◌^◌, ℤ, pos, negsuc, neg_ℤ, Bool, true, false, ◌&&◌, ◌==◌, nat_lt, if◌then◌else◌, List, [], ◌∷◌, ◌++◌, length, Option, Some, None, Result, Ok, Err, option_map, unsigned_abs}
+use Rattle.std.specs.Prelude.{ℕ, ◌^◌, ℤ, pos, negsuc, neg_ℤ, Bool, true, false, ◌&&◌, ◌==◌, nat_lt, if◌then◌else◌, List, [], ◌∷◌, ◌++◌, length, Option, Some, None, Result, Ok, Err, codes, option_map, unsigned_abs}
 use Rattle.std.specs.Fmt.{signed_decimal}
 use Rattle.std.specs.Str.{all_ascii_digits}
 use Rattle.std.specs.Str.Parse.{digits_value}
@@ -10,6 +10,10 @@ use Rattle.gs_frac.specs.Gcd.{gcd_of}
 -- `num/den`
 abbrev pub fraction_text : ℤ → ℤ → List ℕ
 fraction_text num den = signed_decimal num ++ 47 ∷ signed_decimal den
+
+-- words and a fraction as a line
+abbrev pub number_line : List ℕ → ℤ × ℤ → List ℕ
+number_line words f = words ++ codes " " ++ fraction_text f.0 f.1 ++ codes "\n"
 
 -- digits, at least one, without leading zeros
 abbrev pub is_numeral : List ℕ → Bool

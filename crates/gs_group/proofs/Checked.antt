@@ -6,7 +6,7 @@ use Rattle.gs_filter.specs.Filter.{single_classes}
 use Rattle.gs_filter.proofs.ClassLaws.{single_are_classes}
 use Rattle.gs_iso.proofs.Whole.{all_parents, parents_at, parents_long}
 use Rattle.gs_lossless.proofs.Settled.{singles}
-use Rattle.gs_model.specs.Classes.{ClassLists, IsClasses, class_of, first_member, list_of}
+use Rattle.gs_model.specs.Classes.{ClassLists, IsClasses, list_of}
 use Rattle.gs_model.specs.Frame.{frame_of}
 use Rattle.gs_model.specs.Game.{Game}
 use Rattle.gs_model.specs.Lossless.{IsFirstUnlike, IsLossless}
@@ -76,20 +76,18 @@ unlike_so Coarsest v lists round first second one two are single lossless unlike
 unlike_so Single v lists round first second one two are single lossless unlike is_one is_two = absurd (single are)
 
 -- the first unlike pair of a grouping's classes, as it is said of the game that they are of
-pub is_unlike : (grouping : Grouping) (v : FileGame) (g : Game) (d : DeckValue) (lists : ClassLists) (parents : List (List ℕ)) (round named first second : ℕ)
+pub is_unlike : (grouping : Grouping) (v : FileGame) (g : Game) (d : DeckValue) (lists : ClassLists) (parents : List (List ℕ)) (round first second : ℕ)
     → g ≡ rules_of v → d ≡ v.deck
     → IsGrouping grouping g lists → parents ≡ (frame_of g).parents → (lists ≡ single_classes parents → ⊥) → (IsLossless (frame_of g) lists → ⊥)
-    → IsFirstUnlike (frame_of g) lists round named second → first ≡ first_member lists round (class_of lists round second)
+    → IsFirstUnlike (frame_of g) lists round first second
     → (grouping ≡ Isomorphism) × IsUnlikePair v round (signal_text d (signal_at g round first)) (signal_text d (signal_at g round second))
-is_unlike grouping v g d lists parents round named first second of_game of_deck are of_parents single lossless unlike is_first =
-    let same : named ≡ first = unlike.member ∙ sym is_first in
-    let here : IsFirstUnlike (frame_of g) lists round first second = subst (λ n. IsFirstUnlike (frame_of g) lists round n second) same unlike in
+is_unlike grouping v g d lists parents round first second of_game of_deck are of_parents single lossless unlike =
     let written : (n : ℕ) → signal_text d (signal_at g round n) ≡ signal_text v.deck (signal_at (rules_of v) round n) =
     (λ n. ap (λ (x : DeckValue). signal_text x (signal_at g round n)) of_deck ∙ ap (λ (x : Game). signal_text v.deck (signal_at x round n)) of_game) in
     unlike_so grouping v lists round first second (signal_text d (signal_at g round first)) (signal_text d (signal_at g round second))
     (subst (λ (x : Game). IsGrouping grouping x lists) of_game are)
     (λ e. single (e ∙ ap single_classes (sym (of_parents ∙ ap (λ x. (frame_of x).parents) of_game))))
     (λ h. lossless (subst (λ (x : Game). IsLossless (frame_of x) lists) (sym of_game) h))
-    (subst (λ (x : Game). IsFirstUnlike (frame_of x) lists round first second) of_game here)
+    (subst (λ (x : Game). IsFirstUnlike (frame_of x) lists round first second) of_game unlike)
     (written first)
     (written second)

@@ -1,6 +1,6 @@
 //! The command `check`.
 
-ghost use Rattle.std.specs.Prelude.{◌≡◌, IfOk};
+ghost use Rattle.std.specs.Prelude.{IfOk};
 ghost use Rattle.gs_file.specs.Views.{valid_view};
 ghost use Rattle.gs_group.specs.Checking.{Checks, ChecksGame};
 ghost use Rattle.gs_reply.specs.Replies.{Answers};
@@ -30,10 +30,13 @@ fn checked(
     let _rounds = classes.rounds();
     match lossless_of(alloc, &signals, &classes, grouping) {
         Ok(_) => Ok(Answer::Prints(told(alloc, &signals, &classes, summary)?)),
-        Err(CheckStop::Unlike { round, second, .. }) => {
-            let first = classes.first(round, classes.class_of(round, second));
-            unlike(alloc, &signals, round, first, second)
-        }
+        Err(
+            CheckStop::Unlike {
+                round,
+                first,
+                second,
+            },
+        ) => unlike(alloc, &signals, round, first, second),
         Err(CheckStop::Memory) => Err(AllocError),
     }
 }

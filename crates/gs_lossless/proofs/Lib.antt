@@ -3,6 +3,7 @@ pub mod Descent
 pub mod Weighed
 pub mod PartsOf
 pub mod Settled
+pub mod Unlike
 pub mod Scanned
 pub mod Alike
 pub mod Transfer

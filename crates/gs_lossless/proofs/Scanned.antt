@@ -91,9 +91,9 @@ agree_more f lists side round signal h here s l = ⊎_elim (λ under. h s under)
 -- a signal that an earlier one stands for is not the first member of its class, and agrees with that one
 module _ (f : Frame) (lists : ClassLists) (side : Side) (round signal : ℕ) (firsts : List ℕ) (h : AreSideFirsts f lists side round firsts)
     (l : signal < length firsts) (under : get_or firsts signal 0 < signal) where
-  pub stood_later : signal < length (list_of lists round) → first_member lists round (class_of lists round signal) ≡ signal → ⊥
-  stood_later within e =
-      let le = first_le lists round (get_or firsts signal 0) (omega (arith, under, within)) in
+  pub stood_later : first_member lists round (class_of lists round signal) ≡ signal → ⊥
+  stood_later e =
+      let le = first_le lists round (get_or firsts signal 0) in
       let own = ap (first_member lists round) (h.class signal l) in
       absurd (omega (arith, le, own, e, under))
 

@@ -51,7 +51,7 @@ single_place : (xs : List ℕ) (s : ℕ) → s < length xs → count_by (λ x. x
 single_place xs s l one =
     let t : ℕ → Bool = λ x. x == get_or xs s 0 in
     let p = position_or_len t xs in
-    let before : p ≤ s = first_before xs s l in
+    let before : p ≤ s = first_before xs s in
     let here : t (get_or xs p 0) ≡ true = passes_at_first t xs 0 (omega arith) in
     ⊎_elim
     (λ under. absurd (let two = two_pass t xs p s under l here ((Decides-eqb (get_or xs s 0) (get_or xs s 0)).1 refl) in omega (arith, two, one)))
@@ -66,8 +66,9 @@ pub single_agrees : (f : Frame) (lists : ClassLists) (side : Side) (round s : �
     → class_size lists round (class_of lists round s) ≡ 1 → AgreesWithFirst f lists side round s
 single_agrees f lists side round s l one c o = ap (λ x. amount f lists side round x c o) (single_first lists round s l one)
 
-pub first_le : (lists : ClassLists) (round s : ℕ) → s < length (list_of lists round) → first_member lists round (class_of lists round s) ≤ s
-first_le lists round s l = first_before (list_of lists round) s l
+-- the first member of a signal's class is not behind it
+pub first_le : (lists : ClassLists) (round s : ℕ) → first_member lists round (class_of lists round s) ≤ s
+first_le lists round s = first_before (list_of lists round) s
 
 -- ---- agreement and likeness
 

@@ -4,6 +4,7 @@
 mod checking;
 mod grouped;
 mod keys;
+mod lists;
 mod parts;
 mod runs;
 mod scan;
@@ -15,6 +16,7 @@ mod stopped;
 pub use checking::{Lossless, check};
 pub use grouped::Grouped;
 pub use keys::side_keys;
+pub use lists::empty_lists;
 pub use parts::Part;
 pub use runs::{Run, ancestor, descendants, descendants_in};
 pub use sides::{Side, side_sums};

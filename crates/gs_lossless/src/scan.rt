@@ -1,28 +1,18 @@
 //! The first signal of a round that differs from the first member of its class.
 
-ghost use Rattle.std.specs.Prelude.{◌≡◌, ◌<◌, ◌≤◌, IfOk, IsTrue, length};
+ghost use Rattle.std.specs.Prelude.{◌<◌, ◌≤◌, IfOk, IsTrue, length};
 ghost use Rattle.gs_model.specs.{Classes.{list_of}, Frame.{frame_of}, Signals.{signals as signals_in}};
 ghost use Rattle.gs_tree.specs.Trees.{rules_of};
 ghost use Rattle.gs_lossless.specs.{Amounts.{HasSide}, Scans.{AreAloneBelow, IsFirstApart}};
 
 use crate::grouped::Grouped;
 use crate::keys::side_keys;
-use crate::parts::{Part, are_same};
+use crate::lists::empty_lists;
+use crate::parts::are_same;
 use crate::sides::{Side, side_sums};
 use crate::standing::{has_earlier, stand_ins_at};
 use gs_filter::Classes;
 use std::alloc::{AllocError, Global};
-
-/// A list for each class of a round, all empty.
-fn empty_lists(alloc: Global, classes: u32) -> Result<Vec<Vec<Part>>, AllocError>
-    ensures { IfOk result (λ v. length v.items ≡ classes) }
-{
-    let mut lists = Vec::with_capacity(alloc, classes as usize)?;
-    for _ in 0..classes {
-        lists.push(Vec::new(alloc))?;
-    }
-    Ok(lists)
-}
 
 /// Whether each class of a round has one member.
 fn are_alone(classes: &Classes, round: u8) -> bool

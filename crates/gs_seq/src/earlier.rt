@@ -1,27 +1,14 @@
 //! The rows of a round from those of the next round: what the classes below two classes weigh together.
 
-ghost use Rattle.std.specs.Prelude.{◌≡◌, ◌+◌, ◌-◌, ◌<◌, ◌≤◌, ◌++◌, ℕ, All, IfOk, OnOk, [], filter, flat_map, get_or, length, map, Vec};
-ghost use Rattle.std.specs.{List.{range_with_len}, declared.alloc.Global.{Global}};
+ghost use Rattle.std.specs.Prelude.{◌≡◌, ◌+◌, ◌<◌, ◌++◌, All, IfOk, OnOk, flat_map, length, map};
 ghost use Rattle.gs_model.specs.{Classes.{IsClass, class_count}, Frame.{last_round}};
 ghost use Rattle.gs_seq.specs.{Games.{frame_in}, Rows.{AreBelow, AreRowsIn, HasPairsBelow, IsRow, below_class, part_up, row_at}};
 
 use crate::pair::Pair;
 use crate::rows::row_of;
 use gs_filter::Classes;
-use gs_lossless::{Lossless, Part};
+use gs_lossless::{Lossless, Part, empty_lists};
 use std::alloc::{AllocError, Global};
-
-/// So many empty lists.
-fn empty_lists(alloc: Global, count: u32) -> Result<Vec<Vec<u32>>, AllocError>
-    ensures long { IfOk result (λ v. length v.items ≡ count) }
-    ensures empty { IfOk result (λ v. (k : ℕ) (d : Vec ℕ Global) → k < count → (get_or v.items k d).items ≡ []) }
-{
-    let mut lists = Vec::with_capacity(alloc, count as usize)?;
-    for _n in 0..count {
-        lists.push(Vec::new(alloc))?;
-    }
-    Ok(lists)
-}
 
 /// For each class of a round the classes of the next round that descend from it, in ascending order.
 fn classes_below(alloc: Global, classes: &Classes, round: u8) -> Result<Vec<Vec<u32>>, AllocError>

@@ -4,7 +4,7 @@ ghost use Rattle.std.specs.{Iterator.{YieldsFirst, item_count}, Prelude.{◌≡�
 ghost use Rattle.gs_seq.specs.Singles.{IsFirstAfter, IsSlight, deal_pair};
 
 use crate::pair::Pair;
-use crate::rows::scaled;
+use crate::rows::weighed_outcome;
 use gs_tree::{Deal, Deals};
 use std::marker::Model;
 
@@ -39,7 +39,7 @@ fn pair_of(deal: Deal) -> Pair
     Pair {
         two: deal.two + 1,
         weight,
-        signed: scaled(weight, deal.outcome),
+        signed: weighed_outcome(weight, deal.outcome),
     }
 }
 

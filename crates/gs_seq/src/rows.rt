@@ -25,7 +25,7 @@ fn product(weight: u32, outcome: i8) -> i64
 }
 
 /// A weight times an outcome, with how large that can be.
-pub(crate) fn scaled(weight: u32, outcome: i8) -> i64
+pub(crate) fn weighed_outcome(weight: u32, outcome: i8) -> i64
     ensures value { result ≡ pos weight *ℤ outcome }
     ensures size { unsigned_abs result ≤ 128 * weight }
 {
@@ -51,7 +51,7 @@ fn pair_from(part: Part, members: u64) -> Pair
     Pair {
         two: part.class,
         weight,
-        signed: scaled(weight, part.outcome),
+        signed: weighed_outcome(weight, part.outcome),
     }
 }
 

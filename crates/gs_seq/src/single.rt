@@ -5,7 +5,6 @@ ghost use Rattle.gs_model.specs.Frame.{last_round};
 ghost use Rattle.gs_seq.specs.{Games.{frame_in}, Rows.{IsSingleIn}};
 
 use gs_filter::Classes;
-use gs_game::are_single;
 use gs_tree::Signals;
 
 /// The most pairs of last-round signals that are listed where they could be made: a list is read faster, and takes 16 bytes a pair.
@@ -13,10 +12,7 @@ const MOST_LISTED: u32 = 1_000_000;
 
 /// Whether there are many deals, and each is made at once: no kind of cards has more than one copy, and each player is dealt one private card.
 fn is_large(signals: &Signals) -> bool {
-    let game = signals.game();
-    game.deal_count() > MOST_LISTED
-        && signals.own_count() == 1
-        && are_single(game.game().deck.counts())
+    signals.game().deal_count() > MOST_LISTED && signals.is_plain()
 }
 
 /// Whether each signal of a round is a class of its own, numbered in order.

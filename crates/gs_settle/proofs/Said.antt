@@ -15,7 +15,7 @@ use Rattle.gs_seq.specs.declared.form.Abstract.{Abstract}
 use Rattle.gs_tree.specs.Trees.{rules_of}
 use Rattle.gs_tree.specs.declared.signals.Signals.{Signals}
 use Rattle.gs_words.specs.declared.request.Grouping.{Grouping}
-use Rattle.gs_settle.specs.Settling.{OfForm, OfGrouping, SaysLarge, SaysUnlike, game_in}
+use Rattle.gs_settle.specs.Settling.{OfForm, OfGrouping, SaysLarge, game_in}
 use Rattle.gs_settle.specs.Tasks.{Says}
 use Rattle.gs_settle.specs.declared.tasks.Task.{Task}
 use Rattle.gs_reply.proofs.Refused.{answers_more}
@@ -34,13 +34,6 @@ pub large_said : (task : Task) (l : Lossless) (a : Answer) → Answers (SaysLarg
 large_said task l a said =
     answers_more (SaysLarge (valid_view l.signals.now.game.now) l.classes.now.lists)
     (OfForm (Says task) (valid_view l.signals.now.game.now) l.classes.now.lists) (λ r h. inl h) a said
-
--- that the classes of a grouping are not lossless
-pub pair_said : (grouping : Grouping) (task : Task) (v : ValidGame) (s : Signals) (a : Answer) → s.game.now ≡ v
-    → Answers (SaysUnlike grouping (valid_view s.game.now)) a → Answers (OfGrouping grouping (Says task) (valid_view v)) a
-pair_said grouping task v s a of_game said =
-    subst (λ (x : ValidGame). Answers (OfGrouping grouping (Says task) (valid_view x)) a) of_game
-    (answers_more (SaysUnlike grouping (valid_view s.game.now)) (OfGrouping grouping (Says task) (valid_view s.game.now)) (λ r h. inl h) a said)
 
 -- of lossless classes of a grouping it is said of the game
 pub classes_said : (grouping : Grouping) (task : Task) (v : ValidGame) (s : Signals) (classes : Filter) (l : Lossless) (a : Answer) → s.game.now ≡ v

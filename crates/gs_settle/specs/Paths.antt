@@ -2,8 +2,7 @@
 use Rattle.std.specs.Prelude.{◌≡◌, ℕ, ◌+◌, List, [], ◌∷◌, ◌++◌, codes}
 use Rattle.std.specs.Fmt.{decimal}
 use Rattle.gs_file.specs.Reading.{FileGame}
-use Rattle.gs_frac.specs.Texts.{fraction_text}
-use Rattle.gs_frac.specs.declared.value.Fraction.{Fraction}
+use Rattle.gs_frac.specs.Texts.{number_line}
 use Rattle.gs_model.specs.Classes.{ClassLists}
 use Rattle.gs_reply.specs.Replies.{Reply, Prints, Refuses}
 use Rattle.gs_rows.specs.Program.{Listing}
@@ -13,6 +12,7 @@ use Rattle.gs_simplex.specs.declared.answer.PathTrace.{PathTrace}
 use Rattle.gs_simplex.specs.declared.answer.Turn.{Turn}
 use Rattle.gs_solve.specs.Solutions.{IsGamePath, most_pivots}
 use Rattle.gs_strategy.specs.Values.{frame_in}
+use Rattle.gs_strategy.specs.Views.{parts_of}
 use Rattle.gs_settle.specs.Solving.{SaysStopped}
 
 -- the line of a pivot: its number, the column that enters, and the one that leaves
@@ -24,13 +24,9 @@ abbrev pub turn_lines : ℕ → List Turn → List ℕ
 turn_lines before [] = []
 turn_lines before (turn ∷ turns) = turn_line (before + 1) turn ++ turn_lines (before + 1) turns
 
--- the line of the aim's value, behind a word
-abbrev pub value_line : List ℕ → Fraction → List ℕ
-value_line word f = word ++ fraction_text f.num f.den ++ codes "\n"
-
 -- the lines of a path: the aim's value after the opening, each pivot, and the aim's value at the end
 abbrev pub path_text : PathTrace → List ℕ
-path_text t = value_line (codes "opening ") t.start ++ turn_lines 0 t.turns.items ++ value_line (codes "aim ") t.aim
+path_text t = number_line (codes "opening") (parts_of t.start) ++ turn_lines 0 t.turns.items ++ number_line (codes "aim") (parts_of t.aim)
 
 -- the lines of the path of the game's program
 pub record IsPathShown (g : FileGame) (lists : ClassLists) (text : List ℕ) : Type 0 where

@@ -1,9 +1,9 @@
 //! The lines of a path.
 
 ghost use Rattle.std.specs.Prelude.{◌≡◌, ◌+◌, ◌++◌, IfOk, OnOk, string_bytes};
-ghost use Rattle.gs_settle.specs.Paths.{path_text as text_of_path, turn_line, turn_lines, value_line};
+ghost use Rattle.gs_settle.specs.Paths.{path_text as text_of_path, turn_line, turn_lines};
 
-use gs_frac::Fraction;
+use gs_frac::push_line;
 use gs_simplex::{PathTrace, Turn};
 use std::alloc::{AllocError, Global};
 use std::fmt::Write;
@@ -26,21 +26,13 @@ fn push_turns(text: &mut String, turns: &[Turn]) -> Result<(), AllocError>
     Ok(())
 }
 
-// Adds the line of a value, behind a word.
-fn push_value(text: &mut String, word: &str, value: Fraction) -> Result<(), AllocError>
-    ensures { OnOk result (string_bytes text.new ≡ string_bytes text.old ++ value_line word.now value) }
-{
-    text.push_str(word)?;
-    writeln!(text, "{value}")
-}
-
 /// The lines of a path: the aim's value after the opening, each pivot, and the aim's value at the end.
 pub(crate) fn path_text(alloc: Global, path: &PathTrace) -> Result<String, AllocError>
     ensures { IfOk result (λ text. string_bytes text ≡ text_of_path path.now) }
 {
     let mut text = String::new(alloc);
-    push_value(&mut text, "opening ", path.start)?;
+    push_line(&mut text, "opening", &path.start)?;
     push_turns(&mut text, &path.turns)?;
-    push_value(&mut text, "aim ", path.aim)?;
+    push_line(&mut text, "aim", &path.aim)?;
     Ok(text)
 }

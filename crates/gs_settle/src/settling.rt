@@ -1,22 +1,16 @@
 //! From the bytes of a game file to a game in sequence form over classes, and what is asked of it.
 
-ghost use Rattle.std.specs.Prelude.{◌≡◌, IfOk};
+ghost use Rattle.std.specs.Prelude.{IfOk};
 ghost use Rattle.gs_file.specs.Views.{valid_view};
-ghost use Rattle.gs_filter.specs.Filter.{single_classes};
-ghost use Rattle.gs_group.specs.Checking.{IsGrouping};
-ghost use Rattle.gs_lossless.specs.Stops.{IsUnlike, IsUnlikeIn};
-ghost use Rattle.gs_model.specs.{Frame.{frame_of}, Lossless.{IsLossless}};
 ghost use Rattle.gs_reply.specs.Replies.{Answers};
 ghost use Rattle.gs_seq.specs.{Abstracts.{frame_of as frame_by, lists_of}, Games.{frame_in}, Stops.{IsSmall, IsStopOf}};
-ghost use Rattle.gs_settle.specs.{Settling.{OfForm, OfGrouping, SaysLarge, SaysUnlike, Settles, game_in}, Tasks.{IsFew, Says}};
-ghost use Rattle.gs_tree.specs.Trees.{rules_of};
+ghost use Rattle.gs_settle.specs.{Settling.{OfForm, OfGrouping, SaysLarge, Settles, game_in}, Tasks.{IsFew, Says}};
 
 use crate::paths::shown;
 use crate::playing::played;
 use crate::solving::solved;
 use crate::tasks::Task;
 use gs_file::{FileFault, read_game};
-use gs_filter::Classes;
 use gs_game::ValidGame;
 use gs_group::{classes_of, lossless_of};
 use gs_lossless::{CheckStop, Lossless};
@@ -62,32 +56,6 @@ fn over_classes(alloc: Global, lossless: &Lossless, task: Task) -> Result<Answer
     }
 }
 
-// The refusal of classes that are not lossless.
-fn not_lossless(
-    alloc: Global,
-    signals: &Signals,
-    classes: &Classes,
-    grouping: Grouping,
-    stop: CheckStop,
-) -> Result<Answer, AllocError>
-    requires parents { classes.now.parents ≡ (frame_of (rules_of signals.now)).parents }
-    requires grouping { IsGrouping grouping (rules_of signals.now) classes.now.lists }
-    requires unlike { IsUnlikeIn (frame_of (rules_of signals.now)) classes.now.lists stop }
-    requires refuted { IsUnlike stop → IsLossless (frame_of (rules_of signals.now)) classes.now.lists → ⊥ }
-    requires single { IsUnlike stop → classes.now.lists ≡ single_classes classes.now.parents → ⊥ }
-    ensures { IfOk result (Answers (SaysUnlike grouping (valid_view signals.now.game.now))) }
-{
-    // called only for what its contract says
-    let _rounds = classes.rounds();
-    match stop {
-        CheckStop::Unlike { round, second, .. } => {
-            let first = classes.first(round, classes.class_of(round, second));
-            unlike(alloc, signals, round, first, second)
-        }
-        CheckStop::Memory => Err(AllocError),
-    }
-}
-
 // What is asked of a game over the classes of a grouping, or their first unlike pair.
 fn over_game(
     alloc: Global,
@@ -102,7 +70,14 @@ fn over_game(
     let classes = classes_of(alloc, &signals, grouping)?;
     match lossless_of(alloc, &signals, &classes, grouping) {
         Ok(lossless) => over_classes(alloc, &lossless, task),
-        Err(stop) => not_lossless(alloc, &signals, &classes, grouping, stop),
+        Err(
+            CheckStop::Unlike {
+                round,
+                first,
+                second,
+            },
+        ) => unlike(alloc, &signals, round, first, second),
+        Err(CheckStop::Memory) => Err(AllocError),
     }
 }
 

@@ -1,20 +1,13 @@
 //! The texts of verdicts and mixtures.
 
-ghost use Rattle.std.specs.Prelude.{◌≡◌, ◌++◌, [], IfOk, OnOk, codes, string_bytes};
+ghost use Rattle.std.specs.Prelude.{◌≡◌, IfOk};
 ghost use Rattle.gs_strategy.specs.Views.{numbers_of, parts_of};
-ghost use Rattle.gs_text.specs.VerdictText.{mix_text as text_of_mix, number_line, verdict_text as text_of_verdict};
+ghost use Rattle.gs_text.specs.VerdictText.{mix_text as text_of_mix, verdict_text as text_of_verdict};
 
-use gs_frac::{Fraction, Verdict};
+use gs_frac::{Fraction, Verdict, push_line};
 use gs_lift::Mixture;
 use std::alloc::{AllocError, Global};
 use std::fmt::Write;
-
-/// Adds a name and a fraction as a line.
-fn push_line(text: &mut String, name: &str, number: &Fraction) -> Result<(), AllocError>
-    ensures { OnOk result (string_bytes text.new ≡ string_bytes text.old ++ number_line name.now (parts_of number.now)) }
-{
-    writeln!(text, "{name} {number}")
-}
 
 /// The value and the gaps of both players, a line each.
 pub fn verdict_text(alloc: Global, verdict: &Verdict) -> Result<Vec<u8>, AllocError>

@@ -5,7 +5,8 @@ use Rattle.std.proofs.lemmas.List.{take_more}
 use Rattle.std.specs.List.{AllByRecursion}
 use Rattle.std.proofs.lemmas.List.Elements.{All-from_recursion, recursion_from_All}
 use Rattle.gs_model.specs.Cards.{left_after, left_from, ways}
-use Rattle.gs_card.proofs.TakenCards.{times, times_here, times_other, ways_more, few_ways, ways-none}
+use Rattle.gs_model.proofs.Listed.{times}
+use Rattle.gs_card.proofs.TakenCards.{times_here, times_other, ways_more, few_ways, ways-none}
 
 -- a card of a lower kind does not matter
 left_skip : (kind : ℕ) (left g : List ℕ) (a : ℕ) → a < kind → left_from kind left (g ++ a ∷ []) ≡ left_from kind left g

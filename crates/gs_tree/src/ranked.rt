@@ -1,6 +1,6 @@
 //! The strengths of the hands that the last round's signals hold.
 
-ghost use Rattle.std.specs.Prelude.{◌≡◌, ◌<◌, All, IfOk, IsTrue, map};
+ghost use Rattle.std.specs.Prelude.{◌≡◌, ◌<◌, All, IfOk, IsTrue, false, map};
 ghost use Rattle.gs_card.specs.Rankings.{ranking_of};
 ghost use Rattle.gs_game.specs.{Games.{game_of}, Limits.{IsDealable, IsWithinLimits}};
 ghost use Rattle.gs_model.specs.{Game.{round_count}, Signals.{signal_at, signals}, ViewTree.{signal_strength}};
@@ -16,7 +16,8 @@ use std::alloc::{AllocError, Global};
 pub(crate) fn is_plain(game: &Game, hands: &Hands) -> bool
     requires { AreHands (game_of game.now) (round_count (game_of game.now)) hands.now.paths hands.now.owns.items hands.now.publics.items hands.now.own
         hands.now.public }
-    ensures { IsTrue result → IsPlain (game_of game.now) }
+    ensures plain { IsTrue result → IsPlain (game_of game.now) }
+    ensures other { result ≡ false → IsPlain (game_of game.now) → last_count (game_of game.now) ≡ 0 }
 {
     let copies = game.deck.counts();
     hands.own == 1 && are_single(copies)

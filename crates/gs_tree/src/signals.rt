@@ -1,11 +1,11 @@
 //! The raw signals of a game, round by round.
 
-ghost use Rattle.std.specs.{Prelude.{◌≡◌, ◌==◌, if◌then◌else◌, All, IsTrue, map, length}, List.{range_with_len}};
+ghost use Rattle.std.specs.{Prelude.{◌≡◌, ◌==◌, if◌then◌else◌, All, IsTrue, MatchBool, map, length}, List.{range_with_len}};
 ghost use Rattle.gs_model.specs.{Game.{round_count}, Signals.{parents as parents_in, signals}, ViewTree.{signal_strength}};
 ghost use Rattle.gs_card.specs.Rankings.{ranking_of};
 ghost use Rattle.gs_rank.specs.Hands.{IsStrength};
 ghost use Rattle.gs_game.specs.Games.{game_of};
-ghost use Rattle.gs_tree.specs.{Boards.{AreBoards}, Kept.{AreHands}, Plain.{IsPlain}, Tables.{AreTables}};
+ghost use Rattle.gs_tree.specs.{Boards.{AreBoards}, Kept.{AreHands}, Plain.{IsPlain}, Tables.{AreTables}, Walk.{last_count}};
 
 use crate::boards::{Boards, link_boards};
 use crate::deal::Deal;
@@ -52,7 +52,7 @@ pub struct Signals<'g> {
 }
 
 impl<'g> Signals<'g> {
-    ghost use Rattle.std.specs.Prelude.{◌≡◌, ◌≢◌, ◌≤◌, ◌<◌, ◌+◌, ◌-◌, ◌++◌, ◌*◌, ◌==◌, ◌↔◌, ℕ, true, EachIndex, IfOk, IfSome, IsTrue, OnOk};
+    ghost use Rattle.std.specs.Prelude.{◌≡◌, ◌≤◌, ◌<◌, ◌+◌, ◌-◌, ◌++◌, ◌*◌, ◌==◌, ◌↔◌, ℕ, true, EachIndex, IfOk, IfSome, IsTrue, OnOk};
     ghost use Rattle.std.specs.Prelude.{slice_index, filter, map, length, string_bytes};
     ghost use Rattle.std.specs.List.{range_with_len};
     ghost use Rattle.gs_model.specs.Game.{round_count};
@@ -201,12 +201,11 @@ impl<'g> Signals<'g> {
         (&self.boards.firsts, &self.boards.nexts)
     }
 
-    /// How many own cards each signal of the last round shows.
-    pub fn own_count(&self) -> usize
-        ensures { (i : ℕ) → i < last_count (rules_of self.now) → length (own_cards (signal_at (rules_of self.now) (round_count (rules_of self.now)) i))
-            ≡ result }
+    /// Whether no kind of cards has more than one copy, and each player is dealt one private card.
+    pub fn is_plain(&self) -> bool
+        ensures { MatchBool result (IsPlain (rules_of self.now)) (IsPlain (rules_of self.now) → last_count (rules_of self.now) ≡ 0) }
     {
-        self.hands.own
+        is_plain(self.game.game(), &self.hands)
     }
 
     /// The text of a signal: a part for each round, joined by `/`, the own cards and then `+` and the public cards.

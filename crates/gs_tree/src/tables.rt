@@ -1,16 +1,16 @@
 //! The tables of all signals of a game.
 
-ghost use Rattle.std.specs.Prelude.{◌≡◌, ◌≤◌, ◌<◌, ◌+◌, ℕ, suc, [], ◌++◌, ◌^◌, ◌*◌, ◌/◌, ◌==◌, count_by, All, IfOk, OnOk, length, map, string_bytes};
+ghost use Rattle.std.specs.Prelude.{◌≡◌, ◌≤◌, ◌<◌, ◌+◌, suc, [], ◌++◌, ◌/◌, All, IfOk, OnOk, length, string_bytes};
 ghost use Rattle.gs_game.specs.{Games.{game_of, round_of}, Limits.{IsDealable, IsWithinLimits}};
 ghost use Rattle.gs_model.specs.{Game.{round_at, round_count}, Signals.{signals, signal_at, left_by}};
-ghost use Rattle.gs_model.specs.{Signals.{parents as parents_in, own_cards, public_cards}, Cards.{ways, left_after}, Deals.{path_weight}};
+ghost use Rattle.gs_model.specs.{Signals.{parents as parents_in}, Cards.{ways, left_after}};
 ghost use Rattle.gs_card.specs.Decks.{kinds};
 ghost use Rattle.gs_tree.specs.{Texts.{signal_text}, Tables.{AreTables, IsLayer}};
 
 use crate::layer::{Layer, left_without, push_showings};
 use crate::texts::push_seen;
 use crate::ways::Ways;
-use gs_card::{Card, Deck};
+use gs_card::{Card, Deck, times};
 use gs_game::{Game, Round};
 use std::alloc::{AllocError, Global};
 
@@ -154,17 +154,6 @@ impl Tables {
         text.push('/')?;
         push_seen(text, &game.deck, shown)
     }
-}
-
-/// How often the card stands among cards.
-fn times(cards: &[Card], card: Card) -> u64
-    ensures value { result ≡ count_by (λ other. other == card) cards.now }
-    ensures bound { result ≤ length cards.now }
-{
-    cards
-        .iter()
-        .filter(|other| other.number() == card.number())
-        .count() as u64
 }
 
 /// A product shared among the orders of a card that came so often before.

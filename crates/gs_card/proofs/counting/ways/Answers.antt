@@ -16,6 +16,6 @@ loop-i-preserved c =
     let copies : c.from-copies.result ≡ get_or left card 0 = c.from-copies.ensures ∙ ap (λ k. get_or left k 0) number in
     let rest : c.saturating_sub.result ≡ get_or left card 0 - c.times-taken.result = c.saturating_sub.ensures ∙ ap (λ k. k - c.times-taken.result) copies in
     record {
-      counted = ways_more left _ c.loop-i.i card _ _ _ (omega arith) c.index-cards-i.is here c.loop-i.invariant.counted c.times-taken.ensures rest;
+      counted = ways_more left _ c.loop-i.i card _ _ _ (omega arith) c.index-cards-i.is here c.loop-i.invariant.counted c.times-taken.ensures.value rest;
       small = few_ways c.loop-i.ways _ (get_or left card 0) _ c.loop-i.i c.loop-i.invariant.small (c.requires.few_copies card 0 here) rest;
     }

@@ -58,15 +58,13 @@ loop-signal-preserved-then-has_earlier c =
     let sound = c.rounds-rounds.ensures.sound in
     let top : c.args.round ≤ length c.args.grouped.now.classes.now.parents = omega (arith, h.1, ap (λ (ps : List (List ℕ)). length ps) c.args.grouped.now.parents) in
     let n = sound.classes.numbered c.args.round h.0 top in
-    let long = list_long g c.args.grouped.now.classes.now c.args.grouped.now.parents sound c.args.round h.0 (omega (arith, h.1, last_is g)) in
-    let within : signal < length (list_of lists c.args.round) = omega (arith, long, c.requires.within, c.loop-signal-test.true) in
     let found = subst (λ (xs : List ℕ). (signal < length xs) × (get_or xs signal 0 < signal)) c.deref-in-loop-signal.ensures.value (c.has_earlier.ensures c.if-has_earlier.true) in
     let at = (goal.at.loop-signal-preserved-then-has_earlier c).In_ok-firsts in
     let stand = standing at lists c.in_ok-keys.ensures (omega (arith, found.0)) in
     record {
       long = c.loop-signal.invariant.long;
       stored = stored_later f lists c.args.side c.args.round signal c.loop-signal.kept.items n c.loop-signal.invariant.stored
-          (stood_later f lists c.args.side c.args.round signal firsts stand found.0 found.1 within);
+          (stood_later f lists c.args.side c.args.round signal firsts stand found.0 found.1);
       stand = standing at;
       agree = agree_more f lists c.args.side c.args.round signal c.loop-signal.invariant.agree
           (stood_agrees f lists c.args.side c.args.round signal firsts stand found.0 found.1 c.loop-signal.invariant.agree);
@@ -96,11 +94,8 @@ loop-signal-preserved-then-size-eq1 c =
 earlier : (c : After-first) → c.first.result ≢ c.loop-signal.signal → (d : Vec Part Global)
     → AreAmounts (frame_of (rules_of c.args.grouped.now.signals.now)) c.args.grouped.now.classes.now.lists c.args.side c.args.round (first_member c.args.grouped.now.classes.now.lists c.args.round c.class_of-class.result) (get_or c.loop-signal.kept.items (c.class_of-class.result - 1) d).items
 earlier c other d =
-    let g = rules_of c.args.grouped.now.signals.now in
     let lists = c.args.grouped.now.classes.now.lists in
-    let h = side_in (frame_of g) c.args.side c.args.round c.requires.side in
-    let long = list_long g c.args.grouped.now.classes.now c.args.grouped.now.parents c.rounds-rounds.ensures.sound c.args.round h.0 (omega (arith, h.1, last_is g)) in
-    let le = first_le lists c.args.round c.loop-signal.signal (omega (arith, long, c.requires.within)) in
+    let le = first_le lists c.args.round c.loop-signal.signal in
     let own = ap (first_member lists c.args.round) c.class_of-class.ensures.value in
     c.loop-signal.invariant.stored c.class_of-class.result d c.class_of-class.ensures.class.0 c.class_of-class.ensures.class.1 (omega (arith, le, own, c.first.ensures.value, other))
     (λ one. c.if-size-eq1.false (c.size.ensures ∙ one))

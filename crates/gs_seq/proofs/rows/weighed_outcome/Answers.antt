@@ -2,7 +2,7 @@ use Rattle.std.proofs.Common.{rules, pos, ◌∙◌, ◌≡◌, ◌*◌, ◌≤�
 use Rattle.std.specs.Int.{w8, w64}
 use Rattle.std.specs.Prelude.{unsigned_abs, ◌*ℤ◌}
 use Rattle.gs_seq.proofs.Gathered.{scaled_size}
-use Rattle.gs_seq.proofs.rows.scaled.Goals as goal
+use Rattle.gs_seq.proofs.rows.weighed_outcome.Goals as goal
 
 pub returns-clause-size : goal.returns-clause-size
 returns-clause-size c =

@@ -1,0 +1,15 @@
+//! Lines that end in a fraction.
+
+ghost use Rattle.std.specs.Prelude.{◌≡◌, ◌++◌, OnOk, string_bytes};
+ghost use Rattle.gs_frac.specs.Texts.{number_line};
+
+use crate::value::Fraction;
+use std::alloc::AllocError;
+use std::fmt::Write;
+
+/// Adds words and a fraction as a line.
+pub fn push_line(text: &mut String, words: &str, number: &Fraction) -> Result<(), AllocError>
+    ensures { OnOk result (string_bytes text.new ≡ string_bytes text.old ++ number_line words.now (number.now.num, number.now.den)) }
+{
+    writeln!(text, "{words} {number}")
+}

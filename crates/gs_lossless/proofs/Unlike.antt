@@ -1,0 +1,27 @@
+-- The two signals of a first unlike pair are signals of the game.
+use Rattle.std.proofs.Common.{ℕ, ◌<◌, ◌≤◌, length, arith}
+use Rattle.gs_model.specs.Classes.{ClassLists}
+use Rattle.gs_model.specs.Frame.{frame_of, last_round}
+use Rattle.gs_model.specs.Game.{Game, round_count}
+use Rattle.gs_model.specs.Lossless.{IsFirstUnlike}
+use Rattle.gs_model.specs.Signals.{signals}
+use Rattle.gs_model.proofs.Ranges.{signal_count_is}
+use Rattle.gs_model.proofs.Walked.{last_round_of}
+use Rattle.gs_lossless.proofs.Settled.{first_le}
+
+-- two signals of one round of a game
+pub record IsPairIn (g : Game) (round first second : ℕ) : Type 0 where
+  pub last : round ≤ round_count g
+  pub first_in : first < length (signals g round)
+  pub second_in : second < length (signals g round)
+
+pub pair_in : (g : Game) (lists : ClassLists) (round first second : ℕ) → IsFirstUnlike (frame_of g) lists round first second
+    → IsPairIn g round first second
+pair_in g lists round first second unlike =
+    let top : round ≤ last_round (frame_of g) = unlike.round_in.1 in
+    let n = last_round_of g in
+    let last : round ≤ round_count g = omega (arith, top, n) in
+    let count = signal_count_is g round unlike.round_in.0 last in
+    let second_in = unlike.second_in in
+    let no_later = first_le lists round second in
+    record { last = last; first_in = omega (arith, no_later, unlike.member, second_in, count); second_in = omega (arith, second_in, count) }

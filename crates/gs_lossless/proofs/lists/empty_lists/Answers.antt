@@ -1,0 +1,14 @@
+use Rattle.std.proofs.Common.{◌≡◌, [], All, length, ap, ◌∙◌, subst, sym, arith, Vec, Global}
+use Rattle.std.proofs.lemmas.List.{length_push}
+use Rattle.std.proofs.lemmas.List.Elements.{All-push}
+use Rattle.gs_lossless.proofs.lists.empty_lists.Goals as goal
+
+pub loop-n-preserved : goal.loop-n-preserved
+loop-n-preserved g c =
+    let i = c.loop-n.invariant in
+    let lists = c.loop-n.lists.items in
+    record {
+      long = ap length c.in_ok-push.ensures.items ∙ (let n = length_push lists c.new.result in let o = i.long in omega arith);
+      empty = subst (All (λ (v : Vec g.row.T.Denot Global). v.items ≡ [])) (sym c.in_ok-push.ensures.items)
+          (All-push (λ (v : Vec g.row.T.Denot Global). v.items ≡ []) lists c.new.result i.empty c.new.ensures.items);
+    }
