@@ -11,8 +11,7 @@ use Rattle.gs_certificate.specs.declared.text_fault.CertTextFault.{CertTextFault
 use Rattle.gs_certificate.proofs.Holding.{faults_exclude}
 use Rattle.gs_certificate.proofs.Only.{only as certificate_only, stated}
 use Rattle.gs_certificate.proofs.OneText.{one_certificate}
-use Rattle.gs_confirm.specs.Commands.{OfRead, OfStrategy}
-use Rattle.gs_confirm.specs.Troubles.{Passes}
+use Rattle.gs_confirm.specs.Commands.{OfStrategy}
 use Rattle.gs_file.specs.declared.version.Version.TheVariants.{Two}
 use Rattle.gs_json.specs.FirstLine.{first_line}
 use Rattle.gs_json.proofs.Feeds.{line_parted}
@@ -21,7 +20,9 @@ use Rattle.gs_model.specs.Classes.{ClassLists}
 use Rattle.gs_model.specs.Frame.{Frame}
 use Rattle.gs_model.specs.Plans.{Plan}
 use Rattle.gs_reply.specs.Refusals.{Limit, Sequences, Cells, Table_numbers, Raw_cells, Bad_game, Unlike_pair, Overflows, Many_pivots, Too_large, Bad_strategy, Wrong_number, Bad_query, Other_game, Bad_certificate}
-use Rattle.gs_reply.specs.Replies.{Reply, Prints, Refuses}
+use Rattle.gs_reply.specs.Replies.{OfRead, Reply, Prints, Refuses}
+use Rattle.gs_reply.specs.Troubles.{Passes}
+use Rattle.gs_reply.specs.declared.strategies.Which.TheVariants.{Only}
 use Rattle.gs_seq.specs.Stops.{IsSmall}
 use Rattle.gs_strategy.specs.Checks.{ReadResult}
 use Rattle.gs_strategy.specs.Confirmed.{IsConfirmed, frame_of, raw_plan}
@@ -74,7 +75,7 @@ held s = Ok s
 clash : (why : CertTextFault) (s : Stated) → refused why ≡ held s → ⊥
 clash why s e = cc
 
-not_large : (s : Strategy) (limit : Limit) → IsSmall (frame_of s) s.classes → Passes s limit → ⊥
+not_large : (s : Strategy) (limit : Limit) → IsSmall (frame_of s) s.classes → Passes s.game s.classes limit → ⊥
 not_large s (Sequences player count) small (inl over) = omega (arith, small.sequences.one, over.1, over.2)
 not_large s (Sequences player count) small (inr over) = omega (arith, small.sequences.two, over.1.1, over.1.2)
 not_large s (Cells count) small h = omega (arith, small.cells, h.1, h.2)
@@ -111,7 +112,7 @@ first_line_is : (s : Strategy) (bytes : List ℕ) (reply : Reply) → IsStrategy
     → SaysVerified bytes s reply
 first_line_is s bytes reply is h =
     let read : h.read ≡ Ok s = only Two s h.read is h.reads in
-    subst (λ (r : ReadResult). OfRead (SaysVerified bytes) r reply) read h.said
+    subst (λ (r : ReadResult). OfRead Only (SaysVerified bytes) r reply) read h.said
 
 pub lines_verified : (s : Strategy) (text : List ℕ) (reply : Reply) → IsStrategy Two s → IsConfirmed s → IsCertified s text → Verifies text reply
     → IsPrinted reply

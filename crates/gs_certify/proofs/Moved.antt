@@ -11,13 +11,14 @@ use Rattle.gs_certificate.specs.declared.fault.CertFault.{CertFault}
 use Rattle.gs_certificate.specs.declared.text_fault.CertTextFault.{CertTextFault}
 use Rattle.gs_certificate.specs.declared.text_fault.CertTextFault.TheVariants as fault
 use Rattle.gs_confirm.specs.Held.{Holds}
-use Rattle.gs_confirm.specs.Troubles.{SaysLarge, SaysUnlike}
+use Rattle.gs_confirm.specs.Troubles.{SaysLarge}
 use Rattle.gs_lossless.specs.declared.checking.Lossless.{Lossless}
 use Rattle.gs_model.specs.Classes.{ClassLists}
 use Rattle.gs_model.specs.Frame.{Frame}
 use Rattle.gs_reply.proofs.Refused.{answers_more}
 use Rattle.gs_reply.specs.Refusals.{Too_large, Unlike_pair}
 use Rattle.gs_reply.specs.Replies.{Answers, Reply}
+use Rattle.gs_reply.specs.Troubles.{SaysUnlike}
 use Rattle.gs_reply.specs.declared.answers.Answer.{Answer}
 use Rattle.gs_seq.specs.Games.{frame_in}
 use Rattle.gs_seq.specs.Plans.{lifted}
@@ -59,16 +60,17 @@ module _ (l : Lossless) (s : Stored) (k : Certificate) (held : Holds l s) where
       h)
 
 -- an unlike pair, and a game that is too large, are told by both commands
-unlike_by : (task : Task) (s : Strategy) (reply : Reply) → SaysUnlike s reply → says_of task s reply
+unlike_by : (task : Task) (s : Strategy) (reply : Reply) → SaysUnlike s.game s.classes reply → says_of task s reply
 unlike_by Certify s reply h = inr (Unlike_pair h.0 h.1 h.2, h.3, h.4)
 unlike_by (Verify c) s reply h = subst (λ (r : Reply). SaysChecked s c.now r) (sym h.4) h.3
 
-pub unlike_said : (task : Task) (s : Strategy) (a : Answer) → Answers (SaysUnlike s) a → Answers (says_of task s) a
-unlike_said task s a h = answers_more (SaysUnlike s) (says_of task s) (unlike_by task s) a h
+pub unlike_said : (task : Task) (s : Strategy) (a : Answer) → Answers (SaysUnlike s.game s.classes) a → Answers (says_of task s) a
+unlike_said task s a h = answers_more (SaysUnlike s.game s.classes) (says_of task s) (unlike_by task s) a h
 
 large_by : (task : Task) (s : Strategy) (reply : Reply) → SaysLarge s reply → says_of task s reply
-large_by Certify s reply h = inr (Too_large h.0, h.1, h.2)
-large_by (Verify c) s reply h = subst (λ (r : Reply). SaysChecked s c.now r) (sym h.2) h.1
+large_by Certify s reply (lossless, limit, passed, told) = inr (Too_large limit, record { lossless = lossless; passed = passed }, told)
+large_by (Verify c) s reply (lossless, limit, passed, told) =
+    subst (λ (r : Reply). SaysChecked s c.now r) (sym told) (record { lossless = lossless; passed = passed })
 
 pub large_said : (task : Task) (s : Strategy) (a : Answer) → Answers (SaysLarge s) a → Answers (says_of task s) a
 large_said task s a h = answers_more (SaysLarge s) (says_of task s) (large_by task s) a h

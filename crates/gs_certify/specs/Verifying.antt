@@ -9,13 +9,14 @@ use Rattle.gs_certificate.specs.declared.certificate.Certificate.{Certificate}
 use Rattle.gs_certificate.specs.declared.fault.CertFault.{CertFault}
 use Rattle.gs_certificate.specs.declared.text_fault.CertTextFault.{CertTextFault}
 use Rattle.gs_confirm.specs.Commands.{OfStrategy}
-use Rattle.gs_confirm.specs.Troubles.{IsTooLarge, IsUnlikePair}
+use Rattle.gs_confirm.specs.Troubles.{IsTooLarge}
 use Rattle.gs_frac.specs.Texts.{number_line}
 use Rattle.gs_json.specs.FirstLine.{first_line}
 use Rattle.gs_model.specs.Lossless.{IsLossless}
 use Rattle.gs_model.specs.Verdict.{IsValue}
 use Rattle.gs_reply.specs.Refusals.{Bad_certificate, Too_large, Unlike_pair}
 use Rattle.gs_reply.specs.Replies.{Reply, Prints, Refuses}
+use Rattle.gs_reply.specs.Troubles.{IsUnlikePair}
 use Rattle.gs_seq.specs.Stops.{IsSmall}
 use Rattle.gs_strategy.specs.Confirmed.{frame_of, over, raw_plan}
 use Rattle.gs_strategy.specs.Values.{IsFractionOf, Parts, Strategy}
@@ -47,7 +48,7 @@ pub record IsUnsound (s : Strategy) (c : Certificate) (text : List ℕ) : Type 0
 -- what is said of a strategy and a certificate
 abbrev pub SaysChecked : Strategy → Certificate → Reply → Type 0
 SaysChecked s c (Prints text) = IsVerified s c text
-SaysChecked s c (Refuses (Unlike_pair round one two)) = IsUnlikePair s round one two
+SaysChecked s c (Refuses (Unlike_pair round one two)) = IsUnlikePair s.game s.classes round one two
 SaysChecked s c (Refuses (Too_large limit)) = IsTooLarge s limit
 SaysChecked s c (Refuses (Bad_certificate text)) = IsUnsound s c text
 SaysChecked s c (Refuses why) = ⊥

@@ -6,7 +6,7 @@ use Rattle.gs_raw.specs.Cells.{raw_cell_count}
 use Rattle.gs_raw.specs.declared.stop.RawStop.{RawStop}
 use Rattle.gs_raw.specs.declared.stop.RawStop.TheVariants.{TooManyCells}
 use Rattle.gs_reply.specs.Refusals.{Bad_strategy, Raw_cells, Too_large}
-use Rattle.gs_reply.specs.Replies.{Answers, Reply, Refuses, Tells}
+use Rattle.gs_reply.specs.Replies.{Answers, OfFile, Reply, Refuses, Tells}
 use Rattle.gs_reply.specs.declared.answers.Answer.{Answer}
 use Rattle.gs_reply.specs.declared.strategies.Which.{Which}
 use Rattle.gs_reply.proofs.Refused.{answers_more, tells_answer}
@@ -16,7 +16,7 @@ use Rattle.gs_strategy.specs.Faults.{FailsSo, Fault, IsFault}
 use Rattle.gs_strategy.specs.Values.{Numbers, Strategy}
 use Rattle.gs_strategy.specs.declared.fault.StoreFault.{StoreFault}
 use Rattle.gs_strategy.specs.declared.fault.StoreFault.TheVariants as fault
-use Rattle.gs_compare.specs.Commands.{OfFile, OnRawCards}
+use Rattle.gs_compare.specs.Commands.{OnRawCards}
 
 -- ---- the files
 

@@ -1,28 +1,15 @@
 -- What `judge` and `duel` say of the bytes of strategy files.
-use Rattle.std.specs.Prelude.{◌≡◌, ◌≢◌, ◌⊎◌, ◌++◌, ◌<◌, ◌≤◌, ℕ, List, Ok, Err}
+use Rattle.std.specs.Prelude.{◌≡◌, ◌≢◌, ◌⊎◌, ◌++◌, ◌<◌, ◌≤◌, ℕ, List}
 use Rattle.gs_file.specs.Reading.{rules_of}
 use Rattle.gs_json.specs.FirstLine.{first_line}
 use Rattle.gs_raw.specs.Cells.{raw_cell_count}
-use Rattle.gs_reply.specs.Refusals.{Bad_strategy, Other_game, Raw_cells, Too_large}
-use Rattle.gs_reply.specs.Replies.{Reply, Prints, Refuses}
-use Rattle.gs_reply.specs.declared.strategies.Which.{Which}
+use Rattle.gs_reply.specs.Refusals.{Other_game, Raw_cells, Too_large}
+use Rattle.gs_reply.specs.Replies.{OfFile, Reply, Prints, Refuses}
 use Rattle.gs_reply.specs.declared.strategies.Which.TheVariants.{Only, First, Second}
-use Rattle.gs_strategy.specs.Checks.{ReadResult, Reads}
 use Rattle.gs_strategy.specs.Confirmed.{frame_of}
 use Rattle.gs_strategy.specs.Values.{Numbers, Parts, Strategy}
 use Rattle.gs_text.specs.VerdictText.{verdict_text}
 use Rattle.gs_compare.specs.Judging.{AreHands, AreJudged, hands_text}
-
--- what is said of the strategy that a file holds; a file that holds none is refused for its first fault
-abbrev pub OfRead : Which → (Strategy → Reply → Type 0) → ReadResult → Reply → Type 0
-OfRead which says (Ok s) reply = says s reply
-OfRead which says (Err why) reply = reply ≡ Refuses (Bad_strategy which why)
-
--- what is said of the strategy that a file holds; a file that holds none is refused for its first fault, by which file it is
-pub record OfFile (which : Which) (says : Strategy → Reply → Type 0) (bytes : List ℕ) (reply : Reply) : Type 0 where
-  pub read : ReadResult
-  pub reads : Reads bytes read
-  pub said : OfRead which says read reply
 
 -- what is said of the numbers of two strategies of one game, where it has at most 16,777,216 raw cells; a game with more is too large
 abbrev pub OnRawCards : (Numbers → Reply → Type 0) → Strategy → Strategy → Reply → Type 0

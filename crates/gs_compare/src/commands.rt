@@ -1,8 +1,8 @@
 //! The commands that judge strategies.
 
 ghost use Rattle.std.specs.Prelude.{IfOk};
-ghost use Rattle.gs_compare.specs.Commands.{Duels, Judges, OfFile, SaysDuel};
-ghost use Rattle.gs_reply.specs.{Replies.{Answers}, declared.strategies.Which.TheVariants.{Second}};
+ghost use Rattle.gs_compare.specs.Commands.{Duels, Judges, SaysDuel};
+ghost use Rattle.gs_reply.specs.{Replies.{Answers, OfFile}, declared.strategies.Which.TheVariants.{Second}};
 ghost use Rattle.gs_strategy.specs.Views.{stored_view};
 
 use crate::judging::{dueled, judged};

@@ -3,6 +3,7 @@ use Rattle.std.proofs.Common.{◌≡◌, ℕ, List, inr, refl, sym, subst}
 use Rattle.gs_best.specs.Judged.{parts}
 use Rattle.gs_filter.specs.Filter.{Filter}
 use Rattle.gs_frac.specs.declared.value.Verdict.{Verdict}
+use Rattle.gs_file.specs.Views.{valid_view}
 use Rattle.gs_game.specs.Games.{game_of}
 use Rattle.gs_game.specs.declared.valid.ValidGame.{ValidGame}
 use Rattle.gs_model.specs.Frame.{frame_of as rules_frame}
@@ -12,6 +13,7 @@ use Rattle.gs_model.specs.Verdict.{IsVerdict}
 use Rattle.gs_reply.proofs.Refused.{answers_more, tells_answer}
 use Rattle.gs_reply.specs.Refusals.{Unlike_pair, Limit, Too_large, Wrong_number}
 use Rattle.gs_reply.specs.Replies.{Answers, Reply, Tells}
+use Rattle.gs_reply.specs.Troubles.{Passes, SaysUnlike}
 use Rattle.gs_reply.specs.declared.answers.Answer.{Answer}
 use Rattle.gs_seq.specs.Games.{frame_in}
 use Rattle.gs_seq.specs.Plans.{lifted}
@@ -19,15 +21,17 @@ use Rattle.gs_seq.specs.Stops.{IsSmall, IsStopOf}
 use Rattle.gs_seq.specs.declared.stop.SeqStop.{SeqStop}
 use Rattle.gs_strategy.specs.Confirmed.{AreNumbersOf, IsConfirmed, frame_of}
 use Rattle.gs_strategy.specs.Values.{Parts, Strategy}
-use Rattle.gs_strategy.specs.Views.{numbers_of, strategy_of, stored_view}
+use Rattle.gs_strategy.specs.Views.{numbers_of, stored_view}
 use Rattle.gs_strategy.specs.declared.stored.Stored.{Stored}
 use Rattle.gs_tree.specs.Texts.{signal_text}
 use Rattle.gs_confirm.specs.Commands.{OfConfirmed}
-use Rattle.gs_confirm.specs.Troubles.{IsFirstWrong, Passes, SaysLarge, SaysUnlike, SaysWrong}
+use Rattle.gs_confirm.specs.Troubles.{IsFirstWrong, SaysLarge, SaysWrong}
 
 -- what is said of a strategy that is not confirmed is what its command answers
-pub unlike_refused : (says : Strategy → Reply → Type 0) (s : Strategy) (a : Answer) → Answers (SaysUnlike s) a → Answers (OfConfirmed says s) a
-unlike_refused says s a h = answers_more (SaysUnlike s) (OfConfirmed says s) (λ r said. inr (Unlike_pair said.0 said.1 said.2, said.3, said.4)) a h
+pub unlike_refused : (says : Strategy → Reply → Type 0) (s : Strategy) (a : Answer) → Answers (SaysUnlike s.game s.classes) a
+    → Answers (OfConfirmed says s) a
+unlike_refused says s a h =
+    answers_more (SaysUnlike s.game s.classes) (OfConfirmed says s) (λ r said. inr (Unlike_pair said.0 said.1 said.2, said.3, said.4)) a h
 
 -- ---- classes
 
@@ -35,11 +39,11 @@ unlike_refused says s a h = answers_more (SaysUnlike s) (OfConfirmed says s) (λ
 pub pair_told : (w : ValidGame) (s : Stored) (round first second : ℕ) (a : Answer) → w ≡ s.game
     → IsFirstUnlike (frame_in w) s.classes.lists round first second → (IsLossless (frame_in w) s.classes.lists → ⊥)
     → Tells a (Unlike_pair round (signal_text w.game.deck (signal_at (game_of w.game) round first))
-    (signal_text w.game.deck (signal_at (game_of w.game) round second))) → Answers (SaysUnlike (stored_view s)) a
+    (signal_text w.game.deck (signal_at (game_of w.game) round second))) → Answers (SaysUnlike (valid_view s.game) s.classes.lists) a
 pair_told w s round first second a e unlike not t =
-    let told = tells_answer (SaysUnlike (strategy_of w s.classes s.one s.two s.verdict)) a (Unlike_pair round _ _)
+    let told = tells_answer (SaysUnlike (valid_view w) s.classes.lists) a (Unlike_pair round _ _)
     (round, _, _, record { first = first; second = second; unlike = unlike; not_lossless = not; first_text = refl; second_text = refl }, refl) t in
-    subst (λ (x : ValidGame). Answers (SaysUnlike (strategy_of x s.classes s.one s.two s.verdict)) a) e told
+    subst (λ (x : ValidGame). Answers (SaysUnlike (valid_view x) s.classes.lists) a) e told
 
 -- ---- sizes
 
@@ -51,9 +55,9 @@ stop_is s w k stop named e f same h =
     let at_classes = subst (λ (x : Filter). IsStopOf (frame_in s.game) x.lists stop) f at_game in
     subst (λ (x : SeqStop). IsStopOf (frame_in s.game) s.classes.lists x) same at_classes
 
-pub large_told : (s : Strategy) (limit : Limit) (a : Answer) → IsLossless (frame_of s) s.classes → Passes s limit → Tells a (Too_large limit)
+pub large_told : (s : Strategy) (limit : Limit) (a : Answer) → IsLossless (frame_of s) s.classes → Passes s.game s.classes limit → Tells a (Too_large limit)
     → Answers (SaysLarge s) a
-large_told s limit a lossless passed t = tells_answer (SaysLarge s) a (Too_large limit) (limit, record { lossless = lossless; passed = passed }, refl) t
+large_told s limit a lossless passed t = tells_answer (SaysLarge s) a (Too_large limit) (lossless, limit, passed, refl) t
 
 -- ---- numbers
 

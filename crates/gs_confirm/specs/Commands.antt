@@ -1,11 +1,10 @@
 -- What the commands that read a strategy file say of its bytes.
-use Rattle.std.specs.Prelude.{◌≡◌, ◌⊎◌, ℕ, List, Ok, Err}
+use Rattle.std.specs.Prelude.{◌≡◌, ◌⊎◌, ℕ, List}
 use Rattle.gs_file.specs.declared.version.Version.TheVariants.{Two}
 use Rattle.gs_lift.specs.declared.fault.QueryFault.{QueryFault}
-use Rattle.gs_reply.specs.Refusals.{Refusal, Bad_query, Bad_strategy}
-use Rattle.gs_reply.specs.Replies.{Reply, Prints, Refuses}
+use Rattle.gs_reply.specs.Refusals.{Refusal, Bad_query}
+use Rattle.gs_reply.specs.Replies.{OfFile, Reply, Prints, Refuses}
 use Rattle.gs_reply.specs.declared.strategies.Which.TheVariants.{Only}
-use Rattle.gs_strategy.specs.Checks.{ReadResult, Reads}
 use Rattle.gs_strategy.specs.Confirmed.{IsConfirmed}
 use Rattle.gs_strategy.specs.Texts.{strategy_text}
 use Rattle.gs_strategy.specs.Values.{Strategy}
@@ -13,16 +12,9 @@ use Rattle.gs_text.specs.VerdictText.{verdict_text}
 use Rattle.gs_confirm.specs.Queries.{IsBadQuery, IsQueried}
 use Rattle.gs_confirm.specs.Troubles.{IsTrouble}
 
--- what is said of a strategy that was read; bytes that hold none are refused for their first fault
-abbrev pub OfRead : (Strategy → Reply → Type 0) → ReadResult → Reply → Type 0
-OfRead says (Ok s) reply = says s reply
-OfRead says (Err why) reply = reply ≡ Refuses (Bad_strategy Only why)
-
--- what is said of the bytes of a strategy file: of the strategy that they hold, or of the first fault that they have
-pub record OfStrategy (says : Strategy → Reply → Type 0) (bytes : List ℕ) (reply : Reply) : Type 0 where
-  pub read : ReadResult
-  pub reads : Reads bytes read
-  pub said : OfRead says read reply
+-- what is said of the bytes of the only strategy file of a command
+abbrev pub OfStrategy : (Strategy → Reply → Type 0) → List ℕ → Reply → Type 0
+OfStrategy = OfFile Only
 
 -- what is said of a strategy that is confirmed; one that is not is refused for its first trouble
 abbrev pub OfConfirmed : (Strategy → Reply → Type 0) → Strategy → Reply → Type 0

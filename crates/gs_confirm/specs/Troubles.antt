@@ -1,36 +1,17 @@
 -- Why a strategy is not confirmed: the checks stand in their order, and each trouble applies where none before it does.
 use Rattle.std.specs.Prelude.{◌≡◌, ◌≢◌, ◌⊎◌, ℕ, List, codes}
-use Rattle.gs_file.specs.Reading.{rules_of}
-use Rattle.gs_model.specs.Lossless.{IsFirstUnlike, IsLossless}
-use Rattle.gs_model.specs.Signals.{signal_at}
+use Rattle.gs_model.specs.Lossless.{IsLossless}
 use Rattle.gs_reply.specs.Replies.{Reply, Refuses}
-use Rattle.gs_reply.specs.Refusals.{Limit, Sequences, Cells, Table_numbers, Raw_cells, Refusal, Unlike_pair, Too_large, Wrong_number}
-use Rattle.gs_seq.specs.Stops.{IsSmall, IsStopOf}
-use Rattle.gs_seq.specs.declared.stop.SeqStop.TheVariants.{TooManySequences, TooManyCells}
+use Rattle.gs_reply.specs.Refusals.{Limit, Refusal, Unlike_pair, Too_large, Wrong_number}
+use Rattle.gs_reply.specs.Troubles.{IsUnlikePair, Passes, SaysLarge as SaysTooLarge}
+use Rattle.gs_seq.specs.Stops.{IsSmall}
 use Rattle.gs_strategy.specs.Confirmed.{AreNumbersOf, frame_of}
 use Rattle.gs_strategy.specs.Values.{Numbers, Parts, Strategy}
-use Rattle.gs_tree.specs.Texts.{signal_text}
-
--- the classes are not lossless, and this is their first unlike pair, by its round and the texts of the two signals
-pub record IsUnlikePair (s : Strategy) (round : ℕ) (one two : List ℕ) : Type 0 where
-  pub first : ℕ
-  pub second : ℕ
-  pub unlike : IsFirstUnlike (frame_of s) s.classes round first second
-  pub not_lossless : IsLossless (frame_of s) s.classes → ⊥
-  pub first_text : one ≡ signal_text s.game.deck (signal_at (rules_of s.game) round first)
-  pub second_text : two ≡ signal_text s.game.deck (signal_at (rules_of s.game) round second)
-
--- the limit is the first that the game in sequence form passes
-abbrev pub Passes : Strategy → Limit → Type 0
-Passes s (Sequences player count) = IsStopOf (frame_of s) s.classes (TooManySequences player count)
-Passes s (Cells count) = IsStopOf (frame_of s) s.classes (TooManyCells count)
-Passes s (Table_numbers count) = ⊥
-Passes s (Raw_cells count) = ⊥
 
 -- the classes are lossless, and the game is too large
 pub record IsTooLarge (s : Strategy) (limit : Limit) : Type 0 where
   pub lossless : IsLossless (frame_of s) s.classes
-  pub passed : Passes s limit
+  pub passed : Passes s.game s.classes limit
 
 -- the first of the three numbers that is stated otherwise than it was found, by its name
 abbrev pub IsFirstWrong : Numbers → Numbers → List ℕ → Parts → Parts → Type 0
@@ -50,20 +31,16 @@ pub record IsWrongNumber (s : Strategy) (name : List ℕ) (stated found : Parts)
 
 -- the refusal of a strategy that is not confirmed; the others are none
 abbrev pub IsTrouble : Strategy → Refusal → Type 0
-IsTrouble s (Unlike_pair round one two) = IsUnlikePair s round one two
+IsTrouble s (Unlike_pair round one two) = IsUnlikePair s.game s.classes round one two
 IsTrouble s (Too_large limit) = IsTooLarge s limit
 IsTrouble s (Wrong_number name stated found) = IsWrongNumber s name stated found
 IsTrouble s other = ⊥
 
 -- ---- the refusal for one of them
 
--- the first unlike pair of classes that are not lossless
-abbrev pub SaysUnlike : Strategy → Reply → Type 0
-SaysUnlike s reply = (round : ℕ) × (one : List ℕ) × (two : List ℕ) × IsUnlikePair s round one two × (reply ≡ Refuses (Unlike_pair round one two))
-
--- the first limit that a game passes
+-- the classes are lossless, and the game is refused for the first limit that it passes
 abbrev pub SaysLarge : Strategy → Reply → Type 0
-SaysLarge s reply = (limit : Limit) × IsTooLarge s limit × (reply ≡ Refuses (Too_large limit))
+SaysLarge s reply = IsLossless (frame_of s) s.classes × SaysTooLarge s.game s.classes reply
 
 -- the first wrong number of a strategy
 abbrev pub SaysWrong : Strategy → Reply → Type 0

@@ -1,11 +1,12 @@
 //! The checks that stand before anything is said of a strategy: its classes, its size, its numbers.
 
 ghost use Rattle.std.specs.Prelude.{◌≡◌, IfErr, IfOk, MatchOption};
+ghost use Rattle.gs_file.specs.Views.{valid_view};
 ghost use Rattle.gs_model.specs.{Frame.{frame_of as rules_frame}, Lossless.{IsLossless}};
 ghost use Rattle.gs_tree.specs.Trees.{rules_of};
 ghost use Rattle.gs_strategy.specs.{Confirmed.{IsConfirmed, frame_of}, Views.{stored_view}};
-ghost use Rattle.gs_reply.specs.Replies.{Answers};
-ghost use Rattle.gs_confirm.specs.{Held.{Holds, IsFormOf}, Troubles.{SaysLarge, SaysUnlike, SaysWrong}};
+ghost use Rattle.gs_reply.specs.{Replies.{Answers}, Troubles.{SaysUnlike}};
+ghost use Rattle.gs_confirm.specs.{Held.{Holds, IsFormOf}, Troubles.{SaysLarge, SaysWrong}};
 
 use crate::numbers::first_wrong;
 use gs_best::{Work, verdict};
@@ -26,7 +27,7 @@ pub fn lossless_of<'a>(
     requires parents { stored.now.classes.parents ≡ (rules_frame (rules_of signals.now)).parents }
     ensures held { IfOk result (λ found. IfOk found (λ l. Holds l stored.entry.now)) }
     ensures lossless { IfOk result (λ found. IfOk found (λ _. IsLossless (frame_of (stored_view stored.entry.now)) stored.entry.now.classes.lists)) }
-    ensures unlike { IfOk result (λ found. IfErr found (Answers (SaysUnlike (stored_view stored.entry.now)))) }
+    ensures unlike { IfOk result (λ found. IfErr found (Answers (SaysUnlike (valid_view stored.entry.now.game) stored.entry.now.classes.lists))) }
 {
     match check(alloc, signals, &stored.classes) {
         Ok(lossless) => Ok(Ok(lossless)),

@@ -12,11 +12,13 @@ use Rattle.gs_model.specs.Game.{Game}
 use Rattle.gs_model.specs.Lossless.{IsFirstUnlike, IsLossless}
 use Rattle.gs_model.specs.Signals.{signal_at}
 use Rattle.gs_model.proofs.Ranges.{length-parents}
+use Rattle.gs_reply.specs.Refusals.{Unlike_pair}
+use Rattle.gs_reply.specs.Replies.{Refuses}
 use Rattle.gs_text.specs.ClassText.{AreListsOf}
 use Rattle.gs_tree.specs.Texts.{signal_text}
 use Rattle.gs_words.specs.declared.request.Grouping.{Grouping}
 use Rattle.gs_words.specs.declared.request.Grouping.TheVariants.{Isomorphism, Coarsest, Single}
-use Rattle.gs_group.specs.Checking.{IsChecked, IsGrouping, IsUnlikePair}
+use Rattle.gs_group.specs.Checking.{IsChecked, IsGrouping, SaysNotLossless}
 use Rattle.gs_group.specs.Shrinking.{told}
 
 -- classes over the parents of a game's signals have a number for each signal
@@ -58,19 +60,18 @@ unlike_so : (grouping : Grouping) (v : FileGame) (lists : ClassLists) (round fir
     → (lists ≡ single_classes (frame_of (rules_of v)).parents → ⊥) → (IsLossless (frame_of (rules_of v)) lists → ⊥)
     → IsFirstUnlike (frame_of (rules_of v)) lists round first second
     → one ≡ signal_text v.deck (signal_at (rules_of v) round first) → two ≡ signal_text v.deck (signal_at (rules_of v) round second)
-    → (grouping ≡ Isomorphism) × IsUnlikePair v round one two
+    → SaysNotLossless grouping v (Refuses (Unlike_pair round one two))
 unlike_so Isomorphism v lists round first second one two are single lossless unlike is_one is_two = (
   refl,
-  record {
-    classes = lists;
-    are = are;
-    first = first;
-    second = second;
-    unlike = unlike;
-    not_lossless = lossless;
-    first_text = is_one;
-    second_text = is_two;
-  },
+  lists,
+  are,
+  (
+    round,
+    one,
+    two,
+    record { first = first; second = second; unlike = unlike; not_lossless = lossless; first_text = is_one; second_text = is_two },
+    refl,
+  ),
 )
 unlike_so Coarsest v lists round first second one two are single lossless unlike is_one is_two = absurd (lossless are.2.lossless)
 unlike_so Single v lists round first second one two are single lossless unlike is_one is_two = absurd (single are)
@@ -80,7 +81,7 @@ pub is_unlike : (grouping : Grouping) (v : FileGame) (g : Game) (d : DeckValue) 
     → g ≡ rules_of v → d ≡ v.deck
     → IsGrouping grouping g lists → parents ≡ (frame_of g).parents → (lists ≡ single_classes parents → ⊥) → (IsLossless (frame_of g) lists → ⊥)
     → IsFirstUnlike (frame_of g) lists round first second
-    → (grouping ≡ Isomorphism) × IsUnlikePair v round (signal_text d (signal_at g round first)) (signal_text d (signal_at g round second))
+    → SaysNotLossless grouping v (Refuses (Unlike_pair round (signal_text d (signal_at g round first)) (signal_text d (signal_at g round second))))
 is_unlike grouping v g d lists parents round first second of_game of_deck are of_parents single lossless unlike =
     let written : (n : ℕ) → signal_text d (signal_at g round n) ≡ signal_text v.deck (signal_at (rules_of v) round n) =
     (λ n. ap (λ (x : DeckValue). signal_text x (signal_at g round n)) of_deck ∙ ap (λ (x : Game). signal_text v.deck (signal_at x round n)) of_game) in

@@ -5,16 +5,14 @@ use Rattle.gs_filter.specs.Filter.{single_classes}
 use Rattle.gs_model.specs.Classes.{ClassLists}
 use Rattle.gs_model.specs.Frame.{frame_of}
 use Rattle.gs_model.specs.Game.{Game}
-use Rattle.gs_model.specs.Lossless.{IsFirstUnlike, IsLossless}
+use Rattle.gs_model.specs.Lossless.{IsLossless}
 use Rattle.gs_model.specs.Refinement.{IsCoarsestLossless}
 use Rattle.gs_model.specs.SignalClasses.{IsSignalClasses}
-use Rattle.gs_model.specs.Signals.{signal_at}
-use Rattle.gs_tree.specs.Texts.{signal_text}
 use Rattle.gs_words.specs.declared.request.Grouping.{Grouping}
 use Rattle.gs_words.specs.declared.request.Grouping.TheVariants.{Isomorphism, Coarsest, Single}
 use Rattle.gs_group.specs.Shrinking.{told}
-use Rattle.gs_reply.specs.Refusals.{Unlike_pair}
 use Rattle.gs_reply.specs.Replies.{Reply, Prints, Refuses, OfReading}
+use Rattle.gs_reply.specs.Troubles.{SaysUnlike}
 
 -- the classes of a grouping: those of recursive ordered game isomorphism, the coarsest lossless classes that refine those, or each signal by itself
 abbrev pub IsGrouping : Grouping → Game → ClassLists → Type 0
@@ -29,22 +27,15 @@ pub record IsChecked (grouping : Grouping) (summary : Bool) (g : FileGame) (text
   pub lossless : IsLossless (frame_of (rules_of g)) classes
   pub printed : text ≡ told summary g.deck (rules_of g) classes
 
--- the signal classes are not lossless, and this is their first unlike pair, by its round and the texts of the two signals
-pub record IsUnlikePair (g : FileGame) (round : ℕ) (one two : List ℕ) : Type 0 where
-  pub classes : ClassLists
-  pub are : IsSignalClasses (rules_of g) classes
-  pub first : ℕ
-  pub second : ℕ
-  pub unlike : IsFirstUnlike (frame_of (rules_of g)) classes round first second
-  pub not_lossless : IsLossless (frame_of (rules_of g)) classes → ⊥
-  pub first_text : one ≡ signal_text g.deck (signal_at (rules_of g) round first)
-  pub second_text : two ≡ signal_text g.deck (signal_at (rules_of g) round second)
+-- the classes of the grouping are refused by their first unlike pair: only those of ordered game isomorphism may have one
+abbrev pub SaysNotLossless : Grouping → FileGame → Reply → Type 0
+SaysNotLossless grouping g reply =
+    (grouping ≡ Isomorphism) × (classes : ClassLists) × IsSignalClasses (rules_of g) classes × SaysUnlike g classes reply
 
--- what `check` says of a game: the text of its classes; only the signal classes are refused, by the first unlike pair
+-- what `check` says of a game: the text of its classes, or their first unlike pair
 abbrev pub ChecksGame : Grouping → Bool → FileGame → Reply → Type 0
 ChecksGame grouping summary g (Prints text) = IsChecked grouping summary g text
-ChecksGame grouping summary g (Refuses (Unlike_pair round one two)) = (grouping ≡ Isomorphism) × IsUnlikePair g round one two
-ChecksGame grouping summary g (Refuses why) = ⊥
+ChecksGame grouping summary g (Refuses why) = SaysNotLossless grouping g (Refuses why)
 
 -- what the bytes of a game file say, by classes or their summary
 abbrev pub Checks : Grouping → Bool → List ℕ → Reply → Type 0

@@ -2,9 +2,12 @@
 use Rattle.std.specs.Prelude.{◌≡◌, ℕ, List, Result, Ok, Err}
 use Rattle.gs_file.specs.Faults.{Fault}
 use Rattle.gs_file.specs.Reading.{FileGame}
-use Rattle.gs_reply.specs.Refusals.{Refusal, Bad_game, cause_of, line_of}
+use Rattle.gs_strategy.specs.Checks.{ReadResult, Reads}
+use Rattle.gs_strategy.specs.Values.{Strategy}
+use Rattle.gs_reply.specs.Refusals.{Refusal, Bad_game, Bad_strategy, cause_of, line_of}
 use Rattle.gs_reply.specs.declared.answers.Answer.{Answer}
 use Rattle.gs_reply.specs.declared.answers.Answer.TheVariants as answer
+use Rattle.gs_reply.specs.declared.strategies.Which.{Which}
 
 -- a text to print, or a refusal
 pub data Reply : Type 0 where
@@ -15,6 +18,17 @@ pub data Reply : Type 0 where
 abbrev pub OfReading : (FileGame → Reply → Type 0) → Result FileGame Fault → Reply → Type 0
 OfReading says (Ok g) reply = says g reply
 OfReading says (Err why) reply = reply ≡ Refuses (Bad_game why)
+
+-- what is said of the strategy that was read; bytes that hold none are refused for their first fault, by which file they are
+abbrev pub OfRead : Which → (Strategy → Reply → Type 0) → ReadResult → Reply → Type 0
+OfRead which says (Ok s) reply = says s reply
+OfRead which says (Err why) reply = reply ≡ Refuses (Bad_strategy which why)
+
+-- what is said of the bytes of a strategy file: of the strategy that they hold, or of the first fault that they have
+pub record OfFile (which : Which) (says : Strategy → Reply → Type 0) (bytes : List ℕ) (reply : Reply) : Type 0 where
+  pub read : ReadResult
+  pub reads : Reads bytes read
+  pub said : OfRead which says read reply
 
 -- an answer tells a refusal: its kind and its line
 abbrev pub Tells : Answer → Refusal → Type 0

@@ -8,6 +8,7 @@ use Rattle.gs_lossless.specs.declared.Lossless.{Lossless}
 use Rattle.gs_model.specs.Frame.{frame_of}
 use Rattle.gs_model.specs.Lossless.{IsLossless}
 use Rattle.gs_reply.specs.Replies.{Answers}
+use Rattle.gs_reply.specs.Troubles.{SaysLarge}
 use Rattle.gs_reply.specs.declared.answers.Answer.{Answer}
 use Rattle.gs_seq.specs.Abstracts.{frame_of as frame_in, lists_of}
 use Rattle.gs_seq.specs.Stops.{IsSmall}
@@ -15,7 +16,7 @@ use Rattle.gs_seq.specs.declared.form.Abstract.{Abstract}
 use Rattle.gs_tree.specs.Trees.{rules_of}
 use Rattle.gs_tree.specs.declared.signals.Signals.{Signals}
 use Rattle.gs_words.specs.declared.request.Grouping.{Grouping}
-use Rattle.gs_settle.specs.Settling.{OfForm, OfGrouping, SaysLarge, game_in}
+use Rattle.gs_settle.specs.Settling.{OfForm, OfGrouping, game_in}
 use Rattle.gs_settle.specs.Tasks.{Says}
 use Rattle.gs_settle.specs.declared.tasks.Task.{Task}
 use Rattle.gs_reply.proofs.Refused.{answers_more}

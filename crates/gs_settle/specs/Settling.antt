@@ -1,34 +1,21 @@
 -- What is said of an input before a game over classes is played, solved or shown: the game file is read, the classes of the grouping are looked at, and
 -- the game over them is counted. The refusals stand in this order.
-use Rattle.std.specs.Prelude.{◌≡◌, ◌⊎◌, ℕ, List}
+use Rattle.std.specs.Prelude.{◌⊎◌, ℕ, List}
 use Rattle.gs_file.specs.Reading.{FileGame, read_at, rules_of}
 use Rattle.gs_file.specs.Views.{valid_view}
-use Rattle.gs_group.specs.Checking.{IsGrouping, IsUnlikePair}
+use Rattle.gs_group.specs.Checking.{IsGrouping, SaysNotLossless}
 use Rattle.gs_model.specs.Classes.{ClassLists}
 use Rattle.gs_model.specs.Lossless.{IsLossless}
-use Rattle.gs_reply.specs.Refusals.{Unlike_pair, Too_large, Sequences, Cells}
-use Rattle.gs_reply.specs.Replies.{OfReading, Reply, Refuses}
-use Rattle.gs_seq.specs.Stops.{IsSmall, IsStopOf}
+use Rattle.gs_reply.specs.Replies.{OfReading, Reply}
+use Rattle.gs_reply.specs.Troubles.{SaysLarge}
+use Rattle.gs_seq.specs.Stops.{IsSmall}
 use Rattle.gs_seq.specs.declared.form.Abstract.{Abstract}
-use Rattle.gs_seq.specs.declared.stop.SeqStop.TheVariants.{TooManySequences, TooManyCells}
 use Rattle.gs_strategy.specs.Values.{frame_in}
 use Rattle.gs_words.specs.declared.request.Grouping.{Grouping}
-use Rattle.gs_words.specs.declared.request.Grouping.TheVariants.{Isomorphism}
 
 -- the game of a game in sequence form
 abbrev pub game_in : Abstract → FileGame
 game_in a = valid_view a.lossless.now.signals.now.game.now
-
--- the classes of the grouping have an unlike pair: only those of ordered game isomorphism may
-abbrev pub SaysUnlike : Grouping → FileGame → Reply → Type 0
-SaysUnlike grouping g (Refuses (Unlike_pair round one two)) = (grouping ≡ Isomorphism) × IsUnlikePair g round one two
-SaysUnlike grouping g reply = ⊥
-
--- the game over the classes has too many sequences, or too many cells
-abbrev pub SaysLarge : FileGame → ClassLists → Reply → Type 0
-SaysLarge g lists (Refuses (Too_large (Sequences player count))) = IsStopOf (frame_in g) lists (TooManySequences player count)
-SaysLarge g lists (Refuses (Too_large (Cells count))) = IsStopOf (frame_in g) lists (TooManyCells count)
-SaysLarge g lists reply = ⊥
 
 -- what is said of a game over lossless classes, which is refused where it is too large
 abbrev pub OfForm : (FileGame → ClassLists → Reply → Type 0) → FileGame → ClassLists → Reply → Type 0
@@ -37,7 +24,7 @@ OfForm says g lists reply = SaysLarge g lists reply ⊎ (IsSmall (frame_in g) li
 -- what is said of a game over the classes of a grouping, which is refused where they are not lossless
 abbrev pub OfGrouping : Grouping → (FileGame → ClassLists → Reply → Type 0) → FileGame → Reply → Type 0
 OfGrouping grouping says g reply =
-    SaysUnlike grouping g reply
+    SaysNotLossless grouping g reply
     ⊎ ((lists : ClassLists) × IsGrouping grouping (rules_of g) lists × IsLossless (frame_in g) lists × OfForm says g lists reply)
 
 -- what is said of the bytes of a game file

@@ -2,9 +2,9 @@
 
 ghost use Rattle.std.specs.Prelude.{IfOk};
 ghost use Rattle.gs_file.specs.Views.{valid_view};
-ghost use Rattle.gs_reply.specs.Replies.{Answers};
+ghost use Rattle.gs_reply.specs.{Replies.{Answers}, Troubles.{SaysLarge}};
 ghost use Rattle.gs_seq.specs.{Abstracts.{frame_of as frame_by, lists_of}, Games.{frame_in}, Stops.{IsSmall, IsStopOf}};
-ghost use Rattle.gs_settle.specs.{Settling.{OfForm, OfGrouping, SaysLarge, Settles, game_in}, Tasks.{IsFew, Says}};
+ghost use Rattle.gs_settle.specs.{Settling.{OfForm, OfGrouping, Settles, game_in}, Tasks.{IsFew, Says}};
 
 use crate::paths::shown;
 use crate::playing::played;

@@ -9,12 +9,13 @@ use Rattle.gs_certificate.proofs.Only.{only as certificate_only, stated}
 use Rattle.gs_certify.specs.Certificates.{IsCertified, SaysCertified}
 use Rattle.gs_certify.specs.Verifying.{SaysChecked, SaysVerified, Verifies}
 use Rattle.gs_certify.proofs.Lines.{lines_verified}
-use Rattle.gs_confirm.specs.Commands.{OfConfirmed as SaysConfirmed, OfRead, OfStrategy}
+use Rattle.gs_confirm.specs.Commands.{OfConfirmed as SaysConfirmed, OfStrategy}
 use Rattle.gs_file.specs.declared.version.Version.{Version}
 use Rattle.gs_file.specs.declared.version.Version.TheVariants.{Two}
 use Rattle.gs_json.specs.FirstLine.{first_line}
 use Rattle.gs_reply.specs.Refusals.{Refusal}
-use Rattle.gs_reply.specs.Replies.{Reply, Prints, Refuses}
+use Rattle.gs_reply.specs.Replies.{OfRead, Reply, Prints, Refuses}
+use Rattle.gs_reply.specs.declared.strategies.Which.TheVariants.{Only}
 use Rattle.gs_strategy.specs.Checks.{ReadResult, Reads}
 use Rattle.gs_strategy.specs.Laws.{IsStrategy}
 use Rattle.gs_strategy.specs.Texts.{strategy_text}
@@ -37,7 +38,7 @@ pub certifies : (words : List (List ℕ)) (old new : Ends) (s : Status) → Runs
 certifies words old new s runs asked e = of_strategy Certify SaysCertified IsCertified old new certified (λ text bytes h. h) refl
     (printed words old new s Certify runs asked e)
 
-verified : (bytes text : List ℕ) (read : ReadResult) → Reads (first_line bytes).0 read → OfRead (SaysVerified (first_line bytes).1) read (Prints text)
+verified : (bytes text : List ℕ) (read : ReadResult) → Reads (first_line bytes).0 read → OfRead Only (SaysVerified (first_line bytes).1) read (Prints text)
     → OfCertificate bytes text
 verified bytes text (Ok t) reads (inl h) = let bad = h.told in cc
 verified bytes text (Ok t) reads (inr h) =
@@ -77,7 +78,7 @@ of_lines version t c reply is is_stated h =
     let rest = certificate_text c in
     let here : OfStrategy (SaysVerified rest) (strategy_text version t) reply =
     subst (λ (p : List ℕ × List ℕ). OfStrategy (SaysVerified p.1) p.0 reply) (text_parted version t rest is) h in
-    of_certificate t c reply is_stated (subst (λ (x : ReadResult). OfRead (SaysVerified rest) x reply) (only version t here.read is here.reads) here.said)
+    of_certificate t c reply is_stated (subst (λ (x : ReadResult). OfRead Only (SaysVerified rest) x reply) (only version t here.read is here.reads) here.said)
 
 pub verifies_at_last : (words : List (List ℕ)) (old new : Ends) (s : Status) → RunsTo words old new s → VerifiesAtLast words old new s
 verifies_at_last words old new s runs version t c asked is is_stated e few good =

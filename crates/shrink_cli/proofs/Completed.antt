@@ -3,14 +3,15 @@ use Rattle.std.proofs.Common.{◌≡◌, inl, inr, ℕ, ◌≤◌, ◌++◌, tru
 use Rattle.std.proofs.lemmas.List.{append-nil, length-append}
 use Rattle.std.specs.Io.KnownBytes.{Consumes, IsAtEnd}
 use Rattle.gs_answer.specs.Asking.{Asks, reads}
-use Rattle.gs_confirm.specs.Commands.{OfConfirmed as SaysConfirmed, OfRead, OfStrategy, SaysNumbers, SaysQueried, SaysUpgraded}
+use Rattle.gs_confirm.specs.Commands.{OfConfirmed as SaysConfirmed, OfStrategy, SaysNumbers, SaysQueried, SaysUpgraded}
 use Rattle.gs_file.specs.Reading.{FileGame, read_at}
 use Rattle.gs_file.specs.declared.version.Version.{Version}
-use Rattle.gs_group.specs.Checking.{ChecksGame}
+use Rattle.gs_group.specs.Checking.{ChecksGame, SaysNotLossless}
 use Rattle.gs_group.specs.Shrinking.{ShrinksGame}
 use Rattle.gs_made.specs.declared.kind.Kind.{Kind}
-use Rattle.gs_reply.specs.Refusals.{Refusal, Bad_game, Unlike_pair, Overflows, Many_pivots, Too_large, Bad_strategy, Wrong_number, Bad_query, Other_game, Bad_certificate, cause_of}
-use Rattle.gs_reply.specs.Replies.{OfReading, Reply, Prints, Refuses}
+use Rattle.gs_reply.specs.Refusals.{Refusal, Unlike_pair, cause_of}
+use Rattle.gs_reply.specs.Replies.{OfRead, OfReading, Reply, Prints, Refuses}
+use Rattle.gs_reply.specs.declared.strategies.Which.TheVariants.{Only}
 use Rattle.gs_settle.specs.Paths.{ShowsPath}
 use Rattle.gs_settle.specs.Playing.{Plays}
 use Rattle.gs_settle.specs.Settling.{OfGrouping}
@@ -101,27 +102,16 @@ pub shrinks_at_last : (words : List (List ℕ)) (old new : Ends) (s : Status) �
 shrinks_at_last words old new s runs summary bytes g asked e few read good =
     shrunk summary g s (over_game (ShrinksGame summary) g bytes s read (completes words old new s runs (Shrink summary) bytes asked refl e few good))
 
-kept : (grouping : Grouping) (summary : Bool) (g : FileGame) (why : Refusal) (s : Status) → ChecksGame grouping summary g (Refuses why)
-    → status_of (cause_of why) ≡ s → EndsChecked grouping g s
-kept grouping summary g (Unlike_pair round one two) s h e = inr (inr (
-  sym e,
-  h.0,
-  record { classes = h.1.classes; are = h.1.are; not_lossless = h.1.not_lossless },
-))
-kept grouping summary g (Bad_game why) s h e = absurd h
-kept grouping summary g (Overflows at) s h e = absurd h
-kept grouping summary g Many_pivots s h e = absurd h
-kept grouping summary g (Too_large limit) s h e = absurd h
-kept grouping summary g (Bad_strategy which why) s h e = absurd h
-kept grouping summary g (Wrong_number name stated found) s h e = absurd h
-kept grouping summary g (Bad_query why) s h e = absurd h
-kept grouping summary g Other_game s h e = absurd h
-kept grouping summary g (Bad_certificate why) s h e = absurd h
+kept : (grouping : Grouping) (g : FileGame) (why : Refusal) (s : Status) → SaysNotLossless grouping g (Refuses why) → status_of (cause_of why) ≡ s
+    → EndsChecked grouping g s
+kept grouping g why s (single, classes, are, (round, one, two, pair, told)) e =
+    let is : why ≡ Unlike_pair round one two = cc in
+    inr (inr (sym e ∙ ap (λ r. status_of (cause_of r)) is, single, record { classes = classes; are = are; not_lossless = pair.not_lossless }))
 
 checked : (grouping : Grouping) (summary : Bool) (g : FileGame) (s : Status) → EndsSo (ChecksGame grouping summary g) s → EndsChecked grouping g s
 checked grouping summary g s (inl h) = inl h.0
 checked grouping summary g s (inr (inl e)) = inr (inl e)
-checked grouping summary g s (inr (inr h)) = kept grouping summary g h.0 s h.1 h.2
+checked grouping summary g s (inr (inr h)) = kept grouping g h.0 s h.1 h.2
 
 pub checks_at_last : (words : List (List ℕ)) (old new : Ends) (s : Status) → RunsTo words old new s → (grouping : Grouping) (summary : Bool)
     → CompletesGame (Check grouping summary) (EndsChecked grouping) words old new s
@@ -153,7 +143,7 @@ pub over_strategy : (says : Strategy → Reply → Type 0) (version : Version) (
     → EndsSo (OfStrategy says (strategy_text version t)) s → EndsSo (says t) s
 over_strategy says version t s is h =
     ends_so (OfStrategy says (strategy_text version t)) (says t) s (λ reply o.
-    subst (λ (x : ReadResult). OfRead says x reply) (only version t o.read is o.reads) o.said) h
+    subst (λ (x : ReadResult). OfRead Only says x reply) (only version t o.read is o.reads) o.said) h
 
 pub evaluates_at_last : (words : List (List ℕ)) (old new : Ends) (s : Status) → RunsTo words old new s
     → CompletesStrategy Evaluate (SaysConfirmed SaysNumbers) words old new s

@@ -1,7 +1,7 @@
 -- Strategies over classes of any kind: what `judge` and `duel` print, and how they end where nothing outside fails.
 use Rattle.std.proofs.Common.{◌≡◌, inl, inr, ℕ, List, ◌++◌, [], ◌∷◌, ◌==◌, Ok, Err, refl, sym, ap, ◌∙◌, subst}
 use Rattle.std.proofs.lemmas.Bool.{cases_Bool}
-use Rattle.gs_compare.specs.Commands.{Duels, Judges, OfFile, OfRead, OnRawCards, SaysDuel, SaysHands, SaysJudged}
+use Rattle.gs_compare.specs.Commands.{Duels, Judges, OnRawCards, SaysDuel, SaysHands, SaysJudged}
 use Rattle.gs_compare.specs.Judging.{AreHands, hands_text, plan_in}
 use Rattle.gs_file.specs.Reading.{FileGame, rules_of}
 use Rattle.gs_file.specs.declared.version.Version.{Version}
@@ -9,7 +9,7 @@ use Rattle.gs_json.specs.FirstLine.{first_line}
 use Rattle.gs_json.proofs.Feeds.{line_parted}
 use Rattle.gs_model.specs.Plans.{lift}
 use Rattle.gs_model.specs.Verdict.{IsVerdict}
-use Rattle.gs_reply.specs.Replies.{Reply, Prints}
+use Rattle.gs_reply.specs.Replies.{OfFile, OfRead, Reply, Prints}
 use Rattle.gs_reply.specs.declared.strategies.Which.{Which}
 use Rattle.gs_reply.specs.declared.strategies.Which.TheVariants.{Only, First, Second}
 use Rattle.gs_strategy.specs.Checks.{ReadResult, Reads}

@@ -3,7 +3,7 @@ use Rattle.std.proofs.Common.{◌≡◌, inl, inr, ℕ, List, Bool, true, false,
 use Rattle.std.specs.Io.KnownBytes.{Appends}
 use Rattle.gs_answer.specs.Asking.{Asks, reads}
 use Rattle.gs_answer.specs.Making.{Makes}
-use Rattle.gs_confirm.specs.Commands.{OfConfirmed as SaysConfirmed, OfRead, OfStrategy, SaysNumbers, SaysQueried, SaysUpgraded}
+use Rattle.gs_confirm.specs.Commands.{OfConfirmed as SaysConfirmed, OfStrategy, SaysNumbers, SaysQueried, SaysUpgraded}
 use Rattle.gs_confirm.specs.Queries.{IsQueried}
 use Rattle.gs_file.specs.declared.version.Version.TheVariants.{Two}
 use Rattle.gs_file.specs.Faults.{Fault}
@@ -12,7 +12,8 @@ use Rattle.gs_group.specs.Checking.{ChecksGame, IsChecked}
 use Rattle.gs_group.specs.Shrinking.{IsShrunk, ShrinksGame}
 use Rattle.gs_made.specs.Made.{made_game}
 use Rattle.gs_made.specs.declared.kind.Kind.{Kind}
-use Rattle.gs_reply.specs.Replies.{OfReading, Reply, Prints}
+use Rattle.gs_reply.specs.Replies.{OfRead, OfReading, Reply, Prints}
+use Rattle.gs_reply.specs.declared.strategies.Which.TheVariants.{Only}
 use Rattle.gs_model.specs.Classes.{ClassLists}
 use Rattle.gs_settle.specs.Paths.{IsPathShown, ShowsPath}
 use Rattle.gs_settle.specs.Playing.{IsPlayed, Plays}
@@ -94,8 +95,8 @@ makes words old new s runs kind ranks suits cap summary asked e =
 settled : (grouping : Grouping) (says : FileGame → ClassLists → Reply → Type 0) (tells : FileGame → ClassLists → List ℕ
     → Type 0) (g : FileGame) (text : List ℕ)
     → ((lists : ClassLists) → says g lists (Prints text) → tells g lists text) → OfGrouping grouping says g (Prints text) → OfClasses grouping tells g text
-settled grouping says tells g text told (inl h) = absurd h
-settled grouping says tells g text told (inr (lists, grouped, lossless, inl h)) = absurd h
+settled grouping says tells g text told (inl (single, lists, are, (round, one, two, pair, said))) = cc
+settled grouping says tells g text told (inr (lists, grouped, lossless, inl (limit, passed, said))) = cc
 settled grouping says tells g text told (inr (lists, grouped, lossless, inr h)) =
     record { classes = lists; grouped = grouped; lossless = lossless; small = h.0; said = told lists h.1 }
 
@@ -129,7 +130,7 @@ paths words old new s runs grouping asked e =
 -- a text is said of a strategy that is confirmed
 confirmed : (says : Strategy → Reply → Type 0) (tells : Strategy → List ℕ → Type 0) (bytes text : List ℕ) (read : ReadResult)
     → ((t : Strategy) → says t (Prints text) → tells t text) → Reads bytes read
-    → OfRead (SaysConfirmed says) read (Prints text) → OfConfirmed tells bytes text
+    → OfRead Only (SaysConfirmed says) read (Prints text) → OfConfirmed tells bytes text
 confirmed says tells bytes text (Ok t) told reads (inl h) = record {
   strategy = t;
   accepted = reads;

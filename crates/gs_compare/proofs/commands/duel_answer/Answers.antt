@@ -1,11 +1,11 @@
 use Rattle.std.proofs.Common.{ℕ, List, rules, subst}
 use Rattle.std.proofs.lemmas.Result.{IfOk-weaker}
 use Rattle.std.specs.Prelude.{IfOk}
-use Rattle.gs_reply.specs.Replies.{Answers, Reply}
+use Rattle.gs_reply.specs.Replies.{Answers, OfFile, Reply}
 use Rattle.gs_reply.specs.declared.strategies.Which.TheVariants.{First, Second}
 use Rattle.gs_strategy.specs.Values.{Strategy}
 use Rattle.gs_strategy.specs.Views.{stored_view}
-use Rattle.gs_compare.specs.Commands.{OfFile, SaysDuel}
+use Rattle.gs_compare.specs.Commands.{SaysDuel}
 use Rattle.gs_compare.proofs.Replies.{held, named, refused}
 use Rattle.gs_compare.proofs.commands.duel_answer.Goals as goal
 

@@ -1,0 +1,39 @@
+-- What stands against a game over classes: the classes are not lossless, or the game in sequence form is too large.
+use Rattle.std.specs.Prelude.{◌≡◌, ℕ, List}
+use Rattle.gs_file.specs.Reading.{FileGame, rules_of}
+use Rattle.gs_model.specs.Classes.{ClassLists}
+use Rattle.gs_model.specs.Lossless.{IsFirstUnlike, IsLossless}
+use Rattle.gs_model.specs.Signals.{signal_at}
+use Rattle.gs_seq.specs.Stops.{IsStopOf}
+use Rattle.gs_seq.specs.declared.stop.SeqStop.TheVariants.{TooManySequences, TooManyCells}
+use Rattle.gs_strategy.specs.Values.{frame_in}
+use Rattle.gs_tree.specs.Texts.{signal_text}
+use Rattle.gs_reply.specs.Refusals.{Limit, Sequences, Cells, Table_numbers, Raw_cells, Unlike_pair, Too_large}
+use Rattle.gs_reply.specs.Replies.{Reply, Refuses}
+
+-- the classes are not lossless, and this is their first unlike pair, by its round and the texts of the two signals
+pub record IsUnlikePair (g : FileGame) (lists : ClassLists) (round : ℕ) (one two : List ℕ) : Type 0 where
+  pub first : ℕ
+  pub second : ℕ
+  pub unlike : IsFirstUnlike (frame_in g) lists round first second
+  pub not_lossless : IsLossless (frame_in g) lists → ⊥
+  pub first_text : one ≡ signal_text g.deck (signal_at (rules_of g) round first)
+  pub second_text : two ≡ signal_text g.deck (signal_at (rules_of g) round second)
+
+-- the limit is the first that the game in sequence form passes
+abbrev pub Passes : FileGame → ClassLists → Limit → Type 0
+Passes g lists (Sequences player count) = IsStopOf (frame_in g) lists (TooManySequences player count)
+Passes g lists (Cells count) = IsStopOf (frame_in g) lists (TooManyCells count)
+Passes g lists (Table_numbers count) = ⊥
+Passes g lists (Raw_cells count) = ⊥
+
+-- ---- the refusal for one of them
+
+-- the first unlike pair of classes that are not lossless
+abbrev pub SaysUnlike : FileGame → ClassLists → Reply → Type 0
+SaysUnlike g lists reply =
+    (round : ℕ) × (one : List ℕ) × (two : List ℕ) × IsUnlikePair g lists round one two × (reply ≡ Refuses (Unlike_pair round one two))
+
+-- the first limit that a game passes
+abbrev pub SaysLarge : FileGame → ClassLists → Reply → Type 0
+SaysLarge g lists reply = (limit : Limit) × Passes g lists limit × (reply ≡ Refuses (Too_large limit))
