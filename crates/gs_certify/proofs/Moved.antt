@@ -68,9 +68,8 @@ pub unlike_said : (task : Task) (s : Strategy) (a : Answer) → Answers (SaysUnl
 unlike_said task s a h = answers_more (SaysUnlike s.game s.classes) (says_of task s) (unlike_by task s) a h
 
 large_by : (task : Task) (s : Strategy) (reply : Reply) → SaysLarge s reply → says_of task s reply
-large_by Certify s reply (lossless, limit, passed, told) = inr (Too_large limit, record { lossless = lossless; passed = passed }, told)
-large_by (Verify c) s reply (lossless, limit, passed, told) =
-    subst (λ (r : Reply). SaysChecked s c.now r) (sym told) (record { lossless = lossless; passed = passed })
+large_by Certify s reply h = inr (Too_large h.0, h.1, h.2)
+large_by (Verify c) s reply h = subst (λ (r : Reply). SaysChecked s c.now r) (sym h.2) h.1
 
 pub large_said : (task : Task) (s : Strategy) (a : Answer) → Answers (SaysLarge s) a → Answers (says_of task s) a
 large_said task s a h = answers_more (SaysLarge s) (says_of task s) (large_by task s) a h

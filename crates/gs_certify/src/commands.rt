@@ -1,6 +1,6 @@
 //! The two commands.
 
-ghost use Rattle.std.specs.Prelude.{◌≡◌, IfOk};
+ghost use Rattle.std.specs.Prelude.{IfOk};
 ghost use Rattle.gs_reply.specs.Replies.{Answers};
 ghost use Rattle.gs_strategy.specs.Views.{stored_view};
 ghost use Rattle.gs_certify.specs.{Certificates.{Certifies}, Verifying.{SaysVerified, Verifies}};
@@ -10,18 +10,17 @@ use crate::task::Task;
 use crate::verifying::no_text;
 use gs_certificate::{CertTextFault, read_certificate};
 use gs_json::first_line;
-use gs_reply::{Answer, Which, bad_strategy};
-use gs_strategy::{StoreFault, Stored, read_strategy};
+use gs_reply::{Answer, Which, stored_or_refusal};
+use gs_strategy::Stored;
 use std::alloc::{AllocError, Global};
 
 /// The strategy file's text in version 2 and its certificate, where its numbers are those of its plans; or why it is refused.
 pub fn certify_answer(alloc: Global, bytes: &[u8]) -> Result<Answer, AllocError>
     ensures { IfOk result (Answers (Certifies bytes.now)) }
 {
-    match read_strategy(alloc, bytes) {
+    match stored_or_refusal(alloc, Which::Only, bytes)? {
         Ok(stored) => of_strategy(alloc, &Task::Certify, &stored),
-        Err(StoreFault::Memory) => Err(AllocError),
-        Err(fault) => bad_strategy(alloc, Which::Only, &fault),
+        Err(refusal) => Ok(refusal),
     }
 }
 
@@ -42,9 +41,8 @@ pub fn verify_answer(alloc: Global, bytes: &[u8]) -> Result<Answer, AllocError>
     ensures { IfOk result (Answers (Verifies bytes.now)) }
 {
     let (first, second) = first_line(bytes);
-    match read_strategy(alloc, first) {
+    match stored_or_refusal(alloc, Which::Only, first)? {
         Ok(stored) => with_second(alloc, &stored, second),
-        Err(StoreFault::Memory) => Err(AllocError),
-        Err(fault) => bad_strategy(alloc, Which::Only, &fault),
+        Err(refusal) => Ok(refusal),
     }
 }

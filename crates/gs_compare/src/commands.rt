@@ -7,8 +7,8 @@ ghost use Rattle.gs_strategy.specs.Views.{stored_view};
 
 use crate::judging::{dueled, judged};
 use gs_json::first_line;
-use gs_reply::{Answer, Which, bad_strategy};
-use gs_strategy::{StoreFault, Stored, read_strategy};
+use gs_reply::{Answer, Which, stored_or_refusal};
+use gs_strategy::Stored;
 use std::alloc::{AllocError, Global};
 
 /// What the plans of a strategy file pay, and what each player could still gain on raw cards by any plan, whether its classes lose something or not;
@@ -16,10 +16,9 @@ use std::alloc::{AllocError, Global};
 pub fn judge_answer(alloc: Global, bytes: &[u8]) -> Result<Answer, AllocError>
     ensures { IfOk result (Answers (Judges bytes.now)) }
 {
-    match read_strategy(alloc, bytes) {
+    match stored_or_refusal(alloc, Which::Only, bytes)? {
         Ok(stored) => judged(alloc, &stored),
-        Err(StoreFault::Memory) => Err(AllocError),
-        Err(fault) => bad_strategy(alloc, Which::Only, &fault),
+        Err(refusal) => Ok(refusal),
     }
 }
 
@@ -27,10 +26,9 @@ pub fn judge_answer(alloc: Global, bytes: &[u8]) -> Result<Answer, AllocError>
 fn against(alloc: Global, one: &Stored, bytes: &[u8]) -> Result<Answer, AllocError>
     ensures { IfOk result (Answers (OfFile Second (SaysDuel (stored_view one.now)) bytes.now)) }
 {
-    match read_strategy(alloc, bytes) {
+    match stored_or_refusal(alloc, Which::Second, bytes)? {
         Ok(two) => dueled(alloc, one, &two),
-        Err(StoreFault::Memory) => Err(AllocError),
-        Err(fault) => bad_strategy(alloc, Which::Second, &fault),
+        Err(refusal) => Ok(refusal),
     }
 }
 
@@ -40,9 +38,8 @@ pub fn duel_answer(alloc: Global, bytes: &[u8]) -> Result<Answer, AllocError>
     ensures { IfOk result (Answers (Duels bytes.now)) }
 {
     let (first, second) = first_line(bytes);
-    match read_strategy(alloc, first) {
+    match stored_or_refusal(alloc, Which::First, first)? {
         Ok(one) => against(alloc, &one, second),
-        Err(StoreFault::Memory) => Err(AllocError),
-        Err(fault) => bad_strategy(alloc, Which::First, &fault),
+        Err(refusal) => Ok(refusal),
     }
 }

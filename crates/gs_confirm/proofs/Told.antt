@@ -6,14 +6,13 @@ use Rattle.gs_frac.specs.declared.value.Verdict.{Verdict}
 use Rattle.gs_file.specs.Views.{valid_view}
 use Rattle.gs_game.specs.Games.{game_of}
 use Rattle.gs_game.specs.declared.valid.ValidGame.{ValidGame}
-use Rattle.gs_model.specs.Frame.{frame_of as rules_frame}
 use Rattle.gs_model.specs.Lossless.{IsFirstUnlike, IsLossless}
 use Rattle.gs_model.specs.Signals.{signal_at, signals}
 use Rattle.gs_model.specs.Verdict.{IsVerdict}
 use Rattle.gs_reply.proofs.Refused.{answers_more, tells_answer}
-use Rattle.gs_reply.specs.Refusals.{Unlike_pair, Limit, Too_large, Wrong_number}
+use Rattle.gs_reply.specs.Refusals.{Unlike_pair, Wrong_number}
 use Rattle.gs_reply.specs.Replies.{Answers, Reply, Tells}
-use Rattle.gs_reply.specs.Troubles.{Passes, SaysUnlike}
+use Rattle.gs_reply.specs.Troubles.{SaysLarge as SaysTooLarge, SaysUnlike}
 use Rattle.gs_reply.specs.declared.answers.Answer.{Answer}
 use Rattle.gs_seq.specs.Games.{frame_in}
 use Rattle.gs_seq.specs.Plans.{lifted}
@@ -48,16 +47,15 @@ pair_told w s round first second a e unlike not t =
 -- ---- sizes
 
 -- a stop of the game in sequence form is one of the strategy's
-pub stop_is : (s : Stored) (w : ValidGame) (k : Filter) (stop named : SeqStop) → w ≡ s.game → k ≡ s.classes → stop ≡ named
-    → IsStopOf (frame_in w) k.lists stop → IsStopOf (frame_of (stored_view s)) s.classes.lists named
-stop_is s w k stop named e f same h =
+pub stop_is : (s : Stored) (w : ValidGame) (k : Filter) (stop : SeqStop) → w ≡ s.game → k ≡ s.classes → IsStopOf (frame_in w) k.lists stop
+    → IsStopOf (frame_in s.game) s.classes.lists stop
+stop_is s w k stop e f h =
     let at_game = subst (λ (x : ValidGame). IsStopOf (frame_in x) k.lists stop) e h in
-    let at_classes = subst (λ (x : Filter). IsStopOf (frame_in s.game) x.lists stop) f at_game in
-    subst (λ (x : SeqStop). IsStopOf (frame_in s.game) s.classes.lists x) same at_classes
+    subst (λ (x : Filter). IsStopOf (frame_in s.game) x.lists stop) f at_game
 
-pub large_told : (s : Strategy) (limit : Limit) (a : Answer) → IsLossless (frame_of s) s.classes → Passes s.game s.classes limit → Tells a (Too_large limit)
-    → Answers (SaysLarge s) a
-large_told s limit a lossless passed t = tells_answer (SaysLarge s) a (Too_large limit) (lossless, limit, passed, refl) t
+pub large_told : (s : Strategy) (a : Answer) → IsLossless (frame_of s) s.classes → Answers (SaysTooLarge s.game s.classes) a → Answers (SaysLarge s) a
+large_told s a lossless = answers_more (SaysTooLarge s.game s.classes) (SaysLarge s)
+    (λ r said. (said.0, record { lossless = lossless; passed = said.1 }, said.2)) a
 
 -- ---- numbers
 

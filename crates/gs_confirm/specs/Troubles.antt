@@ -3,7 +3,7 @@ use Rattle.std.specs.Prelude.{◌≡◌, ◌≢◌, ◌⊎◌, ℕ, List, codes}
 use Rattle.gs_model.specs.Lossless.{IsLossless}
 use Rattle.gs_reply.specs.Replies.{Reply, Refuses}
 use Rattle.gs_reply.specs.Refusals.{Limit, Refusal, Unlike_pair, Too_large, Wrong_number}
-use Rattle.gs_reply.specs.Troubles.{IsUnlikePair, Passes, SaysLarge as SaysTooLarge}
+use Rattle.gs_reply.specs.Troubles.{IsUnlikePair, Passes}
 use Rattle.gs_seq.specs.Stops.{IsSmall}
 use Rattle.gs_strategy.specs.Confirmed.{AreNumbersOf, frame_of}
 use Rattle.gs_strategy.specs.Values.{Numbers, Parts, Strategy}
@@ -40,7 +40,7 @@ IsTrouble s other = ⊥
 
 -- the classes are lossless, and the game is refused for the first limit that it passes
 abbrev pub SaysLarge : Strategy → Reply → Type 0
-SaysLarge s reply = IsLossless (frame_of s) s.classes × SaysTooLarge s.game s.classes reply
+SaysLarge s reply = (limit : Limit) × IsTooLarge s limit × (reply ≡ Refuses (Too_large limit))
 
 -- the first wrong number of a strategy
 abbrev pub SaysWrong : Strategy → Reply → Type 0

@@ -11,8 +11,8 @@ ghost use Rattle.gs_confirm.specs.{Held.{Holds, IsFormOf}, Troubles.{SaysLarge, 
 use crate::numbers::first_wrong;
 use gs_best::{Work, verdict};
 use gs_lossless::{CheckStop, Lossless, check};
-use gs_reply::{Answer, many_cells, many_sequences, unlike, wrong_number};
-use gs_seq::{Abstract, SeqStop};
+use gs_reply::{Answer, too_large, unlike, wrong_number};
+use gs_seq::Abstract;
 use gs_strategy::Stored;
 use gs_tree::Signals;
 use std::alloc::{AllocError, Global};
@@ -55,11 +55,7 @@ pub fn form_of<'a>(
 {
     match Abstract::of(alloc, lossless) {
         Ok(form) => Ok(Ok(form)),
-        Err(SeqStop::TooManySequences { player, count }) => {
-            Ok(Err(many_sequences(alloc, player, count)?))
-        }
-        Err(SeqStop::TooManyCells { count }) => Ok(Err(many_cells(alloc, count)?)),
-        Err(SeqStop::Memory) => Err(AllocError),
+        Err(stop) => Ok(Err(too_large(alloc, stop)?)),
     }
 }
 

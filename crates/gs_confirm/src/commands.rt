@@ -1,23 +1,21 @@
 //! The commands that read a strategy file.
 
-ghost use Rattle.std.specs.Prelude.{◌≡◌, ◌<◌, ◌≤◌, IfOk};
+ghost use Rattle.std.specs.Prelude.{◌<◌, ◌≤◌, IfOk};
 ghost use Rattle.gs_confirm.specs.{Asking.{says_of}, Commands.{Evaluates, OfConfirmed, OfStrategy, Queries, Upgrades}};
 ghost use Rattle.gs_reply.specs.Replies.{Answers};
 
 use crate::asking::{Ask, Query};
 use crate::confirming::of_strategy;
-use gs_reply::{Answer, Which, bad_strategy};
-use gs_strategy::{StoreFault, read_strategy};
+use gs_reply::{Answer, Which, stored_or_refusal};
 use std::alloc::{AllocError, Global};
 
 // What a command answers to the bytes of a strategy file.
 fn answered(alloc: Global, ask: &Ask<'_>, bytes: &[u8]) -> Result<Answer, AllocError>
     ensures { IfOk result (Answers (OfStrategy (OfConfirmed (says_of ask.now)) bytes.now)) }
 {
-    match read_strategy(alloc, bytes) {
+    match stored_or_refusal(alloc, Which::Only, bytes)? {
         Ok(stored) => of_strategy(alloc, ask, &stored),
-        Err(StoreFault::Memory) => Err(AllocError),
-        Err(fault) => bad_strategy(alloc, Which::Only, &fault),
+        Err(refusal) => Ok(refusal),
     }
 }
 

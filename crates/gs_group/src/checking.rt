@@ -7,10 +7,9 @@ ghost use Rattle.gs_reply.specs.Replies.{Answers};
 
 use crate::grouping::{classes_of, lossless_of};
 use crate::telling::told;
-use gs_file::{FileFault, read_game};
 use gs_game::ValidGame;
 use gs_lossless::CheckStop;
-use gs_reply::{Answer, bad_game, unlike};
+use gs_reply::{Answer, game_or_refusal, unlike};
 use gs_tree::Signals;
 use gs_words::Grouping;
 use std::alloc::{AllocError, Global};
@@ -51,10 +50,8 @@ pub fn check_answer(
 ) -> Result<Answer, AllocError>
     ensures { IfOk result (Answers (Checks grouping summary bytes.now)) }
 {
-    let game = match read_game(alloc, bytes) {
-        Ok(game) => game,
-        Err(FileFault::Memory) => return Err(AllocError),
-        Err(fault) => return bad_game(alloc, &fault),
-    };
-    checked(alloc, &game, grouping, summary)
+    match game_or_refusal(alloc, bytes)? {
+        Ok(game) => checked(alloc, &game, grouping, summary),
+        Err(refusal) => Ok(refusal),
+    }
 }

@@ -1,14 +1,13 @@
 //! The command `shrink`.
 
-ghost use Rattle.std.specs.Prelude.{◌≡◌, IfOk};
+ghost use Rattle.std.specs.Prelude.{IfOk};
 ghost use Rattle.gs_file.specs.Views.{valid_view};
 ghost use Rattle.gs_group.specs.Shrinking.{IsShrunk, Shrinks};
 ghost use Rattle.gs_reply.specs.Replies.{Answers};
 
 use crate::telling::told;
-use gs_file::{FileFault, read_game};
 use gs_game::ValidGame;
-use gs_reply::{Answer, bad_game};
+use gs_reply::{Answer, game_or_refusal};
 use gs_tree::Signals;
 use std::alloc::{AllocError, Global};
 
@@ -25,11 +24,8 @@ fn shrunk(alloc: Global, game: &ValidGame, summary: bool) -> Result<Vec<u8>, All
 pub fn shrink_answer(alloc: Global, bytes: &[u8], summary: bool) -> Result<Answer, AllocError>
     ensures { IfOk result (Answers (Shrinks summary bytes.now)) }
 {
-    let game = match read_game(alloc, bytes) {
-        Ok(game) => game,
-        Err(FileFault::Memory) => return Err(AllocError),
-        Err(fault) => return bad_game(alloc, &fault),
-    };
-    let text = shrunk(alloc, &game, summary)?;
-    Ok(Answer::Prints(text))
+    match game_or_refusal(alloc, bytes)? {
+        Ok(game) => Ok(Answer::Prints(shrunk(alloc, &game, summary)?)),
+        Err(refusal) => Ok(refusal),
+    }
 }

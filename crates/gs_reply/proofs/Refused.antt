@@ -1,5 +1,5 @@
 -- A fault of the program is the one that reading meets first; answers that tell a refusal, and answers of which more is said.
-use Rattle.std.proofs.Common.{◌≢◌, Result, Ok, Err, refl}
+use Rattle.std.proofs.Common.{◌≡◌, ◌≢◌, Result, Ok, Err, refl, sym, subst}
 use Rattle.gs_file.specs.Answers.{Fails}
 use Rattle.gs_file.specs.Faults.{Fault}
 use Rattle.gs_file.specs.Reading.{FileGame}
@@ -9,7 +9,7 @@ use Rattle.gs_game.specs.declared.faults.GameFault.{GameFault}
 use Rattle.gs_game.specs.declared.faults.GameFault.TheVariants as rules
 use Rattle.gs_file.specs.Answers.{FailsByRules}
 use Rattle.gs_reply.specs.Refusals.{Refusal, Bad_game}
-use Rattle.gs_reply.specs.Replies.{Answers, OfReading, Reply, Prints, Refuses, Tells}
+use Rattle.gs_reply.specs.Replies.{Answers, IsBadGame, OfReading, Reply, Prints, Refuses, Tells}
 use Rattle.gs_reply.specs.declared.answers.Answer.{Answer}
 use Rattle.gs_reply.specs.declared.answers.Answer.TheVariants as answer
 
@@ -51,8 +51,17 @@ pub tells_answer : (says : Reply → Type 0) (a : Answer) (why : Refusal) → sa
 tells_answer says (answer.Prints text) why s t = absurd t
 tells_answer says (answer.Refuses kind line) why s t = (why, s, t)
 
--- a refusal of the file is what it says
-pub refused : (says : FileGame → Reply → Type 0) (read : Result FileGame Fault) (f : FileFault) (a : Answer) → f ≢ fault.Memory → Fails f read
-    → ((why : Fault) → Fails {Y = FileGame} f (Err why) → Tells a (Bad_game why)) → Answers (OfReading says read) a
-refused says (Ok g) f a told h line = absurd (no_fault f g told h)
-refused says (Err why) f a told h line = tells_answer (OfReading says (Err why)) a (Bad_game why) refl (line why h)
+-- a fault of the file is told by its refusal
+pub refused : (read : Result FileGame Fault) (f : FileFault) (a : Answer) → f ≢ fault.Memory → Fails f read
+    → ((why : Fault) → Fails {Y = FileGame} f (Err why) → Tells a (Bad_game why)) → Answers (IsBadGame read) a
+refused (Ok g) f a told h line = absurd (no_fault f g told h)
+refused (Err why) f a told h line = tells_answer (IsBadGame (Err why)) a (Bad_game why) (why, refl, refl) (line why h)
+
+-- what is said of a game is said of the file that states it
+pub stated : (says : FileGame → Reply → Type 0) (read : Result FileGame Fault) (g : FileGame) (a : Answer) → read ≡ Ok g → Answers (says g) a
+    → Answers (OfReading says read) a
+stated says read g a is = subst (λ x. Answers (OfReading says x) a) (sym is)
+
+-- what is said of a file that states no game is its refusal
+pub not_stated : (says : FileGame → Reply → Type 0) (read : Result FileGame Fault) (a : Answer) → Answers (IsBadGame read) a → Answers (OfReading says read) a
+not_stated says read a = answers_more (IsBadGame read) (OfReading says read) (λ r bad. subst (λ x. OfReading says x r) (sym bad.1) bad.2) a

@@ -3,6 +3,7 @@ use Rattle.std.specs.Prelude.{◌≡◌, ℕ, List, Result, Ok, Err}
 use Rattle.gs_file.specs.Faults.{Fault}
 use Rattle.gs_file.specs.Reading.{FileGame}
 use Rattle.gs_strategy.specs.Checks.{ReadResult, Reads}
+use Rattle.gs_strategy.specs.Faults.{Fault as StrategyFault}
 use Rattle.gs_strategy.specs.Values.{Strategy}
 use Rattle.gs_reply.specs.Refusals.{Refusal, Bad_game, Bad_strategy, cause_of, line_of}
 use Rattle.gs_reply.specs.declared.answers.Answer.{Answer}
@@ -19,6 +20,10 @@ abbrev pub OfReading : (FileGame → Reply → Type 0) → Result FileGame Fault
 OfReading says (Ok g) reply = says g reply
 OfReading says (Err why) reply = reply ≡ Refuses (Bad_game why)
 
+-- a file that states no game is refused for its first fault
+abbrev pub IsBadGame : Result FileGame Fault → Reply → Type 0
+IsBadGame read reply = (why : Fault) × (read ≡ Err why) × (reply ≡ Refuses (Bad_game why))
+
 -- what is said of the strategy that was read; bytes that hold none are refused for their first fault, by which file they are
 abbrev pub OfRead : Which → (Strategy → Reply → Type 0) → ReadResult → Reply → Type 0
 OfRead which says (Ok s) reply = says s reply
@@ -29,6 +34,10 @@ pub record OfFile (which : Which) (says : Strategy → Reply → Type 0) (bytes 
   pub read : ReadResult
   pub reads : Reads bytes read
   pub said : OfRead which says read reply
+
+-- bytes that hold no strategy are refused for their first fault
+abbrev pub IsBadStrategy : Which → List ℕ → Reply → Type 0
+IsBadStrategy which bytes reply = (why : StrategyFault) × Reads bytes (Err why) × (reply ≡ Refuses (Bad_strategy which why))
 
 -- an answer tells a refusal: its kind and its line
 abbrev pub Tells : Answer → Refusal → Type 0

@@ -1,17 +1,18 @@
 //! Refusals of game files, and of two games where one is wanted.
 
-ghost use Rattle.std.specs.Prelude.{◌≡◌, ◌≢◌, IfOk};
-ghost use Rattle.gs_file.specs.{Faults.{Fault}, declared.fault.FileFault.TheVariants.{Memory}};
-ghost use Rattle.gs_reply.specs.{Refusals.{Bad_game, Other_game}, Replies.{Tells}};
+ghost use Rattle.std.specs.Prelude.{◌≡◌, ◌≢◌, IfErr, IfOk, Ok};
+ghost use Rattle.gs_file.specs.{Faults.{Fault}, Reading.{read_at}, Views.{valid_view}, declared.fault.FileFault.TheVariants.{Memory}};
+ghost use Rattle.gs_reply.specs.{Refusals.{Bad_game, Other_game}, Replies.{Answers, IsBadGame, Tells}};
 ghost use Rattle.gs_text.specs.FaultText.{IsFault};
 
 use crate::answers::{Answer, Cause};
-use gs_file::FileFault;
+use gs_file::{FileFault, read_game};
+use gs_game::ValidGame;
 use gs_text::file_fault_text;
 use std::alloc::{AllocError, Global};
 
-/// The refusal of a file that states no game.
-pub fn bad_game(alloc: Global, fault: &FileFault) -> Result<Answer, AllocError>
+// The refusal of a file that states no game.
+fn bad_game(alloc: Global, fault: &FileFault) -> Result<Answer, AllocError>
     requires { fault.now ≢ Memory }
     ensures { IfOk result (λ a. (why : Fault) → IsFault fault.now why → Tells a (Bad_game why)) }
 {
@@ -21,6 +22,18 @@ pub fn bad_game(alloc: Global, fault: &FileFault) -> Result<Answer, AllocError>
     line.push(b'\n')?;
     let cause = Cause::BadGame;
     Ok(Answer::Refuses { cause, line })
+}
+
+/// The game that the bytes of a game file state, or the refusal of bytes that state none.
+pub fn game_or_refusal(alloc: Global, bytes: &[u8]) -> Result<Result<ValidGame, Answer>, AllocError>
+    ensures stated { IfOk result (λ found. IfOk found (λ game. read_at bytes.now ≡ Ok (valid_view game))) }
+    ensures refused { IfOk result (λ found. IfErr found (Answers (IsBadGame (read_at bytes.now)))) }
+{
+    match read_game(alloc, bytes) {
+        Ok(game) => Ok(Ok(game)),
+        Err(FileFault::Memory) => Err(AllocError),
+        Err(fault) => Ok(Err(bad_game(alloc, &fault)?)),
+    }
 }
 
 /// The refusal of two strategies whose games differ.

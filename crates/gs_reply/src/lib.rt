@@ -12,12 +12,12 @@ mod strategies;
 
 pub use answers::{Answer, Cause};
 pub use certificates::bad_certificate;
-pub use games::{bad_game, other_game};
+pub use games::{game_or_refusal, other_game};
 pub use numbers::wrong_number;
 pub use queries::bad_query;
 pub use signals::unlike;
 pub use solving::{
     many_cells, many_pivots, many_raw_cells, many_sequences, many_table_numbers, overflow_at_step,
-    overflow_of_total,
+    overflow_of_total, too_large,
 };
-pub use strategies::{Which, bad_strategy};
+pub use strategies::{Which, stored_or_refusal};

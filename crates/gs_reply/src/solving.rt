@@ -1,9 +1,14 @@
 //! Refusals of games that are too large, and of solutions whose numbers or paths are.
 
 ghost use Rattle.std.specs.{Prelude.{◌≡◌, ◌++◌, IfOk, codes}, Fmt.{decimal}};
-ghost use Rattle.gs_reply.specs.{Refusals.{Overflows, At_step, At_total, Many_pivots, Too_large, Sequences, Cells, Table_numbers, Raw_cells}, Replies.{Tells}};
+ghost use Rattle.gs_file.specs.Reading.{FileGame};
+ghost use Rattle.gs_model.specs.Classes.{ClassLists};
+ghost use Rattle.gs_reply.specs.{Refusals.{Overflows, At_step, At_total, Many_pivots, Too_large, Sequences, Cells, Table_numbers, Raw_cells}, Replies.{Answers, Tells}, Troubles.{SaysLarge}};
+ghost use Rattle.gs_seq.specs.Stops.{IsStopOf};
+ghost use Rattle.gs_strategy.specs.Values.{frame_in};
 
 use crate::answers::{Answer, Cause};
+use gs_seq::SeqStop;
 use std::alloc::{AllocError, Global};
 use std::fmt::Write;
 
@@ -75,6 +80,17 @@ pub fn many_cells(alloc: Global, count: u64) -> Result<Answer, AllocError>
     let line = too_many(alloc, "cells: ", count)?;
     let cause = Cause::TooLarge;
     Ok(Answer::Refuses { cause, line })
+}
+
+/// The refusal of a game that has no sequence form within the limits.
+pub fn too_large(alloc: Global, stop: SeqStop) -> Result<Answer, AllocError>
+    ensures { IfOk result (λ a. (g : FileGame) (lists : ClassLists) → IsStopOf (frame_in g) lists stop → Answers (SaysLarge g lists) a) }
+{
+    match stop {
+        SeqStop::TooManySequences { player, count } => many_sequences(alloc, player, count),
+        SeqStop::TooManyCells { count } => many_cells(alloc, count),
+        SeqStop::Memory => Err(AllocError),
+    }
 }
 
 /// The refusal of a game whose program has too large a table.

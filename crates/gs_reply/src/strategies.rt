@@ -1,11 +1,11 @@
 //! Refusals of strategy files.
 
-ghost use Rattle.std.specs.Prelude.{IfOk};
-ghost use Rattle.gs_reply.specs.{Refusals.{Bad_strategy}, Replies.{Tells}};
-ghost use Rattle.gs_strategy.specs.Faults.{Fault, IsFault};
+ghost use Rattle.std.specs.Prelude.{IfErr, IfOk, Ok};
+ghost use Rattle.gs_reply.specs.{Refusals.{Bad_strategy}, Replies.{Answers, IsBadStrategy, Tells}};
+ghost use Rattle.gs_strategy.specs.{Checks.{Reads}, Faults.{Fault, IsFault}, Views.{stored_view}};
 
 use crate::answers::{Answer, Cause};
-use gs_strategy::StoreFault;
+use gs_strategy::{StoreFault, Stored, read_strategy};
 use gs_text::store_fault_text;
 use std::alloc::{AllocError, Global};
 
@@ -17,8 +17,8 @@ pub enum Which {
     Second,
 }
 
-/// The refusal of a file that holds no strategy.
-pub fn bad_strategy(alloc: Global, which: Which, fault: &StoreFault) -> Result<Answer, AllocError>
+// The refusal of a file that holds no strategy.
+fn bad_strategy(alloc: Global, which: Which, fault: &StoreFault) -> Result<Answer, AllocError>
     requires { (why : Fault) × IsFault fault.now why }
     ensures { IfOk result (λ a. (why : Fault) → IsFault fault.now why → Tells a (Bad_strategy which why)) }
 {
@@ -33,4 +33,20 @@ pub fn bad_strategy(alloc: Global, which: Which, fault: &StoreFault) -> Result<A
     line.push(b'\n')?;
     let cause = Cause::BadStrategy;
     Ok(Answer::Refuses { cause, line })
+}
+
+/// The strategy that the bytes of a strategy file hold, or the refusal of bytes that hold none.
+pub fn stored_or_refusal(
+    alloc: Global,
+    which: Which,
+    bytes: &[u8],
+) -> Result<Result<Stored, Answer>, AllocError>
+    ensures stored { IfOk result (λ found. IfOk found (λ stored. Reads bytes.now (Ok (stored_view stored)))) }
+    ensures refused { IfOk result (λ found. IfErr found (Answers (IsBadStrategy which bytes.now))) }
+{
+    match read_strategy(alloc, bytes) {
+        Ok(stored) => Ok(Ok(stored)),
+        Err(StoreFault::Memory) => Err(AllocError),
+        Err(fault) => Ok(Err(bad_strategy(alloc, which, &fault)?)),
+    }
 }

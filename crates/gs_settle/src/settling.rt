@@ -2,20 +2,19 @@
 
 ghost use Rattle.std.specs.Prelude.{IfOk};
 ghost use Rattle.gs_file.specs.Views.{valid_view};
-ghost use Rattle.gs_reply.specs.{Replies.{Answers}, Troubles.{SaysLarge}};
-ghost use Rattle.gs_seq.specs.{Abstracts.{frame_of as frame_by, lists_of}, Games.{frame_in}, Stops.{IsSmall, IsStopOf}};
+ghost use Rattle.gs_reply.specs.{Replies.{Answers}};
+ghost use Rattle.gs_seq.specs.{Abstracts.{frame_of as frame_by, lists_of}, Stops.{IsSmall}};
 ghost use Rattle.gs_settle.specs.{Settling.{OfForm, OfGrouping, Settles, game_in}, Tasks.{IsFew, Says}};
 
 use crate::paths::shown;
 use crate::playing::played;
 use crate::solving::solved;
 use crate::tasks::Task;
-use gs_file::{FileFault, read_game};
 use gs_game::ValidGame;
 use gs_group::{classes_of, lossless_of};
 use gs_lossless::{CheckStop, Lossless};
-use gs_reply::{Answer, bad_game, many_cells, many_sequences, unlike};
-use gs_seq::{Abstract, SeqStop};
+use gs_reply::{Answer, game_or_refusal, too_large, unlike};
+use gs_seq::Abstract;
 use gs_tree::Signals;
 use gs_words::Grouping;
 use std::alloc::{AllocError, Global};
@@ -33,18 +32,6 @@ fn over_form(alloc: Global, form: &Abstract, task: Task) -> Result<Answer, Alloc
     }
 }
 
-// The refusal of a game that is too large.
-fn too_large(alloc: Global, lossless: &Lossless, stop: SeqStop) -> Result<Answer, AllocError>
-    requires { IsStopOf (frame_in lossless.now.signals.now.game.now) lossless.now.classes.now.lists stop }
-    ensures { IfOk result (Answers (SaysLarge (valid_view lossless.now.signals.now.game.now) lossless.now.classes.now.lists)) }
-{
-    match stop {
-        SeqStop::TooManySequences { player, count } => many_sequences(alloc, player, count),
-        SeqStop::TooManyCells { count } => many_cells(alloc, count),
-        SeqStop::Memory => Err(AllocError),
-    }
-}
-
 // What is asked of a game over lossless classes, or that it is too large.
 fn over_classes(alloc: Global, lossless: &Lossless, task: Task) -> Result<Answer, AllocError>
     requires { IsFew task }
@@ -52,7 +39,7 @@ fn over_classes(alloc: Global, lossless: &Lossless, task: Task) -> Result<Answer
 {
     match Abstract::of(alloc, lossless) {
         Ok(form) => over_form(alloc, &form, task),
-        Err(stop) => too_large(alloc, lossless, stop),
+        Err(stop) => too_large(alloc, stop),
     }
 }
 
@@ -91,10 +78,8 @@ pub(crate) fn settle(
     requires { IsFew task }
     ensures { IfOk result (Answers (Settles (Says task) grouping bytes.now)) }
 {
-    let game = match read_game(alloc, bytes) {
-        Ok(game) => game,
-        Err(FileFault::Memory) => return Err(AllocError),
-        Err(fault) => return bad_game(alloc, &fault),
-    };
-    over_game(alloc, &game, grouping, task)
+    match game_or_refusal(alloc, bytes)? {
+        Ok(game) => over_game(alloc, &game, grouping, task),
+        Err(refusal) => Ok(refusal),
+    }
 }

@@ -106,7 +106,7 @@ kept : (grouping : Grouping) (g : FileGame) (why : Refusal) (s : Status) → Say
     → EndsChecked grouping g s
 kept grouping g why s (single, classes, are, (round, one, two, pair, told)) e =
     let is : why ≡ Unlike_pair round one two = cc in
-    inr (inr (sym e ∙ ap (λ r. status_of (cause_of r)) is, single, record { classes = classes; are = are; not_lossless = pair.not_lossless }))
+    inr (inr (sym e ∙ ap (λ (r : Refusal). status_of (cause_of r)) is, single, record { classes = classes; are = are; not_lossless = pair.not_lossless }))
 
 checked : (grouping : Grouping) (summary : Bool) (g : FileGame) (s : Status) → EndsSo (ChecksGame grouping summary g) s → EndsChecked grouping g s
 checked grouping summary g s (inl h) = inl h.0
