@@ -2,6 +2,7 @@
 //! the lines of a path.
 #![tactic(auto)]
 
+mod laws;
 mod lines;
 mod paths;
 mod playing;
@@ -16,6 +17,7 @@ ghost use Rattle.gs_settle.specs.{Paths.{ShowsPath}, Playing.{Plays}, Settling.{
 
 use gs_reply::Answer;
 use gs_words::Grouping;
+pub use laws::pivot_limit_is_told;
 use settling::settle;
 use std::alloc::{AllocError, Global};
 use tasks::Task;

@@ -96,6 +96,10 @@ pub record TookInput (words : List (List ℕ)) (old new : Ends) : Type 0 where
 abbrev pub usage_line : List ℕ
 usage_line = codes "usage: gameshrink shrink, check, solve, play, evaluate, query, make, upgrade, judge, duel, certify, verify or path\n"
 
+-- the line that refuses an input that is too long
+abbrev pub long_line : List ℕ
+long_line = codes "input longer than 16777216 bytes\n"
+
 -- what each status says; every other status is that of a refusal
 abbrev pub RunsTo : List (List ℕ) → Ends → Ends → Status → Type 0
 RunsTo words old new status.Ok =
@@ -108,7 +112,7 @@ RunsTo words old new status.ReadFault =
     × Tells old new (codes "read fault\n"))
 RunsTo words old new status.TooLong =
     Asked words (λ task. (reads task ≡ true) × ((bytes : List ℕ) × Consumes old.left new.left bytes × (length bytes ≡ most_bytes + 1))
-    × (new.read_faults ≡ old.read_faults) × Quiet old new × Tells old new (codes "input longer than 16777216 bytes\n"))
+    × (new.read_faults ≡ old.read_faults) × Quiet old new × Tells old new long_line)
 RunsTo words old new status.Memory =
     TookInput words old new × (new.read_faults ≡ old.read_faults) × Quiet old new × Tells old new (codes "out of memory\n")
 RunsTo words old new status.WriteFault =

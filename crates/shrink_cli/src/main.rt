@@ -1,6 +1,7 @@
 //! `gameshrink`: the program.
 #![tactic(auto)]
 
+mod laws;
 mod run;
 mod status;
 #[cfg(test)]
@@ -8,6 +9,7 @@ mod tests;
 
 use gs_io::{StdSink, StdSource};
 use gs_words::WordsStop;
+pub use laws::length_limit_is_told;
 pub use run::run;
 use run::{out_of_memory, refuse_words};
 pub use status::Status;
