@@ -8,13 +8,8 @@ use Rattle.gs_model.specs.Signals.{signal_at}
 use Rattle.gs_tree.specs.Boards.{AreBoards}
 use Rattle.gs_tree.specs.Walk.{last_count, shows_same}
 use Rattle.gs_tree.proofs.Same.{public_alike}
+use Rattle.gs_tree.proofs.Pairs.{range_step, range_end}
 use Rattle.gs_alike.specs.Boards.{signals_on}
-
-range_on : (a n : ℕ) → a < n → range_with_len a (n - a) ≡ a ∷ range_with_len (a + 1) (n - (a + 1))
-range_on a n l = let e : n - a ≡ suc (n - (a + 1)) = omega arith in ap (range_with_len a) e
-
-range_over : (a n : ℕ) → n ≤ a → range_with_len a (n - a) ≡ []
-range_over a n l = let e : n - a ≡ 0 = omega arith in ap (range_with_len a) e
 
 -- places that a test refuses are passed over
 passed : (p : ℕ → Bool) (n a d : ℕ) → ((k : ℕ) → a ≤ k → k < a + d → k < n → p k ≡ false)
@@ -24,16 +19,16 @@ passed p n a (suc d) h = ⊎_elim
     (λ (l : a < n).
     let rest : List ℕ = filter p (range_with_len (a + 1) (n - (a + 1))) in
     let e : a + 1 + d ≡ a + suc d = omega arith in
-    ap (filter p) (range_on a n l) ∙ ap (λ b. cond b (a ∷ rest) rest) (h a (omega arith) (omega arith) l)
+    ap (filter p) (range_step a n l) ∙ ap (λ b. cond b (a ∷ rest) rest) (h a (omega arith) (omega arith) l)
     ∙ passed p n (a + 1) d (λ k lo hi in'. h k (omega arith) (omega arith) in') ∙ ap (λ k. filter p (range_with_len k (n - k))) e)
-    (λ (l : n ≤ a). ap (filter p) (range_over a n l ∙ sym (range_over (a + suc d) n (omega arith))))
+    (λ (l : n ≤ a). ap (filter p) (range_end a n l ∙ sym (range_end (a + suc d) n (omega arith))))
     (cases_lt a n)
 
 -- a place that a test takes
 taken : (p : ℕ → Bool) (n a : ℕ) → a < n → p a ≡ true → filter p (range_with_len a (n - a)) ≡ a ∷ filter p (range_with_len (a + 1) (n - (a + 1)))
 taken p n a l e =
     let rest : List ℕ = filter p (range_with_len (a + 1) (n - (a + 1))) in
-    ap (filter p) (range_on a n l) ∙ ap (λ b. cond b (a ∷ rest) rest) e
+    ap (filter p) (range_step a n l) ∙ ap (λ b. cond b (a ∷ rest) rest) e
 
 -- what a board makes of its signals up to one of them, and what is left
 pub record IsOnChain {X : Type 0} (g : Game) (h : ℕ → X) (first signal : ℕ) (row : List X) : Type 0 where
@@ -82,4 +77,4 @@ module _ {X : Type 0} (g : Game) (h : ℕ → X) (firsts nexts : List ℕ) (boar
 pub chain_end : {X : Type 0} (g : Game) (h : ℕ → X) (first signal : ℕ) (row : List X) → last_count g ≤ signal → IsOnChain g h first signal row
     → row ≡ map h (signals_on g first)
 chain_end g h first signal row l on =
-    sym (ap (λ xs. row ++ map h (filter (shows_same g first) xs)) (range_over signal (last_count g) l) ∙ append-nil row) ∙ on.rest
+    sym (ap (λ xs. row ++ map h (filter (shows_same g first) xs)) (range_end signal (last_count g) l) ∙ append-nil row) ∙ on.rest

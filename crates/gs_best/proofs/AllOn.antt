@@ -1,5 +1,5 @@
 -- Weights of the plan that puts all on given moves, class by class.
-use Rattle.std.proofs.Common.{◌≡◌, ℕ, suc, ◌+◌, ◌-◌, ◌*◌, ◌<◌, ◌≤◌, cond, List, length, get_or, set, refl, sym, ap, ◌∙◌, subst, arith, ⊎_elim, get_or-set_other, get_or-set_same}
+use Rattle.std.proofs.Common.{◌≡◌, ℕ, ◌+◌, ◌-◌, ◌*◌, ◌<◌, ◌≤◌, cond, List, length, get_or, set, refl, sym, ap, ◌∙◌, subst, arith, ⊎_elim, get_or-set_other, get_or-set_same}
 use Rattle.std.proofs.Math.Nat.{mul-le-mul_right}
 use Rattle.std.specs.Prelude.{◌==◌}
 use Rattle.std.proofs.lemmas.Bool.{cases_eq}
@@ -13,15 +13,9 @@ use Rattle.gs_model.specs.Positions.{at_point}
 use Rattle.gs_model.proofs.PlanLaws.{first_best_is_plan}
 use Rattle.gs_seq.specs.Firsts.{Agree, IsClear}
 use Rattle.gs_seq.specs.Slots.{IsPlan, plan_of, slot_count, slot_of, slots_before}
-use Rattle.gs_seq.proofs.Firsts.{came_kept, slots_own}
+use Rattle.gs_seq.proofs.Firsts.{came_kept, slots_own, slot_under, agree_less}
 use Rattle.gs_seq.proofs.SlotLaws.{not_eq, slots_le}
 use Rattle.gs_best.specs.Puts.{ArePutBefore, IsPutAt}
-
-slot_under : (c k m : ℕ) → 0 < c → m < k → (c - 1) * k + m < c * k
-slot_under c k m some l = let e : c ≡ suc (c - 1) = omega arith in omega (arith, ap (λ i. i * k) e, l)
-
-agree_less : (n m : ℕ) (xs ys : List ℕ) → m ≤ n → Agree n xs ys → Agree m xs ys
-agree_less n m xs ys l h k lk = h k (omega arith)
 
 module _ (f : Frame) (r : InRange f) (lists : ClassLists) (k : IsClasses f.parents lists) (player : ℕ) (w : IsWalked f player) (move : ℕ → ℕ
     → ℕ) (q : ℕ) (l : q < point_count f) (own : player_at f q ≡ player) (c : ℕ)

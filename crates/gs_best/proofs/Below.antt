@@ -45,10 +45,6 @@ range_add f g (suc n) =
       range_add f g n,
     )
 
-pub ones_are : {X : Type 0} (xs : List X) → sum_by (λ (x : X). 1) xs ≡ length xs
-ones_are [] = refl
-ones_are (x ∷ xs) = omega (arith, sum_by-cons (λ x. 1) x xs, ones_are xs)
-
 module _ (f : Frame) where
   -- the ends below a position, as far as a number of moves
   pub within_moves : ℕ → Target → ℕ

@@ -1,14 +1,14 @@
 -- The lower part of a fraction.
-use Rattle.std.proofs.Common.{◌≡◌, ℕ, ◌<◌, ◌&&◌, ◌*◌, ◌≤◌, sym, ap, ◌∙◌, arith}
+use Rattle.std.proofs.Common.{◌≡◌, ℕ, ◌<◌, ◌&&◌, ◌*◌, sym, ap, ◌∙◌, arith}
 use Rattle.std.specs.Prelude.{ℤ, pos, ◌+ℤ◌, ◌*ℤ◌, negsuc, unsigned_abs, IsTrue, nat_lt}
 use Rattle.std.proofs.lemmas.Bool.{and_parts, false≢true}
 use Rattle.std.proofs.lemmas.Int.{ints}
-use Rattle.std.proofs.Math.Nat.{mul-le-mul_right}
 use borrow.Author.Differences.{abs_is, product_is}
 use borrow.Author.Tests.{ltb-true}
 use Rattle.gs_frac.specs.declared.value.Fraction.{Fraction}
 use Rattle.gs_best.specs.Judged.{IsOver, parts}
 use Rattle.gs_frac.specs.Texts.{is_fraction, limit}
+use Rattle.gs_model.proofs.Basics.{product_positive}
 
 pub record IsBottom (den : ℤ) : Type 0 where
   pub some : 0 < unsigned_abs den
@@ -26,11 +26,8 @@ bottom num (negsuc d) h = absurd (false≢true h)
 pub over_scale : (m n : ℕ) (scale z : ℤ) → scale ≡ pos m *ℤ z → z ≡ pos n → scale ≡ pos (m * n)
 over_scale m n scale z e is = e ∙ ap (λ x. pos m *ℤ x) is ∙ omega (arith, ints, product_is (pos m) (pos n))
 
-one_more : (a b : ℕ) → 0 < a → 0 < b → 0 < a * b
-one_more a b x y = let up : 1 * b ≤ a * b = mul-le-mul_right b x in omega arith
-
 pub some_product : (a b c : ℕ) → 0 < a → 0 < b → 0 < c → 0 < a * b * c
-some_product a b c x y z = one_more (a * b) c (one_more a b x y) z
+some_product a b c x y z = product_positive (a * b) c (product_positive a b x y) z
 
 pub turned_sum : (a x p a' p' : ℤ) → a ≡ x → a' ≡ a → p' ≡ p → a' +ℤ p' ≡ x +ℤ p
 turned_sum a x p a' p' e f g = omega (arith, ints)

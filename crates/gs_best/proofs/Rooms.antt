@@ -1,5 +1,5 @@
 -- Room by the sizes of rounds.
-use Rattle.std.proofs.Common.{◌≡◌, ℕ, ◌+◌, ◌-◌, ◌*◌, ◌<◌, List, [], ◌∷◌, ◌++◌, drop, length, get_or, refl, sym, take, ap, ◌∙◌, subst, arith, sum_by, count_by, eqb}
+use Rattle.std.proofs.Common.{◌≡◌, ℕ, ◌+◌, ◌-◌, ◌*◌, ◌<◌, List, ◌++◌, drop, length, get_or, sym, take, ap, ◌∙◌, subst, arith, sum_by, count_by, eqb}
 use Rattle.std.specs.Prelude.{pos, ◌*ℤ◌}
 use Rattle.std.specs.List.{range_with_len}
 use Rattle.std.proofs.Math.Nat.{mul-one, mul_comm}
@@ -7,30 +7,24 @@ use Rattle.std.proofs.lemmas.Bool.Decides.{Decides-eqb}
 use Rattle.std.proofs.lemmas.Int.{ints}
 use Rattle.std.proofs.lemmas.List.{get_or-map, length-map}
 use Rattle.std.proofs.lemmas.List.FromFn.{get_or-range_with_len, length-range_with_len}
-use Rattle.std.proofs.lemmas.List.Sums.{sum_by-cons}
 use borrow.Author.Differences.{product_is}
 use Rattle.gs_model.specs.Classes.{ClassLists, class_count}
 use Rattle.gs_model.specs.Frame.{Frame, last_round, point_count, round_of}
 use Rattle.gs_model.specs.FrameFacts.{IsWalked}
 use Rattle.gs_model.specs.Positions.{at_point}
-use Rattle.gs_model.proofs.Alike.{pos_one}
 use Rattle.gs_model.proofs.RawBound.{All-range, range_once}
 use Rattle.gs_model.proofs.Regroup.{regroup_weights, sum_z-pos}
 use Rattle.gs_model.proofs.Total.{sum_z-same}
+use Rattle.gs_model.proofs.Basics.{pos-same, sum-same, sum-ones}
 use Rattle.gs_seq.proofs.ClassRows.{sum_by-map}
 use Rattle.gs_best.specs.Sizes.{AreOfLength, HasRoom, Holds, HoldsAll, IsRoomy, IsWide, IsWideFor, point_room, points_in, sizes_of, value_room}
 use Rattle.gs_best.specs.Tables.{start_of}
 use Rattle.gs_best.specs.declared.room.Scratch.{Scratch}
 use Rattle.gs_best.specs.declared.room.Table.{Table}
-use Rattle.gs_best.proofs.Below.{ones_are}
 use Rattle.gs_best.proofs.Filled.{written}
 
-plain_product : (a b : ℕ) → pos a *ℤ pos b ≡ pos (a * b)
-plain_product a b = omega (arith, ints, product_is (pos a) (pos b))
-
-sum-same : {X : Type 0} (f g : X → ℕ) → ((x : X) → f x ≡ g x) → (xs : List X) → sum_by f xs ≡ sum_by g xs
-sum-same f g h [] = refl
-sum-same f g h (x ∷ xs) = omega (arith, sum_by-cons f x xs, sum_by-cons g x xs, h x, sum-same f g h xs)
+pub pos-product : (a b : ℕ) → pos a *ℤ pos b ≡ pos (a * b)
+pos-product a b = omega (arith, ints, product_is (pos a) (pos b))
 
 module _ (f : Frame) (p : ℕ) (w : IsWalked f p) where
   -- a number for each point of its round, added up round by round
@@ -43,13 +37,13 @@ module _ (f : Frame) (p : ℕ) (w : IsWalked f p) where
       let left =
       sum_z-same (λ q. pos 1 *ℤ pos (c (at q))) (λ q. pos (c (at q))) (λ q. omega (arith, ints, product_is (pos 1) (pos (c (at q))))) qs
       ∙ sum_z-pos (λ q. c (at q)) qs in
-      let right = sum_z-same (λ j. pos (c j) *ℤ pos (points_in f j)) (λ j. pos (points_in f j * c j)) (λ j. plain_product (c j) (points_in f j)
+      let right = sum_z-same (λ j. pos (c j) *ℤ pos (points_in f j)) (λ j. pos (points_in f j * c j)) (λ j. pos-product (c j) (points_in f j)
       ∙ ap pos (mul_comm (c j) (points_in f j))) js ∙ sum_z-pos (λ j. points_in f j * c j) js in
       let both =
       regroup_weights eqb Decides-eqb at (λ q. 1) (λ j. pos (c j)) js qs
       (All-range (λ q. count_by (eqb (at q)) js ≡ 1) (point_count f) (λ q l. range_once (at q) 1 (last_round f) (w.some_round q l) (let t = w.point_in q l in
       omega arith))) in
-      sym (pos_one (sum_by (λ q. c (at q)) qs) (sum_by (λ j. points_in f j * c j) js) (sym left ∙ both ∙ right))
+      sym (pos-same (sum_by (λ q. c (at q)) qs) (sum_by (λ j. points_in f j * c j) js) (sym left ∙ both ∙ right))
 
   pub value_room_is : (lists : ClassLists) → value_room (sizes_of f lists) ≡ start_of f lists (point_count f)
   value_room_is lists = sum_by-map (λ (n : ℕ × ℕ). n.0 * n.1) (λ j. (points_in f j, class_count lists j)) (range_with_len 1 (last_round f))
@@ -59,7 +53,7 @@ module _ (f : Frame) (p : ℕ) (w : IsWalked f p) where
   point_room_is lists =
       sum_by-map (λ (n : ℕ × ℕ). n.0) (λ j. (points_in f j, class_count lists j)) (range_with_len 1 (last_round f))
       ∙ sum-same (points_in f) (λ j. points_in f j * 1) (λ j. sym (mul-one (points_in f j))) (range_with_len 1 (last_round f))
-      ∙ by_rounds (λ j. 1) ∙ ones_are (range_with_len 0 (point_count f)) ∙ length-range_with_len 0 (point_count f)
+      ∙ by_rounds (λ j. 1) ∙ sum-ones (range_with_len 0 (point_count f)) ∙ length-range_with_len 0 (point_count f)
 
 -- the classes of a round by the sizes
 size_at : (f : Frame) (lists : ClassLists) (i : ℕ) (d : ℕ × ℕ) → i < last_round f → (get_or (sizes_of f lists) i d).1 ≡ class_count lists (1 + i)

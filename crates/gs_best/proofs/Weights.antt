@@ -1,29 +1,26 @@
 -- The weight of the deals of a signal.
-use Rattle.std.proofs.Common.{◌≡◌, ℕ, ◌<◌, ◌≤◌, Bool, true, false, cond, List, [], ◌∷◌, get_or, refl, sym, ap, ◌∙◌, arith, sum_by, eqb}
+use Rattle.std.proofs.Common.{◌≡◌, ℕ, ◌<◌, ◌≤◌, Bool, true, false, cond, get_or, sym, ap, ◌∙◌, arith, sum_by, eqb}
 use Rattle.std.specs.Prelude.{◌==◌, pos, ◌*ℤ◌}
 use Rattle.std.proofs.lemmas.Bool.Decides.{Decides-eqb}
 use Rattle.std.proofs.lemmas.Int.{ints}
-use Rattle.std.proofs.lemmas.List.Sums.{sum_by-cons, sum_by-le-sum_by}
+use Rattle.std.proofs.lemmas.List.Sums.{sum_by-le-sum_by}
 use borrow.Author.Differences.{product_is}
 use Rattle.gs_model.specs.Classes.{ClassLists, InOneClass, class_of}
 use Rattle.gs_model.specs.Deals.{Deal}
 use Rattle.gs_model.specs.Frame.{Frame, ancestor, at_round, last_round, signal_count, signals_in, total_weight}
 use Rattle.gs_model.specs.Lossless.{IsLossless}
 use Rattle.gs_model.specs.Sums.{sum_z}
-use Rattle.gs_model.proofs.Alike.{fair, pos_one}
+use Rattle.gs_model.proofs.Alike.{fair}
 use Rattle.gs_model.proofs.Flow.{by_ancestor}
 use Rattle.gs_model.proofs.Known.{Tabled}
 use Rattle.gs_model.proofs.RawBound.{range_once}
 use Rattle.gs_model.proofs.Regroup.{alike_total, sum_z-pos}
 use Rattle.gs_model.proofs.Total.{sum_z-same}
+use Rattle.gs_model.proofs.Basics.{pos-same, pos-cond, sum-same}
 
 -- the weight of the deals in which player 1 has a signal of a round
 abbrev pub own_weight : Frame → ℕ → ℕ → ℕ
 own_weight f j s = sum_by (λ (d : Deal). cond (at_round f j d.one == s) d.weight 0) f.deals
-
-sum-same : {X : Type 0} (f g : X → ℕ) → ((x : X) → f x ≡ g x) → (xs : List X) → sum_by f xs ≡ sum_by g xs
-sum-same f g h [] = refl
-sum-same f g h (x ∷ xs) = omega (arith, sum_by-cons f x xs, sum_by-cons g x xs, h x, sum-same f g h xs)
 
 times_one : (w : ℕ) → pos w *ℤ pos 1 ≡ pos w
 times_one w = omega (arith, ints, product_is (pos w) (pos 1))
@@ -31,10 +28,6 @@ times_one w = omega (arith, ints, product_is (pos w) (pos 1))
 tested : (b : Bool) (w : ℕ) → pos (cond {A = ℕ} b 1 0) *ℤ pos w ≡ pos (cond b w 0)
 tested true w = omega (arith, ints, product_is (pos 1) (pos w))
 tested false w = omega (arith, ints, product_is (pos 0) (pos w))
-
-plain : (b : Bool) (w : ℕ) → cond b (pos w) (pos 0) ≡ pos (cond b w 0)
-plain true w = refl
-plain false w = refl
 
 no_more : (b : Bool) (w : ℕ) → cond b w 0 ≤ w
 no_more true w = omega arith
@@ -56,14 +49,14 @@ module _ (f : Frame) (h : Tabled f) (i : ℕ) (some : 0 < i) (top : i ≤ last_r
       sum_z-same (λ r. pos (cond {A = ℕ} (p r) 1 0) *ℤ sum_z (λ d. cond (eqb (at d) r) (pos d.weight) (pos 0)) f.deals)
       (λ r. pos (cond (p r) (own_weight f i r) 0))
       (λ r. ap (λ z. pos (cond {A = ℕ} (p r) 1 0) *ℤ z) (sum_z-same (λ d. cond (eqb (at d) r) (pos d.weight) (pos 0)) (λ d. pos (cond (at d == r) d.weight 0))
-      (λ d. plain (at d == r) d.weight) f.deals ∙ sum_z-pos (λ d. cond (at d == r) d.weight 0) f.deals)
+      (λ d. pos-cond (at d == r) d.weight) f.deals ∙ sum_z-pos (λ d. cond (at d == r) d.weight 0) f.deals)
       ∙ tested (p r) (own_weight f i r)) (signals_in f i)
       ∙ sum_z-pos (λ r. cond (p r) (own_weight f i r) 0) (signals_in f i) in
       let both =
       by_ancestor eqb Decides-eqb at (λ r. cond {A = ℕ} (p r) 1 0) (λ d. pos d.weight) f.deals (signals_in f i)
       (λ k d l. range_once (at (get_or f.deals k d)) 0 (signal_count f i) (omega arith) (let q =
       h.kept (last_round f) i (get_or f.deals k d).one some top (h.dealt k d l) in omega arith)) in
-      pos_one (sum_by (λ r. cond (p r) (own_weight f i r) 0) (signals_in f i)) (sum_by (λ d. cond (p (at d)) d.weight 0) f.deals) (sym right ∙ sym both
+      pos-same (sum_by (λ r. cond (p r) (own_weight f i r) 0) (signals_in f i)) (sum_by (λ d. cond (p (at d)) d.weight 0) f.deals) (sym right ∙ sym both
       ∙ left)
 
   -- the descendants of a signal weigh together what it does
@@ -86,4 +79,4 @@ module _ (f : Frame) (h : Tabled f) (i : ℕ) (some : 0 < i) (top : i ≤ last_r
       λ s. sum_z-same (λ d. pos (w s d) *ℤ pos 1) (λ d. pos (w s d)) (λ d. times_one (w s d)) f.deals ∙ sum_z-pos (w s) f.deals in
       let both = alike_total eqb Decides-eqb (λ (d : Deal). class_of lists i (at_round f i d.two)) (w s) (w t) (λ q. pos 1) f.deals
       (λ k. fair f lists g i s t k some top m) in
-      pos_one (own_weight f i s) (own_weight f i t) (sym (turn s) ∙ both ∙ turn t)
+      pos-same (own_weight f i s) (own_weight f i t) (sym (turn s) ∙ both ∙ turn t)

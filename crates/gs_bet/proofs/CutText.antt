@@ -30,7 +30,7 @@ has_push (move letter chips next ms) l c t b h e =
     let p = or_parts (eqb letter b) (has_letter ms b) h in
     rw (p.0, has_push ms l c t b p.1 e) refl
 
-swapped : (a b : ℕ) → eqb a b ≡ false → eqb b a ≡ false
+pub swapped : (a b : ℕ) → eqb a b ≡ false → eqb b a ≡ false
 swapped a b h = ne_eqb b a (λ e. eqb-false a b h (sym e))
 
 pub sound_push : (left : ℕ) (ms : Moves) (l c : ℕ) (t : Bet) → are_sound left ms ≡ true → is_letter l ≡ true → has_letter ms l ≡ false → c ≤ 4096
@@ -207,11 +207,11 @@ grows (whole t) b h = tt
 
 -- ---- many bytes
 
-abbrev reached : Cut → Result Cut (Mistake × List ℕ)
+abbrev pub reached : Cut → Result Cut (Mistake × List ℕ)
 reached s = Ok s
 
-ok_is : (x y : Cut) → reached x ≡ reached y → x ≡ y
-ok_is x y e = cc
+pub reached-is : (x y : Cut) → reached x ≡ reached y → x ≡ y
+reached-is x y e = cc
 
 -- the rest grows the cut that a step leads to
 behind : (s : Cut) (b : ℕ) (bytes : List ℕ) (next : Cut) → ((x : Cut) → IsCut x → run x bytes ≡ Ok next → (cut_text next ≡ cut_text x ++ bytes) × IsCut next)
@@ -225,6 +225,6 @@ behind s b bytes next go (Err m) g e = absurd cc
 -- reading on from a cut
 pub run_grows : (bytes : List ℕ) (s next : Cut) → IsCut s → run s bytes ≡ Ok next → (cut_text next ≡ cut_text s ++ bytes) × IsCut next
 run_grows [] s next h e =
-    let same : s ≡ next = ok_is s next e in
+    let same : s ≡ next = reached-is s next e in
     subst (λ (x : Cut). (cut_text x ≡ cut_text s ++ []) × IsCut x) same (sym (append-nil (cut_text s)), h)
 run_grows (b ∷ bytes) s next h e = behind s b bytes next (λ x is go. run_grows bytes x next is go) (step s b) (grows s b h) e

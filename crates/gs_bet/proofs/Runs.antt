@@ -1,15 +1,15 @@
 -- Each cut can be completed, and a tree's text is read to its end.
-use Rattle.std.proofs.Common.{◌≡◌, ℕ, zero, suc, ◌+◌, ◌-◌, ◌*◌, ◌/◌, ◌%◌, ◌<◌, ◌≤◌, List, [], ◌∷◌, ◌++◌, length, Ok, refl, sym, ap, ◌∙◌, inl, inr, ◌⊎◌, Bool, true, false, not, eqb, ◌&&◌, ◌||◌, arith, append_assoc, zero-add}
+use Rattle.std.proofs.Common.{◌≡◌, ℕ, zero, suc, ◌+◌, ◌-◌, ◌*◌, ◌/◌, ◌%◌, ◌<◌, ◌≤◌, List, [], ◌∷◌, ◌++◌, length, Ok, refl, ap, ◌∙◌, inl, inr, ◌⊎◌, Bool, true, false, not, eqb, ◌&&◌, ◌||◌, arith, append_assoc, zero-add}
 use Rattle.std.specs.Fmt.{decimal}
 use Rattle.std.proofs.lemmas.Fmt.{decimal_by_steps}
-use Rattle.std.proofs.lemmas.Bool.{false≢true, or_parts, and_parts, le-leb, lt-ltb, or_cases, eqb-true, eqb-false, ne_eqb}
+use Rattle.std.proofs.lemmas.Bool.{false≢true, or_parts, and_parts, le-leb, lt-ltb, or_cases, eqb-true, ne_eqb}
 use Rattle.gs_model.specs.Betting.{Bet, Moves, act, fold, even, none, move}
 use Rattle.gs_bet.specs.MoveLists.{count, has_move, has_letter, push_move}
 use Rattle.gs_bet.specs.Grammar.{chips_text, tree_text, moves_text, is_letter, is_player, is_sound, are_sound, is_fold}
 use Rattle.gs_bet.specs.Cuts.{Open, Cut, at_tree, at_bracket, at_letter, at_chips, at_next, whole, act_front, IsAct, IsOpen, IsCut}
 use Rattle.gs_bet.proofs.Steps.{after, is_inside, run}
 use Rattle.gs_bet.specs.Reading.{goes_on}
-use Rattle.gs_bet.proofs.CutText.{sound_push}
+use Rattle.gs_bet.proofs.CutText.{sound_push, swapped}
 use Rattle.gs_bet.proofs.ReadsAsCut.{count_push}
 use Rattle.gs_bet.proofs.Letters.{First, first, at_most_26, spare}
 
@@ -69,9 +69,6 @@ count_join (move letter chips next ms) more = omega (arith, count_join ms more)
 has_join : (ms : Moves) (l c : ℕ) (t : Bet) (more : Moves) (b : ℕ) → has_letter (join ms (move l c t more)) b ≡ false → eqb l b ≡ false
 has_join none l c t more b h = (or_parts (eqb l b) (has_letter more b) h).0
 has_join (move letter chips next ms) l c t more b h = has_join ms l c t more b (or_parts (eqb letter b) (has_letter (join ms (move l c t more)) b) h).1
-
-swapped : (a b : ℕ) → eqb a b ≡ false → eqb b a ≡ false
-swapped a b h = ne_eqb b a (λ e. eqb-false a b h (sym e))
 
 -- a move behind others
 middle : (left : ℕ) (ms : Moves) (l c : ℕ) (t : Bet) (more : Moves) → are_sound left (join ms (move l c t more)) ≡ true

@@ -13,16 +13,10 @@ use Rattle.gs_bet.specs.Cuts.{Open, Cut, at_tree, at_bracket, at_letter, at_chip
 use Rattle.gs_bet.proofs.Steps.{is_inside, step, step_then, run, read, ended}
 use Rattle.gs_bet.specs.Reading.{goes_on}
 use Rattle.gs_bet.specs.Faults.{mistake_at, IsMistake}
-use Rattle.gs_bet.proofs.CutText.{run_grows}
+use Rattle.gs_bet.proofs.CutText.{run_grows, reached, reached-is}
 use Rattle.gs_bet.proofs.Runs.{completes, runs_tree, runs_act, runs_to_letter, runs_to_chips, player_cases}
 
 -- ---- runs and prefixes
-
-abbrev reached : Cut → Result Cut (Mistake × List ℕ)
-reached s = Ok s
-
-reached_is : (x y : Cut) → reached x ≡ reached y → x ≡ y
-reached_is x y e = cc
 
 front_behind : (b : ℕ) (front rest : List ℕ) (next : Cut) → ((x : Cut) → run x (front ++ rest) ≡ Ok next
     → (middle : Cut) × (run x front ≡ Ok middle) × (run middle rest ≡ Ok next))
@@ -42,7 +36,7 @@ on_behind b front rest middle go (Ok x) h = go x h
 on_behind b front rest middle go (Err m) h = absurd cc
 
 run_on : (front rest : List ℕ) (s middle : Cut) → run s front ≡ Ok middle → run s (front ++ rest) ≡ run middle rest
-run_on [] rest s middle h = ap (λ (x : Cut). run x rest) (reached_is s middle h)
+run_on [] rest s middle h = ap (λ (x : Cut). run x rest) (reached-is s middle h)
 run_on (b ∷ front) rest s middle h = on_behind b front rest middle (λ x go. run_on front rest x middle go) (step s b) h
 
 -- what is read to its end is a tree's text
@@ -87,7 +81,7 @@ read_ok (b ∷ bytes) s t h = ok_behind b bytes t (λ x go. read_ok bytes x t go
     ok_behind b bytes t go (Err m) h = absurd cc
 
 read_from_run : (bytes : List ℕ) (s next : Cut) → run s bytes ≡ Ok next → read s bytes ≡ ended next
-read_from_run [] s next h = ap ended (reached_is s next h)
+read_from_run [] s next h = ap ended (reached-is s next h)
 read_from_run (b ∷ bytes) s next h = from_behind b bytes next (λ x go. read_from_run bytes x next go) (step s b) h
   where
     from_behind : (b : ℕ) (bytes : List ℕ) (next : Cut) → ((x : Cut) → run x bytes ≡ Ok next → read x bytes ≡ ended next)
@@ -291,7 +285,7 @@ cut_runs (whole t) h = reads_text t h
 
 -- a text is the text of one cut
 pub one_cut : (s u : Cut) → IsCut s → IsCut u → cut_text s ≡ cut_text u → s ≡ u
-one_cut s u is_s is_u e = reached_is s u (sym (cut_runs s is_s) ∙ ap (run (at_tree [])) e ∙ cut_runs u is_u)
+one_cut s u is_s is_u e = reached-is s u (sym (cut_runs s is_s) ∙ ap (run (at_tree [])) e ∙ cut_runs u is_u)
 
 -- what begins a tree's text is the text of a cut
 pub cut_of : (bytes : List ℕ) → BeginsTree bytes → (s : Cut) × IsCut s × (cut_text s ≡ bytes)

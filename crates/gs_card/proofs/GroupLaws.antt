@@ -9,7 +9,7 @@ use Rattle.std.proofs.lemmas.List.Elements.{All-contains, All-from_recursion, Co
 use Rattle.std.proofs.lemmas.List.Sums.{sum_by-cons}
 use Rattle.gs_model.specs.Cards.{groups, groups_above, groups_with}
 use Rattle.gs_model.proofs.Listed.{times}
-use Rattle.gs_model.proofs.Ranges.{every-append}
+use Rattle.gs_model.proofs.Basics.{every-map, every-weaker, every-append}
 use Rattle.gs_card.specs.Groups.{IsGroup}
 
 times-here : (k : ℕ) (g : List ℕ) → times k (k ∷ g) ≡ suc (times k g)
@@ -81,14 +81,6 @@ behind_card size left least card h p =
       },
     )
 
-pub every-map : {X Y : Type 0} (P : Y → Type 0) (f : X → Y) (xs : List X) → AllByRecursion (λ x. P (f x)) xs → AllByRecursion P (map f xs)
-every-map P f [] h = tt
-every-map P f (x ∷ xs) h = (h.0, every-map P f xs h.1)
-
-pub every-over : {X : Type 0} (P Q : X → Type 0) → ((x : X) → P x → Q x) → (xs : List X) → AllByRecursion P xs → AllByRecursion Q xs
-every-over P Q f [] h = tt
-every-over P Q f (x ∷ xs) h = (f x h.0, every-over P Q f xs h.1)
-
 pub every-range : {Y : Type 0} (P : Y → Type 0) (f : ℕ → List Y) (a n : ℕ) → ((k : ℕ) → a ≤ k → AllByRecursion P (f k))
     → AllByRecursion P (flat_map f (range_with_len a n))
 every-range P f a zero h = tt
@@ -105,7 +97,7 @@ listed_is_group (suc size) left least =
     let lower = slice_set left card (get_or left card 0 - 1) in
     let P : List (List ℕ) → Type 0 = λ gs. AllByRecursion (IsGroupFrom (suc size) left least) gs in
     rw (lt-ltb 0 (get_or left card 0) there) (every-map (IsGroupFrom (suc size) left least) (λ g. card ∷ g) (groups_above size lower card)
-    (every-over (IsGroupFrom size lower card) (λ h. IsGroupFrom (suc size) left least (card ∷ h)) (λ h p. with_card size left least card h le there p)
+    (every-weaker (IsGroupFrom size lower card) (λ h. IsGroupFrom (suc size) left least (card ∷ h)) (λ h p. with_card size left least card h le there p)
     (groups_above size lower card) (listed_is_group size lower card))))
     (λ (none : get_or left card 0 ≤ 0). rw (le-ltb 0 (get_or left card 0) none) tt)
     (cases_lt 0 (get_or left card 0)))
@@ -177,7 +169,7 @@ groups_all left size g = (
 
 pub groups_are_groups : (left : List ℕ) (size : ℕ) → All (IsGroup left size) (groups left size)
 groups_are_groups left size = All-from_recursion (IsGroup left size) (groups left size)
-    (every-over (IsGroupFrom size left 0) (IsGroup left size) (group_from left size) (groups left size) (listed_is_group size left 0))
+    (every-weaker (IsGroupFrom size left 0) (IsGroup left size) (group_from left size) (groups left size) (listed_is_group size left 0))
 
 pub each_is_group : (left : List ℕ) (size : ℕ) (gs : List (List ℕ)) → gs ≡ groups left size → All (IsGroup left size) gs
 each_is_group left size gs e = rw e (groups_are_groups left size)

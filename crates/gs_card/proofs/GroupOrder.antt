@@ -9,8 +9,8 @@ use Rattle.std.specs.Ordering.{nat_cmp, ordering_then}
 use Rattle.std.specs.declared.cmp.Ordering.TheVariants.{Less, Equal}
 use Rattle.std.proofs.lemmas.Bool.{cases_lt, lt-ltb, le-ltb}
 use Rattle.gs_model.specs.Cards.{groups_above, groups_with}
-use Rattle.gs_model.proofs.Ranges.{every-append}
-use Rattle.gs_card.proofs.GroupLaws.{every-map, every-over, every-range}
+use Rattle.gs_model.proofs.Basics.{every-map, every-weaker, every-append}
+use Rattle.gs_card.proofs.GroupLaws.{every-range}
 
 abbrev InOrder : List (List ℕ) → Type 0
 InOrder gs = IsStrictlySortedBy (slice_cmp nat_cmp) gs
@@ -35,7 +35,7 @@ unfolding IsStrictlySortedBy
 behind card [] a = tt
 behind card (g ∷ gs) a = (
   every-map (λ h. slice_cmp nat_cmp (card ∷ g) h ≡ Less) (λ h. card ∷ h) gs
-      (every-over (λ h. slice_cmp nat_cmp g h ≡ Less) (λ h. slice_cmp nat_cmp (card ∷ g) (card ∷ h)
+      (every-weaker (λ h. slice_cmp nat_cmp g h ≡ Less) (λ h. slice_cmp nat_cmp (card ∷ g) (card ∷ h)
       ≡ Less) (λ h e. ap (λ o. ordering_then o (slice_cmp nat_cmp g h)) (same_card card) ∙ e) gs a.0),
   behind card gs a.1,
 )
@@ -75,7 +75,7 @@ block_before : (others : List ℕ → ℕ → List (List ℕ)) (left : List ℕ)
     → AllByRecursion (AllAfter hs) (groups_with others left card)
 block_before others left card hs b = ⊎_elim
     (λ (there : 0 < get_or left card 0). rw (lt-ltb 0 (get_or left card 0) there) (every-map (AllAfter hs) (λ g. card ∷ g) _
-    (every (λ g. AllAfter hs (card ∷ g)) (λ g. every-over (BeginsAbove card) (λ h. slice_cmp nat_cmp (card ∷ g) h ≡ Less) (higher_after card g) hs b)
+    (every (λ g. AllAfter hs (card ∷ g)) (λ g. every-weaker (BeginsAbove card) (λ h. slice_cmp nat_cmp (card ∷ g) h ≡ Less) (higher_after card g) hs b)
     (others (slice_set left card (get_or left card 0 - 1)) card))))
     (λ (none : get_or left card 0 ≤ 0). rw (le-ltb 0 (get_or left card 0) none) tt)
     (cases_lt 0 (get_or left card 0))

@@ -13,7 +13,7 @@ use Rattle.gs_card.proofs.Letters.{position_here}
 pub some_suits : (a b n : ℕ) → n < a * b → 0 < b
 some_suits a b n h = grind arith
 
-row_below : (a b n : ℕ) → n < a * b → n / b < a
+pub row_below : (a b n : ℕ) → n < a * b → n / b < a
 row_below a b n h =
     let some : 0 < b = some_suits a b n h in
     (div-lt_iff_lt-mul some).1 h

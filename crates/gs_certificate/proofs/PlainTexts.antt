@@ -2,10 +2,10 @@
 use Rattle.std.proofs.Common.{◌≡◌, ◌≢◌, ℕ, zero, suc, ◌+◌, ◌-◌, ◌*◌, ◌<◌, ◌≤◌, ◌^◌, ◌&&◌, ◌==◌, Bool, true, false, List, [], ◌∷◌, ◌++◌, map, length, get_or, take, drop, All, IsTrue, ℤ, decimal, Some, inl, inr, refl, sym, ap, ap₂, ◌∙◌, subst, append_assoc, arith}
 use Rattle.std.specs.Prelude.{codes, unsigned_abs}
 use Rattle.std.specs.Fmt.{signed_decimal}
-use Rattle.std.specs.Char.{digit_value, is_ascii_digit}
+use Rattle.std.specs.Char.{is_ascii_digit}
 use Rattle.std.specs.Str.{all_ascii_digits}
 use Rattle.std.specs.Str.Parse.{digits_value}
-use Rattle.std.proofs.lemmas.Bool.{and_parts, cases_Bool, le-leb, ne_eqb, le-ltb, lt-ltb, eqb-true, false≢true}
+use Rattle.std.proofs.lemmas.Bool.{and_parts, cases_Bool, le-leb, ne_eqb, eqb-true, false≢true}
 use Rattle.std.proofs.lemmas.Int.{fits_signed_from_abs, to_z-of_z}
 use mir.Syntax.{w128}
 use mir.Val.{of_z, to_z}
@@ -17,7 +17,8 @@ use Rattle.std.proofs.lemmas.List.Elements.{All-head, All-tail}
 use Rattle.serde_json.specs.Written.{comma_if, compact_text, items_text}
 use Rattle.serde_json.specs.View.{items_of}
 use Rattle.gs_frac.specs.Texts.{fraction_text, is_fraction, is_numeral, number_of, signed}
-use Rattle.gs_frac.proofs.Numerals.{decimal_of_value}
+use Rattle.gs_frac.proofs.Numerals.{decimal_of_value, digit_value-is}
+use Rattle.gs_frac.proofs.TextLaws.{with_sign}
 use Rattle.gs_certificate.specs.Reading.{number_at}
 use Rattle.gs_certificate.specs.Straight.{AreDigits, StandsFor, opened}
 use Rattle.gs_certificate.specs.Texts.{Side, Stated, certificate_data, certificate_text, number_data, side_data}
@@ -25,10 +26,6 @@ use Rattle.gs_certificate.proofs.Plain.{escaped, fraction_plain, signed_plain}
 use Rattle.gs_certificate.proofs.Small.{by_parts}
 
 -- ---- one number
-
-abbrev with_sign : Bool → List ℕ → List ℕ
-with_sign true ds = 45 ∷ ds
-with_sign false ds = ds
 
 signed_text : (negative : Bool) (n : ℕ) → (negative && n == 0) ≡ false → signed_decimal (number_of negative n) ≡ with_sign negative (decimal n)
 signed_text false n h = refl
@@ -56,9 +53,6 @@ numeral_is (d ∷ []) all some first = elim (cases_Bool (d == 48)) [ inl e ↦ r
 numeral_is (d ∷ e ∷ ds) all some first = rw (ne_eqb d 48 (first (omega arith))) all
 
 -- one digit more
-digit_is : (c : ℕ) → 48 ≤ c → c ≤ 57 → digit_value c ≡ c - 48
-digit_is c low high = rw (le-ltb c 48 low, lt-ltb c 58 (omega arith)) refl
-
 all_pushed : (ds : List ℕ) (c : ℕ) → all_ascii_digits ds ≡ true → is_ascii_digit c ≡ true → all_ascii_digits (ds ++ c ∷ []) ≡ true
 all_pushed [] c h k = rw k refl
 all_pushed (d ∷ ds) c h k = let p = and_parts (is_ascii_digit d) (all_ascii_digits ds) h in rw p.0 (all_pushed ds c p.1 k)
@@ -71,7 +65,7 @@ all_more bs i lt all low high =
 
 pub value_more : (bs : List ℕ) (i size : ℕ) → i < length bs → size ≡ digits_value 10 (take i bs) → 48 ≤ get_or bs i 0 → get_or bs i 0 ≤ 57
     → size * 10 + (get_or bs i 0 - 48) ≡ digits_value 10 (take (i + 1) bs)
-value_more bs i size lt is low high = let d = digit_is (get_or bs i 0) low high in let m = digits_value_more 10 bs i lt in omega (arith, d, m, is)
+value_more bs i size lt is low high = let d = digit_value-is (get_or bs i 0) low high in let m = digits_value_more 10 bs i lt in omega (arith, d, m, is)
 
 -- a sign and few digits are the text of their number
 pub narrow_is : (bytes digits : List ℕ) (negative : Bool) (size count : ℕ) → (negative, digits) ≡ signed bytes → AreDigits digits size count → 0 < count

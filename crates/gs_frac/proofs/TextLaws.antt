@@ -21,7 +21,7 @@ HasText text (Ok x) = text ≡ fraction_text x.0 x.1
 HasText text (Err e) = Unit {0}
 
 -- a sign in front
-abbrev with_sign : Bool → List ℕ → List ℕ
+abbrev pub with_sign : Bool → List ℕ → List ℕ
 with_sign true ds = 45 ∷ ds
 with_sign false ds = ds
 
@@ -106,9 +106,9 @@ sides_digits (d ∷ ds) rest h =
     let no : eqb d 47 ≡ false = ne_eqb d 47 (λ e. omega (arith, r.0)) in
     rw (no, sides_digits ds rest p.1) refl
 
-unsigned : (ds : List ℕ) → all_ascii_digits ds ≡ true → signed ds ≡ (false, ds)
-unsigned [] h = refl
-unsigned (d ∷ ds) h =
+pub signed-digits : (ds : List ℕ) → all_ascii_digits ds ≡ true → signed ds ≡ (false, ds)
+signed-digits [] h = refl
+signed-digits (d ∷ ds) h =
     let r = digit_in (d ∷ ds) 0 h (omega arith) in
     rw (ne_eqb d 45 (λ e. omega (arith, r.0))) refl
 
@@ -123,7 +123,7 @@ read_back negative n d few low some one z =
   where
     go : (negative : Bool) → all_ascii_digits (decimal n) ≡ true → fraction_between (negative, decimal n) (decimal d) ≡ Ok (number_of negative n, pos d)
         → fraction_of (with_sign negative (decimal n) ++ 47 ∷ decimal d) ≡ Ok (number_of negative n, pos d)
-    go false digits h = rw (sides_digits, unsigned) h
+    go false digits h = rw (sides_digits, signed-digits) h
     go true digits h = let e = sides_digits (decimal n) (decimal d) digits in rw e h
 
 pub reads_text : (num den : ℤ) → IsTrue (is_fraction num den) → fraction_of (fraction_text num den) ≡ Ok (num, den)

@@ -1,5 +1,5 @@
 -- The walk of one choice: its point, and its moves one at a time.
-use Rattle.std.proofs.Common.{◌≡◌, ℕ, suc, ◌+◌, ◌<◌, ◌≤◌, List, [], ◌∷◌, ◌++◌, map, length, get_or, refl, sym, ap, ◌∙◌, arith, length-append}
+use Rattle.std.proofs.Common.{◌≡◌, ℕ, ◌+◌, ◌<◌, ◌≤◌, List, [], ◌∷◌, ◌++◌, map, length, get_or, refl, sym, ap, ◌∙◌, arith, length-append}
 use Rattle.std.specs.Prelude.{◌==◌, slice_set, option_map, if◌then◌else◌, IfOk, Result, Ok, Err}
 use Rattle.std.specs.Global.{Vec}
 use Rattle.std.proofs.lemmas.List.{length-map, map-append}
@@ -10,6 +10,7 @@ use Rattle.gs_bet.specs.TreeView.{plain_moves}
 use Rattle.gs_bet.specs.MoveLists.{count}
 use Rattle.gs_bet.specs.declared.shape.Move.{Move}
 use Rattle.gs_bet.proofs.Letters.{at_most_26}
+use Rattle.gs_bet.proofs.ReadingLaws.{count_plain}
 use Rattle.gs_game.specs.Seen.{step_of, arrow_of, target_of, own_point, OwnPoint, point_of, end_of}
 use Rattle.gs_game.specs.Walks.{Grows, IsWalkable, AreWalkable, place_of}
 use Rattle.gs_game.specs.declared.place.Place.{Place as StoredPlace}
@@ -128,12 +129,8 @@ empty_list (x ∷ xs) h = absurd (omega arith)
 
 -- ---- the moves of a choice of the program
 
-pub count_moves : (ms : List Move) → count (plain_moves ms) ≡ length ms
-count_moves [] = refl
-count_moves (m ∷ ms) = ap suc (count_moves ms)
-
 -- the moves are few
 pub few_moves : (rest : List Bet) (player : ℕ) (ms : List Move) (p : Place) → IsWalkable rest (act player (plain_moves ms)) p → length ms ≤ 26
 few_moves rest player ms p h =
     let s = sound_act h.left player (plain_moves ms) h.sound in
-    omega (arith, at_most_26 s.0 (plain_moves ms) s.2, count_moves ms)
+    omega (arith, at_most_26 s.0 (plain_moves ms) s.2, count_plain ms)

@@ -25,6 +25,7 @@ use Rattle.gs_game.specs.Limits.{IsDealable, IsWithinLimits}
 use Rattle.gs_game.specs.Lines.{RoundsFollow}
 use Rattle.gs_game.specs.Money.{first_of, most_in}
 use Rattle.gs_model.specs.Numbering.{greatest}
+use Rattle.gs_model.proofs.Basics.{some, some-none}
 use Rattle.gs_game.specs.Refusals.{put_too_large, too_many_lines, too_heavy, too_many_signals, too_many_deals, card_refusal, betting_refusal, even_refusal, uneven_refusal, put_refusal, lines_refusal, deal_refusal, weight_refusal, signals_from, signals_refusal, deals_refusal, first_refusal}
 use Rattle.gs_game.specs.Valid.{IsWalkOf}
 use Rattle.gs_game.specs.Walks.{Grows, RoundsWalkable}
@@ -33,16 +34,10 @@ use Rattle.gs_game.proofs.Deciding.{fault_first, fault_second, trees_are, ends_a
 use Rattle.gs_game.proofs.Evenly.{neither}
 use Rattle.gs_game.proofs.PointBound.{few_points}
 
-abbrev some : {A : Type 0} → A → Option A
-some x = Some x
-
-some_none : {A : Type 0} (x : A) → some x ≡ None → ⊥
-some_none x h = cc
-
 -- a test that found nothing
 not-over : {A : Type 0} (limit n : ℕ) (x : A) (r : Option A) → (nat_lt limit n ≡ true → r ≡ Some x) → r ≡ None → n ≤ limit
 not-over limit n x r h e = elim (cases_Bool (nat_lt limit n)) [
-  | inl over ↦ absurd (some_none x (sym (h over) ∙ e))
+  | inl over ↦ absurd (some-none x (sym (h over) ∙ e))
   | inr within ↦ ltb-false limit n within
 ]
 
@@ -73,7 +68,7 @@ most-nine (x ∷ xs) h = let p = h.0 in omega (arith, p.1, most-nine xs h.1)
 pub bonus_most : (r : Ranking) (bonus : List ℕ) → IsBonus r bonus → greatest bonus ≤ 9
 bonus_most r bonus h = most-nine bonus (recursion_from_All (λ n. (0 < n) × (n ≤ 9)) bonus h.in_range)
 
-some-category : (r : Ranking) → 0 < categories r
+pub some-category : (r : Ranking) → 0 < categories r
 some-category High = omega arith
 some-category Pair = omega arith
 some-category Three = omega arith
@@ -124,7 +119,7 @@ walkable game few bonus c b =
 signals-within : (g : Rules) (left n : ℕ) → signals_from g left n ≡ None → (k : ℕ) → n ≤ k → k < n + left → length (signals g k) ≤ 200000
 signals-within g zero n h k low high = absurd (omega arith)
 signals-within g (suc left) n h k low high = elim (cases_Bool (nat_lt 200000 (length (signals g n)))) [
-  | inl over ↦ absurd (some_none (too_many_signals n) (rw over at h))
+  | inl over ↦ absurd (some-none (too_many_signals n) (rw over at h))
   | inr within ↦ elim (cases_eq k n) [
     | inl e ↦ rw e (ltb-false 200000 (length (signals g n)) within)
     | inr other ↦ signals-within g left (n + 1) (rw within at h) k (omega (arith, low, other)) (omega arith)

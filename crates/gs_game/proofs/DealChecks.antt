@@ -1,6 +1,6 @@
 -- The tests of signals and deals.
 use Rattle.std.proofs.Common.{◌≡◌, ℕ, zero, suc, ◌+◌, ◌*◌, ◌<◌, ◌≤◌, min, true, false, nat_lt, List, [], ◌∷◌, ◌++◌, map, length, take, sum, refl, sym, ap, ◌∙◌, inl, inr, arith, length-append}
-use Rattle.std.specs.Prelude.{Option, Some, None, All, ◌==◌, ◌&&◌, nat_le}
+use Rattle.std.specs.Prelude.{Some, None, All, ◌==◌, ◌&&◌, nat_le}
 use Rattle.std.specs.List.{AllByRecursion}
 use Rattle.std.proofs.lemmas.Bool.{cases_Bool, and_parts, leb-true, eqb-true, eqb-false, lt-ltb, le-ltb}
 use Rattle.std.proofs.lemmas.List.Elements.{recursion_from_All, All-from_recursion}
@@ -11,6 +11,7 @@ use Rattle.gs_card.specs.Rankings.{ranking_of}
 use Rattle.gs_model.specs.Deals.{deals}
 use Rattle.gs_model.specs.Game.{Game as Rules, Round as RoundRules, Ranking, High, Pair, Three, round_count, round_at}
 use Rattle.gs_model.specs.Signals.{signals}
+use Rattle.gs_model.proofs.Basics.{every-append, some, some-none}
 use Rattle.gs_game.specs.declared.game.Game.{Game}
 use Rattle.gs_game.specs.declared.game.Round.{Round}
 use Rattle.gs_game.specs.declared.faults.GameFault.{GameFault}
@@ -19,16 +20,9 @@ use Rattle.gs_game.specs.Games.{HasFewCards, game_of, round_of}
 use Rattle.gs_game.specs.Money.{first_of}
 use Rattle.gs_game.proofs.Deciding.{fault_first, fault_second}
 use Rattle.gs_game.proofs.Evenly.{neither}
-use Rattle.gs_model.proofs.Ranges.{every-append}
 use Rattle.gs_game.specs.Refusals.{rounds, no_private, ranking_cards, too_heavy, too_many_signals, too_many_deals, own_cards, public_cards, ranks, rounds_refusal, private_refusal, ranking_refusal, copies_refusal, card_refusal, weight_refusal, signals_from, signals_refusal, deals_refusal, deal_refusal}
 use Rattle.gs_game.specs.Sequences.{count_sequences, draws, seen_sizes, privates, deal_sizes}
 use Rattle.gs_game.proofs.Sequencing.{signals_counted, deals_counted, weight_drawn}
-
-abbrev some : {A : Type 0} → A → Option A
-some x = Some x
-
-some_none : {A : Type 0} (x : A) → some x ≡ None → ⊥
-some_none x h = cc
 
 seen-front : (rs : List RoundRules) (n : ℕ) (more : List ℕ) → n ≤ length rs → take (2 * n) (seen_sizes rs ++ more) ≡ seen_sizes (take n rs)
 seen-front rs zero more h = refl
@@ -110,13 +104,13 @@ rounds-pass : (g : Rules) → rounds_refusal g ≡ None → (1 ≤ length g.roun
 unfolding rounds_refusal
 rounds-pass g h = elim (cases_Bool (nat_le 1 (round_count g) && nat_le (round_count g) 4)) [
   | inl e ↦ let p = and_parts (nat_le 1 (round_count g)) (nat_le (round_count g) 4) e in (leb-true 1 (round_count g) p.0, leb-true (round_count g) 4 p.1)
-  | inr e ↦ absurd (some_none (rounds (round_count g)) (rw e at h))
+  | inr e ↦ absurd (some-none (rounds (round_count g)) (rw e at h))
 ]
 
 private-pass : (g : Rules) → private_refusal g ≡ None → 0 < (round_at g 1).private
 unfolding private_refusal
 private-pass g h = elim (cases_Bool ((round_at g 1).private == 0)) [
-  | inl e ↦ absurd (some_none no_private (rw e at h))
+  | inl e ↦ absurd (some-none no_private (rw e at h))
   | inr e ↦ let n = eqb-false (round_at g 1).private 0 e in omega (arith, n)
 ]
 
@@ -124,7 +118,7 @@ ranking-pass : (g : Rules) → ranking_refusal g ≡ None → ranks g.ranking (o
 unfolding ranking_refusal
 ranking-pass g h = elim (cases_Bool (ranks g.ranking (own_cards g.rounds) (own_cards g.rounds + public_cards g.rounds))) [
   | inl e ↦ e
-  | inr e ↦ absurd (some_none (ranking_cards (own_cards g.rounds) (own_cards g.rounds + public_cards g.rounds)) (rw e at h))
+  | inr e ↦ absurd (some-none (ranking_cards (own_cards g.rounds) (own_cards g.rounds + public_cards g.rounds)) (rw e at h))
 ]
 
 ranked : (r : Ranking) (own public : ℕ) → ranks r own (own + public) ≡ true → public ≤ 12 → 2 * own + public ≤ 14

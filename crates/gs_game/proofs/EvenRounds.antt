@@ -1,18 +1,13 @@
 -- Each round before the last goes on, so no round has fewer points or ends than those behind it.
 use Rattle.std.proofs.Common.{◌≡◌, ℕ, ◌+◌, ◌<◌, ◌≤◌, ◌^◌, true, List, [], ◌∷◌, refl, inl, inr, arith}
-use Rattle.std.specs.Prelude.{Option, Some, None}
+use Rattle.std.specs.Prelude.{None}
 use Rattle.std.proofs.lemmas.Bool.{cases_Bool, or_cases}
 use Rattle.gs_model.specs.Betting.{Bet, Moves, act, fold, even, none, move}
+use Rattle.gs_model.proofs.Basics.{some-none}
 use Rattle.gs_game.specs.Counts.{points_of, ends_of, move_points, move_ends, points_in, ends_in}
 use Rattle.gs_game.specs.Lines.{RoundsFollow, TreeFollows, MovesFollow}
 use Rattle.gs_game.specs.Money.{has_even, any_even}
 use Rattle.gs_game.specs.Refusals.{no_even, no_even_from}
-
-abbrev some : {A : Type 0} → A → Option A
-some x = Some x
-
-some_none : {A : Type 0} (x : A) → some x ≡ None → ⊥
-some_none x h = cc
 
 -- a tree with an even leaf leads to no fewer points and ends than follow that leaf
 mutual
@@ -32,7 +27,7 @@ mutual
 goes-on : (n : ℕ) (t u : Bet) (ts : List Bet) → no_even_from n (t ∷ u ∷ ts) ≡ None → (has_even t ≡ true) × (no_even_from (n + 1) (u ∷ ts) ≡ None)
 goes-on n t u ts h = elim (cases_Bool (has_even t)) [
   | inl e ↦ (e, rw e at h)
-  | inr e ↦ absurd (some_none (no_even n) (rw e at h))
+  | inr e ↦ absurd (some-none (no_even n) (rw e at h))
 ]
 
 from-any : (n m : ℕ) (ts : List Bet) → no_even_from n ts ≡ None → no_even_from m ts ≡ None

@@ -1,17 +1,17 @@
 -- How many ways there are to go on after some rounds: the same for all pairs of signals.
-use Rattle.std.proofs.Common.{◌≡◌, ℕ, zero, suc, ◌+◌, ◌-◌, ◌*◌, ◌≤◌, Bool, true, false, cond, List, [], ◌∷◌, ◌++◌, map, length, get_or, take, sum, refl, sym, ap, ◌∙◌, arith, count_by, nat_lt}
-use Rattle.std.specs.Prelude.{filter, flat_map, ◌==◌}
+use Rattle.std.proofs.Common.{◌≡◌, ℕ, zero, suc, ◌+◌, ◌-◌, ◌*◌, ◌≤◌, Bool, true, false, cond, List, [], ◌∷◌, ◌++◌, map, length, get_or, take, sum, refl, sym, ap, ◌∙◌, arith, nat_lt}
+use Rattle.std.specs.Prelude.{filter, flat_map}
 use Rattle.std.specs.List.{AllByRecursion}
-use Rattle.gs_model.specs.Cards.{choose, groups, left_after, left_from, ways, ways_from}
+use Rattle.gs_model.specs.Cards.{choose, groups, left_after, left_from, ways}
 use Rattle.gs_model.specs.Deals.{path_weight}
 use Rattle.gs_model.specs.Game.{Round}
 use Rattle.gs_model.specs.Signals.{Seen, Signal, edge, left_by}
 use Rattle.gs_model.specs.ViewTree.{facing}
-use Rattle.gs_model.proofs.Choose.{choose_swap}
-use Rattle.gs_model.proofs.Listed.{length-after, listed}
+use Rattle.gs_model.proofs.Listed.{length-after, listed, seen}
 use Rattle.gs_model.proofs.Fits.{groups_of_fewer}
-use Rattle.gs_model.proofs.Ranges.{every-flat_map, every-weaker}
-use Rattle.gs_model.proofs.Children.{every-map}
+use Rattle.gs_model.proofs.Ranges.{every-flat_map}
+use Rattle.gs_model.proofs.Basics.{every-map, every-weaker}
+use Rattle.gs_model.proofs.Exchanged.{left_from-swap, ways_from-swap}
 use Rattle.gs_game.specs.GoingOn.{cards_shown, own_cards_of}
 use Rattle.gs_game.specs.Sequences.{deal_sizes, draws, privates, seen_sizes}
 use Rattle.gs_game.proofs.GroupDraws.{all_ways, leaves_sum}
@@ -20,37 +20,13 @@ use Rattle.gs_game.proofs.Totals.{total, total-flat_map, total-map, total-same, 
 
 -- ---- the order in which groups are taken does not matter
 
-left_swap : (k : ℕ) (left g h : List ℕ) → left_from k (left_from k left g) h ≡ left_from k (left_from k left h) g
-left_swap k [] g h = refl
-left_swap k (c ∷ cs) g h =
-    let a = count_by (λ x. x == k) g in
-    let b = count_by (λ x. x == k) h in
-    let e : c - a - b ≡ c - b - a = omega arith in
-    let r = left_swap (suc k) cs g h in
-    ap (λ (x : ℕ). x ∷ left_from (suc k) (left_from (suc k) cs g) h) e ∙ ap (λ (l : List ℕ). (c - b - a) ∷ l) r
-
-four : (x y u v a b c d : ℕ) → x * y ≡ u * v → a * b ≡ c * d → (x * a) * (y * b) ≡ (u * c) * (v * d)
-four x y u v a b c d e f =
-    let g : (x * a) * (y * b) ≡ (x * y) * (a * b) = omega arith in
-    let h : (u * c) * (v * d) ≡ (u * v) * (c * d) = omega arith in
-    g ∙ ap (λ (n : ℕ). n * (a * b)) e ∙ ap (λ (n : ℕ). (u * v) * n) f ∙ sym h
-
-ways_swap : (k : ℕ) (left g h : List ℕ) → ways_from k left g * ways_from k (left_from k left g) h ≡ ways_from k left h * ways_from k (left_from k left h) g
-ways_swap k [] g h = refl
-ways_swap k (c ∷ cs) g h =
-    let a = count_by (λ x. x == k) g in
-    let b = count_by (λ x. x == k) h in
-    four (choose c a) (choose (c - a) b) (choose c b) (choose (c - b) a)
-    (ways_from (suc k) cs g) (ways_from (suc k) (left_from (suc k) cs g) h) (ways_from (suc k) cs h) (ways_from (suc k) (left_from (suc k) cs h) g)
-    (choose_swap c a b) (ways_swap (suc k) cs g h)
-
 -- two groups, and what follows them
 turned : (left g own : List ℕ) (h : List ℕ → ℕ)
     → ways left g * (ways (left_after left g) own * h (left_after (left_after left g) own))
     ≡ ways left own * (ways (left_after left own) g * h (left_after (left_after left own) g))
 turned left g own h = join (ways left g) (ways (left_after left g) own) (ways left own) (ways (left_after left own) g)
     (h (left_after (left_after left g) own)) (h (left_after (left_after left own) g))
-    (ways_swap 0 left g own) (ap h (left_swap 0 left g own))
+    (ways_from-swap 0 left g own) (ap h (left_from-swap 0 left g own))
   where
     join : (a b c d n m : ℕ) → a * b ≡ c * d → n ≡ m → a * (b * n) ≡ c * (d * m)
     join a b c d n m e i =
@@ -93,9 +69,6 @@ of_left left g size h =
     ∙ ap (total f) (groups_of_fewer (left_after left g) left size (length-after left g) (λ k. from_less 0 left g k))
 
 -- ---- the opponent's signals beside a signal
-
-abbrev seen : List ℕ → List ℕ → Seen
-seen own public = record { own = own; public = public }
 
 -- what they add up to, each with its ways
 abbrev pub beside_sum : (Signal → ℕ) → List ℕ → List Round → Signal → ℕ

@@ -6,6 +6,7 @@ use Rattle.std.proofs.lemmas.List.{append-nil}
 use Rattle.std.specs.List.{AllByRecursion}
 use Rattle.gs_model.specs.Betting.{Bet, Moves, act, fold, even, none, move}
 use Rattle.gs_model.specs.Positions.{Target, at_point, at_end}
+use Rattle.gs_model.proofs.Basics.{some}
 use Rattle.gs_bet.specs.MoveLists.{has_letter}
 use Rattle.gs_bet.specs.Grammar.{is_sound, are_sound, is_letter}
 use Rattle.gs_game.specs.Counts.{points_of, ends_of, move_points, move_ends, points_in, ends_in}
@@ -16,9 +17,6 @@ use Rattle.gs_game.specs.declared.game.Round.{Round}
 use Rattle.gs_game.specs.declared.positions.Target.{Target as StoredTarget}
 use Rattle.gs_game.specs.Lines.{Texts, tree_lines, move_lines, lines_from, lines, text_at, follow, follow_moves, follow_from}
 use Rattle.gs_game.proofs.MoneyLaws.{sound_act, sound_move, tree_sound}
-
-abbrev some : {A : Type 0} → A → Option A
-some x = Some x
 
 some_is : {A : Type 0} (x y : A) → some x ≡ some y → x ≡ y
 some_is x y h = cc

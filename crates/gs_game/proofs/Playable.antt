@@ -12,7 +12,7 @@ use Rattle.gs_model.specs.Frame.{trees_of}
 use Rattle.gs_model.specs.Game.{Game as Rules, Round as RoundRules, IsPlayable}
 use Rattle.gs_model.specs.Positions.{End}
 use Rattle.gs_model.specs.Walk.{Place, Walked, after_move, fold_end, walk_tree, walk_moves, walk_rounds, walk_start, walk}
-use Rattle.gs_model.proofs.Ranges.{every-append, every-weaker}
+use Rattle.gs_model.proofs.Basics.{every-weaker, every-append}
 use Rattle.gs_game.specs.declared.game.Game.{Game}
 use Rattle.gs_game.specs.declared.game.Round.{Round}
 use Rattle.gs_game.specs.Games.{game_of, round_of}

@@ -4,7 +4,7 @@ use Rattle.std.proofs.lemmas.List.Sums.{sum_by-cons}
 use Rattle.gs_model.specs.Cards.{choose}
 use Rattle.gs_game.specs.Sequences.{power}
 
-choose-one : (n : ℕ) → choose n 1 ≡ n
+pub choose-one : (n : ℕ) → choose n 1 ≡ n
 choose-one zero = refl
 choose-one (suc n) = omega (arith, choose-one n)
 

@@ -10,9 +10,11 @@ use Rattle.gs_model.specs.Game.{Game, Round, round_at, round_count}
 use Rattle.gs_model.specs.Signals.{Seen, Signal, children, edge, left_by, showings, signal_at, signals}
 use Rattle.gs_model.specs.ViewTree.{facing, signal_outcome}
 use Rattle.gs_model.specs.Betting.{even}
-use Rattle.gs_model.proofs.Ranges.{deals-below, every-flat_map, every-weaker}
-use Rattle.gs_model.proofs.Children.{every-any, every-map}
+use Rattle.gs_model.proofs.Ranges.{deals-below, every-flat_map}
+use Rattle.gs_model.proofs.Children.{every-any}
 use Rattle.gs_model.proofs.Facing.{deals_are_facing}
+use Rattle.gs_model.proofs.Basics.{every-map, every-weaker}
+use Rattle.gs_model.proofs.Listed.{left_by-push}
 use Rattle.gs_game.specs.Sequences.{count_sequences, draws, seen_sizes, privates, deal_sizes}
 use Rattle.gs_game.proofs.GroupDraws.{all_ways, leaves_sum}
 use Rattle.gs_game.proofs.Totals.{total, sum-total, total-same, total-same_every, total-map, total-flat_map, total-times, total-length, total-places, total-keys}
@@ -61,10 +63,6 @@ path-more w left (q ∷ s) p =
     let e = ap (λ (n : ℕ). (w left q.own * w (left_after left q.own) q.public) * n) (path-more w (left_after (left_after left q.own) q.public) s p) in
     omega (arith, e)
 
-left-more : (left : List ℕ) (s : Signal) (p : Seen) → left_by left (s ++ p ∷ []) ≡ left_after (left_after (left_by left s) p.own) p.public
-left-more left [] p = refl
-left-more left (q ∷ s) p = left-more (left_after (left_after left q.own) q.public) s p
-
 -- what a round shows is an own group and a public group
 shown : (w : List ℕ → List ℕ → ℕ) (left : List ℕ) (r : Round) (sizes : List ℕ)
     → total (λ (p : Seen). (w left p.own * w (left_after left p.own) p.public) * sequences w (left_after (left_after left p.own) p.public) sizes)
@@ -103,7 +101,7 @@ signals_total w g (suc round) sizes =
         ≡ path w g.copies s * total (λ (p : Seen). (w (left_by g.copies s) p.own * w (left_after (left_by g.copies s) p.own) p.public)
         * sequences w (left_after (left_after (left_by g.copies s) p.own) p.public) sizes) ps
     each w g s sizes [] = omega arith
-    each w g s sizes (p ∷ ps) = rw (path-more w g.copies s p, left-more g.copies s p) (omega (arith, each w g s sizes ps))
+    each w g s sizes (p ∷ ps) = rw (path-more w g.copies s p, left_by-push g.copies s p) (omega (arith, each w g s sizes ps))
 
     seen_only : (g : Game) (s : Signal) (left : List ℕ) (ps : List Seen)
         → map (λ (c : ℕ × Signal). c.1) (map {B = ℕ × Signal} (λ p. (edge left p, s ++ p ∷ [])) ps) ≡ map (λ p. s ++ p ∷ []) ps

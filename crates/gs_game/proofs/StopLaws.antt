@@ -11,13 +11,12 @@ use Rattle.gs_model.specs.Deals.{Deal, deals, path_weight, same_cards}
 use Rattle.gs_model.specs.Frame.{ancestor, ancestor_up, at_round, frame_of, last_round, parents_of}
 use Rattle.gs_model.specs.Game.{Game, Round, round_at, round_count}
 use Rattle.gs_model.specs.Lossless.{weight_against}
-use Rattle.gs_model.specs.Signals.{Seen, Signal, children, left_by, parents, signal_at, signals}
+use Rattle.gs_model.specs.Signals.{Signal, children, left_by, parents, signal_at, signals}
 use Rattle.gs_model.specs.ViewTree.{facing}
-use Rattle.gs_model.proofs.Children.{same_cards-self}
-use Rattle.gs_model.proofs.Exchanged.{and_both, flat_map-same, same_cards-is}
-use Rattle.gs_model.proofs.Facing.{signals_differ}
-use Rattle.gs_model.proofs.Listed.{listed, listed-all}
-use Rattle.gs_model.proofs.Ranges.{deals-below, every-weaker, kept_pass, parents_at}
+use Rattle.gs_model.proofs.Exchanged.{and_both, same_cards-is}
+use Rattle.gs_model.proofs.Facing.{signals_differ, same_signal, same_signal-self}
+use Rattle.gs_model.proofs.Listed.{listed, listed-all, seen}
+use Rattle.gs_model.proofs.Ranges.{deals-below, kept_pass, parents_at}
 use Rattle.gs_model.proofs.Walked.{last_round_of}
 use Rattle.gs_game.specs.GoingOn.{StopsAfter, cards_shown, own_cards_of, ways_on}
 use Rattle.gs_game.specs.Sequences.{deal_sizes, draws, seen_sizes}
@@ -25,6 +24,7 @@ use Rattle.gs_game.proofs.GoingOn.{beside_sum, going_on, pair_sum}
 use Rattle.gs_game.proofs.Sequencing.{in-range, same_triples}
 use Rattle.gs_game.proofs.Totals.{sum-total, total, total-keys, total-places, total-same, total-same_every, total-times}
 use Rattle.gs_model.proofs.Extends.{parent_below, before_last, signal_long}
+use Rattle.gs_model.proofs.Basics.{flat_map-same, every-weaker}
 
 -- ---- all deals, each with a number of its two signals
 
@@ -97,18 +97,6 @@ front_is g round x top l =
 
 -- ---- the place of a signal
 
-abbrev same_signal : Signal → Signal → Bool
-same_signal [] [] = true
-same_signal [] (q ∷ t) = false
-same_signal (p ∷ s) [] = false
-same_signal (p ∷ s) (q ∷ t) = same_cards p.own q.own && (same_cards p.public q.public && same_signal s t)
-
-same_self : (s : Signal) → same_signal s s ≡ true
-same_self [] = refl
-same_self (p ∷ s) =
-    ap (λ (b : Bool). b && (same_cards p.public p.public && same_signal s s)) (same_cards-self p.own)
-    ∙ ap (λ (b : Bool). b && same_signal s s) (same_cards-self p.public) ∙ same_self s
-
 same_is : (s t : Signal) → same_signal s t ≡ true → s ≡ t
 same_is [] [] h = refl
 same_is [] (q ∷ t) h = cc
@@ -127,7 +115,7 @@ place t (x ∷ xs) = cond (same_signal t x) 0 (suc (place t xs))
 
 place_at : (xs : List Signal) (i : ℕ) → i < length xs → ((j : ℕ) → j < i → get_or xs j [] ≡ get_or xs i [] → ⊥) → place (get_or xs i []) xs ≡ i
 place_at [] i l apart = absurd (omega (arith, l))
-place_at (x ∷ xs) zero l apart = ap (λ (b : Bool). cond {A = ℕ} b 0 (suc (place x xs))) (same_self x)
+place_at (x ∷ xs) zero l apart = ap (λ (b : Bool). cond {A = ℕ} b 0 (suc (place x xs))) (same_signal-self x)
 place_at (x ∷ xs) (suc i) l apart = go (same_signal (get_or xs i []) x) refl (place_at xs i (omega (arith, l)) (λ j m. apart (suc j) (omega (arith, m))))
   where
     go : (b : Bool) → same_signal (get_or xs i []) x ≡ b → place (get_or xs i []) xs ≡ i → cond {A = ℕ} b 0 (suc (place (get_or xs i []) xs)) ≡ suc i
@@ -165,9 +153,6 @@ SameSizes [] [] = Unit {0}
 SameSizes [] (q ∷ qs) = ⊥
 SameSizes (r ∷ rs) [] = ⊥
 SameSizes (r ∷ rs) (q ∷ qs) = (r.private ≡ q.private) × (r.public ≡ q.public) × SameSizes rs qs
-
-abbrev seen : List ℕ → List ℕ → Seen
-seen own public = record { own = own; public = public }
 
 listed_same : (rs qs : List Round) (left : List ℕ) → SameSizes rs qs → listed left rs ≡ listed left qs
 listed_same [] [] left h = refl

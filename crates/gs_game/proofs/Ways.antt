@@ -4,6 +4,7 @@ use Rattle.std.specs.Prelude.{count_by, ◌==◌}
 use Rattle.std.proofs.lemmas.Bool.{cases_lt}
 use Rattle.gs_model.specs.Cards.{choose, left_after, left_from, ways, ways_from}
 use Rattle.gs_model.proofs.Choose.{choose-zero}
+use Rattle.gs_model.proofs.Basics.{parts_positive}
 
 -- how often a card stands among cards
 abbrev pub times : ℕ → List ℕ → ℕ
@@ -37,11 +38,6 @@ choose_one (suc (suc n)) (suc k) l = absurd (omega arith)
 pub some_product : (a b : ℕ) → 0 < a → 0 < b → 0 < a * b
 some_product zero b h k = absurd (omega arith)
 some_product (suc a) b h k = omega arith
-
-pub some_parts : (a b : ℕ) → 0 < a * b → (0 < a) × (0 < b)
-some_parts zero b h = absurd (omega arith)
-some_parts (suc a) zero h = absurd (omega arith)
-some_parts (suc a) (suc b) h = (omega arith, omega arith)
 
 pub one_product : (a b : ℕ) → a ≤ 1 → b ≤ 1 → a * b ≤ 1
 one_product zero b h k = omega arith
@@ -87,10 +83,10 @@ ways_room left g h card l = let e : 0 + card ≡ card = omega arith in subst (λ
     go kind [] h i l = absurd (omega arith)
     go kind (c ∷ cs) h zero l =
         let e : kind ≡ kind + 0 = omega arith in
-        subst (λ k. times k g ≤ c) e (choose_room c (times kind g) (some_parts (choose c (times kind g)) (ways_from (suc kind) cs g) h).0)
+        subst (λ k. times k g ≤ c) e (choose_room c (times kind g) (parts_positive (choose c (times kind g)) (ways_from (suc kind) cs g) h).0)
     go kind (c ∷ cs) h (suc i) l =
         let e : suc kind + i ≡ kind + suc i = omega arith in
-        subst (λ k. times k g ≤ get_or cs i 0) e (go (suc kind) cs (some_parts (choose c (times kind g)) (ways_from (suc kind) cs g) h).1 i (omega arith))
+        subst (λ k. times k g ≤ get_or cs i 0) e (go (suc kind) cs (parts_positive (choose c (times kind g)) (ways_from (suc kind) cs g) h).1 i (omega arith))
 
 -- in one way, where no kind has more than one copy
 pub ways_one : (left g : List ℕ) → Single left → ways left g ≤ 1

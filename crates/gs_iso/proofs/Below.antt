@@ -1,13 +1,11 @@
 -- From the numbers of a round to those of the round before, and from the classes of a round to those of the next.
-use Rattle.std.proofs.Common.{◌≡◌, ◌↔◌, ℕ, zero, suc, ◌+◌, ◌-◌, ◌<◌, ◌≤◌, List, [], ◌∷◌, ◌++◌, length, map, take, drop, get_or, refl, sym, ap, ◌∙◌, subst, arith, slice_index_or}
+use Rattle.std.proofs.Common.{◌≡◌, ◌↔◌, ℕ, zero, suc, ◌+◌, ◌-◌, ◌<◌, ◌≤◌, List, [], ◌∷◌, ◌++◌, length, map, take, drop, get_or, refl, sym, ap, ◌∙◌, subst, arith}
 use Rattle.std.specs.List.{All, range_with_len, slice_range}
 use Rattle.std.proofs.lemmas.List.{get_or-drop, length-drop, take_more}
 use Rattle.std.proofs.lemmas.List.Folds.{length-flat_map-take}
 use Rattle.std.proofs.lemmas.List.FromFn.{get_or-range_with_len, length-range_with_len, map-range_with_len_more}
 use Rattle.std.proofs.lemmas.List.Sorted.{IsPermutation-sym}
-use Rattle.std.proofs.Math.Seq.{drop-cons}
-use Rattle.gs_model.specs.Betting.{even}
-use Rattle.gs_model.specs.Game.{Game, Round, round_at, round_count}
+use Rattle.gs_model.specs.Game.{Game, round_at, round_count}
 use Rattle.gs_model.specs.Isomorphism.{Isomorphic, IsomorphicFor, Matched}
 use Rattle.gs_model.specs.Numbering.{IsClassesOf}
 use Rattle.gs_model.specs.SignalClasses.{SameClass}
@@ -24,17 +22,9 @@ use Rattle.gs_iso.specs.Numbers.{AreMarks, IsNumbering, child_part, class_key, m
 use Rattle.gs_iso.specs.Orders.{mark_lt}
 use Rattle.gs_iso.proofs.Exact.{mark_order, mark_ranks, pairs}
 use Rattle.gs_model.proofs.Extends.{before_last, parents_below}
+use Rattle.gs_model.proofs.SingleCards.{rounds_after}
 
 -- ---- isomorphism before the last round
-
--- the round that stands where there is none
-abbrev no_round : Round
-no_round = record { private = 0; public = 0; tree = even }
-
-pub rounds_after : (g : Game) (round : ℕ) → round < round_count g → drop round g.rounds ≡ round_at g (suc round) ∷ drop (suc round) g.rounds
-rounds_after g round l =
-    let e : suc round - 1 ≡ round = omega arith in
-    drop-cons g.rounds round no_round l ∙ ap (λ n. slice_index_or g.rounds n no_round ∷ drop (suc round) g.rounds) (sym e)
 
 isomorphic_before : (g : Game) (round : ℕ) → round < round_count g → (s t : Signal)
     → Isomorphic g round s t ≡ IsomorphicFor g (round_at g (suc round) ∷ drop (suc round) g.rounds) s t

@@ -13,13 +13,14 @@ use Rattle.gs_model.specs.Signals.{Signal, child_count, children, first_child, l
 use Rattle.gs_model.specs.ViewTree.{leaves}
 use Rattle.gs_model.proofs.Children.{children-run}
 use Rattle.gs_model.proofs.Facing.{leaves_are_deals}
+use Rattle.gs_model.proofs.Basics.{drop-all}
+use Rattle.gs_model.proofs.SingleCards.{rounds_after}
 use Rattle.gs_iso.specs.Numbers.{IsNumbering, child_part}
 use Rattle.gs_iso.specs.Orders.{child_eq, leaf_eq}
 use Rattle.gs_iso.specs.Pairings.{IsPaired, IsPairedFor, IsPairingAnswer, IsPairingFor, IsPairingOf}
-use Rattle.gs_iso.proofs.Below.{children_in, rounds_after}
+use Rattle.gs_iso.proofs.Below.{children_in}
 use Rattle.gs_iso.proofs.Exact.{child_exact, leaf_exact, pairs}
 use Rattle.gs_iso.proofs.Pairs.{matched_from_pairing, pairing_from_matched, pairing_like}
-use Rattle.gs_iso.proofs.Rounds.{drop_whole}
 
 -- a bijection with its places, or none
 abbrev Answers : {Y : Type 0} → (Y → Y → Type 0) → List Y → List Y → Option (List ℕ) → Type 0
@@ -51,7 +52,7 @@ leaf_answer g s t ones twos is js m h =
     let both = paired_from leaf_eq (λ (a : ℕ × ℤ) (b : ℕ × ℤ). a ≡ b) start start (leaves g s) (leaves g t) (leaves g s) (leaves g t) refl refl
     (λ k j l n. leaf_exact (get_or (leaves g s) k start) (get_or (leaves g t) j start)) m
     (subst (λ l. IsPairingAnswer leaf_eq l (leaves g t) m) is (subst (λ l. IsPairingAnswer leaf_eq ones l m) js h)) in
-    subst (λ rs. IsPairedFor g rs s t m) (sym (drop_whole g.rounds)) (as_paired g [] s t m both)
+    subst (λ rs. IsPairedFor g rs s t m) (sym (drop-all g.rounds)) (as_paired g [] s t m both)
 
 -- a signal has no more leaves than the game has deals
 pub leaves_few : (g : Game) (i : ℕ) → IsWithinLimits g → i < length (signals g (round_count g)) → length (leaves g (signal_at g (round_count g) i)) < 2 ^ 32

@@ -3,7 +3,7 @@ use Rattle.std.proofs.Common.{◌≡◌, List, [], ◌∷◌, ◌++◌, map, Opt
 use Rattle.std.specs.Prelude.{option_and_then}
 use Rattle.serde_json.specs.Data.{Data}
 use Rattle.serde_json.specs.Find.{as_array}
-use Rattle.serde_json.specs.View.{view, items_view}
+use Rattle.serde_json.specs.View.{items_of, items_view, view}
 use Rattle.serde_json.specs.declared.value.Value.{Value}
 use Rattle.gs_json.specs.Lines.{list_of}
 
@@ -11,11 +11,16 @@ use Rattle.gs_json.specs.Lines.{list_of}
 abbrev pub behind : {B : Type 0} → List B → Option (List B) → Option (List B)
 behind front read = option_map (λ rest. front ++ rest) read
 
+-- a list as an array's items, read again
+pub items_list : (ds : List Data) → list_of (items_of ds) ≡ ds
+items_list [] = refl
+items_list (d ∷ ds) = ap (λ rest. d ∷ rest) (items_list ds)
+
 -- the items of an array as a list of what they are seen as
-listed : (vs : List Value) → list_of (items_view vs) ≡ map view vs
-listed [] = refl
-listed (v ∷ vs) = ap (λ ds. view v ∷ ds) (listed vs)
+pub list_of-view : (vs : List Value) → list_of (items_view vs) ≡ map view vs
+list_of-view [] = refl
+list_of-view (v ∷ vs) = ap (λ ds. view v ∷ ds) (list_of-view vs)
 
 pub list_is : {B : Type 0} (each : List Data → Option B) (d : Data) (vs : List Value) → as_array d ≡ Some (items_view vs)
     → option_and_then (λ ds. each (list_of ds)) (as_array d) ≡ each (map view vs)
-list_is each d vs e = rw (e, listed vs) refl
+list_is each d vs e = rw (e, list_of-view vs) refl

@@ -11,8 +11,9 @@ use Rattle.gs_model.specs.Positions.{Arrow}
 use Rattle.gs_seq.specs.Abstracts.{frame_of}
 use Rattle.gs_seq.specs.Games.{frame_in}
 use Rattle.gs_seq.specs.declared.form.Abstract.{Abstract}
-use Rattle.gs_seq.proofs.FewMoves.{AreSmall, few_moves, moves_few, none_there}
+use Rattle.gs_seq.proofs.FewMoves.{AreSmall, few_moves, moves_few}
 use Rattle.gs_seq.proofs.Points.{length-points, point_reads}
+use Rattle.gs_seq.proofs.Choices.{none_there}
 use Rattle.gs_tree.specs.declared.signals.Signals.{Signals}
 use Rattle.gs_lift.proofs.Held.{game_held}
 

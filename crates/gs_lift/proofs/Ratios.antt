@@ -1,5 +1,5 @@
 -- A reduced fraction by what it is crosswise.
-use Rattle.std.proofs.Common.{◌≡◌, ℕ, suc, ◌-◌, ◌*◌, ◌<◌, ℤ, pos, negsuc, neg_ℤ, ◌*ℤ◌, ltb, eqb, cond, sum_by, ◌&&◌, arith, refl, sym, ap, subst, ◌∙◌}
+use Rattle.std.proofs.Common.{◌≡◌, ℕ, ◌-◌, ◌*◌, ◌<◌, ℤ, pos, negsuc, ◌*ℤ◌, ltb, eqb, cond, sum_by, ◌&&◌, arith, refl, sym, ap, subst, ◌∙◌}
 use Rattle.std.specs.Prelude.{IsTrue}
 use Rattle.std.specs.Int.{IsGcd, ◌∣◌}
 use Rattle.std.specs.Int.RustNames.{unsigned_abs}
@@ -10,6 +10,7 @@ use Rattle.gs_frac.specs.Gcd.{gcd_of}
 use Rattle.gs_frac.specs.Texts.{limit, is_fraction}
 use Rattle.gs_frac.specs.declared.value.Fraction.{Fraction}
 use Rattle.gs_frac.proofs.GcdLaws.{gcd_of_is}
+use Rattle.gs_frac.proofs.OneForm.{not_negative}
 use Rattle.gs_model.specs.Frame.{Frame, choices_at}
 use Rattle.gs_model.specs.Plans.{Plan}
 use Rattle.gs_lift.specs.Mixtures.{IsShareOf}
@@ -23,12 +24,6 @@ pub record IsRatio (num den : ℤ) (w t : ℕ) : Type 0 where
   pub positive : 0 < below
   pub reduced : IsGcd above below 1
   pub cross : above * t ≡ w * below
-
-never : (n m d : ℕ) → 0 < d → pos n ≡ neg_ℤ (pos (suc m * d)) → ⊥
-never n m d some same =
-    let e : suc m * d ≡ suc (suc m * d - 1) = omega arith in
-    let f : pos n ≡ negsuc (suc m * d - 1) = same ∙ ap (λ (k : ℕ). neg_ℤ (pos k)) e in
-    cc
 
 pub ratio : (num den : ℤ) (w t : ℕ) → IsTrue (is_fraction num den) → 0 < t → num *ℤ pos t ≡ pos w *ℤ den → IsRatio num den w t
 ratio (pos n) (pos d) w t h some same =
@@ -44,7 +39,7 @@ ratio (pos n) (pos d) w t h some same =
       reduced = subst (IsGcd n d) (eqb-true _ _ r.1) (gcd_of_is n d);
       cross = ap unsigned_abs same;
     }
-ratio (negsuc k) (pos d) w t h some same = absurd (never (w * d) k t some (sym same))
+ratio (negsuc k) (pos d) w t h some same = absurd (not_negative (w * d) k t some (sym same))
 ratio num (negsuc d) w t h some same = absurd (false≢true h)
 
 -- over 1 it is that number over 1

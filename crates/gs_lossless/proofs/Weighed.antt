@@ -14,9 +14,10 @@ use Rattle.gs_model.specs.Deals.{Deal, deals}
 use Rattle.gs_model.specs.Frame.{ancestor, at_round, frame_of, last_round, signal_count, total_weight}
 use Rattle.gs_model.specs.Game.{Game, IsPlayable}
 use Rattle.gs_model.specs.Lossless.{weight_against, weight_with}
-use Rattle.gs_model.proofs.Children.{every-any, every-map}
+use Rattle.gs_model.proofs.Children.{every-any}
 use Rattle.gs_model.proofs.Ranges.{deals_weigh, every-flat_map, in_range}
 use Rattle.gs_model.proofs.Sparse.{range_append}
+use Rattle.gs_model.proofs.Basics.{false_from_not, every-map}
 use Rattle.gs_lossless.specs.Amounts.{IsRun, IsRunIn, amount, child_part, deal_part, deal_parts, keys_of}
 use Rattle.gs_lossless.specs.Sums.{sum_at, weight_at}
 use Rattle.gs_lossless.specs.declared.parts.Part.{Part}
@@ -208,10 +209,6 @@ unmet false b v e = refl
 met : (a b : Bool) (v : ℕ) → b ≡ true → cond a (cond b v 0) 0 ≡ cond a v 0
 met a b v e = ap (λ t. cond a (cond t v 0) 0) e
 
-not_true : (b : Bool) → (b ≡ true → ⊥) → b ≡ false
-not_true true h = absurd (h refl)
-not_true false h = refl
-
 pub children_amount : (g : Game) (lists : ClassLists) (round s first n : ℕ) → IsRunIn (frame_of g) (round + 1) round s first (first + n) → (c : ℕ) (o : ℤ)
     → sum_at (map (child_part (keys_of (frame_of g) lists Children round)) (range_with_len first n)) c o ≡ amount (frame_of g) lists Children round s c o
 children_amount g lists round s first n run c o =
@@ -225,8 +222,8 @@ children_amount g lists round s first n run c o =
     range_sum count plain (signal_count f (round + 1)) first n run.within
     (λ x l a b. met (class_of lists (round + 1) x == c) (own x) 1 ((exact x).1 (run.back x a b)))
     (λ x l. (
-      (λ a. unmet (class_of lists (round + 1) x == c) (own x) 1 (not_true (own x) (λ t. let i = run.inside x l ((exact x).0 t) in omega (arith, i.0, a)))),
-      (λ a. unmet (class_of lists (round + 1) x == c) (own x) 1 (not_true (own x) (λ t. let i = run.inside x l ((exact x).0 t) in omega (arith, i.1, a)))),
+      (λ a. unmet (class_of lists (round + 1) x == c) (own x) 1 (false_from_not (own x) (λ t. let i = run.inside x l ((exact x).0 t) in omega (arith, i.0, a)))),
+      (λ a. unmet (class_of lists (round + 1) x == c) (own x) 1 (false_from_not (own x) (λ t. let i = run.inside x l ((exact x).0 t) in omega (arith, i.1, a)))),
     )) in
     sum_by-mapped (weight_at c o) (child_part keys) (range_with_len first n)
     ∙ out_of (int_eq (pos 0) o) plain (range_with_len first n)

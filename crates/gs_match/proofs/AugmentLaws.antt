@@ -5,7 +5,7 @@ use Rattle.std.proofs.lemmas.List.{get_or-set_same, get_or-set_other, length-set
 use Rattle.gs_match.specs.declared.search.Visit.{Visit}
 use Rattle.gs_match.specs.Adjacency.{Near}
 use Rattle.gs_match.specs.Search.{holder, IsMatchingBut, IsMatching, visit, IsTree, IsPath}
-use Rattle.gs_match.proofs.SearchLaws.{held_in, held_not_last}
+use Rattle.gs_match.proofs.SearchLaws.{held_in, held_not_last, same_some, none_some}
 
 -- the way back from a visit whose left node is to be given `right`: the visits before it hold what they held
 pub record IsShift (adjacent : List (List ℕ)) (holders : List (Option ℕ)) (root : ℕ) (visits : List Visit) (place right : ℕ) : Type 0 where
@@ -15,12 +15,6 @@ pub record IsShift (adjacent : List (List ℕ)) (holders : List (Option ℕ)) (r
   pub near : Near adjacent (visit visits place).left right
   pub waiting : (j : ℕ) → 0 < j → j ≤ place → holder holders (visit visits j).right ≡ Some (visit visits j).left
   pub apart : (j : ℕ) → 0 < j → j ≤ place → (visit visits j).right ≢ right
-
-some_same : (a b : ℕ) (o : Option ℕ) → o ≡ Some a → o ≡ Some b → a ≡ b
-some_same a b o x y = cc
-
-some_none : (a : ℕ) (o : Option ℕ) → o ≡ Some a → o ≡ None → ⊥
-some_none a o x y = cc
 
 pub shift_start : (adjacent : List (List ℕ)) (holders : List (Option ℕ)) (root : ℕ) (visits : List Visit) (place right : ℕ) → IsMatching adjacent holders root
     → IsPath adjacent holders visits place right
@@ -36,12 +30,12 @@ shift_start adjacent holders root visits place right m p =
         all = λ a l. let h = m.all a l in record {
           at = h.at;
           is = h.is;
-          other = λ e. some_none a (holder holders right) (ap (λ k. holder holders k) (sym e) ∙ h.is) p.free;
+          other = λ e. none_some a (holder holders right) (ap (λ k. holder holders k) (sym e) ∙ h.is) p.free;
         };
       };
       near = p.near;
       waiting = λ j some low. (p.tree.linked j some (omega arith)).held;
-      apart = λ j some low e. some_none (visit visits j).left (holder holders right) (ap (λ k. holder holders k) (sym e)
+      apart = λ j some low e. none_some (visit visits j).left (holder holders right) (ap (λ k. holder holders k) (sym e)
           ∙ (p.tree.linked j some (omega arith)).held) p.free;
     }
 
@@ -57,7 +51,7 @@ module _ (holders : List (Option ℕ)) (right left : ℕ) (inside : right < leng
   given_there b ne = get_or-set_other holders right b (Some left) None ne
 
   given_at : (b a : ℕ) → b ≡ right → holder given b ≡ Some a → a ≡ left
-  given_at b a e h = some_same a left (holder given right) (ap (λ k. holder given k) (sym e) ∙ h) given_here
+  given_at b a e h = same_some a left (holder given right) (ap (λ k. holder given k) (sym e) ∙ h) given_here
 
 module _ (adjacent : List (List ℕ)) (before holders : List (Option ℕ)) (reached : List Bool) (root : ℕ) (visits : List Visit) (place right : ℕ)
     (t : IsTree adjacent before visits reached) (s : IsShift adjacent holders root visits place right) (some : 0 < place) where
@@ -117,7 +111,7 @@ module _ (adjacent : List (List ℕ)) (before holders : List (Option ℕ)) (reac
           all = λ a l.
               let h = s.but.all a l in ⊎_elim
               (λ (e : h.at ≡ next).
-              let same : a ≡ left = some_same a left (holder holders next) (ap (λ k. holder holders k) (sym e) ∙ h.is) held in
+              let same : a ≡ left = same_some a left (holder holders next) (ap (λ k. holder holders k) (sym e) ∙ h.is) held in
               record { at = right; is = given_here holders right left s.right_in ∙ ap (λ k. Some k) (sym same); other = λ q. next_apart (sym q) })
               (λ ne. record { at = h.at; is = there h.at h.other ∙ h.is; other = ne })
               (cases_eq h.at next);
@@ -126,7 +120,7 @@ module _ (adjacent : List (List ℕ)) (before holders : List (Option ℕ)) (reac
         waiting = λ j pos low. there (visit visits j).right (s.apart j pos (omega arith)) ∙ s.waiting j pos (omega arith);
         apart = λ j pos low e.
             let q = s.waiting j pos (omega arith) in
-            t.differ j place (omega arith) s.within (some_same (visit visits j).left left (holder holders next) (ap (λ k. holder holders k) (sym e)
+            t.differ j place (omega arith) s.within (same_some (visit visits j).left left (holder holders next) (ap (λ k. holder holders k) (sym e)
             ∙ q) held);
       }
 

@@ -3,16 +3,11 @@ use Rattle.std.proofs.Common.{◌≡◌, ◌+◌, ◌<◌, ℕ, Option, Some, No
 use Rattle.std.proofs.lemmas.Bool.{cases_eq}
 use Rattle.std.proofs.lemmas.List.{get_or-set_same, get_or-set_other}
 use Rattle.gs_match.specs.Search.{holder}
+use Rattle.gs_match.proofs.SearchLaws.{same_some, none_some}
 
 -- the list names the right node of each left node that a right node below n is matched with
 abbrev pub FoundBelow : List (Option ℕ) → List ℕ → ℕ → Type 0
 FoundBelow holders to n = (b a : ℕ) → b < n → holder holders b ≡ Some a → get_or to a 0 ≡ b
-
-impossible : (a : ℕ) (o : Option ℕ) → o ≡ Some a → o ≡ None → ⊥
-impossible a o x y = cc
-
-same_some : (a b : ℕ) (o : Option ℕ) → o ≡ Some a → o ≡ Some b → a ≡ b
-same_some a b o x y = cc
 
 module _ (holders : List (Option ℕ)) (to : List ℕ) (right : ℕ) (old : (b a : ℕ) → b < right → holder holders b ≡ Some a → get_or to a 0 ≡ b) where
   pub by_left-some : (left : ℕ) → left < length to → holder holders right ≡ Some left
@@ -28,5 +23,5 @@ module _ (holders : List (Option ℕ)) (to : List ℕ) (right : ℕ) (old : (b a
       (cases_eq a left)
 
   pub by_left-none : holder holders right ≡ None → (b a : ℕ) → b < right + 1 → holder holders b ≡ Some a → get_or to a 0 ≡ b
-  by_left-none none b a lt h = old b a (⊎_elim (λ (e : b ≡ right). absurd (impossible a (holder holders right) (ap (λ k. holder holders k) (sym e) ∙ h) none))
+  by_left-none none b a lt h = old b a (⊎_elim (λ (e : b ≡ right). absurd (none_some a (holder holders right) (ap (λ k. holder holders k) (sym e) ∙ h) none))
       (λ nb. omega arith) (cases_eq b right)) h

@@ -4,14 +4,8 @@ use Rattle.std.proofs.lemmas.List.Elements.{All-from_get_or}
 use Rattle.gs_model.specs.Matching.{Edges, IsPerfect, has_edge}
 use Rattle.gs_match.specs.Adjacency.{AreNeighbours}
 use Rattle.gs_match.specs.Search.{holder, IsMatching}
-use Rattle.gs_match.proofs.SearchLaws.{held_in, held_not_last}
+use Rattle.gs_match.proofs.SearchLaws.{held_in, held_not_last, same_some, none_some}
 use Rattle.gs_match.proofs.AdjacencyLaws.{edge_from_near}
-
-same_some : (a b : ℕ) (o : Option ℕ) → o ≡ Some a → o ≡ Some b → a ≡ b
-same_some a b o x y = cc
-
-none_some : (a : ℕ) (o : Option ℕ) → o ≡ Some a → o ≡ None → ⊥
-none_some a o x y = cc
 
 -- nothing is matched at first
 pub matching_none : (adjacent : List (List ℕ)) (holders : List (Option ℕ)) → ((b : ℕ) → holder holders b ≡ None) → IsMatching adjacent holders 0

@@ -7,6 +7,13 @@ use Rattle.gs_match.specs.declared.search.Visit.{Visit}
 use Rattle.gs_match.specs.Adjacency.{Near}
 use Rattle.gs_match.specs.Search.{holder, IsMatching, visit, is_reached, IsLinked, IsTree, Extends, AreExplored}
 
+-- what a place holds is one thing or nothing
+pub same_some : (a b : ℕ) (o : Option ℕ) → o ≡ Some a → o ≡ Some b → a ≡ b
+same_some a b o x y = cc
+
+pub none_some : (a : ℕ) (o : Option ℕ) → o ≡ Some a → o ≡ None → ⊥
+none_some a o x y = cc
+
 -- a right node that is held is in range
 pub held_in : (holders : List (Option ℕ)) (b a : ℕ) → holder holders b ≡ Some a → b < length holders
 held_in holders b a h = ⊎_elim (λ within. within) (λ past. let e : None ≡ Some a = sym (get_or_past holders b None past) ∙ h in

@@ -9,11 +9,11 @@ use Rattle.gs_model.specs.Deals.{deal_weight, path_weight, own_ways, same_cards,
 use Rattle.gs_model.specs.Game.{Game, Round, round_count}
 use Rattle.gs_model.specs.Signals.{Signal, Seen, signals, signal_at, edge, left_by}
 use Rattle.gs_model.specs.ViewTree.{facing}
-use Rattle.gs_model.proofs.Children.{every-map}
-use Rattle.gs_model.proofs.Exchanged.{and_both, flat_map-same, filter-flat_map, map-flat_map}
+use Rattle.gs_model.proofs.Exchanged.{and_both, filter-flat_map, map-flat_map}
 use Rattle.gs_model.proofs.Fits.{fits_from, some-times, groups_of_fewer, groups_taken}
-use Rattle.gs_model.proofs.Ranges.{every-weaker, every-flat_map}
-use Rattle.gs_model.proofs.Listed.{IsRow, counts-fit_all, every-both, filter-alike, filter-map_none, filter-map_of, flat_map-filter, flat_map-nothing, left_at, length-after, listed, listed-all, map-map, once, rows-listed, seen, taken-counts, times}
+use Rattle.gs_model.proofs.Ranges.{every-flat_map}
+use Rattle.gs_model.proofs.Listed.{IsRow, counts-fit_all, filter-alike, filter-map_none, filter-map_of, flat_map-filter, flat_map-nothing, left_at, length-after, listed, listed-all, once, rows-listed, seen, taken-counts, times}
+use Rattle.gs_model.proofs.Basics.{map-map, flat_map-same, every-both, every-map, every-weaker}
 
 -- ---- the opponent's signals beside a signal are those that no deal rules out
 

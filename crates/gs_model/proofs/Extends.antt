@@ -7,7 +7,8 @@ use Rattle.std.proofs.lemmas.List.FromFn.{get_or-map-range_with_len}
 use Rattle.gs_model.specs.Game.{Game, round_at}
 use Rattle.gs_model.specs.Signals.{Seen, Signal, child_count, children, edge, first_child, last_edge, left_by, owners, parents, showings, signal_at, signals}
 use Rattle.gs_model.proofs.Children.{child-only, children-run}
-use Rattle.gs_model.proofs.Ranges.{every-append, every-weaker, length-parents}
+use Rattle.gs_model.proofs.Ranges.{length-parents}
+use Rattle.gs_model.proofs.Basics.{every-weaker, every-append}
 
 owners_in : {X Y : Type 0} (f : X → List Y) (n : ℕ) (xs : List X) → AllByRecursion (λ k. k < n + length xs) (owners f n xs)
 owners_in f n [] = tt

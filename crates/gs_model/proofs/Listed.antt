@@ -10,10 +10,10 @@ use Rattle.gs_model.specs.Cards.{groups, groups_above, groups_with, ways, left_a
 use Rattle.gs_model.specs.Deals.{same_cards}
 use Rattle.gs_model.specs.Game.{Game, Round, round_at, round_count}
 use Rattle.gs_model.specs.Signals.{Signal, Seen, signals, children, showings, edge, left_by}
-use Rattle.gs_model.proofs.Children.{every-map}
-use Rattle.gs_model.proofs.Exchanged.{and_both, flat_map-same, filter-flat_map, map-flat_map}
+use Rattle.gs_model.proofs.Exchanged.{and_both, filter-flat_map, map-flat_map}
 use Rattle.gs_model.proofs.Fits.{fits_from, fits-ways, fits-one, fits-none, length-set, pred_of, none_filter, map-same_filter}
-use Rattle.gs_model.proofs.Ranges.{every-weaker, every-flat_map}
+use Rattle.gs_model.proofs.Ranges.{every-flat_map}
+use Rattle.gs_model.proofs.Basics.{map-map, map-same, flat_map-same, every-range, every-map, every-weaker}
 
 -- ---- lists
 
@@ -29,18 +29,6 @@ flat_map-filter b h (x ∷ xs) = go (b x) (flat_map-filter b h xs)
 flat_map-nested : {X Y Z : Type 0} (f : Y → List Z) (g : X → List Y) (xs : List X) → flat_map f (flat_map g xs) ≡ flat_map (λ x. flat_map f (g x)) xs
 flat_map-nested f g [] = refl
 flat_map-nested f g (x ∷ xs) = flat_map-append f (g x) (flat_map g xs) ∙ ap (λ l. flat_map f (g x) ++ l) (flat_map-nested f g xs)
-
-pub map-map : {X Y Z : Type 0} (h : Y → Z) (v : X → Y) (xs : List X) → map h (map v xs) ≡ map (λ x. h (v x)) xs
-map-map h v [] = refl
-map-map h v (x ∷ xs) = ap (λ l. h (v x) ∷ l) (map-map h v xs)
-
-pub map-same : {X Y : Type 0} (f g : X → Y) → ((x : X) → f x ≡ g x) → (xs : List X) → map f xs ≡ map g xs
-map-same f g h [] = refl
-map-same f g h (x ∷ xs) = cc (h x, map-same f g h xs)
-
-pub map-same_every : {X Y : Type 0} (f g : X → Y) (xs : List X) → AllByRecursion (λ x. f x ≡ g x) xs → map f xs ≡ map g xs
-map-same_every f g [] h = refl
-map-same_every f g (x ∷ xs) h = let a = h.0 in cc (a, map-same_every f g xs h.1)
 
 pub filter-map_of : {X Y : Type 0} (p : Y → Bool) (q : X → Bool) (f : X → Y) → ((x : X) → p (f x) ≡ q x) → (xs : List X)
     → filter p (map f xs) ≡ map f (filter q xs)
@@ -79,14 +67,6 @@ range-pick f a (suc n) c lo hi h = ⊎_elim
     ++ l) (range-none f (a + 1) n (λ k l. h k (λ q. absurd (omega (arith, q, e))))) ∙ append-nil (f c))
     (λ ne. ap (λ l. l ++ flat_map f (range_with_len (a + 1) n)) (h a ne) ∙ range-pick f (a + 1) n c (omega (arith, ne)) (omega arith) h)
     (cases_eq a c)
-
-every-range : (P : ℕ → Type 0) (a n : ℕ) → ((k : ℕ) → a ≤ k → k < a + n → P k) → AllByRecursion P (range_with_len a n)
-every-range P a zero h = tt
-every-range P a (suc n) h = (h a (omega arith) (omega arith), every-range P (a + 1) n (λ k lo hi. h k (omega arith) (omega arith)))
-
-pub every-both : {X : Type 0} (P Q : X → Type 0) (xs : List X) → AllByRecursion P xs → AllByRecursion Q xs → AllByRecursion (λ x. P x × Q x) xs
-every-both P Q [] h k = tt
-every-both P Q (x ∷ xs) h k = ((h.0, k.0), every-both P Q xs h.1 k.1)
 
 -- ---- a group stands once in a list of groups
 
@@ -222,9 +202,9 @@ listed-showings left r rs =
     (λ own. flat_map (λ public. q (seen own public)) (groups (left_after left own) r.public))
     (λ own. flat_map-map q (λ public. seen own public) (groups (left_after left own) r.public)) (groups left r.private))
 
-left_by-more : (left : List ℕ) (s : Signal) (p : Seen) → left_by left (s ++ p ∷ []) ≡ left_after (left_after (left_by left s) p.own) p.public
-left_by-more left [] p = refl
-left_by-more left (q ∷ s) p = left_by-more (left_after (left_after left q.own) q.public) s p
+pub left_by-push : (left : List ℕ) (s : Signal) (p : Seen) → left_by left (s ++ p ∷ []) ≡ left_after (left_after (left_by left s) p.own) p.public
+left_by-push left [] p = refl
+left_by-push left (q ∷ s) p = left_by-push (left_after (left_after left q.own) q.public) s p
 
 ends-none : (xs : List Signal) → flat_map (λ s. map (λ t. s ++ t) ([] ∷ [])) xs ≡ xs
 ends-none [] = refl
@@ -246,7 +226,7 @@ one_more copies r rs s =
     (λ p. map-map (λ t. s ++ t) (λ t. p ∷ t) (listed (left_after (left_after (left_by copies s) p.own) p.public) rs)
     ∙ map-same (λ t. s ++ (p ∷ t)) (λ t. (s ++ p ∷ []) ++ t) (λ t. sym (append_assoc s (p ∷ []) t))
     (listed (left_after (left_after (left_by copies s) p.own) p.public) rs)
-    ∙ ap (λ l. map (λ t. (s ++ p ∷ []) ++ t) (listed l rs)) (sym (left_by-more copies s p))) ps
+    ∙ ap (λ l. map (λ t. (s ++ p ∷ []) ++ t) (listed l rs)) (sym (left_by-push copies s p))) ps
     ∙ sym (flat_map-map k snd (map child ps) ∙ flat_map-map (λ (c : ℕ × Signal). k c.1) child ps)
 
 pub signals-listed : (g : Game) (rest : List Round) (k m : ℕ) (d : Round) → k + length rest ≡ m

@@ -10,13 +10,10 @@ use Rattle.gs_model.specs.Numbering.{IsClassesOf, greatest}
 use Rattle.gs_model.proofs.Numbered.{greatest_push}
 use Rattle.gs_model.proofs.Push.{classes_push}
 use Rattle.gs_numbers.specs.Numbers.{HasClassOf}
-use Rattle.gs_numbers.proofs.Numbered.{one_place, slice_get-insert}
+use Rattle.gs_numbers.proofs.Numbered.{one_place, slice_get-insert, at_new}
 
 at_old : (xs : List ℕ) (n i : ℕ) → i < length xs → get_or (xs ++ n ∷ []) i 0 ≡ get_or xs i 0
 at_old xs n i l = grind (arith, elements)
-
-at_new : (xs : List ℕ) (n : ℕ) → get_or (xs ++ n ∷ []) (length xs) 0 ≡ n
-at_new xs n = grind (arith, elements)
 
 slice_get-last : {X : Type 0} (xs : List X) (x : X) → slice_get (xs ++ x ∷ []) (length xs) ≡ Some x
 slice_get-last [] x = refl

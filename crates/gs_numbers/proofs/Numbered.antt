@@ -11,6 +11,9 @@ use lib.Pointwise.{pointwise}
 use Rattle.indexmap.specs.IndexSet.{insert_key}
 use Rattle.gs_numbers.specs.Numbers.{HasKey, IsNumberOf, LeadToKeys, StayIn, same_parts}
 
+pub at_new : (xs : List ℕ) (n : ℕ) → get_or (xs ++ n ∷ []) (length xs) 0 ≡ n
+at_new xs n = grind (arith, elements)
+
 -- a place keeps its item when another goes behind
 slice_get-append : {X : Type 0} (xs ys : List X) (i : ℕ) (x : X) → slice_get xs i ≡ Some x → slice_get (xs ++ ys) i ≡ Some x
 slice_get-append [] ys i x e = absurd (cc)
@@ -45,9 +48,6 @@ one_place eq flips (z ∷ zs) d (suc i) zero x y ex ey e =
     absurd (true≢false (sym (flips x y e) ∙ ap (λ w. eq w x) (sym same) ∙ no))
 one_place eq flips (z ∷ zs) d (suc i) (suc j) x y ex ey e = ap suc (one_place eq flips zs (IsDistinct-tail eq z zs d) i j x y ex ey e)
 
-at_end : (xs : List ℕ) (n : ℕ) → get_or (xs ++ n ∷ []) (length xs) 0 ≡ n
-at_end xs n = grind (arith, elements)
-
 -- the key that a look-up finds passes its test
 pub find_passes : {K : Type 0} (test : K → Bool) (keys : List K) (k : K) → find test keys ≡ Some k → test k ≡ true
 find_passes test [] k e = absurd (cc)
@@ -66,7 +66,7 @@ module _ {X : Type 0} (eq : X → X → Bool) (exact : (x y : X) → Decides (eq
       → LeadToKeys sign keys numbers → StayIn keys more → IsNumberOf eq more parts n → sign (length numbers) parts → LeadToKeys sign more (numbers ++ n ∷ [])
   leads_more sign keys more numbers parts n leads stay number signs i l = ⊎_elim
       (λ e.
-      let at : get_or (numbers ++ n ∷ []) i 0 ≡ n = ap (λ j. get_or (numbers ++ n ∷ []) j 0) e ∙ at_end numbers n in
+      let at : get_or (numbers ++ n ∷ []) i 0 ≡ n = ap (λ j. get_or (numbers ++ n ∷ []) j 0) e ∙ at_new numbers n in
       let items : parts ≡ number.key.items = (items_decide parts number.key.items).0 number.same in
       let here : sign i number.key.items = subst (λ j. sign j number.key.items) (sym e) (subst (λ l. sign (length numbers) l) items signs) in
       let h : HasKey sign more i n = record { some = number.some; key = number.key; stands = number.stands; signs = here } in
@@ -91,7 +91,7 @@ module _ {X : Type 0} (eq : X → X → Bool) (exact : (x y : X) → Decides (eq
       → ((a : List X) → sign j a → sign (length numbers) a) → LeadToKeys sign keys (numbers ++ n ∷ [])
   leads_again sign keys numbers j n leads lj is like i l = ⊎_elim
       (λ e.
-      let at : get_or (numbers ++ n ∷ []) i 0 ≡ get_or numbers j 0 = ap (λ k. get_or (numbers ++ n ∷ []) k 0) e ∙ at_end numbers n ∙ is in
+      let at : get_or (numbers ++ n ∷ []) i 0 ≡ get_or numbers j 0 = ap (λ k. get_or (numbers ++ n ∷ []) k 0) e ∙ at_new numbers n ∙ is in
       let old = leads j lj in
       let h : HasKey sign keys i (get_or numbers j 0) = record {
         some = old.some;

@@ -23,8 +23,9 @@ use Rattle.gs_model.proofs.Tables.{is_table}
 use Rattle.gs_model.proofs.Total.{mul_assoc_z, sum_z-mul, sum_z-same}
 use Rattle.gs_model.proofs.Walked.{last_round_of}
 use Rattle.gs_best.specs.Forms.{game_in}
-use Rattle.gs_best.proofs.Chips.{IsModest}
+use Rattle.gs_best.proofs.Chips.{IsModest, product_le}
 use Rattle.gs_best.proofs.Forms.{form_in_range, form_modest, form_walked}
+use Rattle.gs_best.proofs.Rooms.{pos-product}
 use Rattle.gs_frac.specs.declared.value.Fraction.{Fraction}
 use Rattle.gs_game.specs.Games.{game_of}
 use Rattle.gs_seq.specs.Abstracts.{frame_of, lists_of}
@@ -35,7 +36,7 @@ use Rattle.gs_seq.proofs.Ends.{number_few}
 use Rattle.gs_seq.proofs.RowFacts.{abs_all, times_sum}
 use Rattle.gs_raw.specs.Answers.{IsHandValueOf}
 use Rattle.gs_raw.specs.Hands.{deal_pays, hand_pays_at, number_of, signal_pays, signal_weighs, signals_pay, signals_weigh}
-use Rattle.gs_raw.proofs.Numbers.{abs_scaled, plain_product, product_le}
+use Rattle.gs_raw.proofs.Numbers.{abs_scaled}
 use Rattle.gs_raw.proofs.Spread.{single_class, single_member}
 use Rattle.gs_raw.proofs.Sums.{IsInRun, filter_le, filter_sum, run_sum, run_weight_le}
 
@@ -44,7 +45,7 @@ use Rattle.gs_raw.proofs.Sums.{IsInRun, filter_le, filter_sum, run_sum, run_weig
 -- the own number stands before what the other's makes of a deal
 own_before : (w a b : ℕ) (p : ℤ) → pos (w * (a * b)) *ℤ p ≡ pos a *ℤ (pos (w * b) *ℤ p)
 own_before w a b p =
-    ap (λ n. pos n *ℤ p) (mul_left_comm w a b) ∙ ap (λ v. v *ℤ p) (sym (plain_product a (w * b))) ∙ mul_assoc_z (pos a) (pos (w * b)) p
+    ap (λ n. pos n *ℤ p) (mul_left_comm w a b) ∙ ap (λ v. v *ℤ p) (sym (pos-product a (w * b))) ∙ mul_assoc_z (pos a) (pos (w * b)) p
 
 -- what a plan's own number at a signal has to do with a deal of it
 one_deal : (n : ℕ → ℕ) (k s w b : ℕ) (p : ℤ) (t : Bool) → (k == s) ≡ t → cond t (pos (w * (n k * b)) *ℤ p) (pos 0)

@@ -16,8 +16,11 @@ use Rattle.gs_model.specs.Betting.{Bet, Moves, act, fold, even, none, move}
 use Rattle.gs_model.specs.Frame.{move_count, point_count, trees_of}
 use Rattle.gs_model.specs.Positions.{Point}
 use Rattle.gs_model.specs.Walk.{Place, Walked, after_move, walk_tree, walk_moves, walk_rounds, walk_start, walk}
-use Rattle.gs_model.proofs.Ranges.{every-append}
+use Rattle.gs_model.proofs.Basics.{every-append}
 use Rattle.gs_seq.specs.Games.{frame_in}
+
+abbrev pub none_there : Point
+none_there = record { player = 0; round = 1; one = None; two = None; moves = [] }
 
 abbrev HasMove : Point → Type 0
 HasMove p = 0 < length p.moves
@@ -57,12 +60,9 @@ rounds-moves (r ∷ rs) p =
     let sound = (and_parts (not (is_fold t)) (is_sound 16 t) r.tree.sound).1 in
     tree-moves t 16 sound (walk_rounds (plain_trees rs)) (rounds-moves rs) (record p { round = p.round + 1 })
 
-abbrev empty : Point
-empty = record { player = 0; round = 1; one = None; two = None; moves = [] }
-
 pub some_move : (g : ValidGame) (q : ℕ) → q < point_count (frame_in g) → 0 < move_count (frame_in g) q
 unfolding move_count
 some_move g q l =
     let r = game_of g.game in
     let all : AllByRecursion HasMove (walk r.ante (trees_of r)).points = rw trees_are (rounds-moves g.game.rounds.items (walk_start r.ante)) in
-    All-from_recursion HasMove (walk r.ante (trees_of r)).points all q empty l
+    All-from_recursion HasMove (walk r.ante (trees_of r)).points all q none_there l

@@ -29,10 +29,6 @@ pub sum_by-map : {X Y : Type 0} (f : Y → ℕ) (g : X → Y) (xs : List X) → 
 sum_by-map f g [] = refl
 sum_by-map f g (x ∷ xs) = omega (arith, sum_by-cons f (g x) (map g xs), sum_by-cons (λ x. f (g x)) x xs, sum_by-map f g xs)
 
-pub sum-same : {X : Type 0} (f g : X → ℕ) → ((x : X) → f x ≡ g x) → (xs : List X) → sum_by f xs ≡ sum_by g xs
-sum-same f g h [] = refl
-sum-same f g h (x ∷ xs) = omega (arith, sum_by-cons f x xs, sum_by-cons g x xs, h x, sum-same f g h xs)
-
 -- two weighted lists whose weights agree at each key give one sum to whatever hangs on the key alone
 module _ {X Y K : Type 0} (eq : K → K → Bool) (exact : IsExact eq) (kx : X → K) (wx : X → ℕ) (ky : Y → K) (wy : Y → ℕ) (v : K → ℤ) where
   abbrev key : Either X Y → K

@@ -24,7 +24,8 @@ use Rattle.gs_model.proofs.Lift.{both_out, one_guard, pair_exact, pair_test}
 use Rattle.gs_model.proofs.RawBound.{range_once}
 use Rattle.gs_model.proofs.Regroup.{alike_total}
 use Rattle.gs_model.proofs.Total.{sum_z-same}
-use Rattle.gs_seq.proofs.ClassRows.{alike_lists, sum-same}
+use Rattle.gs_model.proofs.Basics.{sum-same}
+use Rattle.gs_seq.proofs.ClassRows.{alike_lists}
 
 out_of : {X : Type 0} (b : Bool) (f : X → ℕ) (xs : List X) → sum_by (λ x. cond b (f x) 0) xs ≡ cond b (sum_by f xs) 0
 out_of true f xs = refl

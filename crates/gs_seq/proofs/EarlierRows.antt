@@ -27,17 +27,17 @@ use Rattle.gs_lossless.proofs.Merge.{part_lt}
 use Rattle.gs_model.specs.Classes.{IsClass, IsClasses, class_count, class_of, first_member, list_of}
 use Rattle.gs_model.specs.Deals.{Deal}
 use Rattle.gs_model.specs.Frame.{Frame, ancestor, ancestor_up, at_round, last_round, parents_of, signal_count}
-use Rattle.gs_model.proofs.Alike.{pos_one}
 use Rattle.gs_model.proofs.Gather.{class_in, firsts_from}
 use Rattle.gs_model.proofs.Regroup.{sum_z-pos}
 use Rattle.gs_model.proofs.Total.{sum_z-same}
+use Rattle.gs_model.proofs.Basics.{pos-same, every-append, sum-same}
 use Rattle.gs_model.specs.Pairs.{pair_sum}
 use Rattle.gs_seq.specs.Games.{frame_in}
 use Rattle.gs_seq.specs.Rows.{AreBelow, AreRowsIn, IsRow, below_class, class_up, gathered, pair_of, part_up, row_at, weight_in}
 use Rattle.gs_seq.specs.declared.pair.Pair.{Pair}
-use Rattle.gs_seq.proofs.ClassRows.{alike_lists, sum-same, sum_by-map}
+use Rattle.gs_seq.proofs.ClassRows.{alike_lists, sum_by-map}
 use Rattle.gs_seq.proofs.Gathered.{StartsFrom, gathered-signed, gathered-weight, head_from, part_signed, part_weight}
-use Rattle.gs_seq.proofs.RowFacts.{both_weight, class_weight, classes_weigh, pair_weight_is, row_class, row_weighs, sum-add, weight_both}
+use Rattle.gs_seq.proofs.RowFacts.{both_weight, class_weight, classes_weigh, pair_weight_is, row_class, row_weighs, sum-add, weight_both, past}
 use Rattle.gs_seq.proofs.RowLaws.{RisesBy, by_index, join_rises}
 use Rattle.gs_seq.proofs.RowRoom.{table}
 use Rattle.gs_seq.proofs.SlotLaws.{not_eq, over}
@@ -99,10 +99,6 @@ no_signed (p ∷ ps) e w =
 
 -- ---- lists
 
-both_all : {X : Type 0} (P : X → Type 0) (xs ys : List X) → AllByRecursion P xs → AllByRecursion P ys → AllByRecursion P (xs ++ ys)
-both_all P [] ys h k = k
-both_all P (x ∷ xs) ys h k = (h.0, both_all P xs ys h.1 k)
-
 items_at : (rows : List (Vec Pair Global)) (k : ℕ) (P : List Pair → Type 0) → ((d : Vec Pair Global) → P (get_or rows k d).items) → k < length rows
     → P (get_or (map (λ (v : Vec Pair Global). v.items) rows) k [])
 items_at [] k P h l = absurd (omega arith)
@@ -127,15 +123,6 @@ filter_sum of v (x ∷ xs) = by (of x) (filter_sum of v xs) ∙ sym (sum_by-cons
         → sum_by v (cond b (x ∷ filter of xs) (filter of xs)) ≡ cond b (v x) 0 + sum_by (λ k. cond (of k) (v k) 0) xs
     by true h = omega (arith, sum_by-cons v x (filter of xs), h)
     by false h = omega (arith, h)
-
-past : (a w b n : ℕ) → a < b → sum_by (λ c. cond (a == c) w 0) (range_with_len b n) ≡ 0
-past a w b zero l = refl
-past a w b (suc n) l = omega (
-  arith,
-  sum_by-cons (λ c. cond (a == c) w 0) b (range_with_len (b + 1) n),
-  ap (λ t. cond {A = ℕ} t w 0) (not_eq a b (λ e. omega arith)),
-  past a w (b + 1) n (omega arith),
-)
 
 once : (a w b n : ℕ) → b ≤ a → a < b + n → sum_by (λ c. cond (a == c) w 0) (range_with_len b n) ≡ w
 once a w b zero l m = absurd (omega arith)
@@ -314,7 +301,7 @@ module _ (g : ValidGame) (c : Filter) (e : c.parents ≡ (frame_in g).parents) (
       let right = sum_z-same (λ d. pos (w d) *ℤ v (two d)) (λ d. pos (b d)) (λ d. times (class_up c round (two d) == q) (w d)) (frame_in g).deals
       ∙ sum_z-pos b (frame_in g).deals in
       sum_by-map (λ (p : Part). cond (p.class == q) p.weight 0) (part_up c round) row
-      ∙ pos_one (sum_by a row) (sum_by b (frame_in g).deals) (sym left ∙ same ∙ right)
+      ∙ pos-same (sum_by a row) (sum_by b (frame_in g).deals) (sym left ∙ same ∙ right)
 
   -- over the classes below a class: what its own deals weigh
   below_counts : (class q : ℕ) → sum_by (λ j. child_weight j q) (below_class c round class (class_count c.lists (round + 1)))
@@ -392,7 +379,7 @@ module _ (g : ValidGame) (c : Filter) (e : c.parents ≡ (frame_in g).parents) (
     plain : (ks : List ℕ) → All (IsClass c.lists (round + 1)) ks → AllByRecursion IsPlain (parts_of ks)
     plain [] h = tt
     plain (j ∷ ks) h =
-        both_all IsPlain (map (part_up c round) (row_at rows j)) (parts_of ks)
+        every-append IsPlain (map (part_up c round) (row_at rows j)) (parts_of ks)
         (plain_row (row_at rows j) (recursion_from_All (λ (p : Pair). 0 < p.weight) (row_at rows j) (row_is j (h 0 j (omega arith))).rises.some))
         (plain ks (λ i d l. h (suc i) d (omega arith)))
 

@@ -23,6 +23,7 @@ use Rattle.gs_model.proofs.RawBound.{range_once}
 use Rattle.gs_model.proofs.Regroup.{sum_z-pos}
 use Rattle.gs_model.proofs.Tables.{is_table}
 use Rattle.gs_model.proofs.Total.{sum_z-mul, sum_z-same, sum_z-same_all}
+use Rattle.gs_model.proofs.Basics.{neg-neg, pos-cond}
 use Rattle.gs_seq.specs.Payoffs.{AreNumbersAt, end_sum, number_sum, pair_pays, stake}
 use Rattle.gs_seq.specs.Rows.{IsRow, signed_in, weight_in}
 use Rattle.gs_seq.specs.declared.pair.Pair.{Pair}
@@ -32,16 +33,13 @@ use Rattle.gs_seq.proofs.SlotLaws.{not_eq}
 
 -- ---- what ends pay
 
-twice : (z : ℤ) → neg_ℤ (neg_ℤ z) ≡ z
-twice z = omega (arith, ints)
-
 -- a fold pays the same at every outcome
 pub folded : (f : Frame) (player z : ℕ) → (player ≡ 1) ⊎ (player ≡ 2) → (end_at f z).kind ≡ Folded1 → (o : ℤ)
     → payoff_to f player z o ≡ stake player 1 (end_at f z).put
 unfolding payoff_to
 folded f player z p k o = ⊎_elim
     (λ one. let t : (player == 1) ≡ true = (Decides-eqb player 1).1 one in rw (t, k) refl)
-    (λ two. let t : (player == 1) ≡ false = not_eq player 1 (λ e. omega arith) in rw (t, k) (twice (pos (end_at f z).put)))
+    (λ two. let t : (player == 1) ≡ false = not_eq player 1 (λ e. omega arith) in rw (t, k) (neg-neg (pos (end_at f z).put)))
     p
 
 pub folded_other : (f : Frame) (player z : ℕ) → (player ≡ 1) ⊎ (player ≡ 2) → (end_at f z).kind ≡ Folded2 → (o : ℤ)
@@ -68,10 +66,6 @@ shown f player z p k o = ⊎_elim
 
 -- ---- sums over a row
 
-plain : (b : Bool) (n : ℕ) → cond b (pos n) (pos 0) ≡ pos (cond b n 0)
-plain true n = refl
-plain false n = refl
-
 out : (b : Bool) (a z : ℤ) → cond b (a *ℤ z) (pos 0) ≡ a *ℤ cond b z (pos 0)
 out true a z = refl
 out false a z = sym (*ℤ-zero a)
@@ -82,7 +76,7 @@ constant_row row e a =
     (λ p. out (p.two == e) a (pos p.weight)) row
     ∙ sum_z-mul a (λ (p : Pair). cond (p.two == e) (pos p.weight) (pos 0)) row
     ∙ ap (λ z. a *ℤ z)
-    (sum_z-same (λ (p : Pair). cond (p.two == e) (pos p.weight) (pos 0)) (λ p. pos (cond (p.two == e) p.weight 0)) (λ p. plain (p.two == e) p.weight) row
+    (sum_z-same (λ (p : Pair). cond (p.two == e) (pos p.weight) (pos 0)) (λ p. pos (cond (p.two == e) p.weight 0)) (λ p. pos-cond (p.two == e) p.weight) row
     ∙ sum_z-pos (λ (p : Pair). cond (p.two == e) p.weight 0) row)
 
 signed_row : (row : List Pair) (e : ℕ) (a : ℤ) → sum_z (λ (p : Pair). cond (p.two == e) (a *ℤ p.signed) (pos 0)) row ≡ a *ℤ signed_in row e

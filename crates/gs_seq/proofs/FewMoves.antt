@@ -1,5 +1,5 @@
 -- The moves of a valid game's points: some and at most 26 at each, and their letters are letters of ASCII.
-use Rattle.std.proofs.Common.{◌≡◌, ℕ, ◌+◌, ◌<◌, ◌≤◌, true, List, [], ◌∷◌, length, map, refl, sym, subst, arith, None}
+use Rattle.std.proofs.Common.{◌≡◌, ℕ, ◌+◌, ◌<◌, ◌≤◌, true, List, [], ◌∷◌, length, map, refl, sym, subst, arith}
 use Rattle.std.specs.List.{AllByRecursion}
 use Rattle.std.proofs.lemmas.List.Elements.{All-from_recursion}
 use Rattle.gs_bet.specs.Grammar.{are_sound, is_sound}
@@ -15,13 +15,9 @@ use Rattle.gs_model.specs.Betting.{Bet, Moves as TreeMoves, act, fold, even, non
 use Rattle.gs_model.specs.Frame.{move_count, point, point_count}
 use Rattle.gs_model.specs.Positions.{Arrow, Point}
 use Rattle.gs_model.specs.Walk.{Place, Walked, after_move, walk, walk_moves, walk_rounds, walk_start, walk_tree}
-use Rattle.gs_model.proofs.Ranges.{every-append}
+use Rattle.gs_model.proofs.Basics.{every-append}
 use Rattle.gs_seq.specs.Games.{frame_in}
-use Rattle.gs_seq.proofs.Choices.{some_move}
-
--- what stands out of range
-abbrev pub none_there : Point
-none_there = record { player = 0; round = 1; one = None; two = None; moves = [] }
+use Rattle.gs_seq.proofs.Choices.{some_move, none_there}
 
 abbrev pub letters_in : List Arrow → List ℕ
 letters_in moves = map (λ (a : Arrow). a.letter) moves

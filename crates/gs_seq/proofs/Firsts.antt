@@ -18,10 +18,10 @@ use Rattle.gs_seq.specs.Slots.{plan_of, slot_of, slots_at, slots_before}
 use Rattle.gs_seq.proofs.Coming.{slot_before}
 use Rattle.gs_seq.proofs.SlotLaws.{slots_le, slots_more}
 
-slot_under : (c k m : ℕ) → 0 < c → m < k → (c - 1) * k + m < c * k
+pub slot_under : (c k m : ℕ) → 0 < c → m < k → (c - 1) * k + m < c * k
 slot_under c k m some l = let e : c ≡ suc (c - 1) = omega arith in omega (arith, ap (λ i. i * k) e, l)
 
-agree_less : (n m : ℕ) (xs ys : List ℕ) → m ≤ n → Agree n xs ys → Agree m xs ys
+pub agree_less : (n m : ℕ) (xs ys : List ℕ) → m ≤ n → Agree n xs ys → Agree m xs ys
 agree_less n m xs ys l h k lk = h k (omega arith)
 
 module _ (f : Frame) (r : InRange f) (lists : ClassLists) (k : IsClasses f.parents lists) (player : ℕ) (w : IsWalked f player) (q : ℕ) (l : q

@@ -22,6 +22,7 @@ use Rattle.gs_model.specs.Positions.{Point, at_end, at_point}
 use Rattle.gs_model.specs.Walk.{walk_start}
 use Rattle.gs_model.proofs.Positions.{AllFrom-at0, GoodPoint}
 use Rattle.gs_model.proofs.Walked.{frame_good, walked_one, walked_two}
+use Rattle.gs_model.proofs.Basics.{sum-ones}
 use Rattle.gs_seq.specs.Games.{frame_in}
 
 -- a point of the program is the frame's point of a number
@@ -117,10 +118,6 @@ length-next f (x ∷ xs) =
       length-range_with_len 0 (move_count f x),
     )
 
-ones : {X : Type 0} (xs : List X) → sum_by (λ (x : X). 1) xs ≡ length xs
-ones [] = refl
-ones (x ∷ xs) = omega (arith, sum_by-cons (λ x. 1) x xs, ones xs)
-
 -- all moves together lead to each position but the start
 pub moves_total : (f : Frame) (player : ℕ) → IsWalked f player → 1 + sum_by (move_count f) (range_with_len 0 (point_count f)) ≡ point_count f + end_count f
 moves_total f player w =
@@ -130,8 +127,8 @@ moves_total f player w =
     omega (
       arith,
       e,
-      ones xs,
-      ones ys,
+      sum-ones xs,
+      sum-ones ys,
       length-append (points_of f) (ends_of f),
       length-next f (range_with_len 0 (point_count f)),
       length-map (range_with_len 0 (point_count f)) at_point,

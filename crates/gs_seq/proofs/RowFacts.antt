@@ -14,16 +14,16 @@ use Rattle.gs_model.specs.Deals.{Deal}
 use Rattle.gs_model.specs.Frame.{Frame, at_round, last_round, total_weight}
 use Rattle.gs_model.specs.Pairs.{pair_sum}
 use Rattle.gs_model.specs.Sums.{sum_z}
-use Rattle.gs_model.proofs.Alike.{pos_one}
 use Rattle.gs_model.proofs.Gather.{class_in}
 use Rattle.gs_model.proofs.Known.{Tabled}
 use Rattle.gs_model.proofs.Regroup.{sum_z-pos}
 use Rattle.gs_model.proofs.Sparse.{abs_sum}
 use Rattle.gs_model.proofs.Total.{sum_z-same, sum_z-same_all, sum_z-zero}
+use Rattle.gs_model.proofs.Basics.{pos-same, pos-cond, sum-same}
 use Rattle.gs_seq.specs.Cells.{pair_signed, pair_weight}
 use Rattle.gs_seq.specs.Rows.{IsRow, Rises, signed_in, weight_in}
 use Rattle.gs_seq.specs.declared.pair.Pair.{Pair}
-use Rattle.gs_seq.proofs.ClassRows.{alike_lists, sum-same}
+use Rattle.gs_seq.proofs.ClassRows.{alike_lists}
 use Rattle.gs_seq.proofs.SlotLaws.{not_eq}
 
 -- ---- lists
@@ -58,10 +58,6 @@ abs_all v bound (x ∷ xs) h =
     let r = abs_all v bound xs (λ k d l. h (suc k) d (omega arith)) in
     omega (arith, a, r, h 0 x (omega arith), sum_by-cons bound x xs)
 
-pos_cond : (b : Bool) (n : ℕ) → cond b (pos n) (pos 0) ≡ pos (cond b n 0)
-pos_cond true n = refl
-pos_cond false n = refl
-
 pub times_sum : {X : Type 0} (m : ℕ) (w : X → ℕ) (xs : List X) → sum_by (λ x. m * w x) xs ≡ m * sum_by w xs
 times_sum m w [] = omega arith
 times_sum m w (x ∷ xs) = omega (arith, sum_by-cons (λ x. m * w x) x xs, times_sum m w xs, ap (λ n. m * n) (sum_by-cons w x xs))
@@ -76,13 +72,24 @@ sum-add f g (x ∷ xs) = omega (arith, sum_by-cons (λ x. f x + g x) x xs, sum_b
 pub weight_at_pair : (row : List Pair) (d : Pair) → Rises row → (i : ℕ) → i < length row → weight_in row (get_or row i d).two ≡ (get_or row i d).weight
 weight_at_pair row d r i l =
     let e = (get_or row i d).two in
-    pos_one (weight_in row e) (get_or row i d).weight
+    pos-same (weight_in row e) (get_or row i d).weight
     (sym (sum_z-same (λ (p : Pair). cond (p.two == e) (pos p.weight) (pos 0)) (λ p. pos (cond (p.two == e) p.weight 0))
-    (λ p. pos_cond (p.two == e) p.weight) row ∙ sum_z-pos (λ (p : Pair). cond (p.two == e) p.weight 0) row)
+    (λ p. pos-cond (p.two == e) p.weight) row ∙ sum_z-pos (λ (p : Pair). cond (p.two == e) p.weight 0) row)
     ∙ alone (λ (p : Pair). p.two) (λ p. pos p.weight) row r.ascends i d l)
 
 pub signed_at_pair : (row : List Pair) (d : Pair) → Rises row → (i : ℕ) → i < length row → signed_in row (get_or row i d).two ≡ (get_or row i d).signed
 signed_at_pair row d r i l = alone (λ (p : Pair). p.two) (λ p. p.signed) row r.ascends i d l
+
+-- no class of a range is one before it
+pub past : (a w b n : ℕ) → a < b → sum_by (λ c. cond (a == c) w 0) (range_with_len b n) ≡ 0
+past a w b zero l = refl
+past a w b (suc n) l =
+    omega (
+      arith,
+      sum_by-cons (λ c. cond (a == c) w 0) b (range_with_len (b + 1) n),
+      ap (λ t. cond {A = ℕ} t w 0) (not_eq a b (λ e. omega arith)),
+      past a w (b + 1) n (omega arith),
+    )
 
 module _ (f : Frame) (t : Tabled f) (lists : ClassLists) (k : IsClasses f.parents lists) (round : ℕ) (some : 0 < round) (top : round ≤ last_round f) where
   abbrev pub one_of : Deal → ℕ
@@ -139,16 +146,6 @@ module _ (f : Frame) (t : Tabled f) (lists : ClassLists) (k : IsClasses f.parent
       (λ low. absurd (none (λ n w b. (let some = w.0 in omega arith)))) (cases_lt 0 e)
 
   -- the weights of the classes of a range
-  past : (a w b n : ℕ) → a < b → sum_by (λ c. cond (a == c) w 0) (range_with_len b n) ≡ 0
-  past a w b zero l = refl
-  past a w b (suc n) l =
-      omega (
-        arith,
-        sum_by-cons (λ c. cond (a == c) w 0) b (range_with_len (b + 1) n),
-        ap (λ t. cond {A = ℕ} t w 0) (not_eq a b (λ e. omega arith)),
-        past a w (b + 1) n (omega arith),
-      )
-
   once : (a w b n : ℕ) → sum_by (λ c. cond (a == c) w 0) (range_with_len b n) ≤ w
   once a w b zero = omega arith
   once a w b (suc n) = by (a == b) refl (once a w (b + 1) n)
@@ -200,7 +197,7 @@ module _ (f : Frame) (t : Tabled f) (lists : ClassLists) (k : IsClasses f.parent
 
   module _ (c : ℕ) (row : List Pair) (h : IsRow f lists round c row) where
     pub weight_both : (e : ℕ) → weight_in row e ≡ both_weight c e
-    weight_both e = pos_one (weight_in row e) (both_weight c e) (h.weights e ∙ pair_weight_is c e)
+    weight_both e = pos-same (weight_in row e) (both_weight c e) (h.weights e ∙ pair_weight_is c e)
 
     -- the pairs of a row are of classes of the other player
     pub row_class : (i : ℕ) (d : Pair) → i < length row → IsClass lists round (get_or row i d).two
@@ -228,4 +225,4 @@ module _ (f : Frame) (t : Tabled f) (lists : ClassLists) (k : IsClasses f.parent
         let left = sum_z-same (λ (p : Pair). pos p.weight *ℤ pos 1) (λ p. pos p.weight) (λ p. times_one p.weight) row
         ∙ sum_z-pos (λ (p : Pair). p.weight) row in
         let right = sum_z-same (λ (d : Deal). pos (u d) *ℤ pos 1) (λ d. pos (u d)) (λ d. times_one (u d)) f.deals ∙ sum_z-pos u f.deals in
-        pos_one (sum_by (λ (p : Pair). p.weight) row) (class_weight c) (sym left ∙ same ∙ right)
+        pos-same (sum_by (λ (p : Pair). p.weight) row) (class_weight c) (sym left ∙ same ∙ right)

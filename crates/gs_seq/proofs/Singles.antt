@@ -26,6 +26,7 @@ use Rattle.gs_model.proofs.RawBound.{range_once}
 use Rattle.gs_model.proofs.Regroup.{sum_z-pos}
 use Rattle.gs_model.proofs.Total.{sum_z-same}
 use Rattle.gs_model.proofs.Walked.{last_round_of}
+use Rattle.gs_model.proofs.Basics.{pos-cond, sum-same}
 use Rattle.gs_tree.specs.Walk.{deal_at, last_count}
 use Rattle.gs_tree.proofs.Pairs.{row_deals}
 use Rattle.gs_seq.specs.Cells.{meets, pair_count}
@@ -33,7 +34,6 @@ use Rattle.gs_seq.specs.Games.{frame_in}
 use Rattle.gs_seq.specs.Rows.{IsRow, IsSingleIn}
 use Rattle.gs_seq.specs.Singles.{IsSlight, deal_pair}
 use Rattle.gs_seq.specs.declared.pair.Pair.{Pair}
-use Rattle.gs_seq.proofs.ClassRows.{sum-same}
 use Rattle.gs_seq.proofs.Meeting.{row_long}
 use Rattle.gs_seq.proofs.RowFacts.{sum-add, times_sum}
 use Rattle.gs_seq.proofs.RowLaws.{RisesBy, by_index, further}
@@ -147,10 +147,6 @@ no_deals s n (d ∷ ds) h l =
     let test : (d.one == s) ≡ false = not_eq d.one s (λ k. (let b = h.0 in omega arith)) in
     ap (λ b. cond {A = List Deal} b (d ∷ filter (λ (d : Deal). d.one == s) ds) (filter (λ (d : Deal). d.one == s) ds)) test ∙ no_deals s n ds h.1 l
 
-plain : (b : Bool) (w : ℕ) → cond b (pos w) (pos 0) ≡ pos (cond b w 0)
-plain true w = refl
-plain false w = refl
-
 times_one : (w : ℕ) → pos w ≡ pos w *ℤ pos 1
 times_one w = omega (arith, ints, product_is (pos w) (pos 1))
 
@@ -202,7 +198,7 @@ module _ (g : ValidGame) (c : Filter) (e : c.parents ≡ (frame_in g).parents) (
         let two : Deal → ℕ = λ d. class_of c.lists last (at_round (frame_in g) last d.two) in
         sym (sum_z-pos (λ (p : Pair). cond (p.two == x) p.weight 0) row)
         ∙ sum_z-same (λ (p : Pair). pos (cond (p.two == x) p.weight 0)) (λ p. cond (p.two == x) (pos p.weight) (pos 0))
-        (λ p. sym (plain (p.two == x) p.weight)) row
+        (λ p. sym (pos-cond (p.two == x) p.weight)) row
         ∙ picked k s x one two (λ p. pos p.weight) (deals (game_of g.game)) is keyed
         ∙ sum_z-same (λ (d : Deal). cond (two d == x) (cond (one d == k) (pos d.weight) (pos 0)) (pos 0))
         (λ (d : Deal). cond (two d == x) (cond (one d == k) (pos d.weight *ℤ pos 1) (pos 0)) (pos 0))

@@ -15,15 +15,16 @@ use Rattle.gs_game.specs.Refusals.{Refusal, betting_refusal, card_refusal, deal_
 use Rattle.gs_game.specs.declared.valid.ValidGame.{ValidGame}
 use Rattle.gs_game.proofs.Evenly.{neither}
 use Rattle.gs_game.proofs.Playable.{puts_within}
+use Rattle.gs_game.proofs.Checked.{some-category}
 use Rattle.gs_model.specs.Deals.{Deal, deal_of, deals, pairings}
 use Rattle.gs_model.specs.Frame.{Frame, end_at, end_count, total_weight, trees_of}
-use Rattle.gs_model.specs.Game.{Game, Ranking, High, Pair, Three, round_count}
-use Rattle.gs_model.specs.Outcome.{categories}
+use Rattle.gs_model.specs.Game.{Game, round_count}
 use Rattle.gs_model.specs.Positions.{End, Show}
 use Rattle.gs_model.specs.Signals.{Signal, signals}
 use Rattle.gs_model.specs.Walk.{walk}
-use Rattle.gs_model.proofs.Children.{every-any, every-map}
+use Rattle.gs_model.proofs.Children.{every-any}
 use Rattle.gs_model.proofs.Ranges.{every-flat_map, every-kept}
+use Rattle.gs_model.proofs.Basics.{every-map}
 use Rattle.gs_seq.specs.Games.{frame_in}
 
 -- ---- outcomes are at most the greatest bonus, and that is at most 9
@@ -59,11 +60,6 @@ outcomes_le g =
     (every-any (λ a. Unit {0}) (λ a. tt) all)))
 
 -- ---- bets
-
-some_category : (r : Ranking) → 0 < categories r
-some_category High = omega arith
-some_category Pair = omega arith
-some_category Three = omega arith
 
 some_bonus : (xs : List ℕ) → 0 < length xs → All (λ n. (0 < n) × (n ≤ 9)) xs → 1 ≤ greatest xs
 some_bonus [] l h = absurd (omega arith)
@@ -103,7 +99,7 @@ are_bet g h =
 pub some_greatest : (g : ValidGame) → 1 ≤ greatest (game_of g.game).bonus
 some_greatest g =
     let bonus = g.dealable.bonuses in
-    some_bonus (game_of g.game).bonus (omega (arith, bonus.each, some_category (game_of g.game).ranking)) bonus.in_range
+    some_bonus (game_of g.game).bonus (omega (arith, bonus.each, some-category (game_of g.game).ranking)) bonus.in_range
 
 -- ---- all of a game
 

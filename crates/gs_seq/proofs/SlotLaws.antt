@@ -1,5 +1,5 @@
 -- Slots one point after another, and that they are few.
-use Rattle.std.proofs.Common.{◌≡◌, ℕ, zero, suc, ◌+◌, ◌-◌, ◌*◌, ◌<◌, ◌≤◌, ◌^◌, List, [], length, take, get_or, refl, ap, ◌∙◌, subst, arith, Bool, true, false, cond, max, sum_by}
+use Rattle.std.proofs.Common.{◌≡◌, ℕ, zero, suc, ◌+◌, ◌-◌, ◌*◌, ◌<◌, ◌≤◌, ◌^◌, List, [], length, take, get_or, ap, ◌∙◌, subst, arith, Bool, true, false, cond, max, sum_by}
 use Rattle.std.specs.Prelude.{◌==◌}
 use Rattle.std.specs.List.{range_with_len}
 use Rattle.std.proofs.Math.Nat.{mul-le-mul_right}
@@ -17,6 +17,7 @@ use Rattle.gs_model.proofs.Numbered.{greatest_push}
 use Rattle.gs_model.proofs.Ranges.{signal_count_is}
 use Rattle.gs_model.proofs.Sparse.{range_append}
 use Rattle.gs_model.proofs.Walked.{last_round_of}
+use Rattle.gs_model.proofs.Basics.{false_from_not}
 use Rattle.gs_seq.specs.Games.{frame_in}
 use Rattle.gs_seq.specs.Slots.{slot_count, slots_at, slots_before}
 use Rattle.gs_seq.proofs.Points.{few, moves_total, walked}
@@ -39,12 +40,8 @@ sum_range_le f m n l =
       sum_by-append f (range_with_len 0 m) (range_with_len (0 + m) (n - m)),
     )
 
-not_true : (b : Bool) → (b ≡ true → ⊥) → b ≡ false
-not_true true h = absurd (h refl)
-not_true false h = refl
-
 pub not_eq : (a b : ℕ) → (a ≡ b → ⊥) → (a == b) ≡ false
-not_eq a b h = not_true (a == b) (λ t. h ((Decides-eqb a b).0 t))
+not_eq a b h = false_from_not (a == b) (λ t. h ((Decides-eqb a b).0 t))
 
 -- ---- classes
 

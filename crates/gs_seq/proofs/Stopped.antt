@@ -1,11 +1,10 @@
 -- The row of a class of a round before the last, from the deals of its first member where the game stops after the round.
-use Rattle.std.proofs.Common.{◌≡◌, ◌≢◌, ℕ, ℤ, pos, ◌+◌, ◌*◌, ◌<◌, ◌≤◌, ◌^◌, Bool, true, false, cond, List, [], ◌∷◌, length, get_or, map, refl, sym, ap, ◌∙◌, subst, arith, sum_by}
+use Rattle.std.proofs.Common.{◌≡◌, ℕ, ℤ, pos, ◌+◌, ◌*◌, ◌<◌, ◌≤◌, ◌^◌, Bool, true, false, cond, List, [], ◌∷◌, length, get_or, map, refl, sym, ap, ◌∙◌, subst, arith, sum_by}
 use Rattle.std.specs.Prelude.{◌==◌, ◌/◌, ◌*ℤ◌}
 use Rattle.std.specs.List.{AllByRecursion, range_with_len}
 use Rattle.std.specs.Ordering.{int_eq}
 use Rattle.std.specs.declared.cmp.Ordering.TheVariants.{Less}
 use Rattle.std.proofs.Math.Nat.{mul-div_cancel_left, mul-le-mul_right, mul-le-mul_left}
-use Rattle.std.proofs.lemmas.Bool.{ne_eqb}
 use Rattle.std.proofs.lemmas.List.Elements.{recursion_from_All}
 use Rattle.std.proofs.lemmas.List.Sums.{sum_by-cons}
 use Rattle.gs_filter.specs.Filter.{Filter, IsSound}
@@ -14,22 +13,24 @@ use Rattle.gs_game.specs.GoingOn.{StopsAfter, ways_on}
 use Rattle.gs_game.specs.declared.valid.ValidGame.{ValidGame}
 use Rattle.gs_game.proofs.SomeWays.{some_ways}
 use Rattle.gs_game.proofs.StopLaws.{against_stopped, stops_later, stops_signals}
-use Rattle.gs_lossless.specs.Amounts.{AreAmounts, amount}
+use Rattle.gs_lossless.specs.Amounts.{AreAmounts}
 use Rattle.gs_lossless.specs.Sums.{Rises, key_cmp, sum_at, weight_at}
 use Rattle.gs_lossless.specs.declared.parts.Part.{Part}
 use Rattle.gs_lossless.specs.declared.sides.Side.TheVariants.{Deals}
+use Rattle.gs_lossless.proofs.Transfer.{amount_before_last}
 use Rattle.gs_model.specs.Classes.{ClassLists, class_of, class_size, list_of}
 use Rattle.gs_model.specs.Deals.{Deal}
-use Rattle.gs_model.specs.Frame.{Frame, at_round, last_round, signal_count, total_weight}
+use Rattle.gs_model.specs.Frame.{at_round, last_round, signal_count, total_weight}
 use Rattle.gs_model.specs.Game.{round_count}
-use Rattle.gs_model.specs.Lossless.{IsLossless, weight_against, weight_with}
+use Rattle.gs_model.specs.Lossless.{IsLossless, weight_against}
 use Rattle.gs_model.specs.Signals.{Signal, signals}
 use Rattle.gs_model.proofs.Ranges.{signal_count_is}
 use Rattle.gs_model.proofs.Walked.{last_round_of}
+use Rattle.gs_model.proofs.Basics.{sum-same}
 use Rattle.gs_seq.specs.Games.{frame_in}
 use Rattle.gs_seq.specs.Rows.{IsRow, gathered, join, pair_of}
 use Rattle.gs_seq.specs.declared.pair.Pair.{Pair}
-use Rattle.gs_seq.proofs.ClassRows.{sum-same, sum_by-map}
+use Rattle.gs_seq.proofs.ClassRows.{sum_by-map}
 use Rattle.gs_seq.proofs.Gathered.{gathered-total}
 use Rattle.gs_seq.proofs.RowFacts.{class_weight, classes_weigh, row_weighs, times_sum}
 use Rattle.gs_seq.proofs.RowLaws.{is_row, size_is, size_some}
@@ -72,13 +73,6 @@ gathered_times m w (p ∷ ps) =
     let assoc : m * (w * p.weight) ≡ (m * w) * p.weight = omega arith in
     ap (λ (n : ℕ). let q : Pair = record { two = p.class; weight = n; signed = pos n *ℤ p.outcome } in join q (gathered m (map (times w) ps))) assoc
     ∙ ap (join (pair_of (m * w) p)) (gathered_times m w ps)
-
--- before the last round no outcome counts
-by_class : (f : Frame) (lists : ClassLists) (round x c : ℕ) (o : ℤ) → round < last_round f
-    → amount f lists Deals round x c o ≡ cond (int_eq (pos 0) o) (weight_against f lists round x c) 0
-by_class f lists round x c o l =
-    let other : round ≢ last_round f = λ e. absurd (omega (arith, e, l)) in
-    ap (λ (b : Bool). cond b (weight_with f lists x c o) (cond (int_eq (pos 0) o) (weight_against f lists round x c) 0)) (ne_eqb round (last_round f) other)
 
 out : (b : Bool) (w n : ℕ) → w * cond b n 0 ≡ cond b (w * n) 0
 out true w n = refl
@@ -154,9 +148,9 @@ module _ (g h : ValidGame) (round : ℕ) (some : 0 < round) (top : round ≤ rou
     scaled : AreAmounts (frame_in g) c.lists Deals round first (map (times ways) sums)
     scaled = record {
       rises = rises_times ways some_on sums a.rises;
-      sum = λ k o. sum_times ways sums k o ∙ ap (λ n. ways * n) (a.sum k o ∙ by_class (frame_in h) others round first k o less)
+      sum = λ k o. sum_times ways sums k o ∙ ap (λ n. ways * n) (a.sum k o ∙ amount_before_last (frame_in h) others round first k o less)
           ∙ out (int_eq (pos 0) o) ways (weight_against (frame_in h) others round first k)
-          ∙ ap (λ n. cond (int_eq (pos 0) o) n 0) (sym (goes_on c.lists others same first k)) ∙ sym (by_class (frame_in g) c.lists round first k o one_less);
+          ∙ ap (λ n. cond (int_eq (pos 0) o) n 0) (sym (goes_on c.lists others same first k)) ∙ sym (amount_before_last (frame_in g) c.lists round first k o one_less);
     }
 
     long : length (list_of c.lists round) ≡ signal_count (frame_in g) round

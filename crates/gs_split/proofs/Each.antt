@@ -1,5 +1,5 @@
 -- Lists with one number for each item, and a fact for each.
-use Rattle.std.proofs.Common.{◌≡◌, ◌<◌, ◌+◌, ℕ, zero, suc, List, [], ◌∷◌, ◌++◌, length, get_or, subst, sym, below_more, arith, length-append}
+use Rattle.std.proofs.Common.{◌≡◌, ◌<◌, ◌+◌, ℕ, List, [], ◌∷◌, ◌++◌, length, get_or, subst, sym, below_more, arith, length-append}
 use Rattle.std.proofs.lemmas.Grind.{common_steps}
 
 -- a list of a length, with a fact for each place and what stands there
@@ -26,9 +26,3 @@ each_more R xs n x so here =
           (λ i h. subst (R i) (sym (before_end xs x n so.long i h)) (so.each i h))
           (subst (R n) (sym (at_end xs x n so.long)) here);
     }
-
--- what stands at a place, whatever stands past the end
-pub get_or-in : (xs : List ℕ) (i x : ℕ) → x ≡ get_or xs i x → i < length xs → get_or xs i 0 ≡ x
-get_or-in [] i x e l = absurd (omega arith)
-get_or-in (y ∷ xs) zero x e l = sym e
-get_or-in (y ∷ xs) (suc i) x e l = get_or-in xs i x e (omega arith)

@@ -23,12 +23,13 @@ use Rattle.gs_model.specs.Lossless.{IsLossless}
 use Rattle.gs_model.specs.Refinement.{IsCoarsestLossless, Refines}
 use Rattle.gs_model.specs.Signals.{parents}
 use Rattle.gs_model.specs.Sums.{sum_z}
-use Rattle.gs_model.proofs.Alike.{alike_items, fair_children, fair_last, pos_one}
+use Rattle.gs_model.proofs.Alike.{alike_items, fair_children, fair_last}
 use Rattle.gs_model.proofs.Lift.{by_pair, pair_exact, pair_test}
 use Rattle.gs_model.proofs.Ranges.{parents_at}
 use Rattle.gs_model.proofs.RawBound.{All-range}
 use Rattle.gs_model.proofs.Regroup.{sum_z-pos}
 use Rattle.gs_model.proofs.Total.{mul_assoc_z, sum_z-same}
+use Rattle.gs_model.proofs.Basics.{pos-same}
 use Rattle.gs_lossless.proofs.Descent.{last_is, parent_is, tabled}
 use Rattle.gs_split.specs.Proposal.{AreFair, AreFairFrom, IsProposal, child_number, child_term, deal_number, mixed}
 use Rattle.gs_split.specs.Turns.{AreParted, HaveNumbers}
@@ -208,7 +209,7 @@ module _ (g : Game) (p : IsPlayable g) (lists other : ClassLists) (l : IsLossles
       → child_number (parents g (round + 1)) (list_of lists (round + 1)) numbers s
       ≡ child_number (parents g (round + 1)) (list_of lists (round + 1)) numbers t
   children_same round numbers some lt fair s t c =
-      ap (λ n. n % 2 ^ 32) (pos_one (sum s) (sum t) (turn s ∙ alike_items eqb Decides-eqb (class_of other (round + 1)) (above s) (above t) value
+      ap (λ n. n % 2 ^ 32) (pos-same (sum s) (sum t) (turn s ∙ alike_items eqb Decides-eqb (class_of other (round + 1)) (above s) (above t) value
       (signals_in (frame_of g) (round + 1)) even (λ k. fair_children (frame_of g) other l round s t k some lt c) ∙ sym (turn t)))
     where
       ps : List ℕ
@@ -260,7 +261,7 @@ pub deals_fair : (g : Game) (p : IsPlayable g) (lists : ClassLists) (numbers : L
 deals_fair g p lists numbers long some all is = record {
   long = all;
   same = λ other l r s t c.
-      pos_one (get_or numbers s 0) (get_or numbers t 0)
+      pos-same (get_or numbers s 0) (get_or numbers t 0)
       (is s (omega (arith, c.first_in, long)) ∙ ap (λ z. int_rem_euclid z (pos (2 ^ 32))) (sums_same g p lists other l r long some s t c)
       ∙ sym (is t (omega (arith, c.second_in, long))));
 }

@@ -6,10 +6,10 @@ use Rattle.std.proofs.lemmas.List.{get_or-drop, get_or-take}
 use Rattle.gs_model.specs.Classes.{ClassLists, IsClass, IsClasses, class_count, class_of, classes_in, first_member}
 use Rattle.gs_model.specs.Frame.{Frame, last_round}
 use Rattle.gs_model.specs.FrameFacts.{InRange}
-use Rattle.gs_model.proofs.Exchanged.{eqb_turn}
 use Rattle.gs_model.proofs.RawBound.{range_once}
 use Rattle.gs_model.proofs.Tables.{is_table}
 use Rattle.gs_model.proofs.Total.{pick_one}
+use Rattle.gs_model.proofs.Basics.{eqb-turn}
 use Rattle.gs_best.proofs.Ranges.{sum_same}
 use Rattle.gs_best.proofs.Shares.{first_class}
 use Rattle.gs_totals.specs.ClassTotals.{class_above, gathered}
@@ -27,7 +27,7 @@ gathered_itself f r lists k i c v some top lc =
     (λ e lo hi.
     let le : IsClass lists i e = (omega arith, omega arith) in
     let above : class_above f lists i i e ≡ e = ap (class_of lists i) (h.itself i (first_member lists i e)) ∙ first_class f lists k i e some top le in
-    ap (λ n. cond (n == c) (v e) (pos 0)) above ∙ ap (λ b. cond b (v e) (pos 0)) (eqb_turn e c)
+    ap (λ n. cond (n == c) (v e) (pos 0)) above ∙ ap (λ b. cond b (v e) (pos 0)) (eqb-turn e c)
     ∙ picked (eqb c e) (v e) (v c) (λ t. ap v (sym ((Decides-eqb c e).0 t))))
     ∙ pick_one (eqb c) (v c) (classes_in lists i) (range_once c 1 (class_count lists i) lc.0 (let top_c = lc.1 in omega arith))
 

@@ -18,7 +18,7 @@ use Rattle.gs_model.specs.FrameFacts.{InRange, IsFrom, IsInside, IsWalked}
 use Rattle.gs_model.specs.Plans.{IsClassPlan, IsRawPlan, Plan, lift, number_before}
 use Rattle.gs_model.specs.Positions.{Step, Target, at_end, at_point}
 use Rattle.gs_model.specs.Sums.{sum_z}
-use Rattle.gs_model.proofs.Alike.{keeps_from, kin_above, pos_one}
+use Rattle.gs_model.proofs.Alike.{keeps_from, kin_above}
 use Rattle.gs_model.proofs.ClassTotals.{end_total_by_pairs}
 use Rattle.gs_model.proofs.Deviations.{lift_is_raw_plan}
 use Rattle.gs_model.proofs.FirstBest.{sum-same_range}
@@ -30,6 +30,7 @@ use Rattle.gs_model.proofs.RawBound.{range_once}
 use Rattle.gs_model.proofs.Regroup.{sum_z-pos}
 use Rattle.gs_model.proofs.Tables.{is_table}
 use Rattle.gs_model.proofs.Total.{sum_z-regroup, sum_z-same, sum_z-same_all}
+use Rattle.gs_model.proofs.Basics.{pos-same}
 use Rattle.gs_seq.specs.Payoffs.{end_sum}
 use Rattle.gs_seq.proofs.RowFacts.{abs_all, times_sum}
 use Rattle.gs_totals.specs.ClassTotals.{class_above, total_worth}
@@ -152,7 +153,7 @@ module _ (f : Frame) (r : InRange f) (lists : ClassLists) (k : IsClasses f.paren
       }))))
       ∙ sum_z-pos (λ d. cond (class_above f lists i j e == c) (cond (own_class i d == e) (X d) 0) 0) f.deals
       ∙ ap pos (tested_sum (class_above f lists i j e == c) (λ d. cond (own_class i d == e) (X d) 0) f.deals)) in
-      pos_one (sum_by (λ e. cond (class_above f lists i j e == c) (sum_by (λ d. cond (own_class i d == e) (X d) 0) f.deals) 0) (classes_in lists i))
+      pos-same (sum_by (λ e. cond (class_above f lists i j e == c) (sum_by (λ d. cond (own_class i d == e) (X d) 0) f.deals) 0) (classes_in lists i))
       (sum_by one f.deals)
       (sym
       (sym (sum_z-pos one f.deals)

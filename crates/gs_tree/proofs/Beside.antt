@@ -12,7 +12,7 @@ use Rattle.gs_tree.proofs.Taken.{taken_none}
 abbrev pub times : ℕ → List ℕ → ℕ
 times card g = count_by (λ other. other == card) g
 
-times-append : (card : ℕ) (g h : List ℕ) → times card (g ++ h) ≡ times card g + times card h
+pub times-append : (card : ℕ) (g h : List ℕ) → times card (g ++ h) ≡ times card g + times card h
 times-append card g h = sum_by-append (λ x. cond (eqb x card) 1 0) g h
 
 -- taking groups one after another

@@ -8,11 +8,12 @@ use Rattle.gs_model.specs.Cards.{groups, left_after}
 use Rattle.gs_model.specs.Game.{Game, Round, round_at}
 use Rattle.gs_model.specs.Signals.{Seen, Signal, signals, signal_at, showings, left_by}
 use Rattle.gs_model.proofs.Ranges.{every-flat_map}
+use Rattle.gs_model.proofs.Basics.{every-map, every-weaker}
 use Rattle.gs_card.specs.Groups.{IsGroup}
-use Rattle.gs_card.proofs.GroupLaws.{every-map, every-over, groups_are_groups, cards_within}
+use Rattle.gs_card.proofs.GroupLaws.{groups_are_groups, cards_within}
 use Rattle.gs_tree.specs.Layers.{last_seen, showing}
 use Rattle.gs_tree.proofs.Taken.{length-taken}
-use Rattle.gs_tree.proofs.Grown.{shows_of, seen_grown}
+use Rattle.gs_tree.proofs.Grown.{shows_of, seen_grown, nothing_seen}
 
 -- what a round shows: cards of the deck, and as many as it gives
 pub record IsShown (kinds : ℕ) (r : Round) (p : Seen) : Type 0 where
@@ -41,7 +42,7 @@ showings_are : (left : List ℕ) (r : Round) → AllByRecursion (IsShown (length
 showings_are left r =
     every-flat_map (IsShown (length left) r) (λ own. map (showing own) (groups (left_after left own) r.public)) (IsGroup left r.private)
     (λ own a. every-map (IsShown (length left) r) (showing own) (groups (left_after left own) r.public)
-    (every-over (IsGroup (left_after left own) r.public) (λ public. IsShown (length left) r (showing own public))
+    (every-weaker (IsGroup (left_after left own) r.public) (λ public. IsShown (length left) r (showing own public))
     (λ public b. showing_is left own public r a b) (groups (left_after left own) r.public)
     (recursion_from_All (IsGroup (left_after left own) r.public) (groups (left_after left own) r.public) (groups_are_groups (left_after left own) r.public))))
     (groups left r.private) (recursion_from_All (IsGroup left r.private) (groups left r.private) (groups_are_groups left r.private))
@@ -49,9 +50,6 @@ showings_are left r =
 trivially : {X : Type 0} (xs : List X) → AllByRecursion (λ (x : X). Unit {0}) xs
 trivially [] = tt
 trivially (x ∷ xs) = (tt, trivially xs)
-
-nothing : Seen
-nothing = record { own = []; public = [] }
 
 pub last_is_shown : (g : Game) (round i : ℕ) → 0 < round → i < length (signals g round)
     → IsShown (length g.copies) (round_at g round) (last_seen (signal_at g round i))
@@ -65,4 +63,4 @@ last_is_shown g (suc r) i some l =
     (signals g r) (trivially (signals g r)) in
     let R : List Seen → Type 0 = λ xs. AllByRecursion P xs in
     let here : All P (map last_seen (signals g (suc r))) = All-from_recursion P (map last_seen (signals g (suc r))) (subst R (sym (seen_grown g r)) all) in
-    subst P (get_or-map last_seen (signals g (suc r)) i [] nothing l) (here i nothing (omega (arith, length-map (signals g (suc r)) last_seen)))
+    subst P (get_or-map last_seen (signals g (suc r)) i [] nothing_seen l) (here i nothing_seen (omega (arith, length-map (signals g (suc r)) last_seen)))

@@ -3,37 +3,20 @@ use Rattle.std.proofs.Common.{◌≡◌, ℕ, zero, suc, ◌+◌, ◌<◌, List,
 use Rattle.std.specs.Prelude.{flat_map}
 use Rattle.std.proofs.lemmas.List.{length-map}
 use Rattle.std.proofs.lemmas.List.Concat.{flat_map-append}
-use Rattle.gs_model.specs.Cards.{left_after}
 use Rattle.gs_model.specs.Game.{Game, Round, round_at}
 use Rattle.gs_model.specs.Signals.{Seen, Signal, children, edge, last_edge, left_by, owners, showings, signals, first_child}
-use Rattle.gs_model.proofs.Exchanged.{map-flat_map, flat_map-same}
+use Rattle.gs_model.proofs.Exchanged.{map-flat_map}
+use Rattle.gs_model.proofs.Basics.{map-map, map-same, map-itself, flat_map-same}
+use Rattle.gs_model.proofs.Children.{last_edge-push}
 use Rattle.gs_tree.specs.Layers.{last_seen}
 
-map_both : {X Y Z : Type 0} (f : Y → Z) (g : X → Y) (xs : List X) → map f (map g xs) ≡ map (λ x. f (g x)) xs
-map_both f g [] = refl
-map_both f g (x ∷ xs) = ap (λ l. f (g x) ∷ l) (map_both f g xs)
-
-map_same : {X Y : Type 0} (f g : X → Y) → ((x : X) → f x ≡ g x) → (xs : List X) → map f xs ≡ map g xs
-map_same f g e [] = refl
-map_same f g e (x ∷ xs) = ap (λ y. y ∷ map f xs) (e x) ∙ ap (λ l. g x ∷ l) (map_same f g e xs)
-
-map_itself : {X : Type 0} (xs : List X) → map (λ x. x) xs ≡ xs
-map_itself [] = refl
-map_itself (x ∷ xs) = ap (λ l. x ∷ l) (map_itself xs)
+pub nothing_seen : Seen
+nothing_seen = record { own = []; public = [] }
 
 pub last_seen-push : (s : Signal) (p : Seen) → last_seen (s ++ p ∷ []) ≡ p
 last_seen-push [] p = refl
 last_seen-push (q ∷ []) p = refl
 last_seen-push (q ∷ r ∷ s) p = last_seen-push (r ∷ s) p
-
-pub last_edge-push : (left : List ℕ) (s : Signal) (p : Seen) → last_edge left (s ++ p ∷ []) ≡ edge (left_by left s) p
-last_edge-push left [] p = refl
-last_edge-push left (q ∷ []) p = refl
-last_edge-push left (q ∷ r ∷ s) p = last_edge-push (left_after (left_after left q.own) q.public) (r ∷ s) p
-
-pub left_by-push : (left : List ℕ) (s : Signal) (p : Seen) → left_by left (s ++ p ∷ []) ≡ left_after (left_after (left_by left s) p.own) p.public
-left_by-push left [] p = refl
-left_by-push left (q ∷ s) p = left_by-push (left_after (left_after left q.own) q.public) s p
 
 -- a function of signals that looks at what the last round adds to the parent
 grown : {Y : Type 0} (g : Game) (r : Round) (f : Signal → Y) (h : Signal → Seen → Y) → ((s : Signal) (p : Seen) → f (s ++ p ∷ []) ≡ h s p)
@@ -42,8 +25,8 @@ grown : {Y : Type 0} (g : Game) (r : Round) (f : Signal → Y) (h : Signal → S
 grown g r f h e ss =
     map-flat_map f (λ s. map (λ c. c.1) (children g r s)) ss
     ∙ flat_map-same (λ s. map f (map (λ c. c.1) (children g r s))) (λ s. map (h s) (showings (left_by g.copies s) r))
-    (λ s. ap (map f) (map_both (λ c. c.1) (λ p. (edge (left_by g.copies s) p, s ++ p ∷ [])) (showings (left_by g.copies s) r))
-    ∙ map_both f (λ p. s ++ p ∷ []) (showings (left_by g.copies s) r) ∙ map_same (λ p. f (s ++ p ∷ [])) (h s) (e s) (showings (left_by g.copies s) r)) ss
+    (λ s. ap (map f) (map-map (λ c. c.1) (λ p. (edge (left_by g.copies s) p, s ++ p ∷ [])) (showings (left_by g.copies s) r))
+    ∙ map-map f (λ p. s ++ p ∷ []) (showings (left_by g.copies s) r) ∙ map-same (λ p. f (s ++ p ∷ [])) (h s) (e s) (showings (left_by g.copies s) r)) ss
 
 -- what the signals of the next round show last
 pub seen_grown : (g : Game) (round : ℕ) → map last_seen (signals g (suc round))
@@ -51,7 +34,7 @@ pub seen_grown : (g : Game) (round : ℕ) → map last_seen (signals g (suc roun
 seen_grown g round =
     grown g (round_at g (suc round)) last_seen (λ s p. p) last_seen-push (signals g round)
     ∙ flat_map-same (λ s. map (λ p. p) (showings (left_by g.copies s) (round_at g (suc round)))) (λ s. showings (left_by g.copies s) (round_at g (suc round)))
-    (λ s. map_itself _) (signals g round)
+    (λ s. map-itself _) (signals g round)
 
 -- and their edges
 pub edges_grown : (g : Game) (round : ℕ) → map (last_edge g.copies) (signals g (suc round))

@@ -18,7 +18,8 @@ use Rattle.gs_tree.specs.declared.layer.Layer.{Layer}
 use Rattle.gs_tree.specs.declared.layer.Shown.{Shown}
 use Rattle.gs_model.specs.Cards.{left_after}
 use Rattle.gs_model.proofs.Ranges.{length-parents}
-use Rattle.gs_tree.proofs.Grown.{last_seen-push, left_by-push}
+use Rattle.gs_model.proofs.Listed.{left_by-push}
+use Rattle.gs_tree.proofs.Grown.{last_seen-push, nothing_seen}
 use Rattle.gs_tree.proofs.Dealt.{last_is_shown}
 
 -- a signal, its owner and what it adds
@@ -33,9 +34,6 @@ const_at : {Y : Type 0} (n : ℕ) (ys : List Y) (x : ℕ) → x < length ys → 
 const_at n [] x l = absurd (omega arith)
 const_at n (y ∷ ys) zero l = refl
 const_at n (y ∷ ys) (suc x) l = const_at n ys x (omega arith)
-
-nothing : Seen
-nothing = record { own = []; public = [] }
 
 abbrev pairs_of : (Signal → Seen → ℕ) → (Signal → List Seen) → Signal → List (ℕ × Signal)
 pairs_of weight shows s = map (λ p. (weight s p, s ++ p ∷ [])) (shows s)
@@ -61,9 +59,9 @@ child_at weight shows (s ∷ ss) n x l =
       place = 0;
       owned = get_or_append_left (map (λ _. n) pairs) more 0 x (omega arith) ∙ const_at n pairs x (omega arith) ∙ omega arith;
       within = omega arith;
-      added = get_or (shows s) x nothing;
+      added = get_or (shows s) x nothing_seen;
       grown = get_or_append_left kids rest [] x (omega arith) ∙ get_or-map (λ (c : ℕ × Signal). c.1) pairs x (0, []) [] (omega arith)
-          ∙ ap (λ (c : ℕ × Signal). c.1) (get_or-map to_pair (shows s) x nothing (0, []) h);
+          ∙ ap (λ (c : ℕ × Signal). c.1) (get_or-map to_pair (shows s) x nothing_seen (0, []) h);
     })
     (λ (h : length (shows s) ≤ x).
     let r = child_at weight shows ss (n + 1) (x - length (shows s)) (omega arith) in
@@ -124,8 +122,8 @@ from_layer g r l h =
     record {
       long = long;
       edges_long = ap (λ (x : List ℕ). length x) h.edges ∙ length-map (signals g (suc r)) (last_edge g.copies);
-      shows = λ i d m. sym (get_or-map seen_of l.shown.items i d nothing (omega arith)) ∙ ap (λ (x : List Seen). get_or x i nothing) h.shown
-          ∙ get_or-map last_seen (signals g (suc r)) i [] nothing m;
+      shows = λ i d m. sym (get_or-map seen_of l.shown.items i d nothing_seen (omega arith)) ∙ ap (λ (x : List Seen). get_or x i nothing_seen) h.shown
+          ∙ get_or-map last_seen (signals g (suc r)) i [] nothing_seen m;
       weighs = λ i m. ap (λ (x : List ℕ). get_or x i 0) h.edges ∙ get_or-map (last_edge g.copies) (signals g (suc r)) i [] 0 m;
     }
 

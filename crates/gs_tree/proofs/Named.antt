@@ -1,9 +1,8 @@
 -- The text of a signal tells it from the others of its round.
-use Rattle.std.proofs.Common.{◌≡◌, ℕ, zero, suc, ◌*◌, ◌/◌, ◌%◌, ◌<◌, ◌≤◌, List, [], ◌∷◌, ◌++◌, length, get_or, refl, sym, ap, ◌∙◌, arith, subst, All, ⊎_elim, length-append}
+use Rattle.std.proofs.Common.{◌≡◌, ℕ, zero, suc, ◌/◌, ◌%◌, ◌<◌, ◌≤◌, List, [], ◌∷◌, ◌++◌, length, get_or, refl, sym, ap, ◌∙◌, arith, subst, All, ⊎_elim, length-append}
 use Rattle.std.proofs.lemmas.Bool.{cases_lt}
-use Rattle.std.proofs.Math.Nat.{div-lt_iff_lt-mul}
 use Rattle.gs_card.specs.Decks.{DeckValue, IsDeck, card_text, kinds}
-use Rattle.gs_card.proofs.KindLaws.{number_of_places, some_suits}
+use Rattle.gs_card.proofs.KindLaws.{number_of_places, some_suits, row_below}
 use Rattle.gs_card.proofs.Letters.{one_place}
 use Rattle.gs_model.specs.Game.{Game}
 use Rattle.gs_model.specs.Signals.{Seen, Signal, signals, signal_at, parents}
@@ -13,9 +12,6 @@ use Rattle.gs_tree.specs.Texts.{group_text, public_text, seen_text, rounds_text,
 use Rattle.gs_tree.proofs.Dealt.{last_is_shown}
 use Rattle.gs_tree.proofs.Lookups.{grown_from}
 use Rattle.gs_tree.proofs.Same.{parted, shapes, shaped}
-
-row_below : (a b n : ℕ) → n < a * b → n / b < a
-row_below a b n h = let some : 0 < b = some_suits a b n h in (div-lt_iff_lt-mul some).1 h
 
 -- two letters tell a card
 card_once : (d : DeckValue) (a b : ℕ) → IsDeck d → a < kinds d → b < kinds d → card_text d a ≡ card_text d b → a ≡ b

@@ -6,6 +6,7 @@ use Rattle.std.proofs.lemmas.List.{map-append}
 use Rattle.std.proofs.lemmas.List.Concat.{flat_map-append}
 use Rattle.std.proofs.lemmas.Grind.{common_steps}
 use Rattle.gs_model.specs.Cards.{choose, groups, groups_above, groups_with, ways, ways_from}
+use Rattle.gs_game.proofs.Powers.{choose-one}
 
 -- the group of one card of a kind that is left, and of one that is not
 pub with_some : (left : List ℕ) (kind : ℕ) → 0 < get_or left kind 0 → groups_with (groups_above 0) left kind ≡ (kind ∷ []) ∷ []
@@ -17,10 +18,6 @@ pub with_none : (left : List ℕ) (kind : ℕ) → get_or left kind 0 ≡ 0 → 
 with_none left kind h =
     let t : nat_lt 0 (get_or left kind 0) ≡ false = grind (arith, h) in
     ap (λ b. cond b (map (λ g. kind ∷ g) ([] ∷ [])) []) t
-
-choose_one : (n : ℕ) → choose n 1 ≡ n
-choose_one zero = refl
-choose_one (suc n) = omega (arith, choose_one n)
 
 choose_none : (n : ℕ) → choose n 0 ≡ 1
 choose_none zero = refl
@@ -48,7 +45,7 @@ ways_card left card l = go 0 card left (omega arith) l
         let same : card ≡ kind = omega arith in
         let t : eqb card kind ≡ true = grind (arith, same) in
         let one : count_by (λ x. x == kind) (card ∷ []) ≡ 1 = times_of card kind ∙ ap {B = ℕ} (λ b. cond b 1 0) t in
-        ap (λ n. choose c n * ways_from (suc kind) cs (card ∷ [])) one ∙ ap (λ n. n * ways_from (suc kind) cs (card ∷ [])) (choose_one c)
+        ap (λ n. choose c n * ways_from (suc kind) cs (card ∷ [])) one ∙ ap (λ n. n * ways_from (suc kind) cs (card ∷ [])) (choose-one c)
         ∙ ap (λ n. c * n) (above (suc kind) card cs (omega arith)) ∙ omega arith
     go kind (suc i) (c ∷ cs) e l =
         let ne : eqb card kind ≡ false = grind (arith, e) in

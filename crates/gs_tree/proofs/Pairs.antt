@@ -12,15 +12,16 @@ use Rattle.std.proofs.lemmas.Simd.{map-map}
 use Rattle.gs_model.specs.Deals.{Deal, deal_of, deals, pairings}
 use Rattle.gs_model.specs.Game.{Game, round_count}
 use Rattle.gs_model.specs.Signals.{Signal, signal_at, signals}
-use Rattle.gs_model.proofs.Exchanged.{filter-flat_map, flat_map-same}
+use Rattle.gs_model.proofs.Exchanged.{filter-flat_map}
+use Rattle.gs_model.proofs.Basics.{flat_map-same}
 use Rattle.gs_tree.specs.Walk.{deal_at, deals_between, last_count, pair_at}
 
 -- ---- one step
 
-range_step : (a n : ℕ) → a < n → range_with_len a (n - a) ≡ a ∷ range_with_len (a + 1) (n - (a + 1))
+pub range_step : (a n : ℕ) → a < n → range_with_len a (n - a) ≡ a ∷ range_with_len (a + 1) (n - (a + 1))
 range_step a n l = let e : n - a ≡ suc (n - (a + 1)) = omega arith in ap (range_with_len a) e
 
-range_end : (a n : ℕ) → n ≤ a → range_with_len a (n - a) ≡ []
+pub range_end : (a n : ℕ) → n ≤ a → range_with_len a (n - a) ≡ []
 range_end a n l = let e : n - a ≡ 0 = omega arith in ap (range_with_len a) e
 
 pub between_step : (g : Game) (from to : ℕ) → from < to → deals_between g from to

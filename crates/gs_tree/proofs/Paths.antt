@@ -6,10 +6,10 @@ use Rattle.gs_model.specs.Deals.{path_weight}
 use Rattle.gs_model.specs.Game.{Game, Round, round_at, round_count}
 use Rattle.gs_model.specs.Signals.{Seen, Signal, signals, signal_at, parents, last_edge, edge, left_by}
 use Rattle.gs_model.specs.Betting.{even}
+use Rattle.gs_model.proofs.Children.{last_edge-push}
 use Rattle.gs_game.specs.Limits.{IsDealable}
 use Rattle.gs_tree.specs.Layers.{last_seen}
 use Rattle.gs_tree.proofs.Taken.{ways_power, few_left, length-taken}
-use Rattle.gs_tree.proofs.Grown.{last_edge-push}
 use Rattle.gs_tree.proofs.Dealt.{IsShown, last_is_shown, length-left_by}
 use Rattle.gs_tree.proofs.Lookups.{IsChild, is_child}
 

@@ -3,6 +3,7 @@ use Rattle.std.proofs.Common.{◌≡◌, ℕ, ◌+◌, ◌*◌, ◌<◌, List, [
 use Rattle.std.specs.Prelude.{flat_map}
 use Rattle.gs_model.specs.Cards.{groups, ways, left_after}
 use Rattle.gs_model.specs.Signals.{edge}
+use Rattle.gs_model.proofs.Basics.{map-map}
 use Rattle.gs_tree.specs.Layers.{showing}
 use Rattle.std.proofs.lemmas.List.{take_more, map-append, flat_map_more}
 
@@ -21,10 +22,6 @@ joined_more f start now more xs i d l h e =
     ap (λ n. n ++ more) h ∙ ap (λ z. (start ++ flat_map f (take i xs)) ++ z) e ∙ flat_map_more f start (take i xs) (get_or xs i d)
     ∙ ap (λ ys. start ++ flat_map f ys) (sym (take_more xs i d l))
 
-map_both : {X Y Z : Type 0} (f : Y → Z) (g : X → Y) (xs : List X) → map f (map g xs) ≡ map (λ x. f (g x)) xs
-map_both f g [] = refl
-map_both f g (x ∷ xs) = ap (λ l. f (g x) ∷ l) (map_both f g xs)
-
 -- the edges of all that a round can show
 pub edges_of : (left : List ℕ) (size : ℕ) (owns : List (List ℕ)) →
     map (edge left) (flat_map (λ own. map (showing own) (groups (left_after left own) size)) owns)
@@ -33,5 +30,5 @@ edges_of left size [] = refl
 edges_of left size (own ∷ owns) =
     map-append (edge left) (map (showing own) (groups (left_after left own) size)) (flat_map (λ o. map (showing o) (groups (left_after left o) size)) owns)
     ∙ ap (λ l. l ++ map (edge left) (flat_map (λ o. map (showing o) (groups (left_after left o) size)) owns))
-    (map_both (edge left) (showing own) (groups (left_after left own) size))
+    (map-map (edge left) (showing own) (groups (left_after left own) size))
     ∙ ap (λ l. map (λ g. ways left own * ways (left_after left own) g) (groups (left_after left own) size) ++ l) (edges_of left size owns)

@@ -22,6 +22,7 @@ use Rattle.gs_tree.proofs.Dealt.{IsShown, last_is_shown}
 use Rattle.gs_tree.proofs.Hands.{own_cards-push}
 use Rattle.gs_tree.proofs.Lookups.{grown_from}
 use Rattle.gs_tree.proofs.Paths.{product_small}
+use Rattle.gs_tree.proofs.Grown.{nothing_seen}
 
 -- ---- lists of equal parts
 
@@ -69,13 +70,10 @@ part_long f n xs d all each h a e i l =
 
 -- ---- the rounds of a signal
 
-abbrev pub nothing : Seen
-nothing = record { own = []; public = [] }
-
 -- how many rounds a signal has, and what one of them shows
 pub record HasRounds (g : Game) (n : ℕ) (s : Signal) : Type 0 where
   pub long : length s ≡ n
-  pub each : (k : ℕ) → k < n → IsShown (length g.copies) (round_at g (suc k)) (get_or s k nothing)
+  pub each : (k : ℕ) → k < n → IsShown (length g.copies) (round_at g (suc k)) (get_or s k nothing_seen)
 
 pub has_rounds : (g : Game) (n i : ℕ) → i < length (signals g n) → HasRounds g n (signal_at g n i)
 has_rounds g zero zero l = record { long = refl; each = λ k m. absurd (omega arith) }
@@ -91,18 +89,18 @@ has_rounds g (suc n) i l =
       each = λ k m. ⊎_elim
           (λ (h : k < n).
           let R : Seen → Type 0 = IsShown (length g.copies) (round_at g (suc k)) in
-          subst R (sym (get_or_append_left front (last ∷ []) nothing k (omega (arith, r.long)))) (r.each k h))
+          subst R (sym (get_or_append_left front (last ∷ []) nothing_seen k (omega (arith, r.long)))) (r.each k h))
           (λ (h : n ≤ k).
           let same : n ≡ k = omega arith in
-          let S : ℕ → Type 0 = λ j. IsShown (length g.copies) (round_at g (suc j)) (get_or (front ++ last ∷ []) j nothing) in
+          let S : ℕ → Type 0 = λ j. IsShown (length g.copies) (round_at g (suc j)) (get_or (front ++ last ∷ []) j nothing_seen) in
           let R : Seen → Type 0 = IsShown (length g.copies) (round_at g (suc n)) in
-          subst S same (subst R (sym (get_or_push front last nothing n r.long)) (last_is_shown g (suc n) i (omega arith) l)))
+          subst S same (subst R (sym (get_or_push front last nothing_seen n r.long)) (last_is_shown g (suc n) i (omega arith) l)))
           (cases_lt k n);
     })
 
 -- as many own cards as the game's list of rounds says
 pub width_at : (g : Game) (rounds : List GameRound) (n k : ℕ) (r : GameRound) (s : Signal) → g.rounds ≡ map round_of rounds → HasRounds g n s → k < n
-    → k < length rounds → r ≡ get_or rounds k r → length (get_or s k nothing).own ≡ r.private
+    → k < length rounds → r ≡ get_or rounds k r → length (get_or s k nothing_seen).own ≡ r.private
 width_at g rounds n k r s e h l m at =
     let none : Round = record { private = 0; public = 0; tree = even } in
     let before : suc k - 1 ≡ k = omega arith in
@@ -114,20 +112,20 @@ width_at g rounds n k r s e h l m at =
 pub record IsOwnStep (left : List ℕ) (t : Signal) (k start end : ℕ) (own : List ℕ) : Type 0 where
   pub within : end ≤ length own
   pub before : between 0 start own ≡ own_cards (take k t)
-  pub here : between start end own ≡ (get_or t k nothing).own
+  pub here : between start end own ≡ (get_or t k nothing_seen).own
   pub next : end ≡ length (own_cards (take (k + 1) t))
-  pub more : own_ways left (take (k + 1) t) ≡ own_ways left (take k t) * ways (left_after left (own_cards (take k t))) (get_or t k nothing).own
+  pub more : own_ways left (take (k + 1) t) ≡ own_ways left (take k t) * ways (left_after left (own_cards (take k t))) (get_or t k nothing_seen).own
 
 pub own_step : (left : List ℕ) (t : Signal) (k start end : ℕ) (own : List ℕ) → own ≡ own_cards t → k < length t → start ≡ length (own_cards (take k t))
-    → end ≡ start + length (get_or t k nothing).own → IsOwnStep left t k start end own
+    → end ≡ start + length (get_or t k nothing_seen).own → IsOwnStep left t k start end own
 own_step left t k start end own e l s w =
-    let p : Seen = get_or t k nothing in
+    let p : Seen = get_or t k nothing_seen in
     let front : List ℕ = own_cards (take k t) in
     let rest : List ℕ = own_cards (drop (k + 1) t) in
     let split : own ≡ front ++ (p.own ++ rest) =
     e ∙ ap own_cards (sym (take-append-drop k t)) ∙ flat_map-append (λ (q : Seen). q.own) (take k t) (drop k t)
-    ∙ ap (λ x. front ++ own_cards x) (drop_more t k nothing l) in
-    let one : own_cards (take (k + 1) t) ≡ front ++ p.own = ap own_cards (take_more t k nothing l) ∙ own_cards-push (take k t) p in
+    ∙ ap (λ x. front ++ own_cards x) (drop_more t k nothing_seen l) in
+    let one : own_cards (take (k + 1) t) ≡ front ++ p.own = ap own_cards (take_more t k nothing_seen l) ∙ own_cards-push (take k t) p in
     let width : end - start ≡ length p.own = omega arith in
     record {
       within = omega (arith, ap (λ (x : List ℕ). length x) split, length-append front (p.own ++ rest), length-append p.own rest);
@@ -135,7 +133,7 @@ own_step left t k start end own e l s w =
       here = ap (λ x. take (end - start) (drop start x)) split ∙ ap (take (end - start)) (drop_at front (p.own ++ rest) start (sym s))
           ∙ take_at p.own rest (end - start) (sym width);
       next = omega (arith, ap (λ (x : List ℕ). length x) one, length-append front p.own);
-      more = ap (own_ways left) (take_more t k nothing l) ∙ own_ways-push left (take k t) p;
+      more = ap (own_ways left) (take_more t k nothing_seen l) ∙ own_ways-push left (take k t) p;
     }
 
 -- what a loop over the game's rounds reads in one turn

@@ -1,24 +1,14 @@
 -- Signals of one round that show the same public cards.
-use Rattle.std.proofs.Common.{◌≡◌, ℕ, zero, suc, ◌<◌, ◌++◌, List, [], ◌∷◌, length, get_or, refl, sym, ap, ◌∙◌, arith, Bool, true, false, eqb}
+use Rattle.std.proofs.Common.{◌≡◌, ℕ, zero, suc, ◌<◌, ◌++◌, List, [], ◌∷◌, length, get_or, refl, sym, ap, ◌∙◌, arith, Bool, true, false}
 use Rattle.std.specs.Prelude.{◌&&◌}
-use Rattle.std.proofs.lemmas.Bool.Decides.{Decides-eqb}
 use Rattle.gs_model.specs.Deals.{same_cards, same_public}
 use Rattle.gs_model.specs.Game.{Game, round_at}
 use Rattle.gs_model.specs.Signals.{Seen, Signal, signals, signal_at, parents, public_cards}
 use Rattle.gs_model.proofs.Children.{same_cards-self}
-use Rattle.gs_model.proofs.Exchanged.{and_both}
+use Rattle.gs_model.proofs.Exchanged.{and_both, same_cards-is}
 use Rattle.gs_tree.specs.Layers.{last_seen}
 use Rattle.gs_tree.proofs.Dealt.{last_is_shown}
 use Rattle.gs_tree.proofs.Lookups.{grown_from}
-
--- lists of the same cards are one
-pub cards_are : (xs ys : List ℕ) → same_cards xs ys ≡ true → xs ≡ ys
-cards_are [] [] h = refl
-cards_are [] (y ∷ ys) h = cc
-cards_are (x ∷ xs) [] h = cc
-cards_are (x ∷ xs) (y ∷ ys) h =
-    let b = and_both (eqb x y) (same_cards xs ys) h in
-    let same : x ≡ y = (Decides-eqb x y).0 b.0 in let r = cards_are xs ys b.1 in cc
 
 pub public_self : (s : Signal) → same_public s s ≡ true
 public_self [] = refl
@@ -32,7 +22,7 @@ public_alike (p ∷ s) [] u h = cc
 public_alike (p ∷ s) (q ∷ t) [] h = refl
 public_alike (p ∷ s) (q ∷ t) (r ∷ u) h =
     let b = and_both (same_cards p.public q.public) (same_public s t) h in
-    ap (λ c. same_cards c r.public && same_public s u) (cards_are p.public q.public b.0)
+    ap (λ c. same_cards c r.public && same_public s u) (same_cards-is p.public q.public b.0)
     ∙ ap (λ c. same_cards q.public r.public && c) (public_alike s t u b.1)
 
 -- the same public cards, all in one list
@@ -42,7 +32,7 @@ one_list [] (q ∷ t) h = cc
 one_list (p ∷ s) [] h = cc
 one_list (p ∷ s) (q ∷ t) h =
     let b = and_both (same_cards p.public q.public) (same_public s t) h in
-    ap (λ c. c ++ public_cards s) (cards_are p.public q.public b.0) ∙ ap (λ c. q.public ++ c) (one_list s t b.1)
+    ap (λ c. c ++ public_cards s) (same_cards-is p.public q.public b.0) ∙ ap (λ c. q.public ++ c) (one_list s t b.1)
 
 -- how many own and public cards each round shows
 abbrev pub shapes : Signal → List (ℕ × ℕ)

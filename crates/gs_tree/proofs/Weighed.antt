@@ -1,24 +1,21 @@
 -- What the deals of a plain game weigh: one for each two signals on a board.
-use Rattle.std.proofs.Common.{◌≡◌, ◌+◌, ◌-◌, ◌*◌, ◌<◌, ◌≤◌, ℕ, List, [], ◌∷◌, ◌++◌, length, get_or, refl, sym, ap, ◌∙◌, arith, subst, Bool, true, false, cond, eqb, ⊎_elim}
+use Rattle.std.proofs.Common.{◌≡◌, ◌+◌, ◌-◌, ◌*◌, ◌<◌, ◌≤◌, ℕ, List, [], ◌∷◌, length, get_or, refl, sym, ap, ◌∙◌, arith, subst, Bool, true, false, cond, eqb, ⊎_elim}
 use Rattle.std.specs.Prelude.{◌&&◌}
 use Rattle.std.proofs.lemmas.Bool.{cases_eq, cases_lt}
 use Rattle.std.proofs.lemmas.Grind.{common_steps}
-use Rattle.std.proofs.lemmas.List.Sums.{sum_by-append}
 use Rattle.gs_model.specs.Cards.{left_after, ways}
 use Rattle.gs_model.specs.Deals.{own_ways, path_weight, same_cards, same_public}
 use Rattle.gs_model.specs.Game.{Game, round_count}
 use Rattle.gs_model.specs.Signals.{Seen, Signal, edge, left_by, own_cards, public_cards, signal_at}
-use Rattle.gs_model.proofs.Exchanged.{and_both}
+use Rattle.gs_model.proofs.Exchanged.{and_both, same_cards-is}
 use Rattle.gs_model.proofs.Facing.{leaves_are_deals, signals_differ}
+use Rattle.gs_model.proofs.Basics.{parts_positive}
 use Rattle.gs_tree.specs.Walk.{deal_at, last_count, shows_same}
-use Rattle.gs_tree.proofs.Beside.{left_by_cards}
+use Rattle.gs_tree.proofs.Beside.{left_by_cards, times-append}
 use Rattle.gs_tree.proofs.Hands.{dealt}
-use Rattle.gs_tree.proofs.Same.{cards_are, one_list, parted, shaped, shapes}
+use Rattle.gs_tree.proofs.Same.{one_list, parted, shaped, shapes}
 use Rattle.gs_tree.specs.Plain.{IsPlain}
-use Rattle.gs_game.proofs.Ways.{Single, copies_after, length_after, one_product, single_after, some_parts, some_product, times, ways_one, ways_room, ways_some}
-
-times_both : (card : ℕ) (g h : List ℕ) → times card (g ++ h) ≡ times card g + times card h
-times_both card g h = sum_by-append (λ x. cond (eqb x card) 1 0) g h
+use Rattle.gs_game.proofs.Ways.{Single, copies_after, length_after, one_product, single_after, some_product, times, ways_one, ways_room, ways_some}
 
 -- the ways to a signal and to own groups are one at most
 path_one : (left : List ℕ) (s : Signal) → Single left → path_weight left s ≤ 1
@@ -41,11 +38,11 @@ own_some left [] h = omega arith
 own_some left (p ∷ s) h =
     let rest = left_after left p.own in
     some_product (ways left p.own) (own_ways rest s)
-    (ways_some left p.own (λ card l. omega (arith, h card l, times_both card p.own (own_cards s))))
+    (ways_some left p.own (λ card l. omega (arith, h card l, times-append card p.own (own_cards s))))
     (own_some rest s (λ card l. omega (
       arith,
       h card (omega (arith, l, length_after left p.own)),
-      times_both card p.own (own_cards s),
+      times-append card p.own (own_cards s),
       copies_after left p.own card,
     )))
 
@@ -53,12 +50,12 @@ own_room : (left : List ℕ) (s : Signal) → 0 < own_ways left s → (card : �
 own_room left [] h card l = omega arith
 own_room left (p ∷ s) h card l =
     let rest = left_after left p.own in
-    let b = some_parts (ways left p.own) (own_ways rest s) h in
+    let b = parts_positive (ways left p.own) (own_ways rest s) h in
     omega (
       arith,
       ways_room left p.own b.0 card l,
       own_room rest s b.1 card (omega (arith, l, length_after left p.own)),
-      times_both card p.own (own_cards s),
+      times-append card p.own (own_cards s),
       copies_after left p.own card,
     )
 
@@ -69,8 +66,8 @@ path_room left [] h card l = omega arith
 path_room left (p ∷ s) h card l =
     let l1 = left_after left p.own in
     let l2 = left_after l1 p.public in
-    let b = some_parts (edge left p) (path_weight l2 s) h in
-    let e = some_parts (ways left p.own) (ways l1 p.public) b.0 in
+    let b = parts_positive (edge left p) (path_weight l2 s) h in
+    let e = parts_positive (ways left p.own) (ways l1 p.public) b.0 in
     let in1 : card < length l1 = omega (arith, l, length_after left p.own) in
     let in2 : card < length l2 = omega (arith, in1, length_after l1 p.public) in
     omega (
@@ -80,8 +77,8 @@ path_room left (p ∷ s) h card l =
       path_room l2 s b.1 card in2,
       copies_after left p.own card,
       copies_after l1 p.public card,
-      times_both card p.own (own_cards s),
-      times_both card p.public (public_cards s),
+      times-append card p.own (own_cards s),
+      times-append card p.public (public_cards s),
     )
 
 -- the copies that a signal leaves
@@ -110,7 +107,7 @@ same_signals (p ∷ s) (q ∷ t) e h o =
     let tail : shapes s ≡ shapes t = cc in
     let b = and_both (same_cards p.public q.public) (same_public s t) h in
     let r = parted p.own q.own (own_cards s) (own_cards t) (ap (λ (x : ℕ × ℕ). x.0) pair) o in
-    let public : p.public ≡ q.public = cards_are p.public q.public b.0 in
+    let public : p.public ≡ q.public = same_cards-is p.public q.public b.0 in
     let here : p ≡ q = ap (λ (x : List ℕ). let m : Seen = record { own = x; public = p.public } in m) r.0
     ∙ ap (λ (x : List ℕ). let m : Seen = record { own = q.own; public = x } in m) public in
     ap (λ (x : Seen). x ∷ s) here ∙ ap (λ (x : Signal). q ∷ x) (same_signals s t tail b.1 r.1)

@@ -12,9 +12,10 @@ use Rattle.gs_model.specs.Signals.{Seen, Signal, signal_at, signals, left_by, ow
 use Rattle.gs_tree.specs.Trees.{rules_of}
 use Rattle.gs_tree.proofs.Beside.{left_by_cards}
 use Rattle.gs_tree.proofs.Paths.{power_fits}
-use Rattle.gs_tree.proofs.Rows.{IsTurn, has_rounds, nothing, part_in, parts_length, power_more, turn}
+use Rattle.gs_tree.proofs.Rows.{IsTurn, has_rounds, part_in, parts_length, power_more, turn}
 use Rattle.gs_tree.proofs.signals.Signals.own_ways.Goals as goal
 use Rattle.gs_tree.proofs.signals.Signals.own_ways.Goals.{After-deref-round-items, After-from}
+use Rattle.gs_tree.proofs.Grown.{nothing_seen}
 
 -- the rounds of the loop are the game's
 all_rounds : (c : After-deref-round-items) → (rules_of c.args.self.now).rounds ≡ map round_of c.deref-round-items.result.now
@@ -81,7 +82,7 @@ loop-round-preserved c =
     let left : List ℕ = left_by g.copies (signal_at g (round_count g) c.args.one) in
     let h = read_turn w.After-from (all_rounds w.After-deref-round-items) in
     let t : Signal = signal_at g (round_count g) c.args.two in
-    let p : Seen = get_or t k nothing in
+    let p : Seen = get_or t k nothing_seen in
     let copies : left_after (left_after c.deck-deck.result.now.counts c.own-held.result.now) c.public-board.result.now ≡ left =
     ap (λ (d : DeckValue). left_after (left_after d.counts c.own-held.result.now) c.public-board.result.now) c.deck-deck.ensures.deck
     ∙ ap (λ x. left_after (left_after g.copies x) c.public-board.result.now) c.own-held.ensures
