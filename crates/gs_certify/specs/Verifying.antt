@@ -19,11 +19,11 @@ use Rattle.gs_reply.specs.Replies.{Reply, Prints, Refuses}
 use Rattle.gs_reply.specs.Troubles.{IsUnlikePair}
 use Rattle.gs_seq.specs.Stops.{IsSmall}
 use Rattle.gs_strategy.specs.Confirmed.{frame_of, over, raw_plan}
-use Rattle.gs_strategy.specs.Values.{IsFractionOf, Parts, Strategy}
+use Rattle.gs_strategy.specs.Values.{IsFractionOf, FractionParts, Strategy}
 use Rattle.gs_certify.specs.Certificates.{IsCertificateOf}
 
 -- the value of the plans, and each player's bound
-abbrev pub bounds_text : Parts → Stated → List ℕ
+abbrev pub bounds_text : FractionParts → Stated → List ℕ
 bounds_text value c = number_line (codes "value") value ++ number_line (codes "player1 at most") c.one.bound
     ++ number_line (codes "player2 at most") c.two.bound
 
@@ -32,7 +32,7 @@ pub record IsVerified (s : Strategy) (c : Certificate) (text : List ℕ) : Type 
   pub lossless : IsLossless (frame_of s) s.classes
   pub small : IsSmall (frame_of s) s.classes
   pub holds : IsCertificateOf s c
-  pub value : Parts
+  pub value : FractionParts
   pub fraction : IsFractionOf value
   pub value_is : IsValue (frame_of s) (raw_plan s s.one) (raw_plan s s.two) (over value).0 (over value).1
   pub printed : text ≡ bounds_text value (certificate_view c)

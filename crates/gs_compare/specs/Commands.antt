@@ -7,7 +7,7 @@ use Rattle.gs_reply.specs.Refusals.{Other_game, Raw_cells, Too_large}
 use Rattle.gs_reply.specs.Replies.{OfFile, Reply, Prints, Refuses}
 use Rattle.gs_reply.specs.declared.strategies.Which.TheVariants.{Only, First, Second}
 use Rattle.gs_strategy.specs.Confirmed.{frame_of}
-use Rattle.gs_strategy.specs.Values.{Numbers, Parts, Strategy}
+use Rattle.gs_strategy.specs.Values.{Numbers, FractionParts, Strategy}
 use Rattle.gs_text.specs.VerdictText.{verdict_text}
 use Rattle.gs_compare.specs.Judging.{AreHands, AreJudged, hands_text}
 
@@ -23,7 +23,7 @@ SaysJudged s = OnRawCards (λ n reply. reply ≡ Prints (verdict_text n)) s s
 
 -- the value and the gaps of two strategies, and what each raw signal of round 1 is worth, a line each
 abbrev pub SaysHands : Strategy → Strategy → Reply → Type 0
-SaysHands one two = OnRawCards (λ n reply. (hands : List Parts) × AreHands one two hands
+SaysHands one two = OnRawCards (λ n reply. (hands : List FractionParts) × AreHands one two hands
     × (reply ≡ Prints (verdict_text n ++ hands_text one.game.deck (rules_of one.game) hands))) one two
 
 -- what `duel` says of two strategies: of one game their numbers and the hands, of two games a refusal

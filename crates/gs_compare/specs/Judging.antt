@@ -12,7 +12,7 @@ use Rattle.gs_model.specs.Signals.{signal_at}
 use Rattle.gs_model.specs.Verdict.{IsJudgedVerdict}
 use Rattle.gs_seq.specs.Slots.{plan_of}
 use Rattle.gs_strategy.specs.Confirmed.{frame_of, over, raw_plan}
-use Rattle.gs_strategy.specs.Values.{IsFractionOf, Numbers, Parts, Strategy, Weights}
+use Rattle.gs_strategy.specs.Values.{IsFractionOf, Numbers, FractionParts, Strategy, Weights}
 use Rattle.gs_tree.specs.Texts.{signal_text}
 
 -- the plan over a strategy's classes that weights are
@@ -27,19 +27,19 @@ pub record AreJudged (one two : Strategy) (n : Numbers) : Type 0 where
   pub verdict : IsJudgedVerdict (frame_of one) one.classes (plan_in one one.one) two.classes (plan_in two two.two) (over n.value) (over n.gap1) (over n.gap2)
 
 -- a reduced fraction that is what a raw signal of round 1 is worth to player 1
-pub record IsHand (one two : Strategy) (signal : ℕ) (p : Parts) : Type 0 where
+pub record IsHand (one two : Strategy) (signal : ℕ) (p : FractionParts) : Type 0 where
   pub reduced : IsFractionOf p
   pub value : IsHandValue (frame_of one) (raw_plan one one.one) (raw_plan two two.two) signal (over p).0 (over p).1
 
 -- so of each raw signal of round 1, in order
-pub record AreHands (one two : Strategy) (hands : List Parts) : Type 0 where
+pub record AreHands (one two : Strategy) (hands : List FractionParts) : Type 0 where
   pub long : length hands ≡ signal_count (frame_of one) 1
-  pub each : (signal : ℕ) (d : Parts) → signal < signal_count (frame_of one) 1 → IsHand one two signal (get_or hands signal d)
+  pub each : (signal : ℕ) (d : FractionParts) → signal < signal_count (frame_of one) 1 → IsHand one two signal (get_or hands signal d)
 
 -- the line of a raw signal of round 1: its text and its value
-abbrev pub hand_line : DeckValue → Game → ℕ → Parts → List ℕ
+abbrev pub hand_line : DeckValue → Game → ℕ → FractionParts → List ℕ
 hand_line d g signal p = number_line (codes "hand " ++ signal_text d (signal_at g 1 signal)) p
 
 -- these lines of all of them
-abbrev pub hands_text : DeckValue → Game → List Parts → List ℕ
+abbrev pub hands_text : DeckValue → Game → List FractionParts → List ℕ
 hands_text d g hands = flat_map (λ signal. hand_line d g signal (get_or hands signal (pos 0, pos 1))) (range_with_len 0 (length hands))

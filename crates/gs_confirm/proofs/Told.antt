@@ -19,7 +19,7 @@ use Rattle.gs_seq.specs.Plans.{lifted}
 use Rattle.gs_seq.specs.Stops.{IsSmall, IsStopOf}
 use Rattle.gs_seq.specs.declared.stop.SeqStop.{SeqStop}
 use Rattle.gs_strategy.specs.Confirmed.{AreNumbersOf, IsConfirmed, frame_of}
-use Rattle.gs_strategy.specs.Values.{Parts, Strategy}
+use Rattle.gs_strategy.specs.Values.{FractionParts, Strategy}
 use Rattle.gs_strategy.specs.Views.{numbers_of, stored_view}
 use Rattle.gs_strategy.specs.declared.stored.Stored.{Stored}
 use Rattle.gs_tree.specs.Texts.{signal_text}
@@ -70,7 +70,7 @@ numbers_are s w k n e f h =
     (parts n.value) (parts n.gap1) (parts n.gap2)) f at_game in
     record { value = n.value.reduced; gap1 = n.gap1.reduced; gap2 = n.gap2.reduced; verdict = at_classes }
 
-pub wrong_told : (s : Stored) (n : Verdict) (name : List ℕ) (stated found : Parts) (a : Answer) → IsLossless (frame_of (stored_view s)) s.classes.lists
+pub wrong_told : (s : Stored) (n : Verdict) (name : List ℕ) (stated found : FractionParts) (a : Answer) → IsLossless (frame_of (stored_view s)) s.classes.lists
     → IsSmall (frame_of (stored_view s)) s.classes.lists
     → AreNumbersOf (stored_view s) (numbers_of n) → IsFirstWrong (numbers_of s.verdict) (numbers_of n) name stated found
     → Tells a (Wrong_number name stated found) → Answers (SaysWrong (stored_view s)) a

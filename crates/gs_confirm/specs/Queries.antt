@@ -10,7 +10,7 @@ use Rattle.gs_model.specs.Frame.{last_round, player_at, point_count, round_of, s
 use Rattle.gs_model.specs.Positions.{at_point}
 use Rattle.gs_model.specs.Signals.{signal_at}
 use Rattle.gs_strategy.specs.Confirmed.{frame_of, raw_plan}
-use Rattle.gs_strategy.specs.Values.{Parts, Strategy, Weights, frame_in}
+use Rattle.gs_strategy.specs.Values.{FractionParts, Strategy, Weights, frame_in}
 use Rattle.gs_text.specs.VerdictText.{mix_text}
 use Rattle.gs_tree.specs.Texts.{signal_text}
 
@@ -46,7 +46,7 @@ abbrev pub weights_of_player : Strategy → ℕ → Weights
 weights_of_player s player = if player == 1 then s.one else s.two
 
 -- his gap in it
-abbrev pub gap_of_player : Strategy → ℕ → Parts
+abbrev pub gap_of_player : Strategy → ℕ → FractionParts
 gap_of_player s player = if player == 1 then s.numbers.gap1 else s.numbers.gap2
 
 -- the mixture of the player's raw plan at a point and a raw signal, and then his gap

@@ -6,7 +6,7 @@ use Rattle.gs_reply.specs.Refusals.{Limit, Refusal, Unlike_pair, Too_large, Wron
 use Rattle.gs_reply.specs.Troubles.{IsUnlikePair, Passes}
 use Rattle.gs_seq.specs.Stops.{IsSmall}
 use Rattle.gs_strategy.specs.Confirmed.{AreNumbersOf, frame_of}
-use Rattle.gs_strategy.specs.Values.{Numbers, Parts, Strategy}
+use Rattle.gs_strategy.specs.Values.{Numbers, FractionParts, Strategy}
 
 -- the classes are lossless, and the game is too large
 pub record IsTooLarge (s : Strategy) (limit : Limit) : Type 0 where
@@ -14,7 +14,7 @@ pub record IsTooLarge (s : Strategy) (limit : Limit) : Type 0 where
   pub passed : Passes s.game s.classes limit
 
 -- the first of the three numbers that is stated otherwise than it was found, by its name
-abbrev pub IsFirstWrong : Numbers → Numbers → List ℕ → Parts → Parts → Type 0
+abbrev pub IsFirstWrong : Numbers → Numbers → List ℕ → FractionParts → FractionParts → Type 0
 IsFirstWrong stated found name one other =
     ((name ≡ codes "value") × (one ≡ stated.value) × (other ≡ found.value) × (stated.value ≢ found.value))
     ⊎ (((name ≡ codes "gap1") × (one ≡ stated.gap1) × (other ≡ found.gap1) × (stated.value ≡ found.value) × (stated.gap1 ≢ found.gap1))
@@ -22,7 +22,7 @@ IsFirstWrong stated found name one other =
     × (stated.gap2 ≢ found.gap2)))
 
 -- the classes are lossless, the game is small, and a number is not that of the plans
-pub record IsWrongNumber (s : Strategy) (name : List ℕ) (stated found : Parts) : Type 0 where
+pub record IsWrongNumber (s : Strategy) (name : List ℕ) (stated found : FractionParts) : Type 0 where
   pub lossless : IsLossless (frame_of s) s.classes
   pub small : IsSmall (frame_of s) s.classes
   pub numbers : Numbers
@@ -44,5 +44,5 @@ SaysLarge s reply = (limit : Limit) × IsTooLarge s limit × (reply ≡ Refuses 
 
 -- the first wrong number of a strategy
 abbrev pub SaysWrong : Strategy → Reply → Type 0
-SaysWrong s reply = (name : List ℕ) × (stated : Parts) × (found : Parts) × IsWrongNumber s name stated found
+SaysWrong s reply = (name : List ℕ) × (stated : FractionParts) × (found : FractionParts) × IsWrongNumber s name stated found
     × (reply ≡ Refuses (Wrong_number name stated found))

@@ -6,7 +6,7 @@ use Rattle.gs_model.specs.Plans.{Plan, lift}
 use Rattle.gs_model.specs.Verdict.{IsVerdict}
 use Rattle.gs_seq.specs.Slots.{plan_of}
 use Rattle.gs_seq.specs.Stops.{IsSmall}
-use Rattle.gs_strategy.specs.Values.{IsFractionOf, Numbers, Parts, Strategy, Weights, frame_in}
+use Rattle.gs_strategy.specs.Values.{IsFractionOf, Numbers, FractionParts, Strategy, Weights, frame_in}
 
 -- the frame of a strategy's game
 abbrev pub frame_of : Strategy → Frame
@@ -17,7 +17,7 @@ abbrev pub raw_plan : Strategy → Weights → Plan
 raw_plan s w = lift (frame_of s) s.classes (plan_of (frame_of s) s.classes w.total w.weights)
 
 -- a fraction as a numerator with a sign and a denominator
-abbrev pub over : Parts → ℤ × ℕ
+abbrev pub over : FractionParts → ℤ × ℕ
 over p = (p.0, unsigned_abs p.1)
 
 -- reduced fractions that are the value of the strategy's plans and what each player could still gain by any raw plan

@@ -13,27 +13,27 @@ use gs_file::FileFault;
 use gs_filter::ClassFault;
 use gs_frac::FracFault;
 use gs_seq::PlanFault;
-use gs_strategy::{Part, StoreFault};
+use gs_strategy::{FilePart, StoreFault};
 use std::alloc::{AllocError, Global};
 
 /// The name of a part.
-fn part_text(part: Part) -> &'static str
+fn part_text(part: FilePart) -> &'static str
     ensures { result.now ≡ text_of_part part }
 {
     match part {
-        Part::Top => "file",
-        Part::Version => "version",
-        Part::Classes => "classes",
-        Part::Player1 => "player1",
-        Part::Player2 => "player2",
-        Part::Value => "value",
-        Part::Gap1 => "gap1",
-        Part::Gap2 => "gap2",
+        FilePart::Top => "file",
+        FilePart::Version => "version",
+        FilePart::Classes => "classes",
+        FilePart::Player1 => "player1",
+        FilePart::Player2 => "player2",
+        FilePart::Value => "value",
+        FilePart::Gap1 => "gap1",
+        FilePart::Gap2 => "gap2",
     }
 }
 
 /// A part of a wrong shape.
-fn shape_text(alloc: Global, part: Part) -> Result<Vec<u8>, AllocError>
+fn shape_text(alloc: Global, part: FilePart) -> Result<Vec<u8>, AllocError>
     ensures { IfOk result (λ v. v.items ≡ codes "shape of " ++ text_of_part part) }
 {
     let mut text = String::from_str(alloc, "shape of ")?;
@@ -89,7 +89,7 @@ fn plan_text(alloc: Global, player: u8, fault: PlanFault) -> Result<Vec<u8>, All
 }
 
 /// A text that is no fraction's.
-fn fraction_fault(alloc: Global, part: Part, fault: &FracFault) -> Result<Vec<u8>, AllocError>
+fn fraction_fault(alloc: Global, part: FilePart, fault: &FracFault) -> Result<Vec<u8>, AllocError>
     ensures { IfOk result (λ v. v.items ≡ text_of_part part ++ codes " " ++ fraction_fault_text fault.now) }
 {
     let mut text = String::from_str(alloc, part_text(part))?;

@@ -16,7 +16,7 @@ use Rattle.gs_strategy.specs.Checks.{ReadResult, Reads}
 use Rattle.gs_strategy.specs.Confirmed.{over, raw_plan}
 use Rattle.gs_strategy.specs.Laws.{IsStrategy}
 use Rattle.gs_strategy.specs.Texts.{strategy_data, strategy_text}
-use Rattle.gs_strategy.specs.Values.{Numbers, Parts, Strategy, frame_in}
+use Rattle.gs_strategy.specs.Values.{Numbers, FractionParts, Strategy, frame_in}
 use Rattle.gs_strategy.proofs.Only.{found, only}
 use Rattle.gs_strategy.proofs.Shape.{has_line}
 use Rattle.gs_text.specs.VerdictText.{verdict_text}
@@ -65,12 +65,12 @@ joined (b ∷ bytes) = elim (cases_Bool (b == 10)) [
 pub both_written : (bytes one two : List ℕ) → (first_line bytes).0 ≡ one → (first_line bytes).1 ≡ two → bytes ≡ one ++ two
 both_written bytes one two a b = sym (joined bytes) ∙ (ap (λ (x : List ℕ). x ++ (first_line bytes).1) a ∙ ap (λ (y : List ℕ). one ++ y) b)
 
-abbrev hand_lines : Strategy → Numbers → List Parts → List ℕ
+abbrev hand_lines : Strategy → Numbers → List FractionParts → List ℕ
 hand_lines one n hands = verdict_text n ++ hands_text one.game.deck (rules_of one.game) hands
 
 duelled : (one two : Strategy) (text : List ℕ) → one.game ≡ two.game → SaysHands one two (Prints text) → IsDuelled one two text
 duelled one two text same h =
-    let r = on_raw_cards (λ n reply. (hands : List Parts) × AreHands one two hands × (reply ≡ Prints (hand_lines one n hands))) one two text same h in
+    let r = on_raw_cards (λ n reply. (hands : List FractionParts) × AreHands one two hands × (reply ≡ Prints (hand_lines one n hands))) one two text same h in
     (r.0, r.1, (r.2.0, r.2.1, sym (same_text text (hand_lines one r.0 r.2.0) r.2.2)))
 
 second_file : (bytes text : List ℕ) (one : Strategy) (read : ReadResult) → Reads (first_line bytes).0 (Ok one) → Reads (first_line bytes).1 read

@@ -38,7 +38,7 @@ use Rattle.gs_strategy.specs.Checks.{Reads}
 use Rattle.gs_strategy.specs.Confirmed.{IsConfirmed, over, raw_plan}
 use Rattle.gs_strategy.specs.Laws.{IsStrategy, IsTextOf}
 use Rattle.gs_strategy.specs.Texts.{strategy_text}
-use Rattle.gs_strategy.specs.Values.{Numbers, Parts, Strategy, frame_in}
+use Rattle.gs_strategy.specs.Values.{Numbers, FractionParts, Strategy, frame_in}
 use Rattle.gs_text.specs.VerdictText.{verdict_text}
 use Rattle.gs_words.specs.Commands.{command_word}
 use Rattle.gs_words.specs.Plain.{Given, are_plain, option_words}
@@ -189,7 +189,7 @@ pub record OfTwo (says : Strategy → Strategy → List ℕ → Type 0) (bytes t
 
 -- the lines of the numbers of player 1's plan of the first against player 2's of the second, and of what each raw signal of round 1 is worth to player 1
 abbrev pub IsDuelled : Strategy → Strategy → List ℕ → Type 0
-IsDuelled one two text = (n : Numbers) × AreOnRawCards one two n × ((hands : List Parts) × AreHands one two hands
+IsDuelled one two text = (n : Numbers) × AreOnRawCards one two n × ((hands : List FractionParts) × AreHands one two hands
     × (text ≡ verdict_text n ++ hands_text one.game.deck (rules_of one.game) hands))
 
 -- what `duel` prints

@@ -1,6 +1,6 @@
 use Rattle.std.proofs.Common.{◌≡◌, ◌<◌, ◌++◌, get_or, length, map, pos, string_bytes, sym, ap, ◌∙◌, arith}
 use Rattle.std.proofs.lemmas.List.{get_or-map}
-use Rattle.gs_strategy.specs.Values.{Parts}
+use Rattle.gs_strategy.specs.Values.{FractionParts}
 use Rattle.gs_strategy.specs.Views.{parts_of}
 use Rattle.gs_tree.specs.Trees.{deck_of, rules_of}
 use Rattle.gs_compare.specs.Judging.{hand_line}
@@ -17,4 +17,4 @@ loop-signal-preserved c =
     let l : n < length xs = omega (arith, c.requires, c.loop-signal-test.true, c.count-signal-end.ensures.value) in
     let at : parts_of v ≡ get_or (map parts_of xs) n (pos 0, pos 1) = ap parts_of c.index-values-signal.is ∙ sym (get_or-map parts_of xs n v (pos 0, pos 1) l) in
     lines_more (λ s. hand_line d g s (get_or (map parts_of xs) s (pos 0, pos 1))) (string_bytes c.loop-signal.text) (string_bytes c.push_hand.new.text) n c.loop-signal.invariant
-    (c.in_ok-push_hand.ensures ∙ ap (λ (p : Parts). string_bytes c.loop-signal.text ++ hand_line d g n p) at)
+    (c.in_ok-push_hand.ensures ∙ ap (λ (p : FractionParts). string_bytes c.loop-signal.text ++ hand_line d g n p) at)

@@ -12,7 +12,7 @@ use Rattle.gs_raw.specs.Cells.{raw_cell_count}
 use Rattle.gs_reply.specs.Replies.{Prints}
 use Rattle.gs_seq.specs.Games.{frame_in}
 use Rattle.gs_seq.specs.Plans.{IsPlanOf}
-use Rattle.gs_strategy.specs.Values.{Parts}
+use Rattle.gs_strategy.specs.Values.{FractionParts}
 use Rattle.gs_strategy.specs.Views.{numbers_of, parts_of, stored_view}
 use Rattle.gs_text.specs.VerdictText.{verdict_text}
 use Rattle.gs_tree.specs.Trees.{deck_of, rules_of}
@@ -47,7 +47,7 @@ returns-in-Ok c =
     let s = c.in_ok-signals.signals in
     let f = frame_in s.game.now in
     let v = c.in-Ok.duel.verdict in
-    let hands : List Parts = map parts_of c.in-Ok.duel.hands.items in
+    let hands : List FractionParts = map parts_of c.in-Ok.duel.hands.items in
     let first : f ≡ frame_in x.game = ap frame_in c.in_ok-signals.ensures in
     let second : f ≡ frame_in y.game = first ∙ ap (λ (v : FileGame). frame (rules_in v)) c.requires in
     let deck : deck_of s ≡ x.game.game.deck = ap (λ (v : ValidGame). v.game.deck) c.in_ok-signals.ensures in
@@ -73,5 +73,5 @@ returns-in-Err-TooManyCells c =
     let y = stored_view c.args.two.now in
     let f = frame_in c.in_ok-signals.signals.game.now in
     IfOk-weaker c.many_raw_cells.result _ _
-    (λ a t. too_many f x y (λ n reply. (hands : List Parts) × AreHands x y hands × (reply ≡ Prints (verdict_text n ++ hands_text x.game.deck (rules_in x.game) hands))) c.in-Err-TooManyCells.count c.in-Err-TooManyCells.field-0 a
+    (λ a t. too_many f x y (λ n reply. (hands : List FractionParts) × AreHands x y hands × (reply ≡ Prints (verdict_text n ++ hands_text x.game.deck (rules_in x.game) hands))) c.in-Err-TooManyCells.count c.in-Err-TooManyCells.field-0 a
     (ap frame_in c.in_ok-signals.ensures) c.in-Err-TooManyCells.field-0-is c.in-Err-TooManyCells.ensures.refused t) c.many_raw_cells.ensures

@@ -12,7 +12,7 @@ use Rattle.gs_seq.specs.declared.pair.Pair.{Pair}
 use Rattle.gs_seq.proofs.Sizes.{modest}
 use Rattle.gs_seq.proofs.Turns.{IsKnown, IsTurn, begun, known, none_passed, passed, sum_ended, sum_turned, turn}
 use Rattle.gs_solve.specs.Laws.{IsForm}
-use Rattle.gs_solve.specs.Parts.{cell_at, class_adds, end_sequence}
+use Rattle.gs_solve.specs.Layout.{cell_at, class_adds, end_sequence}
 use Rattle.gs_solve.specs.Programs.{unit}
 use Rattle.gs_solve.specs.Sequences.{form_sizes}
 use Rattle.gs_solve.proofs.AddedCells.{added_none, added_same, added_then, added_within}

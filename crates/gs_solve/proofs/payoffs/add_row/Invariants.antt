@@ -2,7 +2,7 @@ use Rattle.std.proofs.Common.{◌≡◌, drop, take}
 use Rattle.gs_model.specs.Sums.{sum_z}
 use Rattle.gs_seq.specs.Abstracts.{frame_of, lists_of}
 use Rattle.gs_seq.proofs.Turns.{passed}
-use Rattle.gs_solve.specs.Parts.{AreAdded}
+use Rattle.gs_solve.specs.Layout.{AreAdded}
 use Rattle.gs_solve.proofs.Cells.{pair_adds}
 use Rattle.gs_solve.proofs.payoffs.add_row.Given as goal
 

@@ -6,7 +6,7 @@ use Rattle.gs_model.specs.Frame.{end_count, last_step}
 use Rattle.gs_model.specs.Positions.{at_end}
 use Rattle.gs_seq.specs.Abstracts.{frame_of, lists_of}
 use Rattle.gs_seq.specs.Games.{frame_in}
-use Rattle.gs_solve.specs.Parts.{StepFits}
+use Rattle.gs_solve.specs.Layout.{StepFits}
 use Rattle.gs_solve.specs.Sequences.{sequence_by}
 use Rattle.gs_solve.proofs.EndSteps.{end_fits}
 use Rattle.gs_solve.proofs.payoffs.sequence_at.Goals as goal
