@@ -3,11 +3,9 @@ use Rattle.std.proofs.Common.{◌≡◌, ℕ, List, inr, refl, sym, subst}
 use Rattle.gs_best.specs.Judged.{parts}
 use Rattle.gs_filter.specs.Filter.{Filter}
 use Rattle.gs_frac.specs.declared.value.Verdict.{Verdict}
-use Rattle.gs_file.specs.Views.{valid_view}
-use Rattle.gs_game.specs.Games.{game_of}
 use Rattle.gs_game.specs.declared.valid.ValidGame.{ValidGame}
-use Rattle.gs_model.specs.Lossless.{IsFirstUnlike, IsLossless}
-use Rattle.gs_model.specs.Signals.{signal_at, signals}
+use Rattle.gs_model.specs.Lossless.{IsLossless}
+use Rattle.gs_model.specs.Signals.{signals}
 use Rattle.gs_model.specs.Verdict.{IsVerdict}
 use Rattle.gs_reply.proofs.Refused.{answers_more, tells_answer}
 use Rattle.gs_reply.specs.Refusals.{Unlike_pair, Wrong_number}
@@ -22,7 +20,6 @@ use Rattle.gs_strategy.specs.Confirmed.{AreNumbersOf, IsConfirmed, frame_of}
 use Rattle.gs_strategy.specs.Values.{FractionParts, Strategy}
 use Rattle.gs_strategy.specs.Views.{numbers_of, stored_view}
 use Rattle.gs_strategy.specs.declared.stored.Stored.{Stored}
-use Rattle.gs_tree.specs.Texts.{signal_text}
 use Rattle.gs_confirm.specs.Commands.{OfConfirmed}
 use Rattle.gs_confirm.specs.Troubles.{IsFirstWrong, SaysLarge, SaysWrong}
 
@@ -31,18 +28,6 @@ pub unlike_refused : (says : Strategy → Reply → Type 0) (s : Strategy) (a : 
     → Answers (OfConfirmed says s) a
 unlike_refused says s a h =
     answers_more (SaysUnlike s.game s.classes) (OfConfirmed says s) (λ r said. inr (Unlike_pair said.0 said.1 said.2, said.3, said.4)) a h
-
--- ---- classes
-
--- the first unlike pair of a strategy's classes, by the texts of its signals
-pub pair_told : (w : ValidGame) (s : Stored) (round first second : ℕ) (a : Answer) → w ≡ s.game
-    → IsFirstUnlike (frame_in w) s.classes.lists round first second → (IsLossless (frame_in w) s.classes.lists → ⊥)
-    → Tells a (Unlike_pair round (signal_text w.game.deck (signal_at (game_of w.game) round first))
-    (signal_text w.game.deck (signal_at (game_of w.game) round second))) → Answers (SaysUnlike (valid_view s.game) s.classes.lists) a
-pair_told w s round first second a e unlike not t =
-    let told = tells_answer (SaysUnlike (valid_view w) s.classes.lists) a (Unlike_pair round _ _)
-    (round, _, _, record { first = first; second = second; unlike = unlike; not_lossless = not; first_text = refl; second_text = refl }, refl) t in
-    subst (λ (x : ValidGame). Answers (SaysUnlike (valid_view x) s.classes.lists) a) e told
 
 -- ---- sizes
 

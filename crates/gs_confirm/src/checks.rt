@@ -10,8 +10,8 @@ ghost use Rattle.gs_confirm.specs.{Held.{Holds, IsFormOf}, Troubles.{SaysLarge, 
 
 use crate::numbers::first_wrong;
 use gs_best::{Work, verdict};
-use gs_lossless::{CheckStop, Lossless, check};
-use gs_reply::{Answer, too_large, unlike, wrong_number};
+use gs_lossless::{Lossless, check};
+use gs_reply::{Answer, not_lossless, too_large, wrong_number};
 use gs_seq::Abstract;
 use gs_strategy::Stored;
 use gs_tree::Signals;
@@ -31,14 +31,7 @@ pub fn lossless_of<'a>(
 {
     match check(alloc, signals, &stored.classes) {
         Ok(lossless) => Ok(Ok(lossless)),
-        Err(
-            CheckStop::Unlike {
-                round,
-                first,
-                second,
-            },
-        ) => Ok(Err(unlike(alloc, signals, round, first, second)?)),
-        Err(CheckStop::Memory) => Err(AllocError),
+        Err(stop) => Ok(Err(not_lossless(alloc, signals, stop)?)),
     }
 }
 

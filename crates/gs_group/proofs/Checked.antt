@@ -1,5 +1,5 @@
 -- What a check of a game's classes finds is what `check` says.
-use Rattle.std.proofs.Common.{◌≡◌, ◌⊎◌, ⊎_elim, ℕ, List, Bool, length, arith, refl, sym, ap, ◌∙◌, subst}
+use Rattle.std.proofs.Common.{◌≡◌, ◌⊎◌, ⊎_elim, inl, inr, ℕ, List, Bool, length, arith, refl, sym, ap, ◌∙◌, subst}
 use Rattle.gs_card.specs.Decks.{DeckValue}
 use Rattle.gs_file.specs.Reading.{FileGame, rules_of}
 use Rattle.gs_filter.specs.Filter.{single_classes}
@@ -9,16 +9,14 @@ use Rattle.gs_lossless.proofs.Settled.{singles}
 use Rattle.gs_model.specs.Classes.{ClassLists, IsClasses, list_of}
 use Rattle.gs_model.specs.Frame.{frame_of}
 use Rattle.gs_model.specs.Game.{Game}
-use Rattle.gs_model.specs.Lossless.{IsFirstUnlike, IsLossless}
-use Rattle.gs_model.specs.Signals.{signal_at}
+use Rattle.gs_model.specs.Lossless.{IsLossless}
 use Rattle.gs_model.proofs.Ranges.{length-parents}
-use Rattle.gs_reply.specs.Refusals.{Unlike_pair}
-use Rattle.gs_reply.specs.Replies.{Refuses}
+use Rattle.gs_reply.specs.Replies.{Prints, Refuses, Reply}
+use Rattle.gs_reply.specs.Troubles.{SaysUnlike}
 use Rattle.gs_text.specs.ClassText.{AreListsOf}
-use Rattle.gs_tree.specs.Texts.{signal_text}
 use Rattle.gs_words.specs.declared.request.Grouping.{Grouping}
 use Rattle.gs_words.specs.declared.request.Grouping.TheVariants.{Isomorphism, Coarsest, Single}
-use Rattle.gs_group.specs.Checking.{IsChecked, IsGrouping, SaysNotLossless}
+use Rattle.gs_group.specs.Checking.{ChecksGame, IsChecked, IsGrouping, SaysNotLossless}
 use Rattle.gs_group.specs.Shrinking.{told}
 
 -- classes over the parents of a game's signals have a number for each signal
@@ -55,40 +53,15 @@ always_lossless grouping g lists one are = ⊎_elim
     subst (IsLossless (frame_of g)) (sym h) (singles (frame_of g) (single_are_classes (frame_of g).parents)))
     one
 
--- an unlike pair of a grouping's classes, by texts of the two signals
-unlike_so : (grouping : Grouping) (v : FileGame) (lists : ClassLists) (round first second : ℕ) (one two : List ℕ) → IsGrouping grouping (rules_of v) lists
-    → (lists ≡ single_classes (frame_of (rules_of v)).parents → ⊥) → (IsLossless (frame_of (rules_of v)) lists → ⊥)
-    → IsFirstUnlike (frame_of (rules_of v)) lists round first second
-    → one ≡ signal_text v.deck (signal_at (rules_of v) round first) → two ≡ signal_text v.deck (signal_at (rules_of v) round second)
-    → SaysNotLossless grouping v (Refuses (Unlike_pair round one two))
-unlike_so Isomorphism v lists round first second one two are single lossless unlike is_one is_two = (
-  refl,
-  lists,
-  are,
-  (
-    round,
-    one,
-    two,
-    record { first = first; second = second; unlike = unlike; not_lossless = lossless; first_text = is_one; second_text = is_two },
-    refl,
-  ),
-)
-unlike_so Coarsest v lists round first second one two are single lossless unlike is_one is_two = absurd (lossless are.2.lossless)
-unlike_so Single v lists round first second one two are single lossless unlike is_one is_two = absurd (single are)
+-- only signal classes can have an unlike pair, since those of the other groupings are lossless
+pub unlike_so : (grouping : Grouping) (v : FileGame) (lists : ClassLists) → IsGrouping grouping (rules_of v) lists → (r : Reply) → SaysUnlike v lists r
+    → SaysNotLossless grouping v r
+unlike_so Isomorphism v lists are r said = (refl, lists, are, said)
+unlike_so Coarsest v lists are r said = absurd (said.3.not_lossless (always_lossless Coarsest (rules_of v) lists (inl refl) are))
+unlike_so Single v lists are r said = absurd (said.3.not_lossless (always_lossless Single (rules_of v) lists (inr refl) are))
 
--- the first unlike pair of a grouping's classes, as it is said of the game that they are of
-pub is_unlike : (grouping : Grouping) (v : FileGame) (g : Game) (d : DeckValue) (lists : ClassLists) (parents : List (List ℕ)) (round first second : ℕ)
-    → g ≡ rules_of v → d ≡ v.deck
-    → IsGrouping grouping g lists → parents ≡ (frame_of g).parents → (lists ≡ single_classes parents → ⊥) → (IsLossless (frame_of g) lists → ⊥)
-    → IsFirstUnlike (frame_of g) lists round first second
-    → SaysNotLossless grouping v (Refuses (Unlike_pair round (signal_text d (signal_at g round first)) (signal_text d (signal_at g round second))))
-is_unlike grouping v g d lists parents round first second of_game of_deck are of_parents single lossless unlike =
-    let written : (n : ℕ) → signal_text d (signal_at g round n) ≡ signal_text v.deck (signal_at (rules_of v) round n) =
-    (λ n. ap (λ (x : DeckValue). signal_text x (signal_at g round n)) of_deck ∙ ap (λ (x : Game). signal_text v.deck (signal_at x round n)) of_game) in
-    unlike_so grouping v lists round first second (signal_text d (signal_at g round first)) (signal_text d (signal_at g round second))
-    (subst (λ (x : Game). IsGrouping grouping x lists) of_game are)
-    (λ e. single (e ∙ ap single_classes (sym (of_parents ∙ ap (λ x. (frame_of x).parents) of_game))))
-    (λ h. lossless (subst (λ (x : Game). IsLossless (frame_of x) lists) (sym of_game) h))
-    (subst (λ (x : Game). IsFirstUnlike (frame_of x) lists round first second) of_game unlike)
-    (written first)
-    (written second)
+-- so `check` refuses them
+pub check_refuses : (grouping : Grouping) (summary : Bool) (v : FileGame) (lists : ClassLists) → IsGrouping grouping (rules_of v) lists → (r : Reply)
+    → SaysUnlike v lists r → ChecksGame grouping summary v r
+check_refuses grouping summary v lists are (Prints text) said = absurd (let e = said.4 in cc)
+check_refuses grouping summary v lists are (Refuses why) said = unlike_so grouping v lists are (Refuses why) said

@@ -8,8 +8,7 @@ ghost use Rattle.gs_reply.specs.Replies.{Answers};
 use crate::grouping::{classes_of, lossless_of};
 use crate::telling::told;
 use gs_game::ValidGame;
-use gs_lossless::CheckStop;
-use gs_reply::{Answer, game_or_refusal, unlike};
+use gs_reply::{Answer, game_or_refusal, not_lossless};
 use gs_tree::Signals;
 use gs_words::Grouping;
 use std::alloc::{AllocError, Global};
@@ -29,14 +28,7 @@ fn checked(
     let _rounds = classes.rounds();
     match lossless_of(alloc, &signals, &classes, grouping) {
         Ok(_) => Ok(Answer::Prints(told(alloc, &signals, &classes, summary)?)),
-        Err(
-            CheckStop::Unlike {
-                round,
-                first,
-                second,
-            },
-        ) => unlike(alloc, &signals, round, first, second),
-        Err(CheckStop::Memory) => Err(AllocError),
+        Err(stop) => not_lossless(alloc, &signals, stop),
     }
 }
 

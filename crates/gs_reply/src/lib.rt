@@ -15,7 +15,7 @@ pub use certificates::bad_certificate;
 pub use games::{game_or_refusal, other_game};
 pub use numbers::wrong_number;
 pub use queries::bad_query;
-pub use signals::unlike;
+pub use signals::not_lossless;
 pub use solving::{
     many_cells, many_pivots, many_raw_cells, many_sequences, many_table_numbers, overflow_at_step,
     overflow_of_total, too_large,

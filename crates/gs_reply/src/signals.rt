@@ -1,16 +1,19 @@
 //! Refusals of classes.
 
 ghost use Rattle.std.specs.Prelude.{◌≡◌, ◌<◌, ◌≤◌, IfOk, length};
-ghost use Rattle.gs_model.specs.{Game.{round_count}, Signals.{signal_at, signals as signals_in}};
-ghost use Rattle.gs_reply.specs.{Refusals.{Unlike_pair}, Replies.{Tells}};
+ghost use Rattle.gs_file.specs.Views.{valid_view};
+ghost use Rattle.gs_lossless.specs.Stops.{IsUnlike, IsUnlikeIn};
+ghost use Rattle.gs_model.specs.{Classes.{ClassLists}, Frame.{frame_of}, Game.{round_count}, Lossless.{IsLossless}, Signals.{signal_at, signals as signals_in}};
+ghost use Rattle.gs_reply.specs.{Refusals.{Unlike_pair}, Replies.{Answers, Tells}, Troubles.{SaysUnlike}};
 ghost use Rattle.gs_tree.specs.{Texts.{signal_text}, Trees.{deck_of, rules_of}};
 
 use crate::answers::{Answer, Cause};
+use gs_lossless::CheckStop;
 use gs_tree::Signals;
 use std::alloc::{AllocError, Global};
 
-/// The refusal of classes in which two signals of a round are unlike.
-pub fn unlike(
+// The refusal of classes in which two signals of a round are unlike.
+fn unlike(
     alloc: Global,
     signals: &Signals,
     round: u8,
@@ -34,4 +37,20 @@ pub fn unlike(
         cause,
         line: line.into_bytes(),
     })
+}
+
+/// The refusal of classes that are not lossless, by their first unlike pair.
+pub fn not_lossless(alloc: Global, signals: &Signals, stop: CheckStop) -> Result<Answer, AllocError>
+    requires { (lists : ClassLists) × IsUnlikeIn (frame_of (rules_of signals.now)) lists stop }
+    ensures { IfOk result (λ a. (lists : ClassLists) → IsUnlikeIn (frame_of (rules_of signals.now)) lists stop
+        → (IsUnlike stop → IsLossless (frame_of (rules_of signals.now)) lists → ⊥) → Answers (SaysUnlike (valid_view signals.now.game.now) lists) a) }
+{
+    match stop {
+        CheckStop::Unlike {
+            round,
+            first,
+            second,
+        } => unlike(alloc, signals, round, first, second),
+        CheckStop::Memory => Err(AllocError),
+    }
 }

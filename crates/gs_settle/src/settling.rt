@@ -12,8 +12,8 @@ use crate::solving::solved;
 use crate::tasks::Task;
 use gs_game::ValidGame;
 use gs_group::{classes_of, lossless_of};
-use gs_lossless::{CheckStop, Lossless};
-use gs_reply::{Answer, game_or_refusal, too_large, unlike};
+use gs_lossless::Lossless;
+use gs_reply::{Answer, game_or_refusal, not_lossless, too_large};
 use gs_seq::Abstract;
 use gs_tree::Signals;
 use gs_words::Grouping;
@@ -57,14 +57,7 @@ fn over_game(
     let classes = classes_of(alloc, &signals, grouping)?;
     match lossless_of(alloc, &signals, &classes, grouping) {
         Ok(lossless) => over_classes(alloc, &lossless, task),
-        Err(
-            CheckStop::Unlike {
-                round,
-                first,
-                second,
-            },
-        ) => unlike(alloc, &signals, round, first, second),
-        Err(CheckStop::Memory) => Err(AllocError),
+        Err(stop) => not_lossless(alloc, &signals, stop),
     }
 }
 
