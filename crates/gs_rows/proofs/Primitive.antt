@@ -46,7 +46,7 @@ over_abs g (pos n) d = mul-div_cancel' g d
 over_abs g (negsuc n) d = let e : g * (suc n / g) ≡ suc n = mul-div_cancel' g d in
     let f : unsigned_abs (neg_ℤ (pos (suc n / g))) ≡ suc n / g = omega (arith, ints) in ap (λ t. g * t) f ∙ e
 
-zero_abs : (z : ℤ) → unsigned_abs z ≡ 0 → z ≡ pos 0
+pub zero_abs : (z : ℤ) → unsigned_abs z ≡ 0 → z ≡ pos 0
 zero_abs z e = omega (arith, ints)
 
 -- each row is a positive multiple of a primitive row

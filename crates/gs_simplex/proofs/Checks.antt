@@ -1,8 +1,7 @@
 -- An opening whose pairs were checked one after another, and whose right sides are feasible, is an opening of the program.
-use Rattle.std.proofs.Common.{◌≡◌, ◌≢◌, inl, inr, ℕ, zero, suc, ◌+◌, ◌<◌, ◌≤◌, List, [], ◌∷◌, ◌++◌, length, take, map, Vec, vec_items, Global, get_or, slice_index_or, ℤ, pos, neg_ℤ, ◌+ℤ◌, ◌*ℤ◌, refl, sym, ap, subst, ◌∙◌, arith}
+use Rattle.std.proofs.Common.{◌≡◌, ◌≢◌, inl, inr, ℕ, zero, suc, ◌+◌, ◌<◌, ◌≤◌, List, [], ◌∷◌, ◌++◌, length, take, slice_index_or, ℤ, pos, neg_ℤ, ◌+ℤ◌, ◌*ℤ◌, refl, sym, ap, subst, ◌∙◌, arith}
 use Rattle.std.proofs.lemmas.Bool.{cases_eq}
-use Rattle.std.proofs.lemmas.List.{get_or_default, length-map, length-take-le, get_or-take, take_more}
-use Rattle.std.proofs.Math.ListN.{get_or-map}
+use Rattle.std.proofs.lemmas.List.{length-take-le, get_or-take, take_more}
 use Rattle.std.proofs.Math.Seq.{take-length}
 use Rattle.gs_rows.specs.declared.Program.{Program}
 use Rattle.gs_rows.specs.Sums.{sum_to}
@@ -13,14 +12,9 @@ use Rattle.gs_rows.proofs.Solutions.{basic_exists}
 use Rattle.gs_rows.proofs.Laws.{end_feasible}
 use Rattle.gs_rows.proofs.Bases.{IsFull, from_cols, col_of, table_of, state_of}
 use Rattle.gs_rows.proofs.Opening.{IsOpened}
-use Rattle.gs_rows.proofs.PairLists.{place_of, listed_at, whole_opened, opened_pair_list}
+use Rattle.gs_rows.proofs.PairLists.{less_one, place_of, listed_at, whole_opened, opened_pair_list}
 use Rattle.gs_simplex.specs.Table.{table_rows, table_aim, IsTableAfter}
 use Rattle.gs_simplex.specs.Conditions.{IsNewPair, CanTakeAt, IsTaken, HasFeasibleSides}
-
-pub vec_at : (rows : List (Vec ℤ Global)) (i : ℕ) (v : Vec ℤ Global) → i < length rows → v ≡ get_or rows i v
-    → v.items ≡ slice_index_or (map vec_items rows) i []
-vec_at rows i v h e = ap vec_items e ∙ sym (get_or-map vec_items rows i v)
-    ∙ get_or_default (map vec_items rows) i v.items [] (omega (arith, length-map rows vec_items))
 
 -- the front of a front
 take_take : {X : Type 0} (xs : List X) (k t : ℕ) → k ≤ t → take k (take t xs) ≡ take k xs
@@ -96,9 +90,6 @@ module _ (p : Program) (o : Listing) (xs : List ℤ) (u : IsTaken p o (length o)
     × ((slice_index_or o k (0, 0)).1 ≡ j + 1)) (sides : HasFeasibleSides p o (table_rows p xs)) where
   is_opened : IsOpened p o
   is_opened = whole_opened p o u.taken
-
-  less_one : (a b : ℕ) → a + 1 ≡ b + 1 → a ≡ b
-  less_one a b e = omega arith
 
   row_named : (i : ℕ) → i < p.rows → RowListed o i
   row_named i h =

@@ -5,7 +5,7 @@ use Rattle.gs_rows.specs.Program.{Listing, IsListed, IsFree}
 use Rattle.gs_rows.specs.Path.{NoneLeaves}
 use Rattle.gs_rows.proofs.Ring.{ring, linear, times_pos, cancel, cancel_pos}
 use Rattle.gs_rows.proofs.Circle.{cross_trans}
-use Rattle.gs_rows.proofs.PairLists.{place_of, listed_at}
+use Rattle.gs_rows.proofs.PairLists.{less_one, place_of, listed_at}
 use Rattle.gs_simplex.specs.declared.choice.Ratio.{Ratio}
 use Rattle.gs_simplex.specs.Choice.{Before, NotAfter, IsRatio, IsNoRatio, IsRatioAt, IsBetter, IsLeast, IsLeastSoFar, IsLeaving}
 
@@ -87,9 +87,6 @@ one_more p l rows e count (Some b) (Some n) found u w v =
     ]
 
 -- ---- what is found among all places
-less_one : (a b : ℕ) → a + 1 ≡ b + 1 → a ≡ b
-less_one a b e = omega arith
-
 same_pair : (l : Listing) (k i j r c : ℕ) (h : IsListed l i j) → h.0 ≡ k → slice_index_or l k (0, 0) ≡ (r + 1, c + 1) → (r ≡ i) × (c ≡ j)
 same_pair l k i j r c h s e =
     let q : (r + 1, c + 1) ≡ (i + 1, j + 1) = sym e ∙ ap (λ x. slice_index_or l x (0, 0)) (sym s) ∙ place_of l i j h in

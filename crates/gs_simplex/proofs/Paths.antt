@@ -16,7 +16,7 @@ use Rattle.gs_rows.proofs.Opening.{opened}
 use Rattle.gs_rows.proofs.Extend.{upto, upto_new, path_opens, path_turns}
 use Rattle.gs_rows.proofs.Agree.{Agree, enters_same, leaves_same, lists_same, paths_agree}
 use Rattle.gs_rows.proofs.Exists.{take_nonzero}
-use Rattle.gs_rows.proofs.PairLists.{pair_list_is_list, pair_list_is_once, opened_pair_list, changed_pair_list}
+use Rattle.gs_rows.proofs.PairLists.{less_one, pair_list_is_list, pair_list_is_once, opened_pair_list, changed_pair_list}
 use Rattle.gs_simplex.specs.Numbers.{at, cell}
 use Rattle.gs_simplex.specs.Table.{table_rows, table_aim, IsTable, IsPrimitiveTable, IsTableAfter, stated, IsWideAfter}
 use Rattle.gs_simplex.specs.State.{IsSoFar, IsPivoted, IsWidePivot}
@@ -243,9 +243,6 @@ none_of None P Q e h = h
 none_of (Some x) P Q e h = absurd (cc)
 
 -- ---- a step of the opening
-less_one : (a b : ℕ) → a + 1 ≡ b + 1 → a ≡ b
-less_one a b e = omega arith
-
 can_take_at : (p : Program) (o : Listing) (t r c : ℕ) → IsTakenInTurn p o → t < length o → slice_index_or o t (0, 0) ≡ (r + 1, c + 1)
     → CanTake p (take t o) r c
 can_take_at p o t r c taken h at =

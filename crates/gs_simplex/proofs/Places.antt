@@ -1,16 +1,27 @@
 -- Numbers of rows that stand one after the other in one list, and what is at each place after a part was written.
-use Rattle.std.proofs.Common.{◌≡◌, ◌≢◌, ℕ, suc, ◌+◌, ◌-◌, ◌*◌, ◌<◌, ◌≤◌, ◌⊎◌, inl, inr, List, ◌++◌, length, take, drop, ℤ, pos, ◌-ℤ◌, ◌*ℤ◌, unsigned_abs, refl, sym, ap, subst, ◌∙◌, arith}
+use Rattle.std.proofs.Common.{◌≡◌, ◌≢◌, ℕ, suc, ◌+◌, ◌-◌, ◌*◌, ◌<◌, ◌≤◌, ◌⊎◌, inl, inr, List, [], ◌++◌, length, take, drop, map, Vec, vec_items, Global, get_or, slice_index_or, ℤ, pos, ◌-ℤ◌, ◌*ℤ◌, unsigned_abs, refl, sym, ap, subst, ◌∙◌, arith}
 use Prim.Native.Nat.{◌∣◌}
 use borrow.Rule.Slice.PartMut.{put_mid}
 use Rattle.std.proofs.lemmas.Bool.{cases_order, cases_lt}
-use Rattle.std.proofs.lemmas.List.{get_or_append_left, get_or-append_right, get_or-drop, get_or-take, length-take-le, length-append, length-drop}
+use Rattle.std.proofs.lemmas.List.{get_or_append_left, get_or-append_right, get_or_default, get_or-drop, get_or-take, length-take-le, length-append, length-drop, length-map}
+use Rattle.std.proofs.Math.ListN.{get_or-map}
 use Rattle.std.proofs.Math.Nat.{mul-le-mul_left}
 use Rattle.gs_rows.specs.Rows.{IsNarrow, IsPrimitive}
-use Rattle.gs_simplex.specs.Numbers.{at, AllNarrow, IsReduced, IsReducedTo, IsDivided}
+use Rattle.gs_simplex.specs.Numbers.{at, cell, AllNarrow, IsReduced, IsReducedTo, IsDivided}
+
+-- the numbers of a row of a list of rows
+pub vec_at : (rows : List (Vec ℤ Global)) (i : ℕ) (v : Vec ℤ Global) → i < length rows → v ≡ get_or rows i v
+    → v.items ≡ slice_index_or (map vec_items rows) i []
+vec_at rows i v h e = ap vec_items e ∙ sym (get_or-map vec_items rows i v)
+    ∙ get_or_default (map vec_items rows) i v.items [] (omega (arith, length-map rows vec_items))
 
 -- a number of a part of a list
 pub at_part : (xs : List ℤ) (a n j : ℕ) → j < n → at (take n (drop a xs)) j ≡ at xs (a + j)
 at_part xs a n j h = get_or-take n (drop a xs) j (pos 0) h ∙ get_or-drop a xs j (pos 0)
+
+-- a part that begins at `start` and ends `width` places behind it
+pub part_long : (xs : List ℤ) (start width n : ℕ) → n ≡ start + width - start → start + width ≤ length xs → length (take n (drop start xs)) ≡ width
+part_long xs start width n e h = length-take-le n (drop start xs) (omega (arith, length-drop start xs)) ∙ (let q : n ≡ width = omega arith in q)
 
 length_front : (xs : List ℤ) (a : ℕ) → a ≤ length xs → length (take a xs) ≡ a
 length_front xs a h = length-take-le a xs h
@@ -103,6 +114,16 @@ row_apart width h i j jw ne = elim (cases_order h i) [
     | inr more ↦ inr (let m : i * width + width ≤ h * width = row_ends h width i more in omega arith)
   ]
 ]
+
+-- where only row i was written, the other rows stay, and those behind it are still the old ones
+pub row_stays : (now new : List ℤ) (width i : ℕ) → ((k : ℕ) → (k < i * width) ⊎ (i * width + width ≤ k) → at new k ≡ at now k) → (h : ℕ) → h ≢ i → (j : ℕ)
+    → j < width → cell new width h j ≡ cell now width h j
+row_stays now new width i others h ne j jw = others (h * width + j) (row_apart width h i j jw ne)
+
+pub rows_left : (old now new : List ℤ) (width i : ℕ) → ((k : ℕ) → (k < i * width) ⊎ (i * width + width ≤ k) → at new k ≡ at now k)
+    → ((h : ℕ) → i ≤ h → (j : ℕ) → j < width → cell now width h j ≡ cell old width h j)
+    → (h : ℕ) → i + 1 ≤ h → (j : ℕ) → j < width → cell new width h j ≡ cell old width h j
+rows_left old now new width i others left h l j jw = row_stays now new width i others h (λ e. omega arith) j jw ∙ left h (omega arith) j jw
 
 pub divided_same : (width : ℕ) (old old' new new' : ℕ → ℤ) → 0 < width → ((j : ℕ) → j < width → old j ≡ old' j) → ((j : ℕ) → j < width → new j ≡ new' j)
     → IsDivided width old new → IsDivided width old' new'

@@ -9,7 +9,7 @@ use Rattle.std.proofs.Math.Nat.{eq-one_of_dvd-one, one-dvd, eq-zero_of_zero-dvd,
 use Rattle.gs_rows.specs.Rows.{IsNarrow, IsPrimitive}
 use Rattle.gs_rows.proofs.Ring.{ring, linear, one_times, times_pos, times_times, cancel, cancel_zero}
 use Rattle.gs_rows.proofs.Sums.{cases_last}
-use Rattle.gs_rows.proofs.Primitive.{over, over_times}
+use Rattle.gs_rows.proofs.Primitive.{over, over_times, zero_abs}
 use Rattle.gs_simplex.specs.Numbers.{at, AllNarrow, IsDivisor, IsShared, IsQuotient, IsWideQuotient, IsReduced, IsReducedTo, IsDivided}
 
 -- one more number among those divided, which may be 0
@@ -29,9 +29,6 @@ one_of_all f i count d few e u = record {
   greatest = λ k h. let P : ℕ → Type 0 = λ t. k ∣ t in subst P e (u.greatest k (λ j l. h j (omega arith)));
 }
 
-abs_zero : (z : ℤ) → unsigned_abs z ≡ 0 → z ≡ pos 0
-abs_zero z e = omega (arith, ints)
-
 -- a number other than 0, or zeros all along
 some_nonzero : (n : ℕ) (f : ℕ → ℤ) → ((j : ℕ) × (j < n) × (unsigned_abs (f j) ≡ 0 → ⊥)) ⊎ ((j : ℕ) → j < n → f j ≡ pos 0)
 some_nonzero zero f = inr (λ j h. absurd (omega arith))
@@ -39,12 +36,12 @@ some_nonzero (suc n) f = elim (cases_eq (unsigned_abs (f n)) 0) [
   | inr ne ↦ inl (n, omega arith, ne)
   | inl e ↦ elim (some_nonzero n f) [
     | inl w ↦ inl (w.0, omega (arith, w.1), w.2)
-    | inr z ↦ inr (λ j h. elim (cases_last j n h) [ inl l ↦ z j l | inr s ↦ ap f s ∙ abs_zero (f n) e ])
+    | inr z ↦ inr (λ j h. elim (cases_last j n h) [ inl l ↦ z j l | inr s ↦ ap f s ∙ zero_abs (f n) e ])
   ]
 ]
 
 zero_divides : (d count : ℕ) (f : ℕ → ℤ) → IsDivisor count f d → d ≡ 0 → (j : ℕ) → j < count → f j ≡ pos 0
-zero_divides d count f u e j h = abs_zero (f j) (eq-zero_of_zero-dvd (let P : ℕ → Type 0 = λ t. t ∣ unsigned_abs (f j) in subst P e (u.divides j h)))
+zero_divides d count f u e j h = zero_abs (f j) (eq-zero_of_zero-dvd (let P : ℕ → Type 0 = λ t. t ∣ unsigned_abs (f j) in subst P e (u.divides j h)))
 
 pub divisor_small : (d count bound : ℕ) (f : ℕ → ℤ) → IsDivisor count f d → ((j : ℕ) → j < count → unsigned_abs (f j) ≤ bound) → d ≤ bound
 divisor_small d count bound f u h = elim (some_nonzero count f) [

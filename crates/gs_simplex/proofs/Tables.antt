@@ -11,6 +11,7 @@ use Rattle.gs_rows.specs.Path.{IsFirstWide}
 use Rattle.gs_rows.proofs.Ring.{linear, times_zero, times_neg, cancel_zero}
 use Rattle.gs_rows.proofs.Pivot.{primitive_same}
 use Rattle.gs_rows.proofs.Exists.{elimination_exists}
+use Rattle.gs_rows.proofs.Primitive.{zero_abs}
 use Rattle.gs_simplex.specs.Numbers.{at, cell, IsReduced, IsTurned, IsCleared, IsClearedTo}
 use Rattle.gs_simplex.specs.Table.{table_rows, table_aim, IsTable, IsPrimitiveTable, IsTableAfter, stated, IsWideAfter}
 use Rattle.gs_simplex.proofs.Places.{primitive_same_row, reduced_same, row_apart}
@@ -56,12 +57,9 @@ flipped_abs n f j = elim (cases_eq j n) [
   | inr ne ↦ ap unsigned_abs (flipped_other n f j ne)
 ]
 
-zero_from_abs : (z : ℤ) → unsigned_abs z ≡ 0 → z ≡ pos 0
-zero_from_abs z e = omega (arith, ints)
-
 pub primitive_flipped : (n last : ℕ) (f g : ℕ → ℤ) → ((j : ℕ) → unsigned_abs (g j) ≡ unsigned_abs (f j)) → IsPrimitive last f → IsPrimitive last g
 primitive_flipped n last f g e u = elim u.form [
-  | inl z ↦ record { form = inl (λ j h. zero_from_abs (g j) (e j ∙ ap unsigned_abs (z j h))) }
+  | inl z ↦ record { form = inl (λ j h. zero_abs (g j) (e j ∙ ap unsigned_abs (z j h))) }
   | inr d ↦ record { form = inr (λ k h. d k (λ j l. let P : ℕ → Type 0 = λ t. k ∣ t in subst P (e j) (h j l))) }
 ]
 

@@ -1,12 +1,8 @@
-use Rattle.std.proofs.Common.{◌≡◌, ℕ, ◌+◌, ◌-◌, ◌<◌, ◌≤◌, ℤ, length, List, take, drop, refl, sym, subst, ◌∙◌, arith}
+use Rattle.std.proofs.Common.{◌≡◌, ℕ, ◌+◌, ◌-◌, ◌<◌, ◌≤◌, ℤ, length, List, take, drop, refl, sym, subst, arith}
 use borrow.Rule.Slice.PartMut.{put_mid}
-use Rattle.std.proofs.lemmas.List.{length-drop, length-take-le}
 use Rattle.gs_simplex.specs.Numbers.{at, IsDivided}
-use Rattle.gs_simplex.proofs.Places.{at_part, length_put, at_put_inside, narrow_put, divided_same}
+use Rattle.gs_simplex.proofs.Places.{at_part, part_long, length_put, at_put_inside, narrow_put, divided_same}
 use Rattle.gs_simplex.proofs.start.divide_at.Goals as goal
-
-part_long : (xs : List ℤ) (start width n : ℕ) → n ≡ start + width - start → start + width ≤ length xs → length (take n (drop start xs)) ≡ width
-part_long xs start width n e h = length-take-le n (drop start xs) (omega (arith, length-drop start xs)) ∙ (let q : n ≡ width = omega arith in q)
 
 divided : (xs ys : List ℤ) (start w n : ℕ) → n ≡ start + w - start → start + w ≤ length xs → length ys ≡ n → 0 < w → IsDivided (length (take n (drop start xs))) (at (take n (drop start xs))) (at ys)
     → IsDivided w (λ j. at xs (start + j)) (λ j. at (put_mid start n xs ys) (start + j))

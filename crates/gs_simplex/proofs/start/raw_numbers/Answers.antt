@@ -1,12 +1,11 @@
-use Rattle.std.proofs.Common.{◌≡◌, inl, inr, ℕ, ◌+◌, ◌-◌, ◌*◌, ◌<◌, ◌≤◌, List, [], ◌∷◌, ◌++◌, ℤ, pos, length, map, Vec, vec_items, Global, get_or, slice_index_or, sym, ap, subst, ◌∙◌, arith}
+use Rattle.std.proofs.Common.{◌≡◌, inl, inr, ℕ, ◌+◌, ◌-◌, ◌*◌, ◌<◌, ◌≤◌, List, [], ◌∷◌, ◌++◌, ℤ, pos, length, map, Vec, vec_items, Global, slice_index_or, sym, ap, subst, ◌∙◌, arith}
 use Rattle.std.proofs.lemmas.Bool.{cases_eq}
-use Rattle.std.proofs.lemmas.List.{get_or_append_left, get_or-append_right, length-append, get_or_default, length-map}
-use Rattle.std.proofs.Math.ListN.{get_or-map}
+use Rattle.std.proofs.lemmas.List.{get_or_append_left, get_or-append_right, length-append}
 use Rattle.gs_rows.specs.declared.Program.{Program}
 use Rattle.gs_rows.specs.Program.{number, aim_of, rows_of, IsShaped}
 use Rattle.gs_simplex.specs.Numbers.{at, cell}
 use Rattle.gs_simplex.specs.State.{IsRaw}
-use Rattle.gs_simplex.proofs.Places.{row_inside}
+use Rattle.gs_simplex.proofs.Places.{row_inside, vec_at}
 use Rattle.gs_simplex.proofs.start.raw_numbers.Goals as goal
 
 -- rows with one more behind them
@@ -26,10 +25,6 @@ module _ (xs row ys : List ℤ) (z : ℤ) (n w : ℕ) (is : ys ≡ xs ++ row ++ 
   more_last j h =
       ap (λ t. at t (n * w + j)) is ∙ get_or-append_right (xs ++ row) (z ∷ []) (n * w + j) (n * w + j) (pos 0) (omega (arith, length-append xs row)) (omega arith)
       ∙ ap (at (z ∷ [])) (let q : n * w + j - (n * w + j) ≡ 0 = omega arith in q)
-
-vec_at : (rows : List (Vec ℤ Global)) (i : ℕ) (v : Vec ℤ Global) → i < length rows → v ≡ get_or rows i v → v.items ≡ slice_index_or (map vec_items rows) i []
-vec_at rows i v h e =
-    ap vec_items e ∙ sym (get_or-map vec_items rows i v) ∙ get_or_default (map vec_items rows) i v.items [] (omega (arith, length-map rows vec_items))
 
 -- one more row of the program
 module _ (p : Program) (xs row ys : List ℤ) (n : ℕ) (nm : n < p.rows) (shaped : IsShaped p) (is : ys ≡ xs ++ row ++ (pos 0 ∷ [])) (long : length xs ≡ n * (p.cols + 2)) (here : row ≡ slice_index_or (rows_of p) n [])

@@ -1,8 +1,9 @@
-use Rattle.std.proofs.Common.{◌≡◌, ◌≢◌, MatchOption, Option, Some, None, ◌⊎◌, ℕ, ◌+◌, ◌-◌, ◌*◌, ◌<◌, ◌≤◌, ℤ, List, length, slice_index, refl, sym, subst, ◌∙◌, arith, below_more, get_or-set_other}
+use Rattle.std.proofs.Common.{◌≡◌, ◌≢◌, ◌⊎◌, ℕ, ◌+◌, ◌-◌, ◌*◌, ◌<◌, ◌≤◌, ℤ, List, length, slice_index, refl, sym, subst, ◌∙◌, arith, below_more, get_or-set_other}
 use Rattle.gs_simplex.specs.Numbers.{at, cell, AllNarrow, IsReduced, IsReducedTo, IsClearedTo}
 use Rattle.gs_simplex.proofs.Fits.{kept_128}
 use Rattle.gs_simplex.proofs.Lives.{support_same, support_of}
-use Rattle.gs_simplex.proofs.Places.{primitive_same_row, reduced_same, reduced_to_same, row_ends, row_apart}
+use Rattle.gs_simplex.proofs.Paths.{none_of}
+use Rattle.gs_simplex.proofs.Places.{primitive_same_row, reduced_same, reduced_to_same, row_stays, rows_left}
 use Rattle.gs_simplex.proofs.table.clear_column.Goals as goal
 
 pub loop-i-preserved-then-i-lead : goal.loop-i-preserved-then-i-lead
@@ -58,23 +59,13 @@ module _ (old now new : List ℤ) (lead : ℕ → ℤ) (count w r c i : ℕ) (cw
     (kept : (j : ℕ) → j < w → cell now w r j ≡ cell old w r j)
     (others : (k : ℕ) → (k < i * w) ⊎ (i * w + w ≤ k) → at new k ≡ at now k)
     (here : IsReduced lead c w (cell now w i) (cell new w i)) where
-  stays : (h : ℕ) → h ≢ i → (j : ℕ) → j < w → cell new w h j ≡ cell now w h j
-  stays h d j jw = others (h * w + j) (row_apart w h i j jw d)
-
   done_more : (h : ℕ) → h < i + 1 → h ≢ r → IsReduced lead c w (cell old w h) (cell new w h)
   done_more = below_more (λ h. h ≢ r → IsReduced lead c w (cell old w h) (cell new w h)) i
-      (λ h l d. reduced_same lead lead c w (cell old w h) (cell old w h) (cell now w h) (cell new w h) cw (λ j jw. refl) (λ j jw. refl) (λ j jw. sym (stays h (λ e. omega arith) j jw)) (done h l d))
+      (λ h l d. reduced_same lead lead c w (cell old w h) (cell old w h) (cell now w h) (cell new w h) cw (λ j jw. refl) (λ j jw. refl) (λ j jw. sym (row_stays now new w i others h (λ e. omega arith) j jw)) (done h l d))
       (λ d. reduced_same lead lead c w (cell now w i) (cell old w i) (cell new w i) (cell new w i) cw (λ j jw. refl) (λ j jw. left i (omega arith) j jw) (λ j jw. refl) here)
 
-  left_more : (h : ℕ) → i + 1 ≤ h → (j : ℕ) → j < w → cell new w h j ≡ cell old w h j
-  left_more h l j jw = stays h (λ e. omega arith) j jw ∙ left h (omega arith) j jw
-
   kept_more : (j : ℕ) → j < w → cell new w r j ≡ cell old w r j
-  kept_more j jw = stays r (λ e. ne (sym e)) j jw ∙ kept j jw
-
-none_of : {X : Type 0} (r : Option X) (P : Type 0) (Q : X → Type 0) → r ≡ None → MatchOption r P Q → P
-none_of None P Q e h = h
-none_of (Some x) P Q e h = absurd (cc)
+  kept_more j jw = row_stays now new w i others r (λ e. ne (sym e)) j jw ∙ kept j jw
 
 pub loop-i-preserved : goal.loop-i-preserved
 loop-i-preserved c =
@@ -87,7 +78,7 @@ loop-i-preserved c =
     record {
       width = refl;
       done = done_more old now new row count w lead.row lead.column i lead.inside c.if-i-lead.false v.done v.left v.kept c.reduce_at.ensures.others a.0;
-      left = left_more old now new row count w lead.row lead.column i lead.inside c.if-i-lead.false v.done v.left v.kept c.reduce_at.ensures.others a.0;
+      left = rows_left old now new w i c.reduce_at.ensures.others v.left;
       kept = kept_more old now new row count w lead.row lead.column i lead.inside c.if-i-lead.false v.done v.left v.kept c.reduce_at.ensures.others a.0;
       narrow = a.1;
       places = λ k h. get_or-set_other c.loop-i.places 0 k (slice_index c.args.owns.now i) 0 (λ e. omega arith) ∙ v.places k h;

@@ -1,14 +1,10 @@
-use Rattle.std.proofs.Common.{◌≡◌, MatchOption, Option, Some, None, ◌⊎◌, inl, inr, ℕ, ◌+◌, ◌-◌, ◌<◌, ◌≤◌, ℤ, length, List, take, drop, refl, sym, ◌∙◌, arith}
+use Rattle.std.proofs.Common.{◌≡◌, MatchOption, Option, Some, None, ◌⊎◌, inl, inr, ℕ, ◌+◌, ◌-◌, ◌<◌, ◌≤◌, ℤ, length, List, take, drop, refl, sym, arith}
 use borrow.Rule.Slice.PartMut.{put_mid}
-use Rattle.std.proofs.lemmas.List.{length-drop, length-take-le}
 use Rattle.gs_simplex.specs.declared.row.WideNumber.{WideNumber}
 use Rattle.gs_simplex.specs.Numbers.{at, AllNarrow, IsReduced, IsReducedTo}
 use Rattle.gs_simplex.proofs.Lives.{support_same}
-use Rattle.gs_simplex.proofs.Places.{at_part, length_put, at_put_below, at_put_inside, at_put_above, narrow_put, primitive_same_row, reduced_same, reduced_to_same}
+use Rattle.gs_simplex.proofs.Places.{at_part, part_long, length_put, at_put_below, at_put_inside, at_put_above, narrow_put, primitive_same_row, reduced_same, reduced_to_same}
 use Rattle.gs_simplex.proofs.table.reduce_at.Goals as goal
-
-part_long : (xs : List ℤ) (start width n : ℕ) → n ≡ start + width - start → start + width ≤ length xs → length (take n (drop start xs)) ≡ width
-part_long xs start width n e h = length-take-le n (drop start xs) (omega (arith, length-drop start xs)) ∙ (let q : n ≡ width = omega arith in q)
 
 pub reduce_row-requires-clause-primitive : goal.reduce_row-requires-clause-primitive
 reduce_row-requires-clause-primitive c =

@@ -1,6 +1,6 @@
 use Rattle.std.proofs.Common.{List, [], ℤ, map, vec_items, slice_index_or, refl, subst, ◌∙◌, arith, below_more}
 use Rattle.gs_simplex.specs.Conditions.{IsWideRow}
-use Rattle.gs_simplex.proofs.Checks.{vec_at}
+use Rattle.gs_simplex.proofs.Places.{vec_at}
 use Rattle.gs_simplex.proofs.tests.all_rows.Goals as goal
 
 pub loop-row-preserved : goal.loop-row-preserved

@@ -6,9 +6,6 @@ use Rattle.gs_simplex.specs.Live.{ArePlaces, IsFound}
 use Rattle.gs_simplex.proofs.Lives.{live_row, all_live}
 use Rattle.gs_simplex.proofs.live.Live.find.Goals as goal
 
-taken : (n : ℕ) (xs ys : List ℕ) → length xs ≡ n → take n (xs ++ ys) ≡ xs
-taken n xs ys e = take_at xs ys n e
-
 -- what is found, of lists that are equal
 found_of : (p : Program) (l : Listing) (r found : ℕ) (rows rows' places places' owns owns' : List ℕ) → IsPairList p l → ((i j : ℕ) → IsListed l i j → slice_index rows j ≡ i + 1) → ((j : ℕ) → j < p.cols → (ColListed l j → ⊥) → slice_index rows j ≡ 0)
     → rows' ≡ rows → ArePlaces p.cols rows' r places found → length places ≡ p.cols + 2 → length owns ≡ p.rows + 1 → ((i j : ℕ) → IsListed l i j → slice_index owns i ≡ j) → ((i : ℕ) → i ≤ p.rows → (RowListed l i → ⊥) → slice_index owns i ≡ p.cols + 1)
@@ -37,6 +34,6 @@ returns-clause-found c =
     let owns_long : length owns ≡ self.owns.len = omega (arith, c.note_owns.auto.owns, c.deref_mut-2.ensures.len) in
     let places_long : length places ≡ self.places.len = omega (arith, c.find_places.auto.places, c.deref_mut-3.ensures.len) in
     found_of p c.args.basis.now c.args.r c.find_places.result rows c.deref.result.now places (take self.places.len (places ++ drop (length places) self.places.items)) owns (take self.owns.len (owns ++ drop (length owns) self.owns.items))
-    c.requires.pairs c.note_rows.ensures.listed c.note_rows.ensures.unlisted (c.deref.ensures.value ∙ taken self.rows.len rows (drop (length rows) self.rows.items) rows_long) c.find_places.ensures
+    c.requires.pairs c.note_rows.ensures.listed c.note_rows.ensures.unlisted (c.deref.ensures.value ∙ take_at rows (drop (length rows) self.rows.items) self.rows.len rows_long) c.find_places.ensures
     (omega (arith, places_long, room.places)) (omega (arith, owns_long, room.owns)) c.note_owns.ensures.listed c.note_owns.ensures.unlisted
-    (taken self.places.len places (drop (length places) self.places.items) places_long) (taken self.owns.len owns (drop (length owns) self.owns.items) owns_long)
+    (take_at places (drop (length places) self.places.items) self.places.len places_long) (take_at owns (drop (length owns) self.owns.items) self.owns.len owns_long)

@@ -12,9 +12,6 @@ pub divide_rows-requires-clause-narrow : goal.divide_rows-requires-clause-narrow
 divide_rows-requires-clause-narrow c =
     let P : List ℤ → Type 0 = λ x. AllNarrow x in subst P (sym c.deref_mut.ensures.value) (raw_narrow c.args.p.now c.in_ok-numbers.numbers.items c.requires.shaped c.in_ok-numbers.ensures)
 
-taken : (n : ℕ) (xs ys : List ℤ) → length xs ≡ n → take n (xs ++ ys) ≡ xs
-taken n xs ys e = take_at xs ys n e
-
 -- the same facts of lists that are equal
 from_lists : (p : Program) (raw raw' new new' : List ℤ) (w : ℕ) → IsShaped p → IsRaw p raw → raw' ≡ raw → new' ≡ new → w ≡ p.cols + 2 → length new ≡ length raw'
     → ((i : ℕ) → i < p.rows → IsDivided w (cell raw' w i) (cell new w i)) → ((j : ℕ) → j < w → cell new w p.rows j ≡ cell raw' w p.rows j) → AllNarrow new
@@ -32,5 +29,5 @@ returns c =
     let p = c.args.p.now in let new = c.divide_rows.new.numbers in let n = c.in_ok-numbers.numbers.len in
     let long : length new ≡ n = omega (arith, c.divide_rows.auto.numbers, c.deref_mut.ensures.len) in
     let f = from_lists p c.in_ok-numbers.numbers.items c.deref_mut.result.now new (take n (new ++ drop (length new) c.in_ok-numbers.numbers.items)) (p.cols + 2) c.requires.shaped c.in_ok-numbers.ensures c.deref_mut.ensures.value
-    (taken n new (drop (length new) c.in_ok-numbers.numbers.items) long) refl c.divide_rows.auto.numbers c.divide_rows.ensures.divided c.divide_rows.ensures.last c.divide_rows.ensures.narrow in
+    (take_at new (drop (length new) c.in_ok-numbers.numbers.items) n long) refl c.divide_rows.auto.numbers c.divide_rows.ensures.divided c.divide_rows.ensures.last c.divide_rows.ensures.narrow in
     record { room = record { lead = c.in_ok-lead.ensures.len; mixed = c.in_ok-mixed.ensures.len; live = c.in_ok-live.ensures }; table = f.0; rows = f.1 }
