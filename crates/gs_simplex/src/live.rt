@@ -18,7 +18,7 @@ pub(crate) struct Live {
     pub(crate) places: Vec<u32>,
     /// For each row its own column.
     pub(crate) owns: Vec<u32>,
-    /// The columns in which the row that is taken is not 0.
+    /// The columns in which the row at hand is not 0: one that is divided at the start, or the one that is taken.
     pub(crate) filled: Vec<u32>,
 }
 

@@ -35,19 +35,8 @@ pub(crate) struct Lead<'a> {
     pub(crate) ghost support: { IsSupport filled.now count (length numbers.now) (at numbers.now) (at numbers.now) },
 }
 
-// The greatest size of a number.
-pub(crate) fn greatest(numbers: &[i64]) -> u64
-    ensures { AllAtMost numbers.now result }
-{
-    let mut most: u64 = 0;
-    for number in numbers {
-        most = most.max(number.unsigned_abs());
-    }
-    most
-}
-
-// The same at the first `found` places.
-fn greatest_at(row: &[i64], places: &[u32], found: usize) -> u64
+// The greatest size of a number at the first `found` places.
+pub(crate) fn greatest(row: &[i64], places: &[u32], found: usize) -> u64
     requires few { found ≤ length places.now }
     requires inside { (k : ℕ) → k < found → slice_index places.now k < length row.now }
     ensures { (k : ℕ) → k < found → unsigned_abs (at row.now (slice_index places.now k)) ≤ result }
@@ -230,24 +219,6 @@ fn narrow_common_divisor(found: Divisor, number: i64) -> Divisor
     }
 }
 
-// The greatest number that divides all of the narrow numbers of `row`, 0 where all are 0.
-fn narrow_divisor(row: &[i64]) -> u64
-    requires { AllNarrow row.now }
-    ensures { IsDivisor (length row.now) (at row.now) result }
-{
-    let mut found = Divisor::of(0);
-    for number in row {
-        if *number == 0 {
-            continue;
-        }
-        found = narrow_common_divisor(found, *number);
-        if found.number.unsigned_abs() == 1 {
-            return 1;
-        }
-    }
-    found.number.unsigned_abs()
-}
-
 // `number` over `by`, which divides it.
 fn quotient(number: i128, by: u128) -> i128
     requires some { 0 < by }
@@ -288,37 +259,9 @@ fn narrow_into(mixed: &[i128], by: u128, row: &mut [i64]) -> Option<WideNumber>
     None
 }
 
-// Divides each number by `by`, which divides it.
-fn divide_all(row: &mut [i64], by: u64)
-    requires some { 0 < by }
-    requires small { by < 2 ^ 62 }
-    requires narrow { AllNarrow row.old }
-    requires divides { (j : ℕ) → j < length row.old → by ∣ unsigned_abs (at row.old j) }
-    ensures { IsQuotient by row.old row.new (length row.old) }
-{
-    let divisor = Divisor::of(by as i64);
-    for j in 0..row.len() {
-        row[j] = guessed_quotient(row[j], by, &divisor);
-    }
-}
-
-// Divides `row` by its greatest common divisor.
-#[tactic(auto, using(crate::proofs::Reduce::divided_row, crate::proofs::Reduce::undivided_row, crate::proofs::Reduce::divisor_narrow))]
-pub(crate) fn divide_row(row: &mut [i64])
-    requires some { 0 < length row.old }
-    requires narrow { AllNarrow row.old }
-    ensures divided { IsDivided (length row.old) (at row.old) (at row.new) }
-    ensures narrow { AllNarrow row.new }
-{
-    let by = narrow_divisor(row);
-    if by > 1 {
-        divide_all(row, by);
-    }
-}
-
 // The greatest number that divides all of a row of narrow numbers that is 0 outside the first `found` places; 0 where all are 0. It begins with the last
 // place: in the programs of games the last columns are the slacks, whose numbers are small, so that 1 is found soon.
-fn divisor_at(row: &[i64], places: &[u32], found: usize) -> u64
+fn narrow_divisor(row: &[i64], places: &[u32], found: usize) -> u64
     requires narrow { AllNarrow row.now }
     requires support { IsSupport places.now found (length row.now) (at row.now) (at row.now) }
     ensures { IsDivisor (length row.now) (at row.now) result }
@@ -338,7 +281,7 @@ fn divisor_at(row: &[i64], places: &[u32], found: usize) -> u64
 }
 
 // Divides each number of a row that is 0 outside the first `found` places by `by`, which divides it.
-fn divide_all_at(row: &mut [i64], places: &[u32], found: usize, by: u64)
+fn divide_all(row: &mut [i64], places: &[u32], found: usize, by: u64)
     requires some { 0 < by }
     requires small { by < 2 ^ 62 }
     requires narrow { AllNarrow row.old }
@@ -355,16 +298,16 @@ fn divide_all_at(row: &mut [i64], places: &[u32], found: usize, by: u64)
 
 // Divides a row that is 0 outside the first `found` places by its greatest common divisor.
 #[tactic(auto, using(crate::proofs::Reduce::divided_row, crate::proofs::Reduce::undivided_row, crate::proofs::Reduce::divisor_narrow))]
-fn divide_row_at(row: &mut [i64], places: &[u32], found: usize)
+pub(crate) fn divide_row(row: &mut [i64], places: &[u32], found: usize)
     requires some { 0 < length row.old }
     requires narrow { AllNarrow row.old }
     requires support { IsSupport places.now found (length row.old) (at row.old) (at row.old) }
     ensures divided { IsDivided (length row.old) (at row.old) (at row.new) }
     ensures narrow { AllNarrow row.new }
 {
-    let by = divisor_at(row, places, found);
+    let by = narrow_divisor(row, places, found);
     if by > 1 {
-        divide_all_at(row, places, found, by);
+        divide_all(row, places, found, by);
     }
 }
 
@@ -404,9 +347,9 @@ pub(crate) fn reduce_row(
     }
     let (own, far) = multipliers(lead.numbers[lead.column], row[lead.column]);
     let (changing, count) = touched(lead, own, places, found);
-    if stays_narrow(own, far, greatest_at(row, changing, count), lead.most) {
+    if stays_narrow(own, far, greatest(row, changing, count), lead.most) {
         mix_narrow(lead.numbers, row, changing, count, own, far);
-        divide_row_at(row, places, found);
+        divide_row(row, places, found);
         return None;
     }
     mix(lead.numbers, row, own, far, mixed);

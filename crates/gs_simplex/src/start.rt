@@ -4,7 +4,7 @@ ghost use Rattle.std.specs.Prelude.{◌≡◌, ℕ, ◌+◌, ◌-◌, ◌*◌, �
 ghost use Rattle.gs_rows.specs.Program.{IsShaped, IsRowsOf};
 ghost use Rattle.gs_simplex.specs.{Numbers.{at, cell, AllNarrow, IsDivided}, Table.{table_rows, table_aim, IsTable}, State.{HasRoom, IsRaw, IsStart}};
 
-use crate::live::Live;
+use crate::live::{Live, fill};
 use crate::row::divide_row;
 use crate::table::Table;
 use gs_rows::Program;
@@ -35,10 +35,12 @@ fn raw_numbers(alloc: Global, p: &Program) -> Result<Vec<i64>, AllocError>
     Ok(numbers)
 }
 
-// Divides the row of this width that begins at `start`.
-fn divide_at(numbers: &mut [i64], start: usize, width: usize)
+// Divides the row of this width that begins at `start`. Where it is not 0 is listed in `filled`.
+fn divide_at(numbers: &mut [i64], start: usize, width: usize, filled: &mut [u32])
     requires inside { start + width ≤ length numbers.old }
     requires some { 0 < width }
+    requires small { width < 2 ^ 32 }
+    requires room { length filled.old ≡ width }
     requires narrow { AllNarrow numbers.old }
     ensures others { (k : ℕ) → (k < start) ⊎ (start + width ≤ k) → at numbers.new k ≡ at numbers.old k }
     ensures divided { IsDivided width (λ j. at numbers.old (start + j)) (λ j. at numbers.new (start + j)) }
@@ -46,20 +48,23 @@ fn divide_at(numbers: &mut [i64], start: usize, width: usize)
 {
     let end = start + width;
     let row = &mut numbers[start..end];
-    divide_row(row);
+    let count = fill(row, filled);
+    divide_row(row, filled, count);
 }
 
 // Divides each of the first `count` rows, which have this width.
-fn divide_rows(numbers: &mut [i64], count: usize, width: usize)
+fn divide_rows(numbers: &mut [i64], count: usize, width: usize, filled: &mut [u32])
     requires long { (count + 1) * width ≡ length numbers.old }
     requires some { 0 < width }
+    requires small { width < 2 ^ 32 }
+    requires room { length filled.old ≡ width }
     requires narrow { AllNarrow numbers.old }
     ensures divided { (i : ℕ) → i < count → IsDivided width (cell numbers.old width i) (cell numbers.new width i) }
     ensures last { (j : ℕ) → j < width → cell numbers.new width count j ≡ cell numbers.old width count j }
     ensures narrow { AllNarrow numbers.new }
 {
     for i in 0..count {
-        divide_at(numbers, i * width, width);
+        divide_at(numbers, i * width, width, filled);
     }
 }
 
@@ -74,10 +79,10 @@ impl Table {
     {
         let width = p.cols as usize + 2;
         let mut numbers = raw_numbers(alloc, p)?;
-        divide_rows(&mut numbers, p.rows as usize, width);
         let lead = vec![in alloc; 0i64; width]?;
         let mixed = vec![in alloc; 0i128; width]?;
-        let live = Live::room(alloc, p)?;
+        let mut live = Live::room(alloc, p)?;
+        divide_rows(&mut numbers, p.rows as usize, width, &mut live.filled);
         Ok(Table {
             numbers,
             lead,

@@ -155,13 +155,14 @@ impl Table {
         let found = self.live.find(p, basis, r);
         let numbers: &[i64] = &self.lead;
         let filled: &mut [u32] = &mut self.live.filled;
+        let count = fill(numbers, filled);
         let lead = Lead {
             row: r,
             numbers,
-            most: greatest(numbers),
+            most: greatest(numbers, filled, count),
             column: c,
-            count: fill(numbers, filled),
             filled,
+            count,
         };
         clear_column(
             &mut self.numbers,

@@ -1,9 +1,11 @@
-use Rattle.std.proofs.Common.{◌≡◌, ℕ, ◌≤◌}
-use Rattle.gs_simplex.specs.Numbers.{at, IsQuotient}
+use Rattle.std.proofs.Common.{◌≡◌, ◌≢◌, ℕ, ◌<◌, slice_index, pos, ◌*ℤ◌}
+use Rattle.gs_rows.specs.Rows.{IsNarrow}
+use Rattle.gs_simplex.specs.Numbers.{at}
 use Rattle.gs_simplex.proofs.row.divide_all.Given as goal
 
-abbrev pub invariant-loop-j : goal.invariant-loop-j
-invariant-loop-j l = record {
-  done : IsQuotient l.by l.fn.row l.row l.j;
-  left : (k : ℕ) → l.j ≤ k → at l.row k ≡ at l.fn.row k;
+abbrev pub invariant-loop-k : goal.invariant-loop-k
+invariant-loop-k l = record {
+  each : (h : ℕ) → h < l.k → at l.fn.row (slice_index l.places h) ≡ pos l.by *ℤ at l.row (slice_index l.places h);
+  narrow : (h : ℕ) → h < l.k → IsNarrow (at l.row (slice_index l.places h));
+  left : (j : ℕ) → ((h : ℕ) → h < l.k → slice_index l.places h ≢ j) → at l.row j ≡ at l.fn.row j;
 }

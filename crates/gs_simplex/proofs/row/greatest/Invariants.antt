@@ -1,6 +1,6 @@
-use Rattle.std.proofs.Common.{ℕ, ◌<◌, ◌≤◌, unsigned_abs}
+use Rattle.std.proofs.Common.{ℕ, ◌<◌, ◌≤◌, slice_index, unsigned_abs}
 use Rattle.gs_simplex.specs.Numbers.{at}
 use Rattle.gs_simplex.proofs.row.greatest.Given as goal
 
-abbrev pub invariant-loop-number : goal.invariant-loop-number
-invariant-loop-number l = (j : ℕ) → j < l.number-index → unsigned_abs (at l.numbers j) ≤ l.most
+abbrev pub invariant-loop-k : goal.invariant-loop-k
+invariant-loop-k l = (h : ℕ) → h < l.k → unsigned_abs (at l.row (slice_index l.places h)) ≤ l.most

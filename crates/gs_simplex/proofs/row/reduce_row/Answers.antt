@@ -56,11 +56,11 @@ changed c =
 pub mix_narrow-requires-clause-change : goal.mix_narrow-requires-clause-change
 mix_narrow-requires-clause-change c = changed (goal.at.mix_narrow-requires-clause-change c).After-touched-count
 
-pub greatest_at-requires-clause-few : goal.greatest_at-requires-clause-few
-greatest_at-requires-clause-few c = (changed (goal.at.greatest_at-requires-clause-few c).After-touched-count).few
+pub greatest-requires-clause-few : goal.greatest-requires-clause-few
+greatest-requires-clause-few c = (changed (goal.at.greatest-requires-clause-few c).After-touched-count).few
 
-pub greatest_at-requires-clause-inside : goal.greatest_at-requires-clause-inside
-greatest_at-requires-clause-inside c = (changed (goal.at.greatest_at-requires-clause-inside c).After-touched-count).inside
+pub greatest-requires-clause-inside : goal.greatest-requires-clause-inside
+greatest-requires-clause-inside c = (changed (goal.at.greatest-requires-clause-inside c).After-touched-count).inside
 
 -- a bound on the numbers bounds their products
 products_below : (a b x y most top : ℕ) → x ≤ most → y ≤ top → a * most + b * top < 2 ^ 62 → a * x + b * y < 2 ^ 62
@@ -70,10 +70,10 @@ pub mix_narrow-requires-clause-narrow : goal.mix_narrow-requires-clause-narrow
 mix_narrow-requires-clause-narrow c = λ k h.
     let l = c.args.lead.now in let j = slice_index c.touched-count.result.0.now k in
     let inside : j < length c.args.row.now = (changed (goal.at.mix_narrow-requires-clause-narrow c).After-touched-count).inside k h in
-    products_below _ _ (unsigned_abs (at c.args.row.now j)) (unsigned_abs (at l.numbers.now j)) c.greatest_at.result l.most (c.greatest_at.ensures k h) (l.bound j (omega (arith, c.requires.long))) (c.stays_narrow.ensures c.if-stays_narrow.true)
+    products_below _ _ (unsigned_abs (at c.args.row.now j)) (unsigned_abs (at l.numbers.now j)) c.greatest.result l.most (c.greatest.ensures k h) (l.bound j (omega (arith, c.requires.long))) (c.stays_narrow.ensures c.if-stays_narrow.true)
 
-pub divide_row_at-requires-clause-support : goal.divide_row_at-requires-clause-support
-divide_row_at-requires-clause-support c =
+pub divide_row-requires-clause-support : goal.divide_row-requires-clause-support
+divide_row-requires-clause-support c =
     let lead = c.args.lead.now.numbers.now in let row = c.args.row.now in let mid = c.mix_narrow.new.row in let m = c.multipliers-own in
     let P : ℕ → Type 0 = λ w. IsSupport c.args.places.now c.args.found w (at mid) (at mid) in
     subst P (sym (c.mix_narrow.auto.row ∙ c.requires.long)) (support_mixed c.args.places.now c.args.found (length lead) (at row) (at lead) (at mid) (to_z w64 (of_z w64 m.result.0)) (to_z w64 (of_z w64 m.result.1)) c.requires.support (λ j h. c.mix_narrow.ensures.mixed j (omega (arith, c.requires.long))))
@@ -107,9 +107,9 @@ returns-then-stays_narrow c =
     let inside : k < length lead = c.args.lead.now.inside in
     let long : length mid ≡ length lead = omega (arith, c.mix_narrow.auto.row, c.requires.long) in
     let sh = stored_shared (at lead k) (at row k) m.result.0 m.result.1 (c.args.lead.now.narrow k inside) (c.requires.narrow k (omega (arith, c.requires.long))) m.ensures.narrow_own m.ensures.narrow_far m.ensures.shared in (
-      reduced_divided (at lead) (at row) (at mid) (at c.divide_row_at.new.row) k (length lead) (to_z w64 (of_z w64 m.result.0)) (to_z w64 (of_z w64 m.result.1)) sh (λ j l. c.mix_narrow.ensures.mixed j (omega (arith, c.requires.long)))
-          (let P : ℕ → Type 0 = λ t. IsDivided t (at mid) (at c.divide_row_at.new.row) in subst P long c.divide_row_at.ensures.divided),
-      c.divide_row_at.ensures.narrow,
+      reduced_divided (at lead) (at row) (at mid) (at c.divide_row.new.row) k (length lead) (to_z w64 (of_z w64 m.result.0)) (to_z w64 (of_z w64 m.result.1)) sh (λ j l. c.mix_narrow.ensures.mixed j (omega (arith, c.requires.long)))
+          (let P : ℕ → Type 0 = λ t. IsDivided t (at mid) (at c.divide_row.new.row) in subst P long c.divide_row.ensures.divided),
+      c.divide_row.ensures.narrow,
     )
 
 pub returns : goal.returns

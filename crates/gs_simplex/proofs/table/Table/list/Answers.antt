@@ -11,7 +11,7 @@ use Rattle.gs_simplex.proofs.Places.{row_inside, row_apart, primitive_same_row}
 use Rattle.gs_simplex.proofs.Tables.{own, rows_primitive, primitive_flipped, table_after, wide_from}
 use Rattle.gs_rows.specs.Program.{Listing, IsPairList, IsRowsOf}
 use Rattle.gs_simplex.specs.Live.{IsFound, IsLive}
-use Rattle.gs_simplex.proofs.Lives.{live_of}
+use Rattle.gs_simplex.proofs.Lives.{everywhere, live_of}
 use Rattle.gs_simplex.proofs.Paths.{primitive_of}
 use Rattle.gs_simplex.proofs.table.Table.list.Goals as goal
 use Rattle.gs_simplex.proofs.table.Table.list.Goals.{After-deref, After-deref-numbers, After-deref_mut-3, After-take_lead}
@@ -137,6 +137,12 @@ led_here c =
 
 owns_long : (c : After-deref) → length c.deref.result.now ≡ c.args.p.now.rows + 1
 owns_long c = ap (λ (l : List ℕ). length l) c.deref.ensures.value ∙ c.find-found.ensures.found.owns_long
+
+-- the greatest number where the lead is not 0 is the greatest of all
+pub invariant_of-lead-clause-bound : goal.invariant_of-lead-clause-bound
+invariant_of-lead-clause-bound c =
+    let lead = c.deref-numbers.result.now in
+    everywhere (λ j (z : ℤ). unsigned_abs z ≤ c.greatest.result) c.fill-count.new.filled c.fill-count.result (length lead) (at lead) (at lead) c.fill-count.ensures c.greatest.ensures (λ j. omega arith)
 
 pub invariant_of-lead-clause-narrow : goal.invariant_of-lead-clause-narrow
 invariant_of-lead-clause-narrow c = (led_here (goal.at.invariant_of-lead-clause-narrow c).After-deref_mut-3).narrow_lead

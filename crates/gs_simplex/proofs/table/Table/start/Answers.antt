@@ -27,7 +27,8 @@ from_lists p raw raw' new new' w shaped u er en ew long divided last narrow =
 pub returns : goal.returns
 returns c =
     let p = c.args.p.now in let new = c.divide_rows.new.numbers in let n = c.in_ok-numbers.numbers.len in
+    let v = c.in_ok-live.ensures in
     let long : length new ≡ n = omega (arith, c.divide_rows.auto.numbers, c.deref_mut.ensures.len) in
     let f = from_lists p c.in_ok-numbers.numbers.items c.deref_mut.result.now new (take n (new ++ drop (length new) c.in_ok-numbers.numbers.items)) (p.cols + 2) c.requires.shaped c.in_ok-numbers.ensures c.deref_mut.ensures.value
     (take_at new (drop (length new) c.in_ok-numbers.numbers.items) n long) refl c.divide_rows.auto.numbers c.divide_rows.ensures.divided c.divide_rows.ensures.last c.divide_rows.ensures.narrow in
-    record { room = record { lead = c.in_ok-lead.ensures.len; mixed = c.in_ok-mixed.ensures.len; live = c.in_ok-live.ensures }; table = f.0; rows = f.1 }
+    record { room = record { lead = c.in_ok-lead.ensures.len; mixed = c.in_ok-mixed.ensures.len; live = record { rows = v.rows; places = v.places; owns = v.owns; filled = v.filled } }; table = f.0; rows = f.1 }
