@@ -46,6 +46,17 @@ pub pushed_to : {X : Type 0} (P : ℕ → X → Type 0) (xs ys : List X) (x : X)
     → ((k : ℕ) (d : X) → k < n → P k (get_or xs k d)) → P n x → (k : ℕ) (d : X) → k < n + 1 → P k (get_or ys k d)
 pushed_to P xs ys x n put long before here k d l = subst (λ zs. P k (get_or zs k d)) (sym put) (pushed P xs x n long before here k d l)
 
+-- what holds of each item, by the number of the first and by place, holds with one more before them
+begun_before : {X : Type 0} (P : ℕ → X → Type 0) (xs : List X) (x : X) (n : ℕ) → ((k : ℕ) (d : X) → k < length xs → P (n + 1 + k) (get_or xs k d)) → P n x
+    → (k : ℕ) (d : X) → k < length xs + 1 → P (n + k) (get_or (x ∷ xs) k d)
+begun_before P xs x n after here zero d l = subst (λ j. P j x) (let e : n ≡ n + 0 = omega arith in e) here
+begun_before P xs x n after here (suc k) d l = subst (λ j. P j (get_or xs k d)) (let e : n + 1 + k ≡ n + suc k = omega arith in e) (after k d (omega arith))
+
+pub put_before : {X : Type 0} (P : ℕ → X → Type 0) (xs ys : List X) (x : X) (n : ℕ) → ys ≡ x ∷ xs
+    → ((k : ℕ) (d : X) → k < length xs → P (n + 1 + k) (get_or xs k d)) → P n x → (k : ℕ) (d : X) → k < length ys → P (n + k) (get_or ys k d)
+put_before P xs ys x n put after here k d l =
+    subst (λ zs. P (n + k) (get_or zs k d)) (sym put) (begun_before P xs x n after here k d (omega (arith, l, ap (λ zs. length zs) put)))
+
 -- ---- ends
 
 -- an end stands in a round of the game

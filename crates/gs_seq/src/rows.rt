@@ -154,15 +154,13 @@ fn rows_listed(alloc: Global, lossless: &Lossless) -> Result<Vec<Vec<Vec<Pair>>>
     ensures { IfOk result (λ v. AreRows (frame_in lossless.now.signals.now.game.now) lossless.now.classes.now.lists v.items) }
 {
     let signals = lossless.signals();
-    let mut round = signals.rounds();
-    let mut rows = Vec::with_capacity(alloc, usize::from(round))?;
-    rows.push(rows_in(alloc, signals, lossless.classes(), round)?)?;
-    while round > 1 {
-        round -= 1;
-        let above = rows_above(alloc, lossless, round, &rows[rows.len() - 1])?;
-        rows.push(above)?;
+    let last = signals.rounds();
+    let mut rows = Vec::with_capacity(alloc, usize::from(last))?;
+    rows.push(rows_in(alloc, signals, lossless.classes(), last)?)?;
+    for round in (1..last).rev() {
+        let above = rows_above(alloc, lossless, round, &rows[0])?;
+        rows.insert(0, above)?;
     }
-    rows.reverse();
     Ok(rows)
 }
 

@@ -1,4 +1,4 @@
-use Rattle.std.proofs.Common.{◌≡◌, ◌+◌, ◌-◌, ◌<◌, ℕ, get_or, length, Vec}
+use Rattle.std.proofs.Common.{◌≡◌, ◌+◌, ◌<◌, ◌≤◌, ℕ, get_or, length, Vec}
 use Rattle.std.specs.declared.alloc.Global.{Global}
 use Rattle.gs_model.specs.Frame.{last_round}
 use Rattle.gs_seq.specs.Games.{frame_in}
@@ -6,15 +6,11 @@ use Rattle.gs_seq.specs.Rows.{AreRowsIn}
 use Rattle.gs_seq.specs.declared.pair.Pair.{Pair}
 use Rattle.gs_seq.proofs.rows.rows_listed.Given as goal
 
-abbrev pub decreases-loop-round : goal.decreases-loop-round
-decreases-loop-round l = l.round
-
 abbrev pub invariant-loop-round : goal.invariant-loop-round
 invariant-loop-round l = record {
   some : 0 < l.round;
+  within : l.round ≤ last_round (frame_in l.lossless.signals.now.game.now);
   long : length l.rows.items + l.round ≡ last_round (frame_in l.lossless.signals.now.game.now) + 1;
-  filled : 0 < length l.rows.items;
   each : (k : ℕ) (d : Vec (Vec Pair Global) Global) → k < length l.rows.items
-      → AreRowsIn (frame_in l.lossless.signals.now.game.now) l.lossless.classes.now.lists (last_round (frame_in l.lossless.signals.now.game.now) - k)
-      (get_or l.rows.items k d).items;
+      → AreRowsIn (frame_in l.lossless.signals.now.game.now) l.lossless.classes.now.lists (l.round + k) (get_or l.rows.items k d).items;
 }
