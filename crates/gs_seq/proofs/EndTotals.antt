@@ -45,12 +45,15 @@ range_more v b n =
     ap (sum_z v) (range_append b n 1) ∙ sum_z-append v (range_with_len b n) (range_with_len (b + n) 1)
     ∙ ap (λ z. sum_z v (range_with_len b n) +ℤ z) (+ℤ_idr (v (b + n)))
 
-pub from_zero : (n : ℕ) → n ≡ 0 + n
-from_zero n = omega arith
-
 pub range_put : (v : ℕ → ℤ) (b n : ℕ) (sum part : ℤ) → sum ≡ sum_z v (range_with_len b n) → part ≡ v (b + n)
     → sum +ℤ part ≡ sum_z v (range_with_len b (n + 1))
 range_put v b n sum part h e = ap (λ z. z +ℤ part) h ∙ ap (λ z. sum_z v (range_with_len b n) +ℤ z) e ∙ sym (range_more v b n)
+
+pub from_zero : (n : ℕ) → n ≡ 0 + n
+from_zero n = omega arith
+
+pub range_begun : (v : ℕ → ℤ) (n : ℕ) (sum part : ℤ) → sum ≡ sum_z v (range_with_len 0 n) → part ≡ v n → sum +ℤ part ≡ sum_z v (range_with_len 0 (n + 1))
+range_begun v n sum part h e = range_put v 0 n sum part h (e ∙ ap v (from_zero n))
 
 -- the size of a sum over a range
 pub abs_range : (v : ℕ → ℤ) (bound : ℕ → ℕ) (b n : ℕ) → ((m : ℕ) → b ≤ m → m < b + n → unsigned_abs (v m) ≤ bound m)
@@ -213,6 +216,30 @@ module _ (f : Frame) (lists : ClassLists) (g : AreGiven f lists) (x y : Plan) (p
   pub ends_within : (n : ℕ) → n ≤ end_count f → (s : ℤ) → s ≡ sum_z (payoff_at f lists x y) (range_with_len 0 n) → unsigned_abs s < 2 ^ 127
   ends_within n l s is = omega (arith, ends_few f g.in_range lists g.classes g.modest one two x y px py n l, ap unsigned_abs is)
 
+  -- a sum over the first ends fits with the part of the next
+  pub end_within : (n : ℕ) → n < end_count f → (sum part : ℤ) → sum ≡ sum_z (payoff_at f lists x y) (range_with_len 0 n) → part ≡ payoff_at f lists x y n
+      → unsigned_abs (sum +ℤ part) < 2 ^ 127
+  end_within n l sum part h e = ends_within (n + 1) (omega arith) _ (range_begun (payoff_at f lists x y) n sum part h e)
+
   pub ends_are_all : (n : ℕ) → n ≡ end_count f → (s : ℤ) → s ≡ sum_z (payoff_at f lists x y) (range_with_len 0 n)
       → s ≡ raw_payoff f (lift f lists x) (lift f lists y)
   ends_are_all n all s is = is ∙ ap (λ k. sum_z (payoff_at f lists x y) (range_with_len 0 k)) all ∙ payoff_is f lists x y g.in_range one g.classes
+
+-- what is known at the class behind the first n classes of an end: a number is that of player 1, and another one is what the end pays him there
+pub record IsNext (f : Frame) (lists : ClassLists) (x y : Plan) (z n k : ℕ) (w : ℤ) : Type 0 where
+  pub class : IsClass lists (round_of f (at_end z)) (n + 1)
+  pub number : k ≡ class_number f lists 1 x z (n + 1)
+  pub worth : w ≡ end_sum f lists 1 y z (n + 1)
+
+-- so their product fits, and a sum over the first classes fits with that product and is the sum over one more
+module _ (f : Frame) (lists : ClassLists) (g : AreGiven f lists) (x y : Plan) (px : IsClassPlan f lists 1 x) (py : IsClassPlan f lists 2 y) (z n k : ℕ) (w : ℤ)
+    (l : z < end_count f) (u : IsNext f lists x y z n k w) where
+  pub next_fits : k * unsigned_abs w < 2 ^ 127
+  next_fits = term_fits k _ w _ u.number u.worth (term_within f lists g x y px py z (n + 1) l u.class)
+
+  pub next_put : (sum part : ℤ) → sum ≡ sum_z (class_term f lists x y z) (range_with_len 1 n) → part ≡ pos k *ℤ w
+      → sum +ℤ part ≡ sum_z (class_term f lists x y z) (range_with_len 1 (n + 1))
+  next_put sum part h e = range_put (class_term f lists x y z) 1 n sum part h (term_is f lists x y z n k w part u.number u.worth e)
+
+  pub next_within : (sum part : ℤ) → sum ≡ sum_z (class_term f lists x y z) (range_with_len 1 n) → part ≡ pos k *ℤ w → unsigned_abs (sum +ℤ part) < 2 ^ 127
+  next_within sum part h e = classes_within f lists g x y px py z (n + 1) l u.class.1 _ (next_put sum part h e)

@@ -1,69 +1,49 @@
-use Rattle.std.proofs.Common.{rules, ◌≡◌, ◌+◌, ◌-◌, ℕ, List, ap, ◌∙◌, arith, get_or, pos, FitsSigned, of_z, to_z}
+use Rattle.std.proofs.Common.{rules, ◌≡◌, ◌+◌, ◌-◌, ℕ, List, ap, ◌∙◌, arith, get_or, pos, FitsSigned, of_z, subst, to_z}
 use Rattle.std.specs.Int.{w128}
-use Rattle.std.specs.List.{range_with_len}
-use Rattle.std.specs.Prelude.{ℤ, ◌+ℤ◌}
+use Rattle.std.specs.Prelude.{ℤ}
 use Rattle.gs_model.specs.Classes.{IsClass}
 use Rattle.gs_model.specs.Frame.{round_of}
 use Rattle.gs_model.specs.Pairs.{class_number}
 use Rattle.gs_model.specs.Positions.{at_end}
-use Rattle.gs_model.specs.Sums.{sum_z}
 use Rattle.gs_seq.specs.Abstracts.{frame_of, lists_of}
-use Rattle.gs_seq.specs.Payoffs.{end_sum}
 use Rattle.gs_seq.specs.Plans.{class_plan}
-use Rattle.gs_seq.proofs.EndTotals.{class_term, classes_within, range_put, term_fits, term_is, term_within}
+use Rattle.gs_seq.proofs.EndTotals.{IsNext, next_fits, next_put, next_within}
 use Rattle.gs_seq.proofs.Forms.{given_in}
 use Rattle.gs_seq.proofs.Signed.{read_back}
 use Rattle.gs_seq.proofs.form.Abstract.payoff_read.Goals as goal
-use Rattle.gs_seq.proofs.form.Abstract.payoff_read.Goals.{After-number_at_end-number, After-scaled, In-loop-before}
+use Rattle.gs_seq.proofs.form.Abstract.payoff_read.Goals.{After-number_at_end-number}
 
 -- what the list has of a class
 read_at : (sums : List ℤ) (n : ℕ) (w : ℤ) → get_or sums (0 + (n + 1 - 1)) (pos 0) ≡ w → get_or sums n (pos 0) ≡ w
 read_at sums n w h = let at : n ≡ 0 + (n + 1 - 1) = omega arith in ap (λ i. get_or sums i (pos 0)) at ∙ h
 
 -- the class, its number and what the end pays there
-here : (c : In-loop-before) → IsClass (lists_of c.args.self.now) (round_of (frame_of c.args.self.now) (at_end c.args.end)) (c.loop-before.before + 1)
-here c = (omega arith, omega (arith, c.class_total-before-end.ensures, c.loop-before-test.true))
-
-number_is : (c : After-number_at_end-number)
-    → c.number_at_end-number.result ≡ class_number (frame_of c.args.self.now) (lists_of c.args.self.now) 1 (class_plan (frame_of c.args.self.now) (lists_of c.args.self.now) c.args.x.now) c.args.end (c.loop-before.before + 1)
-number_is c =
-    let f = frame_of c.args.self.now in
-    let ls = lists_of c.args.self.now in
-    c.number_at_end-number.ensures.value ∙ ap (λ p. class_number f ls p (class_plan f ls c.args.x.now) c.args.end (c.loop-before.before + 1)) c.requires.x.player_is
-
-worth_is : (c : In-loop-before) → FitsSigned w128 (get_or c.end_sums.new.sums c.loop-before.before (pos 0))
-    → to_z w128 (of_z w128 (get_or c.end_sums.new.sums c.loop-before.before (pos 0)))
-    ≡ end_sum (frame_of c.args.self.now) (lists_of c.args.self.now) 1 (class_plan (frame_of c.args.self.now) (lists_of c.args.self.now) c.args.y.now) c.args.end (c.loop-before.before + 1)
-worth_is c fits =
-    let n = c.loop-before.before in
-    let sums = c.end_sums.new.sums in
-    read_back (get_or sums n (pos 0)) _ fits (read_at sums n _ (c.end_sums.ensures.here (n + 1) (here c)))
-
--- the sum with the class's part
-sum_is : (c : After-scaled) → FitsSigned w128 (get_or c.end_sums.new.sums c.loop-before.before (pos 0))
-    → to_z w128 c.loop-before.sum-bits +ℤ to_z w128 (of_z w128 c.scaled.result)
-    ≡ sum_z (class_term (frame_of c.args.self.now) (lists_of c.args.self.now) (class_plan (frame_of c.args.self.now) (lists_of c.args.self.now) c.args.x.now) (class_plan (frame_of c.args.self.now) (lists_of c.args.self.now) c.args.y.now) c.args.end)
-    (range_with_len 1 (c.loop-before.before + 1))
-sum_is c fits =
-    let at = goal.at.After-scaled c in
+next : (c : After-number_at_end-number) → FitsSigned w128 (get_or c.end_sums.new.sums c.loop-before.before (pos 0)) → let f = frame_of c.args.self.now in let ls = lists_of c.args.self.now in
+    IsNext f ls (class_plan f ls c.args.x.now) (class_plan f ls c.args.y.now) c.args.end c.loop-before.before c.number_at_end-number.result (to_z w128 (of_z w128 (get_or c.end_sums.new.sums c.loop-before.before (pos 0))))
+next c fits =
     let f = frame_of c.args.self.now in
     let ls = lists_of c.args.self.now in
     let x = class_plan f ls c.args.x.now in
-    let y = class_plan f ls c.args.y.now in
     let n = c.loop-before.before in
-    range_put (class_term f ls x y c.args.end) 1 n _ _ c.loop-before.invariant
-    (read_back c.scaled.result _ (search rules) (term_is f ls x y c.args.end n c.number_at_end-number.result _ c.scaled.result (number_is at.After-number_at_end-number) (worth_is at.In-loop-before fits) c.scaled.ensures))
+    let sums = c.end_sums.new.sums in
+    let class : IsClass ls (round_of f (at_end c.args.end)) (n + 1) = (omega arith, omega (arith, c.class_total-before-end.ensures, c.loop-before-test.true)) in
+    record {
+      class = class;
+      number = subst (λ p. c.number_at_end-number.result ≡ class_number f ls p x c.args.end (n + 1)) c.requires.x.player_is c.number_at_end-number.ensures.value;
+      worth = read_back (get_or sums n (pos 0)) _ fits (read_at sums n _ (c.end_sums.ensures.here (n + 1) class));
+    }
 
 pub scaled-requires : goal.scaled-requires
 scaled-requires c =
-    let at = goal.at.scaled-requires c in
-    term_fits c.number_at_end-number.result _ _ _ (number_is at.After-number_at_end-number) (worth_is at.In-loop-before (search rules))
-    (term_within _ _ (given_in c.args.self.now c.game-game.ensures.classes) _ _ c.requires.x.plan.plan c.requires.y.plan.plan c.args.end (c.loop-before.before + 1) c.requires.end (here at.In-loop-before))
+    next_fits _ _ (given_in c.args.self.now c.game-game.ensures.classes) _ _ c.requires.x.plan.plan c.requires.y.plan.plan c.args.end _ _ _ c.requires.end (next (goal.at.scaled-requires c).After-number_at_end-number (search rules))
 
 pub plus-sum-requires : goal.plus-sum-requires
 plus-sum-requires c =
-    let at = goal.at.plus-sum-requires c in
-    classes_within _ _ (given_in c.args.self.now c.game-game.ensures.classes) _ _ c.requires.x.plan.plan c.requires.y.plan.plan c.args.end (c.loop-before.before + 1) c.requires.end (here at.In-loop-before).1 _ (sum_is at.After-scaled (search rules))
+    next_within _ _ (given_in c.args.self.now c.game-game.ensures.classes) _ _ c.requires.x.plan.plan c.requires.y.plan.plan c.args.end _ _ _ c.requires.end (next (goal.at.plus-sum-requires c).After-number_at_end-number (search rules)) _ _ c.loop-before.invariant
+    (read_back c.scaled.result _ (search rules) c.scaled.ensures)
 
 pub loop-before-preserved : goal.loop-before-preserved
-loop-before-preserved c = read_back c.plus-sum.result _ (search rules) (c.plus-sum.ensures ∙ sum_is (goal.at.loop-before-preserved c).After-scaled (search rules))
+loop-before-preserved c =
+    read_back c.plus-sum.result _ (search rules) (c.plus-sum.ensures
+    ∙ next_put _ _ (given_in c.args.self.now c.game-game.ensures.classes) _ _ c.requires.x.plan.plan c.requires.y.plan.plan c.args.end _ _ _ c.requires.end (next (goal.at.loop-before-preserved c).After-number_at_end-number (search rules)) _ _ c.loop-before.invariant
+    (read_back c.scaled.result _ (search rules) c.scaled.ensures))
