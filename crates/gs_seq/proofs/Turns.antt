@@ -6,7 +6,7 @@ use Rattle.gs_model.specs.Classes.{ClassLists, IsClass, IsClasses, classes_in}
 use Rattle.gs_model.specs.Frame.{Frame, end_at, end_count, payoff_to, round_of}
 use Rattle.gs_model.specs.FrameFacts.{InRange, IsWalked}
 use Rattle.gs_model.specs.Pairs.{pair_sum}
-use Rattle.gs_model.specs.Positions.{at_end}
+use Rattle.gs_model.specs.Positions.{End, at_end}
 use Rattle.gs_model.specs.Sums.{sum_z}
 use Rattle.gs_model.proofs.Sparse.{sum_z-more}
 use Rattle.gs_model.proofs.Tables.{is_table}
@@ -81,10 +81,7 @@ known f r lists k player w few z l c row h left rest p t =
       pays = pays_few f r lists k player w few z l c row h (passed row left) p t.inside;
     })
 
--- sums over the pairs that are passed: none, one more, all
-pub sum_begun : (v : Pair → ℤ) (row left : List Pair) → left ≡ row → pos 0 ≡ sum_z v (take (passed row left) row)
-sum_begun v row left same = ap (λ n. sum_z v (take n row)) (sym (none_passed row left same))
-
+-- sums over the pairs that are passed: one more, all
 pub sum_turned : (v : Pair → ℤ) (row left rest : List Pair) (p : Pair) → IsTurn row left rest p → (sum part : ℤ) → sum ≡ sum_z v (take (passed row left) row)
     → part ≡ v p → sum +ℤ part ≡ sum_z v (take (passed row rest) row)
 sum_turned v row left rest p t sum part h e =
@@ -95,34 +92,67 @@ sum_turned v row left rest p t sum part h e =
 pub sum_ended : (v : Pair → ℤ) (row left : List Pair) → left ≡ [] → (sum : ℤ) → sum ≡ sum_z v (take (passed row left) row) → sum ≡ sum_z v row
 sum_ended v row left none sum h = h ∙ ap (sum_z v) (take_all (passed row left) row (all_passed row left none))
 
--- the walk over a row of a game in sequence form: what is known of the pair where it stands, and what the sum of what the end pays, by numbers of classes
--- that are not over the greatest total, is on the way and at its end
-module _ (a : Abstract) (classes : IsClasses (frame_of a).parents (lists_of a)) (player z c : ℕ) (some : 0 < player) (two : player ≤ 2) (l : z
-    < end_count (frame_of a)) (row : List Pair)
-    (h : IsRow (frame_of a) (lists_of a) (round_of (frame_of a) (at_end z)) c row) where
+-- the walk has come so far: what is left of the row, and the sum over the pairs that are passed
+pub record IsCome (v : Pair → ℤ) (row left : List Pair) (sum : ℤ) : Type 0 where
+  pub on : left ≡ drop (passed row left) row
+  pub all : sum ≡ sum_z v (take (passed row left) row)
+
+pub come_begun : (v : Pair → ℤ) (row left : List Pair) → left ≡ row → IsCome v row left (pos 0)
+come_begun v row left same = record { on = begun row left same; all = ap (λ n. sum_z v (take n row)) (sym (none_passed row left same)) }
+
+come_further : (v : Pair → ℤ) (row left rest : List Pair) (p : Pair) (sum part : ℤ) → IsCome v row left sum → IsTurn row left rest p → part ≡ v p
+    → IsCome v row rest (sum +ℤ part)
+come_further v row left rest p sum part h t e = record { on = t.on; all = sum_turned v row left rest p t sum part h.all e }
+
+-- what an end pays a player in the deals of a pair, times the number of the pair's second class
+abbrev pub paid : Abstract → ℕ → ℕ → (ℕ → ℕ) → Pair → ℤ
+paid a player z n p = pos (n p.two) *ℤ pair_pays player (end_at (frame_of a) z) p
+
+pub paid_as : (player k m : ℕ) (e o : End) (p : Pair) → e ≡ o → k ≡ m → pos k *ℤ pair_pays player e p ≡ pos m *ℤ pair_pays player o p
+paid_as player k m e o p same is = ap (λ x. pos k *ℤ pair_pays player x p) same ∙ ap (λ n. pos n *ℤ pair_pays player o p) is
+
+-- a row of a game in sequence form, at an end and for a player
+pub record IsAlong (a : Abstract) (player z c : ℕ) (row : List Pair) : Type 0 where
+  pub classes : IsClasses (frame_of a).parents (lists_of a)
+  pub some : 0 < player
+  pub two : player ≤ 2
+  pub inside : z < end_count (frame_of a)
+  pub is_row : IsRow (frame_of a) (lists_of a) (round_of (frame_of a) (at_end z)) c row
+
+-- where the walk stands at a pair: what is known of it, and that the sum fits with what the end pays there, by numbers of classes that are not over the
+-- greatest total, and has come one pair further
+pub record IsHere (a : Abstract) (player z : ℕ) (row rest : List Pair) (p : Pair) (n : ℕ → ℕ) (sum : ℤ) : Type 0 where
+  pub known : IsKnown (frame_of a) (lists_of a) player z p
+  pub fits : (part : ℤ) → part ≡ paid a player z n p → ((e : ℕ) → IsClass (lists_of a) (round_of (frame_of a) (at_end z)) e → n e ≤ 2 ^ 36)
+      → unsigned_abs (sum +ℤ part) < 2 ^ 127
+  pub further : (part next : ℤ) → part ≡ paid a player z n p → next ≡ sum +ℤ part → IsCome (paid a player z n) row rest next
+
+module _ (a : Abstract) (player z c : ℕ) (row : List Pair) (u : IsAlong a player z c row) (n : ℕ → ℕ) where
   g : AreGiven (frame_of a) (lists_of a)
-  g = given_in a classes
+  g = given_in a u.classes
 
   w : IsWalked (frame_of a) player
-  w = g.walked player some two
+  w = g.walked player u.some u.two
 
-  pub pair_in : (left rest : List Pair) (p : Pair) → left ≡ drop (passed row left) row → left ≡ p ∷ rest
-      → IsTurn row left rest p × IsKnown (frame_of a) (lists_of a) player z p
-  pair_in left rest p on first =
-      let t = turn row left rest p on first in
-      (t, known (frame_of a) g.in_range (lists_of a) g.classes player w g.modest z l c row h left rest p t)
-
-  pub sums_fit : (n : ℕ → ℕ) → ((e : ℕ) → IsClass (lists_of a) (round_of (frame_of a) (at_end z)) e → n e ≤ 2 ^ 36) → (i : ℕ) (s : ℤ)
-      → s ≡ sum_z (λ (p : Pair). pos (n p.two) *ℤ pair_pays player (end_at (frame_of a) z) p) (take i row) → unsigned_abs s < 2 ^ 127
-  sums_fit n few i s is =
-      let size = prefix_small (frame_of a) g.in_range (lists_of a) g.classes player w g.modest z l c row h n (2 ^ 36) few i in
-      let weight = class_few_weight (frame_of a) g.in_range (lists_of a) g.classes player w g.modest z l c row h in
+  sums_fit : ((e : ℕ) → IsClass (lists_of a) (round_of (frame_of a) (at_end z)) e → n e ≤ 2 ^ 36) → (i : ℕ) (s : ℤ)
+      → s ≡ sum_z (paid a player z n) (take i row) → unsigned_abs s < 2 ^ 127
+  sums_fit few i s is =
+      let size = prefix_small (frame_of a) g.in_range (lists_of a) g.classes player w g.modest z u.inside c row u.is_row n (2 ^ 36) few i in
+      let weight = class_few_weight (frame_of a) g.in_range (lists_of a) g.classes player w g.modest z u.inside c row u.is_row in
       omega (arith, size, product_few (2 ^ 36) _ (omega arith) weight, ap unsigned_abs is)
 
-  pub sum_is_all : (n : ℕ → ℕ) (left : List Pair) → left ≡ [] → (s : ℤ) → s
-      ≡ sum_z (λ (p : Pair). pos (n p.two) *ℤ pair_pays player (end_at (frame_of a) z) p) (take (passed row left) row)
+  pub here_in : (left rest : List Pair) (p : Pair) (sum : ℤ) → IsCome (paid a player z n) row left sum → left ≡ p ∷ rest → IsHere a player z row rest p n sum
+  here_in left rest p sum h first =
+      let t = turn row left rest p h.on first in
+      record {
+        known = known (frame_of a) g.in_range (lists_of a) g.classes player w g.modest z u.inside c row u.is_row left rest p t;
+        fits = λ part e few. sums_fit few (passed row rest) (sum +ℤ part) (come_further (paid a player z n) row left rest p sum part h t e).all;
+        further = λ part next e is. subst (IsCome (paid a player z n) row rest) (sym is) (come_further (paid a player z n) row left rest p sum part h t e);
+      }
+
+  pub sum_is_all : (left : List Pair) (s : ℤ) → IsCome (paid a player z n) row left s → left ≡ []
       → s ≡ sum_z (λ e. pos (n e) *ℤ pair_sum (frame_of a) (lists_of a) (lists_of a) (round_of (frame_of a) (at_end z)) (payoff_to (frame_of a) player z) c e)
       (classes_in (lists_of a) (round_of (frame_of a) (at_end z)))
-  sum_is_all n left none s is =
-      sum_ended (λ (p : Pair). pos (n p.two) *ℤ pair_pays player (end_at (frame_of a) z) p) row left none s is
-      ∙ row_sum (frame_of a) (lists_of a) player (one_or_two player some two) w z l c row h g.in_range g.classes n
+  sum_is_all left s h none =
+      sum_ended (paid a player z n) row left none s h.all
+      ∙ row_sum (frame_of a) (lists_of a) player (one_or_two player u.some u.two) w z u.inside c row u.is_row g.in_range g.classes n

@@ -1,16 +1,11 @@
-use Rattle.std.proofs.Common.{◌≡◌, drop, take}
-use Rattle.gs_model.specs.Sums.{sum_z}
 use Rattle.gs_seq.specs.Abstracts.{frame_of, lists_of}
 use Rattle.gs_seq.specs.Plans.{class_plan}
 use Rattle.gs_seq.proofs.EndSums.{pair_term}
-use Rattle.gs_seq.proofs.Turns.{passed}
+use Rattle.gs_seq.proofs.Turns.{IsCome}
 use Rattle.gs_seq.proofs.form.Abstract.row_worth.Given as goal
 
 abbrev pub invariant-loop-pair : goal.invariant-loop-pair
 invariant-loop-pair l =
     let f = frame_of l.self in
     let lists = lists_of l.self in
-    record {
-      on : l.pair-iterator ≡ drop (passed l.fn.row l.pair-iterator) l.fn.row;
-      sum : l.sum ≡ sum_z (pair_term f lists l.player (class_plan f lists l.other) l.end) (take (passed l.fn.row l.pair-iterator) l.fn.row);
-    }
+    IsCome (pair_term f lists l.player (class_plan f lists l.other) l.end) l.fn.row l.pair-iterator l.sum
