@@ -1,5 +1,5 @@
 -- What the points of a valid game say of its frame, and how many there are.
-use Rattle.std.proofs.Common.{◌≡◌, ℕ, ◌+◌, ◌<◌, ◌≤◌, ◌^◌, List, [], ◌∷◌, ◌++◌, length, map, get_or, refl, sym, ap, ◌∙◌, arith, length-append, None, sum_by, subst, ⊎_elim}
+use Rattle.std.proofs.Common.{◌≡◌, ℕ, ◌+◌, ◌<◌, ◌≤◌, ◌^◌, List, [], ◌∷◌, ◌++◌, length, map, get_or, refl, sym, ap, ◌∙◌, arith, length-append, Option, None, Some, sum_by, subst, ⊎_elim}
 use Rattle.std.proofs.lemmas.Bool.{cases_eq}
 use Rattle.std.specs.Prelude.{◌⊎◌, flat_map, option_map}
 use Rattle.std.specs.List.{range_with_len}
@@ -10,12 +10,13 @@ use Rattle.std.proofs.lemmas.List.Sums.{sum_by-cons}
 use Rattle.gs_game.specs.Games.{game_of, plain_trees, round_of}
 use Rattle.gs_game.specs.Seen.{OwnPoint, own_point, point_of, step_of}
 use Rattle.gs_game.specs.declared.positions.Point.{Point as StoredPoint}
+use Rattle.gs_game.specs.declared.positions.Step.{Step as StoredStep}
 use Rattle.gs_game.specs.declared.valid.ValidGame.{ValidGame}
 use Rattle.gs_game.proofs.Checked.{lines_follow}
 use Rattle.gs_game.proofs.Deciding.{trees_are}
 use Rattle.gs_game.proofs.EndLaws.{rounds_count}
 use Rattle.gs_game.proofs.Playable.{is_playable}
-use Rattle.gs_model.specs.Frame.{Frame, end_count, last_step, leads_to, move_count, player_at, point, point_count, round_of as round_at}
+use Rattle.gs_model.specs.Frame.{Frame, end_count, last_round, last_step, leads_to, move_count, player_at, point, point_count, round_of as round_at}
 use Rattle.gs_model.specs.FrameFacts.{IsWalked, ends_of, next_of, points_of}
 use Rattle.gs_model.specs.Game.{IsPlayable}
 use Rattle.gs_model.specs.Positions.{Point, at_end, at_point}
@@ -72,6 +73,29 @@ point_reads g ps q p e l is =
 pub place_reads : (g : ValidGame) (ps : List StoredPoint) (q : ℕ) (p : StoredPoint) → map point_of ps ≡ map own_point (frame_in g).points
     → q < point_count (frame_in g) → p ≡ get_or ps q p → Reads (frame_in g) q (get_or ps q p)
 place_reads g ps q p e l is = subst (Reads (frame_in g) q) is (point_reads g ps q p e l is)
+
+-- who chooses at a point, of as many as the frame has
+pub chooser : (g : ValidGame) (ps : List StoredPoint) (q count : ℕ) (p : StoredPoint) → map point_of ps ≡ map own_point (frame_in g).points
+    → count ≡ point_count (frame_in g) → q < count → p ≡ get_or ps q p → (get_or ps q p).player ≡ player_at (frame_in g) q
+chooser g ps q count p e all l is = (place_reads g ps q p e (omega arith) is).player
+
+-- the round of a point is one of the game's
+pub round_in : (g : ValidGame) (q : ℕ) (p : StoredPoint) → Reads (frame_in g) q p → q < point_count (frame_in g)
+    → (0 < p.round) × (p.round ≤ last_round (frame_in g))
+round_in g q p r l =
+    let w = walked g 1 (omega arith) (omega arith) in
+    (omega (arith, r.round, w.some_round q l), omega (arith, r.round, w.point_in q l))
+
+-- a player's last step before an end, as the program has it, which is made at a point of the game
+pub record IsStepBefore (g : ValidGame) (player z : ℕ) (s : StoredStep) : Type 0 where
+  pub made : last_step (frame_in g) player (at_end z) ≡ Some (step_of s)
+  pub inside : (step_of s).point < point_count (frame_in g)
+
+pub step_before : (g : ValidGame) (player z : ℕ) (o : Option StoredStep) (s : StoredStep) → 0 < player → player ≤ 2 → z < end_count (frame_in g)
+    → option_map step_of o ≡ last_step (frame_in g) player (at_end z) → o ≡ Some s → IsStepBefore g player z s
+step_before g player z o s some two l is was =
+    let made : last_step (frame_in g) player (at_end z) ≡ Some (step_of s) = sym is ∙ ap (option_map step_of) was in
+    record { made = made; inside = (walked g player some two).earlier_end z (step_of s) l made }
 
 -- players 1 and 2 choose
 pub players : (g : ValidGame) (q : ℕ) → q < point_count (frame_in g) → (player_at (frame_in g) q ≡ 1) ⊎ (player_at (frame_in g) q ≡ 2)

@@ -10,17 +10,14 @@ use Rattle.gs_seq.specs.Slots.{slots_before}
 use Rattle.gs_seq.proofs.Firsts.{firsts_more, firsts_same}
 use Rattle.gs_seq.proofs.Leaks.{slots_none}
 use Rattle.gs_seq.proofs.Choices.{some_move}
-use Rattle.gs_seq.proofs.Points.{place_reads, playable, walked_at}
+use Rattle.gs_seq.proofs.Points.{chooser, playable, walked_at}
 use Rattle.gs_seq.proofs.SlotLaws.{over}
 use Rattle.gs_seq.proofs.first.first_weights.Goals as goal
-use Rattle.gs_seq.proofs.first.first_weights.Goals.{After-index-points-point, In-loop-point, then-points-point, else-points-point}
-
-inside : (c : In-loop-point) → c.loop-point.point < point_count (frame_in c.args.game.now)
-inside c = omega (arith, c.loop-point-test.true, c.point_total-point-end.ensures)
+use Rattle.gs_seq.proofs.first.first_weights.Goals.{After-index-points-point, then-points-point, else-points-point}
 
 -- who chooses at the point
 whose : (c : After-index-points-point) → (get_or c.points.result.now c.loop-point.point c.index-points-point.result).player ≡ player_at (frame_in c.args.game.now) c.loop-point.point
-whose c = (place_reads c.args.game.now c.points.result.now c.loop-point.point c.index-points-point.result c.points.ensures (inside (goal.at.After-index-points-point c).In-loop-point) c.index-points-point.is).player
+whose c = chooser c.args.game.now c.points.result.now c.loop-point.point _ c.index-points-point.result c.points.ensures c.point_total-point-end.ensures c.loop-point-test.true c.index-points-point.is
 
 pub put_first-requires-clause-own : goal.put_first-requires-clause-own
 put_first-requires-clause-own c = sym (whose (goal.at.put_first-requires-clause-own c).After-index-points-point) ∙ c.if-points-point.true
@@ -32,7 +29,7 @@ loop-point-preserved c =
     let f = frame_in g in
     let q = c.loop-point.point in
     let lists = c.args.classes.now.lists in
-    let within = inside at.In-loop-point in
+    let within : q < point_count f = omega (arith, c.loop-point-test.true, c.point_total-point-end.ensures) in
     let chooser = whose at.After-index-points-point in
     let i = c.loop-point.invariant in
     elim c.if-points-point.branch [

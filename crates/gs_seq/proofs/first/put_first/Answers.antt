@@ -4,7 +4,6 @@ use Rattle.std.proofs.lemmas.Bool.{cases_eq}
 use Rattle.gs_game.specs.Games.{game_of}
 use Rattle.gs_model.specs.Classes.{class_count, first_member}
 use Rattle.gs_model.specs.Frame.{last_step, move_count, round_of}
-use Rattle.gs_model.specs.FrameFacts.{IsWalked}
 use Rattle.gs_model.specs.Plans.{lift, number_before}
 use Rattle.gs_model.specs.Positions.{at_point}
 use Rattle.gs_model.proofs.Ranges.{in_range}
@@ -14,7 +13,7 @@ use Rattle.gs_seq.specs.Slots.{plan_of, slots_before}
 use Rattle.gs_seq.proofs.Choices.{some_move}
 use Rattle.gs_seq.proofs.Firsts.{first_kept, first_put, slots_own}
 use Rattle.gs_seq.proofs.Leaks.{RowAt, row_at}
-use Rattle.gs_seq.proofs.Points.{Reads, playable, point_reads, walked_at}
+use Rattle.gs_seq.proofs.Points.{Reads, playable, point_reads, round_in, walked_at}
 use Rattle.gs_seq.proofs.SlotLaws.{over, slots_own_before}
 use Rattle.gs_seq.proofs.first.put_first.Goals as goal
 use Rattle.gs_seq.proofs.first.put_first.Goals.{After-len-moves, In-loop-before}
@@ -22,9 +21,6 @@ use Rattle.gs_seq.proofs.first.put_first.Goals.{After-len-moves, In-loop-before}
 -- what the point says
 reads : (c : After-len-moves) → Reads (frame_in c.args.game.now) c.args.point c.index-points-point.result
 reads c = point_reads c.args.game.now c.points.result.now c.args.point c.index-points-point.result c.points.ensures c.requires.in_range c.index-points-point.is
-
-walked : (c : After-len-moves) → IsWalked (frame_in c.args.game.now) c.args.player
-walked c = walked_at c.args.game.now c.args.player c.args.point c.requires.in_range c.requires.own
 
 -- where the weights of the class stand
 row : (c : In-loop-before) → RowAt (frame_in c.args.game.now) c.args.classes.now.lists c.args.player c.args.point c.loop-before.before (get_or c.args.offsets.now c.args.point 0) c.len-moves.result
@@ -45,12 +41,12 @@ inside c =
 
 pub classes-before-end-requires-clause-some : goal.classes-before-end-requires-clause-some
 classes-before-end-requires-clause-some c =
-    let at = (goal.at.classes-before-end-requires-clause-some c).After-len-moves in omega (arith, (reads at).round, (walked at).some_round c.args.point c.requires.in_range)
+    (round_in c.args.game.now c.args.point c.index-points-point.result (reads (goal.at.classes-before-end-requires-clause-some c).After-len-moves) c.requires.in_range).0
 
 pub classes-before-end-requires-clause-top : goal.classes-before-end-requires-clause-top
 classes-before-end-requires-clause-top c =
-    let at = (goal.at.classes-before-end-requires-clause-top c).After-len-moves in
-    omega (arith, (reads at).round, (walked at).point_in c.args.point c.requires.in_range, (over (frame_in c.args.game.now) c.args.classes.now c.requires.parents c.rounds-rounds.ensures.sound).rounds)
+    let r = round_in c.args.game.now c.args.point c.index-points-point.result (reads (goal.at.classes-before-end-requires-clause-top c).After-len-moves) c.requires.in_range in
+    omega (arith, r.1, (over (frame_in c.args.game.now) c.args.classes.now c.requires.parents c.rounds-rounds.ensures.sound).rounds)
 
 pub coming-came-requires-clause-source : goal.coming-came-requires-clause-source
 coming-came-requires-clause-source c = c.point_source-source.ensures c.args.classes.now.lists c.requires.offsets
@@ -82,7 +78,7 @@ loop-before-preserved c =
     let q = c.args.point in
     let p = c.args.player in
     let lists = c.args.classes.now.lists in
-    let w = walked (goal.at.loop-before-preserved c).After-len-moves in
+    let w = walked_at g p q c.requires.in_range c.requires.own in
     let r = row at in
     let some = some_move g q c.requires.in_range in
     let before = c.loop-before.before in

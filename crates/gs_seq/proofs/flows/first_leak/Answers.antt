@@ -1,19 +1,16 @@
-use Rattle.std.proofs.Common.{◌≡◌, ◌+◌, ◌<◌, get_or, sym, ◌∙◌, arith}
+use Rattle.std.proofs.Common.{◌≡◌, ◌+◌, get_or, sym, ◌∙◌, arith}
 use Rattle.gs_model.specs.Frame.{player_at, point_count}
 use Rattle.gs_seq.specs.Games.{frame_in}
 use Rattle.gs_seq.specs.Slots.{plan_of}
 use Rattle.gs_seq.proofs.Leaks.{flows_more, slots_none}
-use Rattle.gs_seq.proofs.Points.{place_reads}
+use Rattle.gs_seq.proofs.Points.{chooser}
 use Rattle.gs_seq.proofs.SlotLaws.{slots_le, slots_more}
 use Rattle.gs_seq.proofs.flows.first_leak.Goals as goal
-use Rattle.gs_seq.proofs.flows.first_leak.Goals.{After-index-points-point, In-loop-point}
-
-inside : (c : In-loop-point) → c.loop-point.point < point_count (frame_in c.args.game.now)
-inside c = omega (arith, c.loop-point-test.true, c.point_total-point-end.ensures)
+use Rattle.gs_seq.proofs.flows.first_leak.Goals.{After-index-points-point}
 
 -- who chooses at the point
 whose : (c : After-index-points-point) → (get_or c.points.result.now c.loop-point.point c.index-points-point.result).player ≡ player_at (frame_in c.args.game.now) c.loop-point.point
-whose c = (place_reads c.args.game.now c.points.result.now c.loop-point.point c.index-points-point.result c.points.ensures (inside (goal.at.After-index-points-point c).In-loop-point) c.index-points-point.is).player
+whose c = chooser c.args.game.now c.points.result.now c.loop-point.point _ c.index-points-point.result c.points.ensures c.point_total-point-end.ensures c.loop-point-test.true c.index-points-point.is
 
 pub loop-point-preserved-then-points-point : goal.loop-point-preserved-then-points-point
 loop-point-preserved-then-points-point c =
@@ -33,14 +30,14 @@ pub returns-in-Some : goal.returns-in-Some
 returns-in-Some c =
     let at = goal.at.returns-in-Some c in
     let h = c.in-Some.ensures in
-    record { point_in = inside at.In-loop-point; own = sym (whose at.After-index-points-point) ∙ c.if-points-point.false; class_in = h.0; points = c.loop-point.invariant.flows; classes = h.1; here = h.2 }
+    record { point_in = omega (arith, c.loop-point-test.true, c.point_total-point-end.ensures); own = sym (whose at.After-index-points-point) ∙ c.if-points-point.false; class_in = h.0; points = c.loop-point.invariant.flows; classes = h.1; here = h.2 }
 
 pub overflow_add-first : goal.overflow_add-first
 overflow_add-first c =
     let f = frame_in c.args.game.now in
     let lists = c.args.classes.now.lists in
     let q = c.loop-point.point in
-    let up = slots_le f lists c.args.player (q + 1) (point_count f) (omega (arith, inside (goal.at.overflow_add-first c).In-loop-point)) in
+    let up = slots_le f lists c.args.player (q + 1) (point_count f) (omega (arith, c.loop-point-test.true, c.point_total-point-end.ensures)) in
     omega (arith, c.loop-point.invariant.first_is, c.slots_at-first.ensures, slots_more f lists c.args.player q, up, c.requires.long)
 
 pub loop-point-preserved : goal.loop-point-preserved

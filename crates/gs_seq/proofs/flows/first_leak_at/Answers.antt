@@ -2,7 +2,6 @@ use Rattle.std.proofs.Common.{◌≡◌, ◌+◌, sum_by, ap, sym, ◌∙◌, su
 use Rattle.std.proofs.lemmas.Bool.{cases_eq}
 use Rattle.gs_model.specs.Classes.{class_count, first_member}
 use Rattle.gs_model.specs.Frame.{choices_at, last_step, round_of}
-use Rattle.gs_model.specs.FrameFacts.{IsWalked}
 use Rattle.gs_model.specs.Plans.{lift, number_before}
 use Rattle.gs_model.specs.Positions.{at_point}
 use Rattle.gs_seq.specs.Faults.{FlowsAt}
@@ -10,7 +9,7 @@ use Rattle.gs_seq.specs.Games.{frame_in}
 use Rattle.gs_seq.specs.Slots.{plan_of}
 use Rattle.gs_seq.specs.Sources.{MatchSource}
 use Rattle.gs_seq.proofs.Leaks.{RowAt, class_sum, row_at}
-use Rattle.gs_seq.proofs.Points.{Reads, point_reads, walked_at}
+use Rattle.gs_seq.proofs.Points.{Reads, point_reads, round_in}
 use Rattle.gs_seq.proofs.SlotLaws.{over, slots_own_before}
 use Rattle.gs_seq.proofs.flows.first_leak_at.Goals as goal
 use Rattle.gs_seq.proofs.flows.first_leak_at.Goals.{After-len-moves, After-from, In-loop-before}
@@ -50,16 +49,12 @@ sums c =
 
 pub classes-before-end-requires-clause-some : goal.classes-before-end-requires-clause-some
 classes-before-end-requires-clause-some c =
-    let w : IsWalked (frame_in c.args.game.now) c.args.player = walked_at c.args.game.now c.args.player c.args.point c.requires.in_range c.requires.own in
-    omega (arith, (reads (goal.at.classes-before-end-requires-clause-some c).After-len-moves).round, w.some_round c.args.point c.requires.in_range)
+    (round_in c.args.game.now c.args.point c.index-points-point.result (reads (goal.at.classes-before-end-requires-clause-some c).After-len-moves) c.requires.in_range).0
 
 pub classes-before-end-requires-clause-top : goal.classes-before-end-requires-clause-top
 classes-before-end-requires-clause-top c =
-    let f = frame_in c.args.game.now in
-    let q = c.args.point in
-    let r = reads (goal.at.classes-before-end-requires-clause-top c).After-len-moves in
-    let w = walked_at c.args.game.now c.args.player q c.requires.in_range c.requires.own in
-    omega (arith, r.round, w.point_in q c.requires.in_range, (over f c.args.classes.now c.requires.parents c.rounds-rounds.ensures.sound).rounds)
+    let r = round_in c.args.game.now c.args.point c.index-points-point.result (reads (goal.at.classes-before-end-requires-clause-top c).After-len-moves) c.requires.in_range in
+    omega (arith, r.1, (over (frame_in c.args.game.now) c.args.classes.now c.requires.parents c.rounds-rounds.ensures.sound).rounds)
 
 pub overflow_mul-slot : goal.overflow_mul-slot
 overflow_mul-slot c = let r = row (goal.at.overflow_mul-slot c).In-loop-before in omega (arith, r.room, r.few)

@@ -6,22 +6,20 @@ use Rattle.gs_model.specs.Classes.{class_count}
 use Rattle.gs_model.specs.Frame.{move_count, player_at, round_of}
 use Rattle.gs_model.specs.Positions.{at_point}
 use Rattle.gs_seq.specs.Games.{frame_in}
-use Rattle.gs_seq.proofs.Points.{point_reads, walked}
+use Rattle.gs_seq.proofs.Points.{point_reads, round_in, walked}
 use Rattle.gs_seq.proofs.SlotLaws.{class_few, moves_few, not_eq, over}
 use Rattle.gs_seq.proofs.slots.slots_at.Goals as goal
 
 pub classes-requires-clause-some : goal.classes-requires-clause-some
 classes-requires-clause-some c =
     let r = point_reads c.args.game.now c.points.result.now c.args.point c.index-points-point.result c.points.ensures c.requires.in_range c.index-points-point.is in
-    let w = walked c.args.game.now 1 (omega arith) (omega arith) in
-    omega (arith, r.round, w.some_round c.args.point c.requires.in_range)
+    (round_in c.args.game.now c.args.point c.index-points-point.result r c.requires.in_range).0
 
 pub classes-requires-clause-top : goal.classes-requires-clause-top
 classes-requires-clause-top c =
     let f = frame_in c.args.game.now in
     let r = point_reads c.args.game.now c.points.result.now c.args.point c.index-points-point.result c.points.ensures c.requires.in_range c.index-points-point.is in
-    let w = walked c.args.game.now 1 (omega arith) (omega arith) in
-    omega (arith, r.round, w.point_in c.args.point c.requires.in_range, (over f c.args.classes.now c.requires.parents c.rounds-rounds.ensures.sound).rounds)
+    omega (arith, (round_in c.args.game.now c.args.point c.index-points-point.result r c.requires.in_range).1, (over f c.args.classes.now c.requires.parents c.rounds-rounds.ensures.sound).rounds)
 
 pub overflow_mul-result : goal.overflow_mul-result
 overflow_mul-result c =
