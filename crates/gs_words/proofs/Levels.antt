@@ -1,11 +1,18 @@
 -- What the program reads of the words behind a command: a parse that comes to a level, and the level of each command.
-use Rattle.std.proofs.Common.{◌≡◌, ◌++◌, ℕ, true, false, refl, List, [], ◌∷◌, Some, ap, ◌∙◌, fold, unwrap_or, append_assoc, append-nil}
-use Rattle.std.specs.Prelude.{find, slice_get}
+use Rattle.std.proofs.Common.{◌≡◌, ◌++◌, ℕ, Bool, true, false, refl, List, [], ◌∷◌, Option, Some, None, codes, ap, ◌∙◌, fold, unwrap_or, append_assoc, append-nil}
+use Rattle.std.specs.Prelude.{find}
 use Rattle.std.specs.List.{list_all}
+use Rattle.std.specs.Str.{bytes_eq}
+use Rattle.clap.specs.Facts.{unwrap_or_range}
+use Rattle.clap.specs.Lexer.{long_of}
 use Rattle.clap.specs.Words.{App, Row, Rule, Text, built, fault_of, new_rule, subcommand_of}
 use Rattle.clap.specs.Simple.{Shape, entered, label_of, names_of}
-use Rattle.clap.specs.Walk.{Held, Names, Walk, answers_to, finished, idle, nothing_held, settled, stop_after, walk_from, walked}
-use Rattle.clap.specs.Faults.{built_fault, check_fault, defaults_fault, level_fault, turn_fault, walk_fault}
+use Rattle.clap.specs.Walk.{Held, Names, Walk, action_of, answers_to, arg_by_id, arg_by_long, finished, idle, most_values, nothing_held, settled, stop_after, takes_values, walk_from, walked}
+use Rattle.clap.specs.Faults.{built_fault, check_fault, defaults_fault, level_fault, turn_fault, values_fault, walk_fault}
+use Rattle.clap.specs.Kinds.{Kinds}
+use Rattle.clap.specs.declared.builder.ArgAction.{ArgAction}
+use Rattle.clap.specs.declared.builder.range.ValueRange.{ValueRange}
+use Rattle.clap.specs.declared.builder.ArgAction.TheVariants.{Set, SetTrue}
 use Rattle.clap.proofs.FaultLemmas.{past, stopped_fault}
 use Rattle.clap.proofs.OnLiterals.{clap_on_literals}
 use Rattle.gs_words.specs.Commands.{command_of, command_word, options_of}
@@ -13,8 +20,10 @@ use Rattle.gs_words.specs.Program.{program}
 use Rattle.gs_words.specs.Requests.{request_of, task_in}
 use Rattle.gs_words.specs.declared.names.CommandName.{CommandName}
 use Rattle.gs_words.specs.declared.names.CommandName.TheVariants.{Shrink, Check, Solve, Play, Evaluate, Query, Make, Upgrade, Judge, Duel, Certify, Verify, Path}
+use Rattle.gs_words.specs.Plain.{long_word}
 use Rattle.gs_words.proofs.AnyOrder.{has_good_default}
 use Rattle.gs_words.proofs.Obeyed.{AreKnown}
+use Rattle.gs_words.proofs.Options.{IsFlag, IsNamed, IsValued}
 
 -- words after a command's name are kept for it
 stop_more : (R : List Rule) (names : Names) (h : Held) (name : Text) (ws rest : List Text)
@@ -70,8 +79,8 @@ pub opens : Opens (built program)
 unfolding clap_on_literals
 opens = record { defaults = refl; checks = refl }
 
-abbrev rule_at : Shape → ℕ → Rule
-rule_at s i = unwrap_or (slice_get s.rules i) (new_rule [])
+abbrev rule_of : List Rule → Text → Rule
+rule_of R n = unwrap_or (arg_by_long R n) (new_rule [])
 
 -- the word of a command leads to a level that has its options
 pub record IsCommand (c : CommandName) : Type 0 where
@@ -80,280 +89,101 @@ pub record IsCommand (c : CommandName) : Type 0 where
   pub known : AreKnown (shape_of c).rules (options_of c)
   pub defaults : list_all has_good_default (shape_of c).rules ≡ true
 
+-- what a parse makes of an option's word and of its rule
+abbrev OptionRead : Type 0
+OptionRead = Option (Text × Option Text) × Bool × Option Rule × Text × Bool × Option Rule × ℕ × Bool × ArgAction × ValueRange
+
+abbrev option_read : List Rule → Text → OptionRead
+option_read R n =
+    let a = rule_of R n in
+    let dashed = long_word n in (
+      long_of dashed,
+      bytes_eq dashed (45 ∷ 45 ∷ []),
+      arg_by_long R n,
+      a.id,
+      takes_values a,
+      arg_by_id R n,
+      most_values a,
+      bytes_eq n a.id,
+      action_of a,
+      unwrap_or_range a.range,
+    )
+
+-- the same where the option takes so many values
+abbrev read_as : List Rule → Text → Bool → ℕ → ArgAction → OptionRead
+read_as R n takes count action =
+    let a = Some (rule_of R n) in
+    (Some (n, None), false, a, n, takes, a, count, true, action, record { start_inclusive = count; end_inclusive = count })
+
+named : {R : List Rule} {n : Text} {takes : Bool} {count : ℕ} {action : ArgAction}
+    → option_read R n ≡ read_as R n takes count action → IsNamed R n (rule_of R n)
+named e = record { long = ap (λ p. p.0) e; dashes = ap (λ p. p.1) e; by_long = ap (λ p. p.2) e; id = ap (λ p. p.3) e }
+
+-- so an option with a value is known, and a flag
+valued : {R : List Rule} {n : Text} → option_read R n ≡ read_as R n true 1 Set → ((v : Text) → values_fault (rule_of R n) (v ∷ []) ≡ [])
+    → (a : Rule) × IsValued R n a
+valued {R} {n} e passes = (
+  rule_of R n,
+  record {
+    named = named e;
+    takes = ap (λ p. p.4) e;
+    by_id = ap (λ p. p.5) e;
+    most = ap (λ p. p.6) e;
+    same = ap (λ p. p.7) e;
+    set = ap (λ p. p.8) e;
+    range = ap (λ p. p.9) e;
+    passes = passes;
+  },
+)
+
+flag : {R : List Rule} {n : Text} → option_read R n ≡ read_as R n false 0 SetTrue → (rule_of R n).missing ≡ codes "true" ∷ []
+    → values_fault (rule_of R n) (codes "true" ∷ []) ≡ [] → (a : Rule) × IsFlag R n a
+flag {R} {n} e missing passes = (
+  rule_of R n,
+  record {
+    named = named e;
+    takes = ap (λ p. p.4) e;
+    most = ap (λ p. p.6) e;
+    set = ap (λ p. p.8) e;
+    range = ap (λ p. p.9) e;
+    missing = missing;
+    passes = passes;
+  },
+)
+
+-- what the word of a command is read as, and its level
+abbrev command_read : Text → Option CommandName × Walk × Kinds × Option Shape
+command_read word = (
+  command_of word,
+  walked (built program).top.rules (names_of (built program)) (walk_from nothing_held) word,
+  turn_fault (built program).top (names_of (built program)) (walk_from nothing_held) word,
+  find (λ s. answers_to word (label_of s)) (built program).subs,
+)
+
+command : {c : CommandName} → command_read (command_word c) ≡ (Some c, stopped_at (command_word c) [], [], Some (shape_of c))
+    → (shape_of c).name ≡ command_word c → list_all has_good_default (shape_of c).rules ≡ true
+    → AreKnown (shape_of c).rules (options_of c) → IsCommand c
+command {c} e name defaults known =
+    let leads : LeadsTo (built program) (command_word c) (shape_of c) =
+    record { step = ap (λ p. p.1) e; clean = ap (λ p. p.2) e; found = ap (λ p. p.3) e; name = name } in
+    record { named = ap (λ p. p.0) e; leads = leads; known = known; defaults = defaults }
+
 pub is_command : (c : CommandName) → IsCommand c
 unfolding clap_on_literals
-is_command Shrink = record {
-  named = refl;
-  leads = record { step = refl; clean = refl; found = refl; name = refl };
-  known = (
-    (
-      rule_at (shape_of Shrink) 0,
-      record {
-        named = record { long = refl; dashes = refl; by_long = refl; id = refl };
-        takes = refl;
-        most = refl;
-        set = refl;
-        range = refl;
-        missing = refl;
-        passes = refl;
-      },
-    ),
-    tt,
-  );
-  defaults = refl;
-}
-is_command Check = record {
-  named = refl;
-  leads = record { step = refl; clean = refl; found = refl; name = refl };
-  known = (
-    (
-      rule_at (shape_of Check) 0,
-      record {
-        named = record { long = refl; dashes = refl; by_long = refl; id = refl };
-        takes = refl;
-        by_id = refl;
-        most = refl;
-        same = refl;
-        set = refl;
-        range = refl;
-        passes = λ v. refl;
-      },
-    ),
-    (
-      (
-        rule_at (shape_of Check) 1,
-        record {
-          named = record { long = refl; dashes = refl; by_long = refl; id = refl };
-          takes = refl;
-          most = refl;
-          set = refl;
-          range = refl;
-          missing = refl;
-          passes = refl;
-        },
-      ),
-      tt,
-    ),
-  );
-  defaults = refl;
-}
-is_command Solve = record {
-  named = refl;
-  leads = record { step = refl; clean = refl; found = refl; name = refl };
-  known = (
-    (
-      rule_at (shape_of Solve) 0,
-      record {
-        named = record { long = refl; dashes = refl; by_long = refl; id = refl };
-        takes = refl;
-        by_id = refl;
-        most = refl;
-        same = refl;
-        set = refl;
-        range = refl;
-        passes = λ v. refl;
-      },
-    ),
-    tt,
-  );
-  defaults = refl;
-}
-is_command Play = record {
-  named = refl;
-  leads = record { step = refl; clean = refl; found = refl; name = refl };
-  known = (
-    (
-      rule_at (shape_of Play) 0,
-      record {
-        named = record { long = refl; dashes = refl; by_long = refl; id = refl };
-        takes = refl;
-        by_id = refl;
-        most = refl;
-        same = refl;
-        set = refl;
-        range = refl;
-        passes = λ v. refl;
-      },
-    ),
-    (
-      (
-        rule_at (shape_of Play) 1,
-        record {
-          named = record { long = refl; dashes = refl; by_long = refl; id = refl };
-          takes = refl;
-          by_id = refl;
-          most = refl;
-          same = refl;
-          set = refl;
-          range = refl;
-          passes = λ v. refl;
-        },
-      ),
-      tt,
-    ),
-  );
-  defaults = refl;
-}
-is_command Evaluate = record { named = refl; leads = record { step = refl; clean = refl; found = refl; name = refl }; known = tt; defaults = refl }
-is_command Query = record {
-  named = refl;
-  leads = record { step = refl; clean = refl; found = refl; name = refl };
-  known = (
-    (
-      rule_at (shape_of Query) 0,
-      record {
-        named = record { long = refl; dashes = refl; by_long = refl; id = refl };
-        takes = refl;
-        by_id = refl;
-        most = refl;
-        same = refl;
-        set = refl;
-        range = refl;
-        passes = λ v. refl;
-      },
-    ),
-    (
-      (
-        rule_at (shape_of Query) 1,
-        record {
-          named = record { long = refl; dashes = refl; by_long = refl; id = refl };
-          takes = refl;
-          by_id = refl;
-          most = refl;
-          same = refl;
-          set = refl;
-          range = refl;
-          passes = λ v. refl;
-        },
-      ),
-      (
-        (
-          rule_at (shape_of Query) 2,
-          record {
-            named = record { long = refl; dashes = refl; by_long = refl; id = refl };
-            takes = refl;
-            by_id = refl;
-            most = refl;
-            same = refl;
-            set = refl;
-            range = refl;
-            passes = λ v. refl;
-          },
-        ),
-        tt,
-      ),
-    ),
-  );
-  defaults = refl;
-}
-is_command Make = record {
-  named = refl;
-  leads = record { step = refl; clean = refl; found = refl; name = refl };
-  known = (
-    (
-      rule_at (shape_of Make) 0,
-      record {
-        named = record { long = refl; dashes = refl; by_long = refl; id = refl };
-        takes = refl;
-        by_id = refl;
-        most = refl;
-        same = refl;
-        set = refl;
-        range = refl;
-        passes = λ v. refl;
-      },
-    ),
-    (
-      (
-        rule_at (shape_of Make) 1,
-        record {
-          named = record { long = refl; dashes = refl; by_long = refl; id = refl };
-          takes = refl;
-          by_id = refl;
-          most = refl;
-          same = refl;
-          set = refl;
-          range = refl;
-          passes = λ v. refl;
-        },
-      ),
-      (
-        (
-          rule_at (shape_of Make) 2,
-          record {
-            named = record { long = refl; dashes = refl; by_long = refl; id = refl };
-            takes = refl;
-            by_id = refl;
-            most = refl;
-            same = refl;
-            set = refl;
-            range = refl;
-            passes = λ v. refl;
-          },
-        ),
-        (
-          (
-            rule_at (shape_of Make) 3,
-            record {
-              named =
-                  record { long = refl; dashes = refl; by_long = refl; id = refl };
-              takes = refl;
-              by_id = refl;
-              most = refl;
-              same = refl;
-              set = refl;
-              range = refl;
-              passes = λ v. refl;
-            },
-          ),
-          (
-            (
-              rule_at (shape_of Make) 4,
-              record {
-                named =
-                    record { long = refl; dashes = refl; by_long = refl; id = refl };
-                takes = refl;
-                most = refl;
-                set = refl;
-                range = refl;
-                missing = refl;
-                passes = refl;
-              },
-            ),
-            tt,
-          ),
-        ),
-      ),
-    ),
-  );
-  defaults = refl;
-}
-is_command Upgrade = record { named = refl; leads = record { step = refl; clean = refl; found = refl; name = refl }; known = tt; defaults = refl }
-is_command Judge = record { named = refl; leads = record { step = refl; clean = refl; found = refl; name = refl }; known = tt; defaults = refl }
-is_command Duel = record { named = refl; leads = record { step = refl; clean = refl; found = refl; name = refl }; known = tt; defaults = refl }
-is_command Certify = record { named = refl; leads = record { step = refl; clean = refl; found = refl; name = refl }; known = tt; defaults = refl }
-is_command Verify = record { named = refl; leads = record { step = refl; clean = refl; found = refl; name = refl }; known = tt; defaults = refl }
-is_command Path = record {
-  named = refl;
-  leads = record { step = refl; clean = refl; found = refl; name = refl };
-  known = (
-    (
-      rule_at (shape_of Path) 0,
-      record {
-        named = record { long = refl; dashes = refl; by_long = refl; id = refl };
-        takes = refl;
-        by_id = refl;
-        most = refl;
-        same = refl;
-        set = refl;
-        range = refl;
-        passes = λ v. refl;
-      },
-    ),
-    tt,
-  );
-  defaults = refl;
-}
+is_command Shrink = command refl refl refl (flag refl refl refl, tt)
+is_command Check = command refl refl refl (valued refl (λ v. refl), (flag refl refl refl, tt))
+is_command Solve = command refl refl refl (valued refl (λ v. refl), tt)
+is_command Play = command refl refl refl (valued refl (λ v. refl), (valued refl (λ v. refl), tt))
+is_command Evaluate = command refl refl refl tt
+is_command Query = command refl refl refl (valued refl (λ v. refl), (valued refl (λ v. refl), (valued refl (λ v. refl), tt)))
+is_command Make = command refl refl refl
+    (valued refl (λ v. refl), (valued refl (λ v. refl), (valued refl (λ v. refl), (valued refl (λ v. refl), (flag refl refl refl, tt)))))
+is_command Upgrade = command refl refl refl tt
+is_command Judge = command refl refl refl tt
+is_command Duel = command refl refl refl tt
+is_command Certify = command refl refl refl tt
+is_command Verify = command refl refl refl tt
+is_command Path = command refl refl refl (valued refl (λ v. refl), tt)
 
 pub asked : (words : List Text) (name : Text) (found : List Row) → fault_of program words ≡ [] → subcommand_of program words ≡ Some (name, found)
     → request_of words ≡ task_in (name, found)

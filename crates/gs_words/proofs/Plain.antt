@@ -5,7 +5,6 @@ use Rattle.std.specs.List.{list_all, list_any}
 use Rattle.std.specs.Str.{bytes_eq}
 use Rattle.std.proofs.lemmas.Bool.{and_parts, cases_Bool, false≢true}
 use Rattle.clap.specs.Words.{Row, Text, built, first_of}
-use Rattle.clap.specs.Simple.{entered}
 use Rattle.clap.specs.Takes.{is_given}
 use Rattle.clap.specs.Walk.{finished}
 use Rattle.clap.specs.Faults.{check_fault}
