@@ -1,4 +1,4 @@
-use Rattle.std.proofs.Common.{◌≡◌, ◌-◌, length, refl, Ok, true, ◌+◌, arith, rules}
+use Rattle.std.proofs.Common.{◌≡◌, ◌-◌, ℕ, length, refl, Ok, true, ◌+◌, arith, rules}
 use Rattle.std.proofs.lemmas.Result.{err_from_is_err_and}
 use Rattle.gs_model.specs.Betting.{none}
 use Rattle.gs_bet.specs.TreeView.{plain_moves}
@@ -6,6 +6,7 @@ use Rattle.gs_bet.specs.Reading.{act_with, inner_at, act_at, moves_at, more_at}
 use Rattle.gs_bet.proofs.TreeLaws.{plain-made}
 use Rattle.gs_bet.proofs.ReadingLaws.{act_is, fails_here, more_room, plain_push, Pushed, pushed_fails, pushed_ends, pushed_goes}
 use Rattle.gs_bet.proofs.reading.+reader.Goals as goal
+use Rattle.gs_bet.proofs.reading.+reader.Goals.{moves_of-After-len}
 
 pub act_of-returns : goal.act_of-returns
 unfolding act_with
@@ -17,29 +18,30 @@ moves_of-returns-in_err-next t c =
     rw (p.1, p.2) (fails_here c.in_err-next.field-0.0 (inner_at (act_at c.args.left)) (26 - length c.loop-moves.moves.items) (plain_moves c.loop-moves.moves.items) c.loop-moves.rest.now _ (omega arith) c.loop-moves.invariant.read
     (rw c.deref.ensures.value at c.in_err-next.ensures))
 
+-- the moves once one more is pushed, and their number
+pushed : (t : ℕ) (c : moves_of-After-len t) → Pushed (inner_at (act_at c.args.left)) c.loop-moves.moves.items c.push.new.self.items c.loop-moves.rest.now c.in_ok-next.behind.now (moves_at (inner_at (act_at c.args.left)) 26 none c.args.bytes.now)
+pushed t c = record { room = c.loop-moves.invariant.room; so_far = c.loop-moves.invariant.read; next = rw (c.in_ok-push.ensures.items, plain_push) (rw c.deref.ensures.value at c.in_ok-next.ensures) }
+
+counted : (t : ℕ) (c : moves_of-After-len t) → c.len.result ≡ length c.push.new.self.items
+counted t c = search rules
+
 pub moves_of-returns-in_err-more : goal.moves_of-returns-in_err-more
 moves_of-returns-in_err-more t c =
     let p = err_from_is_err_and c.from_residual-in_err-more.result c.from_residual-in_err-more.ensures.1 in
-    let len : c.len.result ≡ length c.push.new.self.items = search rules in
-    let pushed : Pushed (inner_at (act_at c.args.left)) c.loop-moves.moves.items c.push.new.self.items c.loop-moves.rest.now c.in_ok-next.behind.now (moves_at (inner_at (act_at c.args.left)) 26 none c.args.bytes.now) =
-    record { room = c.loop-moves.invariant.room; so_far = c.loop-moves.invariant.read; next = rw (c.in_ok-push.ensures.items, plain_push) (rw c.deref.ensures.value at c.in_ok-next.ensures) } in
-    rw (p.1, p.2) (pushed_fails c.in_err-more.field-0.0 (inner_at (act_at c.args.left)) c.loop-moves.moves.items c.push.new.self.items c.loop-moves.rest.now c.in_ok-next.behind.now _ pushed (rw len at c.in_err-more.ensures))
+    let w = (goal.at.moves_of-returns-in_err-more t c).After-len in
+    rw (p.1, p.2) (pushed_fails c.in_err-more.field-0.0 (inner_at (act_at c.args.left)) c.loop-moves.moves.items c.push.new.self.items c.loop-moves.rest.now c.in_ok-next.behind.now _ (pushed t w) (rw (counted t w) at c.in_err-more.ensures))
 
 pub moves_of-returns-then-not-more : goal.moves_of-returns-then-not-more
 moves_of-returns-then-not-more t c =
-    let len : c.len.result ≡ length c.push.new.self.items = search rules in
-    let pushed : Pushed (inner_at (act_at c.args.left)) c.loop-moves.moves.items c.push.new.self.items c.loop-moves.rest.now c.in_ok-next.behind.now (moves_at (inner_at (act_at c.args.left)) 26 none c.args.bytes.now) =
-    record { room = c.loop-moves.invariant.room; so_far = c.loop-moves.invariant.read; next = rw (c.in_ok-push.ensures.items, plain_push) (rw c.deref.ensures.value at c.in_ok-next.ensures) } in
-    pushed_ends (inner_at (act_at c.args.left)) c.loop-moves.moves.items c.push.new.self.items c.loop-moves.rest.now c.in_ok-next.behind.now c.in_ok-more.others.now _ pushed (rw (len, c.if-not-more.true) at c.in_ok-more.ensures)
+    let w = (goal.at.moves_of-returns-then-not-more t c).After-len in
+    pushed_ends (inner_at (act_at c.args.left)) c.loop-moves.moves.items c.push.new.self.items c.loop-moves.rest.now c.in_ok-next.behind.now c.in_ok-more.others.now _ (pushed t w) (rw (counted t w, c.if-not-more.true) at c.in_ok-more.ensures)
 
 pub moves_of-loop-moves-preserved : goal.moves_of-loop-moves-preserved
 moves_of-loop-moves-preserved t c =
-    let len : c.len.result ≡ length c.push.new.self.items = search rules in
-    let pushed : Pushed (inner_at (act_at c.args.left)) c.loop-moves.moves.items c.push.new.self.items c.loop-moves.rest.now c.in_ok-next.behind.now (moves_at (inner_at (act_at c.args.left)) 26 none c.args.bytes.now) =
-    record { room = c.loop-moves.invariant.room; so_far = c.loop-moves.invariant.read; next = rw (c.in_ok-push.ensures.items, plain_push) (rw c.deref.ensures.value at c.in_ok-next.ensures) } in
-    let h : more_at (length c.push.new.self.items) c.in_ok-next.behind.now ≡ Ok (true, c.in_ok-more.others.now) = rw (len, c.if-not-more.false) at c.in_ok-more.ensures in
+    let w = (goal.at.moves_of-loop-moves-preserved t c).After-len in
+    let h : more_at (length c.push.new.self.items) c.in_ok-next.behind.now ≡ Ok (true, c.in_ok-more.others.now) = rw (counted t w, c.if-not-more.false) at c.in_ok-more.ensures in
     let grown : length c.push.new.self.items ≡ length c.loop-moves.moves.items + 1 = search rules in
     record {
-      read = pushed_goes (inner_at (act_at c.args.left)) c.loop-moves.moves.items c.push.new.self.items c.loop-moves.rest.now c.in_ok-next.behind.now c.in_ok-more.others.now _ pushed grown h;
+      read = pushed_goes (inner_at (act_at c.args.left)) c.loop-moves.moves.items c.push.new.self.items c.loop-moves.rest.now c.in_ok-next.behind.now c.in_ok-more.others.now _ (pushed t w) grown h;
       room = more_room _ _ _ h;
     }
