@@ -1,7 +1,9 @@
 use Rattle.std.proofs.lemmas.List.{length-set}
-use Rattle.std.proofs.Common.{true, false, true≢false, rules, ◌≡◌, ◌≢◌, ◌+◌, ◌-◌, ◌<◌, ◌≤◌, ℕ, List, ap, get_or, length, set, sym, ◌∙◌, subst, arith, Vec, Global}
+use Rattle.std.proofs.Common.{true, false, true≢false, rules, ◌≡◌, ◌≢◌, ◌+◌, ◌-◌, ◌<◌, ℕ, List, ap, get_or, length, set, sym, ◌∙◌, subst, arith, Vec, Global}
 use Rattle.gs_model.specs.Classes.{ClassLists, class_of, class_size, first_member, list_of}
 use Rattle.gs_model.specs.Frame.{frame_of}
+use Rattle.gs_model.specs.Numbering.{IsNumbered}
+use Rattle.gs_model.specs.Signals.{signals}
 use Rattle.gs_tree.specs.Trees.{rules_of}
 use Rattle.gs_lossless.specs.Amounts.{Agree, AreAmounts, key_count, keys_of}
 use Rattle.gs_lossless.specs.Scans.{StandFor, StoredBelow}
@@ -11,23 +13,29 @@ use Rattle.gs_lossless.proofs.Descent.{keys_long, last_is, list_long, playable}
 use Rattle.gs_lossless.proofs.Scanned.{agree_more, agree_self, side_in, stored_first, stored_later, stored_single, stood_agrees, stood_later}
 use Rattle.gs_lossless.proofs.Settled.{first_le, agree_if_same, same_if_agree, single_agrees}
 use Rattle.gs_lossless.proofs.scan.first_apart.Goals as goal
-use Rattle.gs_lossless.proofs.scan.first_apart.Goals.{After-first, In_ok-firsts, In_ok-keys, then-first-signal, else-first-signal+else-not-are_same}
+use Rattle.gs_lossless.proofs.scan.first_apart.Goals.{After-first, After-rounds-rounds, In_ok-firsts, In_ok-keys, then-first-signal, else-first-signal+else-not-are_same}
+
+-- the list of the round has a class for each signal, and numbers them as they are first seen
+module _ (c : After-rounds-rounds) where
+  long : let g = rules_of c.args.grouped.now.signals.now in length (list_of c.args.grouped.now.classes.now.lists c.args.round) ≡ length (signals g c.args.round)
+  long =
+      let g = rules_of c.args.grouped.now.signals.now in
+      let h = side_in (frame_of g) c.args.side c.args.round c.requires.side in
+      list_long g c.args.grouped.now.classes.now c.args.grouped.now.parents c.rounds-rounds.ensures.sound c.args.round h.0 (omega (arith, h.1, last_is g))
+
+  numbered : IsNumbered (list_of c.args.grouped.now.classes.now.lists c.args.round)
+  numbered =
+      let h = side_in (frame_of (rules_of c.args.grouped.now.signals.now)) c.args.side c.args.round c.requires.side in
+      c.rounds-rounds.ensures.sound.classes.numbered c.args.round h.0 (omega (arith, h.1, ap (λ (ps : List (List ℕ)). length ps) c.args.grouped.now.parents))
 
 pub class_of-class-requires-clause-within : goal.class_of-class-requires-clause-within
-class_of-class-requires-clause-within c =
-    let g = rules_of c.args.grouped.now.signals.now in
-    let h = side_in (frame_of g) c.args.side c.args.round c.requires.side in
-    let n = list_long g c.args.grouped.now.classes.now c.args.grouped.now.parents c.rounds-rounds.ensures.sound c.args.round h.0 (omega (arith, h.1, last_is g)) in
-    omega (arith, n, c.requires.within)
+class_of-class-requires-clause-within c = omega (arith, long (goal.at.class_of-class-requires-clause-within c).After-rounds-rounds, c.requires.within)
 
 pub returns-then-are_alone : goal.returns-then-are_alone
 returns-then-are_alone c =
-    let g = rules_of c.args.grouped.now.signals.now in
     let lists = c.args.grouped.now.classes.now.lists in
-    let h = side_in (frame_of g) c.args.side c.args.round c.requires.side in
-    let n = list_long g c.args.grouped.now.classes.now c.args.grouped.now.parents c.rounds-rounds.ensures.sound c.args.round h.0 (omega (arith, h.1, last_is g)) in
-    λ s l. let within : s < length (list_of lists c.args.round) = omega (arith, n, l, c.requires.within) in
-    single_agrees (frame_of g) lists c.args.side c.args.round s within (c.are_alone.ensures c.if-are_alone.true s within)
+    λ s l. let within : s < length (list_of lists c.args.round) = omega (arith, long (goal.at.returns-then-are_alone c).After-rounds-rounds, l, c.requires.within) in
+    single_agrees (frame_of (rules_of c.args.grouped.now.signals.now)) lists c.args.side c.args.round s within (c.are_alone.ensures c.if-are_alone.true s within)
 
 -- there are as many keys as the side has
 many : (c : In_ok-keys) (keys : List ℕ) → keys ≡ c.in_ok-keys.keys.items → length keys ≡ key_count (rules_of c.args.grouped.now.signals.now) c.args.side c.args.round
@@ -49,45 +57,36 @@ side_sums-requires-clause-all c = many (goal.at.side_sums-requires-clause-all c)
 
 pub loop-signal-preserved-then-has_earlier : goal.loop-signal-preserved-then-has_earlier
 loop-signal-preserved-then-has_earlier c =
-    let g = rules_of c.args.grouped.now.signals.now in
-    let f = frame_of g in
+    let w = goal.at.loop-signal-preserved-then-has_earlier c in
+    let f = frame_of (rules_of c.args.grouped.now.signals.now) in
     let lists = c.args.grouped.now.classes.now.lists in
     let signal = c.loop-signal.signal in
     let firsts = c.in_ok-firsts.firsts.items in
-    let h = side_in f c.args.side c.args.round c.requires.side in
-    let sound = c.rounds-rounds.ensures.sound in
-    let top : c.args.round ≤ length c.args.grouped.now.classes.now.parents = omega (arith, h.1, ap (λ (ps : List (List ℕ)). length ps) c.args.grouped.now.parents) in
-    let n = sound.classes.numbered c.args.round h.0 top in
+    let n = numbered w.After-rounds-rounds in
     let found = subst (λ (xs : List ℕ). (signal < length xs) × (get_or xs signal 0 < signal)) c.deref-in-loop-signal.ensures.value (c.has_earlier.ensures c.if-has_earlier.true) in
-    let at = (goal.at.loop-signal-preserved-then-has_earlier c).In_ok-firsts in
-    let stand = standing at lists c.in_ok-keys.ensures (omega (arith, found.0)) in
+    let stand = standing w.In_ok-firsts lists c.in_ok-keys.ensures (omega (arith, found.0)) in
     record {
       long = c.loop-signal.invariant.long;
       stored = stored_later f lists c.args.side c.args.round signal c.loop-signal.kept.items n c.loop-signal.invariant.stored
           (stood_later f lists c.args.side c.args.round signal firsts stand found.0 found.1);
-      stand = standing at;
+      stand = standing w.In_ok-firsts;
       agree = agree_more f lists c.args.side c.args.round signal c.loop-signal.invariant.agree
           (stood_agrees f lists c.args.side c.args.round signal firsts stand found.0 found.1 c.loop-signal.invariant.agree);
     }
 
 pub loop-signal-preserved-then-size-eq1 : goal.loop-signal-preserved-then-size-eq1
 loop-signal-preserved-then-size-eq1 c =
-    let g = rules_of c.args.grouped.now.signals.now in
-    let f = frame_of g in
+    let w = goal.at.loop-signal-preserved-then-size-eq1 c in
+    let f = frame_of (rules_of c.args.grouped.now.signals.now) in
     let lists = c.args.grouped.now.classes.now.lists in
-    let h = side_in f c.args.side c.args.round c.requires.side in
-    let sound = c.rounds-rounds.ensures.sound in
-    let top : c.args.round ≤ length c.args.grouped.now.classes.now.parents = omega (arith, h.1, ap (λ (ps : List (List ℕ)). length ps) c.args.grouped.now.parents) in
-    let n = sound.classes.numbered c.args.round h.0 top in
-    let long = list_long g c.args.grouped.now.classes.now c.args.grouped.now.parents sound c.args.round h.0 (omega (arith, h.1, last_is g)) in
     let one : class_size lists c.args.round (class_of lists c.args.round c.loop-signal.signal) ≡ 1 =
     ap (class_size lists c.args.round) (sym c.class_of-class.ensures.value) ∙ sym c.size.ensures ∙ c.if-size-eq1.true in
     record {
       long = c.loop-signal.invariant.long;
-      stored = stored_single f lists c.args.side c.args.round c.loop-signal.signal c.loop-signal.kept.items n c.loop-signal.invariant.stored one;
-      stand = standing (goal.at.loop-signal-preserved-then-size-eq1 c).In_ok-firsts;
+      stored = stored_single f lists c.args.side c.args.round c.loop-signal.signal c.loop-signal.kept.items (numbered w.After-rounds-rounds) c.loop-signal.invariant.stored one;
+      stand = standing w.In_ok-firsts;
       agree = agree_more f lists c.args.side c.args.round c.loop-signal.signal c.loop-signal.invariant.agree
-          (single_agrees f lists c.args.side c.args.round c.loop-signal.signal (omega (arith, long, c.requires.within)) one);
+          (single_agrees f lists c.args.side c.args.round c.loop-signal.signal (omega (arith, long w.After-rounds-rounds, c.requires.within)) one);
     }
 
 -- the first member of the class stands before another one, and its sums are kept
@@ -106,7 +105,8 @@ returns-then-not-are_same c =
     let lists = c.args.grouped.now.classes.now.lists in
     let kept = get_or c.loop-signal.kept.items (c.class_of-class.result - 1) c.index.result.now in
     let sums = c.in_ok-sums.sums in
-    let first = earlier (goal.at.returns-then-not-are_same c).After-first c.if-first-signal.false c.index.result.now in
+    let w = goal.at.returns-then-not-are_same c in
+    let first = earlier w.After-first c.if-first-signal.false c.index.result.now in
     let here = c.in_ok-sums.ensures lists (c.deref-in-loop-signal-2.ensures.value ∙ c.in_ok-keys.ensures) in
     let no : c.are_same.result ≡ false = search rules in (
       c.loop-signal-test.true,
@@ -120,8 +120,8 @@ returns-then-not-are_same c =
 
 pub loop-signal-preserved : goal.loop-signal-preserved
 loop-signal-preserved c =
-    let g = rules_of c.args.grouped.now.signals.now in
-    let f = frame_of g in
+    let at = goal.at.loop-signal-preserved c in
+    let f = frame_of (rules_of c.args.grouped.now.signals.now) in
     let lists = c.args.grouped.now.classes.now.lists in
     let side = c.args.side in
     let round = c.args.round in
@@ -129,10 +129,7 @@ loop-signal-preserved c =
     let kept = c.loop-signal.kept.items in
     let class = c.class_of-class.result in
     let sums = c.in_ok-sums.sums in
-    let h = side_in f side round c.requires.side in
-    let sound = c.rounds-rounds.ensures.sound in
-    let top : round ≤ length c.args.grouped.now.classes.now.parents = omega (arith, h.1, ap (λ (ps : List (List ℕ)). length ps) c.args.grouped.now.parents) in
-    let n = sound.classes.numbered round h.0 top in
+    let n = numbered at.After-rounds-rounds in
     let is = c.class_of-class.ensures.value in
     let in_class = c.class_of-class.ensures.class in
     let here = c.in_ok-sums.ensures lists (c.deref-in-loop-signal-2.ensures.value ∙ c.in_ok-keys.ensures) in
@@ -145,21 +142,21 @@ loop-signal-preserved c =
             long = ap (λ (v : List (Vec Part Global)). length v) items ∙ length-set kept (class - 1) sums ∙ c.loop-signal.invariant.long;
             stored = subst (StoredBelow f lists side round (signal + 1)) (sym (items ∙ put))
                 (stored_first f lists side round signal kept n c.loop-signal.invariant.stored sums (omega (arith, is, in_class.0, in_class.1, c.loop-signal.invariant.long)) (omega (arith, is, in_class.0)) own here);
-            stand = standing (goal.at.loop-signal-preserved c).In_ok-firsts;
+            stand = standing at.In_ok-firsts;
             agree = agree_more f lists side round signal c.loop-signal.invariant.agree (agree_self f lists side round signal own);
           }
       | else-first-signal+else-not-are_same w ↦
           let items = ap (λ (v : Vec (Vec Part Global) Global). v.items) w.kept-is in
           let d = w.index.result.now in
           let later : first_member lists round (class_of lists round signal) ≡ signal → ⊥ = λ q. w.if-first-signal.false (c.first.ensures.value ∙ ap (first_member lists round) is ∙ q) in
-          let first = earlier (goal.at.loop-signal-preserved c).After-first w.if-first-signal.false d in
+          let first = earlier at.After-first w.if-first-signal.false d in
           let yes : w.are_same.result ≡ true = search rules in
           let same = ap (λ (v : Vec Part Global). v.items) (sym w.index.ensures) ∙ sym w.deref-else-first-signal.ensures.value ∙ w.are_same.ensures.0 yes ∙ w.deref-else-first-signal-2.ensures.value in
           let agrees = agree_if_same f lists side round (first_member lists round class) signal (get_or kept (class - 1) d).items sums.items first here same in
           record {
             long = ap (λ (v : List (Vec Part Global)). length v) items ∙ c.loop-signal.invariant.long;
             stored = subst (StoredBelow f lists side round (signal + 1)) (sym items) (stored_later f lists side round signal kept n c.loop-signal.invariant.stored later);
-            stand = standing (goal.at.loop-signal-preserved c).In_ok-firsts;
+            stand = standing at.In_ok-firsts;
             agree = agree_more f lists side round signal c.loop-signal.invariant.agree (subst (λ (x : ℕ). Agree f lists side round (first_member lists round x) signal) is agrees);
           }
     ]
