@@ -4,18 +4,19 @@ use Rattle.gs_tree.specs.Boards.{code_behind}
 use Rattle.gs_tree.proofs.Coded.{code_fits, code_push}
 use Rattle.gs_tree.proofs.Paths.{product_small}
 use Rattle.gs_tree.proofs.boards.code.Goals as goal
+use Rattle.gs_tree.proofs.boards.code.Goals.{In-loop-card}
+
+-- the code so far leaves room for one more card
+small : (c : In-loop-card) → c.loop-card.code * c.args.kinds ≤ 140608 * 52
+small c =
+    let fits = code_fits c.args.kinds c.loop-card.card-index c.args.cards.now c.requires.few_kinds c.requires.few_cards c.requires.of_deck (omega arith) in
+    product_small c.loop-card.code c.args.kinds 140608 52 (omega (arith, fits, c.loop-card.invariant)) c.requires.few_kinds
 
 pub overflow_mul-code : goal.overflow_mul-code
-overflow_mul-code c =
-    let fits = code_fits c.args.kinds c.loop-card.card-index c.args.cards.now c.requires.few_kinds c.requires.few_cards c.requires.of_deck (omega arith) in
-    let small : c.loop-card.code * c.args.kinds ≤ 140608 * 52 = product_small c.loop-card.code c.args.kinds 140608 52 (omega (arith, fits, c.loop-card.invariant)) c.requires.few_kinds in
-    omega (arith, small)
+overflow_mul-code c = omega (arith, small (goal.at.overflow_mul-code c).In-loop-card)
 
 pub overflow_add-code : goal.overflow_add-code
-overflow_add-code c =
-    let fits = code_fits c.args.kinds c.loop-card.card-index c.args.cards.now c.requires.few_kinds c.requires.few_cards c.requires.of_deck (omega arith) in
-    let small : c.loop-card.code * c.args.kinds ≤ 140608 * 52 = product_small c.loop-card.code c.args.kinds 140608 52 (omega (arith, fits, c.loop-card.invariant)) c.requires.few_kinds in
-    omega (arith, small)
+overflow_add-code c = omega (arith, small (goal.at.overflow_add-code c).In-loop-card)
 
 pub loop-card-preserved : goal.loop-card-preserved
 loop-card-preserved c =

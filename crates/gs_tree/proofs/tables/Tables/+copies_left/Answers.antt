@@ -4,13 +4,14 @@ use Rattle.std.specs.Global.{Vec}
 use Rattle.gs_game.specs.Games.{game_of}
 use Rattle.gs_model.specs.Cards.{left_after}
 use Rattle.gs_model.specs.Game.{Game}
-use Rattle.gs_model.specs.Signals.{signal_at, left_by}
+use Rattle.gs_model.specs.Signals.{parents, signal_at, left_by}
 use Rattle.gs_model.proofs.Ranges.{length-parents}
 use Rattle.gs_tree.specs.Layers.{last_seen}
 use Rattle.gs_tree.specs.Shown.{seen_of, cards_of}
 use Rattle.gs_tree.specs.declared.layer.Layer.{Layer}
 use Rattle.gs_tree.proofs.Lookups.{layer_of, parents_of, is_child, left_step, parent_read}
 use Rattle.gs_tree.proofs.tables.Tables.+copies_left.Goals as goal
+use Rattle.gs_tree.proofs.tables.Tables.+copies_left.Goals.{After-index-2}
 
 pub index-shown-requires : goal.index-shown-requires
 index-shown-requires t c =
@@ -18,18 +19,19 @@ index-shown-requires t c =
     let h = layer_of (game_of c.args.game.now) c.args.self.now.parents.items c.args.self.now.layers.items c.args.round l c.requires.tables (omega arith) c.requires.round_in c.index.ensures in
     omega (arith, h.long, l.shown.ok.0, c.requires.signal_in)
 
+-- the round's row is of the parents
+row_is : (t : ℕ) (c : After-index-2 t) → c.index-2.result.now.items ≡ parents (game_of c.args.game.now) c.args.round
+row_is t c = parents_of (game_of c.args.game.now) c.args.self.now.parents.items c.args.self.now.layers.items c.args.round c.index-2.result.now c.requires.tables (omega arith) c.requires.round_in c.index-2.ensures
+
 pub index-parent-requires : goal.index-parent-requires
 index-parent-requires t c =
-    let row : Vec ℕ = c.index-2.result.now in
-    let h = parents_of (game_of c.args.game.now) c.args.self.now.parents.items c.args.self.now.layers.items c.args.round row c.requires.tables (omega arith) c.requires.round_in c.index-2.ensures in
-    omega (arith, ap (λ (x : List ℕ). length x) h, length-parents (game_of c.args.game.now) c.args.round, row.ok.0, c.requires.signal_in)
+    let h = row_is t (goal.at.index-parent-requires t c).After-index-2 in
+    omega (arith, ap (λ (x : List ℕ). length x) h, length-parents (game_of c.args.game.now) c.args.round, c.index-2.result.now.ok.0, c.requires.signal_in)
 
 pub copies_left-requires : goal.copies_left-requires
 copies_left-requires t c =
     let g : Game = game_of c.args.game.now in
-    let row : Vec ℕ = c.index-2.result.now in
-    let h = parents_of g c.args.self.now.parents.items c.args.self.now.layers.items c.args.round row c.requires.tables (omega arith) c.requires.round_in c.index-2.ensures in
-    let p = parent_read g row c.args.round c.args.signal c.index-parent.result.now h c.requires.signal_in c.index-parent.ensures in
+    let p = parent_read g c.index-2.result.now c.args.round c.args.signal c.index-parent.result.now (row_is t (goal.at.copies_left-requires t c).After-index-2) c.requires.signal_in c.index-parent.ensures in
     let child = is_child g c.args.round c.args.signal (omega arith) c.requires.signal_in in
     (omega arith, (c.requires.tables, (omega (arith, c.requires.round_in), omega (arith, p, child.parent_in))))
 
@@ -37,9 +39,7 @@ pub returns-clause-left : goal.returns-clause-left
 returns-clause-left t c =
     let g : Game = game_of c.args.game.now in
     let l : Layer = c.index.result.now in
-    let row : Vec ℕ = c.index-2.result.now in
-    let h = parents_of g c.args.self.now.parents.items c.args.self.now.layers.items c.args.round row c.requires.tables (omega arith) c.requires.round_in c.index-2.ensures in
-    let p = parent_read g row c.args.round c.args.signal c.index-parent.result.now h c.requires.signal_in c.index-parent.ensures in
+    let p = parent_read g c.index-2.result.now c.args.round c.args.signal c.index-parent.result.now (row_is t (goal.at.returns-clause-left t c).After-index-2) c.requires.signal_in c.index-parent.ensures in
     let child = is_child g c.args.round c.args.signal (omega arith) c.requires.signal_in in
     let k = layer_of g c.args.self.now.parents.items c.args.self.now.layers.items c.args.round l c.requires.tables (omega arith) c.requires.round_in c.index.ensures in
     let shown = c.index-shown.result.now in
