@@ -7,18 +7,19 @@ use Rattle.gs_model.specs.Rows.{rows}
 use Rattle.gs_match.specs.Search.{IsFound, visit}
 use Rattle.gs_match.proofs.AugmentLaws.{IsShift, shift_start, shift_step, shift_end}
 use Rattle.gs_match.proofs.augment.augment.Goals as goal
+use Rattle.gs_match.proofs.augment.augment.Goals.{In-Free}
+
+-- the search ended at a free place
+found : (c : In-Free) → IsFound (rows c.args.adjacent.now) c.args.holders.now c.args.root (Free c.in-Free.visits c.in-Free.place c.in-Free.right)
+found c = subst (λ (f : Found). IsFound (rows c.args.adjacent.now) c.args.holders.now c.args.root f) c.in-Free.is c.in_ok-visits.ensures
 
 pub loop-place-init : goal.loop-place-init
 loop-place-init c =
-    let found : IsFound (rows c.args.adjacent.now) c.args.holders.now c.args.root (Free c.in-Free.visits c.in-Free.place c.in-Free.right) =
-    subst (λ (f : Found). IsFound (rows c.args.adjacent.now) c.args.holders.now c.args.root f) c.in-Free.is c.in_ok-visits.ensures in
-    shift_start (rows c.args.adjacent.now) c.args.holders.now c.args.root c.in-Free.visits.items c.in-Free.place c.in-Free.right c.requires.matching found.1
+    shift_start (rows c.args.adjacent.now) c.args.holders.now c.args.root c.in-Free.visits.items c.in-Free.place c.in-Free.right c.requires.matching (found (goal.at.loop-place-init c).In-Free).1
 
 pub loop-place-preserved : goal.loop-place-preserved
 loop-place-preserved c =
-    let found : IsFound (rows c.args.adjacent.now) c.args.holders.now c.args.root (Free c.in-Free.visits c.in-Free.place c.in-Free.right) =
-    subst (λ (f : Found). IsFound (rows c.args.adjacent.now) c.args.holders.now c.args.root f) c.in-Free.is c.in_ok-visits.ensures in
-    let path = found.1 in
+    let path = (found (goal.at.loop-place-preserved c).In-Free).1 in
     let here : c.index-visit.result.now ≡ visit c.in-Free.visits.items c.loop-place.place =
     c.index-visit.ensures ∙ get_or_default c.in-Free.visits.items c.loop-place.place c.index-visit.result.now (record { left = 0; right = 0; from = 0 }) c.loop-place.invariant.within in
     subst (λ (v : Visit). IsShift (rows c.args.adjacent.now) (set c.loop-place.holders c.loop-place.right (Some v.left)) c.args.root c.in-Free.visits.items v.from v.right) (sym here)
@@ -26,8 +27,6 @@ loop-place-preserved c =
 
 pub returns : goal.returns
 returns c =
-    let found : IsFound (rows c.args.adjacent.now) c.args.holders.now c.args.root (Free c.in-Free.visits c.in-Free.place c.in-Free.right) =
-    subst (λ (f : Found). IsFound (rows c.args.adjacent.now) c.args.holders.now c.args.root f) c.in-Free.is c.in_ok-visits.ensures in
     let none : c.loop-place.place ≡ 0 = omega arith in
     shift_end (rows c.args.adjacent.now) c.loop-place.holders c.args.root c.in-Free.visits.items c.loop-place.right
-    (subst (λ (k : ℕ). IsShift (rows c.args.adjacent.now) c.loop-place.holders c.args.root c.in-Free.visits.items k c.loop-place.right) none c.loop-place.invariant) found.0
+    (subst (λ (k : ℕ). IsShift (rows c.args.adjacent.now) c.loop-place.holders c.args.root c.in-Free.visits.items k c.loop-place.right) none c.loop-place.invariant) (found (goal.at.returns c).In-Free).0
