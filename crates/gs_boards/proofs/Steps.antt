@@ -39,6 +39,11 @@ pub one_back : (worth : Place → ℕ) (places : List Place) (n : ℕ) (r : Runn
     → HasDescended worth places (n - 1 + 1) r
 one_back worth places n r some h = let e : n ≡ n - 1 + 1 = omega arith in subst (λ (k : ℕ). HasDescended worth places k r) e h
 
+-- what holds of each place on p's board
+stands : (qs : List Place) (r : Running) (p : Place)
+    → All (λ q. q.board ≡ p.board → (p.board ≡ r.board) × (q.strength ≡ p.strength → p.strength ≡ r.strength)) qs → IsBefore qs r p
+stands qs r p h = record { boards = λ ne i d l b. ne (h i d l b).0; levels = λ same ne i d l b s. ne ((h i d l b).1 s) }
+
 module _ (worth : Place → ℕ) (places : List Place) (order : AreInOrder places) (n : ℕ) (p : Place) (inside : n < length places) (read : p
     ≡ get_or places n p) where
   -- the places before one, and those behind it
@@ -71,52 +76,30 @@ module _ (worth : Place → ℕ) (places : List Place) (order : AreInOrder place
       omega (arith, o.strength e, ap (λ (x : Place). x.strength) is, strength_is)
 
   before : (r : Running) → HasClimbed worth places n r → IsBefore (take n places) r p
-  before r h = record {
-    boards = λ ne i d l b.
-        let m : i < n = omega (arith, length-take n places, l) in
-        let q = order i (n - 1) p (omega arith) (omega arith) in
-        let o = order (n - 1) n p (omega arith) inside in
-        ne (omega (arith, q.board, o.board, b, ap (λ (x : Place). x.board) (earlier i d m), board_is, (h.last p (omega arith)).board));
-    levels = λ same ne i d l b s.
-        let m : i < n = omega (arith, length-take n places, l) in
-        let q = order i (n - 1) p (omega arith) (omega arith) in
-        let o = order (n - 1) n p (omega arith) inside in
-        let at = h.last p (omega arith) in
-        let from = ap (λ (x : Place). x.board) (earlier i d m) in
-        ne (omega (
-          arith,
-          q.strength (omega (arith, b, from, same, at.board)),
-          o.strength (omega (arith, same, at.board, board_is)),
-          s,
-          ap (λ (x : Place). x.strength) (earlier i d m),
-          strength_is,
-          at.strength,
-        ));
-  }
+  before r h = stands (take n places) r p
+      (λ i d l b.
+      let m : i < n = omega (arith, length-take n places, l) in
+      let q = order i (n - 1) p (omega arith) (omega arith) in
+      let o = order (n - 1) n p (omega arith) inside in
+      let at = h.last p (omega arith) in
+      let board = ap (λ (x : Place). x.board) (earlier i d m) in
+      let same : p.board ≡ r.board = omega (arith, q.board, o.board, b, board, board_is, at.board) in
+      let below = q.strength (omega (arith, b, board, same, at.board)) in
+      let above = o.strength (omega (arith, same, at.board, board_is)) in
+      (same, λ s. omega (arith, below, above, s, ap (λ (x : Place). x.strength) (earlier i d m), strength_is, at.strength)))
 
   behind : (r : Running) → HasDescended worth places (n + 1) r → IsBefore (drop (n + 1) places) r p
-  behind r h = record {
-    boards = λ ne i d l b.
-        let m : n + 1 + i < length places = omega (arith, length-drop (n + 1) places, l) in
-        let q = order (n + 1) (n + 1 + i) p (omega arith) m in
-        let o = order n (n + 1) p (omega arith) (omega arith) in
-        ne (omega (arith, q.board, o.board, b, ap (λ (x : Place). x.board) (later i d m), board_is, (h.last p (omega arith)).board));
-    levels = λ same ne i d l b s.
-        let m : n + 1 + i < length places = omega (arith, length-drop (n + 1) places, l) in
-        let q = order (n + 1) (n + 1 + i) p (omega arith) m in
-        let o = order n (n + 1) p (omega arith) (omega arith) in
-        let at = h.last p (omega arith) in
-        let from = ap (λ (x : Place). x.board) (later i d m) in
-        ne (omega (
-          arith,
-          q.strength (omega (arith, b, from, same, at.board)),
-          o.strength (omega (arith, same, at.board, board_is)),
-          s,
-          ap (λ (x : Place). x.strength) (later i d m),
-          strength_is,
-          at.strength,
-        ));
-  }
+  behind r h = stands (drop (n + 1) places) r p
+      (λ i d l b.
+      let m : n + 1 + i < length places = omega (arith, length-drop (n + 1) places, l) in
+      let q = order (n + 1) (n + 1 + i) p (omega arith) m in
+      let o = order n (n + 1) p (omega arith) (omega arith) in
+      let at = h.last p (omega arith) in
+      let board = ap (λ (x : Place). x.board) (later i d m) in
+      let same : p.board ≡ r.board = omega (arith, q.board, o.board, b, board, board_is, at.board) in
+      let above = q.strength (omega (arith, b, board, same, at.board)) in
+      let below = o.strength (omega (arith, same, at.board, board_is)) in
+      (same, λ s. omega (arith, above, below, s, ap (λ (x : Place). x.strength) (later i d m), strength_is, at.strength)))
 
   -- a walk comes to the place
   climb_at : (r : Running) → HasClimbed worth places n r → HasPassed worth (take n places) (arrived r p)
