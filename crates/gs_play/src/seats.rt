@@ -11,7 +11,7 @@ ghost use Rattle.gs_totals.specs.Roles.{ArePaid, IsOthers, frame_in, lists_in, m
 ghost use Rattle.gs_play.specs.{Seats.{HasAnswered, HasRises, HasRoom, IsSeat}, Staying.{AnswerStays, ChoicesStay}};
 
 use crate::adding::add_times;
-use gs_best::{Deviator, round_total};
+use gs_best::round_total;
 use gs_seq::{Abstract, Plan};
 use gs_totals::{
     Course, Ledger, Role, Scratch, Totals, advance, fill, follow, lasting, picks_for, put_all,
@@ -66,15 +66,7 @@ pub(crate) fn read_pay(role: &Role<'_>, other: &Plan, totals: &mut Totals, scrat
     ensures rows { HasRows (frame_in role.now) (lists_in role.now) totals.new }
     ensures paid { ArePaid role.now other.now totals.new }
 {
-    let side = Deviator {
-        form: role.form,
-        player: role.player,
-        other,
-    };
-    let ledger = Ledger {
-        side: &side,
-        places: role.places,
-    };
+    let ledger = Ledger { role: *role, other };
     read_ends(&ledger, totals, scratch);
 }
 
@@ -100,15 +92,7 @@ fn find(
         AreBestTotals (frame_in k) (lists_in k) k.player (plan_in k other.now) (totals_in k other.now totals.new.points.items) (moves_in k picks.new) }
     ensures puts { let k = role.now in ArePutBefore (frame_in k) (lists_in k) k.player (moves_in k picks.new) weights.new (point_count (frame_in k)) }
 {
-    let side = Deviator {
-        form: role.form,
-        player: role.player,
-        other,
-    };
-    let ledger = Ledger {
-        side: &side,
-        places: role.places,
-    };
+    let ledger = Ledger { role: *role, other };
     fill(&ledger, totals, picks, scratch);
     put_all(role.form, role.player, role.places, picks, weights);
 }
@@ -188,14 +172,9 @@ pub(crate) fn renew(
     if same {
         return;
     }
-    let side = Deviator {
-        form: role.form,
-        player: role.player,
-        other: &other.answer,
-    };
     let ledger = Ledger {
-        side: &side,
-        places: role.places,
+        role: *role,
+        other: &other.answer,
     };
     renew_ends(&ledger, &other.next, steps, scratch);
 }
@@ -212,14 +191,9 @@ fn rise(role: &Role<'_>, seat: &Seat, more: &Plan, steps: &mut Totals, scratch: 
     ensures rows { HasRows (frame_in role.now) (lists_in role.now) steps.new }
     ensures rises { HasRises (frame_in role.now) (lists_in role.now) role.now.player (plan_in role.now more.now) seat.now.picks.items steps.new }
 {
-    let side = Deviator {
-        form: role.form,
-        player: role.player,
-        other: more,
-    };
     let ledger = Ledger {
-        side: &side,
-        places: role.places,
+        role: *role,
+        other: more,
     };
     follow(&ledger, steps, &seat.picks, scratch);
 }

@@ -9,7 +9,6 @@ use Rattle.gs_model.specs.Frame.{move_count, player_at, point_count, round_of}
 use Rattle.gs_model.specs.Positions.{at_point}
 use Rattle.gs_best.specs.Rows.{AreWorths}
 use Rattle.gs_best.specs.Tables.{classes_at, start_of}
-use Rattle.gs_best.specs.declared.deviator.Deviator.{Deviator}
 use Rattle.gs_best.proofs.Placed.{IsRow}
 use Rattle.gs_totals.specs.ClassTotals.{total_worth}
 use Rattle.gs_totals.specs.Courses.{StaysBehind, moves_chosen, totals_added, totals_now}
@@ -22,22 +21,16 @@ use Rattle.gs_totals.proofs.Behind.{BehindAt, before_from, behind_same}
 use Rattle.gs_totals.proofs.Known.{known_modest, worth_modest}
 use Rattle.gs_totals.proofs.Stepping.{from_some}
 
-abbrev pub now_side : Course → Deviator
-now_side k = record { form = k.role.form; player = k.role.player; other = k.other; some = k.role.some; two = k.role.two; plan = k.plan }
-
-abbrev pub added_side : Course → Deviator
-added_side k = record { form = k.role.form; player = k.role.player; other = k.more; some = k.role.some; two = k.role.two; plan = k.added }
-
 apart : (a b : ℤ) → unsigned_abs a < 2 ^ 110 → unsigned_abs b < 2 ^ 110 → unsigned_abs (a -ℤ b) < 2 ^ 120
 apart a b h g = omega (arith, ints, abs_is a, abs_is b, abs_is (a -ℤ b), h, g)
 
 module _ (k : Course) (s : IsSound k.role.form.now.lossless.now.classes.now) where
   pub now_modest : (q : ℕ) → AreModestFrom (frame_in k.role) (lists_in k.role) (totals_now k) q
-  now_modest q = known_modest (now_side k) s k.totals.now.points.items (moves_chosen k) q
+  now_modest q = known_modest k.role s k.other.now k.plan k.totals.now.points.items (moves_chosen k) q
       (from_some (frame_in k.role) (lists_in k.role) k.role.player _ (totals_now k) (moves_chosen k) q k.best.followed)
 
   pub added_modest : (q : ℕ) → AreModestFrom (frame_in k.role) (lists_in k.role) (totals_added k) q
-  added_modest q = known_modest (added_side k) s k.steps.now.points.items (moves_chosen k) q
+  added_modest q = known_modest k.role s k.more.now k.added k.steps.now.points.items (moves_chosen k) q
       (from_some (frame_in k.role) (lists_in k.role) k.role.player _ (totals_added k) (moves_chosen k) q k.rise)
 
   module _ (q m c : ℕ) (lq : q < point_count (frame_in k.role)) (lm : m < move_count (frame_in k.role) q)
@@ -46,14 +39,14 @@ module _ (k : Course) (s : IsSound k.role.form.now.lossless.now.classes.now) whe
     gap_small =
         let even : q ≤ q = omega arith in
         let a = now_modest q (at_point q) c lq even lc in
-        let b = worth_modest (now_side k) s (totals_now k) q m c (now_modest (q + 1)) lq lm lc in
+        let b = worth_modest k.role s (totals_now k) q m c (now_modest (q + 1)) lq lm lc in
         apart (totals_now k (at_point q) c) (total_worth (frame_in k.role) (lists_in k.role) (totals_now k) q m c) (omega (arith, a)) (omega (arith, b))
 
     pub gain_small : unsigned_abs (total_worth (frame_in k.role) (lists_in k.role) (totals_added k) q m c -ℤ totals_added k (at_point q) c) < 2 ^ 120
     gain_small =
         let even : q ≤ q = omega arith in
         let a = added_modest q (at_point q) c lq even lc in
-        let b = worth_modest (added_side k) s (totals_added k) q m c (added_modest (q + 1)) lq lm lc in
+        let b = worth_modest k.role s (totals_added k) q m c (added_modest (q + 1)) lq lm lc in
         apart (total_worth (frame_in k.role) (lists_in k.role) (totals_added k) q m c) (totals_added k (at_point q) c) (omega (arith, b)) (omega (arith, a))
 
     pub not_ahead : player_at (frame_in k.role) q ≡ k.role.player → IsNotAhead (nat_lt m (moves_chosen k q c)) (totals_now k (at_point q) c)

@@ -9,9 +9,11 @@ pub mod TotalBounds
 pub mod Chosen
 pub mod Stepping
 pub mod EndStarts
+pub mod Slices
 pub mod PlacedRows
 pub mod Gathers
 pub mod Itself
+pub mod Sides
 pub mod Known
 mod Lines
 pub mod Behind

@@ -1,18 +1,18 @@
 -- The rows of a point and of an end, where places are known, and what ends pay, one end more.
-use Rattle.std.proofs.Common.{◌≡◌, ℕ, ◌+◌, ◌-◌, ◌<◌, ◌≤◌, ◌++◌, List, drop, get_or, length, take, sym, ap, ◌∙◌, subst, arith, ⊎_elim}
+use Rattle.std.proofs.Common.{◌≡◌, ℕ, ◌+◌, ◌-◌, ◌<◌, List, get_or, refl, sym, ap, ◌∙◌, subst, arith, ⊎_elim}
 use Rattle.std.specs.Prelude.{ℤ, pos}
 use Rattle.std.proofs.lemmas.Bool.{cases_eq}
 use Rattle.gs_model.specs.Classes.{ClassLists, IsClass}
 use Rattle.gs_model.specs.Frame.{Frame, end_count, point_count, round_of}
-use Rattle.gs_model.specs.Plans.{Plan}
 use Rattle.gs_model.specs.Positions.{at_end}
 use Rattle.gs_seq.specs.Payoffs.{end_classes, end_sum}
-use Rattle.gs_best.specs.Sizes.{IsWide}
 use Rattle.gs_best.specs.Tables.{classes_at}
-use Rattle.gs_best.proofs.Filled.{written}
 use Rattle.gs_best.proofs.Placed.{IsRow, row_read}
-use Rattle.gs_totals.specs.Places.{AreEndSums, end_start}
+use Rattle.gs_totals.specs.Ledgers.{IsPaidAt}
+use Rattle.gs_totals.specs.Places.{end_start}
+use Rattle.gs_totals.specs.Roles.{frame_in, lists_in, plan_in}
 use Rattle.gs_totals.specs.Room.{IsPlaced}
+use Rattle.gs_totals.specs.declared.ledger.Ledger.{Ledger}
 use Rattle.gs_totals.specs.declared.places.Places.{Places}
 use Rattle.gs_totals.proofs.EndStarts.{end_before}
 
@@ -25,32 +25,25 @@ module _ (f : Frame) (lists : ClassLists) (p : Places) (placed : IsPlaced f list
       → IsRow (end_classes f lists) (end_count f) z start count
   end_row z start count l read all = row_read (end_classes f lists) (end_count f) z start count p.ends.items l placed.many_ends placed.ends read all
 
--- what all ends pay, written through a slice of a list
-pub paid_written : (f : Frame) (lists : ClassLists) (player : ℕ) (y : Plan) (long : ℕ) (old new : List ℤ) → length new ≡ long
-    → AreEndSums f lists player y new → AreEndSums f lists player y (take long (new ++ drop (length new) old))
-paid_written f lists player y long old new full paid = subst (AreEndSums f lists player y) (sym (written long new (drop (length new) old) full)) paid
+-- the row of an end in a player's class totals
+pub row_of_end : (k : Ledger) (z start : ℕ) → z < end_count (frame_in k.role) → start ≡ get_or k.role.places.now.ends.items z start
+    → IsRow (end_classes (frame_in k.role) (lists_in k.role)) (end_count (frame_in k.role)) z start (end_classes (frame_in k.role) (lists_in k.role) z)
+row_of_end k z start l read = end_row (frame_in k.role) (lists_in k.role) k.role.places.now k.role.placed z start _ l read refl
+
+-- a list has what an end pays a class
+abbrev pub IsPaidFor : Ledger → ℕ → ℕ → List ℤ → Type 0
+IsPaidFor k e n sums = IsClass (lists_in k.role) (round_of (frame_in k.role) (at_end e)) n
+    → get_or sums (end_start (frame_in k.role) (lists_in k.role) e + (n - 1)) (pos 0)
+    ≡ end_sum (frame_in k.role) (lists_in k.role) k.role.player (plan_in k.role k.other.now) e n
 
 -- the row of one end more was written
-pub paid_more : (f : Frame) (lists : ClassLists) (player : ℕ) (y : Plan) (z start : ℕ) → start ≡ end_start f lists z → (old new : List ℤ)
-    → ((k : ℕ) → IsClass lists (round_of f (at_end z)) k → get_or new (start + (k - 1)) (pos 0) ≡ end_sum f lists player y z k)
-    → ((i : ℕ) → i < start → get_or new i (pos 0) ≡ get_or old i (pos 0))
-    → ((e k : ℕ) → e < z → IsClass lists (round_of f (at_end e)) k → get_or old (end_start f lists e + (k - 1)) (pos 0) ≡ end_sum f lists player y e k)
-    → (e k : ℕ) → e < z + 1 → IsClass lists (round_of f (at_end e)) k → get_or new (end_start f lists e + (k - 1)) (pos 0) ≡ end_sum f lists player y e k
-paid_more f lists player y z start at old new here before done e k le lk = ⊎_elim
+pub paid_more : (k : Ledger) (z start : ℕ) (old new : List ℤ) → IsPaidAt k z start old new → start ≡ end_start (frame_in k.role) (lists_in k.role) z
+    → ((e n : ℕ) → e < z → IsPaidFor k e n old) → (e n : ℕ) → e < z + 1 → IsPaidFor k e n new
+paid_more k z start old new paid at done e n le ln = ⊎_elim
     (λ (same : e ≡ z).
-    let P : ℕ → Type 0 = λ e. IsClass lists (round_of f (at_end e)) k → get_or new (end_start f lists e + (k - 1)) (pos 0) ≡ end_sum f lists player y e k in
-    let place : end_start f lists z + (k - 1) ≡ start + (k - 1) = omega (arith, at) in
-    subst P (sym same) (λ lk. ap (λ i. get_or new i (pos 0)) place ∙ here k lk) lk)
+    let place : end_start (frame_in k.role) (lists_in k.role) z + (n - 1) ≡ start + (n - 1) = omega (arith, at) in
+    subst (λ e. IsPaidFor k e n new) (sym same) (λ ln. ap (λ i. get_or new i (pos 0)) place ∙ paid.here n ln) ln)
     (λ (other : e ≡ z → ⊥).
-    let earlier = end_before f lists e k z lk (omega arith) in
-    before (end_start f lists e + (k - 1)) (omega (arith, earlier, at)) ∙ done e k (omega arith) lk)
+    let earlier = end_before (frame_in k.role) (lists_in k.role) e n z ln (omega arith) in
+    paid.before (end_start (frame_in k.role) (lists_in k.role) e + (n - 1)) (omega (arith, earlier, at)) ∙ done e n (omega arith) ln)
     (cases_eq e z)
-
--- a list that was written through a slice is as long as it was
-pub long_written : {A : Type 0} (n long : ℕ) (old new : List A) → n ≤ length old → length old ≡ long → length new ≡ long
-    → n ≤ length (take long (new ++ drop (length new) old))
-long_written n long old new most full same = subst (λ l. n ≤ length l) (sym (written long new (drop (length new) old) same)) (omega (arith, most, full, same))
-
-pub wide_written : {A : Type 0} (f : Frame) (lists : ClassLists) (long : ℕ) (old new : List A) → IsWide f lists (length old) → length old ≡ long
-    → length new ≡ long → IsWide f lists (length (take long (new ++ drop (length new) old)))
-wide_written f lists long old new wide full same j some top = long_written _ long old new (wide j some top) full same

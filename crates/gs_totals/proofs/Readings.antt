@@ -1,7 +1,6 @@
 -- What holds of a point whose moves are read: its row lies within the list, and the rows at the targets of its moves are modest.
 use Rattle.std.proofs.Common.{◌≡◌, ℕ, ◌+◌, ◌-◌, ◌<◌, ◌≤◌, length, get_or, sym, ap, ◌∙◌, subst, arith}
 use Rattle.std.specs.Prelude.{pos, unsigned_abs}
-use Rattle.gs_model.specs.BestAnswers.{Values}
 use Rattle.gs_model.specs.Classes.{IsClass, class_count}
 use Rattle.gs_model.specs.Frame.{end_count, leads_to, move_count, point_count, round_of}
 use Rattle.gs_model.specs.Positions.{Target, at_end, at_point}
@@ -9,74 +8,71 @@ use Rattle.gs_seq.proofs.SlotLaws.{sum_range_le}
 use Rattle.gs_best.specs.Sizes.{IsWide}
 use Rattle.gs_best.specs.Tables.{classes_at, start_of}
 use Rattle.gs_best.proofs.Placed.{IsRow, row_next}
-use Rattle.gs_best.proofs.Sides.{side_walked}
-use Rattle.gs_totals.specs.Ledgers.{frame_in, lists_in, totals_in}
 use Rattle.gs_totals.specs.Places.{end_start}
+use Rattle.gs_totals.specs.Readings.{totals_at}
+use Rattle.gs_totals.specs.Roles.{frame_in, lists_in}
 use Rattle.gs_totals.specs.Rows.{IsLaterRow, IsRowOf}
 use Rattle.gs_totals.specs.declared.ledger.Ledger.{Ledger}
 use Rattle.gs_totals.specs.declared.places.Totals.{Totals}
 use Rattle.gs_totals.specs.declared.reading.Reading.{Reading}
 use Rattle.gs_totals.specs.declared.rows.Row.{Row}
+use Rattle.gs_totals.proofs.Sides.{walked}
 
--- the class totals that are read
-abbrev pub totals_at : Reading → Values
-totals_at at = totals_in at.ledger.side.now at.totals.now.points.items
-
-pub row_at : (at : Reading) → let k = at.ledger in IsRow (classes_at (frame_in k) (lists_in k)) (point_count (frame_in k)) at.point at.start at.count
+pub row_at : (at : Reading) → let k = at.ledger.role in IsRow (classes_at (frame_in k) (lists_in k)) (point_count (frame_in k)) at.point at.start at.count
 row_at at =
-    let width = classes_at (frame_in at.ledger) (lists_in at.ledger) in
+    let width = classes_at (frame_in at.ledger.role) (lists_in at.ledger.role) in
     record {
       start_is = at.start_is;
       count_is = at.count_is;
       within = omega (
         arith,
         row_next width at.point at.start at.count at.start_is at.count_is,
-        sum_range_le width (at.point + 1) (point_count (frame_in at.ledger)) (omega (arith, at.inside)),
+        sum_range_le width (at.point + 1) (point_count (frame_in at.ledger.role)) (omega (arith, at.inside)),
       );
     }
 
 -- a row for the classes of any round is long enough
-pub wide_at : (at : Reading) (long : ℕ) → IsWide (frame_in at.ledger) (lists_in at.ledger) long → at.count ≤ long
+pub wide_at : (at : Reading) (long : ℕ) → IsWide (frame_in at.ledger.role) (lists_in at.ledger.role) long → at.count ≤ long
 wide_at at long wide =
-    let w = side_walked at.ledger.side.now in
-    omega (arith, at.count_is, wide (round_of (frame_in at.ledger) (at_point at.point)) (w.some_round at.point at.inside) (w.point_in at.point at.inside))
+    let w = walked at.ledger.role in
+    omega (arith, at.count_is, wide (round_of (frame_in at.ledger.role) (at_point at.point)) (w.some_round at.point at.inside) (w.point_in at.point at.inside))
 
 -- the row of a point holds what is known there, and the row of an end what it pays
 module _ (at : Reading) (r : Row) where
-  pub held_at_point : (t : Target) (q : ℕ) → t ≡ at_point q → r.round ≡ round_of (frame_in at.ledger) (at_point q)
-      → r.start ≡ start_of (frame_in at.ledger) (lists_in at.ledger) q → r.values.now ≡ at.totals.now.points.items
-      → IsRowOf (frame_in at.ledger) (lists_in at.ledger) (totals_at at) t r
-  held_at_point t q is round start values = subst (λ t. IsRowOf (frame_in at.ledger) (lists_in at.ledger) (totals_at at) t r) (sym is) (record {
+  pub held_at_point : (t : Target) (q : ℕ) → t ≡ at_point q → r.round ≡ round_of (frame_in at.ledger.role) (at_point q)
+      → r.start ≡ start_of (frame_in at.ledger.role) (lists_in at.ledger.role) q → r.values.now ≡ at.totals.now.points.items
+      → IsRowOf (frame_in at.ledger.role) (lists_in at.ledger.role) (totals_at at) t r
+  held_at_point t q is round start values = subst (λ t. IsRowOf (frame_in at.ledger.role) (lists_in at.ledger.role) (totals_at at) t r) (sym is) (record {
     round_is = round;
     values_are = λ c lc. ap (λ s. get_or r.values.now (s + (c - 1)) (pos 0)) start
-        ∙ ap (λ l. get_or l (start_of (frame_in at.ledger) (lists_in at.ledger) q + (c - 1)) (pos 0)) values;
+        ∙ ap (λ l. get_or l (start_of (frame_in at.ledger.role) (lists_in at.ledger.role) q + (c - 1)) (pos 0)) values;
   })
 
-  pub held_at_end : (t : Target) (z : ℕ) → t ≡ at_end z → z < end_count (frame_in at.ledger) → r.round ≡ round_of (frame_in at.ledger) (at_end z)
-      → r.start ≡ end_start (frame_in at.ledger) (lists_in at.ledger) z → r.values.now ≡ at.totals.now.ends.items
-      → IsRowOf (frame_in at.ledger) (lists_in at.ledger) (totals_at at) t r
-  held_at_end t z is inside round start values = subst (λ t. IsRowOf (frame_in at.ledger) (lists_in at.ledger) (totals_at at) t r) (sym is) (record {
+  pub held_at_end : (t : Target) (z : ℕ) → t ≡ at_end z → z < end_count (frame_in at.ledger.role) → r.round ≡ round_of (frame_in at.ledger.role) (at_end z)
+      → r.start ≡ end_start (frame_in at.ledger.role) (lists_in at.ledger.role) z → r.values.now ≡ at.totals.now.ends.items
+      → IsRowOf (frame_in at.ledger.role) (lists_in at.ledger.role) (totals_at at) t r
+  held_at_end t z is inside round start values = subst (λ t. IsRowOf (frame_in at.ledger.role) (lists_in at.ledger.role) (totals_at at) t r) (sym is) (record {
     round_is = round;
     values_are = λ c lc.
         ap (λ s. get_or r.values.now (s + (c - 1)) (pos 0)) start ∙ ap (λ l.
-        get_or l (end_start (frame_in at.ledger) (lists_in at.ledger) z + (c - 1)) (pos 0)) values ∙ at.paid z c inside lc;
+        get_or l (end_start (frame_in at.ledger.role) (lists_in at.ledger.role) z + (c - 1)) (pos 0)) values ∙ at.paid z c inside lc;
   })
 
-module _ (at : Reading) (m : ℕ) (lm : m < move_count (frame_in at.ledger) at.point) (r : Row)
-    (held : IsRowOf (frame_in at.ledger) (lists_in at.ledger) (totals_at at) (leads_to (frame_in at.ledger) at.point m) r) where
-  pub later_row : r.start + class_count (lists_in at.ledger) r.round ≤ length r.values.now
-      → IsLaterRow (frame_in at.ledger) (lists_in at.ledger) (round_of (frame_in at.ledger) (at_point at.point)) r
+module _ (at : Reading) (m : ℕ) (lm : m < move_count (frame_in at.ledger.role) at.point) (r : Row)
+    (held : IsRowOf (frame_in at.ledger.role) (lists_in at.ledger.role) (totals_at at) (leads_to (frame_in at.ledger.role) at.point m) r) where
+  pub later_row : r.start + class_count (lists_in at.ledger.role) r.round ≤ length r.values.now
+      → IsLaterRow (frame_in at.ledger.role) (lists_in at.ledger.role) (round_of (frame_in at.ledger.role) (at_point at.point)) r
   later_row room =
-      let f = frame_in at.ledger in
-      let w = side_walked at.ledger.side.now in
+      let f = frame_in at.ledger.role in
+      let w = walked at.ledger.role in
       let t = leads_to f at.point m in
       record {
         later = omega (arith, w.onward at.point m at.inside lm, held.round_is);
         top = omega (arith, w.within at.point m at.inside lm, held.round_is);
         room = room;
         modest = λ i l.
-            let class : IsClass (lists_in at.ledger) (round_of f t) (i + 1) =
-            (omega arith, omega (arith, l, ap (class_count (lists_in at.ledger)) held.round_is)) in
+            let class : IsClass (lists_in at.ledger.role) (round_of f t) (i + 1) =
+            (omega arith, omega (arith, l, ap (class_count (lists_in at.ledger.role)) held.round_is)) in
             let small = at.modest t (i + 1) (w.inside at.point m at.inside lm) (w.later at.point m at.inside lm) class in
             let place : r.start + (i + 1 - 1) ≡ r.start + i = omega arith in
             omega (arith, small, ap unsigned_abs (held.values_are (i + 1) class), ap (λ n. unsigned_abs (get_or r.values.now n (pos 0))) place);
@@ -90,8 +86,8 @@ module _ (k : Ledger) (t : Totals) (q : ℕ) (at : Reading) (ledger : at.ledger 
   pub brought : (P : Ledger → Totals → ℕ → Type 0) → P k t q → P at.ledger at.totals.now at.point
   brought P h = subst (λ k. P k at.totals.now at.point) (sym ledger) (subst (λ t. P k t at.point) (sym totals) (subst (λ q. P k t q) (sym point) h))
 
-  pub row_of : IsRow (classes_at (frame_in k) (lists_in k)) (point_count (frame_in k)) q at.start at.count
-  row_of = carried (λ k t q. IsRow (classes_at (frame_in k) (lists_in k)) (point_count (frame_in k)) q at.start at.count) (row_at at)
+  pub row_of : IsRow (classes_at (frame_in k.role) (lists_in k.role)) (point_count (frame_in k.role)) q at.start at.count
+  row_of = carried (λ k t q. IsRow (classes_at (frame_in k.role) (lists_in k.role)) (point_count (frame_in k.role)) q at.start at.count) (row_at at)
 
-  pub wide_of : (long : ℕ) → IsWide (frame_in k) (lists_in k) long → at.count ≤ long
-  wide_of long wide = wide_at at long (brought (λ k t q. IsWide (frame_in k) (lists_in k) long) wide)
+  pub wide_of : (long : ℕ) → IsWide (frame_in k.role) (lists_in k.role) long → at.count ≤ long
+  wide_of long wide = wide_at at long (brought (λ k t q. IsWide (frame_in k.role) (lists_in k.role) long) wide)

@@ -1,38 +1,24 @@
 -- What ends pay against a plan is small, and so are class totals against it.
-use Rattle.std.proofs.Common.{◌≡◌, ◌≢◌, ℕ, ◌^◌, ◌<◌, ◌≤◌, List, [], refl, sym, ◌∙◌, subst, arith, ⊎_elim}
+use Rattle.std.proofs.Common.{ℕ, ◌^◌, ◌<◌, ◌≤◌, List, [], refl, sym, subst, arith}
 use Rattle.std.specs.Prelude.{ℤ, unsigned_abs}
-use Rattle.std.proofs.lemmas.Bool.{cases_eq}
 use Rattle.gs_filter.specs.Filter.{IsSound}
-use Rattle.gs_model.specs.Frame.{other_player, player_at, point_count}
+use Rattle.gs_model.specs.Frame.{other_player, point_count}
 use Rattle.gs_model.specs.FrameFacts.{IsFrom}
 use Rattle.gs_model.specs.Positions.{at_end, at_point}
 use Rattle.gs_seq.specs.Abstracts.{frame_of, lists_of}
 use Rattle.gs_seq.specs.Plans.{IsPlanOf, class_plan}
 use Rattle.gs_seq.specs.declared.form.Abstract.{Abstract}
 use Rattle.gs_seq.specs.declared.plan.Plan.{Plan}
-use Rattle.gs_seq.proofs.Points.{players}
-use Rattle.gs_best.specs.Forms.{game_in}
 use Rattle.gs_best.proofs.Forms.{form_classes, form_in_range, form_modest, form_walked}
 use Rattle.gs_totals.specs.ClassTotals.{IsFollowed}
 use Rattle.gs_totals.specs.Places.{AreEndSums, AreSmallPoints, AreSmallRows, totals_of}
 use Rattle.gs_totals.proofs.Known.{figures}
+use Rattle.gs_totals.proofs.Sides.{apart, either_player}
 use Rattle.gs_totals.proofs.Stepping.{from_some, none_followed}
 use Rattle.gs_totals.proofs.TotalBounds.{totals_few}
 
 module _ (a : Abstract) (s : IsSound a.lossless.now.classes.now) (player : ℕ) (some : 0 < player) (two : player
     ≤ 2) (p : Plan) (h : IsPlanOf (frame_of a) (lists_of a) (other_player player) p) where
-  either : (q : ℕ) → q < point_count (frame_of a) → (player_at (frame_of a) q ≡ player → ⊥) → player_at (frame_of a) q ≡ other_player player
-  either q l other =
-      ⊎_elim
-      (λ (one : player_at (frame_of a) q ≡ 1). ⊎_elim (λ (e : player ≡ 1). absurd (other (one ∙ sym e))) (λ (n : player ≡ 1
-      → ⊥). omega (arith, one, some, two)) (cases_eq player 1))
-      (λ (his : player_at (frame_of a) q ≡ 2). ⊎_elim (λ (e : player ≡ 2). absurd (other (his ∙ sym e))) (λ (n : player ≡ 2
-      → ⊥). omega (arith, his, some, two)) (cases_eq player 2))
-      (players (game_in a) q l)
-
-  apart : player ≢ other_player player
-  apart e = omega (arith, some, two, e)
-
   pub small_ends : (sums : List ℤ) → AreEndSums (frame_of a) (lists_of a) player (class_plan (frame_of a) (lists_of a) p) sums
       → AreSmallRows (frame_of a) (lists_of a) sums
   small_ends sums paid z c lz lc =
@@ -44,9 +30,10 @@ module _ (a : Abstract) (s : IsSound a.lossless.now.classes.now) (player : ℕ) 
       let move : ℕ → ℕ → ℕ = λ q c. 0 in
       let b =
       totals_few f (form_in_range a) lists (form_classes a s) player (form_walked a player some two)
-      (form_walked a (other_player player) (omega arith) (omega arith)) apart y plan 4096 (λ z n e lz ln. m.pays player z n e lz ln)
+      (form_walked a (other_player player) (omega arith) (omega arith)) (apart player some two) y plan 4096 (λ z n e lz ln. m.pays player z n e lz ln)
       (totals_of f lists player y []) move (point_count f) (λ z e lz le. refl)
-      (none_followed f lists player (totals_of f lists player y []) move (point_count f) (omega arith)) either (at_end z) c lz tt lc in
+      (none_followed f lists player (totals_of f lists player y []) move (point_count f) (omega arith))
+      (λ q. either_player a player q some two) (at_end z) c lz tt lc in
       let n : unsigned_abs (totals_of f lists player y [] (at_end z) c) < 2 ^ 90 = omega (arith, b, figures y.total _ plan.total_in.1 m.weight) in
       subst (λ x. unsigned_abs x < 2 ^ 90) (sym (paid z c lz lc)) n
 
@@ -62,7 +49,7 @@ module _ (a : Abstract) (s : IsSound a.lossless.now.classes.now) (player : ℕ) 
       let from : IsFrom 0 (at_point q) = omega arith in
       let b =
       totals_few f (form_in_range a) lists (form_classes a s) player (form_walked a player some two)
-      (form_walked a (other_player player) (omega arith) (omega arith)) apart y plan 4096 (λ z n e lz ln. m.pays player z n e lz ln)
-      (totals_of f lists player y values) move 0 (λ z e lz le. refl) (from_some f lists player y (totals_of f lists player y values) move 0 followed) either
-      (at_point q) c lq from lc in
+      (form_walked a (other_player player) (omega arith) (omega arith)) (apart player some two) y plan 4096 (λ z n e lz ln. m.pays player z n e lz ln)
+      (totals_of f lists player y values) move 0 (λ z e lz le. refl) (from_some f lists player y (totals_of f lists player y values) move 0 followed)
+      (λ q. either_player a player q some two) (at_point q) c lq from lc in
       omega (arith, b, figures y.total _ plan.total_in.1 m.weight)

@@ -3,7 +3,7 @@
 ghost use Rattle.std.specs.Prelude.{◌≤◌, length};
 ghost use Rattle.gs_model.specs.Frame.{end_count};
 ghost use Rattle.gs_best.specs.Sizes.{IsWide};
-ghost use Rattle.gs_totals.specs.{Ledgers.{ArePaid, facing, frame_in, lists_in}, Places.{AreEndSums, end_start}, Room.{HasRows, HasScratch}};
+ghost use Rattle.gs_totals.specs.{Places.{AreEndSums, end_start}, Roles.{ArePaid, frame_in, lists_in, plan_in}, Room.{HasRows, HasScratch}};
 
 use crate::ledger::Ledger;
 use crate::paying::read_end;
@@ -12,23 +12,23 @@ use gs_best::end_total;
 
 /// What all ends pay the members of each class together.
 fn read_all(ledger: &Ledger<'_>, sums: &mut [i128], numbers: &mut [u64])
-    requires wide { IsWide (frame_in ledger.now) (lists_in ledger.now) (length numbers.old) }
-    requires room { end_start (frame_in ledger.now) (lists_in ledger.now) (end_count (frame_in ledger.now)) ≤ length sums.old }
-    ensures { let k = ledger.now in AreEndSums (frame_in k) (lists_in k) k.side.now.player (facing k.side.now) sums.new }
+    requires wide { IsWide (frame_in ledger.now.role) (lists_in ledger.now.role) (length numbers.old) }
+    requires room { end_start (frame_in ledger.now.role) (lists_in ledger.now.role) (end_count (frame_in ledger.now.role)) ≤ length sums.old }
+    ensures { let k = ledger.now.role in AreEndSums (frame_in k) (lists_in k) k.player (plan_in k ledger.now.other.now) sums.new }
 {
-    for end in 0..end_total(ledger.side.form) {
-        let start = ledger.places.ends[end as usize] as usize;
-        read_end(ledger.side, end, start, sums, numbers);
+    for end in 0..end_total(ledger.role.form) {
+        let start = ledger.role.places.ends[end as usize] as usize;
+        read_end(ledger, end, start, sums, numbers);
     }
 }
 
 /// Reads what ends pay a player against the other's plan, class by class.
 pub fn read_ends(ledger: &Ledger<'_>, totals: &mut Totals, scratch: &mut Scratch)
-    requires scratch { HasScratch (frame_in ledger.now) (lists_in ledger.now) scratch.old }
-    requires rows { HasRows (frame_in ledger.now) (lists_in ledger.now) totals.old }
-    ensures scratch { HasScratch (frame_in ledger.now) (lists_in ledger.now) scratch.new }
-    ensures rows { HasRows (frame_in ledger.now) (lists_in ledger.now) totals.new }
-    ensures paid { ArePaid ledger.now totals.new }
+    requires scratch { HasScratch (frame_in ledger.now.role) (lists_in ledger.now.role) scratch.old }
+    requires rows { HasRows (frame_in ledger.now.role) (lists_in ledger.now.role) totals.old }
+    ensures scratch { HasScratch (frame_in ledger.now.role) (lists_in ledger.now.role) scratch.new }
+    ensures rows { HasRows (frame_in ledger.now.role) (lists_in ledger.now.role) totals.new }
+    ensures paid { ArePaid ledger.now.role ledger.now.other.now totals.new }
 {
     read_all(ledger, &mut totals.ends, &mut scratch.numbers);
 }

@@ -2,7 +2,8 @@
 
 ghost use Rattle.std.specs.Prelude.{◌≡◌, ◌+◌, ◌<◌};
 ghost use Rattle.gs_model.specs.Frame.{point_count};
-ghost use Rattle.gs_totals.specs.{ClassTotals.{IsFollowed}, Ledgers.{AreFollowedIn, AreMoves, IsReady, facing, frame_in, lists_in, moves_in, totals_in}};
+ghost use Rattle.gs_totals.specs.{ClassTotals.{IsFollowed}, Ledgers.{AreFollowedIn, AreMoves, IsReady}};
+ghost use Rattle.gs_totals.specs.Roles.{frame_in, lists_in, moves_in, plan_in, totals_in};
 
 use crate::ledger::Ledger;
 use crate::merging::follow_moves;
@@ -18,7 +19,7 @@ fn follow_point(
     point: u32,
     scratch: &mut Scratch,
 )
-    requires point { point < point_count (frame_in ledger.now) }
+    requires point { point < point_count (frame_in ledger.now.role) }
     requires ready { IsReady ledger.now totals.old picks.now scratch.old }
     requires moves { AreMoves ledger.now picks.now }
     requires later { AreFollowedIn ledger.now totals.old picks.now (point + 1) }
@@ -37,10 +38,10 @@ pub fn follow(ledger: &Ledger<'_>, totals: &mut Totals, picks: &[u8], scratch: &
     requires moves { AreMoves ledger.now picks.now }
     ensures ready { IsReady ledger.now totals.new picks.now scratch.new }
     ensures ends { totals.new.ends ≡ totals.old.ends }
-    ensures followed { let k = ledger.now in
-        IsFollowed (frame_in k) (lists_in k) k.side.now.player (facing k.side.now) (totals_in k.side.now totals.new.points.items) (moves_in k picks.now) }
+    ensures followed { let k = ledger.now.role in let other = ledger.now.other.now in
+        IsFollowed (frame_in k) (lists_in k) k.player (plan_in k other) (totals_in k other totals.new.points.items) (moves_in k picks.now) }
 {
-    for point in (0..point_total(ledger.side.form)).rev() {
+    for point in (0..point_total(ledger.role.form)).rev() {
         follow_point(ledger, totals, picks, point, scratch);
     }
 }

@@ -1,15 +1,14 @@
-//! Whose class totals are kept, and where their rows start.
+//! Whose class totals are kept, and against what.
 
-ghost use Rattle.gs_seq.specs.Abstracts.{frame_of, lists_of};
-ghost use Rattle.gs_totals.specs.Room.{IsPlaced};
+ghost use Rattle.gs_totals.specs.Roles.{IsOthers};
 
-use crate::places::Places;
-use gs_best::Deviator;
+use crate::role::Role;
+use gs_seq::Plan;
 
-/// A player and a plan of the other's, and where the rows of his class totals against it start.
+/// A player and a plan of the other's that he faces.
 #[derive(Clone, Copy)]
 pub struct Ledger<'a> {
-    pub side: &'a Deviator<'a>,
-    pub places: &'a Places,
-    pub ghost placed: { IsPlaced (frame_of side.now.form.now) (lists_of side.now.form.now) places.now },
+    pub role: Role<'a>,
+    pub other: &'a Plan,
+    pub ghost plan: { IsOthers role other.now },
 }

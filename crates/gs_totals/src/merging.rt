@@ -3,7 +3,8 @@
 ghost use Rattle.std.specs.Prelude.{◌+◌, ◌<◌, ◌≤◌, length};
 ghost use Rattle.gs_model.specs.Frame.{move_count, point_count};
 ghost use Rattle.gs_best.specs.{Rows.{AreGreatest, AreSums, IsMerged}, Sizes.{IsWide}, Tables.{start_of}};
-ghost use Rattle.gs_totals.specs.{ClassTotals.{total_worth}, Ledgers.{frame_in, lists_in, moves_in, totals_in}, Merged.{AreChosen, AreTaken, IsFollowing}};
+ghost use Rattle.gs_totals.specs.{ClassTotals.{total_worth}, Merged.{AreChosen, AreTaken, IsFollowing}, Readings.{totals_at}};
+ghost use Rattle.gs_totals.specs.Roles.{frame_in, lists_in, moves_in};
 
 use crate::reading::Reading;
 use crate::rows::read_worths;
@@ -25,14 +26,13 @@ fn take(worths: &[i128], choice: u8, count: usize, picks: &[u8], start: usize, r
 
 /// The greatest worth of a move of a point, and the first move that has it, for each class of the point's round.
 fn best_moves(at: &Reading<'_, '_>, worths: &mut [i128], best: &mut [i128], moves: &mut [u8])
-    requires worths { IsWide (frame_in at.now.ledger) (lists_in at.now.ledger) (length worths.old) }
+    requires worths { IsWide (frame_in at.now.ledger.role) (lists_in at.now.ledger.role) (length worths.old) }
     requires best { at.now.count ≤ length best.old }
     requires moves { at.now.count ≤ length moves.old }
-    ensures { let k = at.now.ledger in let f = frame_in k in
-        AreGreatest f (lists_in k) (total_worth f (lists_in k) (totals_in k.side.now at.now.totals.now.points.items)) at.now.point
-        (move_count f at.now.point) best.new moves.new }
+    ensures { let k = at.now.ledger.role in let f = frame_in k in
+        AreGreatest f (lists_in k) (total_worth f (lists_in k) (totals_at at.now)) at.now.point (move_count f at.now.point) best.new moves.new }
 {
-    for choice in 0..move_total(at.ledger.side.form, at.point) {
+    for choice in 0..move_total(at.ledger.role.form, at.point) {
         let read = read_worths(&*at, choice, worths);
         raise(read, choice, at.count, best, moves);
     }
@@ -40,13 +40,12 @@ fn best_moves(at: &Reading<'_, '_>, worths: &mut [i128], best: &mut [i128], move
 
 /// The sum of the worths of all moves of a point, for each class of the point's round.
 fn sum_moves(at: &Reading<'_, '_>, worths: &mut [i128], sums: &mut [i128])
-    requires worths { IsWide (frame_in at.now.ledger) (lists_in at.now.ledger) (length worths.old) }
+    requires worths { IsWide (frame_in at.now.ledger.role) (lists_in at.now.ledger.role) (length worths.old) }
     requires sums { at.now.count ≤ length sums.old }
-    ensures { let k = at.now.ledger in let f = frame_in k in
-        AreSums f (lists_in k) (total_worth f (lists_in k) (totals_in k.side.now at.now.totals.now.points.items)) at.now.point
-        (move_count f at.now.point) sums.new }
+    ensures { let k = at.now.ledger.role in let f = frame_in k in
+        AreSums f (lists_in k) (total_worth f (lists_in k) (totals_at at.now)) at.now.point (move_count f at.now.point) sums.new }
 {
-    for choice in 0..move_total(at.ledger.side.form, at.point) {
+    for choice in 0..move_total(at.ledger.role.form, at.point) {
         let read = read_worths(&*at, choice, worths);
         add(read, choice, at.count, sums);
     }
@@ -54,14 +53,13 @@ fn sum_moves(at: &Reading<'_, '_>, worths: &mut [i128], sums: &mut [i128])
 
 /// The worth of the move that each class of a point has chosen.
 fn chosen_moves(at: &Reading<'_, '_>, picks: &[u8], worths: &mut [i128], row: &mut [i128])
-    requires picks { let k = at.now.ledger in start_of (frame_in k) (lists_in k) (point_count (frame_in k)) ≤ length picks.now }
-    requires worths { IsWide (frame_in at.now.ledger) (lists_in at.now.ledger) (length worths.old) }
+    requires picks { let k = at.now.ledger.role in start_of (frame_in k) (lists_in k) (point_count (frame_in k)) ≤ length picks.now }
+    requires worths { IsWide (frame_in at.now.ledger.role) (lists_in at.now.ledger.role) (length worths.old) }
     requires row { at.now.count ≤ length row.old }
-    ensures { let k = at.now.ledger in let f = frame_in k in
-        AreChosen f (lists_in k) (totals_in k.side.now at.now.totals.now.points.items) (moves_in k picks.now) at.now.point
-        (move_count f at.now.point) row.new }
+    ensures { let k = at.now.ledger.role in let f = frame_in k in
+        AreChosen f (lists_in k) (totals_at at.now) (moves_in k picks.now) at.now.point (move_count f at.now.point) row.new }
 {
-    for choice in 0..move_total(at.ledger.side.form, at.point) {
+    for choice in 0..move_total(at.ledger.role.form, at.point) {
         let read = read_worths(&*at, choice, worths);
         take(read, choice, at.count, picks, at.start, row);
     }
@@ -74,14 +72,13 @@ pub(crate) fn merge_moves(
     best: &mut [i128],
     moves: &mut [u8],
 )
-    requires worths { IsWide (frame_in at.now.ledger) (lists_in at.now.ledger) (length worths.old) }
-    requires best { IsWide (frame_in at.now.ledger) (lists_in at.now.ledger) (length best.old) }
-    requires moves { IsWide (frame_in at.now.ledger) (lists_in at.now.ledger) (length moves.old) }
-    ensures { let k = at.now.ledger in let f = frame_in k in
-        IsMerged f (lists_in k) k.side.now.player (total_worth f (lists_in k) (totals_in k.side.now at.now.totals.now.points.items)) at.now.point best.new
-        moves.new }
+    requires worths { IsWide (frame_in at.now.ledger.role) (lists_in at.now.ledger.role) (length worths.old) }
+    requires best { IsWide (frame_in at.now.ledger.role) (lists_in at.now.ledger.role) (length best.old) }
+    requires moves { IsWide (frame_in at.now.ledger.role) (lists_in at.now.ledger.role) (length moves.old) }
+    ensures { let k = at.now.ledger.role in let f = frame_in k in
+        IsMerged f (lists_in k) k.player (total_worth f (lists_in k) (totals_at at.now)) at.now.point best.new moves.new }
 {
-    if chooser(at.ledger.side.form, at.point) == at.ledger.side.player {
+    if chooser(at.ledger.role.form, at.point) == at.ledger.role.player {
         best_moves(at, worths, best, moves);
     } else {
         sum_moves(at, worths, best);
@@ -95,13 +92,13 @@ pub(crate) fn follow_moves(
     worths: &mut [i128],
     row: &mut [i128],
 )
-    requires picks { let k = at.now.ledger in start_of (frame_in k) (lists_in k) (point_count (frame_in k)) ≤ length picks.now }
-    requires worths { IsWide (frame_in at.now.ledger) (lists_in at.now.ledger) (length worths.old) }
-    requires row { IsWide (frame_in at.now.ledger) (lists_in at.now.ledger) (length row.old) }
-    ensures { let k = at.now.ledger in let f = frame_in k in
-        IsFollowing f (lists_in k) k.side.now.player (totals_in k.side.now at.now.totals.now.points.items) (moves_in k picks.now) at.now.point row.new }
+    requires picks { let k = at.now.ledger.role in start_of (frame_in k) (lists_in k) (point_count (frame_in k)) ≤ length picks.now }
+    requires worths { IsWide (frame_in at.now.ledger.role) (lists_in at.now.ledger.role) (length worths.old) }
+    requires row { IsWide (frame_in at.now.ledger.role) (lists_in at.now.ledger.role) (length row.old) }
+    ensures { let k = at.now.ledger.role in let f = frame_in k in
+        IsFollowing f (lists_in k) k.player (totals_at at.now) (moves_in k picks.now) at.now.point row.new }
 {
-    if chooser(at.ledger.side.form, at.point) == at.ledger.side.player {
+    if chooser(at.ledger.role.form, at.point) == at.ledger.role.player {
         chosen_moves(at, picks, worths, row);
     } else {
         sum_moves(at, worths, row);

@@ -4,7 +4,7 @@ ghost use Rattle.std.specs.Prelude.{◌≡◌, ◌+◌, ◌<◌};
 ghost use Rattle.gs_filter.specs.Filter.{IsSound};
 ghost use Rattle.gs_model.specs.Frame.{point_count};
 ghost use Rattle.gs_best.specs.Tables.{classes_at, start_of};
-ghost use Rattle.gs_totals.specs.{Ledgers.{ArePaid, frame_in, lists_in, totals_in}, Merged.{AreModestFrom}, Room.{HasRows}};
+ghost use Rattle.gs_totals.specs.{Merged.{AreModestFrom}, Roles.{ArePaid, frame_in, lists_in, totals_in}, Room.{HasRows}};
 
 use crate::ledger::Ledger;
 use crate::places::Totals;
@@ -18,31 +18,32 @@ pub(crate) struct Reading<'a, 'b> {
     pub(crate) point: u32,
     pub(crate) start: usize,
     pub(crate) count: usize,
-    pub(crate) ghost sound: { IsSound ledger.side.now.form.now.lossless.now.classes.now },
-    pub(crate) ghost inside: { point < point_count (frame_in ledger) },
-    pub(crate) ghost start_is: { start ≡ start_of (frame_in ledger) (lists_in ledger) point },
-    pub(crate) ghost count_is: { count ≡ classes_at (frame_in ledger) (lists_in ledger) point },
-    pub(crate) ghost rows: { HasRows (frame_in ledger) (lists_in ledger) totals.now },
-    pub(crate) ghost paid: { ArePaid ledger totals.now },
-    pub(crate) ghost modest: { AreModestFrom (frame_in ledger) (lists_in ledger) (totals_in ledger.side.now totals.now.points.items) (point + 1) },
+    pub(crate) ghost sound: { IsSound ledger.role.form.now.lossless.now.classes.now },
+    pub(crate) ghost inside: { point < point_count (frame_in ledger.role) },
+    pub(crate) ghost start_is: { start ≡ start_of (frame_in ledger.role) (lists_in ledger.role) point },
+    pub(crate) ghost count_is: { count ≡ classes_at (frame_in ledger.role) (lists_in ledger.role) point },
+    pub(crate) ghost rows: { HasRows (frame_in ledger.role) (lists_in ledger.role) totals.now },
+    pub(crate) ghost paid: { ArePaid ledger.role ledger.other.now totals.now },
+    pub(crate) ghost modest: { AreModestFrom (frame_in ledger.role) (lists_in ledger.role)
+        (totals_in ledger.role ledger.other.now totals.now.points.items) (point + 1) },
 }
 
 impl<'a, 'b> Reading<'a, 'b> {
     /// A point of a player's class totals.
     pub(crate) fn of(ledger: &Ledger<'a>, totals: &'b Totals, point: u32) -> Reading<'a, 'b>
-        requires inside { point < point_count (frame_in ledger.now) }
-        requires rows { HasRows (frame_in ledger.now) (lists_in ledger.now) totals.now }
-        requires paid { ArePaid ledger.now totals.now }
-        requires modest { IsSound ledger.now.side.now.form.now.lossless.now.classes.now
-            → AreModestFrom (frame_in ledger.now) (lists_in ledger.now) (totals_in ledger.now.side.now totals.now.points.items) (point + 1) }
+        requires inside { point < point_count (frame_in ledger.now.role) }
+        requires rows { HasRows (frame_in ledger.now.role) (lists_in ledger.now.role) totals.now }
+        requires paid { ArePaid ledger.now.role ledger.now.other.now totals.now }
+        requires modest { let k = ledger.now.role in IsSound k.form.now.lossless.now.classes.now
+            → AreModestFrom (frame_in k) (lists_in k) (totals_in k ledger.now.other.now totals.now.points.items) (point + 1) }
         ensures ledger { result.ledger ≡ ledger.now }
         ensures totals { result.totals.now ≡ totals.now }
         ensures point { result.point ≡ point }
     {
-        let form = ledger.side.form;
+        let form = ledger.role.form;
         // called only for what its contract says
         let _rounds = round_total(form);
-        let start = ledger.places.points[point as usize] as usize;
+        let start = ledger.role.places.points[point as usize] as usize;
         let count = class_total(form, round_at(form, point)) as usize;
         Reading {
             ledger: *ledger,

@@ -4,7 +4,8 @@ ghost use Rattle.std.specs.Prelude.{◌≡◌, ◌<◌, ◌≤◌, ℕ, pos, len
 ghost use Rattle.gs_model.specs.{Classes.{class_count}, Frame.{leads_to, move_count, round_of}, Positions.{at_point}};
 ghost use Rattle.gs_seq.specs.Abstracts.{frame_of, lists_of};
 ghost use Rattle.gs_best.specs.{Rows.{AreWorths}, Sizes.{IsWide}};
-ghost use Rattle.gs_totals.specs.{ClassTotals.{total_worth}, Ledgers.{frame_in, lists_in, totals_in}, Merged.{AreGathered}, Rows.{IsLaterRow, IsRowOf}};
+ghost use Rattle.gs_totals.specs.{ClassTotals.{total_worth}, Merged.{AreGathered}, Readings.{totals_at}};
+ghost use Rattle.gs_totals.specs.{Roles.{frame_in, lists_in}, Rows.{IsLaterRow, IsRowOf}};
 
 use crate::reading::Reading;
 use gs_best::{class_above, class_total, end_round, round_at, round_total, target_at};
@@ -64,22 +65,21 @@ fn read_row<'a>(form: &Abstract, row: Row<'a>, to: u8, sums: &'a mut [i128]) -> 
 
 /// The row of class totals at the target of a move.
 fn target_row<'a>(at: &'a Reading<'_, '_>, choice: u8) -> Row<'a>
-    requires { choice < move_count (frame_in at.now.ledger) at.now.point }
-    ensures later { let k = at.now.ledger in IsLaterRow (frame_in k) (lists_in k) (round_of (frame_in k) (at_point at.now.point)) result }
-    ensures held { let k = at.now.ledger in
-        IsRowOf (frame_in k) (lists_in k) (totals_in k.side.now at.now.totals.now.points.items) (leads_to (frame_in k) at.now.point choice) result }
+    requires { choice < move_count (frame_in at.now.ledger.role) at.now.point }
+    ensures later { let k = at.now.ledger.role in IsLaterRow (frame_in k) (lists_in k) (round_of (frame_in k) (at_point at.now.point)) result }
+    ensures held { let k = at.now.ledger.role in IsRowOf (frame_in k) (lists_in k) (totals_at at.now) (leads_to (frame_in k) at.now.point choice) result }
 {
-    let form = at.ledger.side.form;
+    let form = at.ledger.role.form;
     match target_at(form, at.point, choice) {
         Target::Point(next) => Row {
             round: round_at(form, next),
             values: &at.totals.points,
-            start: at.ledger.places.points[next as usize] as usize,
+            start: at.ledger.role.places.points[next as usize] as usize,
         },
         Target::End(end) => Row {
             round: end_round(form, end),
             values: &at.totals.ends,
-            start: at.ledger.places.ends[end as usize] as usize,
+            start: at.ledger.role.places.ends[end as usize] as usize,
         },
     }
 }
@@ -90,14 +90,13 @@ pub(crate) fn read_worths<'a>(
     choice: u8,
     sums: &'a mut [i128],
 ) -> &'a [i128]
-    requires choice { choice < move_count (frame_in at.now.ledger) at.now.point }
-    requires wide { IsWide (frame_in at.now.ledger) (lists_in at.now.ledger) (length sums.old) }
-    ensures worths { let k = at.now.ledger in
-        AreWorths (frame_in k) (lists_in k) (total_worth (frame_in k) (lists_in k) (totals_in k.side.now at.now.totals.now.points.items)) at.now.point choice
-        result.now }
+    requires choice { choice < move_count (frame_in at.now.ledger.role) at.now.point }
+    requires wide { IsWide (frame_in at.now.ledger.role) (lists_in at.now.ledger.role) (length sums.old) }
+    ensures worths { let k = at.now.ledger.role in
+        AreWorths (frame_in k) (lists_in k) (total_worth (frame_in k) (lists_in k) (totals_at at.now)) at.now.point choice result.now }
     ensures long { at.now.count ≤ length result.now }
 {
-    let form = at.ledger.side.form;
+    let form = at.ledger.role.form;
     let row = target_row(at, choice);
     read_row(form, row, round_at(form, at.point), sums)
 }

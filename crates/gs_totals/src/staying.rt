@@ -12,7 +12,7 @@ use crate::ledger::Ledger;
 use crate::places::Scratch;
 use crate::reading::Reading;
 use crate::rows::read_worths;
-use gs_best::{Deviator, chooser, move_total, point_total, round_total};
+use gs_best::{chooser, move_total, point_total, round_total};
 
 /// The greatest number of turns, at most so many, in which a gain each turn does not close a gap.
 fn within_gap(before: bool, gap: u128, gain: u128, times: u32) -> u32
@@ -132,23 +132,13 @@ fn lasting_move(
     if times <= 1 {
         return times;
     }
-    let side = Deviator {
-        form: course.role.form,
-        player: course.role.player,
+    let ledger = Ledger {
+        role: course.role,
         other: course.other,
     };
-    let added = Deviator {
-        form: course.role.form,
-        player: course.role.player,
-        other: course.more,
-    };
-    let ledger = Ledger {
-        side: &side,
-        places: course.role.places,
-    };
     let rising = Ledger {
-        side: &added,
-        places: course.role.places,
+        role: course.role,
+        other: course.more,
     };
     let now = Reading::of(&ledger, course.totals, point);
     let step = Reading::of(&rising, course.steps, point);

@@ -5,26 +5,21 @@ use Rattle.gs_model.specs.Frame.{point_count}
 use Rattle.gs_seq.specs.Slots.{IsPlan, slot_count}
 use Rattle.gs_best.specs.Puts.{ArePutBefore}
 use Rattle.gs_best.specs.Tables.{start_of}
-use Rattle.gs_best.proofs.Filled.{written}
 use Rattle.gs_best.proofs.Forms.{form_classes, form_in_range, form_lossless, form_walked}
 use Rattle.gs_totals.specs.ClassTotals.{AreBestTotals}
 use Rattle.gs_totals.specs.Places.{AreEndSums}
 use Rattle.gs_totals.specs.Roles.{frame_in, lists_in, moves_in, plan_in, totals_in}
+use Rattle.gs_totals.proofs.Slices.{through}
 use Rattle.gs_play.proofs.Answering.{put_plan}
 use Rattle.gs_play.proofs.seats.answer_anew.Goals.{After-find, After-swap}
 use Rattle.gs_play.proofs.seats.answer_anew.Goals as goal
 
 -- the moves as they were written, and the answer's weights after both lists changed places
 picks_are : (c : After-find) → let old = c.args.seat.now.picks in take old.len (c.find.new.picks ++ drop (length c.find.new.picks) old.items) ≡ c.find.new.picks
-picks_are c =
-    let old = c.args.seat.now.picks in
-    written old.len c.find.new.picks (drop (length c.find.new.picks) old.items) (omega (arith, c.find.auto.picks, ap (λ (l : List ℕ). length l) c.deref_mut.ensures.value, old.ok.0))
+picks_are c = through c.args.seat.now.picks _ c.find.new.picks c.deref_mut.ensures.value c.find.auto.picks
 
 answer_is : (c : After-swap) → c.swap.new.y.items ≡ c.find.new.weights
-answer_is c =
-    let was = c.args.seat.now.next in
-    let weights = c.find.new.weights in
-    ap (λ (v : Vec ℕ Global). v.items) c.swap.ensures.y_after ∙ written was.len weights (drop (length weights) was.items) (omega (arith, c.find.auto.weights, ap (λ (l : List ℕ). length l) c.deref_mut-2.ensures.value, was.ok.0))
+answer_is c = ap (λ (v : Vec ℕ Global). v.items) c.swap.ensures.y_after ∙ through c.args.seat.now.next _ c.find.new.weights c.deref_mut-2.ensures.value c.find.auto.weights
 
 pub find-requires-clause-long : goal.find-requires-clause-long
 find-requires-clause-long c = ap (λ (l : List ℕ). length l) c.deref_mut-2.ensures.value ∙ c.requires.seat.room.next

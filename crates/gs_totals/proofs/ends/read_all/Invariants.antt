@@ -3,13 +3,13 @@ use Rattle.std.specs.Prelude.{pos}
 use Rattle.gs_model.specs.Classes.{IsClass}
 use Rattle.gs_model.specs.Frame.{round_of}
 use Rattle.gs_model.specs.Positions.{at_end}
-use Rattle.gs_seq.specs.Abstracts.{frame_of, lists_of}
 use Rattle.gs_seq.specs.Payoffs.{end_sum}
-use Rattle.gs_seq.specs.Plans.{class_plan}
 use Rattle.gs_totals.specs.Places.{end_start}
+use Rattle.gs_totals.specs.Roles.{frame_in, lists_in, plan_in}
 use Rattle.gs_totals.proofs.ends.read_all.Given as goal
 
 abbrev pub invariant-loop-end : goal.invariant-loop-end
-invariant-loop-end l = let f = frame_of l.ledger.side.now.form.now in let lists = lists_of l.ledger.side.now.form.now in
-    (z c : ℕ) → z < l.end → IsClass lists (round_of f (at_end z)) c → get_or l.sums (end_start f lists z + (c - 1)) (pos 0)
-    ≡ end_sum f lists l.ledger.side.now.player (class_plan f lists l.ledger.side.now.other.now) z c
+invariant-loop-end l = let k = l.ledger.role in
+    (z c : ℕ) → z < l.end → IsClass (lists_in k) (round_of (frame_in k) (at_end z)) c
+    → get_or l.sums (end_start (frame_in k) (lists_in k) z + (c - 1)) (pos 0)
+    ≡ end_sum (frame_in k) (lists_in k) k.player (plan_in k l.ledger.other.now) z c

@@ -1,10 +1,10 @@
 use Rattle.std.proofs.Common.{◌<◌}
 use Rattle.gs_best.specs.Rows.{AreGreatest}
 use Rattle.gs_totals.specs.ClassTotals.{total_worth}
-use Rattle.gs_totals.specs.Ledgers.{frame_in, lists_in}
-use Rattle.gs_totals.proofs.Readings.{totals_at}
+use Rattle.gs_totals.specs.Roles.{frame_in, lists_in}
+use Rattle.gs_totals.specs.Readings.{totals_at}
 use Rattle.gs_totals.proofs.merging.best_moves.Given as goal
 
 abbrev pub invariant-loop-choice : goal.invariant-loop-choice
-invariant-loop-choice l = 0 < l.choice → AreGreatest (frame_in l.at.ledger) (lists_in l.at.ledger)
-    (total_worth (frame_in l.at.ledger) (lists_in l.at.ledger) (totals_at l.at)) l.at.point l.choice l.best l.moves
+invariant-loop-choice l = 0 < l.choice → AreGreatest (frame_in l.at.ledger.role) (lists_in l.at.ledger.role)
+    (total_worth (frame_in l.at.ledger.role) (lists_in l.at.ledger.role) (totals_at l.at)) l.at.point l.choice l.best l.moves

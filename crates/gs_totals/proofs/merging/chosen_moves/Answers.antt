@@ -1,7 +1,8 @@
 use Rattle.std.proofs.Common.{arith}
-use Rattle.gs_totals.specs.Ledgers.{frame_in, lists_in}
+use Rattle.gs_totals.specs.Roles.{frame_in, lists_in}
 use Rattle.gs_totals.proofs.Chosen.{chosen_step}
-use Rattle.gs_totals.proofs.Readings.{row_at, totals_at}
+use Rattle.gs_totals.specs.Readings.{totals_at}
+use Rattle.gs_totals.proofs.Readings.{row_at}
 use Rattle.gs_totals.proofs.merging.chosen_moves.Goals as goal
 
 pub read_worths-read-requires-clause-wide : goal.read_worths-read-requires-clause-wide
@@ -13,4 +14,4 @@ take-requires-clause-picks c = omega (arith, (row_at c.args.at.now).within, c.re
 pub loop-choice-preserved : goal.loop-choice-preserved
 loop-choice-preserved c =
     let at = c.args.at.now in
-    chosen_step (frame_in at.ledger) (lists_in at.ledger) (totals_at at) at.point c.loop-choice.choice at.count at.count_is c.read_worths-read.result.now c.read_worths-read.ensures.worths c.args.picks.now at.start c.loop-choice.row c.take.new.row at.start_is c.take.ensures c.loop-choice.invariant
+    chosen_step (frame_in at.ledger.role) (lists_in at.ledger.role) (totals_at at) at.point c.loop-choice.choice at.count at.count_is c.read_worths-read.result.now c.read_worths-read.ensures.worths c.args.picks.now at.start c.loop-choice.row c.take.new.row at.start_is c.take.ensures c.loop-choice.invariant

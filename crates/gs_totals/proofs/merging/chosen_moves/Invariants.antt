@@ -1,7 +1,7 @@
-use Rattle.gs_totals.specs.Ledgers.{frame_in, lists_in, moves_in}
+use Rattle.gs_totals.specs.Roles.{frame_in, lists_in, moves_in}
 use Rattle.gs_totals.specs.Merged.{AreChosen}
-use Rattle.gs_totals.proofs.Readings.{totals_at}
+use Rattle.gs_totals.specs.Readings.{totals_at}
 use Rattle.gs_totals.proofs.merging.chosen_moves.Given as goal
 
 abbrev pub invariant-loop-choice : goal.invariant-loop-choice
-invariant-loop-choice l = AreChosen (frame_in l.at.ledger) (lists_in l.at.ledger) (totals_at l.at) (moves_in l.at.ledger l.picks) l.at.point l.choice l.row
+invariant-loop-choice l = AreChosen (frame_in l.at.ledger.role) (lists_in l.at.ledger.role) (totals_at l.at) (moves_in l.at.ledger.role l.picks) l.at.point l.choice l.row

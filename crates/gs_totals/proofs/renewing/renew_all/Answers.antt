@@ -1,24 +1,23 @@
-use Rattle.std.proofs.Common.{◌≡◌, ◌+◌, ◌-◌, ◌≤◌, get_or, refl, ap, ◌∙◌, arith}
+use Rattle.std.proofs.Common.{◌≡◌, ◌+◌, ◌-◌, ◌≤◌, get_or, ap, ◌∙◌, arith}
 use Rattle.std.specs.Prelude.{pos}
 use Rattle.gs_model.specs.Frame.{end_count}
 use Rattle.gs_seq.specs.Payoffs.{end_classes}
 use Rattle.gs_best.proofs.Placed.{IsRow}
-use Rattle.gs_best.proofs.Sides.{frame, lists}
-use Rattle.gs_totals.specs.Ledgers.{facing}
 use Rattle.gs_totals.specs.Places.{end_start}
+use Rattle.gs_totals.specs.Roles.{frame_in, lists_in}
 use Rattle.gs_totals.proofs.EndStarts.{end_starts_le, end_starts_more}
-use Rattle.gs_totals.proofs.PlacedRows.{end_row, paid_more}
+use Rattle.gs_totals.proofs.PlacedRows.{paid_more, row_of_end}
 use Rattle.gs_totals.proofs.renewing.renew_all.Goals.{After-index}
 use Rattle.gs_totals.proofs.renewing.renew_all.Goals as goal
 
 -- the row of the end at hand
-row : (c : After-index) → IsRow (end_classes (frame c.args.ledger.now.side.now) (lists c.args.ledger.now.side.now)) (end_count (frame c.args.ledger.now.side.now)) c.loop-end.end c.index.result.now (end_classes (frame c.args.ledger.now.side.now) (lists c.args.ledger.now.side.now) c.loop-end.end)
-row c = end_row (frame c.args.ledger.now.side.now) (lists c.args.ledger.now.side.now) c.args.ledger.now.places.now c.args.ledger.now.placed c.loop-end.end _ _ (omega (arith, c.loop-end-test.true, c.end_total-end-end.ensures)) c.index.ensures refl
+row : (c : After-index) → let k = c.args.ledger.now.role in IsRow (end_classes (frame_in k) (lists_in k)) (end_count (frame_in k)) c.loop-end.end c.index.result.now (end_classes (frame_in k) (lists_in k) c.loop-end.end)
+row c = row_of_end c.args.ledger.now c.loop-end.end _ (omega (arith, c.loop-end-test.true, c.end_total-end-end.ensures)) c.index.ensures
 
 pub loop-end-init : goal.loop-end-init
 loop-end-init c = record {
-  done = λ e k le lk. absurd (omega (arith, le));
-  rest = λ e k from le lk. c.requires.paid e k le lk;
+  done = λ e n le lk. absurd (omega (arith, le));
+  rest = λ e n from le lk. c.requires.paid e n le lk;
 }
 
 pub renew_end-requires-clause-wide : goal.renew_end-requires-clause-wide
@@ -29,26 +28,26 @@ renew_end-requires-clause-room c = omega (arith, (row (goal.at.renew_end-require
 
 pub renew_end-requires-clause-paid : goal.renew_end-requires-clause-paid
 renew_end-requires-clause-paid c =
-    let d = c.args.ledger.now.side.now in
+    let k = c.args.ledger.now.role in
     let z = c.loop-end.end in
     let r = row (goal.at.renew_end-requires-clause-paid c).After-index in
-    λ k lk.
-    (let place : c.index.result.now + (k - 1) ≡ end_start (frame d) (lists d) z + (k - 1) = omega (arith, r.start_is) in
+    λ n lk.
+    (let place : c.index.result.now + (n - 1) ≡ end_start (frame_in k) (lists_in k) z + (n - 1) = omega (arith, r.start_is) in
     let reached : z ≤ z = omega arith in
-    ap (λ i. get_or c.loop-end.sums i (pos 0)) place ∙ c.loop-end.invariant.rest z k reached (omega (arith, c.loop-end-test.true, c.end_total-end-end.ensures)) lk)
+    ap (λ i. get_or c.loop-end.sums i (pos 0)) place ∙ c.loop-end.invariant.rest z n reached (omega (arith, c.loop-end-test.true, c.end_total-end-end.ensures)) lk)
 
 pub loop-end-preserved : goal.loop-end-preserved
 loop-end-preserved c =
-    let d = c.args.ledger.now.side.now in
-    let f = frame d in
+    let k = c.args.ledger.now.role in
+    let f = frame_in k in
     let z = c.loop-end.end in
     let r = row (goal.at.loop-end-preserved c).After-index in
     record {
-      done = paid_more f (lists d) d.player (facing d) z _ r.start_is _ _ c.renew_end.ensures.here c.renew_end.ensures.before c.loop-end.invariant.done;
-      rest = λ e k from le lk.
-          (let behind = end_starts_le f (lists d) (z + 1) e (omega (arith, from)) in
+      done = paid_more c.args.ledger.now z _ _ _ c.renew_end.ensures r.start_is c.loop-end.invariant.done;
+      rest = λ e n from le lk.
+          (let behind = end_starts_le f (lists_in k) (z + 1) e (omega (arith, from)) in
           let later : z ≤ e = omega (arith, from) in
-          c.renew_end.ensures.behind (end_start f (lists d) e + (k - 1)) (omega (arith, behind, end_starts_more f (lists d) z, r.start_is)) ∙ c.loop-end.invariant.rest e k later le lk);
+          c.renew_end.ensures.behind (end_start f (lists_in k) e + (n - 1)) (omega (arith, behind, end_starts_more f (lists_in k) z, r.start_is)) ∙ c.loop-end.invariant.rest e n later le lk);
     }
 
 pub returns : goal.returns

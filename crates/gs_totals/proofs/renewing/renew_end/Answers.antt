@@ -1,12 +1,17 @@
-use Rattle.std.proofs.Common.{◌∙◌}
+use Rattle.std.proofs.Common.{refl, ◌∙◌}
 use Rattle.gs_seq.specs.Slots.{plan_of}
-use Rattle.gs_best.proofs.Sides.{frame, lists}
-use Rattle.gs_totals.specs.Ledgers.{facing}
+use Rattle.gs_totals.specs.Roles.{frame_in, lists_in, plan_in}
 use Rattle.gs_totals.proofs.Renewals.{same_paid}
 use Rattle.gs_totals.proofs.renewing.renew_end.Goals as goal
 
-pub returns-then-is_same_at-clause-here : goal.returns-then-is_same_at-clause-here
-returns-then-is_same_at-clause-here c =
-    let d = c.args.side.now in
-    let f = frame d in
-    λ k lk. c.requires.paid k lk ∙ same_paid f (lists d) d.player (plan_of f (lists d) d.other.now.total c.args.before.now) (facing d) c.args.end k (c.is_same_at.ensures c.if-is_same_at.true)
+pub returns-then-is_same_at : goal.returns-then-is_same_at
+returns-then-is_same_at c =
+    let k = c.args.ledger.now.role in
+    let f = frame_in k in
+    let lists = lists_in k in
+    let other = c.args.ledger.now.other.now in
+    record {
+      here = λ n ln. c.requires.paid n ln ∙ same_paid f lists k.player (plan_of f lists other.total c.args.before.now) (plan_in k other) c.args.end n (c.is_same_at.ensures c.if-is_same_at.true);
+      before = λ i l. refl;
+      behind = λ i l. refl;
+    }

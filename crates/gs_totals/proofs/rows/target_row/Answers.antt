@@ -8,43 +8,44 @@ use Rattle.gs_seq.specs.Payoffs.{end_classes}
 use Rattle.gs_best.specs.Tables.{classes_at}
 use Rattle.gs_best.proofs.Placed.{IsRow}
 use Rattle.gs_best.proofs.Sides.{IsNextEnd, IsNextPoint, next_end, next_point}
-use Rattle.gs_totals.specs.Ledgers.{frame_in, lists_in}
+use Rattle.gs_totals.specs.Roles.{frame_in, lists_in}
 use Rattle.gs_totals.proofs.PlacedRows.{end_row, point_row}
 use Rattle.gs_totals.proofs.Readings.{held_at_end, held_at_point, later_row}
+use Rattle.gs_totals.proofs.Sides.{deviator}
 use Rattle.gs_totals.proofs.rows.target_row.Goals.{In-Point, In-End, After-index, After-index-in-End}
 use Rattle.gs_totals.proofs.rows.target_row.Goals as goal
 
 -- the point to which the move leads
-to_point : (c : In-Point) → leads_to (frame_in c.args.at.now.ledger) c.args.at.now.point c.args.choice ≡ at_point c.in-Point.next
+to_point : (c : In-Point) → leads_to (frame_in c.args.at.now.ledger.role) c.args.at.now.point c.args.choice ≡ at_point c.in-Point.next
 to_point c = sym c.target_at.ensures ∙ ap target_of c.in-Point.is
 
-next : (c : In-Point) → IsNextPoint c.args.at.now.ledger.side.now c.args.at.now.point c.in-Point.next
-next c = next_point c.args.at.now.ledger.side.now c.args.at.now.point c.args.choice c.in-Point.next c.args.at.now.inside c.requires (to_point c)
+next : (c : In-Point) → IsNextPoint (deviator c.args.at.now.ledger) c.args.at.now.point c.in-Point.next
+next c = next_point (deviator c.args.at.now.ledger) c.args.at.now.point c.args.choice c.in-Point.next c.args.at.now.inside c.requires (to_point c)
 
 -- the end to which it leads
-to_end : (c : In-End) → leads_to (frame_in c.args.at.now.ledger) c.args.at.now.point c.args.choice ≡ at_end c.in-End.end
+to_end : (c : In-End) → leads_to (frame_in c.args.at.now.ledger.role) c.args.at.now.point c.args.choice ≡ at_end c.in-End.end
 to_end c = sym c.target_at.ensures ∙ ap target_of c.in-End.is
 
-end : (c : In-End) → IsNextEnd c.args.at.now.ledger.side.now c.args.at.now.point c.in-End.end
-end c = next_end c.args.at.now.ledger.side.now c.args.at.now.point c.args.choice c.in-End.end c.args.at.now.inside c.requires (to_end c)
+end : (c : In-End) → IsNextEnd (deviator c.args.at.now.ledger) c.args.at.now.point c.in-End.end
+end c = next_end (deviator c.args.at.now.ledger) c.args.at.now.point c.args.choice c.in-End.end c.args.at.now.inside c.requires (to_end c)
 
 -- their rows
-point : (c : After-index) → IsNextPoint c.args.at.now.ledger.side.now c.args.at.now.point c.in-Point.next
-    → let k = c.args.at.now.ledger in IsRow (classes_at (frame_in k) (lists_in k)) (point_count (frame_in k)) c.in-Point.next c.index.result.now (class_count (lists_in k) c.round_at.result)
-point c n = let k = c.args.at.now.ledger in point_row (frame_in k) (lists_in k) k.places.now k.placed c.in-Point.next _ _ n.inside c.index.ensures (ap (class_count (lists_in k)) c.round_at.ensures.value)
+point : (c : After-index) → IsNextPoint (deviator c.args.at.now.ledger) c.args.at.now.point c.in-Point.next
+    → let k = c.args.at.now.ledger.role in IsRow (classes_at (frame_in k) (lists_in k)) (point_count (frame_in k)) c.in-Point.next c.index.result.now (class_count (lists_in k) c.round_at.result)
+point c n = let k = c.args.at.now.ledger.role in point_row (frame_in k) (lists_in k) k.places.now k.placed c.in-Point.next _ _ n.inside c.index.ensures (ap (class_count (lists_in k)) c.round_at.ensures.value)
 
-paid : (c : After-index-in-End) → IsNextEnd c.args.at.now.ledger.side.now c.args.at.now.point c.in-End.end
-    → let k = c.args.at.now.ledger in IsRow (end_classes (frame_in k) (lists_in k)) (end_count (frame_in k)) c.in-End.end c.index-in-End.result.now (class_count (lists_in k) c.end_round.result)
-paid c n = let k = c.args.at.now.ledger in end_row (frame_in k) (lists_in k) k.places.now k.placed c.in-End.end _ _ n.inside c.index-in-End.ensures (ap (class_count (lists_in k)) c.end_round.ensures.value)
+paid : (c : After-index-in-End) → IsNextEnd (deviator c.args.at.now.ledger) c.args.at.now.point c.in-End.end
+    → let k = c.args.at.now.ledger.role in IsRow (end_classes (frame_in k) (lists_in k)) (end_count (frame_in k)) c.in-End.end c.index-in-End.result.now (class_count (lists_in k) c.end_round.result)
+paid c n = let k = c.args.at.now.ledger.role in end_row (frame_in k) (lists_in k) k.places.now k.placed c.in-End.end _ _ n.inside c.index-in-End.ensures (ap (class_count (lists_in k)) c.end_round.ensures.value)
 
 pub index-requires : goal.index-requires
-index-requires c = omega (arith, (next (goal.at.index-requires c).In-Point).inside, c.args.at.now.ledger.placed.many_points, c.args.at.now.ledger.places.now.points.ok.0)
+index-requires c = omega (arith, (next (goal.at.index-requires c).In-Point).inside, c.args.at.now.ledger.role.placed.many_points, c.args.at.now.ledger.role.places.now.points.ok.0)
 
 pub round_at-requires : goal.round_at-requires
 round_at-requires c = (next (goal.at.round_at-requires c).In-Point).inside
 
 pub index-requires-in-End : goal.index-requires-in-End
-index-requires-in-End c = omega (arith, (end (goal.at.index-requires-in-End c).In-End).inside, c.args.at.now.ledger.placed.many_ends, c.args.at.now.ledger.places.now.ends.ok.0)
+index-requires-in-End c = omega (arith, (end (goal.at.index-requires-in-End c).In-End).inside, c.args.at.now.ledger.role.placed.many_ends, c.args.at.now.ledger.role.places.now.ends.ok.0)
 
 pub end_round-requires : goal.end_round-requires
 end_round-requires c = (end (goal.at.end_round-requires c).In-End).inside

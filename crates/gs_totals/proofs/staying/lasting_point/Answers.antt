@@ -1,11 +1,10 @@
-use Rattle.std.proofs.Common.{◌≡◌, ℕ, ◌+◌, ◌<◌, List, length, sym, ap, subst, arith, ⊎_elim}
-use Rattle.std.specs.Prelude.{ℤ}
+use Rattle.std.proofs.Common.{◌≡◌, ℕ, ◌+◌, ◌<◌, sym, subst, arith, ⊎_elim}
 use Rattle.std.proofs.lemmas.Bool.{cases_eq}
 use Rattle.gs_model.specs.Frame.{move_count}
 use Rattle.gs_totals.specs.Courses.{StaysBehind}
 use Rattle.gs_totals.specs.Roles.{frame_in, lists_in}
 use Rattle.gs_totals.proofs.Behind.{greatest_with, lasts_by, stays_by, stays_less}
-use Rattle.gs_totals.proofs.PlacedRows.{wide_written}
+use Rattle.gs_totals.proofs.Slices.{wide_through}
 use Rattle.gs_totals.proofs.staying.lasting_point.Goals as goal
 
 pub loop-choice-preserved : goal.loop-choice-preserved
@@ -22,8 +21,8 @@ loop-choice-preserved c =
     record {
       scratch = record {
         numbers = i.scratch.numbers;
-        worths = wide_written (frame_in k.role) (lists_in k.role) was.worths.len was.worths.items c.lasting_move-left.new.worths i.scratch.worths (omega (arith, was.worths.ok.0)) (omega (arith, c.lasting_move-left.auto.worths, ap (λ (l : List ℤ). length l) c.deref_mut.ensures.value, was.worths.ok.0));
-        best = wide_written (frame_in k.role) (lists_in k.role) was.best.len was.best.items c.lasting_move-left.new.rises i.scratch.best (omega (arith, was.best.ok.0)) (omega (arith, c.lasting_move-left.auto.rises, ap (λ (l : List ℤ). length l) c.deref_mut-in-loop-choice.ensures.value, was.best.ok.0));
+        worths = wide_through was.worths _ c.lasting_move-left.new.worths c.deref_mut.ensures.value c.lasting_move-left.auto.worths (frame_in k.role) (lists_in k.role) i.scratch.worths;
+        best = wide_through was.best _ c.lasting_move-left.new.rises c.deref_mut-in-loop-choice.ensures.value c.lasting_move-left.auto.rises (frame_in k.role) (lists_in k.role) i.scratch.best;
         moves = i.scratch.moves;
       };
       behind = λ m lm. ⊎_elim
