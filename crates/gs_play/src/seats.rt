@@ -151,13 +151,7 @@ pub(crate) fn answer(role: &Role<'_>, seat: &mut Seat, other: &Plan, scratch: &m
 }
 
 /// Reads what the other's answer pays a player each turn, where it is not what the answer before paid.
-pub(crate) fn renew(
-    role: &Role<'_>,
-    same: bool,
-    other: &Seat,
-    steps: &mut Totals,
-    scratch: &mut Scratch,
-)
+fn renew(role: &Role<'_>, same: bool, other: &Seat, steps: &mut Totals, scratch: &mut Scratch)
     requires more { IsOthers role.now other.now.answer }
     requires before { length other.now.next.items ≡ slot_count (frame_in role.now) (lists_in role.now) (other_player role.now.player) }
     requires rows { HasRows (frame_in role.now) (lists_in role.now) steps.old }
@@ -230,11 +224,13 @@ fn lasts(
     lasting(&course, scratch, times)
 }
 
-/// A number of turns, at most so many, in which a player's answer stays the first best one; of one turn alone it is known.
+/// Finds what the other's answer, which may be the same one as before, adds to a player's totals each turn, and a number of turns, at most so many, in
+/// which his own answer stays the first best one; of one turn alone it is known.
 pub(crate) fn stays(
     role: &Role<'_>,
     seat: &Seat,
     other: &Seat,
+    same: bool,
     steps: &mut Totals,
     scratch: &mut Scratch,
     times: u32,
@@ -244,8 +240,11 @@ pub(crate) fn stays(
     requires other { IsOthers role.now other.now.plan }
     requires more { IsOthers role.now other.now.answer }
     requires rows { HasRows (frame_in role.now) (lists_in role.now) steps.old }
-    requires paid { ArePaid role.now other.now.answer steps.old }
     requires scratch { HasScratch (frame_in role.now) (lists_in role.now) scratch.old }
+    requires before { length other.now.next.items ≡ slot_count (frame_in role.now) (lists_in role.now) (other_player role.now.player) }
+    requires kept { IsTrue same → ArePaid role.now other.now.answer steps.old }
+    requires paid { let k = role.now in same ≡ false → AreEndSums (frame_in k) (lists_in k) k.player
+        (plan_of (frame_in k) (lists_in k) other.now.answer.total other.now.next.items) steps.old.ends.items }
     requires left { 0 < times }
     ensures scratch { HasScratch (frame_in role.now) (lists_in role.now) scratch.new }
     ensures rows { HasRows (frame_in role.now) (lists_in role.now) steps.new }
@@ -259,6 +258,7 @@ pub(crate) fn stays(
     ensures some { 0 < result }
 {
     let _rounds = round_total(role.form);
+    renew(role, same, other, steps, scratch);
     if times == 1 {
         return 1;
     }

@@ -47,17 +47,17 @@ answer-same_two-requires-clause-known c =
     let lists = lists_of c.args.form.now in
     λ t. subst (λ (p : Plan). HasAnswered f lists 2 (class_plan f lists p) c.args.two.now) (sym c.answer-same_one.ensures.plan) (c.requires.playing.known_two t)
 
-pub renew-requires-clause-kept : goal.renew-requires-clause-kept
-renew-requires-clause-kept c = λ t. paid_same (frame_of c.args.form.now) (lists_of c.args.form.now) 1 _ _ _ _ _ c.answer-same_two.ensures.seat.room.one c.requires.playing.seat_two.room.one (c.answer-same_two.ensures.same t) c.requires.steps.to_one
+pub stays-first-requires-clause-kept : goal.stays-first-requires-clause-kept
+stays-first-requires-clause-kept c = λ t. paid_same (frame_of c.args.form.now) (lists_of c.args.form.now) 1 _ _ _ _ _ c.answer-same_two.ensures.seat.room.one c.requires.playing.seat_two.room.one (c.answer-same_two.ensures.same t) c.requires.steps.to_one
 
-pub renew-requires-clause-paid : goal.renew-requires-clause-paid
-renew-requires-clause-paid c = λ t. paid_same (frame_of c.args.form.now) (lists_of c.args.form.now) 1 _ _ _ _ _ c.answer-same_two.ensures.seat.room.one c.requires.playing.seat_two.room.one (c.answer-same_two.ensures.next t) c.requires.steps.to_one
+pub stays-first-requires-clause-paid : goal.stays-first-requires-clause-paid
+stays-first-requires-clause-paid c = λ t. paid_same (frame_of c.args.form.now) (lists_of c.args.form.now) 1 _ _ _ _ _ c.answer-same_two.ensures.seat.room.one c.requires.playing.seat_two.room.one (c.answer-same_two.ensures.next t) c.requires.steps.to_one
 
-pub renew-requires-2-clause-kept : goal.renew-requires-2-clause-kept
-renew-requires-2-clause-kept c = λ t. paid_same (frame_of c.args.form.now) (lists_of c.args.form.now) 2 _ _ _ _ _ c.answer-same_one.ensures.seat.room.one c.requires.playing.seat_one.room.one (c.answer-same_one.ensures.same t) c.requires.steps.to_two
+pub stays-second-requires-clause-kept : goal.stays-second-requires-clause-kept
+stays-second-requires-clause-kept c = λ t. paid_same (frame_of c.args.form.now) (lists_of c.args.form.now) 2 _ _ _ _ _ c.answer-same_one.ensures.seat.room.one c.requires.playing.seat_one.room.one (c.answer-same_one.ensures.same t) c.requires.steps.to_two
 
-pub renew-requires-2-clause-paid : goal.renew-requires-2-clause-paid
-renew-requires-2-clause-paid c = λ t. paid_same (frame_of c.args.form.now) (lists_of c.args.form.now) 2 _ _ _ _ _ c.answer-same_one.ensures.seat.room.one c.requires.playing.seat_one.room.one (c.answer-same_one.ensures.next t) c.requires.steps.to_two
+pub stays-second-requires-clause-paid : goal.stays-second-requires-clause-paid
+stays-second-requires-clause-paid c = λ t. paid_same (frame_of c.args.form.now) (lists_of c.args.form.now) 2 _ _ _ _ _ c.answer-same_one.ensures.seat.room.one c.requires.playing.seat_one.room.one (c.answer-same_one.ensures.next t) c.requires.steps.to_two
 
 pub move_on-requires-clause-small_points : goal.move_on-requires-clause-small_points
 move_on-requires-clause-small_points c =
