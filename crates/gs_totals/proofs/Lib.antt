@@ -20,5 +20,5 @@ pub mod Behind
 pub mod SmallEnds
 pub mod CourseLaws
 pub mod Targets
-pub mod Readings
+pub mod PointRows
 pub mod Renewals

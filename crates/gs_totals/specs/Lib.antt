@@ -9,5 +9,5 @@ pub mod Lasting
 pub mod Roles
 pub mod Courses
 pub mod Ledgers
-pub mod Readings
+pub mod PointRows
 pub mod Rows

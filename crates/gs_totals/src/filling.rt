@@ -7,7 +7,7 @@ ghost use Rattle.gs_totals.specs.{ClassTotals.{AreBestTotals}, Ledgers.{AreBestI
 use crate::ledger::Ledger;
 use crate::merging::merge_moves;
 use crate::places::{Scratch, Totals};
-use crate::reading::Reading;
+use crate::point_row::PointRow;
 use gs_best::{copy_moves, copy_values, point_total};
 
 /// The class totals and first best moves of a point, where those of all later points are known.
@@ -25,7 +25,7 @@ fn fill_point(
     ensures ends { totals.new.ends ≡ totals.old.ends }
     ensures best { AreBestIn ledger.now totals.new picks.new point }
 {
-    let at = Reading::of(ledger, totals, point);
+    let at = PointRow::of(ledger, totals, point);
     merge_moves(
         &at,
         &mut scratch.worths,

@@ -8,7 +8,7 @@ ghost use Rattle.gs_totals.specs.Roles.{frame_in, lists_in, moves_in, plan_in, t
 use crate::ledger::Ledger;
 use crate::merging::follow_moves;
 use crate::places::{Scratch, Totals};
-use crate::reading::Reading;
+use crate::point_row::PointRow;
 use gs_best::{copy_values, point_total};
 
 /// The class totals of a point by given moves, where those of all later points are known.
@@ -27,7 +27,7 @@ fn follow_point(
     ensures ends { totals.new.ends ≡ totals.old.ends }
     ensures followed { AreFollowedIn ledger.now totals.new picks.now point }
 {
-    let at = Reading::of(ledger, totals, point);
+    let at = PointRow::of(ledger, totals, point);
     follow_moves(&at, picks, &mut scratch.worths, &mut scratch.best);
     copy_values(&scratch.best, at.start, at.count, &mut totals.points);
 }

@@ -3,10 +3,10 @@
 ghost use Rattle.std.specs.Prelude.{◌+◌, ◌<◌, ◌≤◌, length};
 ghost use Rattle.gs_model.specs.Frame.{move_count, point_count};
 ghost use Rattle.gs_best.specs.{Rows.{AreGreatest, AreSums, IsMerged}, Sizes.{IsWide}, Tables.{start_of}};
-ghost use Rattle.gs_totals.specs.{ClassTotals.{total_worth}, Merged.{AreChosen, AreTaken, IsFollowing}, Readings.{totals_at}};
+ghost use Rattle.gs_totals.specs.{ClassTotals.{total_worth}, Merged.{AreChosen, AreTaken, IsFollowing}, PointRows.{totals_at}};
 ghost use Rattle.gs_totals.specs.Roles.{frame_in, lists_in, moves_in};
 
-use crate::reading::Reading;
+use crate::point_row::PointRow;
 use crate::rows::read_worths;
 use gs_best::{add, chooser, move_total, raise};
 
@@ -25,7 +25,7 @@ fn take(worths: &[i128], choice: u8, count: usize, picks: &[u8], start: usize, r
 }
 
 /// The greatest worth of a move of a point, and the first move that has it, for each class of the point's round.
-fn best_moves(at: &Reading<'_, '_>, worths: &mut [i128], best: &mut [i128], moves: &mut [u8])
+fn best_moves(at: &PointRow<'_, '_>, worths: &mut [i128], best: &mut [i128], moves: &mut [u8])
     requires worths { IsWide (frame_in at.now.ledger.role) (lists_in at.now.ledger.role) (length worths.old) }
     requires best { at.now.count ≤ length best.old }
     requires moves { at.now.count ≤ length moves.old }
@@ -39,7 +39,7 @@ fn best_moves(at: &Reading<'_, '_>, worths: &mut [i128], best: &mut [i128], move
 }
 
 /// The sum of the worths of all moves of a point, for each class of the point's round.
-fn sum_moves(at: &Reading<'_, '_>, worths: &mut [i128], sums: &mut [i128])
+fn sum_moves(at: &PointRow<'_, '_>, worths: &mut [i128], sums: &mut [i128])
     requires worths { IsWide (frame_in at.now.ledger.role) (lists_in at.now.ledger.role) (length worths.old) }
     requires sums { at.now.count ≤ length sums.old }
     ensures { let k = at.now.ledger.role in let f = frame_in k in
@@ -52,7 +52,7 @@ fn sum_moves(at: &Reading<'_, '_>, worths: &mut [i128], sums: &mut [i128])
 }
 
 /// The worth of the move that each class of a point has chosen.
-fn chosen_moves(at: &Reading<'_, '_>, picks: &[u8], worths: &mut [i128], row: &mut [i128])
+fn chosen_moves(at: &PointRow<'_, '_>, picks: &[u8], worths: &mut [i128], row: &mut [i128])
     requires picks { let k = at.now.ledger.role in start_of (frame_in k) (lists_in k) (point_count (frame_in k)) ≤ length picks.now }
     requires worths { IsWide (frame_in at.now.ledger.role) (lists_in at.now.ledger.role) (length worths.old) }
     requires row { at.now.count ≤ length row.old }
@@ -67,7 +67,7 @@ fn chosen_moves(at: &Reading<'_, '_>, picks: &[u8], worths: &mut [i128], row: &m
 
 /// The class totals of a point, and where the player chooses his first best moves.
 pub(crate) fn merge_moves(
-    at: &Reading<'_, '_>,
+    at: &PointRow<'_, '_>,
     worths: &mut [i128],
     best: &mut [i128],
     moves: &mut [u8],
@@ -87,7 +87,7 @@ pub(crate) fn merge_moves(
 
 /// The class totals of a point where the player's classes have chosen their moves.
 pub(crate) fn follow_moves(
-    at: &Reading<'_, '_>,
+    at: &PointRow<'_, '_>,
     picks: &[u8],
     worths: &mut [i128],
     row: &mut [i128],

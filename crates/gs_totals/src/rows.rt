@@ -4,10 +4,10 @@ ghost use Rattle.std.specs.Prelude.{◌≡◌, ◌<◌, ◌≤◌, ℕ, pos, len
 ghost use Rattle.gs_model.specs.{Classes.{class_count}, Frame.{leads_to, move_count, round_of}, Positions.{at_point}};
 ghost use Rattle.gs_seq.specs.Abstracts.{frame_of, lists_of};
 ghost use Rattle.gs_best.specs.{Rows.{AreWorths}, Sizes.{IsWide}};
-ghost use Rattle.gs_totals.specs.{ClassTotals.{total_worth}, Merged.{AreGathered}, Readings.{totals_at}};
+ghost use Rattle.gs_totals.specs.{ClassTotals.{total_worth}, Merged.{AreGathered}, PointRows.{totals_at}};
 ghost use Rattle.gs_totals.specs.{Roles.{frame_in, lists_in}, Rows.{IsLaterRow, IsRowOf}};
 
-use crate::reading::Reading;
+use crate::point_row::PointRow;
 use gs_best::{class_above, class_total, end_round, round_at, round_total, target_at};
 use gs_game::Target;
 use gs_seq::{Abstract, plus};
@@ -64,7 +64,7 @@ fn read_row<'a>(form: &Abstract, row: Row<'a>, to: u8, sums: &'a mut [i128]) -> 
 }
 
 /// The row of class totals at the target of a move.
-fn target_row<'a>(at: &'a Reading<'_, '_>, choice: u8) -> Row<'a>
+fn target_row<'a>(at: &'a PointRow<'_, '_>, choice: u8) -> Row<'a>
     requires { choice < move_count (frame_in at.now.ledger.role) at.now.point }
     ensures later { let k = at.now.ledger.role in IsLaterRow (frame_in k) (lists_in k) (round_of (frame_in k) (at_point at.now.point)) result }
     ensures held { let k = at.now.ledger.role in IsRowOf (frame_in k) (lists_in k) (totals_at at.now) (leads_to (frame_in k) at.now.point choice) result }
@@ -86,7 +86,7 @@ fn target_row<'a>(at: &'a Reading<'_, '_>, choice: u8) -> Row<'a>
 
 /// What a move of a point is worth to each class of the point's round; the last row may be written anew.
 pub(crate) fn read_worths<'a>(
-    at: &'a Reading<'_, '_>,
+    at: &'a PointRow<'_, '_>,
     choice: u8,
     sums: &'a mut [i128],
 ) -> &'a [i128]

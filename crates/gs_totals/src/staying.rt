@@ -10,7 +10,7 @@ ghost use Rattle.gs_totals.specs.Lasting.{AreBehind, IsBehind, IsNotAhead, IsWit
 use crate::course::Course;
 use crate::ledger::Ledger;
 use crate::places::Scratch;
-use crate::reading::Reading;
+use crate::point_row::PointRow;
 use crate::rows::read_worths;
 use gs_best::{chooser, move_total, point_total, round_total};
 
@@ -140,8 +140,8 @@ fn lasting_move(
         role: course.role,
         other: course.more,
     };
-    let now = Reading::of(&ledger, course.totals, point);
-    let step = Reading::of(&rising, course.steps, point);
+    let now = PointRow::of(&ledger, course.totals, point);
+    let step = PointRow::of(&rising, course.steps, point);
     let worth = read_worths(&now, choice, worths);
     let rise = read_worths(&step, choice, rises);
     behind_all(

@@ -8,7 +8,7 @@ use Rattle.gs_totals.specs.ClassTotals.{total_worth}
 use Rattle.gs_totals.specs.Roles.{frame_in, lists_in, moves_in, plan_in, totals_in}
 use Rattle.gs_totals.specs.Places.{AreBestFrom}
 use Rattle.gs_totals.proofs.Known.{known_modest}
-use Rattle.gs_totals.proofs.Readings.{carried, row_of, wide_of}
+use Rattle.gs_totals.proofs.PointRows.{carried, row_of, wide_of}
 use Rattle.gs_totals.proofs.Sides.{walked}
 use Rattle.gs_totals.proofs.Slices.{kept_through, long_through, through, wide_through}
 use Rattle.gs_totals.proofs.Stepping.{best_back}

@@ -8,7 +8,7 @@ use Rattle.gs_totals.specs.Roles.{frame_in, lists_in, moves_in, plan_in, totals_
 use Rattle.gs_totals.specs.Merged.{IsFollowing}
 use Rattle.gs_totals.specs.Places.{IsFollowedFrom}
 use Rattle.gs_totals.proofs.Known.{known_modest}
-use Rattle.gs_totals.proofs.Readings.{carried, row_of, wide_of}
+use Rattle.gs_totals.proofs.PointRows.{carried, row_of, wide_of}
 use Rattle.gs_totals.proofs.Sides.{walked}
 use Rattle.gs_totals.proofs.Slices.{kept_through, long_through, through, wide_through}
 use Rattle.gs_totals.proofs.Stepping.{following_back}

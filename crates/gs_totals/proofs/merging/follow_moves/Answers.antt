@@ -1,4 +1,4 @@
-use Rattle.gs_totals.proofs.Readings.{wide_at}
+use Rattle.gs_totals.proofs.PointRows.{wide_at}
 use Rattle.gs_totals.proofs.merging.follow_moves.Goals as goal
 
 pub chosen_moves-requires-clause-row : goal.chosen_moves-requires-clause-row

@@ -1,4 +1,4 @@
-use Rattle.gs_totals.proofs.Readings.{wide_at}
+use Rattle.gs_totals.proofs.PointRows.{wide_at}
 use Rattle.gs_totals.proofs.merging.merge_moves.Goals as goal
 
 pub best_moves-requires-clause-best : goal.best_moves-requires-clause-best

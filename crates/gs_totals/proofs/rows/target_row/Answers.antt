@@ -10,7 +10,7 @@ use Rattle.gs_best.proofs.Placed.{IsRow}
 use Rattle.gs_best.proofs.Sides.{IsNextEnd, IsNextPoint, next_end, next_point}
 use Rattle.gs_totals.specs.Roles.{frame_in, lists_in}
 use Rattle.gs_totals.proofs.PlacedRows.{end_row, point_row}
-use Rattle.gs_totals.proofs.Readings.{held_at_end, held_at_point, later_row}
+use Rattle.gs_totals.proofs.PointRows.{held_at_end, held_at_point, later_row}
 use Rattle.gs_totals.proofs.Sides.{deviator}
 use Rattle.gs_totals.proofs.rows.target_row.Goals.{In-Point, In-End, After-index, After-index-in-End}
 use Rattle.gs_totals.proofs.rows.target_row.Goals as goal

@@ -9,7 +9,7 @@ use Rattle.gs_totals.specs.ClassTotals.{total_worth}
 use Rattle.gs_totals.specs.Courses.{totals_added, totals_now}
 use Rattle.gs_totals.specs.Roles.{frame_in, lists_in, totals_in}
 use Rattle.gs_totals.proofs.CourseLaws.{added_modest, all_ahead, all_behind, all_gains, all_gaps, each_behind, now_modest, once_behind}
-use Rattle.gs_totals.proofs.Readings.{brought, carried, row_of}
+use Rattle.gs_totals.proofs.PointRows.{brought, carried, row_of}
 use Rattle.gs_totals.proofs.staying.lasting_move.Goals.{After-of-now, After-read_worths-worth, After-read_worths-rise}
 use Rattle.gs_totals.proofs.staying.lasting_move.Goals as goal
 

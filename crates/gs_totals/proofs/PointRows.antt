@@ -9,16 +9,16 @@ use Rattle.gs_best.specs.Sizes.{IsWide}
 use Rattle.gs_best.specs.Tables.{classes_at, start_of}
 use Rattle.gs_best.proofs.Placed.{IsRow, row_next}
 use Rattle.gs_totals.specs.Places.{end_start}
-use Rattle.gs_totals.specs.Readings.{totals_at}
+use Rattle.gs_totals.specs.PointRows.{totals_at}
 use Rattle.gs_totals.specs.Roles.{frame_in, lists_in}
 use Rattle.gs_totals.specs.Rows.{IsLaterRow, IsRowOf}
 use Rattle.gs_totals.specs.declared.ledger.Ledger.{Ledger}
 use Rattle.gs_totals.specs.declared.places.Totals.{Totals}
-use Rattle.gs_totals.specs.declared.reading.Reading.{Reading}
+use Rattle.gs_totals.specs.declared.point_row.PointRow.{PointRow}
 use Rattle.gs_totals.specs.declared.rows.Row.{Row}
 use Rattle.gs_totals.proofs.Sides.{walked}
 
-pub row_at : (at : Reading) → let k = at.ledger.role in IsRow (classes_at (frame_in k) (lists_in k)) (point_count (frame_in k)) at.point at.start at.count
+pub row_at : (at : PointRow) → let k = at.ledger.role in IsRow (classes_at (frame_in k) (lists_in k)) (point_count (frame_in k)) at.point at.start at.count
 row_at at =
     let width = classes_at (frame_in at.ledger.role) (lists_in at.ledger.role) in
     record {
@@ -32,13 +32,13 @@ row_at at =
     }
 
 -- a row for the classes of any round is long enough
-pub wide_at : (at : Reading) (long : ℕ) → IsWide (frame_in at.ledger.role) (lists_in at.ledger.role) long → at.count ≤ long
+pub wide_at : (at : PointRow) (long : ℕ) → IsWide (frame_in at.ledger.role) (lists_in at.ledger.role) long → at.count ≤ long
 wide_at at long wide =
     let w = walked at.ledger.role in
     omega (arith, at.count_is, wide (round_of (frame_in at.ledger.role) (at_point at.point)) (w.some_round at.point at.inside) (w.point_in at.point at.inside))
 
 -- the row of a point holds what is known there, and the row of an end what it pays
-module _ (at : Reading) (r : Row) where
+module _ (at : PointRow) (r : Row) where
   pub held_at_point : (t : Target) (q : ℕ) → t ≡ at_point q → r.round ≡ round_of (frame_in at.ledger.role) (at_point q)
       → r.start ≡ start_of (frame_in at.ledger.role) (lists_in at.ledger.role) q → r.values.now ≡ at.totals.now.points.items
       → IsRowOf (frame_in at.ledger.role) (lists_in at.ledger.role) (totals_at at) t r
@@ -58,7 +58,7 @@ module _ (at : Reading) (r : Row) where
         get_or l (end_start (frame_in at.ledger.role) (lists_in at.ledger.role) z + (c - 1)) (pos 0)) values ∙ at.paid z c inside lc;
   })
 
-module _ (at : Reading) (m : ℕ) (lm : m < move_count (frame_in at.ledger.role) at.point) (r : Row)
+module _ (at : PointRow) (m : ℕ) (lm : m < move_count (frame_in at.ledger.role) at.point) (r : Row)
     (held : IsRowOf (frame_in at.ledger.role) (lists_in at.ledger.role) (totals_at at) (leads_to (frame_in at.ledger.role) at.point m) r) where
   pub later_row : r.start + class_count (lists_in at.ledger.role) r.round ≤ length r.values.now
       → IsLaterRow (frame_in at.ledger.role) (lists_in at.ledger.role) (round_of (frame_in at.ledger.role) (at_point at.point)) r
@@ -78,8 +78,8 @@ module _ (at : Reading) (m : ℕ) (lm : m < move_count (frame_in at.ledger.role)
             omega (arith, small, ap unsigned_abs (held.values_are (i + 1) class), ap (λ n. unsigned_abs (get_or r.values.now n (pos 0))) place);
       }
 
--- what holds of a reading holds of what it was made of, and the other way round
-module _ (k : Ledger) (t : Totals) (q : ℕ) (at : Reading) (ledger : at.ledger ≡ k) (totals : at.totals.now ≡ t) (point : at.point ≡ q) where
+-- what holds of a point's row holds of what it was made of, and the other way round
+module _ (k : Ledger) (t : Totals) (q : ℕ) (at : PointRow) (ledger : at.ledger ≡ k) (totals : at.totals.now ≡ t) (point : at.point ≡ q) where
   pub carried : (P : Ledger → Totals → ℕ → Type 0) → P at.ledger at.totals.now at.point → P k t q
   carried P h = subst (λ q. P k t q) point (subst (λ t. P k t at.point) totals (subst (λ k. P k at.totals.now at.point) ledger h))
 

@@ -12,7 +12,7 @@ use gs_best::{class_total, round_at, round_total};
 
 /// A point with the place of its row and the number of its classes, and class totals that are known at all later points.
 #[derive(Clone, Copy)]
-pub(crate) struct Reading<'a, 'b> {
+pub(crate) struct PointRow<'a, 'b> {
     pub(crate) ledger: Ledger<'a>,
     pub(crate) totals: &'b Totals,
     pub(crate) point: u32,
@@ -28,9 +28,9 @@ pub(crate) struct Reading<'a, 'b> {
         (totals_in ledger.role ledger.other.now totals.now.points.items) (point + 1) },
 }
 
-impl<'a, 'b> Reading<'a, 'b> {
+impl<'a, 'b> PointRow<'a, 'b> {
     /// A point of a player's class totals.
-    pub(crate) fn of(ledger: &Ledger<'a>, totals: &'b Totals, point: u32) -> Reading<'a, 'b>
+    pub(crate) fn of(ledger: &Ledger<'a>, totals: &'b Totals, point: u32) -> PointRow<'a, 'b>
         requires inside { point < point_count (frame_in ledger.now.role) }
         requires rows { HasRows (frame_in ledger.now.role) (lists_in ledger.now.role) totals.now }
         requires paid { ArePaid ledger.now.role ledger.now.other.now totals.now }
@@ -45,7 +45,7 @@ impl<'a, 'b> Reading<'a, 'b> {
         let _rounds = round_total(form);
         let start = ledger.role.places.points[point as usize] as usize;
         let count = class_total(form, round_at(form, point)) as usize;
-        Reading {
+        PointRow {
             ledger: *ledger,
             totals,
             point,

@@ -1,8 +1,8 @@
 -- A point whose moves are read. Of private functions.
 use Rattle.gs_model.specs.BestAnswers.{Values}
 use Rattle.gs_totals.specs.Roles.{totals_in}
-use Rattle.gs_totals.specs.declared.reading.Reading.{Reading}
+use Rattle.gs_totals.specs.declared.point_row.PointRow.{PointRow}
 
 -- the class totals that are read
-abbrev pub totals_at : Reading → Values
+abbrev pub totals_at : PointRow → Values
 totals_at at = totals_in at.ledger.role at.ledger.other.now at.totals.now.points.items
