@@ -44,20 +44,14 @@ loop-deal-init c =
     }
 
 pub mark_of-requires-clause-few : goal.mark_of-requires-clause-few
-mark_of-requires-clause-few c =
-    let deal : Deal = c.in-Some.deal in
-    let rest : List Deal = c.next.new.self in
-    let before : List Deal = c.loop-deal.deal-iterator in
-    let first : before ≡ deal ∷ rest = c.in-Some.ensures.steps in
-    subst (All is_light) first c.loop-deal.invariant.light 0 deal (omega arith)
+mark_of-requires-clause-few c = subst (All is_light) c.in-Some.ensures.steps c.loop-deal.invariant.light 0 c.in-Some.deal (omega arith)
 
 pub loop-deal-preserved : goal.loop-deal-preserved
 loop-deal-preserved c =
     let mark : Deal → ℕ = λ d. leaf_mark (leaf_of c.path_weight-path.result d) in
     let deal : Deal = c.in-Some.deal in
     let rest : List Deal = c.next.new.self in
-    let before : List Deal = c.loop-deal.deal-iterator in
-    let first : before ≡ deal ∷ rest = c.in-Some.ensures.steps in
+    let first : c.loop-deal.deal-iterator ≡ deal ∷ rest = c.in-Some.ensures.steps in
     let marks : List ℕ = c.loop-deal.marks.items in
     record {
       done = ap (λ (l : List ℕ). l ++ map mark rest) (c.in_ok-push.ensures.items ∙ ap (λ (p : ℕ). marks ++ p ∷ []) c.mark_of.ensures.mark)
