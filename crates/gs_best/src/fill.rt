@@ -1,6 +1,6 @@
 //! Best values at all points, by induction backwards.
 
-ghost use Rattle.std.specs.Prelude.{◌≡◌, ◌+◌, ◌<◌, ◌≤◌, IfOk, length, pos};
+ghost use Rattle.std.specs.Prelude.{◌+◌, ◌<◌, ◌≤◌, IfOk, length, pos};
 ghost use Rattle.gs_model.specs.Frame.{point_count};
 ghost use Rattle.gs_seq.specs.{Abstracts.{frame_of, lists_of}, Plans.{lifted}};
 ghost use Rattle.gs_best.specs.{Answers.{IsFilled}, Rows.{IsCopied}, Sizes.{HasRoom, HoldsAll, IsLaidOut}, Tables.{IsBestFrom, moves_of, table_of}};

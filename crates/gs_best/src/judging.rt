@@ -1,6 +1,6 @@
 //! The verdict on two plans.
 
-ghost use Rattle.std.specs.{Prelude.{◌≡◌, ◌+◌, ◌<◌, ◌≤◌, ◌^◌, length, unsigned_abs}, List.{range_with_len}};
+ghost use Rattle.std.specs.Prelude.{◌≡◌, ◌+◌, ◌<◌, ◌≤◌, ◌^◌, length, unsigned_abs};
 ghost use Rattle.gs_model.specs.{Classes.{class_count}, Frame.{last_round, signals_in}, Payoff.{raw_payoff}, Sums.{sum_z}, Verdict.{IsVerdict}};
 ghost use Rattle.gs_seq.specs.{Abstracts.{frame_of, lists_of}, Plans.{IsPlanOf, lifted}};
 ghost use Rattle.gs_best.specs.{Answers.{IsBestTotal, IsFilled}, Judged.{parts}, Rows.{AreModest, value_at}, Sizes.{HasRoom, HoldsAll, sizes_of}};

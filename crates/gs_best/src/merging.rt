@@ -1,6 +1,6 @@
 //! The value of a point, from what its moves are worth.
 
-ghost use Rattle.std.specs.Prelude.{◌≡◌, ◌≢◌, ◌==◌, ◌+◌, ◌<◌, ◌≤◌, ◌^◌, ◌+ℤ◌, ℕ, pos, length, get_or, slice_index, unsigned_abs, if◌then◌else◌};
+ghost use Rattle.std.specs.Prelude.{◌≡◌, ◌==◌, ◌+◌, ◌<◌, ◌≤◌, ◌^◌, ◌+ℤ◌, ℕ, pos, length, get_or, slice_index, unsigned_abs, if◌then◌else◌};
 ghost use Rattle.gs_model.specs.{BestAnswers.{class_worth}, Frame.{point_count}};
 ghost use Rattle.gs_seq.specs.{Abstracts.{frame_of, lists_of}, Plans.{lifted}};
 ghost use Rattle.gs_best.specs.{Rows.{AreAdded, AreRaised, IsMerged, raises}, Sizes.{HasRoom, IsLaidOut}};

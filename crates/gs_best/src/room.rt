@@ -3,7 +3,7 @@
 ghost use Rattle.std.specs.Prelude.{◌≡◌, ◌≤◌, ℕ, length, slice_index};
 ghost use Rattle.gs_model.specs.Frame.{point_count};
 ghost use Rattle.gs_seq.specs.Abstracts.{frame_of, lists_of};
-ghost use Rattle.gs_best.specs.Tables.{AreStarts, start_of};
+ghost use Rattle.gs_best.specs.Tables.{AreStarts};
 
 use crate::form::{class_total, point_total, round_at};
 use gs_seq::Abstract;

@@ -1,6 +1,6 @@
 //! Sums that run along the places of the boards.
 
-ghost use Rattle.std.specs.Prelude.{◌≡◌, ◌==◌, ◌+◌, ◌-◌, ◌<◌, ◌≤◌, ◌^◌, if◌then◌else◌};
+ghost use Rattle.std.specs.Prelude.{◌≡◌, ◌+◌, ◌-◌, ◌<◌, ◌≤◌, ◌^◌};
 ghost use Rattle.gs_boards.specs.Runs.{arrived, passed_by};
 
 use crate::place::Place;

@@ -1,6 +1,6 @@
 //! Decks: their kinds of cards and the copies of each.
 
-ghost use Rattle.std.specs.Prelude.{◌≡◌, ◌<◌, ◌≤◌, ◌*◌, ◌||◌, ◌&&◌, ◌∷◌, [], IfOk, IfErr, IfSome, IfNone, MatchResult, IsTrue, ◌↔◌, ℕ, length};
+ghost use Rattle.std.specs.Prelude.{◌≡◌, ◌<◌, ◌≤◌, ◌*◌, ◌||◌, ◌&&◌, IfOk, IfSome, IfNone, MatchResult, ℕ, length};
 ghost use Rattle.std.specs.Prelude.{slice_index, nat_lt, ◌==◌, true, false, Some, position, All};
 ghost use Rattle.std.specs.{List.{list_all, range_with_len}, Char.{is_ascii_alphanumeric, is_ascii_digit}};
 ghost use Rattle.gs_model.specs.{Cards.{groups}, Outcome.{rank_of, suit_of}};

@@ -1,6 +1,6 @@
 //! Where the moves of a point lead.
 
-ghost use Rattle.std.specs.Prelude.{◌≡◌, ◌<◌, ◌≤◌};
+ghost use Rattle.std.specs.Prelude.{◌≡◌, ◌<◌};
 ghost use Rattle.gs_game.specs.Seen.{target_of};
 ghost use Rattle.gs_model.specs.Frame.{leads_to, move_count, point_count};
 ghost use Rattle.gs_seq.specs.Abstracts.{frame_of, lists_of};

@@ -1,6 +1,6 @@
 //! What ends pay a player, end by end and class by class. Both the check of a certificate and the payoff read it.
 
-ghost use Rattle.std.specs.Prelude.{◌≡◌, ◌<◌, ◌≤◌, IfOk, length};
+ghost use Rattle.std.specs.Prelude.{◌≡◌, ◌<◌, IfOk, length};
 ghost use Rattle.gs_model.specs.{Classes.{IsClass}, Frame.{end_count, round_of}, Payoff.{raw_payoff}, Positions.{at_end}};
 ghost use Rattle.gs_seq.specs.{Abstracts.{frame_of, lists_of}, Payoffs.{end_sum, payoff_at}, Plans.{IsPlanOf, class_plan, lifted}};
 ghost use Rattle.gs_best.specs.Sizes.{IsWide};
@@ -8,7 +8,7 @@ ghost use Rattle.gs_certificate.specs.{Claims.{IsClaim, frame_in, lists_in}, Pai
 
 use crate::claim::Claim;
 use gs_best::{Deviator, class_total, end_round, end_total, round_total, widest};
-use gs_seq::{Abstract, Plan, plus, scaled};
+use gs_seq::{Plan, plus, scaled};
 use std::alloc::{AllocError, Global};
 
 /// What each end pays the members of each class of its round together, end by end, and the place of each end's first class.

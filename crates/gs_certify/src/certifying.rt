@@ -1,6 +1,6 @@
 //! The text that `certify` prints.
 
-ghost use Rattle.std.specs.Prelude.{◌≡◌, IfOk};
+ghost use Rattle.std.specs.Prelude.{IfOk};
 ghost use Rattle.gs_confirm.specs.Held.{Holds};
 ghost use Rattle.gs_strategy.specs.Views.{stored_view};
 ghost use Rattle.gs_certify.specs.Certificates.{IsCertified};

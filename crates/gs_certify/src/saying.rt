@@ -1,6 +1,6 @@
 //! What is said of a strategy by the task, once its classes and its size are looked at, and for `certify` its numbers.
 
-ghost use Rattle.std.specs.Prelude.{◌≡◌, IfOk};
+ghost use Rattle.std.specs.Prelude.{IfOk};
 ghost use Rattle.gs_model.specs.Lossless.{IsLossless};
 ghost use Rattle.gs_strategy.specs.{Confirmed.{frame_of}, Views.{stored_view}};
 ghost use Rattle.gs_reply.specs.Replies.{Answers};

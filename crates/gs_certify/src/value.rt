@@ -1,6 +1,6 @@
 //! The value of two plans.
 
-ghost use Rattle.std.specs.Prelude.{◌≡◌, ◌*◌, ◌<◌, ◌≤◌, ◌^◌, pos};
+ghost use Rattle.std.specs.Prelude.{◌≡◌, ◌*◌, ◌<◌, ◌≤◌, ◌^◌};
 ghost use Rattle.gs_model.specs.{Payoff.{raw_payoff}, Verdict.{IsValue}};
 ghost use Rattle.gs_best.specs.Judged.{parts};
 ghost use Rattle.gs_seq.specs.{Abstracts.{frame_of, lists_of}, Plans.{IsPlanOf, lifted}};

@@ -5,7 +5,6 @@ use Rattle.gs_filter.specs.Filter.{Filter}
 use Rattle.gs_frac.specs.declared.value.Verdict.{Verdict}
 use Rattle.gs_game.specs.declared.valid.ValidGame.{ValidGame}
 use Rattle.gs_model.specs.Lossless.{IsLossless}
-use Rattle.gs_model.specs.Signals.{signals}
 use Rattle.gs_model.specs.Verdict.{IsVerdict}
 use Rattle.gs_reply.proofs.Refused.{answers_more, tells_answer}
 use Rattle.gs_reply.specs.Refusals.{Unlike_pair, Wrong_number}

@@ -1,6 +1,6 @@
 //! The way from a strategy that was read to what is said of it, where it is confirmed.
 
-ghost use Rattle.std.specs.Prelude.{◌≡◌, IfOk};
+ghost use Rattle.std.specs.Prelude.{IfOk};
 ghost use Rattle.gs_strategy.specs.Views.{stored_view};
 ghost use Rattle.gs_reply.specs.Replies.{Answers};
 ghost use Rattle.gs_confirm.specs.{Asking.{says_of}, Commands.{OfConfirmed}};

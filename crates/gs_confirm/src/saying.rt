@@ -1,6 +1,6 @@
 //! What is said of a strategy that is confirmed.
 
-ghost use Rattle.std.specs.Prelude.{◌≡◌, ◌<◌, ◌≤◌, ◌==◌, IfOk, if◌then◌else◌};
+ghost use Rattle.std.specs.Prelude.{◌≡◌, ◌<◌, ◌==◌, IfOk, if◌then◌else◌};
 ghost use Rattle.gs_confirm.specs.{Asking.{says_of}, Commands.{SaysUpgraded}, Held.{Holds}, Queries.{IsToldAt}};
 ghost use Rattle.gs_lift.specs.Queries.{IsSpot, signals_of};
 ghost use Rattle.gs_reply.specs.Replies.{Answers};

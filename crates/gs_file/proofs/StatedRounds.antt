@@ -1,6 +1,5 @@
 -- The rounds of a game file, as facts on their tables: what stands there, its ranges, and the betting.
 use Rattle.std.proofs.Common.{◌≡◌, ℕ, ◌≤◌, Bool, true, false, List, Some, None, Ok, ℤ, pos, refl, sym, ap, ap₂, ◌∙◌, subst, Ordering, Less, Equal, Greater}
-use Rattle.std.specs.Prelude.{if◌then◌else◌}
 use Rattle.std.specs.Ordering.{is_eq, match_ordering, nat_cmp}
 use Rattle.std.specs.Cmp.Lexicographic.{slice_cmp}
 use Rattle.std.specs.Str.{bytes_eq}

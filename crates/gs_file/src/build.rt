@@ -1,6 +1,6 @@
 //! The parts of a game, made of what a file states.
 
-ghost use Rattle.std.specs.Prelude.{◌≡◌, ◌≤◌, All, IfOk, length, map};
+ghost use Rattle.std.specs.Prelude.{◌≤◌, All, IfOk, length, map};
 ghost use Rattle.gs_bet.specs.TreeView.{plain};
 ghost use Rattle.gs_card.specs.Rankings.{ranking_of};
 ghost use Rattle.gs_game.specs.Games.{HasFewCards, round_of as rules_of_round};

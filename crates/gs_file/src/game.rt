@@ -1,6 +1,5 @@
 //! The whole of a game file.
 
-ghost use Rattle.std.specs.Prelude.{◌≡◌};
 ghost use Rattle.toml.specs.View.{table_view};
 ghost use Rattle.gs_file.specs.{Answers.{Gives}, Reading.{text_at, parsed_at, game_at, read_at}, Views.{valid_view}};
 

@@ -1,6 +1,6 @@
 //! Arrays of one type.
 
-ghost use Rattle.std.specs.Prelude.{◌≡◌, map};
+ghost use Rattle.std.specs.Prelude.{map};
 ghost use Rattle.toml.specs.View.{view, table_view};
 ghost use Rattle.gs_file.specs.{Answers.{Gives}, Tables.{each, table_in, whole_number, tables_in, whole_numbers_in}};
 

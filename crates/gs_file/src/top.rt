@@ -1,6 +1,6 @@
 //! The top of a game's description.
 
-ghost use Rattle.std.specs.Prelude.{◌≡◌, option_map};
+ghost use Rattle.std.specs.Prelude.{option_map};
 ghost use Rattle.toml.specs.View.{view, table_view};
 ghost use Rattle.gs_file.specs.{Answers.{Gives}, Keys.{top_keys}, Tables.{only}};
 ghost use Rattle.gs_file.specs.Reading.{version_of, version_at, copies_value, bonus_value, values_at, bonus_numbers, typed_at};

@@ -1,6 +1,6 @@
 //! Classes of signals.
 
-ghost use Rattle.std.specs.Prelude.{◌≡◌, ◌-◌, ◌<◌, ◌≤◌, ◌^◌, length, IfOk, IfErr, get_or};
+ghost use Rattle.std.specs.Prelude.{◌≡◌, ◌-◌, ◌<◌, ◌≤◌, length, IfOk, IfErr};
 ghost use Rattle.gs_model.specs.{Rows.{rows}, Classes.{list_of, class_of, class_count, class_size, first_member, IsClass, IsClasses}};
 ghost use Rattle.gs_filter.specs.Filter.{AreParents, IsSound, IsParentClass, single_classes};
 

@@ -1,12 +1,12 @@
 //! Sizes and first members of the classes of a list.
 
-ghost use Rattle.std.specs.Prelude.{◌≡◌, ◌<◌, ◌≤◌, ◌^◌, ℕ, length, map, IfOk, OnOk, IfErr};
+ghost use Rattle.std.specs.Prelude.{◌≡◌, ◌<◌, ◌≤◌, ◌^◌, length, map, IfOk, OnOk, IfErr};
 ghost use Rattle.gs_model.specs.{Rows.{rows}, Numbering.{IsNumbered}};
 ghost use Rattle.gs_filter.specs.{Tallies.{tallies_of, IsStopOf}, Filter.{AreShort}, Faults.{AllNumbered, IsUnseen}};
 
 use crate::fault::ClassFault;
 use crate::rows::of_round;
-use std::alloc::{AllocError, AllocFailed, Global};
+use std::alloc::{AllocFailed, Global};
 
 /// A class: how many members it has, and the first of them.
 #[derive(Clone, Copy, Debug)]

@@ -1,6 +1,6 @@
 //! The refusals on a game's betting.
 
-ghost use Rattle.std.specs.Prelude.{◌≡◌, ◌≤◌, ◌<◌, ◌+◌, ◌-◌, ◌*◌, ◌^◌, ℕ, None, MatchResult, All, length, min};
+ghost use Rattle.std.specs.Prelude.{◌≡◌, ◌≤◌, ◌<◌, ◌+◌, ◌-◌, ◌*◌, ◌^◌, ℕ, None, MatchResult, length, min};
 ghost use Rattle.gs_bet.specs.TreeView.{plain};
 ghost use Rattle.gs_model.specs.Numbering.{greatest};
 ghost use Rattle.gs_game.specs.{Answers.{Answers}, Counts.{ends_in, ends_of}, Games.{game_of, plain_trees}, Money.{most_in}};

@@ -1,6 +1,6 @@
 //! The refusals on a game's signals and deals.
 
-ghost use Rattle.std.specs.Prelude.{◌≡◌, ◌≤◌, ◌<◌, ◌+◌, ◌*◌, ◌^◌, None, IfOk, OnOk, MatchResult, All, length, map, min, sum, ◌++◌};
+ghost use Rattle.std.specs.Prelude.{◌≡◌, ◌≤◌, ◌<◌, ◌+◌, ◌*◌, None, IfOk, OnOk, MatchResult, All, length, map, min, sum, ◌++◌};
 ghost use Rattle.gs_model.specs.{Cards.{choose}, Deals.{deals}, Frame.{frame_of, total_weight}};
 ghost use Rattle.gs_game.specs.{Answers.{Answers}, Games.{HasFewCards, game_of, round_of}, Money.{first_of}};
 ghost use Rattle.gs_game.specs.Refusals.{card_refusal, deal_refusal, deals_refusal, signals_refusal};

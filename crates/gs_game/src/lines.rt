@@ -1,6 +1,6 @@
 //! The texts of lines.
 
-ghost use Rattle.std.specs.Prelude.{◌≡◌, ◌<◌, ◌≤◌, ◌+◌, ◌^◌, [], None, option_map};
+ghost use Rattle.std.specs.Prelude.{◌≡◌, ◌<◌, ◌+◌, ◌^◌, [], None, option_map};
 ghost use Rattle.gs_bet.specs.{TreeView.{plain, plain_moves}, declared.shape.Act.{out-Act}};
 ghost use Rattle.gs_game.specs.{Counts.{ends_in, ends_of, points_in, points_of}, Games.{plain_trees}};
 ghost use Rattle.gs_game.specs.{Lines.{MovesFollow, RoundsFollow, TreeFollows, follow, follow_from, follow_moves}, Refusals.{no_even_from}};

@@ -1,11 +1,11 @@
 //! What the players put along the paths of a betting tree.
 
-ghost use Rattle.std.specs.Prelude.{◌≡◌, ◌≤◌, ◌<◌, ◌+◌, ◌*◌, ◌^◌, IfOk};
+ghost use Rattle.std.specs.Prelude.{◌≡◌, ◌≤◌, ◌<◌, ◌+◌, ◌^◌, IfOk};
 ghost use Rattle.gs_bet.specs.TreeView.{plain};
 ghost use Rattle.gs_game.specs.Money.{Fits, Searched, has_even, most_put, one_after, put_above, two_after, uneven_path};
 
 use gs_bet::Tree;
-use std::alloc::{AllocError, Global};
+use std::alloc::AllocError;
 
 /// What each player has put.
 #[derive(Clone, Copy)]

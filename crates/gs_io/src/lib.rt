@@ -10,7 +10,7 @@ mod standard;
 mod tests;
 mod whole;
 
-ghost use Rattle.std.specs.{Prelude.{◌≡◌, ◌<◌, ◌≤◌, ℕ, List, Option, length, take, IfOk, MatchResult}, Io.{ReadsAtMost}};
+ghost use Rattle.std.specs.{Prelude.{◌≡◌, ◌<◌, ◌≤◌, ℕ, List, Option, length, take, IfOk}, Io.{ReadsAtMost}};
 ghost use Rattle.std.specs.Io.KnownBytes.{ReadConsumes, WriteAppends};
 ghost use Rattle.gs_io.specs.Causes.{HasCause, Rose, raised};
 

@@ -1,6 +1,6 @@
 //! Sources and a sink in memory. Two of them fail where a list says so.
 
-ghost use Rattle.std.specs.{Prelude.{◌≡◌, ◌≤◌, ◌<◌, ◌+◌, ◌-◌, length, take, drop, Some, IfOk, min, [], ◌∷◌, ◌++◌}, Io.{ReadsAtMost}};
+ghost use Rattle.std.specs.{Prelude.{◌≡◌, ◌≤◌, ◌<◌, ◌+◌, ◌-◌, length, take, drop, Some, IfOk, min, []}, Io.{ReadsAtMost}};
 ghost use Rattle.std.specs.Io.KnownBytes.{ReadConsumes, WriteAppends};
 ghost use Rattle.gs_io.specs.{Causes.{HasCause}, Memory.{Reading, Writing, TakesNext, GivesNext}};
 

@@ -1,6 +1,6 @@
 //! Reading everything, and writing everything.
 
-ghost use Rattle.std.specs.Prelude.{◌<◌, ◌^◌, length};
+ghost use Rattle.std.specs.Prelude.{◌<◌, ◌^◌};
 ghost use Rattle.gs_io.specs.Moves.{ReadsAll, WritesAll};
 
 use crate::{ReadStop, Sink, Source, WriteStop};

@@ -1,6 +1,6 @@
 //! The signal classes of a game.
 
-ghost use Rattle.std.specs.{Prelude.{◌≡◌, ◌<◌, ◌≤◌, IfOk, map}, List.{range_with_len}};
+ghost use Rattle.std.specs.{Prelude.{◌≡◌, ◌<◌, IfOk, map}, List.{range_with_len}};
 ghost use Rattle.gs_model.specs.{Rows.{rows}, Game.{round_count}, SignalClasses.{IsSignalClasses}, Signals.{parents}};
 ghost use Rattle.gs_tree.specs.Trees.{rules_of};
 ghost use Rattle.gs_iso.specs.Numbers.{AreNumberings, classes_above};

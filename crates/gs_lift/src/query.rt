@@ -1,6 +1,6 @@
 //! The spot that two texts name.
 
-ghost use Rattle.std.specs.Prelude.{◌<◌, ◌≤◌, ◌↔◌, ◌≡◌, ℕ, IsTrue, MatchOption, MatchResult};
+ghost use Rattle.std.specs.Prelude.{◌<◌, ◌≤◌, ◌↔◌, ℕ, IsTrue, MatchOption, MatchResult};
 ghost use Rattle.gs_lift.specs.Queries.{IsFaultOf, IsPointFault, IsSpot, NamesOwnPoint, NamesPoint, NamesSomeSignal, signals_of};
 
 use crate::fault::QueryFault;

@@ -1,7 +1,7 @@
 //! Weights by class and outcome, added up.
 
 ghost use Rattle.std.specs.Prelude.{◌≡◌, ◌↔◌, ◌+◌, ◌<◌, ◌^◌, All, IfOk, OnOk, IsTrue, sum_by};
-ghost use Rattle.gs_lossless.specs.Sums.{AreSumsOf, is_at, merged, put_last};
+ghost use Rattle.gs_lossless.specs.Sums.{AreSumsOf, put_last};
 
 use std::alloc::{AllocError, Global};
 

@@ -1,6 +1,6 @@
 //! Adjacency lists.
 
-ghost use Rattle.std.specs.Prelude.{◌≡◌, ℕ, ◌<◌, IfOk, [], length, get_or};
+ghost use Rattle.std.specs.Prelude.{◌≡◌, ℕ, ◌<◌, IfOk, [], length};
 ghost use Rattle.gs_model.specs.Rows.{rows};
 ghost use Rattle.gs_match.specs.Adjacency.{AreEdgesInRange, AreNeighbours, row_of};
 

@@ -1,6 +1,6 @@
 //! One more left node for a matching.
 
-ghost use Rattle.std.specs.Prelude.{◌≡◌, ◌+◌, ◌<◌, ℕ, MatchOption, IfOk, length};
+ghost use Rattle.std.specs.Prelude.{◌+◌, ◌<◌, MatchOption, IfOk, length};
 ghost use Rattle.gs_model.specs.Rows.{rows};
 ghost use Rattle.gs_match.specs.{Adjacency.{AreRowsIn}, Search.{IsMatching, HasClosed}};
 

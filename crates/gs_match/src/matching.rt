@@ -1,9 +1,9 @@
 //! Perfect matchings.
 
-ghost use Rattle.std.specs.Prelude.{◌≡◌, ◌<◌, ◌≤◌, ◌^◌, ℕ, Some, map, IfOk, IfErr, IsPermutation, List, length, get_or};
+ghost use Rattle.std.specs.Prelude.{◌≡◌, ◌<◌, ◌^◌, ℕ, Some, map, IfOk, IfErr, IsPermutation, length, get_or};
 ghost use Rattle.std.specs.List.Sorted.{IsNonDecreasing};
-ghost use Rattle.gs_model.specs.{Rows.{rows}, Matching.{IsPerfect}};
-ghost use Rattle.gs_match.specs.{Adjacency.{AreEdgesInRange}, Search.{IsMatching, holder, lefts}, Refusal.{IsRefusalOf, NoneExists}};
+ghost use Rattle.gs_model.specs.Matching.{IsPerfect};
+ghost use Rattle.gs_match.specs.{Adjacency.{AreEdgesInRange}, Search.{holder, lefts}, Refusal.{IsRefusalOf, NoneExists}};
 
 use crate::adjacency::adjacency;
 use crate::augment::augment;

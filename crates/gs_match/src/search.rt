@@ -1,6 +1,6 @@
 //! The search for an augmenting path from a left node.
 
-ghost use Rattle.std.specs.Prelude.{◌≡◌, ℕ, ◌<◌, IfOk, length};
+ghost use Rattle.std.specs.Prelude.{◌<◌, IfOk, length};
 ghost use Rattle.gs_model.specs.Rows.{rows};
 ghost use Rattle.gs_match.specs.{Adjacency.{AreRowsIn}, Search.{visit, IsMatching, IsTree, Extends, IsRowEnd, IsFound}};
 

@@ -7,6 +7,9 @@ use Rattle.std.proofs.lemmas.Int.{ints}
 use Rattle.std.proofs.lemmas.List.Sums.{sum_by-cons}
 use Rattle.gs_model.specs.Sums.{sum_z}
 
+-- ---- options, truth values and numbers
+
+-- the constructor by a name that needs no type beside it
 abbrev pub some : {A : Type 0} → A → Option A
 some x = Some x
 
@@ -40,6 +43,8 @@ pub false_from_not : (b : Bool) → (b ≡ true → ⊥) → b ≡ false
 false_from_not true h = absurd (h refl)
 false_from_not false h = refl
 
+-- ---- lists
+
 pub map-map : {X Y Z : Type 0} (h : Y → Z) (v : X → Y) (xs : List X) → map h (map v xs) ≡ map (λ x. h (v x)) xs
 map-map h v [] = refl
 map-map h v (x ∷ xs) = ap (λ l. h (v x) ∷ l) (map-map h v xs)
@@ -64,6 +69,8 @@ pub drop-all : {X : Type 0} (xs : List X) → drop (length xs) xs ≡ []
 drop-all [] = refl
 drop-all (x ∷ xs) = drop-all xs
 
+-- ---- what holds of each element
+
 pub every-both : {X : Type 0} (P Q : X → Type 0) (xs : List X) → AllByRecursion P xs → AllByRecursion Q xs → AllByRecursion (λ x. P x × Q x) xs
 every-both P Q [] h k = tt
 every-both P Q (x ∷ xs) h k = ((h.0, k.0), every-both P Q xs h.1 k.1)
@@ -87,6 +94,8 @@ every-weaker P Q f (x ∷ xs) h = (f x h.0, every-weaker P Q f xs h.1)
 pub every-append : {X : Type 0} (P : X → Type 0) (xs ys : List X) → AllByRecursion P xs → AllByRecursion P ys → AllByRecursion P (xs ++ ys)
 every-append P [] ys h k = k
 every-append P (x ∷ xs) ys h k = (h.0, every-append P xs ys h.1 k)
+
+-- ---- sums and counts
 
 pub sum-same : {X : Type 0} (f g : X → ℕ) → ((x : X) → f x ≡ g x) → (xs : List X) → sum_by f xs ≡ sum_by g xs
 sum-same f g h [] = refl

@@ -1,7 +1,7 @@
 //! The strength of a hand.
 
-ghost use Rattle.std.specs.{Prelude.{◌≡◌, ◌<◌, ◌+◌, ◌*◌, ◌++◌, ◌≤◌, length, slice_index, ◌∷◌, [], max, min, ◌==◌, ◌&&◌, All}, List.{list_any}};
-ghost use Rattle.gs_model.specs.{Game.{High, Pair, Three}, Outcome.{rank_of, suit_of, strength, three_ranks, three_strength}};
+ghost use Rattle.std.specs.Prelude.{◌≡◌, ◌<◌, ◌+◌, ◌*◌, ◌++◌, length, slice_index, ◌∷◌, [], max, min, ◌==◌, ◌&&◌, All};
+ghost use Rattle.gs_model.specs.{Game.{High, Pair, Three}, Outcome.{strength, three_ranks, three_strength}};
 ghost use Rattle.gs_card.specs.{Decks.{kinds}, Rankings.{ranking_of}};
 ghost use Rattle.gs_rank.specs.Hands.{IsHand, IsStrength};
 

@@ -1,6 +1,6 @@
 //! Refusals of certificates.
 
-ghost use Rattle.std.specs.Prelude.{◌≡◌, IfOk};
+ghost use Rattle.std.specs.Prelude.{IfOk};
 ghost use Rattle.gs_reply.specs.{Refusals.{Bad_certificate}, Replies.{Tells}};
 
 use crate::answers::{Answer, Cause};

@@ -1,6 +1,6 @@
 //! Refusals of stated numbers.
 
-ghost use Rattle.std.specs.Prelude.{◌≡◌, IfOk};
+ghost use Rattle.std.specs.Prelude.{IfOk};
 ghost use Rattle.gs_reply.specs.{Refusals.{Wrong_number}, Replies.{Tells}};
 
 use crate::answers::{Answer, Cause};

@@ -1,6 +1,6 @@
 //! Refusals of classes.
 
-ghost use Rattle.std.specs.Prelude.{◌≡◌, ◌<◌, ◌≤◌, IfOk, length};
+ghost use Rattle.std.specs.Prelude.{◌<◌, ◌≤◌, IfOk, length};
 ghost use Rattle.gs_file.specs.Views.{valid_view};
 ghost use Rattle.gs_lossless.specs.Stops.{IsUnlike, IsUnlikeIn};
 ghost use Rattle.gs_model.specs.{Classes.{ClassLists}, Frame.{frame_of}, Game.{round_count}, Lossless.{IsLossless}, Signals.{signal_at, signals as signals_in}};

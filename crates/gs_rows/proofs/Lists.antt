@@ -6,7 +6,7 @@ use Rattle.gs_rows.specs.declared.Program.{Program}
 use Rattle.gs_rows.specs.Rows.{IsCombination, IsUnlistedRow, IsListedRow, IsAimRow}
 use Rattle.gs_rows.specs.Elimination.{IsEliminated}
 use Rattle.gs_rows.specs.Program.{number, aim_of, Listing, IsListed, RowListed, ColListed, IsRowsOf}
-use Rattle.gs_rows.proofs.Ring.{ring, linear, sign_of, times_zero, zero_times, cancel_zero}
+use Rattle.gs_rows.proofs.Ring.{ring, linear, sign_of, times_zero, cancel_zero}
 use Rattle.gs_rows.proofs.Pivot.{pivot_unlisted, pivot_listed, pivot_aim, combination_divided}
 
 -- ---- what is listed after a push

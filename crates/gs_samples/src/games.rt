@@ -1,6 +1,6 @@
 //! Games by lines of words.
 
-ghost use Rattle.std.specs.Prelude.{◌≤◌, ◌<◌, All, OnOk, IfOk};
+ghost use Rattle.std.specs.Prelude.{◌<◌, All, OnOk, IfOk};
 ghost use Rattle.gs_card.specs.Rankings.{ranking_of};
 ghost use Rattle.gs_game.specs.Games.{HasFewCards};
 ghost use Rattle.gs_model.specs.Outcome.{IsBonus};

@@ -1,6 +1,6 @@
 //! The rows of rounds before the last, by the games that stop after them: after a round all pairs of signals go on in as many ways.
 
-ghost use Rattle.std.specs.{Prelude.{◌≡◌, ◌+◌, ◌-◌, ◌<◌, ◌≤◌, ℕ, IfOk, get_or, length, Vec}, declared.alloc.Global.{Global}};
+ghost use Rattle.std.specs.{Prelude.{◌≡◌, ◌+◌, ◌-◌, ◌<◌, ℕ, IfOk, get_or, length, Vec}, declared.alloc.Global.{Global}};
 ghost use Rattle.gs_game.specs.GoingOn.{StopsAfter, ways_on as ways_after};
 ghost use Rattle.gs_model.specs.{Classes.{IsClass, list_of}, Frame.{last_round}, Game.{round_count}, Lossless.{IsLossless}};
 ghost use Rattle.gs_tree.specs.Trees.{rules_of};

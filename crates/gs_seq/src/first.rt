@@ -1,6 +1,6 @@
 //! The plan that takes the first move everywhere.
 
-ghost use Rattle.std.specs.Prelude.{◌≡◌, ◌+◌, ◌<◌, ◌≤◌, ◌^◌, ℕ, IfOk, length};
+ghost use Rattle.std.specs.Prelude.{◌≡◌, ◌+◌, ◌<◌, ◌≤◌, ℕ, IfOk, length};
 ghost use Rattle.gs_model.specs.{Classes.{IsClass}, Frame.{player_at, point_count, round_of}, Positions.{at_point}};
 ghost use Rattle.gs_seq.specs.{Firsts.{Agree, AreFirstBefore, IsClear, IsFirstAt}, Games.{frame_in}};
 ghost use Rattle.gs_seq.specs.Slots.{AreOffsets, slot_count as slots_in, slots_before};

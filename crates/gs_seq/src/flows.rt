@@ -1,8 +1,8 @@
 //! Whether weights are a plan: at each point and class the weights of the moves add up to what comes there.
 
 ghost use Rattle.std.specs.Prelude.{ℕ, ◌≡◌, ◌+◌, ◌*◌, ◌<◌, ◌≤◌, ◌^◌, MatchOption, drop, length, sum, take};
-ghost use Rattle.gs_model.specs.Classes.{IsClass, class_of, first_member};
-ghost use Rattle.gs_model.specs.{Frame.{ancestor, last_round, last_step, player_at, point_count, round_of}, Plans.{lift, number_before}};
+ghost use Rattle.gs_model.specs.Classes.{IsClass, first_member};
+ghost use Rattle.gs_model.specs.{Frame.{last_step, player_at, point_count, round_of}, Plans.{lift, number_before}};
 ghost use Rattle.gs_model.specs.Positions.{at_point};
 ghost use Rattle.gs_seq.specs.{Faults.{IsFaultOf}, Games.{frame_in}, Slots.{IsPlan, plan_of, slot_count as slots_in, slots_before}};
 ghost use Rattle.gs_seq.specs.Sources.{FirstLeakAt, FirstLeakIn, IsClassAbove, IsWeightAbove, MatchSource, slot_above};

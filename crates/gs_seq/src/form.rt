@@ -71,7 +71,7 @@ fn order_of<'a>(
 }
 
 impl<'a> Abstract<'a> {
-    ghost use Rattle.std.specs.Prelude.{◌+◌, ℕ, IfOk, IfErr, IfSome, MatchOption, length};
+    ghost use Rattle.std.specs.Prelude.{◌+◌, IfOk, IfErr, IfSome, MatchOption};
     ghost use Rattle.gs_model.specs.{Classes.{IsClass, IsClasses}, Frame.{end_count, last_round, move_count, player_at, point_count, round_of}};
     ghost use Rattle.gs_model.specs.{Pairs.{class_number}, Positions.{at_end, at_point}};
     ghost use Rattle.gs_seq.specs.{Abstracts.{frame_of, lists_of}, Cells.{IsPairAfter, MeetsNoneAfter}, Faults.{IsFaultOf}};

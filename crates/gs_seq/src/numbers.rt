@@ -1,6 +1,6 @@
 //! The numbers of plans at ends, and sums of signed numbers.
 
-ghost use Rattle.std.specs.Prelude.{◌≡◌, ◌+◌, ◌-◌, ◌*◌, ◌<◌, ◌≤◌, ◌^◌, ℕ, length, option_map, pos, slice_index, unsigned_abs, ◌+ℤ◌, ◌*ℤ◌};
+ghost use Rattle.std.specs.Prelude.{◌≡◌, ◌+◌, ◌-◌, ◌*◌, ◌<◌, ◌≤◌, ◌^◌, length, option_map, pos, slice_index, unsigned_abs, ◌+ℤ◌, ◌*ℤ◌};
 ghost use Rattle.gs_game.specs.Seen.{step_of};
 ghost use Rattle.gs_model.specs.{Classes.{ClassLists, IsClass}, Frame.{end_count, last_step, move_count, player_at, point_count, round_of}};
 ghost use Rattle.gs_model.specs.{Pairs.{class_number}, Positions.{at_end, at_point}};

@@ -1,6 +1,6 @@
 //! The pairs of classes that some deal has, row by row: a row for each class of player 1 in each round.
 
-ghost use Rattle.std.specs.Prelude.{◌≡◌, ◌+◌, ◌*◌, ◌<◌, ◌≤◌, ◌^◌, IfOk, OnOk, All, length, map, pos, reverse, sum_by, unsigned_abs, ◌+ℤ◌, ◌*ℤ◌};
+ghost use Rattle.std.specs.Prelude.{◌≡◌, ◌+◌, ◌*◌, ◌<◌, ◌≤◌, ◌^◌, IfOk, OnOk, All, map, pos, reverse, sum_by, unsigned_abs, ◌+ℤ◌, ◌*ℤ◌};
 ghost use Rattle.gs_model.specs.{Classes.{IsClass}, Frame.{last_round}, Lossless.{IsLossless}};
 ghost use Rattle.gs_lossless.specs.Amounts.{keys_of};
 ghost use Rattle.gs_lossless.specs.declared.sides.Side.TheVariants as sides;

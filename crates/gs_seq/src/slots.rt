@@ -1,7 +1,7 @@
 //! The slots of a player: one for each of his points, class of its round, and move.
 
 ghost use Rattle.std.specs.Prelude.{◌≡◌, ◌+◌, ◌<◌, ◌≤◌, ◌^◌, IfOk, OnOk, IfErr};
-ghost use Rattle.gs_model.specs.Frame.{player_at, point_count};
+ghost use Rattle.gs_model.specs.Frame.{point_count};
 ghost use Rattle.gs_seq.specs.{Games.{frame_in}, Slots.{AreOffsets, sequence_count, slot_count as slots_in, slots_at as slots_here, slots_before}};
 ghost use Rattle.gs_seq.specs.Stops.{HasOver, HasSequencesWithin, IsTooLong};
 

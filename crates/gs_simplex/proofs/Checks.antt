@@ -5,7 +5,7 @@ use Rattle.std.proofs.lemmas.List.{length-take-le, get_or-take, take_more}
 use Rattle.std.proofs.Math.Seq.{take-length}
 use Rattle.gs_rows.specs.declared.Program.{Program}
 use Rattle.gs_rows.specs.Sums.{sum_to}
-use Rattle.gs_rows.specs.Program.{number, IsFree, Listing, IsListed, RowListed, ColListed, IsPairList, IsRowsOf, CanTake, IsTakenInTurn, IsSolution, IsFeasible, IsOpening}
+use Rattle.gs_rows.specs.Program.{number, IsFree, Listing, IsListed, RowListed, ColListed, IsPairList, IsRowsOf, CanTake, IsTakenInTurn, IsOpening}
 use Rattle.gs_rows.proofs.Ring.{ring, linear}
 use Rattle.gs_rows.proofs.Steps.{take_rows}
 use Rattle.gs_rows.proofs.Solutions.{basic_exists}

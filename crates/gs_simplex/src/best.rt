@@ -1,9 +1,9 @@
 //! Values and prices at the last basis.
 
-ghost use Rattle.std.specs.Prelude.{◌≡◌, ℕ, ◌+◌, ◌-◌, ◌*◌, ◌^◌, ◌<◌, ◌≤◌, ◌⊎◌, ℤ, pos, neg_ℤ, ◌*ℤ◌, ◌<ℤ◌, length, slice_index, IfOk};
+ghost use Rattle.std.specs.Prelude.{◌≡◌, ℕ, ◌+◌, ◌-◌, ◌*◌, ◌^◌, ◌<◌, ℤ, pos, neg_ℤ, ◌*ℤ◌, ◌<ℤ◌, length, slice_index, IfOk};
 ghost use Rattle.std.specs.List.{HoldsAt};
 ghost use Rattle.gs_rows.specs.Program.{IsPairList, IsListed, ColListed, IsRowsOf};
-ghost use Rattle.gs_simplex.specs.{Numbers.{cell}, Table.{table_rows, table_aim, IsTable}, Values.{IsRowIndex, IsMarked, IsValue, CanValue}};
+ghost use Rattle.gs_simplex.specs.{Table.{table_rows, table_aim, IsTable}, Values.{IsRowIndex, IsValue, CanValue}};
 ghost use Rattle.gs_simplex.specs.Answer.{IsBestTable};
 
 use crate::answer::Best;

@@ -1,6 +1,6 @@
 //! Bland's choice: the column that enters and the row that leaves.
 
-ghost use Rattle.std.specs.Prelude.{◌≡◌, ◌≢◌, MatchOption, ℕ, ◌+◌, ◌-◌, ◌*◌, ◌<◌, ◌≤◌, ◌^◌, ◌⊎◌, ◌↔◌, IsTrue, ℤ, pos, ◌*ℤ◌, ◌<ℤ◌, ◌≤ℤ◌, unsigned_abs};
+ghost use Rattle.std.specs.Prelude.{◌≡◌, ◌+◌, ◌-◌, ◌*◌, ◌<◌, ◌≤◌, ◌^◌, ◌↔◌, IsTrue, ℤ, ◌*ℤ◌, unsigned_abs};
 ghost use Rattle.std.specs.Prelude.{length, slice_index_or, MatchBool};
 ghost use Rattle.std.specs.Option.{ForSome};
 ghost use Rattle.gs_rows.specs.{Rows.{IsNarrow}, Program.{IsShaped, IsPairList, IsFree}};

@@ -18,7 +18,7 @@ mod start;
 mod table;
 mod tracing;
 
-ghost use Rattle.std.specs.Prelude.{ℕ, ◌<◌, ◌^◌};
+ghost use Rattle.std.specs.Prelude.{◌<◌, ◌^◌};
 ghost use Rattle.gs_rows.specs.Program.{IsShaped, IsOpening};
 ghost use Rattle.gs_simplex.specs.{Answer.{IsAnswer}, Trace.{IsTraceAnswer}};
 

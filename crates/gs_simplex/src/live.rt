@@ -1,6 +1,6 @@
 //! Which columns a pivot has to look at: those that are not listed, that of the row which is taken, the right side, and each row's own column.
 
-ghost use Rattle.std.specs.Prelude.{◌≡◌, ◌≢◌, ℕ, ◌+◌, ◌<◌, ◌≤◌, ◌^◌, ◌⊎◌, ◌↔◌, IsTrue, IfOk, length, slice_index, vec_len};
+ghost use Rattle.std.specs.Prelude.{◌≡◌, ℕ, ◌+◌, ◌<◌, ◌≤◌, ◌^◌, ◌↔◌, IsTrue, IfOk, length, slice_index};
 ghost use Rattle.gs_rows.specs.Program.{IsPairList, IsListed, RowListed, ColListed};
 ghost use Rattle.gs_simplex.specs.{Live.{HasPlaces, IsLiveRow, ArePlaces, IsFound, IsSupport}, Numbers.{at, AllNarrow}};
 

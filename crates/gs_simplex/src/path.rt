@@ -1,9 +1,9 @@
 //! The path: the pairs of the opening one after the other, and then pivots.
 
-ghost use Rattle.std.specs.Prelude.{◌≡◌, ◌≢◌, MatchOption, MatchResult, ℕ, ◌+◌, ◌*◌, ◌<◌, ◌≤◌, ◌^◌, ℤ, pos, length, slice_index_or, slice_set};
+ghost use Rattle.std.specs.Prelude.{◌≡◌, ◌≢◌, MatchOption, MatchResult, ℕ, ◌+◌, ◌*◌, ◌<◌, ◌≤◌, ◌^◌, pos, length, slice_index_or};
 ghost use Rattle.std.specs.Prelude.{unsigned_abs, Some};
-ghost use Rattle.gs_rows.specs.{Program.{IsShaped, IsPairList, IsOpening, IsRowsOf}, Path.{NoneEnters}};
-ghost use Rattle.gs_simplex.specs.Table.{table_rows, table_aim, stated, IsTable, IsTableAfter, IsWideAfter};
+ghost use Rattle.gs_rows.specs.Program.{IsShaped, IsPairList, IsOpening, IsRowsOf};
+ghost use Rattle.gs_simplex.specs.Table.{table_rows, table_aim, stated, IsTable};
 ghost use Rattle.gs_simplex.specs.{State.{HasRoom, IsStart, IsState, IsChoice, IsPivoted, IsWidePivot, IsEnd, IsTurned}, Answer.{IsSmall, IsStop}};
 ghost use Rattle.gs_simplex.specs.Trace.{IsBegun, CanFollow};
 

@@ -1,8 +1,8 @@
 //! The rows of the empty list: the program's, each divided by its greatest common divisor.
 
-ghost use Rattle.std.specs.Prelude.{◌≡◌, ℕ, ◌+◌, ◌-◌, ◌*◌, ◌^◌, ◌<◌, ◌≤◌, ◌++◌, [], ◌∷◌, ◌⊎◌, ℤ, pos, ◌*ℤ◌, length, OnOk, IfOk, slice_index_or};
-ghost use Rattle.gs_rows.specs.Program.{IsShaped, IsRowsOf};
-ghost use Rattle.gs_simplex.specs.{Numbers.{at, cell, AllNarrow, IsDivided}, Table.{table_rows, table_aim, IsTable}, State.{HasRoom, IsRaw, IsStart}};
+ghost use Rattle.std.specs.Prelude.{◌≡◌, ℕ, ◌+◌, ◌-◌, ◌*◌, ◌^◌, ◌<◌, ◌≤◌, ◌++◌, [], ◌∷◌, ◌⊎◌, length, OnOk, IfOk};
+ghost use Rattle.gs_rows.specs.Program.{IsShaped};
+ghost use Rattle.gs_simplex.specs.{Numbers.{at, cell, AllNarrow, IsDivided}, State.{IsRaw, IsStart}};
 
 use crate::live::{Live, fill};
 use crate::row::divide_row;

@@ -1,7 +1,7 @@
-ghost use Rattle.std.specs.Prelude.{◌≡◌, ◌≢◌, ℕ, ◌+◌, ◌-◌, ◌*◌, ◌<◌, ◌≤◌, ◌^◌, ◌↔◌, IsTrue, IfOk, [], List, length, map, take, slice_index_or, ℤ, pos, ◌≤ℤ◌};
+ghost use Rattle.std.specs.Prelude.{◌≡◌, ℕ, ◌+◌, ◌-◌, ◌*◌, ◌<◌, ◌≤◌, ◌^◌, IsTrue, IfOk, [], length, map, take, slice_index_or};
 ghost use Rattle.std.specs.Vec.{vec_items};
-ghost use Rattle.gs_rows.specs.Program.{IsShaped, IsOpening, IsPairList, IsTakenInTurn, IsRowsOf, IsListed, IsFree, RowListed, ColListed, CanTake};
-ghost use Rattle.gs_simplex.specs.{Numbers.{at, AllNarrow}, Table.{table_rows, table_aim, IsTable}, State.{HasRoom, IsStart}, Answer.{IsSmall}};
+ghost use Rattle.gs_rows.specs.Program.{IsShaped, IsOpening, IsPairList, IsRowsOf, IsFree};
+ghost use Rattle.gs_simplex.specs.{Numbers.{AllNarrow}, Table.{table_rows, table_aim, IsTable}, State.{IsStart}, Answer.{IsSmall}};
 ghost use Rattle.gs_simplex.specs.Conditions.{IsWideRow, IsNewPair, CanTakeAt, IsTaken, HasFeasibleSides};
 
 use super::*;

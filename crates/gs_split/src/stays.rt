@@ -1,7 +1,7 @@
 //! Rounds that the turn before has settled: where the classes that sums are taken by have stayed the same, members of a class have the same sums.
 
 ghost use Rattle.std.specs.Prelude.{◌≡◌, ◌≤◌, ◌<◌, ◌↔◌, IfOk, IsTrue, length};
-ghost use Rattle.gs_model.specs.{Classes.{list_of}, Frame.{frame_of, last_round}, RefinementTurn.{IsTurn}};
+ghost use Rattle.gs_model.specs.{Classes.{list_of}, Frame.{frame_of}, RefinementTurn.{IsTurn}};
 ghost use Rattle.gs_tree.specs.Trees.{rules_of};
 ghost use Rattle.gs_split.specs.Turns.{AreKnown};
 

@@ -1,6 +1,6 @@
 //! Information filters: that calls succeed, and worked values by hand.
 
-ghost use Rattle.std.specs.Prelude.{IfOk, ◌<◌, ◌≤◌, length};
+ghost use Rattle.std.specs.Prelude.{IfOk, ◌<◌};
 ghost use Rattle.gs_model.specs.Rows.{rows};
 ghost use Rattle.gs_filter.specs.Filter.{AreParents};
 

@@ -1,6 +1,6 @@
 //! Solutions of small games, as worked by hand: the pivots of the path, totals and weights.
 
-ghost use Rattle.std.specs.Prelude.{◌≡◌, ◌≤◌, ◌<◌};
+ghost use Rattle.std.specs.Prelude.{◌<◌};
 
 use crate::forms::{Question, told};
 use gs_samples::KUHN;

@@ -1,6 +1,6 @@
 //! Certificates of small games and the check of certificates near them, as a separate program has them, and texts that break one rule each.
 
-ghost use Rattle.std.specs.Prelude.{◌≤◌, ◌<◌};
+ghost use Rattle.std.specs.Prelude.{◌<◌};
 ghost use Rattle.gs_seq.specs.{Abstracts.{frame_of, lists_of}, Plans.{IsPlanOf}};
 
 use crate::rows::{agree, over_form, plan_in};

@@ -1,6 +1,6 @@
 //! Games in sequence form, against sums taken by hand. A hand above the lowest category wins double.
 
-ghost use Rattle.std.specs.Prelude.{◌≡◌, ◌≤◌, ◌<◌};
+ghost use Rattle.std.specs.Prelude.{◌<◌};
 
 use crate::rows::{agree, over_game};
 use gs_lossless::{Lossless, check};

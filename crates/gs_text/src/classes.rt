@@ -1,10 +1,9 @@
 //! The class text.
 
-ghost use Rattle.std.specs.Prelude.{◌≡◌, ◌≤◌, ◌<◌, ◌-◌, ◌++◌, ◌^◌, [], ◌∷◌, All, IfOk, OnOk, length, map, flat_map, codes, string_bytes, vec_len};
-ghost use Rattle.std.specs.Prelude.{slice_index, slice_set, slice_index_or};
+ghost use Rattle.std.specs.Prelude.{◌≡◌, ◌≤◌, ◌<◌, ◌-◌, ◌++◌, All, IfOk, OnOk, length, map, flat_map, codes, string_bytes};
 ghost use Rattle.std.specs.List.{zip, range_with_len};
-ghost use Rattle.gs_model.specs.{Classes.{list_of}, Numbering.{greatest}, Game.{round_count}, Signals.{signal_at, signals as signals_in}};
-ghost use Rattle.gs_tree.specs.{Texts.{signal_text}, Trees.{rules_of, deck_of}};
+ghost use Rattle.gs_model.specs.{Classes.{list_of}, Numbering.{greatest}, Game.{round_count}, Signals.{signals as signals_in}};
+ghost use Rattle.gs_tree.specs.Trees.{rules_of, deck_of};
 ghost use Rattle.gs_text.specs.ClassText.{begin_line, open_line, round_line, round_text, AreListsOf, signal_texts as texts_of_signals};
 ghost use Rattle.gs_text.specs.ClassText.{class_text as text_of_classes};
 

@@ -1,6 +1,6 @@
 //! The texts of what is wrong with a strategy file.
 
-ghost use Rattle.std.specs.{Prelude.{◌≡◌, ◌≢◌, ◌++◌, ℕ, IfOk, codes}, Fmt.{decimal}};
+ghost use Rattle.std.specs.{Prelude.{◌≡◌, ◌≢◌, ◌++◌, IfOk, codes}, Fmt.{decimal}};
 ghost use Rattle.gs_file.specs.Faults.{Fault as GameRule};
 ghost use Rattle.gs_file.specs.declared.fault.FileFault.TheVariants as file;
 ghost use Rattle.gs_filter.specs.FaultText.{fault_text as class_fault_text};

@@ -1,8 +1,8 @@
 //! The summary of classes.
 
-ghost use Rattle.std.specs.Prelude.{◌≡◌, ◌++◌, IfOk, OnOk, length, string_bytes};
+ghost use Rattle.std.specs.Prelude.{◌≡◌, ◌++◌, IfOk, OnOk, string_bytes};
 ghost use Rattle.gs_tree.specs.Trees.{rules_of};
-ghost use Rattle.gs_text.specs.ClassText.{AreListsOf, deals_line, round_line, summary_text as text_of_summary};
+ghost use Rattle.gs_text.specs.ClassText.{AreListsOf, deals_line, summary_text as text_of_summary};
 
 use crate::classes::push_round_line;
 use gs_filter::Classes;

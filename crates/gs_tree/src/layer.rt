@@ -1,6 +1,6 @@
 //! The signals of one round.
 
-ghost use Rattle.std.specs.Prelude.{◌≡◌, ◌≤◌, ◌<◌, ◌++◌, ◌*◌, ◌-◌, slice_set, slice_index, All, IfOk, OnOk, vec_len, map, length};
+ghost use Rattle.std.specs.Prelude.{◌≡◌, ◌≤◌, ◌<◌, ◌++◌, ◌*◌, ◌-◌, slice_set, slice_index, All, IfOk, OnOk, map, length};
 ghost use Rattle.gs_card.specs.Decks.{kinds};
 ghost use Rattle.gs_tree.specs.{Shown.{cards_of, seen_of}, Layers.{showing}};
 ghost use Rattle.gs_model.specs.{Cards.{left_after}, Cards.{groups, groups_above, groups_with, ways}, Signals.{showings, edge}};

@@ -1,9 +1,9 @@
 //! The command that words are read by.
 
-ghost use Rattle.std.specs.Prelude.{◌≡◌, List, [], ◌∷◌, ◌++◌, IfOk, codes, false, true};
+ghost use Rattle.std.specs.Prelude.{◌≡◌, List, [], ◌∷◌, ◌++◌, IfOk, false, true};
 ghost use Rattle.clap.specs.Words.{rule_of};
 ghost use Rattle.gs_words.specs.Commands.{classes, required, summary};
-ghost use Rattle.gs_words.specs.Program.{Is, app_for, bare, program as whole, rule_for, with_commands, with_options};
+ghost use Rattle.gs_words.specs.Program.{Is, app_for, bare, program as whole, rule_for, with_commands};
 ghost use Rattle.gs_words.specs.declared.names.CommandName.{CommandName};
 ghost use Rattle.gs_words.specs.declared.names.CommandName.TheVariants as name;
 

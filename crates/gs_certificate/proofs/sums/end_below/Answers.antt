@@ -1,4 +1,4 @@
-use Rattle.std.proofs.Common.{◌≡◌, ◌<◌, ℕ, ◌≤◌, sym, ap, subst, ◌∙◌, arith, rules, of_z, to_z}
+use Rattle.std.proofs.Common.{◌≡◌, ◌<◌, ℕ, ◌≤◌, sym, ap, subst, ◌∙◌, arith, of_z, to_z}
 use Rattle.std.specs.Int.{w128}
 use Rattle.std.specs.Prelude.{unsigned_abs}
 use Rattle.gs_model.specs.BestAnswers.{end_worth}
