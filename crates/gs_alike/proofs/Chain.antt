@@ -5,10 +5,10 @@ use Rattle.std.specs.List.{range_with_len}
 use Rattle.std.proofs.lemmas.Bool.{cases_lt}
 use Rattle.gs_model.specs.Game.{Game, round_count}
 use Rattle.gs_model.specs.Signals.{signal_at}
+use Rattle.gs_model.proofs.Basics.{range_step, range_end}
 use Rattle.gs_tree.specs.Boards.{AreBoards}
 use Rattle.gs_tree.specs.Walk.{last_count, shows_same}
 use Rattle.gs_tree.proofs.Same.{public_alike}
-use Rattle.gs_tree.proofs.Pairs.{range_step, range_end}
 use Rattle.gs_alike.specs.Boards.{signals_on}
 
 -- places that a test refuses are passed over

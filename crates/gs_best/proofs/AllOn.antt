@@ -11,10 +11,11 @@ use Rattle.gs_model.specs.FrameFacts.{InRange, IsWalked}
 use Rattle.gs_model.specs.Plans.{Plan, lift, number_before}
 use Rattle.gs_model.specs.Positions.{at_point}
 use Rattle.gs_model.proofs.PlanLaws.{first_best_is_plan}
+use Rattle.gs_model.proofs.Basics.{not_eq}
 use Rattle.gs_seq.specs.Firsts.{Agree, IsClear}
 use Rattle.gs_seq.specs.Slots.{IsPlan, plan_of, slot_count, slot_of, slots_before}
 use Rattle.gs_seq.proofs.Firsts.{came_kept, slots_own, slot_under, agree_less}
-use Rattle.gs_seq.proofs.SlotLaws.{not_eq, slots_le}
+use Rattle.gs_seq.proofs.SlotLaws.{slots_le}
 use Rattle.gs_best.specs.Puts.{ArePutBefore, IsPutAt}
 
 module _ (f : Frame) (r : InRange f) (lists : ClassLists) (k : IsClasses f.parents lists) (player : ℕ) (w : IsWalked f player) (move : ℕ → ℕ

@@ -11,8 +11,8 @@ use Rattle.gs_model.specs.Frame.{Frame, choices_at, end_count, leads_to, move_co
 use Rattle.gs_model.specs.FrameFacts.{IsFrom, IsInside, IsWalked, ends_of, next_of, points_of}
 use Rattle.gs_model.specs.Positions.{Target, at_end, at_point}
 use Rattle.gs_model.proofs.FirstBest.{one_choice, sum-same_range}
-use Rattle.gs_seq.proofs.ClassRows.{sum_by-map}
-use Rattle.gs_seq.proofs.SlotLaws.{not_eq, sum_range_more}
+use Rattle.gs_model.proofs.Basics.{not_eq, sum_by-map}
+use Rattle.gs_seq.proofs.SlotLaws.{sum_range_more}
 
 -- ---- sums over ranges
 

@@ -1,7 +1,7 @@
 -- What ends pay is at most 4,096 chips, and all deals weigh at most 2^26.
 use Rattle.std.proofs.Common.{◌≡◌, ℕ, ◌*◌, ◌<◌, ◌≤◌, length, get_or, arith, true, false, cond, None}
 use Rattle.std.specs.Prelude.{◌==◌, ℤ, pos, neg_ℤ, unsigned_abs}
-use Rattle.std.proofs.Math.Nat.{mul-le-mul_left, mul-le-mul_right}
+use Rattle.std.proofs.Math.Nat.{mul-le-mul_left}
 use Rattle.std.proofs.lemmas.Int.{ints, unsigned_abs-mul}
 use borrow.Author.Differences.{abs_is}
 use Rattle.gs_game.specs.Games.{game_of}
@@ -11,11 +11,9 @@ use Rattle.gs_game.specs.declared.valid.ValidGame.{ValidGame}
 use Rattle.gs_model.specs.Deals.{Deal}
 use Rattle.gs_model.specs.Frame.{Frame, end_at, end_count, payoff_to, total_weight, trees_of}
 use Rattle.gs_model.specs.Positions.{End, EndKind, Folded1, Folded2, Show, end_payoff}
+use Rattle.gs_model.proofs.Basics.{product_le}
 use Rattle.gs_seq.specs.Games.{frame_in}
 use Rattle.gs_seq.proofs.Sizes.{abs_neg, abs_pos, are_bet, outcomes_le, puts_le, some_greatest}
-
-pub product_le : (a b c d : ℕ) → a ≤ c → b ≤ d → a * b ≤ c * d
-product_le a b c d l m = let x = mul-le-mul_right b l in let y = mul-le-mul_left c m in omega (arith, x, y)
 
 kind_pays : (k : EndKind) (put : ℕ) (o : ℤ) (most : ℕ) (top : ℕ) → put ≤ most → unsigned_abs o ≤ top → 1 ≤ top
     → unsigned_abs (end_payoff (record { round = 1; kind = k; put = put; one = None; two = None }) o) ≤ most * top

@@ -8,7 +8,6 @@ use borrow.Author.Tests.{ltb-true}
 use Rattle.gs_frac.specs.declared.value.Fraction.{Fraction}
 use Rattle.gs_best.specs.Judged.{IsOver, parts}
 use Rattle.gs_frac.specs.Texts.{is_fraction, limit}
-use Rattle.gs_model.proofs.Basics.{product_positive}
 
 pub record IsBottom (den : ℤ) : Type 0 where
   pub some : 0 < unsigned_abs den
@@ -25,9 +24,6 @@ bottom num (negsuc d) h = absurd (false≢true h)
 -- the scale of a verdict
 pub over_scale : (m n : ℕ) (scale z : ℤ) → scale ≡ pos m *ℤ z → z ≡ pos n → scale ≡ pos (m * n)
 over_scale m n scale z e is = e ∙ ap (λ x. pos m *ℤ x) is ∙ omega (arith, ints, product_is (pos m) (pos n))
-
-pub some_product : (a b c : ℕ) → 0 < a → 0 < b → 0 < c → 0 < a * b * c
-some_product a b c x y z = product_positive (a * b) c (product_positive a b x y) z
 
 pub turned_sum : (a x p a' p' : ℤ) → a ≡ x → a' ≡ a → p' ≡ p → a' +ℤ p' ≡ x +ℤ p
 turned_sum a x p a' p' e f g = omega (arith, ints)

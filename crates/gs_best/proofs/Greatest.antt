@@ -12,7 +12,7 @@ use Rattle.gs_model.specs.Positions.{at_point}
 use Rattle.gs_model.specs.Sums.{sum_z}
 use Rattle.gs_model.proofs.Sparse.{abs_sum}
 use Rattle.gs_best.specs.Rows.{AreAdded, AreGreatest, AreRaised, AreSums, AreWorths, IsFirstGreatest, Worths, raises}
-use Rattle.gs_best.proofs.Ranges.{sum_more}
+use Rattle.gs_seq.proofs.EndTotals.{range_more}
 
 less_is : (a b : ℤ) → int_lt a b ≡ true → a <ℤ b
 less_is a b h = grind (arith, ints)
@@ -75,10 +75,10 @@ sum_one W n b h = by (n == 0) refl
     by : (first : Bool) → (n == 0) ≡ first → cond first (W n) (b +ℤ W n) ≡ sum_z W (range_with_len 0 (n + 1))
     by true e =
         let z : n ≡ 0 = (Decides-eqb n 0).0 e in
-        sym (sum_more W 0 n ∙ ap (λ k. sum_z W (range_with_len 0 k) +ℤ W (0 + n)) z ∙ +ℤ_idl (W (0 + n)) ∙ ap W at)
+        sym (range_more W 0 n ∙ ap (λ k. sum_z W (range_with_len 0 k) +ℤ W (0 + n)) z ∙ +ℤ_idl (W (0 + n)) ∙ ap W at)
     by false e =
         let some : 0 < n = ⊎_elim (λ (z : n ≡ 0). absurd (true≢false (sym ((Decides-eqb n 0).1 z) ∙ e))) (λ (z : n ≡ 0 → ⊥). omega arith) (cases_eq n 0) in
-        ap (λ z. z +ℤ W n) (h some) ∙ ap (λ k. sum_z W (range_with_len 0 n) +ℤ W k) (sym at) ∙ sym (sum_more W 0 n)
+        ap (λ z. z +ℤ W n) (h some) ∙ ap (λ k. sum_z W (range_with_len 0 n) +ℤ W k) (sym at) ∙ sym (range_more W 0 n)
 
 module _ (f : Frame) (lists : ClassLists) (worth : Worths) (q n count : ℕ) (all : count
     ≡ class_count lists (round_of f (at_point q))) (worths : List ℤ) (new : AreWorths f lists worth q n worths) where

@@ -7,7 +7,8 @@ use Rattle.std.proofs.lemmas.List.{get_or-append-add, get_or-drop, get_or-take, 
 use Rattle.gs_model.specs.Classes.{ClassLists, IsClass}
 use Rattle.gs_model.specs.Frame.{Frame, player_at, round_of}
 use Rattle.gs_model.specs.Positions.{at_point}
-use Rattle.gs_seq.proofs.SlotLaws.{not_eq, sum_range_le, sum_range_more}
+use Rattle.gs_model.proofs.Basics.{not_eq}
+use Rattle.gs_seq.proofs.SlotLaws.{sum_range_le, sum_range_more}
 use Rattle.gs_best.specs.Answers.{choices_before}
 use Rattle.gs_best.specs.Tables.{classes_at, moves_of, start_of}
 

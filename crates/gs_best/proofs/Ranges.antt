@@ -2,15 +2,15 @@
 use Rattle.std.proofs.Common.{◌≡◌, ℕ, zero, suc, ◌+◌, ◌-◌, ◌*◌, ◌<◌, ◌≤◌, cond, refl, sym, ap, ◌∙◌, arith}
 use Rattle.std.specs.Prelude.{◌==◌, ℤ, pos, ◌+ℤ◌, unsigned_abs}
 use Rattle.std.specs.List.{range_with_len}
-use Rattle.std.proofs.Math.IntN.{+ℤ_idr}
 use Rattle.std.proofs.lemmas.Bool.Decides.{Decides-eqb}
 use Rattle.std.proofs.lemmas.Int.{ints}
 use Rattle.gs_lossless.specs.Amounts.{IsRunIn}
 use Rattle.gs_model.specs.Frame.{Frame, ancestor, signal_count, signals_in}
 use Rattle.gs_model.specs.Sums.{sum_z}
-use Rattle.gs_model.proofs.Sparse.{abs_sum, range_append}
+use Rattle.gs_model.proofs.Sparse.{abs_sum, range_append, sum_none}
 use Rattle.gs_model.proofs.Total.{sum_z-append}
-use Rattle.gs_seq.proofs.SlotLaws.{not_eq}
+use Rattle.gs_model.proofs.Basics.{not_eq}
+use Rattle.gs_seq.proofs.EndTotals.{range_more}
 
 pub sum_same : (u v : ℕ → ℤ) (a n : ℕ) → ((m : ℕ) → a ≤ m → m < a + n → u m ≡ v m) → sum_z u (range_with_len a n) ≡ sum_z v (range_with_len a n)
 sum_same u v a zero h = refl
@@ -18,18 +18,6 @@ sum_same u v a (suc n) h =
     let here = h a (omega arith) (omega arith) in
     let rest = sum_same u v (a + 1) n (λ m lo hi. h m (omega arith) (omega arith)) in
     omega (arith, ints, here, rest)
-
-pub sum_none : (u : ℕ → ℤ) (a n : ℕ) → ((m : ℕ) → a ≤ m → m < a + n → u m ≡ pos 0) → sum_z u (range_with_len a n) ≡ pos 0
-sum_none u a zero h = refl
-sum_none u a (suc n) h =
-    let here = h a (omega arith) (omega arith) in
-    let rest = sum_none u (a + 1) n (λ m lo hi. h m (omega arith) (omega arith)) in
-    omega (arith, ints, here, rest)
-
-pub sum_more : (u : ℕ → ℤ) (a n : ℕ) → sum_z u (range_with_len a (n + 1)) ≡ sum_z u (range_with_len a n) +ℤ u (a + n)
-sum_more u a n =
-    ap (sum_z u) (range_append a n 1) ∙ sum_z-append u (range_with_len a n) (range_with_len (a + n) 1)
-    ∙ ap (λ z. sum_z u (range_with_len a n) +ℤ z) (+ℤ_idr (u (a + n)))
 
 -- a sum over the descendants of a signal is the sum over their run
 pub run_is : (f : Frame) (to from s first end : ℕ) (u : ℕ → ℤ) → IsRunIn f to from s first end
@@ -70,5 +58,5 @@ pub run_step : (u : ℕ → ℤ) (first signal : ℕ) (sum : ℤ) → first ≤ 
 run_step u first signal sum l is =
     let e : signal + 1 - first ≡ (signal - first) + 1 = omega arith in
     let at : first + (signal - first) ≡ signal = omega arith in
-    ap (λ z. z +ℤ u signal) is ∙ ap (λ k. sum_z u (range_with_len first (signal - first)) +ℤ u k) (sym at) ∙ sym (sum_more u first (signal - first))
+    ap (λ z. z +ℤ u signal) is ∙ ap (λ k. sum_z u (range_with_len first (signal - first)) +ℤ u k) (sym at) ∙ sym (range_more u first (signal - first))
     ∙ ap (λ k. sum_z u (range_with_len first k)) (sym e)

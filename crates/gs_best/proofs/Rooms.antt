@@ -15,8 +15,7 @@ use Rattle.gs_model.specs.Positions.{at_point}
 use Rattle.gs_model.proofs.RawBound.{All-range, range_once}
 use Rattle.gs_model.proofs.Regroup.{regroup_weights, sum_z-pos}
 use Rattle.gs_model.proofs.Total.{sum_z-same}
-use Rattle.gs_model.proofs.Basics.{pos-same, sum-same, sum-ones}
-use Rattle.gs_seq.proofs.ClassRows.{sum_by-map}
+use Rattle.gs_model.proofs.Basics.{pos-injective, sum-same, sum-ones, sum_by-map}
 use Rattle.gs_best.specs.Sizes.{AreOfLength, HasRoom, Holds, HoldsAll, IsRoomy, IsWide, IsWideFor, point_room, points_in, sizes_of, value_room}
 use Rattle.gs_best.specs.Tables.{start_of}
 use Rattle.gs_best.specs.declared.room.Scratch.{Scratch}
@@ -43,7 +42,7 @@ module _ (f : Frame) (p : ℕ) (w : IsWalked f p) where
       regroup_weights eqb Decides-eqb at (λ q. 1) (λ j. pos (c j)) js qs
       (All-range (λ q. count_by (eqb (at q)) js ≡ 1) (point_count f) (λ q l. range_once (at q) 1 (last_round f) (w.some_round q l) (let t = w.point_in q l in
       omega arith))) in
-      sym (pos-same (sum_by (λ q. c (at q)) qs) (sum_by (λ j. points_in f j * c j) js) (sym left ∙ both ∙ right))
+      sym (pos-injective (sum_by (λ q. c (at q)) qs) (sum_by (λ j. points_in f j * c j) js) (sym left ∙ both ∙ right))
 
   pub value_room_is : (lists : ClassLists) → value_room (sizes_of f lists) ≡ start_of f lists (point_count f)
   value_room_is lists = sum_by-map (λ (n : ℕ × ℕ). n.0 * n.1) (λ j. (points_in f j, class_count lists j)) (range_with_len 1 (last_round f))

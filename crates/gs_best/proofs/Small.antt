@@ -20,27 +20,18 @@ use Rattle.gs_model.specs.Sums.{sum_z}
 use Rattle.gs_model.proofs.Deviations.{to_first}
 use Rattle.gs_model.proofs.Gather.{class_in, firsts_from}
 use Rattle.gs_model.proofs.Known.{Tabled}
-use Rattle.gs_model.proofs.PlanLaws.{numbers_within}
+use Rattle.gs_model.proofs.PlanLaws.{numbers_within, le-sum}
 use Rattle.gs_model.proofs.RawBound.{All-range}
 use Rattle.gs_model.proofs.Tables.{is_table}
+use Rattle.gs_model.proofs.Basics.{product_le}
 use Rattle.gs_best.specs.Tables.{IsBestFrom}
-use Rattle.gs_seq.proofs.RowFacts.{abs_all}
+use Rattle.gs_seq.proofs.RowFacts.{abs_all, sum-times}
 use Rattle.gs_seq.proofs.SlotLaws.{sum_range_le}
 use Rattle.gs_best.proofs.Below.{below_end, below_le, below_point, ends_below}
-use Rattle.gs_best.proofs.Chips.{IsModest, product_le}
+use Rattle.gs_best.proofs.Chips.{IsModest}
 use Rattle.gs_best.proofs.Weights.{own_le, own_weight, weight_alike, weight_all, weight_below}
 
 -- ---- sums
-
-scaled_sum : {X : Type 0} (u : ℕ) (a : X → ℕ) (xs : List X) → sum_by (λ x. u * a x) xs ≡ u * sum_by a xs
-scaled_sum u a [] = omega arith
-scaled_sum u a (x ∷ xs) = omega (
-  arith,
-  sum_by-cons (λ x. u * a x) x xs,
-  scaled_sum u a xs,
-  ap (λ n. u * n) (sum_by-cons a x xs),
-  mul-add u (a x) (sum_by a xs),
-)
 
 -- the same with a factor behind
 sum_scaled : {X : Type 0} (a : X → ℕ) (u : ℕ) (xs : List X) → sum_by (λ x. a x * u) xs ≡ sum_by a xs * u
@@ -75,16 +66,6 @@ part_abs true w n total pay l m =
     let q = mul-le-mul_left w p in
     omega (arith, e, ap (λ k. k * unsigned_abs pay) s, mul_assoc w n (unsigned_abs pay), q, mul_comm w (total * 4096))
 part_abs false w n total pay l m = omega (arith, ints, abs_is (pos 0))
-
--- a member of a sum over a range is at most the sum
-member_le : (f : ℕ → ℕ) (a n m : ℕ) → a ≤ m → m < a + n → f m ≤ sum_by f (range_with_len a n)
-member_le f a zero m lo hi = absurd (omega arith)
-member_le f a (suc n) m lo hi =
-    let c = sum_by-cons f a (range_with_len (a + 1) n) in
-    ⊎_elim
-    (λ (same : a ≡ m). let k = ap f same in omega (arith, c, k))
-    (λ (other : a ≡ m → ⊥). let r = member_le f (a + 1) n m (omega arith) (omega arith) in omega (arith, c, r))
-    (cases_eq a m)
 
 module _ (f : Frame) (r : InRange f) (lists : ClassLists) (k : IsClasses f.parents lists) (g : IsLossless f lists) (p : ℕ) (w : IsWalked f p)
     (o : IsWalked f (other_player p)) (b : IsModest f) (y : Plan)
@@ -121,7 +102,7 @@ module _ (f : Frame) (r : InRange f) (lists : ClassLists) (k : IsClasses f.paren
       (payoff_to f p z (get_or f.deals i d).outcome)
       (number_le z (at_round f j (get_or f.deals i d).two) l (tabled.kept (last_round f) j (get_or f.deals i d).two (w.end_round z l) (w.end_in z l)
       (tabled.dealt_two i d li))) (b.pays p z i d l li)) in
-      omega (arith, a, scaled_sum unit (λ (d : Deal). cond (at_round f j d.one == s) d.weight 0) f.deals)
+      omega (arith, a, sum-times unit (λ (d : Deal). cond (at_round f j d.one == s) d.weight 0) f.deals)
 
   -- the bound of a value at a position, for the deals of a signal
   abbrev most : Target → ℕ → ℕ
@@ -158,8 +139,8 @@ module _ (f : Frame) (r : InRange f) (lists : ClassLists) (k : IsClasses f.paren
       omega (
         arith,
         all,
-        scaled_sum unit (λ x. e * cond (below x) (own_weight f i x) 0) (signals_in f i),
-        ap (λ n. unit * n) (scaled_sum e (λ x. cond (below x) (own_weight f i x) 0) (signals_in f i)),
+        sum-times unit (λ x. e * cond (below x) (own_weight f i x) 0) (signals_in f i),
+        ap (λ n. unit * n) (sum-times e (λ x. cond (below x) (own_weight f i x) 0) (signals_in f i)),
         ap (λ n. unit * (e * n)) (weight_below f tabled i later top j s on),
       )
 
@@ -178,7 +159,7 @@ module _ (f : Frame) (r : InRange f) (lists : ClassLists) (k : IsClasses f.paren
       omega (
         arith,
         all,
-        scaled_sum unit (λ m. ends_below f (leads_to f q m) * own) (range_with_len 0 n),
+        sum-times unit (λ m. ends_below f (leads_to f q m) * own) (range_with_len 0 n),
         ap (λ k. unit * k) (sum_scaled (λ m. ends_below f (leads_to f q m)) own (range_with_len 0 n)),
       )
 
@@ -207,7 +188,7 @@ module _ (f : Frame) (r : InRange f) (lists : ClassLists) (k : IsClasses f.paren
         let lm = best.in_range t c later i his lc in
         let h = move_le v t m c i lm lc (λ e le. next m e lm le) in
         let less : ends_below f (leads_to f t m) ≤ ends_below f (at_point t) =
-        omega (arith, all, member_le (λ m. ends_below f (leads_to f t m)) 0 (move_count f t) m (omega arith) (omega (arith, lm))) in
+        omega (arith, all, le-sum (λ m. ends_below f (leads_to f t m)) 0 (move_count f t) m (omega arith) (omega (arith, lm))) in
         let up = mul-le-mul_left unit (mul-le-mul_right own less) in
         omega (arith, h, ap unsigned_abs (best.reached t c later i his lc), up))
         (λ (other : player_at f t ≡ p → ⊥).
@@ -285,8 +266,8 @@ module _ (f : Frame) (r : InRange f) (lists : ClassLists) (k : IsClasses f.paren
         omega (
           arith,
           all,
-          scaled_sum unit (λ x. e * own_weight f j x) (signals_in f j),
-          ap (λ n. unit * n) (scaled_sum e (own_weight f j) (signals_in f j)),
+          sum-times unit (λ x. e * own_weight f j x) (signals_in f j),
+          ap (λ n. unit * n) (sum-times e (own_weight f j) (signals_in f j)),
           ap (λ n. unit * (e * n)) (weight_all f tabled j some top),
           figures e (total_weight f) (below_few t w.start_in) b.weight,
         )

@@ -19,11 +19,11 @@ use Rattle.gs_model.proofs.Exchange.{gain_exchange, raw_payoff_is_gain}
 use Rattle.gs_model.proofs.FirstBest.{first_best_reaches}
 use Rattle.gs_model.proofs.Gather.{class_in, firsts_from, holds_by, known_from, plan_by}
 use Rattle.gs_model.proofs.Tables.{is_table}
+use Rattle.gs_model.proofs.Basics.{product_le}
 use Rattle.gs_best.specs.Answers.{IsBestTotal, NoneGainsMore}
 use Rattle.gs_best.specs.Ends.{IsEndRow}
 use Rattle.gs_best.specs.Rows.{value_at}
 use Rattle.gs_best.specs.Tables.{start_of, table_of}
-use Rattle.gs_best.proofs.Chips.{product_le}
 use Rattle.gs_best.proofs.Ranges.{sum_same}
 
 module _ (f : Frame) (lists : ClassLists) (p : ℕ) (y : Plan) (values : List ℤ) where

@@ -16,7 +16,7 @@ use Rattle.gs_model.proofs.Known.{Tabled}
 use Rattle.gs_model.proofs.RawBound.{range_once}
 use Rattle.gs_model.proofs.Regroup.{alike_total, sum_z-pos}
 use Rattle.gs_model.proofs.Total.{sum_z-same}
-use Rattle.gs_model.proofs.Basics.{pos-same, pos-cond, sum-same}
+use Rattle.gs_model.proofs.Basics.{pos-injective, pos-cond, sum-same, cond_le}
 
 -- the weight of the deals in which player 1 has a signal of a round
 abbrev pub own_weight : Frame → ℕ → ℕ → ℕ
@@ -29,13 +29,9 @@ tested : (b : Bool) (w : ℕ) → pos (cond {A = ℕ} b 1 0) *ℤ pos w ≡ pos 
 tested true w = omega (arith, ints, product_is (pos 1) (pos w))
 tested false w = omega (arith, ints, product_is (pos 0) (pos w))
 
-no_more : (b : Bool) (w : ℕ) → cond b w 0 ≤ w
-no_more true w = omega arith
-no_more false w = omega arith
-
 pub own_le : (f : Frame) (j s : ℕ) → own_weight f j s ≤ total_weight f
 own_le f j s = sum_by-le-sum_by (λ (d : Deal). cond (at_round f j d.one == s) d.weight 0) (λ (d : Deal). d.weight) f.deals
-    (λ d. no_more (at_round f j d.one == s) d.weight)
+    (λ d. cond_le (at_round f j d.one == s) d.weight)
 
 module _ (f : Frame) (h : Tabled f) (i : ℕ) (some : 0 < i) (top : i ≤ last_round f) where
   -- the weights of the signals that pass a test, by deals
@@ -56,7 +52,7 @@ module _ (f : Frame) (h : Tabled f) (i : ℕ) (some : 0 < i) (top : i ≤ last_r
       by_ancestor eqb Decides-eqb at (λ r. cond {A = ℕ} (p r) 1 0) (λ d. pos d.weight) f.deals (signals_in f i)
       (λ k d l. range_once (at (get_or f.deals k d)) 0 (signal_count f i) (omega arith) (let q =
       h.kept (last_round f) i (get_or f.deals k d).one some top (h.dealt k d l) in omega arith)) in
-      pos-same (sum_by (λ r. cond (p r) (own_weight f i r) 0) (signals_in f i)) (sum_by (λ d. cond (p (at d)) d.weight 0) f.deals) (sym right ∙ sym both
+      pos-injective (sum_by (λ r. cond (p r) (own_weight f i r) 0) (signals_in f i)) (sum_by (λ d. cond (p (at d)) d.weight 0) f.deals) (sym right ∙ sym both
       ∙ left)
 
   -- the descendants of a signal weigh together what it does
@@ -79,4 +75,4 @@ module _ (f : Frame) (h : Tabled f) (i : ℕ) (some : 0 < i) (top : i ≤ last_r
       λ s. sum_z-same (λ d. pos (w s d) *ℤ pos 1) (λ d. pos (w s d)) (λ d. times_one (w s d)) f.deals ∙ sum_z-pos (w s) f.deals in
       let both = alike_total eqb Decides-eqb (λ (d : Deal). class_of lists i (at_round f i d.two)) (w s) (w t) (λ q. pos 1) f.deals
       (λ k. fair f lists g i s t k some top m) in
-      pos-same (own_weight f i s) (own_weight f i t) (sym (turn s) ∙ both ∙ turn t)
+      pos-injective (own_weight f i s) (own_weight f i t) (sym (turn s) ∙ both ∙ turn t)

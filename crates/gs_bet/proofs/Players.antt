@@ -5,15 +5,15 @@ use Rattle.gs_model.specs.Betting.{Bet, Moves, act, fold, even, none, move, HasP
 use Rattle.gs_bet.specs.MoveLists.{has_move, has_letter}
 use Rattle.gs_bet.specs.Grammar.{is_player, is_letter, is_sound, are_sound, is_fold, is_tree}
 
-one_or_two : (p : ℕ) → is_player p ≡ true → (p ≡ 1) ⊎ (p ≡ 2)
-one_or_two p h = elim (or_cases (p == 1) (p == 2) h) [ inl e ↦ inl (eqb-true p 1 e) | inr e ↦ inr (eqb-true p 2 e) ]
+pub player_cases : (p : ℕ) → is_player p ≡ true → (p ≡ 1) ⊎ (p ≡ 2)
+player_cases p h = elim (or_cases (p == 1) (p == 2) h) [ inl e ↦ inl (eqb-true p 1 e) | inr e ↦ inr (eqb-true p 2 e) ]
 
 mutual
   sound_players : (left : ℕ) (t : Bet) → is_sound left t ≡ true → HasPlayers t
   sound_players zero (act player moves) h = absurd (cc)
   sound_players (suc left) (act player moves) h =
       let both = and_parts (is_player player) (has_move moves && are_sound left moves) h in
-      (one_or_two player both.0, sound_moves left moves (and_parts (has_move moves) (are_sound left moves) both.1).1)
+      (player_cases player both.0, sound_moves left moves (and_parts (has_move moves) (are_sound left moves) both.1).1)
   sound_players left fold h = tt
   sound_players left even h = tt
 

@@ -1,8 +1,8 @@
 -- Each cut can be completed, and a tree's text is read to its end.
-use Rattle.std.proofs.Common.{◌≡◌, ℕ, zero, suc, ◌+◌, ◌-◌, ◌*◌, ◌/◌, ◌%◌, ◌<◌, ◌≤◌, List, [], ◌∷◌, ◌++◌, length, Ok, refl, ap, ◌∙◌, inl, inr, ◌⊎◌, Bool, true, false, not, eqb, ◌&&◌, ◌||◌, arith, append_assoc, zero-add}
+use Rattle.std.proofs.Common.{◌≡◌, ℕ, zero, suc, ◌+◌, ◌-◌, ◌*◌, ◌/◌, ◌%◌, ◌<◌, ◌≤◌, List, [], ◌∷◌, ◌++◌, length, Ok, refl, ap, ◌∙◌, inl, inr, Bool, true, false, not, eqb, ◌&&◌, ◌||◌, arith, append_assoc, zero-add}
 use Rattle.std.specs.Fmt.{decimal}
 use Rattle.std.proofs.lemmas.Fmt.{decimal_by_steps}
-use Rattle.std.proofs.lemmas.Bool.{false≢true, or_parts, and_parts, le-leb, lt-ltb, or_cases, eqb-true, ne_eqb}
+use Rattle.std.proofs.lemmas.Bool.{false≢true, or_parts, and_parts, le-leb, lt-ltb, ne_eqb}
 use Rattle.gs_model.specs.Betting.{Bet, Moves, act, fold, even, none, move}
 use Rattle.gs_bet.specs.MoveLists.{count, has_move, has_letter, push_move}
 use Rattle.gs_bet.specs.Grammar.{chips_text, tree_text, moves_text, is_letter, is_player, is_sound, are_sound, is_fold}
@@ -12,6 +12,7 @@ use Rattle.gs_bet.specs.Reading.{goes_on}
 use Rattle.gs_bet.proofs.CutText.{sound_push, swapped}
 use Rattle.gs_bet.proofs.ReadsAsCut.{count_push}
 use Rattle.gs_bet.proofs.Letters.{First, first, at_most_26, spare}
+use Rattle.gs_bet.proofs.Players.{player_cases}
 
 -- ---- completion
 
@@ -140,9 +141,6 @@ runs_move l c t runs p ms outer front tail depth letter fresh few sound =
 or_false : (x : Bool) → (x || false) ≡ true → x ≡ true
 or_false true h = refl
 or_false false h = h
-
-pub player_cases : (p : ℕ) → is_player p ≡ true → (p ≡ 1) ⊎ (p ≡ 2)
-player_cases p h = elim (or_cases (eqb p 1) (eqb p 2) h) [ inl e ↦ inl (eqb-true p 1 e) | inr e ↦ inr (eqb-true p 2 e) ]
 
 -- the front of an act
 runs_front : (p : ℕ) (outer : List Open) (bytes : List ℕ) → length outer < 16 → is_player p ≡ true

@@ -14,7 +14,8 @@ use Rattle.gs_bet.proofs.Steps.{is_inside, step, step_then, run, read, ended}
 use Rattle.gs_bet.specs.Reading.{goes_on}
 use Rattle.gs_bet.specs.Faults.{mistake_at, IsMistake}
 use Rattle.gs_bet.proofs.CutText.{run_grows, reached, reached-is}
-use Rattle.gs_bet.proofs.Runs.{completes, runs_tree, runs_act, runs_to_letter, runs_to_chips, player_cases}
+use Rattle.gs_bet.proofs.Runs.{completes, runs_tree, runs_act, runs_to_letter, runs_to_chips}
+use Rattle.gs_bet.proofs.Players.{player_cases}
 
 -- ---- runs and prefixes
 

@@ -13,6 +13,7 @@ use Rattle.gs_model.specs.Signals.{signal_at}
 use Rattle.gs_model.specs.Sums.{sum_z}
 use Rattle.gs_model.specs.ViewTree.{signal_outcome}
 use Rattle.gs_model.proofs.Total.{sum_z-append, sum_z-same_all}
+use Rattle.gs_model.proofs.Basics.{not_eq}
 use Rattle.gs_tree.specs.Plain.{IsPlain}
 use Rattle.gs_tree.specs.Walk.{deal_at, last_count, shows_same}
 use Rattle.gs_tree.proofs.Pairs.{row_deals}
@@ -23,7 +24,6 @@ use Rattle.gs_boards.specs.Runs.{number_at, outcome_at, paid_by}
 use Rattle.gs_boards.specs.declared.pays.Pays.{Pays}
 use Rattle.gs_boards.specs.declared.place.Place.{Place}
 use Rattle.gs_boards.proofs.Once.{apart_from, over_places, place_of}
-use Rattle.gs_boards.proofs.Runs.{not_eq}
 use Rattle.gs_boards.proofs.Telling.{board_tells, outcome_tells}
 
 module _ (g : Game) (plain : IsPlain g) (numbers : List ℕ) (pays : ℤ → ℤ) where

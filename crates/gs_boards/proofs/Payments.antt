@@ -9,12 +9,13 @@ use borrow.Author.Differences.{neg_is}
 use Rattle.gs_model.specs.Sums.{sum_z}
 use Rattle.gs_model.proofs.Total.{sum_z-mul, sum_z-same_all}
 use Rattle.gs_model.proofs.Regroup.{sum_z-pos}
+use Rattle.gs_model.proofs.Basics.{not_eq}
 use Rattle.gs_boards.specs.Runs.{HasPassed, board_sum, level_sum, lost_by, number_at, outcome_at, paid_by, won_by, worth_at}
 use Rattle.gs_boards.specs.declared.pays.Pays.{Pays}
 use Rattle.gs_boards.specs.declared.pays.Pays.TheVariants.{Fixed, Showdown}
 use Rattle.gs_boards.specs.declared.place.Place.{Place}
 use Rattle.gs_boards.specs.declared.running.Running.{Running}
-use Rattle.gs_boards.proofs.Runs.{both_add, not_eq}
+use Rattle.gs_boards.proofs.Runs.{both_add}
 
 -- a sum of multiples of one number
 multiples : {X : Type 0} (z : ℤ) (f : X → ℤ) (h : X → ℕ) (xs : List X) → All (λ x. f x ≡ z *ℤ pos (h x)) xs → sum_z f xs ≡ z *ℤ pos (sum_by h xs)

@@ -8,9 +8,7 @@ use Rattle.std.proofs.lemmas.List.Sums.{sum_by-cons, sum_by-le}
 use Rattle.gs_boards.specs.Runs.{HasPassed, arrived, board_sum, level_sum, passed_by}
 use Rattle.gs_boards.specs.declared.place.Place.{Place}
 use Rattle.gs_boards.specs.declared.running.Running.{Running}
-
-pub not_eq : (a b : ℕ) → (a ≡ b → ⊥) → (a == b) ≡ false
-not_eq a b ne = grind (arith, nat_tests, ne)
+use Rattle.gs_model.proofs.Basics.{not_eq}
 
 -- ---- sums over lists
 

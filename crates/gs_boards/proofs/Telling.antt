@@ -7,12 +7,12 @@ use Rattle.gs_model.specs.Game.{Game, round_count}
 use Rattle.gs_model.specs.Outcome.{category}
 use Rattle.gs_model.specs.Signals.{Signal, signal_at}
 use Rattle.gs_model.specs.ViewTree.{signal_outcome, signal_strength}
+use Rattle.gs_model.proofs.Basics.{not_eq}
 use Rattle.gs_tree.specs.Walk.{shows_same}
 use Rattle.gs_tree.proofs.Same.{public_alike, public_self}
 use Rattle.gs_boards.specs.Boards.{IsFirstOn, IsPlace}
 use Rattle.gs_boards.specs.Runs.{outcome_at}
 use Rattle.gs_boards.specs.declared.place.Place.{Place}
-use Rattle.gs_boards.proofs.Runs.{not_eq}
 
 module _ (g : Game) where
   at : ℕ → Signal

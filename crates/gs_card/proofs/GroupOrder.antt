@@ -9,7 +9,7 @@ use Rattle.std.specs.Ordering.{nat_cmp, ordering_then}
 use Rattle.std.specs.declared.cmp.Ordering.TheVariants.{Less, Equal}
 use Rattle.std.proofs.lemmas.Bool.{cases_lt, lt-ltb, le-ltb}
 use Rattle.gs_model.specs.Cards.{groups_above, groups_with}
-use Rattle.gs_model.proofs.Basics.{every-map, every-weaker, every-append}
+use Rattle.gs_model.proofs.Basics.{every-map, every-weaker, every-append, every-any}
 use Rattle.gs_card.proofs.GroupLaws.{every-range}
 
 abbrev InOrder : List (List ℕ) → Type 0
@@ -59,15 +59,11 @@ block_in_order others left card a = ⊎_elim
     (λ (none : get_or left card 0 ≤ 0). rw (le-ltb 0 (get_or left card 0) none) tt)
     (cases_lt 0 (get_or left card 0))
 
-every : {X : Type 0} (P : X → Type 0) → ((x : X) → P x) → (xs : List X) → AllByRecursion P xs
-every P f [] = tt
-every P f (x ∷ xs) = (f x, every P f xs)
-
 block_begins : (others : List ℕ → ℕ → List (List ℕ)) (left : List ℕ) (low card : ℕ) → low < card
     → AllByRecursion (BeginsAbove low) (groups_with others left card)
 block_begins others left low card l = ⊎_elim
     (λ (there : 0 < get_or left card 0). rw (lt-ltb 0 (get_or left card 0) there)
-    (every-map (BeginsAbove low) (λ g. card ∷ g) _ (every (λ g. low < card) (λ g. l) (others (slice_set left card (get_or left card 0 - 1)) card))))
+    (every-map (BeginsAbove low) (λ g. card ∷ g) _ (every-any (λ g. low < card) (λ g. l) (others (slice_set left card (get_or left card 0 - 1)) card))))
     (λ (none : get_or left card 0 ≤ 0). rw (le-ltb 0 (get_or left card 0) none) tt)
     (cases_lt 0 (get_or left card 0))
 
@@ -75,7 +71,7 @@ block_before : (others : List ℕ → ℕ → List (List ℕ)) (left : List ℕ)
     → AllByRecursion (AllAfter hs) (groups_with others left card)
 block_before others left card hs b = ⊎_elim
     (λ (there : 0 < get_or left card 0). rw (lt-ltb 0 (get_or left card 0) there) (every-map (AllAfter hs) (λ g. card ∷ g) _
-    (every (λ g. AllAfter hs (card ∷ g)) (λ g. every-weaker (BeginsAbove card) (λ h. slice_cmp nat_cmp (card ∷ g) h ≡ Less) (higher_after card g) hs b)
+    (every-any (λ g. AllAfter hs (card ∷ g)) (λ g. every-weaker (BeginsAbove card) (λ h. slice_cmp nat_cmp (card ∷ g) h ≡ Less) (higher_after card g) hs b)
     (others (slice_set left card (get_or left card 0 - 1)) card))))
     (λ (none : get_or left card 0 ≤ 0). rw (le-ltb 0 (get_or left card 0) none) tt)
     (cases_lt 0 (get_or left card 0))

@@ -3,5 +3,4 @@ pub mod GroupLaws
 pub mod GroupOrder
 pub mod KindLaws
 pub mod Letters
-pub mod Ranges
 pub mod TakenCards

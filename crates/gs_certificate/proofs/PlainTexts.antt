@@ -5,7 +5,7 @@ use Rattle.std.specs.Fmt.{signed_decimal}
 use Rattle.std.specs.Char.{is_ascii_digit}
 use Rattle.std.specs.Str.{all_ascii_digits}
 use Rattle.std.specs.Str.Parse.{digits_value}
-use Rattle.std.proofs.lemmas.Bool.{and_parts, cases_Bool, le-leb, ne_eqb, eqb-true, false≢true}
+use Rattle.std.proofs.lemmas.Bool.{and_parts, cases_Bool, le-leb, ne_eqb, false≢true}
 use Rattle.std.proofs.lemmas.Int.{fits_signed_from_abs, to_z-of_z}
 use mir.Syntax.{w128}
 use mir.Val.{of_z, to_z}
@@ -18,7 +18,7 @@ use Rattle.serde_json.specs.Written.{comma_if, compact_text, items_text}
 use Rattle.serde_json.specs.View.{items_of}
 use Rattle.gs_frac.specs.Texts.{fraction_text, is_fraction, is_numeral, number_of, signed}
 use Rattle.gs_frac.proofs.Numerals.{decimal_of_value, digit_value-is}
-use Rattle.gs_frac.proofs.TextLaws.{with_sign}
+use Rattle.gs_frac.proofs.TextLaws.{with_sign, signed-is}
 use Rattle.gs_certificate.specs.Reading.{number_at}
 use Rattle.gs_certificate.specs.Straight.{AreDigits, StandsFor, opened}
 use Rattle.gs_certificate.specs.Texts.{Side, Stated, certificate_data, certificate_text, number_data, side_data}
@@ -32,10 +32,6 @@ signed_text false n h = refl
 signed_text true zero h = absurd (false≢true (sym h))
 signed_text true (suc n) h = refl
 
-signed_is : (bytes : List ℕ) → bytes ≡ with_sign (signed bytes).0 (signed bytes).1
-signed_is [] = refl
-signed_is (b ∷ bytes) = elim (cases_Bool (b == 45)) [ inl e ↦ rw (e, eqb-true b 45 e) refl | inr e ↦ rw e refl ]
-
 -- what is read as a number is the number's text, and the number is small
 pub number_is : (text : List ℕ) (z : ℤ) → number_at text ≡ Some z → (text ≡ signed_decimal z) × (unsigned_abs z < 2 ^ 90)
 number_is text z h =
@@ -44,7 +40,7 @@ number_is text z h =
     let p = by_parts s z h in
     let digits : decimal n ≡ s.1 = decimal_of_value s.1 p.numeral (omega (arith, p.few)) in
     let same : signed_decimal z ≡ with_sign s.0 s.1 = ap signed_decimal p.is ∙ signed_text s.0 n p.no_minus_zero ∙ ap (with_sign s.0) digits in
-    (signed_is text ∙ sym same, p.small)
+    (signed-is text ∙ sym same, p.small)
 
 -- digits without leading zeros
 numeral_is : (ds : List ℕ) → all_ascii_digits ds ≡ true → 0 < length ds → (1 < length ds → get_or ds 0 0 ≢ 48) → is_numeral ds ≡ true
@@ -81,7 +77,7 @@ narrow_is bytes digits negative size count parts h some first no_minus_zero =
     let shown : signed_decimal (number_of negative size) ≡ with_sign negative ds = signed_text negative size no_minus_zero ∙ ap (with_sign negative) text in
     let split : with_sign negative digits ≡ with_sign negative ds ++ drop count digits =
     ap (with_sign negative) (sym (take-append-drop count digits)) ∙ before negative ds (drop count digits) in
-    signed_is bytes ∙ ap (λ (p : Bool × List ℕ). with_sign p.0 p.1) (sym parts) ∙ split ∙ ap (λ (q : List ℕ). q ++ drop count digits) (sym shown)
+    signed-is bytes ∙ ap (λ (p : Bool × List ℕ). with_sign p.0 p.1) (sym parts) ∙ split ∙ ap (λ (q : List ℕ). q ++ drop count digits) (sym shown)
   where
     before : (negative : Bool) (xs ys : List ℕ) → with_sign negative (xs ++ ys) ≡ with_sign negative xs ++ ys
     before true xs ys = refl
@@ -150,14 +146,17 @@ from_bound rest = codes "{\"bound\":\"" ++ rest
 abbrev from_values : List ℕ → List ℕ
 from_values rest = codes "\",\"values\":[\"" ++ rest
 
-regrouped : (f n rest : List ℕ) → from_bound (f ++ from_values (n ++ (125 ∷ rest))) ≡ from_bound ((f ++ 34 ∷ []) ++ (codes ",\"values\":[\"" ++ (n ++ 125 ∷ []))) ++ rest
+regrouped : (f n rest : List ℕ) → from_bound (f ++ from_values (n ++ (125 ∷ rest)))
+    ≡ from_bound ((f ++ 34 ∷ []) ++ (codes ",\"values\":[\"" ++ (n ++ 125 ∷ []))) ++ rest
 regrouped f n rest = simp append_assoc
 
 regrouped_array : (a b rest : List ℕ) → a ++ (b ++ (34 ∷ 93 ∷ rest)) ≡ (a ++ (b ++ (34 ∷ 93 ∷ []))) ++ rest
 regrouped_array a b rest = simp append_assoc
 
 side_is : (s : Side) (front : List ℤ) (last : ℤ) → IsTrue (is_fraction s.bound.0 s.bound.1) → s.values ≡ front ++ last ∷ [] → All Small s.values
-    → compact_text (side_data s) ≡ from_bound ((fraction_text s.bound.0 s.bound.1 ++ 34 ∷ []) ++ (codes ",\"values\":[\"" ++ ((opened front ++ (signed_decimal last ++ (34 ∷ 93 ∷ []))) ++ 125 ∷ [])))
+    → compact_text (side_data s)
+    ≡ from_bound ((fraction_text s.bound.0 s.bound.1 ++ 34 ∷ [])
+    ++ (codes ",\"values\":[\"" ++ ((opened front ++ (signed_decimal last ++ (34 ∷ 93 ∷ []))) ++ 125 ∷ [])))
 unfolding escape_byte
 side_is s front last reduced are small =
     let text : List ℕ = fraction_text s.bound.0 s.bound.1 in

@@ -11,7 +11,7 @@ use Rattle.gs_certificate.specs.declared.fault.CertFault.{CertFault}
 use Rattle.gs_certificate.specs.declared.text_fault.CertTextFault.{CertTextFault}
 use Rattle.gs_certificate.specs.declared.text_fault.CertTextFault.TheVariants as fault
 use Rattle.gs_confirm.specs.Held.{Holds}
-use Rattle.gs_confirm.specs.Troubles.{SaysLarge}
+use Rattle.gs_confirm.specs.Troubles.{SaysTooLarge}
 use Rattle.gs_lossless.specs.declared.checking.Lossless.{Lossless}
 use Rattle.gs_model.specs.Classes.{ClassLists}
 use Rattle.gs_model.specs.Frame.{Frame}
@@ -67,12 +67,12 @@ unlike_by (Verify c) s reply h = subst (λ (r : Reply). SaysChecked s c.now r) (
 pub unlike_said : (task : Task) (s : Strategy) (a : Answer) → Answers (SaysUnlike s.game s.classes) a → Answers (says_of task s) a
 unlike_said task s a h = answers_more (SaysUnlike s.game s.classes) (says_of task s) (unlike_by task s) a h
 
-large_by : (task : Task) (s : Strategy) (reply : Reply) → SaysLarge s reply → says_of task s reply
+large_by : (task : Task) (s : Strategy) (reply : Reply) → SaysTooLarge s reply → says_of task s reply
 large_by Certify s reply h = inr (Too_large h.0, h.1, h.2)
 large_by (Verify c) s reply h = subst (λ (r : Reply). SaysChecked s c.now r) (sym h.2) h.1
 
-pub large_said : (task : Task) (s : Strategy) (a : Answer) → Answers (SaysLarge s) a → Answers (says_of task s) a
-large_said task s a h = answers_more (SaysLarge s) (says_of task s) (large_by task s) a h
+pub large_said : (task : Task) (s : Strategy) (a : Answer) → Answers (SaysTooLarge s) a → Answers (says_of task s) a
+large_said task s a h = answers_more (SaysTooLarge s) (says_of task s) (large_by task s) a h
 
 -- the fault of a certificate's text, where memory did not run out
 pub fault_is : (told : CertTextFault) (says : ReadResult → Type 0) → told ≢ fault.Memory → FailsSo told says → says (Err told)

@@ -1,4 +1,4 @@
 pub mod Rounds
 pub mod Lines
 pub mod Judged
-pub mod Replies
+pub mod TooMany

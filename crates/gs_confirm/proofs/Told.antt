@@ -9,7 +9,7 @@ use Rattle.gs_model.specs.Verdict.{IsVerdict}
 use Rattle.gs_reply.proofs.Refused.{answers_more, tells_answer}
 use Rattle.gs_reply.specs.Refusals.{Unlike_pair, Wrong_number}
 use Rattle.gs_reply.specs.Replies.{Answers, Reply, Tells}
-use Rattle.gs_reply.specs.Troubles.{SaysLarge as SaysTooLarge, SaysUnlike}
+use Rattle.gs_reply.specs.Troubles.{SaysLarge, SaysUnlike}
 use Rattle.gs_reply.specs.declared.answers.Answer.{Answer}
 use Rattle.gs_seq.specs.Games.{frame_in}
 use Rattle.gs_seq.specs.Plans.{lifted}
@@ -20,9 +20,11 @@ use Rattle.gs_strategy.specs.Values.{FractionParts, Strategy}
 use Rattle.gs_strategy.specs.Views.{numbers_of, stored_view}
 use Rattle.gs_strategy.specs.declared.stored.Stored.{Stored}
 use Rattle.gs_confirm.specs.Commands.{OfConfirmed}
-use Rattle.gs_confirm.specs.Troubles.{IsFirstWrong, SaysLarge, SaysWrong}
+use Rattle.gs_confirm.specs.Troubles.{IsFirstWrong, SaysTooLarge, SaysWrong}
 
--- what is said of a strategy that is not confirmed is what its command answers
+-- ---- classes
+
+-- what is said of a strategy whose classes are not lossless is what its command answers
 pub unlike_refused : (says : Strategy → Reply → Type 0) (s : Strategy) (a : Answer) → Answers (SaysUnlike s.game s.classes) a
     → Answers (OfConfirmed says s) a
 unlike_refused says s a h =
@@ -37,8 +39,8 @@ stop_is s w k stop e f h =
     let at_game = subst (λ (x : ValidGame). IsStopOf (frame_in x) k.lists stop) e h in
     subst (λ (x : Filter). IsStopOf (frame_in s.game) x.lists stop) f at_game
 
-pub large_told : (s : Strategy) (a : Answer) → IsLossless (frame_of s) s.classes → Answers (SaysTooLarge s.game s.classes) a → Answers (SaysLarge s) a
-large_told s a lossless = answers_more (SaysTooLarge s.game s.classes) (SaysLarge s)
+pub large_told : (s : Strategy) (a : Answer) → IsLossless (frame_of s) s.classes → Answers (SaysLarge s.game s.classes) a → Answers (SaysTooLarge s) a
+large_told s a lossless = answers_more (SaysLarge s.game s.classes) (SaysTooLarge s)
     (λ r said. (said.0, record { lossless = lossless; passed = said.1 }, said.2)) a
 
 -- ---- numbers

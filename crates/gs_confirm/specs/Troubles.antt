@@ -39,8 +39,8 @@ IsTrouble s other = ⊥
 -- ---- the refusal for one of them
 
 -- the classes are lossless, and the game is refused for the first limit that it passes
-abbrev pub SaysLarge : Strategy → Reply → Type 0
-SaysLarge s reply = (limit : Limit) × IsTooLarge s limit × (reply ≡ Refuses (Too_large limit))
+abbrev pub SaysTooLarge : Strategy → Reply → Type 0
+SaysTooLarge s reply = (limit : Limit) × IsTooLarge s limit × (reply ≡ Refuses (Too_large limit))
 
 -- the first wrong number of a strategy
 abbrev pub SaysWrong : Strategy → Reply → Type 0

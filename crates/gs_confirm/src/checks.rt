@@ -6,7 +6,7 @@ ghost use Rattle.gs_model.specs.{Frame.{frame_of as rules_frame}, Lossless.{IsLo
 ghost use Rattle.gs_tree.specs.Trees.{rules_of};
 ghost use Rattle.gs_strategy.specs.{Confirmed.{IsConfirmed, frame_of}, Views.{stored_view}};
 ghost use Rattle.gs_reply.specs.{Replies.{Answers}, Troubles.{SaysUnlike}};
-ghost use Rattle.gs_confirm.specs.{Held.{Holds, IsFormOf}, Troubles.{SaysLarge, SaysWrong}};
+ghost use Rattle.gs_confirm.specs.{Held.{Holds, IsFormOf}, Troubles.{SaysTooLarge, SaysWrong}};
 
 use crate::numbers::first_wrong;
 use gs_best::{Work, verdict};
@@ -44,7 +44,7 @@ pub fn form_of<'a>(
     requires held { Holds lossless.now stored.now }
     requires lossless { IsLossless (frame_of (stored_view stored.now)) stored.now.classes.lists }
     ensures form { IfOk result (λ found. IfOk found (IsFormOf stored.now)) }
-    ensures large { IfOk result (λ found. IfErr found (Answers (SaysLarge (stored_view stored.now)))) }
+    ensures large { IfOk result (λ found. IfErr found (Answers (SaysTooLarge (stored_view stored.now)))) }
 {
     match Abstract::of(alloc, lossless) {
         Ok(form) => Ok(Ok(form)),

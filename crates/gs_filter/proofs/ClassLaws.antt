@@ -91,7 +91,7 @@ single_are_classes parents = record {
 }
 
 -- a numbered list has no more classes than places
-greatest_before : (xs : List ℕ) → IsNumbered xs → (n : ℕ) → n ≤ length xs → greatest (take n xs) ≤ n
+pub greatest_before : (xs : List ℕ) → IsNumbered xs → (n : ℕ) → n ≤ length xs → greatest (take n xs) ≤ n
 greatest_before xs h zero l = omega arith
 greatest_before xs h (suc n) l =
     let e : suc n ≡ n + 1 = omega arith in
@@ -100,7 +100,7 @@ greatest_before xs h (suc n) l =
     let q = (h n (omega arith)).1 in
     omega arith
 
-greatest_within : (xs : List ℕ) → IsNumbered xs → greatest xs ≤ length xs
+pub greatest_within : (xs : List ℕ) → IsNumbered xs → greatest xs ≤ length xs
 greatest_within xs h = subst (λ l. greatest l ≤ length xs) (whole xs) (greatest_before xs h (length xs) (omega arith))
 
 pub count_fits : (f : Filter) → IsSound f → (round : ℕ) → 0 < round → round ≤ length f.lists → class_count f.lists round < 2 ^ 32

@@ -18,7 +18,8 @@ pub round_read : (vs : List (Vec ℕ Global)) (i : ℕ) (v : Vec ℕ Global) →
 round_read vs i v l is = row_read vs i v l is ∙ sym (list_at (rows vs) i)
 
 -- one more list behind what is made of the lists before a round
-pub made_more : {X : Type 0} (f : List ℕ → List X) (lists : List (List ℕ)) (vs : List (Vec X Global)) (round : ℕ) (v : Vec X Global) → 0 < round → round ≤ length lists →
+pub made_more : {X : Type 0} (f : List ℕ → List X) (lists : List (List ℕ)) (vs : List (Vec X Global)) (round : ℕ) (v : Vec X Global)
+    → 0 < round → round ≤ length lists →
     rows vs ≡ map f (take (round - 1) lists) → v.items ≡ f (list_of lists round) → rows (vs ++ v ∷ []) ≡ map f (take (round + 1 - 1) lists)
 made_more {X} f lists vs round v some top before is =
     let here : round - 1 + 1 ≡ round + 1 - 1 = omega arith in

@@ -9,6 +9,7 @@ use Rattle.std.proofs.lemmas.List.Sums.{position_or_len_is, fails_before_first, 
 use Rattle.gs_model.specs.Numbering.{greatest, IsNumbered}
 use Rattle.gs_model.proofs.Numbered.{greatest_push, occurs, whole}
 use Rattle.gs_model.proofs.Push.{le_greatest}
+use Rattle.gs_model.proofs.Order.{counts_none}
 use Rattle.gs_filter.specs.declared.tally.Tally.{Tally}
 use Rattle.gs_model.specs.Classes.{ClassLists, list_of}
 use Rattle.gs_model.specs.Rows.{rows}
@@ -46,9 +47,6 @@ first_in xs c h some top =
 above_fails : (xs : List ℕ) (c k : ℕ) → greatest xs < c → k < length xs → (get_or xs k 0 == c) ≡ false
 above_fails xs c k up l = ne_eqb (get_or xs k 0) c (λ e. let g = le_greatest xs k l in absurd (omega arith))
 
-none_of : (b : Bool) → b ≡ false → cond {A = ℕ} b 1 0 ≡ 0
-none_of b e = cond-false b 1 0 e
-
 one_of : (b : Bool) → b ≡ true → cond {A = ℕ} b 1 0 ≡ 1
 one_of b e = cond-true b 1 0 e
 
@@ -62,7 +60,7 @@ count_past : (xs : List ℕ) (c : ℕ) → greatest xs < c → count_by (λ x. x
 count_past [] c up = refl
 count_past (x ∷ xs) c up =
     let tail : count_by (λ x. x == c) xs ≡ 0 = count_past xs c (omega arith) in
-    let b = none_of (x == c) (ne_eqb x c (λ e. absurd (omega arith))) in
+    let b = counts_none (x == c) (ne_eqb x c (λ e. absurd (omega arith))) in
     let q : count_by (λ x. x == c) (x ∷ xs) ≡ cond (x == c) 1 0 + count_by (λ x. x == c) xs = sum_by-cons (λ y. cond (y == c) 1 0) x xs in
     omega arith
 
@@ -80,7 +78,7 @@ tally_other xs y c h some top ne =
     let p : ℕ → Bool = λ x. x == c in
     let n : (y == c) ≡ false = ne_eqb y c (λ e. absurd (ne (sym e))) in
     let q = count_push xs y c in
-    let z = none_of (y == c) n in
+    let z = counts_none (y == c) n in
     let a : count_by (λ x. x == c) (xs ++ y ∷ []) ≡ count_by (λ x. x == c) xs = omega arith in
     let b = first_kept p xs y (first_in xs c h some top) in
     ap (λ s. let t : Tally = record { size = s; first = position_or_len p (xs ++ y ∷ []) } in t) a

@@ -67,9 +67,9 @@ has_between negative ds right =
           ]
     ]
 
-signed_is : (bytes : List ℕ) → bytes ≡ with_sign (signed bytes).0 (signed bytes).1
-signed_is [] = refl
-signed_is (b ∷ bytes) = elim (cases_Bool (eqb b 45)) [ inl e ↦ rw (e, eqb-true b 45 e) refl | inr e ↦ rw e refl ]
+pub signed-is : (bytes : List ℕ) → bytes ≡ with_sign (signed bytes).0 (signed bytes).1
+signed-is [] = refl
+signed-is (b ∷ bytes) = elim (cases_Bool (eqb b 45)) [ inl e ↦ rw (e, eqb-true b 45 e) refl | inr e ↦ rw e refl ]
 
 abbrev joined : Option (List ℕ × List ℕ) → List ℕ → Type 0
 joined None text = Unit {0}
@@ -90,7 +90,7 @@ sides_join (b ∷ bytes) = elim (cases_Bool (eqb b 47)) [
 has_from : (text : List ℕ) (o : Option (List ℕ × List ℕ)) → joined o text → HasText text (fraction_from o)
 has_from text None h = tt
 has_from text (Some p) h =
-    let e : with_sign (signed p.0).0 (signed p.0).1 ++ 47 ∷ p.1 ≡ text = ap (λ (x : List ℕ). x ++ 47 ∷ p.1) (sym (signed_is p.0)) ∙ sym h in
+    let e : with_sign (signed p.0).0 (signed p.0).1 ++ 47 ∷ p.1 ≡ text = ap (λ (x : List ℕ). x ++ 47 ∷ p.1) (sym (signed-is p.0)) ∙ sym h in
     subst (λ (t : List ℕ). HasText t (fraction_from (Some p))) e (has_between (signed p.0).0 (signed p.0).1 p.1)
 
 pub has_text : (text : List ℕ) → HasText text (fraction_of text)

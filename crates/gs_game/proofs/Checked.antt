@@ -19,7 +19,7 @@ use Rattle.gs_game.specs.declared.game.Round.{Round}
 use Rattle.gs_game.specs.declared.positions.Point.{Point}
 use Rattle.gs_game.specs.declared.positions.End.{End}
 use Rattle.gs_game.specs.declared.positions.Target.{Target as StoredTarget}
-use Rattle.gs_game.specs.Answers.{Answers}
+use Rattle.gs_game.specs.FaultOf.{IsFaultOf}
 use Rattle.gs_game.specs.Games.{HasFewCards, game_of, round_of, plain_trees}
 use Rattle.gs_game.specs.Limits.{IsDealable, IsWithinLimits}
 use Rattle.gs_game.specs.Lines.{RoundsFollow}
@@ -43,15 +43,15 @@ not-over limit n x r h e = elim (cases_Bool (nat_lt limit n)) [
 
 -- ---- the first refusal
 
-pub cards_fault : (g : Rules) (f : GameFault) → Answers (card_refusal g) f → Answers (first_refusal g) f
+pub cards_fault : (g : Rules) (f : GameFault) → IsFaultOf (card_refusal g) f → IsFaultOf (first_refusal g) f
 unfolding first_refusal
 cards_fault g f h = fault_first (card_refusal g) _ f h
 
-pub betting_fault : (g : Rules) (f : GameFault) → card_refusal g ≡ None → Answers (betting_refusal g) f → Answers (first_refusal g) f
+pub betting_fault : (g : Rules) (f : GameFault) → card_refusal g ≡ None → IsFaultOf (betting_refusal g) f → IsFaultOf (first_refusal g) f
 unfolding first_refusal
 betting_fault g f c h = fault_second (card_refusal g) _ f c (fault_first (betting_refusal g) _ f h)
 
-pub deals_fault : (g : Rules) (f : GameFault) → card_refusal g ≡ None → betting_refusal g ≡ None → Answers (deal_refusal g) f → Answers (first_refusal g) f
+pub deals_fault : (g : Rules) (f : GameFault) → card_refusal g ≡ None → betting_refusal g ≡ None → IsFaultOf (deal_refusal g) f → IsFaultOf (first_refusal g) f
 unfolding first_refusal
 deals_fault g f c b h = fault_second (card_refusal g) _ f c (fault_second (betting_refusal g) _ f b h)
 

@@ -8,7 +8,7 @@ use Rattle.std.proofs.lemmas.List.{get_or-set_same, set-get_or}
 use Rattle.std.proofs.Math.ListN.{drop_of_length-le}
 use Rattle.std.proofs.Math.Seq.{drop-cons}
 use Rattle.gs_model.proofs.GroupSteps.{set-set}
-use Rattle.gs_model.proofs.Basics.{count-here, count-other}
+use Rattle.gs_model.proofs.Basics.{count-head, count-past}
 use Rattle.gs_model.specs.Cards.{groups_above, groups_with, left_from, left_after}
 use Rattle.gs_game.specs.Sequences.{count_sequences}
 
@@ -17,7 +17,7 @@ left-skip : (kind card : ℕ) (left g : List ℕ) → card < kind → left_from 
 left-skip kind card [] g l = refl
 left-skip kind card (c ∷ cs) g l =
     let n : card ≢ kind = λ e. absurd (omega (arith, e)) in
-    let t = count-other kind card g n in
+    let t = count-past kind card g n in
     let r = left-skip (suc kind) card cs g (omega arith) in
     cc (ap (λ (k : ℕ). c - k) t, r)
 
@@ -26,12 +26,12 @@ left-card : (kind card all : ℕ) (left g : List ℕ) → all ≡ kind + card �
 left-card kind card all [] g e = refl
 left-card kind zero all (c ∷ cs) g e =
     let here : all ≡ kind = omega arith in
-    let t : c - count_by (λ x. x == kind) (all ∷ g) ≡ c - 1 - count_by (λ x. x == kind) g = rw here (omega (arith, count-here kind g)) in
+    let t : c - count_by (λ x. x == kind) (all ∷ g) ≡ c - 1 - count_by (λ x. x == kind) g = rw here (omega (arith, count-head kind g)) in
     let r : left_from (suc kind) cs (all ∷ g) ≡ left_from (suc kind) cs g = left-skip (suc kind) all cs g (omega arith) in
     cc (t, r)
 left-card kind (suc card) all (c ∷ cs) g e =
     let n : all ≢ kind = λ f. absurd (omega (arith, e, f)) in
-    let t : c - count_by (λ x. x == kind) (all ∷ g) ≡ c - count_by (λ x. x == kind) g = ap (λ (k : ℕ). c - k) (count-other kind all g n) in
+    let t : c - count_by (λ x. x == kind) (all ∷ g) ≡ c - count_by (λ x. x == kind) g = ap (λ (k : ℕ). c - k) (count-past kind all g n) in
     let r : left_from (suc kind) cs (all ∷ g) ≡ left_from (suc kind) (slice_set cs card (slice_index cs card - 1)) g =
     left-card (suc kind) card all cs g (omega (arith, e)) in
     cc (t, r)

@@ -15,7 +15,7 @@ use Rattle.gs_model.proofs.Basics.{every-append, some, some-none}
 use Rattle.gs_game.specs.declared.game.Game.{Game}
 use Rattle.gs_game.specs.declared.game.Round.{Round}
 use Rattle.gs_game.specs.declared.faults.GameFault.{GameFault}
-use Rattle.gs_game.specs.Answers.{Answers}
+use Rattle.gs_game.specs.FaultOf.{IsFaultOf}
 use Rattle.gs_game.specs.Games.{HasFewCards, game_of, round_of}
 use Rattle.gs_game.specs.Money.{first_of}
 use Rattle.gs_game.proofs.Deciding.{fault_first, fault_second}
@@ -188,7 +188,7 @@ weight_within game copies weight sizes c s w h =
     record { passes = rw (is, le-ltb 67108864 weight h) refl; weighs = sym is }
 
 pub counts_fault : (game : Game) (f : GameFault) → weight_refusal (game_of game) ≡ None
-    → Answers (first_of (signals_refusal (game_of game)) (deals_refusal (game_of game))) f → Answers (deal_refusal (game_of game)) f
+    → IsFaultOf (first_of (signals_refusal (game_of game)) (deals_refusal (game_of game))) f → IsFaultOf (deal_refusal (game_of game)) f
 unfolding deal_refusal
 counts_fault game f w h = fault_second (weight_refusal (game_of game)) _ f w h
 
@@ -197,8 +197,8 @@ pub counts_within : (game : Game) → weight_refusal (game_of game) ≡ None →
 unfolding deal_refusal
 counts_within game w h = rw w h
 
-pub signals_fault : (game : Game) (f : GameFault) → Answers (signals_refusal (game_of game)) f
-    → Answers (first_of (signals_refusal (game_of game)) (deals_refusal (game_of game))) f
+pub signals_fault : (game : Game) (f : GameFault) → IsFaultOf (signals_refusal (game_of game)) f
+    → IsFaultOf (first_of (signals_refusal (game_of game)) (deals_refusal (game_of game))) f
 signals_fault game f h = fault_first (signals_refusal (game_of game)) (deals_refusal (game_of game)) f h
 
 deals-same : (game : Game) (left sizes : List ℕ) (count : ℕ) → left ≡ game.deck.counts → sizes ≡ deal_sizes (map round_of game.rounds.items)

@@ -10,7 +10,7 @@ use Rattle.gs_game.specs.declared.faults.GameFault.{GameFault}
 use Rattle.gs_game.specs.declared.faults.GameFault.TheVariants as faults
 use Rattle.gs_game.specs.declared.game.Game.{Game}
 use Rattle.gs_game.specs.declared.game.Round.{Round}
-use Rattle.gs_game.specs.Answers.{Answers}
+use Rattle.gs_game.specs.FaultOf.{IsFaultOf}
 use Rattle.gs_game.specs.Counts.{ends_in}
 use Rattle.gs_game.specs.Games.{round_of, game_of, plain_trees}
 use Rattle.gs_game.specs.Money.{first_of, most_in}
@@ -19,7 +19,7 @@ use Rattle.gs_game.specs.Refusals.{Refusal, put_too_large, too_many_lines, no_ev
 use Rattle.gs_game.proofs.EndLaws.{rounds_count}
 
 -- a fault of the first test is the fault of both
-pub fault_first : (a b : Option Refusal) (f : GameFault) → Answers a f → Answers (first_of a b) f
+pub fault_first : (a b : Option Refusal) (f : GameFault) → IsFaultOf a f → IsFaultOf (first_of a b) f
 fault_first a b (faults.Rounds n) h = rw h refl
 fault_first a b faults.NoPrivate h = rw h refl
 fault_first a b (faults.RankingCards m n) h = rw h refl
@@ -34,7 +34,7 @@ fault_first a b faults.TooManyDeals h = rw h refl
 fault_first a b faults.Memory h = tt
 
 -- a fault of the second test, where the first finds none
-pub fault_second : (a b : Option Refusal) (f : GameFault) → a ≡ None → Answers b f → Answers (first_of a b) f
+pub fault_second : (a b : Option Refusal) (f : GameFault) → a ≡ None → IsFaultOf b f → IsFaultOf (first_of a b) f
 fault_second a b f e h = rw e h
 
 same_trees : (rs : List Round) → map (λ (r : RoundRules). r.tree) (map round_of rs) ≡ plain_trees rs
@@ -81,13 +81,13 @@ uneven_fine : (g : Game) (rs : List Round) → rs ≡ g.rounds.items → uneven_
 unfolding uneven_refusal
 uneven_fine g rs e h = rw (trees_are g, sym e) h
 
-pub evens_fault : (g : Game) (rs : List Round) (f : GameFault) → rs ≡ g.rounds.items → Answers (no_even_from 1 (plain_trees rs)) f
-    → Answers (betting_refusal (game_of g)) f
+pub evens_fault : (g : Game) (rs : List Round) (f : GameFault) → rs ≡ g.rounds.items → IsFaultOf (no_even_from 1 (plain_trees rs)) f
+    → IsFaultOf (betting_refusal (game_of g)) f
 unfolding betting_refusal even_refusal
 evens_fault g rs f e h = fault_first (even_refusal (game_of g)) _ f (rw (trees_are g, sym e) h)
 
 pub uneven_fault : (g : Game) (rs ss : List Round) (f : GameFault) → rs ≡ g.rounds.items → no_even_from 1 (plain_trees rs) ≡ None → ss ≡ g.rounds.items
-    → Answers (uneven_from 1 (plain_trees ss)) f → Answers (betting_refusal (game_of g)) f
+    → IsFaultOf (uneven_from 1 (plain_trees ss)) f → IsFaultOf (betting_refusal (game_of g)) f
 unfolding betting_refusal uneven_refusal
 uneven_fault g rs ss f d fine e h =
     fault_second (even_refusal (game_of g)) _ f (evens_fine g rs d fine) (fault_first (uneven_refusal (game_of g)) _ f (rw (trees_are g, sym e) h))
@@ -101,13 +101,13 @@ pub evens_pass : (g : Game) (rs ss : List Round) → rs ≡ g.rounds.items → n
     → uneven_from 1 (plain_trees ss) ≡ None → EvensPass g
 evens_pass g rs ss d fine e also = record { evens = evens_fine g rs d fine; uneven = uneven_fine g ss e also }
 
-pub put_fault : (g : Game) (f : GameFault) → EvensPass g → Answers (put_refusal (game_of g)) f → Answers (betting_refusal (game_of g)) f
+pub put_fault : (g : Game) (f : GameFault) → EvensPass g → IsFaultOf (put_refusal (game_of g)) f → IsFaultOf (betting_refusal (game_of g)) f
 unfolding betting_refusal
 put_fault g f p h = fault_second (even_refusal (game_of g)) _ f p.evens (fault_second (uneven_refusal (game_of g)) _ f p.uneven
     (fault_first (put_refusal (game_of g)) _ f h))
 
-pub lines_fault : (g : Game) (f : GameFault) → EvensPass g → put_refusal (game_of g) ≡ None → Answers (lines_refusal (game_of g)) f
-    → Answers (betting_refusal (game_of g)) f
+pub lines_fault : (g : Game) (f : GameFault) → EvensPass g → put_refusal (game_of g) ≡ None → IsFaultOf (lines_refusal (game_of g)) f
+    → IsFaultOf (betting_refusal (game_of g)) f
 unfolding betting_refusal
 lines_fault g f p put h =
     fault_second (even_refusal (game_of g)) _ f p.evens (fault_second (uneven_refusal (game_of g)) _ f p.uneven
@@ -119,7 +119,7 @@ betting_fine g p put lines = rw (p.evens, p.uneven, put, lines) refl
 
 -- the last test decides
 pub lines_decide : (g : Game) (r : Result (Unit {0}) GameFault) → EvensPass g → put_refusal (game_of g) ≡ None
-    → MatchResult r (λ _. lines_refusal (game_of g) ≡ None) (Answers (lines_refusal (game_of g)))
-    → MatchResult r (λ _. betting_refusal (game_of g) ≡ None) (Answers (betting_refusal (game_of g)))
+    → MatchResult r (λ _. lines_refusal (game_of g) ≡ None) (IsFaultOf (lines_refusal (game_of g)))
+    → MatchResult r (λ _. betting_refusal (game_of g) ≡ None) (IsFaultOf (betting_refusal (game_of g)))
 lines_decide g (Ok x) p put h = betting_fine g p put h
 lines_decide g (Err f) p put h = lines_fault g f p put h

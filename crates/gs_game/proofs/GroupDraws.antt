@@ -7,8 +7,7 @@ use Rattle.std.proofs.lemmas.List.Sums.{sum_by-cons}
 use Rattle.std.proofs.lemmas.List.{get_or-set_same, drop-set-lt}
 use Rattle.gs_model.specs.Cards.{choose, groups, groups_above, groups_with, ways, ways_from, left_after}
 use Rattle.gs_model.proofs.Ranges.{every-flat_map}
-use Rattle.gs_model.proofs.Children.{every-any}
-use Rattle.gs_model.proofs.Basics.{every-map, count-here, count-other}
+use Rattle.gs_model.proofs.Basics.{every-map, count-head, count-past, every-any}
 use Rattle.gs_game.proofs.CountSteps.{after-none, taken}
 use Rattle.gs_game.proofs.Drawing.{mixed, mixed-choose, mixed-none}
 use Rattle.gs_game.proofs.Totals.{total, total-same, total-same_every, total-append, total-map, total-times}
@@ -36,7 +35,7 @@ from-least a (suc n) m h = (h, from-least (a + 1) n m (omega arith))
 weaker : (kind card : ℕ) (gs : List (List ℕ)) → kind < card → AllByRecursion (λ g. count_by (λ x. x == kind) g ≡ 0) gs
     → AllByRecursion (λ g. count_by (λ x. x == kind) (card ∷ g) ≡ 0) gs
 weaker kind card [] h a = tt
-weaker kind card (g ∷ gs) h a = (count-other kind card g (λ e. absurd (omega (arith, e, h))) ∙ a.0, weaker kind card gs h a.1)
+weaker kind card (g ∷ gs) h a = (count-past kind card g (λ e. absurd (omega (arith, e, h))) ∙ a.0, weaker kind card gs h a.1)
 
 -- no card of a group is of a lower kind
 high : (size : ℕ) (left : List ℕ) (least kind : ℕ) → kind < least → AllByRecursion (λ g. count_by (λ x. x == kind) g ≡ 0) (groups_above size left least)
@@ -58,7 +57,7 @@ ways-skip : (kind card : ℕ) (left g : List ℕ) → card < kind → ways_from 
 ways-skip kind card [] g h = refl
 ways-skip kind card (c ∷ cs) g h =
     let n : card ≢ kind = λ e. absurd (omega (arith, e)) in
-    rw (count-other kind card g n) (ap (λ (k : ℕ). choose c (count_by (λ x. x == kind) g) * k) (ways-skip (suc kind) card cs g (omega arith)))
+    rw (count-past kind card g n) (ap (λ (k : ℕ). choose c (count_by (λ x. x == kind) g) * k) (ways-skip (suc kind) card cs g (omega arith)))
 
 -- ---- the ways of all groups from a kind on, where the ways of those from the next kind on are known
 
@@ -73,7 +72,7 @@ weight_from n t least above g = choose n (t + count_by (λ x. x == least) g) * w
 
 weight-here : (n t least : ℕ) (above g : List ℕ) → weight_from n t least above (least ∷ g) ≡ weight_from n (t + 1) least above g
 weight-here n t least above g =
-    let e : t + count_by (λ x. x == least) (least ∷ g) ≡ t + 1 + count_by (λ x. x == least) g = omega (arith, count-here least g) in
+    let e : t + count_by (λ x. x == least) (least ∷ g) ≡ t + 1 + count_by (λ x. x == least) g = omega (arith, count-head least g) in
     rw (e, ways-skip (least + 1) least above g (omega arith)) refl
 
 weight-none : (n t least : ℕ) (above g : List ℕ) → count_by (λ x. x == least) g ≡ 0

@@ -2,6 +2,7 @@
 use Rattle.std.proofs.Common.{◌≡◌, ℕ, zero, suc, ◌+◌, ◌-◌, ◌*◌, ◌/◌, ◌^◌, ◌<◌, ◌≤◌, List, ◌∷◌, sum, refl, sym, ap, arith, lit<}
 use Rattle.std.proofs.lemmas.List.Sums.{sum_by-cons}
 use Rattle.gs_model.specs.Cards.{choose}
+use Rattle.gs_model.proofs.Basics.{product_le}
 use Rattle.gs_game.specs.Sequences.{power}
 
 pub choose-one : (n : ℕ) → choose n 1 ≡ n
@@ -64,14 +65,11 @@ power-add b (suc m) n =
     let f = ap (λ (k : ℕ). b * k) (power-add b m n) in
     rw e (omega (arith, f))
 
-product : (a b c d : ℕ) → a ≤ c → b ≤ d → a * b ≤ c * d
-product a b c d h k = grind arith
-
 pub draws_bound : (n size : ℕ) (sizes : List ℕ) (first rest : ℕ) → n ≤ 468 → first ≡ choose n size → rest ≤ power 468 (sum sizes)
     → first * rest ≤ power 468 (sum (size ∷ sizes))
 draws_bound n size sizes first rest h e r =
     let s : sum (size ∷ sizes) ≡ size + sum sizes = sum_by-cons (λ (x : ℕ). x) size sizes in
-    rw (s, power-add 468 size (sum sizes)) (product first rest (power 468 size) (power 468 (sum sizes)) (rw e (choose-power 468 size n h)) r)
+    rw (s, power-add 468 size (sum sizes)) (product_le first rest (power 468 size) (power 468 (sum sizes)) (rw e (choose-power 468 size n h)) r)
 
 power-more : (m n : ℕ) → m ≤ n → power 468 m ≤ power 468 n
 power-more zero zero h = omega arith

@@ -11,9 +11,8 @@ use Rattle.gs_model.specs.Signals.{Seen, Signal, children, edge, left_by, showin
 use Rattle.gs_model.specs.ViewTree.{facing, signal_outcome}
 use Rattle.gs_model.specs.Betting.{even}
 use Rattle.gs_model.proofs.Ranges.{deals-below, every-flat_map}
-use Rattle.gs_model.proofs.Children.{every-any}
 use Rattle.gs_model.proofs.Facing.{deals_are_facing}
-use Rattle.gs_model.proofs.Basics.{every-map, every-weaker}
+use Rattle.gs_model.proofs.Basics.{every-map, every-weaker, every-range, every-any}
 use Rattle.gs_model.proofs.Listed.{left_by-push}
 use Rattle.gs_game.specs.Sequences.{count_sequences, draws, seen_sizes, privates, deal_sizes}
 use Rattle.gs_game.proofs.GroupDraws.{all_ways, leaves_sum}
@@ -220,10 +219,6 @@ count_at g i h =
     let f = path-once g.copies s in
     rw f (omega (arith, e))
 
-pub in-range : (P : ℕ → Type 0) (a n : ℕ) → ((k : ℕ) → a ≤ k → k < a + n → P k) → AllByRecursion P (range_with_len a n)
-in-range P a zero h = tt
-in-range P a (suc n) h = (h a (omega arith) (omega arith), in-range P (a + 1) n (λ k low high. h k (omega arith) (omega arith)))
-
 -- all deals, signal by signal
 by_signals : (g : Game) (w : List ℕ → List ℕ → ℕ) (f : Deal → ℕ)
     → ((i : ℕ) → i < length (signals g (round_count g)) → total f (filter (λ (d : Deal). d.one == i) (deals g))
@@ -235,7 +230,7 @@ by_signals g w f h =
     × (d.two < n)) (λ (d : Deal). d.one < n) (λ d e. e.0) (deals g) (deals-below g))
     ∙ total-same_every (λ i. total f (filter (λ (d : Deal). d.one == i) (deals g)))
     (λ i. path w g.copies (signal_at g (round_count g) i) * sequences w (left_by g.copies (signal_at g (round_count g) i)) (privates g.rounds))
-    (range_with_len 0 n) (in-range _ 0 n (λ k low high. h k (omega arith)))
+    (range_with_len 0 n) (every-range _ 0 n (λ k low high. h k (omega arith)))
     ∙ sym (total-places (λ s. path w g.copies s * sequences w (left_by g.copies s) (privates g.rounds)) [] (signals g (round_count g)))
     ∙ signals_total w g (round_count g) (privates g.rounds)
 

@@ -6,18 +6,19 @@ use Rattle.std.proofs.lemmas.List.{take-append-drop}
 use Rattle.std.proofs.lemmas.List.Sums.{sum_by-append, sum_by-cons}
 use Rattle.gs_model.specs.Cards.{choose}
 use Rattle.gs_model.specs.Game.{Game, Round}
+use Rattle.gs_model.proofs.Basics.{product_positive}
+use Rattle.gs_model.proofs.Fits.{choose-some}
 use Rattle.gs_game.specs.GoingOn.{cards_shown, own_cards_of, ways_on}
 use Rattle.gs_game.specs.Money.{first_of}
 use Rattle.gs_game.specs.Refusals.{betting_refusal, card_refusal, copies_refusal, deal_refusal, first_refusal, not_enough_cards, own_cards, private_refusal, public_cards, ranking_refusal, rounds_refusal}
 use Rattle.gs_game.specs.Sequences.{deal_sizes, draws, privates, seen_sizes}
 use Rattle.gs_game.proofs.Evenly.{neither}
-use Rattle.gs_game.proofs.Ways.{choose_some, some_product}
 
 some_draws : (n : ℕ) (ks : List ℕ) → sum ks ≤ n → 0 < draws n ks
 some_draws n [] h = omega arith
 some_draws n (k ∷ ks) h =
     let c = sum_by-cons (λ (x : ℕ). x) k ks in
-    some_product (choose n k) (draws (n - k) ks) (choose_some n k (omega (arith, h, c))) (some_draws (n - k) ks (omega (arith, h, c)))
+    product_positive (choose n k) (draws (n - k) ks) (choose-some n k (omega (arith, h, c))) (some_draws (n - k) ks (omega (arith, h, c)))
 
 seen_sum : (rs : List Round) → sum (seen_sizes rs) ≡ cards_shown rs
 seen_sum [] = refl

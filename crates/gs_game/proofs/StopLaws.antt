@@ -21,10 +21,10 @@ use Rattle.gs_model.proofs.Walked.{last_round_of}
 use Rattle.gs_game.specs.GoingOn.{StopsAfter, cards_shown, own_cards_of, ways_on}
 use Rattle.gs_game.specs.Sequences.{deal_sizes, draws, seen_sizes}
 use Rattle.gs_game.proofs.GoingOn.{beside_sum, going_on, pair_sum}
-use Rattle.gs_game.proofs.Sequencing.{in-range, same_triples}
+use Rattle.gs_game.proofs.Sequencing.{same_triples}
 use Rattle.gs_game.proofs.Totals.{sum-total, total, total-keys, total-places, total-same, total-same_every, total-times}
 use Rattle.gs_model.proofs.Extends.{parent_below, before_last, signal_long}
-use Rattle.gs_model.proofs.Basics.{flat_map-same, every-weaker}
+use Rattle.gs_model.proofs.Basics.{flat_map-same, every-weaker, every-range}
 
 -- ---- all deals, each with a number of its two signals
 
@@ -37,7 +37,7 @@ deals_sum g f =
     total-keys value (λ (d : Deal). d.one) n (deals g) (every-weaker (λ (d : Deal). (d.one < n)
     × (d.two < n)) (λ (d : Deal). d.one < n) (λ d e. e.0) (deals g) (deals-below g))
     ∙ total-same_every (λ i. total value (filter (λ (d : Deal). d.one == i) (deals g))) (λ i. of (signal_at g (round_count g) i)) (range_with_len 0 n)
-    (in-range _ 0 n (λ i low high. at i (omega arith)))
+    (every-range _ 0 n (λ i low high. at i (omega arith)))
     ∙ sym (total-places of [] (signals g (round_count g)))
     ∙ ap (total of) (sym (listed-all g))
   where

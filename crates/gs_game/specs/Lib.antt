@@ -3,7 +3,7 @@ pub mod Seen
 pub mod Money
 pub mod Counts
 pub mod Refusals
-pub mod Answers
+pub mod FaultOf
 pub mod Walks
 pub mod Limits
 pub mod Valid

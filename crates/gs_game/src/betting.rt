@@ -3,7 +3,7 @@
 ghost use Rattle.std.specs.Prelude.{◌≡◌, ◌≤◌, ◌<◌, ◌+◌, ◌-◌, ◌*◌, ◌^◌, ℕ, None, MatchResult, length, min};
 ghost use Rattle.gs_bet.specs.TreeView.{plain};
 ghost use Rattle.gs_model.specs.Numbering.{greatest};
-ghost use Rattle.gs_game.specs.{Answers.{Answers}, Counts.{ends_in, ends_of}, Games.{game_of, plain_trees}, Money.{most_in}};
+ghost use Rattle.gs_game.specs.{FaultOf.{IsFaultOf}, Counts.{ends_in, ends_of}, Games.{game_of, plain_trees}, Money.{most_in}};
 ghost use Rattle.gs_game.specs.Refusals.{betting_refusal, lines_refusal, no_even_from, put_refusal, uneven_from};
 
 use crate::faults::GameFault;
@@ -15,7 +15,7 @@ use std::alloc::Global;
 /// Whether each of these trees but the last has an even leaf. The first of them is of the round of this number.
 fn check_evens(rounds: &[Round], number: u8) -> Result<(), GameFault>
     requires { number + length rounds.now ≤ 5 }
-    ensures { MatchResult result (λ _. no_even_from number (plain_trees rounds.now) ≡ None) (Answers (no_even_from number (plain_trees rounds.now))) }
+    ensures { MatchResult result (λ _. no_even_from number (plain_trees rounds.now) ≡ None) (IsFaultOf (no_even_from number (plain_trees rounds.now))) }
 {
     match rounds {
         [first, rest @ ..] if !rest.is_empty() => {
@@ -31,7 +31,7 @@ fn check_evens(rounds: &[Round], number: u8) -> Result<(), GameFault>
 /// Whether the players have put the same at each even leaf of these trees. The first of them is of the round of this number.
 fn check_uneven(alloc: Global, rounds: &[Round], number: u8) -> Result<(), GameFault>
     requires { number + length rounds.now ≤ 5 }
-    ensures { MatchResult result (λ _. uneven_from number (plain_trees rounds.now) ≡ None) (Answers (uneven_from number (plain_trees rounds.now))) }
+    ensures { MatchResult result (λ _. uneven_from number (plain_trees rounds.now) ≡ None) (IsFaultOf (uneven_from number (plain_trees rounds.now))) }
 {
     match rounds {
         [first, rest @ ..] => {
@@ -106,7 +106,7 @@ fn check_put(game: &Game) -> Result<(), GameFault>
     requires ante { game.now.ante ≤ 4096 }
     requires bonus { greatest game.now.bonus.items ≤ 9 }
     requires even { uneven_from 1 (plain_trees game.now.rounds.items) ≡ None }
-    ensures { MatchResult result (λ _. put_refusal (game_of game.now) ≡ None) (Answers (put_refusal (game_of game.now))) }
+    ensures { MatchResult result (λ _. put_refusal (game_of game.now) ≡ None) (IsFaultOf (put_refusal (game_of game.now))) }
 {
     let most = u32::from(game.ante) + most_put(&game.rounds);
     let chips = most * u32::from(greatest_bonus(&game.bonus));
@@ -119,7 +119,7 @@ fn check_put(game: &Game) -> Result<(), GameFault>
 /// Whether the ends are few enough.
 #[tactic(auto, unfolding(crate::specs::Refusals::lines_refusal))]
 fn check_lines(game: &Game) -> Result<(), GameFault>
-    ensures { MatchResult result (λ _. lines_refusal (game_of game.now) ≡ None) (Answers (lines_refusal (game_of game.now))) }
+    ensures { MatchResult result (λ _. lines_refusal (game_of game.now) ≡ None) (IsFaultOf (lines_refusal (game_of game.now))) }
 {
     let count = count_lines(&game.rounds);
     if count > 8192 {
@@ -134,7 +134,7 @@ pub fn check_betting(alloc: Global, game: &Game) -> Result<(), GameFault>
     requires few { length game.now.rounds.items ≤ 4 }
     requires ante { game.now.ante ≤ 4096 }
     requires bonus { greatest game.now.bonus.items ≤ 9 }
-    ensures { MatchResult result (λ _. betting_refusal (game_of game.now) ≡ None) (Answers (betting_refusal (game_of game.now))) }
+    ensures { MatchResult result (λ _. betting_refusal (game_of game.now) ≡ None) (IsFaultOf (betting_refusal (game_of game.now))) }
 {
     check_evens(&game.rounds, 1)?;
     check_uneven(alloc, &game.rounds, 1)?;

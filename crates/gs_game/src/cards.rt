@@ -2,7 +2,7 @@
 
 ghost use Rattle.std.specs.Prelude.{◌≡◌, ◌≤◌, ◌*◌, ◌↔◌, EachIndex, IsTrue, None, MatchResult, All, length, slice_index, sum, sum_by};
 ghost use Rattle.gs_card.specs.Rankings.{ranking_of};
-ghost use Rattle.gs_game.specs.{Answers.{Answers}, Games.{HasFewCards, game_of}, Refusals.{card_refusal, ranks}};
+ghost use Rattle.gs_game.specs.{FaultOf.{IsFaultOf}, Games.{HasFewCards, game_of}, Refusals.{card_refusal, ranks}};
 
 use crate::faults::GameFault;
 use crate::game::{Game, Round};
@@ -58,7 +58,7 @@ fn ranks(ranking: Ranking, own: u8, all: u8) -> bool
 #[tactic(auto, unfolding(crate::specs::Refusals::card_refusal, crate::specs::Refusals::rounds_refusal, crate::specs::Refusals::private_refusal, crate::specs::Refusals::ranking_refusal, crate::specs::Refusals::copies_refusal))]
 pub fn check_cards(game: &Game) -> Result<(), GameFault>
     requires { All HasFewCards game.now.rounds.items }
-    ensures { MatchResult result (λ _. card_refusal (game_of game.now) ≡ None) (Answers (card_refusal (game_of game.now))) }
+    ensures { MatchResult result (λ _. card_refusal (game_of game.now) ≡ None) (IsFaultOf (card_refusal (game_of game.now))) }
 {
     let count = game.rounds.len();
     if count == 0 || count > 4 {

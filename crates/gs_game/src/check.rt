@@ -3,7 +3,7 @@
 ghost use Rattle.std.specs.Prelude.{◌≡◌, ◌≤◌, All, None, IfOk, IfErr};
 ghost use Rattle.gs_card.specs.Rankings.{ranking_of};
 ghost use Rattle.gs_model.specs.Outcome.{IsBonus};
-ghost use Rattle.gs_game.specs.{Answers.{Answers}, Games.{HasFewCards, game_of}, Refusals.{first_refusal}};
+ghost use Rattle.gs_game.specs.{FaultOf.{IsFaultOf}, Games.{HasFewCards, game_of}, Refusals.{first_refusal}};
 
 use crate::betting::check_betting;
 use crate::cards::check_cards;
@@ -25,7 +25,7 @@ impl Game {
         // A game is accepted only where no refusal applies, and stays as it is.
         ensures accepted { IfOk result (λ valid. (first_refusal (game_of self) ≡ None) × (valid.game ≡ self)) }
         // A fault but want of memory is the first refusal that applies.
-        ensures refused { IfErr result (Answers (first_refusal (game_of self))) }
+        ensures refused { IfErr result (IsFaultOf (first_refusal (game_of self))) }
     {
         check_cards(&self)?;
         check_betting(alloc, &self)?;

@@ -2,7 +2,7 @@
 
 ghost use Rattle.std.specs.Prelude.{◌≡◌, ◌≤◌, ◌<◌, ◌+◌, ◌*◌, None, IfOk, OnOk, MatchResult, All, length, map, min, sum, ◌++◌};
 ghost use Rattle.gs_model.specs.{Cards.{choose}, Deals.{deals}, Frame.{frame_of, total_weight}};
-ghost use Rattle.gs_game.specs.{Answers.{Answers}, Games.{HasFewCards, game_of, round_of}, Money.{first_of}};
+ghost use Rattle.gs_game.specs.{FaultOf.{IsFaultOf}, Games.{HasFewCards, game_of, round_of}, Money.{first_of}};
 ghost use Rattle.gs_game.specs.Refusals.{card_refusal, deal_refusal, deals_refusal, signals_refusal};
 ghost use Rattle.gs_game.specs.Sequences.{count_sequences, deal_sizes, draws, power, privates, seen_sizes};
 
@@ -79,7 +79,7 @@ fn check_signals(game: &Game, left: &mut [u8], sizes: &[u8]) -> Result<(), GameF
     requires few { length game.now.rounds.items ≤ 4 }
     requires left { left.old ≡ game.now.deck.counts }
     requires sizes { sizes.now ≡ deal_sizes (map round_of game.now.rounds.items) }
-    ensures refusal { MatchResult result (λ _. signals_refusal (game_of game.now) ≡ None) (Answers (signals_refusal (game_of game.now))) }
+    ensures refusal { MatchResult result (λ _. signals_refusal (game_of game.now) ≡ None) (IsFaultOf (signals_refusal (game_of game.now))) }
     ensures kept { left.new ≡ left.old }
 {
     for round in 0..game.rounds.len() {
@@ -114,7 +114,7 @@ fn check_counts(game: &Game, left: &mut [u8], sizes: &[u8], weight: u64) -> Resu
     requires sizes { sizes.now ≡ deal_sizes (map round_of game.now.rounds.items) }
     requires weight { weight ≡ draws (sum game.now.deck.counts) sizes.now }
     ensures { MatchResult result (λ count. (first_of (signals_refusal (game_of game.now)) (deals_refusal (game_of game.now)) ≡ None)
-        × (count ≡ length (deals (game_of game.now)))) (Answers (first_of (signals_refusal (game_of game.now)) (deals_refusal (game_of game.now)))) }
+        × (count ≡ length (deals (game_of game.now)))) (IsFaultOf (first_of (signals_refusal (game_of game.now)) (deals_refusal (game_of game.now)))) }
 {
     check_signals(game, left, sizes)?;
     let count = count_deals(left, sizes, weight);
@@ -136,7 +136,7 @@ pub fn check_deals(alloc: Global, game: &Game) -> Result<DealTotals, GameFault>
     requires cards { All HasFewCards game.now.rounds.items }
     requires checked { card_refusal (game_of game.now) ≡ None }
     ensures { MatchResult result (λ totals. (deal_refusal (game_of game.now) ≡ None) × (totals.weight ≡ total_weight (frame_of (game_of game.now)))
-        × (totals.count ≡ length (deals (game_of game.now)))) (Answers (deal_refusal (game_of game.now))) }
+        × (totals.count ≡ length (deals (game_of game.now)))) (IsFaultOf (deal_refusal (game_of game.now))) }
 {
     let counts = game.deck.counts();
     let mut left = Vec::from_slice(alloc, counts)?;

@@ -2,7 +2,6 @@
 use Rattle.std.proofs.Common.{◌≡◌, ◌↔◌, ℕ, zero, suc, ◌+◌, ◌-◌, ◌<◌, ◌≤◌, List, [], ◌∷◌, ◌++◌, length, map, take, drop, get_or, refl, sym, ap, ◌∙◌, subst, arith}
 use Rattle.std.specs.List.{All, range_with_len, slice_range}
 use Rattle.std.proofs.lemmas.List.{get_or-drop, length-drop, take_more}
-use Rattle.std.proofs.lemmas.List.Folds.{length-flat_map-take}
 use Rattle.std.proofs.lemmas.List.FromFn.{get_or-range_with_len, length-range_with_len, map-range_with_len_more}
 use Rattle.std.proofs.lemmas.List.Sorted.{IsPermutation-sym}
 use Rattle.gs_model.specs.Game.{Game, round_at, round_count}
@@ -14,7 +13,7 @@ use Rattle.gs_model.specs.Signatures.{IsSignature}
 use Rattle.gs_model.proofs.Bijections.{IsPermutation-from_Matched_members, Matched-from_IsPermutation_members}
 use Rattle.gs_model.proofs.Children.{children-run}
 use Rattle.gs_model.proofs.Order.{sorts_equal}
-use Rattle.gs_model.proofs.Ranges.{length-flat_map_map, length-parents}
+use Rattle.gs_model.proofs.Ranges.{length-parents}
 use Rattle.gs_model.proofs.Signatures.{Matched-map, Matched-unmap}
 use Rattle.gs_numbers.specs.Numbers.{IsKeyClasses}
 use Rattle.gs_numbers.proofs.FirstSeen.{classes_like}
@@ -22,21 +21,13 @@ use Rattle.gs_iso.specs.Numbers.{AreMarks, IsNumbering, child_part, class_key, m
 use Rattle.gs_iso.specs.Orders.{mark_lt}
 use Rattle.gs_iso.proofs.Exact.{mark_order, mark_ranks, pairs}
 use Rattle.gs_model.proofs.Extends.{before_last, parents_below}
-use Rattle.gs_model.proofs.SingleCards.{rounds_after}
+use Rattle.gs_model.proofs.SingleCards.{rounds_after, children_within}
 
 -- ---- isomorphism before the last round
 
 isomorphic_before : (g : Game) (round : ℕ) → round < round_count g → (s t : Signal)
     → Isomorphic g round s t ≡ IsomorphicFor g (round_at g (suc round) ∷ drop (suc round) g.rounds) s t
 isomorphic_before g round l s t = ap (λ rs. IsomorphicFor g rs s t) (rounds_after g round l)
-
--- children are signals of the next round
-pub children_in : (g : Game) (round i : ℕ) → i < length (signals g round) → first_child g round i + child_count g round i ≤ length (signals g (suc round))
-children_in g round i l =
-    let f = λ (s : Signal). children g (round_at g (suc round)) s in
-    let a = length-flat_map-take f (signals g round) i [] l in
-    let b = length-flat_map_map (λ (c : ℕ × Signal). c.1) f (signals g round) in
-    omega (arith, a, b)
 
 -- a run of numbers by their places
 take_run : (xs : List ℕ) (a n : ℕ) → a + n ≤ length xs → take n (drop a xs) ≡ map (λ x. get_or xs x 0) (range_with_len a n)
@@ -63,7 +54,7 @@ run_in : (g : Game) (round i : ℕ) → i < length (signals g round) → All (λ
 run_in g round i l k d lk =
     let n = length-range_with_len (first_child g round i) (child_count g round i) in
     let x = get_or-range_with_len (first_child g round i) (child_count g round i) k d (omega (arith, lk, n)) in
-    omega (arith, x, lk, n, children_in g round i l)
+    omega (arith, x, lk, n, children_within g round i l)
 
 module _ (g : Game) (round : ℕ) (l : round < round_count g) (numbers marks : List ℕ) (n : IsNumbering g (suc round) numbers)
     (m : AreMarks g (suc round) numbers marks) where

@@ -14,11 +14,10 @@ use Rattle.gs_model.specs.ViewTree.{leaves}
 use Rattle.gs_model.proofs.Children.{children-run}
 use Rattle.gs_model.proofs.Facing.{leaves_are_deals}
 use Rattle.gs_model.proofs.Basics.{drop-all}
-use Rattle.gs_model.proofs.SingleCards.{rounds_after}
+use Rattle.gs_model.proofs.SingleCards.{rounds_after, children_within}
 use Rattle.gs_iso.specs.Numbers.{IsNumbering, child_part}
 use Rattle.gs_iso.specs.Orders.{child_eq, leaf_eq}
 use Rattle.gs_iso.specs.Pairings.{IsPaired, IsPairedFor, IsPairingAnswer, IsPairingFor, IsPairingOf}
-use Rattle.gs_iso.proofs.Below.{children_in}
 use Rattle.gs_iso.proofs.Exact.{child_exact, leaf_exact, pairs}
 use Rattle.gs_iso.proofs.Pairs.{matched_from_pairing, pairing_from_matched, pairing_like}
 
@@ -115,7 +114,7 @@ module _ (g : Game) (round : â„•) (l : round < round_count g) (numbers : List â„
       (get_or-map-range_with_len part (first_child g round j) (child_count g round j) b y start fb refl)
       (get_or-map-range_with_len child (first_child g round i) (child_count g round i) a x root fa refl)
       (get_or-map-range_with_len child (first_child g round j) (child_count g round j) b y root fb refl)
-      (alike x y (omega (arith, fa, children_in g round i li)) (omega (arith, fb, children_in g round j lj)))) m h in
+      (alike x y (omega (arith, fa, children_within g round i li)) (omega (arith, fb, children_within g round j lj)))) m h in
       let r = round_at g (suc round) in
       let s = signal_at g round i in
       let t = signal_at g round j in
@@ -145,6 +144,6 @@ children_few g round next i numbers h l li =
     omega (
       arith,
       length-map-range_with_len (child_part g next numbers) (first_child g round i) (child_count g round i),
-      children_in g round i li,
+      children_within g round i li,
       h.signals_in (suc round) (omega (arith, l)),
     )

@@ -12,13 +12,14 @@ use Rattle.gs_model.specs.Classes.{ClassLists, class_of}
 use Rattle.gs_model.specs.Deals.{Deal, deals}
 use Rattle.gs_model.specs.Frame.{at_round, frame_of, last_round, signal_count}
 use Rattle.gs_model.specs.Game.{Game, IsPlayable, round_count}
+use Rattle.gs_model.proofs.Walked.{last_round_of}
 use Rattle.gs_tree.specs.Walk.{last_count}
 use Rattle.gs_lossless.specs.Amounts.{Agree, AreSideFirsts, HasSide, amount, deal_part, key_count, keys_of}
 use Rattle.gs_lossless.specs.Sums.{sum_at, weight_at}
 use Rattle.gs_lossless.specs.declared.parts.Part.{Part}
 use Rattle.gs_lossless.specs.declared.sides.Side.{Side}
 use Rattle.gs_lossless.specs.declared.sides.Side.TheVariants.{Deals, Children}
-use Rattle.gs_lossless.proofs.Descent.{count_last, last_is, run_start, tabled}
+use Rattle.gs_lossless.proofs.Descent.{count_last, run_start, tabled}
 use Rattle.gs_lossless.proofs.Weighed.{deals_amount}
 
 -- the part that a deal is, from how it is seen
@@ -79,15 +80,15 @@ module _ (g : Game) (p : IsPlayable g) (lists : ClassLists) where
 pub firsts_of_deals : (g : Game) → IsPlayable g → (side : Side) (round : ℕ) → HasSide (frame_of g) side round → round ≡ round_count g
     → (lists : ClassLists) (keys firsts : List ℕ)
     → keys ≡ keys_of (frame_of g) lists side round → AreStandIns g keys firsts → AreSideFirsts (frame_of g) lists side round firsts
-firsts_of_deals g p Children round side e lists keys firsts is h = absurd (omega (arith, side.1, e, last_is g))
+firsts_of_deals g p Children round side e lists keys firsts is h = absurd (omega (arith, side.1, e, last_round_of g))
 firsts_of_deals g p Deals round side e lists keys firsts is h =
     let f = frame_of g in
-    let top : round ≡ last_round f = omega (arith, e, last_is g) in
+    let top : round ≡ last_round f = omega (arith, e, last_round_of g) in
     let is' : keys ≡ keys_of f lists Deals (last_round f) = is ∙ ap (keys_of f lists Deals) top in
     subst (λ (r : ℕ). AreSideFirsts f lists Deals r firsts) (sym top) (deal_firsts g p lists firsts (subst (λ (k : List ℕ). AreStandIns g k firsts) is' h))
 
 -- in the last round the side's keys are one for each last-round signal
 pub last_keys : (g : Game) (side : Side) (round n : ℕ) → HasSide (frame_of g) side round → round ≡ round_count g → n ≡ key_count g side round
     → n ≡ last_count g
-last_keys g Children round n side e all = absurd (omega (arith, side.1, e, last_is g))
+last_keys g Children round n side e all = absurd (omega (arith, side.1, e, last_round_of g))
 last_keys g Deals round n side e all = all

@@ -1,10 +1,9 @@
 -- The signals that descend from a signal stand side by side.
-use Rattle.std.proofs.Common.{◌≡◌, ℕ, zero, suc, ◌+◌, ◌-◌, ◌<◌, ◌≤◌, ◌^◌, List, [], ◌∷◌, length, take, get_or, sym, ap, ◌∙◌, subst, arith, ⊎_elim, length-append}
+use Rattle.std.proofs.Common.{◌≡◌, ℕ, zero, suc, ◌+◌, ◌-◌, ◌<◌, ◌≤◌, ◌^◌, List, length, get_or, sym, ap, ◌∙◌, subst, arith, ⊎_elim}
 use Rattle.std.specs.Prelude.{All, flat_map}
 use Rattle.std.proofs.lemmas.Bool.{cases_lt}
-use Rattle.std.proofs.lemmas.Grind.{flat_map-append}
 use Rattle.std.proofs.lemmas.List.Sums.{get_or-le-sum_by}
-use Rattle.std.proofs.lemmas.List.{append-nil, length-map, take_all, take_more}
+use Rattle.std.proofs.lemmas.List.{length-map, take_all}
 use Rattle.gs_game.specs.Games.{round_of}
 use Rattle.gs_game.specs.Limits.{IsWithinLimits}
 use Rattle.gs_game.proofs.Playable.{is_playable}
@@ -19,6 +18,7 @@ use Rattle.gs_model.proofs.Tables.{is_table}
 use Rattle.gs_model.proofs.Walked.{last_round_of}
 use Rattle.gs_tree.specs.Trees.{rules_of}
 use Rattle.gs_tree.specs.declared.signals.Signals.{Signals}
+use Rattle.gs_tree.proofs.Readers.{first_next}
 use Rattle.std.proofs.lemmas.List.FromFn.{length-map-range_with_len}
 use Rattle.gs_filter.specs.Filter.{AreParents, Filter, IsSound}
 use Rattle.gs_model.specs.Classes.{class_of, list_of}
@@ -40,21 +40,11 @@ parent_is g below at x e l =
     let one : at - below ≡ 1 = omega arith in
     ap (λ k. ancestor_up (frame_of g) at k x) one ∙ ap (λ (ps : List ℕ). get_or ps x 0) (parents_at g at (omega arith) l)
 
-first_step : (g : Game) (r i : ℕ) → i < length (signals g r) → first_child g r (i + 1) ≡ first_child g r i + child_count g r i
-first_step g r i l =
-    let below = λ (s : Signal). children g (round_at g (suc r)) s in
-    let xs = signals g r in
-    let s = get_or xs i [] in
-    ap (λ ys. length (flat_map below ys)) (take_more xs i [] l)
-    ∙ ap length (flat_map-append below (take i xs) (s ∷ []))
-    ∙ length-append (flat_map below (take i xs)) (flat_map below (s ∷ []))
-    ∙ ap (λ n. first_child g r i + n) (ap length (append-nil (below s)))
-
 first_up : (g : Game) (r i n : ℕ) → i + n ≤ length (signals g r) → first_child g r i ≤ first_child g r (i + n)
 first_up g r i zero l = let e : i ≡ i + zero = omega arith in omega (arith, ap (first_child g r) e)
 first_up g r i (suc n) l =
     let e : i + suc n ≡ (i + n) + 1 = omega arith in
-    omega (arith, ap (first_child g r) e, first_step g r (i + n) (omega arith), first_up g r i n (omega arith))
+    omega (arith, ap (first_child g r) e, first_next g r (i + n) (omega arith), first_up g r i n (omega arith))
 
 pub first_le : (g : Game) (r i j : ℕ) → i ≤ j → j ≤ length (signals g r) → first_child g r i ≤ first_child g r j
 first_le g r i j l m =
@@ -66,10 +56,6 @@ first_end g r =
     let below = λ (s : Signal). children g (round_at g (suc r)) s in
     let xs = signals g r in
     ap (λ ys. length (flat_map below ys)) (take_all (length xs) xs (omega arith)) ∙ sym (length-flat_map_map (λ (c : ℕ × Signal). c.1) below xs)
-
--- the children of a signal are signals of the next round
-pub children_within : (g : Game) (r i : ℕ) → i < length (signals g r) → first_child g r i + child_count g r i ≤ length (signals g (suc r))
-children_within g r i l = omega (arith, first_step g r i l, first_le g r (i + 1) (length (signals g r)) (omega arith) (omega arith), first_end g r)
 
 -- ---- runs
 
@@ -106,7 +92,7 @@ module _ (g : Game) (p : IsPlayable g) (at round s first end : ℕ) (some : 0 < 
       let a = ancestor (frame_of g) (suc at) at x in
       let up : at + 1 ≡ suc at = omega arith in
       let c = child-only g at a (parent_in x lx) x (omega (arith, there, lx)) (sym (parent_is g at (suc at) x up (omega arith))) in
-      let n = first_step g at a (parent_in x lx) in
+      let n = first_next g at a (parent_in x lx) in
       (c.0, omega (arith, c.1, n))
 
   chained : (x : ℕ) → ancestor (frame_of g) at round (ancestor (frame_of g) (suc at) at x) ≡ ancestor (frame_of g) (suc at) round x
@@ -158,10 +144,6 @@ climb_in g p at place some m l =
     let q = parent_is g (at - 1) at place e m in
     omega (arith, k, n, q)
 
--- the last round of a game's frame
-pub last_is : (g : Game) → last_round (frame_of g) ≡ round_count g
-last_is g = last_round_of g
-
 pub count_last : (g : Game) → IsPlayable g → signal_count (frame_of g) (last_round (frame_of g)) ≡ length (signals g (round_count g))
 count_last g p = ap (signal_count (frame_of g)) (last_round_of g) ∙ signal_count_is g (round_count g) p.some (omega arith)
 
@@ -177,20 +159,21 @@ pub list_long : (g : Game) (l : Filter) → l.parents ≡ (frame_of g).parents �
     → length (list_of l.lists round) ≡ length (signals g round)
 list_long g l e s round some le =
     let n = ap (λ (ps : List (List ℕ)). length ps) e in
-    s.classes.lengths round some (omega (arith, n, last_is g)) ∙ ap (λ (ps : List (List ℕ)). length (list_of ps round)) e ∙ signal_count_is g round some le
+    s.classes.lengths round some (omega (arith, n, last_round_of g)) ∙ ap (λ (ps : List (List ℕ)). length (list_of ps round)) e
+    ∙ signal_count_is g round some le
 
 pub keys_long : (g : Game) (l : Filter) → l.parents ≡ (frame_of g).parents → IsSound l → IsPlayable g → (side : Side) (round : ℕ)
     → HasSide (frame_of g) side round → length (keys_of (frame_of g) l.lists side round) ≡ key_count g side round
 keys_long g l e s p Deals round h = length-map-range_with_len (λ x. class_of l.lists round (at_round (frame_of g) round x)) 0
     (signal_count (frame_of g) (last_round (frame_of g))) ∙ count_last g p
-keys_long g l e s p Children round h = list_long g l e s (round + 1) (omega arith) (omega (arith, h.1, last_is g))
+keys_long g l e s p Children round h = list_long g l e s (round + 1) (omega arith) (omega (arith, h.1, last_round_of g))
 
 -- the children of a signal are a run of the next round
 pub child_run : (g : Game) → IsPlayable g → (round s : ℕ) → 0 < round → round < round_count g → s < length (signals g round)
     → IsRunIn (frame_of g) (round + 1) round s (first_child g round s) (first_child g round s + child_count g round s)
 child_run g p round s some l ls =
     let start = run_start g p round s (let n = signal_count_is g round some (omega arith) in omega (arith, n, ls)) in
-    subst (λ (k : ℕ). IsRunIn (frame_of g) (round + 1) round s (first_child g round s) k) (first_step g round s ls)
+    subst (λ (k : ℕ). IsRunIn (frame_of g) (round + 1) round s (first_child g round s) k) (first_next g round s ls)
     (run_more g p round round s s (s + 1) some (omega arith) l start)
 
 -- the parents of a game's signals are such that classes can stand on them
@@ -199,8 +182,8 @@ are_parents s =
     let g = rules_of s in
     let h = s.game.now.limits in
     record {
-      few = omega (arith, last_is g, h.few_rounds);
-      short = λ round some le. (let n = signal_count_is g round some (omega (arith, le, last_is g)) in
-          let m = h.signals_in round (omega (arith, le, last_is g)) in omega (arith, n, m));
+      few = omega (arith, last_round_of g, h.few_rounds);
+      short = λ round some le. (let n = signal_count_is g round some (omega (arith, le, last_round_of g)) in
+          let m = h.signals_in round (omega (arith, le, last_round_of g)) in omega (arith, n, m));
       in_range = λ round x some le l. (in_range g (playable s)).parents round x some l;
     }

@@ -7,6 +7,8 @@ use Rattle.gs_model.specs.Deals.{deals}
 use Rattle.gs_model.specs.Frame.{Frame, frame_of, last_round}
 use Rattle.gs_model.specs.Game.{Game}
 use Rattle.gs_model.specs.Signals.{child_count, first_child, signals}
+use Rattle.gs_model.proofs.SingleCards.{children_within}
+use Rattle.gs_model.proofs.Walked.{last_round_of}
 use Rattle.gs_tree.specs.Trees.{rules_of}
 use Rattle.gs_tree.specs.declared.signals.Signals.{Signals}
 use Rattle.gs_lossless.specs.Amounts.{AreAmounts, HasSide, IsRun, amount, child_part, deal_parts, keys_of}
@@ -14,7 +16,7 @@ use Rattle.gs_lossless.specs.Sums.{AreSumsOf, sum_at}
 use Rattle.gs_lossless.specs.declared.parts.Part.{Part}
 use Rattle.gs_lossless.specs.declared.sides.Side.{Side}
 use Rattle.gs_lossless.specs.declared.sides.Side.TheVariants.{Deals, Children}
-use Rattle.gs_lossless.proofs.Descent.{child_run, children_within, last_is, playable}
+use Rattle.gs_lossless.proofs.Descent.{child_run, playable}
 use Rattle.gs_lossless.proofs.Weighed.{children_amount, children_some, children_total, deals_amount, deals_some, deals_total}
 
 -- each part has weight, and by the keys of any classes they add up to what the side counts
@@ -38,7 +40,7 @@ of_children s Children round x keys parts start end is h l from to e =
     let g = rules_of s in
     let first = first_child g round x in
     let n = child_count g round x in
-    let run = child_run g (playable s) round x h.0 (omega (arith, h.1, last_is g)) l in
+    let run = child_run g (playable s) round x h.0 (omega (arith, h.1, last_round_of g)) l in
     let many : end - start ≡ n = omega (arith, from, to) in
     let all = e ∙ ap (λ k. map (child_part keys) (range_with_len k (end - start))) from ∙ ap (λ k. map (child_part keys) (range_with_len first k)) many in
     subst (ArePartsOf g Children round x keys) (sym all) (record {
@@ -47,7 +49,7 @@ of_children s Children round x keys parts start end is h l from to e =
         arith,
         children_total keys first n,
         children_within g round x l,
-        s.game.now.limits.signals_in (suc round) (omega (arith, h.1, last_is g)),
+        s.game.now.limits.signals_in (suc round) (omega (arith, h.1, last_round_of g)),
       );
       amounts = λ lists e c o. ap (λ (ks : List ℕ). sum_at (map (child_part ks) (range_with_len first n)) c o) e
           ∙ children_amount g lists round x first n run c o;

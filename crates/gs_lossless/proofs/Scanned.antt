@@ -14,13 +14,14 @@ use Rattle.gs_model.specs.Lossless.{Alike, IsFirstUnlike, IsLossless}
 use Rattle.gs_model.specs.Numbering.{IsNumbered}
 use Rattle.gs_model.specs.Signals.{signals}
 use Rattle.gs_model.proofs.Ranges.{signal_count_is}
+use Rattle.gs_model.proofs.Walked.{last_round_of}
 use Rattle.gs_lossless.specs.Amounts.{Agree, AgreesWithFirst, AreAmounts, AreSideFirsts, HasSide}
 use Rattle.gs_lossless.specs.Scans.{AgreeBelow, IsFirstApart, StoredBelow}
 use Rattle.gs_lossless.specs.Stops.{AreAlikeBelow, IsChildrenApart, MatchUnlike}
 use Rattle.gs_lossless.specs.declared.parts.Part.{Part}
 use Rattle.gs_lossless.specs.declared.sides.Side.{Side}
 use Rattle.gs_lossless.specs.declared.sides.Side.TheVariants.{Deals, Children}
-use Rattle.gs_lossless.proofs.Descent.{last_is, list_long}
+use Rattle.gs_lossless.proofs.Descent.{list_long}
 use Rattle.gs_lossless.proofs.Settled.{agree_children, agree_deals, alike_from, first_le, not_lossless, over, singles}
 
 pub side_in : (f : Frame) (side : Side) (round : ℕ) → HasSide f side round → (0 < round) × (round ≤ last_round f)
@@ -28,7 +29,7 @@ side_in f Deals round h = h
 side_in f Children round h = (h.0, omega (arith, h.1))
 
 pub side_top : (g : Game) (side : Side) (round : ℕ) → HasSide (frame_of g) side round → round ≤ round_count g
-side_top g side round h = let l = side_in (frame_of g) side round h in omega (arith, l.1, last_is g)
+side_top g side round h = let l = side_in (frame_of g) side round h in omega (arith, l.1, last_round_of g)
 
 -- the signals of a round with a side, by the frame and by the game
 pub side_signals : (g : Game) (side : Side) (round : ℕ) → HasSide (frame_of g) side round → signal_count (frame_of g) round ≡ length (signals g round)

@@ -30,12 +30,14 @@ first_of lists round s = first_member lists round (class_of lists round s)
 
 weights_of : (f : Frame) (lists : ClassLists) (round s : ℕ) → round < last_round f → AgreesWithFirst f lists Deals round s
     → (c : ℕ) → weight_against f lists round (first_of lists round s) c ≡ weight_against f lists round s c
-weights_of f lists round s l a c = sym (amount_before_last f lists round (first_of lists round s) c (pos 0) l) ∙ a c (pos 0) ∙ amount_before_last f lists round s c (pos 0) l
+weights_of f lists round s l a c = sym (amount_before_last f lists round (first_of lists round s) c (pos 0) l) ∙ a c (pos 0)
+    ∙ amount_before_last f lists round s c (pos 0) l
 
 agrees_by : (f : Frame) (lists : ClassLists) (round s : ℕ) → round < last_round f
     → ((c : ℕ) → weight_against f lists round (first_of lists round s) c ≡ weight_against f lists round s c) → AgreesWithFirst f lists Deals round s
 agrees_by f lists round s l h c o =
-    amount_before_last f lists round (first_of lists round s) c o l ∙ ap (λ (n : ℕ). cond (int_eq (pos 0) o) n 0) (h c) ∙ sym (amount_before_last f lists round s c o l)
+    amount_before_last f lists round (first_of lists round s) c o l ∙ ap (λ (n : ℕ). cond (int_eq (pos 0) o) n 0) (h c)
+    ∙ sym (amount_before_last f lists round s c o l)
 
 same_factor : (w a b : ℕ) → 0 < w → w * a ≡ w * b → a ≡ b
 same_factor w a b some e = sym (mul-div_cancel_left a some) ∙ ap (λ (n : ℕ). n / w) e ∙ mul-div_cancel_left b some

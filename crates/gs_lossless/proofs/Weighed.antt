@@ -14,10 +14,9 @@ use Rattle.gs_model.specs.Deals.{Deal, deals}
 use Rattle.gs_model.specs.Frame.{ancestor, at_round, frame_of, last_round, signal_count, total_weight}
 use Rattle.gs_model.specs.Game.{Game, IsPlayable}
 use Rattle.gs_model.specs.Lossless.{weight_against, weight_with}
-use Rattle.gs_model.proofs.Children.{every-any}
 use Rattle.gs_model.proofs.Ranges.{deals_weigh, every-flat_map, in_range}
 use Rattle.gs_model.proofs.Sparse.{range_append}
-use Rattle.gs_model.proofs.Basics.{false_from_not, every-map}
+use Rattle.gs_model.proofs.Basics.{false_from_not, every-map, every-range, cond_le, sum_by-map, sum-cond, every-any}
 use Rattle.gs_lossless.specs.Amounts.{IsRun, IsRunIn, amount, child_part, deal_part, deal_parts, keys_of}
 use Rattle.gs_lossless.specs.Sums.{sum_at, weight_at}
 use Rattle.gs_lossless.specs.declared.parts.Part.{Part}
@@ -37,10 +36,6 @@ sum_by-two : {X : Type 0} (f h k : X → ℕ) → ((x : X) → k x ≡ f x + h x
 sum_by-two f h k e [] = refl
 sum_by-two f h k e (x ∷ xs) = omega (arith, sum_by-cons f x xs, sum_by-cons h x xs, sum_by-cons k x xs, e x, sum_by-two f h k e xs)
 
-sum_by-mapped : {X Y : Type 0} (h : Y → ℕ) (k : X → Y) (xs : List X) → sum_by h (map k xs) ≡ sum_by (λ x. h (k x)) xs
-sum_by-mapped h k [] = refl
-sum_by-mapped h k (x ∷ xs) = omega (arith, sum_by-cons h (k x) (map k xs), sum_by-cons (λ x. h (k x)) x xs, sum_by-mapped h k xs)
-
 -- the sum over what passes a test
 sum_by-passed : {X Y : Type 0} (h : Y → ℕ) (k : X → Y) (t : X → Bool) (xs : List X) → sum_by h (map k (filter t xs)) ≡ sum_by (λ x. cond (t x) (h (k x)) 0) xs
 sum_by-passed h k t [] = refl
@@ -50,10 +45,6 @@ sum_by-passed {X} h k t (x ∷ xs) = by (t x) (sum_by-passed h k t xs) ∙ sym (
         → sum_by h (map k (cond b (x ∷ filter t xs) (filter t xs))) ≡ cond b (h (k x)) 0 + sum_by (λ x. cond (t x) (h (k x)) 0) xs
     by true e = omega (arith, sum_by-cons h (k x) (map k (filter t xs)), e)
     by false e = omega (arith, e)
-
-out_of : {X : Type 0} (b : Bool) (f : X → ℕ) (xs : List X) → sum_by (λ x. cond b (f x) 0) xs ≡ cond b (sum_by f xs) 0
-out_of true f xs = refl
-out_of false f xs = sum_by-none (λ _. 0) xs (every-any (λ _. 0 ≡ 0) (λ _. refl) xs)
 
 -- ---- a run of places
 
@@ -147,7 +138,7 @@ module _ (g : Game) (p : IsPlayable g) (lists : ClassLists) (round s first end :
       let f = frame_of g in
       run_sum (weight_at c o) (deal_part (keys_of f lists Deals round) false) (λ (d : Deal). d.one) (deals g) first (end - first)
       ∙ terms (λ d. pos 0)
-      ∙ out_of (int_eq (pos 0) o) (λ (d : Deal). cond (class_of lists round (at_round f round d.two) == c) (cond (at_round f round d.one == s) d.weight 0) 0)
+      ∙ sum-cond (int_eq (pos 0) o) (λ (d : Deal). cond (class_of lists round (at_round f round d.two) == c) (cond (at_round f round d.one == s) d.weight 0) 0)
       (deals g)
       ∙ ap (λ b. cond b (weight_with f lists s c o) (cond (int_eq (pos 0) o) (weight_against f lists round s c) 0)) e
 
@@ -163,23 +154,15 @@ deals_some g keys by_outcome first end =
     (All-filter (λ (d : Deal). d.one == x) (λ (d : Deal). 0 < d.weight) (deals g) (deals_weigh g))))
     (range_with_len first (end - first)) (every-any (λ _. Unit {0}) (λ _. tt) (range_with_len first (end - first))))
 
-no_more : (b : Bool) (v : ℕ) → cond b v 0 ≤ v
-no_more true v = omega arith
-no_more false v = omega arith
-
 pub deals_total : (g : Game) (keys : List ℕ) (by_outcome : Bool) (first end : ℕ)
     → sum_by (λ (q : Part). q.weight) (deal_parts (deals g) keys by_outcome first end) ≤ total_weight (frame_of g)
 deals_total g keys by_outcome first end =
     let r = run_sum (λ (q : Part). q.weight) (deal_part keys by_outcome) (λ (d : Deal). d.one) (deals g) first (end - first) in
     let l = sum_by-le-sum_by (λ (d : Deal). cond (between first (end - first) d.one) d.weight 0) (λ (d : Deal). d.weight) (deals g)
-    (λ d. no_more (between first (end - first) d.one) d.weight) in
+    (λ d. cond_le (between first (end - first) d.one) d.weight) in
     omega (arith, r, l)
 
 -- ---- children
-
-on_range : (P : ℕ → Type 0) (a n : ℕ) → ((x : ℕ) → a ≤ x → x < a + n → P x) → AllByRecursion P (range_with_len a n)
-on_range P a zero h = tt
-on_range P a (suc n) h = (h a (omega arith) (omega arith), on_range P (a + 1) n (λ x l m. h x (omega arith) (omega arith)))
 
 -- of a range only a run in it counts
 range_sum : (f h : ℕ → ℕ) (count first n : ℕ) → first + n ≤ count → ((x : ℕ) → x < count → first ≤ x → x < first + n → f x ≡ h x)
@@ -189,11 +172,11 @@ range_sum f h count first n l inside outside =
     let rest = count - (first + n) in
     let e : count ≡ first + (n + rest) = omega arith in
     let low : sum_by f (range_with_len 0 first) ≡ 0 = sum_by-none f (range_with_len 0 first)
-    (on_range (λ x. f x ≡ 0) 0 first (λ x a b. (outside x (omega arith)).0 (omega arith))) in
+    (every-range (λ x. f x ≡ 0) 0 first (λ x a b. (outside x (omega arith)).0 (omega arith))) in
     let mid : sum_by f (range_with_len first n) ≡ sum_by h (range_with_len first n) =
-    sum_by-like f h (range_with_len first n) (on_range (λ x. f x ≡ h x) first n (λ x a b. inside x (omega arith) a b)) in
+    sum_by-like f h (range_with_len first n) (every-range (λ x. f x ≡ h x) first n (λ x a b. inside x (omega arith) a b)) in
     let high : sum_by f (range_with_len (first + n) rest) ≡ 0 = sum_by-none f (range_with_len (first + n) rest)
-    (on_range (λ x. f x ≡ 0) (first + n) rest (λ x a b. (outside x (omega arith)).1 a)) in
+    (every-range (λ x. f x ≡ 0) (first + n) rest (λ x a b. (outside x (omega arith)).1 a)) in
     ap (λ m. sum_by f (range_with_len 0 m)) e
     ∙ ap (sum_by f) (range_append 0 first (n + rest))
     ∙ sum_by-append f (range_with_len 0 first) (range_with_len (0 + first) (n + rest))
@@ -222,11 +205,13 @@ children_amount g lists round s first n run c o =
     range_sum count plain (signal_count f (round + 1)) first n run.within
     (λ x l a b. met (class_of lists (round + 1) x == c) (own x) 1 ((exact x).1 (run.back x a b)))
     (λ x l. (
-      (λ a. unmet (class_of lists (round + 1) x == c) (own x) 1 (false_from_not (own x) (λ t. let i = run.inside x l ((exact x).0 t) in omega (arith, i.0, a)))),
-      (λ a. unmet (class_of lists (round + 1) x == c) (own x) 1 (false_from_not (own x) (λ t. let i = run.inside x l ((exact x).0 t) in omega (arith, i.1, a)))),
+      (λ a. unmet (class_of lists (round + 1) x == c) (own x) 1
+          (false_from_not (own x) (λ t. let i = run.inside x l ((exact x).0 t) in omega (arith, i.0, a)))),
+      (λ a. unmet (class_of lists (round + 1) x == c) (own x) 1
+          (false_from_not (own x) (λ t. let i = run.inside x l ((exact x).0 t) in omega (arith, i.1, a)))),
     )) in
-    sum_by-mapped (weight_at c o) (child_part keys) (range_with_len first n)
-    ∙ out_of (int_eq (pos 0) o) plain (range_with_len first n)
+    sum_by-map (weight_at c o) (child_part keys) (range_with_len first n)
+    ∙ sum-cond (int_eq (pos 0) o) plain (range_with_len first n)
     ∙ ap (λ m. cond (int_eq (pos 0) o) m 0) (sym all)
 
 pub children_some : (keys : List ℕ) (first n : ℕ) → All (λ (q : Part). 0 < q.weight) (map (child_part keys) (range_with_len first n))

@@ -9,11 +9,11 @@ use Rattle.gs_model.specs.Deals.{deal_weight, path_weight, own_ways, same_cards,
 use Rattle.gs_model.specs.Game.{Game, Round, round_count}
 use Rattle.gs_model.specs.Signals.{Signal, Seen, signals, signal_at, edge, left_by}
 use Rattle.gs_model.specs.ViewTree.{facing}
-use Rattle.gs_model.proofs.Exchanged.{and_both, filter-flat_map, map-flat_map}
+use Rattle.gs_model.proofs.Exchanged.{filter-flat_map, map-flat_map}
 use Rattle.gs_model.proofs.Fits.{fits_from, some-times, groups_of_fewer, groups_taken}
 use Rattle.gs_model.proofs.Ranges.{every-flat_map}
 use Rattle.gs_model.proofs.Listed.{IsRow, counts-fit_all, filter-alike, filter-map_none, filter-map_of, flat_map-filter, flat_map-nothing, left_at, length-after, listed, listed-all, once, rows-listed, seen, taken-counts, times}
-use Rattle.gs_model.proofs.Basics.{map-map, flat_map-same, every-both, every-map, every-weaker}
+use Rattle.gs_model.proofs.Basics.{map-map, flat_map-same, every-both, every-map, every-weaker, product_positive, factors_positive}
 
 -- ---- the opponent's signals beside a signal are those that no deal rules out
 
@@ -177,17 +177,6 @@ facing-whole (r ∷ rs) fewer more (p ∷ s) h room =
 
 -- ---- what is known of a last-round signal
 
-some-product : (a b : ℕ) → 0 < a → 0 < b → 0 < a * b
-some-product a b h k =
-    let e = some-times a b in let x : nat_lt 0 a ≡ true = grind (arith, h) in let y : nat_lt 0 b ≡ true = grind (arith, k) in
-    let f : nat_lt 0 (a * b) ≡ true = e ∙ ap (λ t. t && nat_lt 0 b) x ∙ y in grind (arith, f)
-
-pub some-factors : (a b : ℕ) → 0 < a * b → (0 < a) × (0 < b)
-some-factors a b h =
-    let x : nat_lt 0 (a * b) ≡ true = grind (arith, h) in
-    let f = and_both (nat_lt 0 a) (nat_lt 0 b) (sym (some-times a b) ∙ x) in
-    let p = f.0 in let q = f.1 in (grind (arith, p), grind (arith, q))
-
 pub record IsListed (bound : ℕ) (left : List ℕ) (rs : List Round) (s : Signal) : Type 0 where
   pub rows : HasRows bound rs s
   pub weighs : 0 < path_weight left s
@@ -206,8 +195,8 @@ listed-known (r ∷ rs) bound left e =
     (every-weaker (IsListed bound (left_after l public) rs) (λ t. IsListed bound left (r ∷ rs) (seen own public ∷ t))
     (λ t k. record {
       rows = (subst (λ m. IsRow r.public m 0 public) n known.1, k.rows);
-      weighs = some-product (ways left own * ways l public) (path_weight (left_after l public) t)
-          (some-product (ways left own) (ways l public) taken known.0) k.weighs;
+      weighs = product_positive (ways left own * ways l public) (path_weight (left_after l public) t)
+          (product_positive (ways left own) (ways l public) taken known.0) k.weighs;
     })
     (listed (left_after l public) rs) (listed-known rs bound (left_after l public) (length-after l public ∙ n))))
     (groups l r.public) (every-both (λ public. 0 < ways l public) (IsRow r.public (length l) 0) (groups l r.public) (groups_taken l r.public)
@@ -229,8 +218,8 @@ room-start : (left : List ℕ) (s : Signal) → 0 < path_weight left s → (k : 
 room-start left [] h k l = omega arith
 room-start left (p ∷ s) h k l =
     let l1 = left_after left p.own in let l2 = left_after l1 p.public in
-    let f = some-factors (edge left p) (path_weight l2 s) h in
-    let w = (some-factors (ways left p.own) (ways l1 p.public) f.0).1 in
+    let f = factors_positive (edge left p) (path_weight l2 s) h in
+    let w = (factors_positive (ways left p.own) (ways l1 p.public) f.0).1 in
     let t : nat_lt 0 (ways l1 p.public) ≡ true = grind (arith, w) in
     let m = length-after left p.own in let n = length-after l1 p.public in
     let a = taken-counts l1 p.public t k (omega arith) in
@@ -238,7 +227,7 @@ room-start left (p ∷ s) h k l =
     let r = room-start l2 s f.1 k (omega arith) in
     omega arith
 
-length-left_by : (left : List ℕ) (s : Signal) → length (left_by left s) ≡ length left
+pub length-left_by : (left : List ℕ) (s : Signal) → length (left_by left s) ≡ length left
 length-left_by left [] = refl
 length-left_by left (p ∷ s) = length-left_by (left_after (left_after left p.own) p.public) s ∙ length-after (left_after left p.own) p.public
     ∙ length-after left p.own

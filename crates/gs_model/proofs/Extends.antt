@@ -5,26 +5,14 @@ use Rattle.std.proofs.lemmas.List.{take-append-le, take_all}
 use Rattle.std.proofs.lemmas.List.Elements.{All-from_recursion}
 use Rattle.std.proofs.lemmas.List.FromFn.{get_or-map-range_with_len}
 use Rattle.gs_model.specs.Game.{Game, round_at}
-use Rattle.gs_model.specs.Signals.{Seen, Signal, child_count, children, edge, first_child, last_edge, left_by, owners, parents, showings, signal_at, signals}
+use Rattle.gs_model.specs.Signals.{Seen, Signal, child_count, children, edge, first_child, last_edge, left_by, parents, showings, signal_at, signals}
 use Rattle.gs_model.proofs.Children.{child-only, children-run}
-use Rattle.gs_model.proofs.Ranges.{length-parents}
-use Rattle.gs_model.proofs.Basics.{every-weaker, every-append}
-
-owners_in : {X Y : Type 0} (f : X → List Y) (n : ℕ) (xs : List X) → AllByRecursion (λ k. k < n + length xs) (owners f n xs)
-owners_in f n [] = tt
-owners_in {X} {Y} f n (x ∷ xs) =
-    every-append (λ k. k < n + length (x ∷ xs)) (map (λ _. n) (f x)) (owners f (n + 1) xs)
-    (all_in (f x))
-    (every-weaker (λ k. k < (n + 1) + length xs) (λ k. k < n + length (x ∷ xs)) (λ k l. omega arith) (owners f (n + 1) xs) (owners_in f (n + 1) xs))
-  where
-    all_in : (ys : List Y) → AllByRecursion (λ k. k < n + length (x ∷ xs)) (map (λ _. n) ys)
-    all_in [] = tt
-    all_in (y ∷ ys) = (omega arith, all_in ys)
+use Rattle.gs_model.proofs.Ranges.{length-parents, owners-below}
 
 pub parents_below : (g : Game) (round : ℕ) → All (λ p. p < length (signals g round)) (parents g (suc round))
 parents_below g round k d l =
     let r = All-from_recursion (λ k. k < 0 + length (signals g round)) (parents g (suc round))
-    (owners_in (λ s. children g (round_at g (suc round)) s) 0 (signals g round)) k d l in omega (arith, r)
+    (owners-below (λ s. children g (round_at g (suc round)) s) 0 (signals g round)) k d l in omega (arith, r)
 
 pub parent_below : (g : Game) (round x : ℕ) → x < length (signals g (suc round)) → get_or (parents g (suc round)) x 0 < length (signals g round)
 parent_below g round x l = parents_below g round x 0 (omega (arith, l, length-parents g (suc round)))

@@ -225,8 +225,9 @@ fn lasts(
 }
 
 /// Finds what the other's answer, which may be the same one as before, adds to a player's totals each turn, and a number of turns, at most so many, in
-/// which his own answer stays the first best one; of one turn alone it is known.
-pub(crate) fn stays(
+/// which his own answer stays the first best one; of one turn alone it is known, and only
+/// what ends pay is found.
+pub(crate) fn look_ahead(
     role: &Role<'_>,
     seat: &Seat,
     other: &Seat,

@@ -18,22 +18,19 @@ use Rattle.gs_model.specs.FrameFacts.{InRange, IsWalked}
 use Rattle.gs_model.specs.Payoff.{number_at_end}
 use Rattle.gs_model.specs.Plans.{IsClassPlan, Plan, lift}
 use Rattle.gs_model.specs.Positions.{at_end}
-use Rattle.gs_model.proofs.Ranges.{signal_count_is}
 use Rattle.gs_model.proofs.Tables.{is_table}
 use Rattle.gs_model.proofs.Total.{mul_assoc_z, sum_z-mul, sum_z-same}
-use Rattle.gs_model.proofs.Walked.{last_round_of}
-use Rattle.gs_best.specs.Forms.{game_in}
-use Rattle.gs_best.proofs.Chips.{IsModest, product_le}
-use Rattle.gs_best.proofs.Forms.{form_in_range, form_modest, form_walked}
+use Rattle.gs_model.proofs.Basics.{product_le}
+use Rattle.gs_best.proofs.Chips.{IsModest}
+use Rattle.gs_best.proofs.Forms.{form_in_range, form_modest, form_walked, form_signals}
 use Rattle.gs_best.proofs.Rooms.{pos-product}
 use Rattle.gs_frac.specs.declared.value.Fraction.{Fraction}
-use Rattle.gs_game.specs.Games.{game_of}
 use Rattle.gs_seq.specs.Abstracts.{frame_of, lists_of}
 use Rattle.gs_seq.specs.Plans.{IsPlanOf, class_plan, lifted}
 use Rattle.gs_seq.specs.declared.form.Abstract.{Abstract}
 use Rattle.gs_seq.specs.declared.plan.Plan.{Plan as StoredPlan}
 use Rattle.gs_seq.proofs.Ends.{number_few}
-use Rattle.gs_seq.proofs.RowFacts.{abs_all, times_sum}
+use Rattle.gs_seq.proofs.RowFacts.{abs_all, sum-times}
 use Rattle.gs_raw.specs.Answers.{IsHandValueOf}
 use Rattle.gs_raw.specs.Hands.{deal_pays, hand_pays_at, number_of, signal_pays, signal_weighs, signals_pay, signals_weigh}
 use Rattle.gs_raw.proofs.Numbers.{abs_scaled}
@@ -118,7 +115,7 @@ module _ (f : Frame) (r : InRange f) (m : IsModest f) where
         let t = deal_pays f own other z in
         let a = abs_all t (λ d. (2 ^ 84) * d.weight) (filter test f.deals)
         (All-filter test (λ (d : Deal). unsigned_abs (t d) ≤ (2 ^ 84) * d.weight) f.deals deals_small) in
-        omega (arith, a, times_sum (2 ^ 84) (λ (d : Deal). d.weight) (filter test f.deals))
+        omega (arith, a, sum-times (2 ^ 84) (λ (d : Deal). d.weight) (filter test f.deals))
 
 -- the deals of a signal weigh no more than all
 pub signal_weighs_le : (f : Frame) (z s : ℕ) → signal_weighs f z s ≤ sum_by (λ (d : Deal). d.weight) f.deals
@@ -158,13 +155,6 @@ module _ (f : Frame) (r : InRange f) (w : IsWalked f 1) (z s first end : ℕ) (l
 
 -- ---- of a game in sequence form over single signals
 
--- a round has few signals
-pub signal_few : (a : Abstract) (round : ℕ) → 0 < round → round ≤ last_round (frame_of a) → signal_count (frame_of a) round ≤ 200000
-signal_few a round some top =
-    let g = game_of (game_in a).game in
-    let n = last_round_of g in
-    omega (arith, signal_count_is g round some (omega (arith, top, n)), (game_in a).limits.signals_in round (omega (arith, top, n)))
-
 -- the class of a signal, and that signal as its first member
 pub single_at : (a : Abstract) (lists : ClassLists) → lists ≡ single_classes (frame_of a).parents → (round s : ℕ) → 0 < round
     → round ≤ last_round (frame_of a) → s < signal_count (frame_of a) round
@@ -185,7 +175,7 @@ single_end a e z s l ls =
     let w = form_walked a 1 (omega arith) (omega arith) in
     let round = round_of (frame_of a) (at_end z) in
     let h = single_at a (lists_of a) e round s (w.end_round z l) (w.end_in z l) ls in
-    (h.0, h.1, omega (arith, ls, signal_few a round (w.end_round z l) (w.end_in z l)))
+    (h.0, h.1, omega (arith, ls, form_signals a round (w.end_round z l) (w.end_in z l)))
 
 -- what the deals of a signal pay is small beside what they weigh
 pub small_of : (a : Abstract) (lists : ClassLists) → lists ≡ single_classes (frame_of a).parents → (one two : StoredPlan) → IsPlanOf (frame_of a) lists 1 one

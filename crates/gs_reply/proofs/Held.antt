@@ -27,9 +27,9 @@ pub some_fault : (told : StoreFault) (says : ReadResult → Type 0) → told ≢
 some_fault told says some h = let f = fault_is told says some h in (f.0, f.1)
 
 -- a fault of the file is told by its refusal
-pub refused : (which : Which) (bytes : List ℕ) (told : StoreFault) (a : Answer) → told ≢ fault.Memory → FailsSo told (Reads bytes)
+pub strategy_refused : (which : Which) (bytes : List ℕ) (told : StoreFault) (a : Answer) → told ≢ fault.Memory → FailsSo told (Reads bytes)
     → ((why : Fault) → IsFault told why → Tells a (Bad_strategy which why)) → Answers (IsBadStrategy which bytes) a
-refused which bytes told a some h line =
+strategy_refused which bytes told a some h line =
     let f = fault_is told (Reads bytes) some h in
     tells_answer (IsBadStrategy which bytes) a (Bad_strategy which f.0) (f.0, f.2, refl) (line f.0 f.1)
 

@@ -52,10 +52,10 @@ tells_answer says (answer.Prints text) why s t = absurd t
 tells_answer says (answer.Refuses kind line) why s t = (why, s, t)
 
 -- a fault of the file is told by its refusal
-pub refused : (read : Result FileGame Fault) (f : FileFault) (a : Answer) → f ≢ fault.Memory → Fails f read
+pub game_refused : (read : Result FileGame Fault) (f : FileFault) (a : Answer) → f ≢ fault.Memory → Fails f read
     → ((why : Fault) → Fails {Y = FileGame} f (Err why) → Tells a (Bad_game why)) → Answers (IsBadGame read) a
-refused (Ok g) f a told h line = absurd (no_fault f g told h)
-refused (Err why) f a told h line = tells_answer (IsBadGame (Err why)) a (Bad_game why) (why, refl, refl) (line why h)
+game_refused (Ok g) f a told h line = absurd (no_fault f g told h)
+game_refused (Err why) f a told h line = tells_answer (IsBadGame (Err why)) a (Bad_game why) (why, refl, refl) (line why h)
 
 -- what is said of a game is said of the file that states it
 pub stated : (says : FileGame → Reply → Type 0) (read : Result FileGame Fault) (g : FileGame) (a : Answer) → read ≡ Ok g → Answers (says g) a

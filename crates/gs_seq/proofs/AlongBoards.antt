@@ -5,6 +5,7 @@ use Rattle.std.proofs.lemmas.Bool.{cases_lt}
 use Rattle.gs_boards.specs.Boards.{deal_sum, paid}
 use Rattle.gs_boards.specs.declared.pays.Pays.{Pays}
 use Rattle.gs_filter.specs.Filter.{Filter, IsSound}
+use Rattle.gs_filter.proofs.ClassLaws.{greatest_within}
 use Rattle.gs_game.specs.Games.{game_of}
 use Rattle.gs_game.specs.declared.valid.ValidGame.{ValidGame}
 use Rattle.gs_model.specs.Classes.{IsClasses, class_count, list_of}
@@ -24,7 +25,7 @@ use Rattle.gs_seq.specs.Singles.{deal_pair}
 use Rattle.gs_seq.specs.declared.pair.Pair.{Pair}
 use Rattle.gs_seq.proofs.EndSums.{row_sum}
 use Rattle.gs_seq.proofs.Singles.{count_is, deals_of, made_row}
-use Rattle.gs_seq.proofs.SlotLaws.{greatest_few, over}
+use Rattle.gs_seq.proofs.SlotLaws.{over}
 
 -- each of the last round's signals is a class, and there are no more
 pub single_count : (g : ValidGame) (c : Filter) → c.parents ≡ (frame_in g).parents → IsSound c → IsSingleIn c.lists (last_round (frame_in g))
@@ -37,7 +38,7 @@ single_count g c e sound single =
     let k = over f c e sound in
     let count = count_is g c e sound single in
     let long = k.lengths last some (omega arith) in
-    let most = greatest_few (list_of c.lists last) (k.numbered last some (omega arith)) in
+    let most = greatest_within (list_of c.lists last) (k.numbered last some (omega arith)) in
     ⊎_elim
     (λ (any : 0 < n).
     (let at : n - 1 < signal_count f last = omega (arith, any, count) in

@@ -18,11 +18,11 @@ use Rattle.gs_model.specs.Deals.{deals}
 use Rattle.gs_model.specs.Frame.{end_count, last_round, round_of}
 use Rattle.gs_model.specs.Positions.{End, at_end}
 use Rattle.gs_model.proofs.Ranges.{deals_weigh}
+use Rattle.gs_model.proofs.Basics.{sum_by-map}
 use Rattle.gs_seq.specs.Cells.{AreCounts, cell_count, meets, pair_count}
 use Rattle.gs_seq.specs.Games.{frame_in}
 use Rattle.gs_seq.specs.Rows.{AreRows, AreRowsIn, pairs_of}
 use Rattle.gs_seq.specs.declared.pair.Pair.{Pair}
-use Rattle.gs_seq.proofs.ClassRows.{sum_by-map}
 use Rattle.gs_seq.proofs.Ends.{end_reads, end_round, length-ends}
 use Rattle.gs_seq.proofs.Meeting.{rows_long}
 use Rattle.gs_seq.proofs.Points.{walked}

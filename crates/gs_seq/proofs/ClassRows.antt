@@ -9,6 +9,7 @@ use Rattle.gs_model.proofs.Keys.{IsExact}
 use Rattle.gs_model.proofs.RawBound.{sum_z-map}
 use Rattle.gs_model.proofs.Regroup.{alike_total}
 use Rattle.gs_model.proofs.Total.{sum_z-append, sum_z-same, sum_z-zero}
+use Rattle.gs_model.proofs.Basics.{sum_by-map}
 use Rattle.gs_model.specs.Sums.{sum_z}
 
 -- an item of one of two lists
@@ -24,10 +25,6 @@ none_by [] p = refl
 none_by (y ∷ ys) p =
     let e : (b : Bool) → cond {A = ℕ} b 0 0 ≡ 0 = λ b. elim b as (λ b. cond {A = ℕ} b 0 0 ≡ 0) [ true ↦ refl | false ↦ refl ] in
     omega (arith, sum_by-cons (λ y. cond (p y) 0 0) y ys, e (p y), none_by ys p)
-
-pub sum_by-map : {X Y : Type 0} (f : Y → ℕ) (g : X → Y) (xs : List X) → sum_by f (map g xs) ≡ sum_by (λ x. f (g x)) xs
-sum_by-map f g [] = refl
-sum_by-map f g (x ∷ xs) = omega (arith, sum_by-cons f (g x) (map g xs), sum_by-cons (λ x. f (g x)) x xs, sum_by-map f g xs)
 
 -- two weighted lists whose weights agree at each key give one sum to whatever hangs on the key alone
 module _ {X Y K : Type 0} (eq : K → K → Bool) (exact : IsExact eq) (kx : X → K) (wx : X → ℕ) (ky : Y → K) (wy : Y → ℕ) (v : K → ℤ) where

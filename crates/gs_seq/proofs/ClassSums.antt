@@ -1,11 +1,10 @@
 -- The sums by pairs of classes, from the sums of one member of the first class: all members of a lossless class have the same.
-use Rattle.std.proofs.Common.{◌≡◌, ℕ, ℤ, pos, ◌<◌, ◌≤◌, Bool, true, false, cond, List, [], ◌∷◌, get_or, refl, sym, ap, ◌∙◌, arith, sum_by, eqb}
+use Rattle.std.proofs.Common.{◌≡◌, ℕ, ℤ, pos, ◌<◌, ◌≤◌, Bool, true, false, cond, List, get_or, refl, sym, ap, ◌∙◌, arith, sum_by, eqb}
 use Rattle.std.specs.Prelude.{◌==◌, ◌*ℤ◌}
 use Rattle.std.specs.Ordering.{int_eq}
 use Rattle.std.proofs.Math.IntN.{*ℤ-zero}
 use Rattle.std.proofs.lemmas.Bool.Decides.{Decides-eqb}
 use Rattle.std.proofs.lemmas.Int.{ints}
-use Rattle.std.proofs.lemmas.List.Sums.{sum_by-cons}
 use borrow.Author.Differences.{product_is}
 use Rattle.gs_lossless.specs.Amounts.{AreAmounts, amount}
 use Rattle.gs_lossless.specs.Sums.{weight_at}
@@ -24,13 +23,8 @@ use Rattle.gs_model.proofs.Lift.{both_out, one_guard, pair_exact, pair_test}
 use Rattle.gs_model.proofs.RawBound.{range_once}
 use Rattle.gs_model.proofs.Regroup.{alike_total}
 use Rattle.gs_model.proofs.Total.{sum_z-same}
-use Rattle.gs_model.proofs.Basics.{sum-same}
+use Rattle.gs_model.proofs.Basics.{sum-same, sum-cond}
 use Rattle.gs_seq.proofs.ClassRows.{alike_lists}
-
-out_of : {X : Type 0} (b : Bool) (f : X → ℕ) (xs : List X) → sum_by (λ x. cond b (f x) 0) xs ≡ cond b (sum_by f xs) 0
-out_of true f xs = refl
-out_of false f [] = refl
-out_of false f (x ∷ xs) = omega (arith, sum_by-cons (λ x. cond {A = ℕ} false (f x) 0) x xs, out_of false f xs)
 
 module _ (f : Frame) (h : Tabled f) (lists : ClassLists) (g : IsLossless f lists) (round : ℕ) (some : 0 < round) (top : round ≤ last_round f) where
   -- the outcome by which a deal counts: its own in the last round, none before it
@@ -66,7 +60,7 @@ module _ (f : Frame) (h : Tabled f) (lists : ClassLists) (g : IsLossless f lists
           sym (sum-same (λ (d : Deal). cond (pair_test (two d, pos 0) q) (cond (one d == s) d.weight 0) 0)
           (λ (d : Deal). cond (int_eq (pos 0) q.1) (cond (two d == q.0) (cond (one d == s) d.weight 0) 0) 0)
           (λ d. both_out (int_eq (pos 0) q.1) (two d == q.0) (cond (one d == s) d.weight 0)) f.deals
-          ∙ out_of (int_eq (pos 0) q.1) (λ (d : Deal). cond (two d == q.0) (cond (one d == s) d.weight 0) 0) f.deals)
+          ∙ sum-cond (int_eq (pos 0) q.1) (λ (d : Deal). cond (two d == q.0) (cond (one d == s) d.weight 0) 0) f.deals)
 
   -- by the sums of the signal
   pub near_parts : (s : ℕ) (parts : List Part) (v : ℤ → ℤ) (e : ℕ) → AreAmounts f lists Deals round s parts

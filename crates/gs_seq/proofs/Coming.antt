@@ -14,7 +14,7 @@ use Rattle.gs_model.specs.Plans.{lift, number_before}
 use Rattle.gs_model.specs.Positions.{Step, Target, at_end, at_point}
 use Rattle.gs_seq.specs.Slots.{plan_of, slot_count, slot_of, slots_at, slots_before}
 use Rattle.gs_seq.specs.Sources.{IsSource, IsWeightAbove, slot_above}
-use Rattle.gs_seq.specs.declared.flows.Source.{Source}
+use Rattle.gs_seq.specs.declared.flows.StepSource.{StepSource}
 use Rattle.gs_seq.proofs.Points.{Reads}
 use Rattle.gs_seq.proofs.SlotLaws.{slots_le, slots_more}
 
@@ -57,14 +57,14 @@ number_at f lists total weights u o round s above slot e a at =
     ∙ ap (λ v. number_before f (lift f lists (plan_of f lists total weights)) v round s) (sym e)
 
 -- where a source's step stands among the slots before a later point
-pub record SourceFacts (f : Frame) (lists : ClassLists) (to : Target) (room : ℕ) (u : Step) (s : Source) : Type 0 where
+pub record SourceFacts (f : Frame) (lists : ClassLists) (to : Target) (room : ℕ) (u : Step) (s : StepSource) : Type 0 where
   pub some : 0 < s.round
   pub earlier : s.round ≤ round_of f to
   pub within : (above : ℕ) → IsClass lists s.round above → s.first + ((above - 1) * s.moves + s.choice) < room
   pub slot : (above : ℕ) → s.first + ((above - 1) * s.moves + s.choice) ≡ slots_before f lists (player_at f u.point) u.point
       + ((above - 1) * move_count f u.point + u.choice)
 
-facts_by : (f : Frame) (lists : ClassLists) (player : ℕ) (to : Target) (later : ℕ) (u : Step) (s : Source) → IsSource f lists player to u s
+facts_by : (f : Frame) (lists : ClassLists) (player : ℕ) (to : Target) (later : ℕ) (u : Step) (s : StepSource) → IsSource f lists player to u s
     → 0 < round_of f (at_point u.point) → u.point < later
     → round_of f (at_point u.point) ≤ round_of f to → (player_at f u.point ≡ player) × (u.choice < move_count f u.point)
     → SourceFacts f lists to (slots_before f lists player later) u s
@@ -84,14 +84,14 @@ facts_by f lists player to later u s h some before past his =
       slot = λ above. same above ∙ ap (λ p. slots_before f lists p u.point + ((above - 1) * move_count f u.point + u.choice)) (sym his.0);
     }
 
-pub source_facts : (f : Frame) (lists : ClassLists) (player q : ℕ) (u : Step) (s : Source) → IsWalked f player → q < point_count f
+pub source_facts : (f : Frame) (lists : ClassLists) (player q : ℕ) (u : Step) (s : StepSource) → IsWalked f player → q < point_count f
     → IsSource f lists player (at_point q) u s
     → SourceFacts f lists (at_point q) (slots_before f lists player q) u s
 source_facts f lists player q u s w l h =
     let before = w.earlier q u l h.made in facts_by f lists player (at_point q) q u s h (w.some_round u.point (omega (arith, before, l))) before
     (w.past q u l h.made) (w.chosen q u l h.made)
 
-pub end_facts : (f : Frame) (lists : ClassLists) (player z : ℕ) (u : Step) (s : Source) → IsWalked f player → z < end_count f
+pub end_facts : (f : Frame) (lists : ClassLists) (player z : ℕ) (u : Step) (s : StepSource) → IsWalked f player → z < end_count f
     → IsSource f lists player (at_end z) u s
     → SourceFacts f lists (at_end z) (slot_count f lists player) u s
 end_facts f lists player z u s w l h =
@@ -99,7 +99,7 @@ end_facts f lists player z u s w l h =
     (w.past_end_own z u l h.made) (w.chosen_end z u l h.made)
 
 -- the weight of a source's step, at the class above, is the plan's number before the position
-pub number_above : (f : Frame) → InRange f → (c : Filter) → f.parents ≡ c.parents → (player : ℕ) (to : Target) (room : ℕ) (u : Step) (s : Source)
+pub number_above : (f : Frame) → InRange f → (c : Filter) → f.parents ≡ c.parents → (player : ℕ) (to : Target) (room : ℕ) (u : Step) (s : StepSource)
     → IsSource f c.lists player to u s → SourceFacts f c.lists to room u s
     → (total round class : ℕ) → round ≡ round_of f to → (weights : List ℕ) (weight : ℕ) → IsWeightAbove c s round class weights weight
     → weight ≡ number_before f (lift f c.lists (plan_of f c.lists total weights)) (last_step f player to) (round_of f to)

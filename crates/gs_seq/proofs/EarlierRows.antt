@@ -26,21 +26,23 @@ use Rattle.gs_lossless.specs.declared.parts.Part.{Part}
 use Rattle.gs_lossless.proofs.Merge.{part_lt}
 use Rattle.gs_model.specs.Classes.{IsClass, IsClasses, class_count, class_of, first_member, list_of}
 use Rattle.gs_model.specs.Deals.{Deal}
-use Rattle.gs_model.specs.Frame.{Frame, ancestor, ancestor_up, at_round, last_round, parents_of, signal_count}
+use Rattle.gs_model.specs.Frame.{ancestor, ancestor_up, at_round, last_round, signal_count}
 use Rattle.gs_model.proofs.Gather.{class_in, firsts_from}
 use Rattle.gs_model.proofs.Regroup.{sum_z-pos}
 use Rattle.gs_model.proofs.Total.{sum_z-same}
-use Rattle.gs_model.proofs.Basics.{pos-same, every-append, sum-same}
+use Rattle.gs_model.proofs.Basics.{pos-injective, every-append, sum-same, not_eq, sum_by-map}
+use Rattle.gs_model.proofs.Alike.{ancestor-parent}
 use Rattle.gs_model.specs.Pairs.{pair_sum}
 use Rattle.gs_seq.specs.Games.{frame_in}
 use Rattle.gs_seq.specs.Rows.{AreBelow, AreRowsIn, IsRow, below_class, class_up, gathered, pair_of, part_up, row_at, weight_in}
 use Rattle.gs_seq.specs.declared.pair.Pair.{Pair}
-use Rattle.gs_seq.proofs.ClassRows.{alike_lists, sum_by-map}
+use Rattle.gs_seq.proofs.ClassRows.{alike_lists}
 use Rattle.gs_seq.proofs.Gathered.{StartsFrom, gathered-signed, gathered-weight, head_from, part_signed, part_weight}
-use Rattle.gs_seq.proofs.RowFacts.{both_weight, class_weight, classes_weigh, pair_weight_is, row_class, row_weighs, sum-add, weight_both, past}
+use Rattle.gs_seq.proofs.RowFacts.{both_weight, class_weight, classes_weigh, pair_weight_is, row_class, row_weighs, sum-add, weight_both}
 use Rattle.gs_seq.proofs.RowLaws.{RisesBy, by_index, join_rises}
 use Rattle.gs_seq.proofs.RowRoom.{table}
-use Rattle.gs_seq.proofs.SlotLaws.{not_eq, over}
+use Rattle.gs_seq.proofs.SlotLaws.{over}
+use Rattle.gs_seq.proofs.Singles.{once}
 
 -- ---- parts whose classes do not fall
 
@@ -105,7 +107,7 @@ items_at [] k P h l = absurd (omega arith)
 items_at (v ∷ vs) zero P h l = h v
 items_at (v ∷ vs) (suc k) P h l = items_at vs k P h (omega arith)
 
-sum-same_all : {X : Type 0} (f g : X → ℕ) (xs : List X) → All (λ x. f x ≡ g x) xs → sum_by f xs ≡ sum_by g xs
+pub sum-same_all : {X : Type 0} (f g : X → ℕ) (xs : List X) → All (λ x. f x ≡ g x) xs → sum_by f xs ≡ sum_by g xs
 sum-same_all f g [] h = refl
 sum-same_all f g (x ∷ xs) h = omega (
   arith,
@@ -123,19 +125,6 @@ filter_sum of v (x ∷ xs) = by (of x) (filter_sum of v xs) ∙ sym (sum_by-cons
         → sum_by v (cond b (x ∷ filter of xs) (filter of xs)) ≡ cond b (v x) 0 + sum_by (λ k. cond (of k) (v k) 0) xs
     by true h = omega (arith, sum_by-cons v x (filter of xs), h)
     by false h = omega (arith, h)
-
-once : (a w b n : ℕ) → b ≤ a → a < b + n → sum_by (λ c. cond (a == c) w 0) (range_with_len b n) ≡ w
-once a w b zero l m = absurd (omega arith)
-once a w b (suc n) l m = by (a == b) refl (once a w (b + 1) n)
-  where
-    by : (t : Bool) → (a == b) ≡ t → (b + 1 ≤ a → a < b + 1 + n → sum_by (λ c. cond (a == c) w 0) (range_with_len (b + 1) n) ≡ w)
-        → sum_by (λ c. cond (a == c) w 0) (b ∷ range_with_len (b + 1) n) ≡ w
-    by true e more =
-        let same = (Decides-eqb a b).0 e in
-        omega (arith, sum_by-cons (λ c. cond (a == c) w 0) b (range_with_len (b + 1) n), ap (λ t. cond {A = ℕ} t w 0) e, past a w (b + 1) n (omega arith))
-    by false e more =
-        let other : a ≢ b = λ i. true≢false (sym ((Decides-eqb a b).1 i) ∙ e) in
-        omega (arith, sum_by-cons (λ c. cond (a == c) w 0) b (range_with_len (b + 1) n), ap (λ t. cond {A = ℕ} t w 0) e, more (omega arith) (omega arith))
 
 swap : (a b : Bool) (w : ℕ) → cond a (cond b w 0) 0 ≡ cond b (cond a w 0) 0
 swap true true w = refl
@@ -177,10 +166,6 @@ spread key of w b n (d ∷ ds) h =
       spread key of w b n ds (λ i x l. h (suc i) x (omega arith)),
       sum_by-cons (λ d. cond (of (key d)) (w d) 0) d ds,
     )
-
-parent_is : (f : Frame) (j s : ℕ) → ancestor f (j + 1) j s ≡ get_or (parents_of f (j + 1)) s 0
-unfolding ancestor
-parent_is f j s = let e : j + 1 - j ≡ 1 = omega arith in ap (λ k. ancestor_up f (j + 1) k s) e
 
 times : (b : Bool) (w : ℕ) → pos w *ℤ pos (cond b 1 0) ≡ pos (cond b w 0)
 times true w = omega (arith, ints, product_is (pos w) (pos 1))
@@ -273,7 +258,7 @@ module _ (g : ValidGame) (c : Filter) (e : c.parents ≡ (frame_in g).parents) (
       let first = first_member c.lists (round + 1) (class_of c.lists (round + 1) x) in
       ap (λ (ps : List (List ℕ)). class_of c.lists round (get_or (list_of ps (round + 1)) first 0)) e
       ∙ k.filter round first x some before (h.in_range (round + 1) x l) l (h.member (round + 1) x l)
-      ∙ ap (class_of c.lists round) (sym (parent_is (frame_in g) round x))
+      ∙ ap (class_of c.lists round) (sym (ancestor-parent (frame_in g) round x))
 
   -- the class above that of a signal is its own class in the round
   up_at : (x : ℕ) → x < signal_count (frame_in g) (last_round (frame_in g))
@@ -301,7 +286,7 @@ module _ (g : ValidGame) (c : Filter) (e : c.parents ≡ (frame_in g).parents) (
       let right = sum_z-same (λ d. pos (w d) *ℤ v (two d)) (λ d. pos (b d)) (λ d. times (class_up c round (two d) == q) (w d)) (frame_in g).deals
       ∙ sum_z-pos b (frame_in g).deals in
       sum_by-map (λ (p : Part). cond (p.class == q) p.weight 0) (part_up c round) row
-      ∙ pos-same (sum_by a row) (sum_by b (frame_in g).deals) (sym left ∙ same ∙ right)
+      ∙ pos-injective (sum_by a row) (sum_by b (frame_in g).deals) (sym left ∙ same ∙ right)
 
   -- over the classes below a class: what its own deals weigh
   below_counts : (class q : ℕ) → sum_by (λ j. child_weight j q) (below_class c round class (class_count c.lists (round + 1)))

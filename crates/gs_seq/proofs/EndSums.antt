@@ -23,13 +23,12 @@ use Rattle.gs_model.proofs.RawBound.{range_once}
 use Rattle.gs_model.proofs.Regroup.{sum_z-pos}
 use Rattle.gs_model.proofs.Tables.{is_table}
 use Rattle.gs_model.proofs.Total.{sum_z-mul, sum_z-same, sum_z-same_all}
-use Rattle.gs_model.proofs.Basics.{neg-neg, pos-cond}
+use Rattle.gs_model.proofs.Basics.{neg-neg, pos-cond, not_eq}
 use Rattle.gs_seq.specs.Payoffs.{AreNumbersAt, end_sum, number_sum, pair_pays, stake}
 use Rattle.gs_seq.specs.Rows.{IsRow, signed_in, weight_in}
 use Rattle.gs_seq.specs.declared.pair.Pair.{Pair}
-use Rattle.gs_seq.proofs.RowFacts.{abs_all, class_weight, classes_weigh, row_class, row_signed, row_weighs, times_sum}
+use Rattle.gs_seq.proofs.RowFacts.{abs_all, class_weight, classes_weigh, row_class, row_signed, row_weighs, sum-times}
 use Rattle.gs_seq.proofs.Sizes.{AreModest}
-use Rattle.gs_seq.proofs.SlotLaws.{not_eq}
 
 -- ---- what ends pay
 
@@ -250,7 +249,7 @@ module _ (f : Frame) (r : InRange f) (lists : ClassLists) (k : IsClasses f.paren
       omega (
         arith,
         a,
-        times_sum m (λ (p : Pair). p.weight) (take i row),
+        sum-times m (λ (p : Pair). p.weight) (take i row),
         mul-le-mul_left m (sum_by-take-le (λ (p : Pair). p.weight) row i),
         ap (λ n. m * n) (row_weighs f (is_table f r) lists k (round_of f (at_end z)) (w.end_round z l) (w.end_in z l) c row h),
       )

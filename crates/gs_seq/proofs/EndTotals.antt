@@ -25,7 +25,7 @@ use Rattle.gs_seq.specs.Payoffs.{end_sum, payoff_at}
 use Rattle.gs_seq.proofs.Ends.{number_few}
 use Rattle.gs_seq.proofs.EndSums.{folded, folded_other, scaled_few, shown, stake_size}
 use Rattle.gs_seq.proofs.Forms.{AreGiven}
-use Rattle.gs_seq.proofs.RowFacts.{beside_weigh, both_weight, class_weight, classes_weigh, pair_few, times_sum}
+use Rattle.gs_seq.proofs.RowFacts.{beside_weigh, both_weight, class_weight, classes_weigh, pair_few, sum-times}
 use Rattle.gs_seq.proofs.Sizes.{AreModest}
 
 -- what a class of player 1 adds at an end
@@ -136,7 +136,7 @@ module _ (f : Frame) (r : InRange f) (lists : ClassLists) (k : IsClasses f.paren
       (λ i d li. pays_within f player z either (few.puts z l) (get_or f.deals i d).outcome (few.outcomes i d li)) c e in
       omega (arith, unsigned_abs-mul (pos (n e)) (s e), abs_is (pos (n e)), scaled_few (n e) y.total (unsigned_abs (s e)) (both e) number size)) in
       let a = abs_range (λ e. pos (n e) *ℤ s e) (λ e. m * both e) 1 count each in
-      omega (arith, a, times_sum m both (range_with_len 1 count), mul-le-mul_left m (beside_weigh f (is_table f r) lists k round some top c 1 count))
+      omega (arith, a, sum-times m both (range_with_len 1 count), mul-le-mul_left m (beside_weigh f (is_table f r) lists k round some top c 1 count))
 
   module _ (w : IsWalked f 1) (v : IsWalked f 2) (x y : Plan) (px : IsClassPlan f lists 1 x) (py : IsClassPlan f lists 2 y) where
     -- a class's part of what two plans pay at an end
@@ -184,7 +184,7 @@ module _ (f : Frame) (r : InRange f) (lists : ClassLists) (k : IsClasses f.paren
         omega (
           arith,
           a,
-          times_sum m weight (range_with_len 1 n),
+          sum-times m weight (range_with_len 1 n),
           all_room x.total y.total
               (sum_by weight (range_with_len 1 n)) px.total_in.1 py.total_in.1 less,
         )

@@ -16,8 +16,8 @@ use Rattle.gs_model.specs.Positions.{End, Show, Step, at_end, at_point}
 use Rattle.gs_model.proofs.Gather.{class_in, member_in}
 use Rattle.gs_model.proofs.PlanLaws.{numbers_within}
 use Rattle.gs_model.proofs.Tables.{is_table}
+use Rattle.gs_model.proofs.Basics.{not_eq}
 use Rattle.gs_seq.specs.Games.{frame_in}
-use Rattle.gs_seq.proofs.SlotLaws.{not_eq}
 
 -- what is read where no end stands
 abbrev pub no_end : StoredEnd

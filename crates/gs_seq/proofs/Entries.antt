@@ -6,12 +6,12 @@ use Rattle.std.proofs.lemmas.List.Sums.{sum_by-cons}
 use Rattle.gs_model.specs.Classes.{ClassLists}
 use Rattle.gs_model.specs.Deals.{Deal}
 use Rattle.gs_model.specs.Frame.{Frame}
+use Rattle.gs_model.proofs.Basics.{not_eq}
 use Rattle.gs_seq.specs.Cells.{IsPairAfter, MeetsNoneAfter}
 use Rattle.gs_seq.specs.Rows.{IsRow, signed_in, weight_in}
 use Rattle.gs_seq.specs.Singles.{IsFirstAfter}
 use Rattle.gs_seq.proofs.Meeting.{meets_at}
 use Rattle.gs_seq.proofs.RowFacts.{signed_at_pair, weight_at_pair}
-use Rattle.gs_seq.proofs.SlotLaws.{not_eq}
 use Rattle.gs_seq.specs.declared.pair.Pair.{Pair}
 
 -- ---- entries of a row

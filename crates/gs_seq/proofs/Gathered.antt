@@ -20,7 +20,7 @@ use Rattle.gs_model.specs.Sums.{sum_z}
 use Rattle.std.proofs.Math.IntN.{*ℤ-zero}
 use borrow.Author.Differences.{product_is}
 use Rattle.gs_model.proofs.Total.{mul-add_right, mul_assoc_z}
-use Rattle.gs_seq.proofs.SlotLaws.{not_eq}
+use Rattle.gs_model.proofs.Basics.{not_eq}
 use Rattle.gs_seq.specs.Rows.{gathered, join, pair_of, signed_in, together, weight_in}
 use Rattle.gs_seq.specs.declared.pair.Pair.{Pair}
 

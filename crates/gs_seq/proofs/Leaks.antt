@@ -16,11 +16,12 @@ use Rattle.gs_model.specs.Frame.{Frame, choices_at, move_count, player_at, point
 use Rattle.gs_model.specs.Plans.{Plan}
 use Rattle.gs_model.specs.Positions.{at_point}
 use Rattle.gs_model.proofs.FirstBest.{sum-same_range}
+use Rattle.gs_model.proofs.Basics.{not_eq}
 use Rattle.gs_seq.specs.Faults.{FlowsAt, FlowsBefore}
 use Rattle.gs_seq.specs.Games.{frame_in}
 use Rattle.gs_seq.specs.Slots.{plan_of, slot_count, slots_at, slots_before}
 use Rattle.gs_seq.proofs.Points.{Reads}
-use Rattle.gs_seq.proofs.SlotLaws.{not_eq, slots_few, slots_le, slots_more}
+use Rattle.gs_seq.proofs.SlotLaws.{slots_few, slots_le, slots_more}
 
 -- some weights side by side
 pub slice_sum : (ws : List ℕ) (a n : ℕ) → a + n ≤ length ws → sum (take n (drop a ws)) ≡ sum_by (λ m. get_or ws (a + m) 0) (range_with_len 0 n)

@@ -16,12 +16,11 @@ use Rattle.gs_model.proofs.Known.{Tabled}
 use Rattle.gs_model.proofs.RawBound.{range_once}
 use Rattle.gs_model.proofs.Regroup.{sum_z-pos}
 use Rattle.gs_model.proofs.Total.{sum_z-same}
-use Rattle.gs_model.proofs.Basics.{pos-same, sum-same}
+use Rattle.gs_model.proofs.Basics.{pos-injective, sum-same, not_eq}
 use Rattle.gs_seq.specs.Cells.{meets, pair_count, pair_weight}
 use Rattle.gs_seq.specs.Rows.{AreRowsIn, IsRow, Rises, weight_in}
 use Rattle.gs_seq.specs.declared.pair.Pair.{Pair}
 use Rattle.gs_seq.proofs.RowFacts.{row_class, sum-add}
-use Rattle.gs_seq.proofs.SlotLaws.{not_eq}
 
 -- ---- deals that count
 
@@ -105,7 +104,7 @@ meets_at f lists w round c e row r =
     (cond (class_of lists round (at_round f round d.one) == c) (pos d.weight *ℤ pos 1) (pos 0)) (pos 0)) (λ d. pos (cond (p d) d.weight 0))
     (λ d. one_term (class_of lists round (at_round f round d.one) == c) (class_of lists round (at_round f round d.two) == e) d.weight) f.deals
     ∙ sum_z-pos (λ (d : Deal). cond (p d) d.weight 0) f.deals in
-    let same = pos-same (weight_in row e) (sum_by (λ d. cond (p d) d.weight 0) f.deals) (r.weights e ∙ sum) in
+    let same = pos-injective (weight_in row e) (sum_by (λ d. cond (p d) d.weight 0) f.deals) (r.weights e ∙ sum) in
     some_weighs (λ (d : Deal). d.weight) p f.deals (recursion_from_All (λ (d : Deal). 0 < d.weight) f.deals w) ∙ ap (nat_lt 0) (sym same)
 
 module _ (f : Frame) (t : Tabled f) (lists : ClassLists) (k : IsClasses f.parents lists) (w : All (λ (d : Deal). 0 < d.weight) f.deals) (round : ℕ) (some : 0

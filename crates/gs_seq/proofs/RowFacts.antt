@@ -19,12 +19,11 @@ use Rattle.gs_model.proofs.Known.{Tabled}
 use Rattle.gs_model.proofs.Regroup.{sum_z-pos}
 use Rattle.gs_model.proofs.Sparse.{abs_sum}
 use Rattle.gs_model.proofs.Total.{sum_z-same, sum_z-same_all, sum_z-zero}
-use Rattle.gs_model.proofs.Basics.{pos-same, pos-cond, sum-same}
+use Rattle.gs_model.proofs.Basics.{pos-injective, pos-cond, sum-same, not_eq}
 use Rattle.gs_seq.specs.Cells.{pair_signed, pair_weight}
 use Rattle.gs_seq.specs.Rows.{IsRow, Rises, signed_in, weight_in}
 use Rattle.gs_seq.specs.declared.pair.Pair.{Pair}
 use Rattle.gs_seq.proofs.ClassRows.{alike_lists}
-use Rattle.gs_seq.proofs.SlotLaws.{not_eq}
 
 -- ---- lists
 
@@ -58,9 +57,9 @@ abs_all v bound (x ∷ xs) h =
     let r = abs_all v bound xs (λ k d l. h (suc k) d (omega arith)) in
     omega (arith, a, r, h 0 x (omega arith), sum_by-cons bound x xs)
 
-pub times_sum : {X : Type 0} (m : ℕ) (w : X → ℕ) (xs : List X) → sum_by (λ x. m * w x) xs ≡ m * sum_by w xs
-times_sum m w [] = omega arith
-times_sum m w (x ∷ xs) = omega (arith, sum_by-cons (λ x. m * w x) x xs, times_sum m w xs, ap (λ n. m * n) (sum_by-cons w x xs))
+pub sum-times : {X : Type 0} (m : ℕ) (w : X → ℕ) (xs : List X) → sum_by (λ x. m * w x) xs ≡ m * sum_by w xs
+sum-times m w [] = omega arith
+sum-times m w (x ∷ xs) = omega (arith, sum_by-cons (λ x. m * w x) x xs, sum-times m w xs, ap (λ n. m * n) (sum_by-cons w x xs))
 
 pub sum-add : {X : Type 0} (f g : X → ℕ) (xs : List X) → sum_by (λ x. f x + g x) xs ≡ sum_by f xs + sum_by g xs
 sum-add f g [] = refl
@@ -72,7 +71,7 @@ sum-add f g (x ∷ xs) = omega (arith, sum_by-cons (λ x. f x + g x) x xs, sum_b
 pub weight_at_pair : (row : List Pair) (d : Pair) → Rises row → (i : ℕ) → i < length row → weight_in row (get_or row i d).two ≡ (get_or row i d).weight
 weight_at_pair row d r i l =
     let e = (get_or row i d).two in
-    pos-same (weight_in row e) (get_or row i d).weight
+    pos-injective (weight_in row e) (get_or row i d).weight
     (sym (sum_z-same (λ (p : Pair). cond (p.two == e) (pos p.weight) (pos 0)) (λ p. pos (cond (p.two == e) p.weight 0))
     (λ p. pos-cond (p.two == e) p.weight) row ∙ sum_z-pos (λ (p : Pair). cond (p.two == e) p.weight 0) row)
     ∙ alone (λ (p : Pair). p.two) (λ p. pos p.weight) row r.ascends i d l)
@@ -186,7 +185,7 @@ module _ (f : Frame) (t : Tabled f) (lists : ClassLists) (k : IsClasses f.parent
       let w : Deal → ℕ = λ d. cond (two_of d == e) (cond (one_of d == c) d.weight 0) 0 in
       let a = abs_all (λ (d : Deal). cond (two_of d == e) (cond (one_of d == c) (pos d.weight *ℤ v d.outcome) (pos 0)) (pos 0)) (λ d. m * w d) f.deals
       (λ i d l. let x = get_or f.deals i d in sized m (two_of x == e) (one_of x == c) x.weight (v x.outcome) (h i d l)) in
-      omega (arith, a, times_sum m w f.deals)
+      omega (arith, a, sum-times m w f.deals)
 
   signed_few : All (λ (d : Deal). unsigned_abs d.outcome ≤ 9) f.deals → (c e : ℕ) → unsigned_abs (pair_signed f lists round c e) ≤ 9 * both_weight c e
   signed_few h c e = by (round == last_round f)
@@ -197,7 +196,7 @@ module _ (f : Frame) (t : Tabled f) (lists : ClassLists) (k : IsClasses f.parent
 
   module _ (c : ℕ) (row : List Pair) (h : IsRow f lists round c row) where
     pub weight_both : (e : ℕ) → weight_in row e ≡ both_weight c e
-    weight_both e = pos-same (weight_in row e) (both_weight c e) (h.weights e ∙ pair_weight_is c e)
+    weight_both e = pos-injective (weight_in row e) (both_weight c e) (h.weights e ∙ pair_weight_is c e)
 
     -- the pairs of a row are of classes of the other player
     pub row_class : (i : ℕ) (d : Pair) → i < length row → IsClass lists round (get_or row i d).two
@@ -225,4 +224,4 @@ module _ (f : Frame) (t : Tabled f) (lists : ClassLists) (k : IsClasses f.parent
         let left = sum_z-same (λ (p : Pair). pos p.weight *ℤ pos 1) (λ p. pos p.weight) (λ p. times_one p.weight) row
         ∙ sum_z-pos (λ (p : Pair). p.weight) row in
         let right = sum_z-same (λ (d : Deal). pos (u d) *ℤ pos 1) (λ d. pos (u d)) (λ d. times_one (u d)) f.deals ∙ sum_z-pos u f.deals in
-        pos-same (sum_by (λ (p : Pair). p.weight) row) (class_weight c) (sym left ∙ same ∙ right)
+        pos-injective (sum_by (λ (p : Pair). p.weight) row) (class_weight c) (sym left ∙ same ∙ right)

@@ -25,10 +25,10 @@ use Rattle.gs_model.proofs.ClassTotals.{class_size_of}
 use Rattle.gs_model.proofs.Known.{Tabled}
 use Rattle.gs_model.proofs.Regroup.{sum_z-pos}
 use Rattle.gs_model.proofs.Total.{sum_z-same, sum_z-zero}
+use Rattle.gs_model.proofs.Basics.{sum_by-map}
 use Rattle.gs_seq.specs.Cells.{pair_signed, pair_weight}
 use Rattle.gs_seq.specs.Rows.{IsRow, Rises, gathered, join, pair_of, signed_in, together, weight_in}
 use Rattle.gs_seq.specs.declared.pair.Pair.{Pair}
-use Rattle.gs_seq.proofs.ClassRows.{sum_by-map}
 use Rattle.gs_seq.proofs.ClassSums.{near, near_parts, pair_is}
 use Rattle.gs_seq.proofs.Gathered.{StartsFrom, class_le, gathered-signed, gathered-weight, head_from, part_signed, part_weight}
 

@@ -26,7 +26,7 @@ use Rattle.gs_model.proofs.RawBound.{range_once}
 use Rattle.gs_model.proofs.Regroup.{sum_z-pos}
 use Rattle.gs_model.proofs.Total.{sum_z-same}
 use Rattle.gs_model.proofs.Walked.{last_round_of}
-use Rattle.gs_model.proofs.Basics.{pos-cond, sum-same}
+use Rattle.gs_model.proofs.Basics.{pos-cond, sum-same, not_eq}
 use Rattle.gs_tree.specs.Walk.{deal_at, last_count}
 use Rattle.gs_tree.proofs.Pairs.{row_deals}
 use Rattle.gs_seq.specs.Cells.{meets, pair_count}
@@ -35,20 +35,20 @@ use Rattle.gs_seq.specs.Rows.{IsRow, IsSingleIn}
 use Rattle.gs_seq.specs.Singles.{IsSlight, deal_pair}
 use Rattle.gs_seq.specs.declared.pair.Pair.{Pair}
 use Rattle.gs_seq.proofs.Meeting.{row_long}
-use Rattle.gs_seq.proofs.RowFacts.{sum-add, times_sum}
+use Rattle.gs_seq.proofs.RowFacts.{sum-add, sum-times}
 use Rattle.gs_seq.proofs.RowLaws.{RisesBy, by_index, further}
 use Rattle.gs_seq.proofs.RowRoom.{table}
-use Rattle.gs_seq.proofs.SlotLaws.{not_eq, over}
+use Rattle.gs_seq.proofs.SlotLaws.{over}
 
 -- ---- sums by keys
 
-once : (k w a n : ℕ) → a ≤ k → k < a + n → sum_by (λ s. cond (k == s) w 0) (range_with_len a n) ≡ w
+pub once : (k w a n : ℕ) → a ≤ k → k < a + n → sum_by (λ s. cond (k == s) w 0) (range_with_len a n) ≡ w
 once k w a n low high =
     let each : (b : Bool) → cond {A = ℕ} b w 0 ≡ w * cond b 1 0 = λ b. elim b as (λ b. cond {A = ℕ} b w 0
     ≡ w * cond b 1 0) [ true ↦ omega arith | false ↦ omega arith ] in
     let one : sum_by (λ s. cond {A = ℕ} (eqb k s) 1 0) (range_with_len a n) ≡ 1 = range_once k a n low high in
     sum-same (λ s. cond (k == s) w 0) (λ s. w * cond (eqb k s) 1 0) (λ s. each (k == s)) (range_with_len a n)
-    ∙ times_sum w (λ s. cond (eqb k s) 1 0) (range_with_len a n) ∙ ap (λ n. w * n) one ∙ omega arith
+    ∙ sum-times w (λ s. cond (eqb k s) 1 0) (range_with_len a n) ∙ ap (λ n. w * n) one ∙ omega arith
 
 zeros : (xs : List ℕ) → sum_by (λ x. 0) xs ≡ 0
 zeros [] = refl

@@ -22,9 +22,8 @@ use Rattle.gs_model.specs.Game.{Game, round_count}
 use Rattle.gs_model.specs.Positions.{End, Show}
 use Rattle.gs_model.specs.Signals.{Signal, signals}
 use Rattle.gs_model.specs.Walk.{walk}
-use Rattle.gs_model.proofs.Children.{every-any}
 use Rattle.gs_model.proofs.Ranges.{every-flat_map, every-kept}
-use Rattle.gs_model.proofs.Basics.{every-map}
+use Rattle.gs_model.proofs.Basics.{every-map, every-any}
 use Rattle.gs_seq.specs.Games.{frame_in}
 
 -- ---- outcomes are at most the greatest bonus, and that is at most 9

@@ -1,23 +1,19 @@
 -- Slots one point after another, and that they are few.
-use Rattle.std.proofs.Common.{◌≡◌, ℕ, zero, suc, ◌+◌, ◌-◌, ◌*◌, ◌<◌, ◌≤◌, ◌^◌, List, [], length, take, get_or, ap, ◌∙◌, subst, arith, Bool, true, false, cond, max, sum_by}
+use Rattle.std.proofs.Common.{◌≡◌, ℕ, zero, suc, ◌+◌, ◌-◌, ◌*◌, ◌<◌, ◌≤◌, ◌^◌, List, [], ap, subst, arith, Bool, true, false, cond, sum_by}
 use Rattle.std.specs.Prelude.{◌==◌}
 use Rattle.std.specs.List.{range_with_len}
 use Rattle.std.proofs.Math.Nat.{mul-le-mul_right}
-use Rattle.std.proofs.lemmas.Bool.Decides.{Decides-eqb}
-use Rattle.std.proofs.lemmas.List.{take_all, take_more}
 use Rattle.std.proofs.lemmas.List.Sums.{sum_by-append, sum_by-cons}
 use Rattle.gs_filter.specs.Filter.{Filter, IsSound}
+use Rattle.gs_filter.proofs.ClassLaws.{greatest_within}
 use Rattle.gs_game.specs.Games.{game_of}
 use Rattle.gs_game.specs.declared.valid.ValidGame.{ValidGame}
 use Rattle.gs_model.specs.Classes.{ClassLists, IsClasses, class_count, list_of}
 use Rattle.gs_model.specs.Frame.{Frame, last_round, move_count, player_at, point_count, round_of}
-use Rattle.gs_model.specs.Numbering.{IsNumbered, greatest}
 use Rattle.gs_model.specs.Positions.{at_point}
-use Rattle.gs_model.proofs.Numbered.{greatest_push}
 use Rattle.gs_model.proofs.Ranges.{signal_count_is}
 use Rattle.gs_model.proofs.Sparse.{range_append}
 use Rattle.gs_model.proofs.Walked.{last_round_of}
-use Rattle.gs_model.proofs.Basics.{false_from_not}
 use Rattle.gs_seq.specs.Games.{frame_in}
 use Rattle.gs_seq.specs.Slots.{slot_count, slots_at, slots_before}
 use Rattle.gs_seq.proofs.Points.{few, moves_total, walked}
@@ -40,22 +36,7 @@ sum_range_le f m n l =
       sum_by-append f (range_with_len 0 m) (range_with_len (0 + m) (n - m)),
     )
 
-pub not_eq : (a b : ℕ) → (a ≡ b → ⊥) → (a == b) ≡ false
-not_eq a b h = false_from_not (a == b) (λ t. h ((Decides-eqb a b).0 t))
-
 -- ---- classes
-
--- numbers by first member are at most as many as the signals
-take_few : (xs : List ℕ) → IsNumbered xs → (k : ℕ) → k ≤ length xs → greatest (take k xs) ≤ k
-take_few xs n zero l = omega arith
-take_few xs n (suc k) l =
-    let e : suc k ≡ k + 1 = omega arith in
-    let here : greatest (take (suc k) xs) ≡ max (greatest (take k xs)) (get_or xs k 0) =
-    ap (λ m. greatest (take m xs)) e ∙ ap greatest (take_more xs k 0 (omega arith)) ∙ greatest_push (take k xs) (get_or xs k 0) in
-    omega (arith, here, take_few xs n k (omega arith), (n k (omega arith)).1)
-
-pub greatest_few : (xs : List ℕ) → IsNumbered xs → greatest xs ≤ length xs
-greatest_few xs n = omega (arith, take_few xs n (length xs) (omega arith), ap greatest (take_all (length xs) xs (omega arith)))
 
 -- class lists over the parents of a frame are classes of the frame
 pub over : (f : Frame) (c : Filter) → c.parents ≡ f.parents → IsSound c → IsClasses f.parents c.lists
@@ -67,7 +48,7 @@ class_few g c e s round some top =
     let f = frame_in g in
     let h = over f c e s in
     let r = last_round_of (game_of g.game) in
-    let n = greatest_few (list_of c.lists round) (h.numbered round some top) in
+    let n = greatest_within (list_of c.lists round) (h.numbered round some top) in
     omega (
       arith,
       n,

@@ -26,13 +26,12 @@ use Rattle.gs_model.specs.Lossless.{IsLossless, weight_against}
 use Rattle.gs_model.specs.Signals.{Signal, signals}
 use Rattle.gs_model.proofs.Ranges.{signal_count_is}
 use Rattle.gs_model.proofs.Walked.{last_round_of}
-use Rattle.gs_model.proofs.Basics.{sum-same}
+use Rattle.gs_model.proofs.Basics.{sum-same, sum_by-map}
 use Rattle.gs_seq.specs.Games.{frame_in}
 use Rattle.gs_seq.specs.Rows.{IsRow, gathered, join, pair_of}
 use Rattle.gs_seq.specs.declared.pair.Pair.{Pair}
-use Rattle.gs_seq.proofs.ClassRows.{sum_by-map}
 use Rattle.gs_seq.proofs.Gathered.{gathered-total}
-use Rattle.gs_seq.proofs.RowFacts.{class_weight, classes_weigh, row_weighs, times_sum}
+use Rattle.gs_seq.proofs.RowFacts.{class_weight, classes_weigh, row_weighs, sum-times}
 use Rattle.gs_seq.proofs.RowLaws.{is_row, size_is, size_some}
 use Rattle.gs_seq.proofs.RowRoom.{table}
 use Rattle.gs_seq.proofs.Singles.{by_keys}
@@ -53,7 +52,7 @@ sum_times : (w : ℕ) (ps : List Part) (c : ℕ) (o : ℤ) → sum_at (map (time
 sum_times w ps c o =
     sum_by-map (weight_at c o) (times w) ps
     ∙ sum-same (λ (p : Part). weight_at c o (times w p)) (λ p. w * weight_at c o p) (λ p. times_out (int_eq p.outcome o) (p.class == c) w p.weight) ps
-    ∙ times_sum w (weight_at c o) ps
+    ∙ sum-times w (weight_at c o) ps
 
 after_times : (w : ℕ) (p : Part) (ps : List Part) → AllByRecursion (λ q. key_cmp p q ≡ Less) ps
     → AllByRecursion (λ q. key_cmp (times w p) q ≡ Less) (map (times w) ps)
@@ -123,7 +122,7 @@ module _ (g h : ValidGame) (round : ℕ) (some : 0 < round) (top : round ≤ rou
       total_by g top
       ∙ ap (λ (xs : List Signal). sum_by (λ s. weight_against (frame_in g) [] round s 0) (range_with_len 0 (length xs))) (sym same_signals)
       ∙ sum-same (λ s. weight_against (frame_in g) [] round s 0) (λ s. ways * weight_against (frame_in h) [] round s 0) (λ s. goes_on [] [] refl s 0) all
-      ∙ times_sum ways (λ s. weight_against (frame_in h) [] round s 0) all
+      ∙ sum-times ways (λ s. weight_against (frame_in h) [] round s 0) all
       ∙ ap (λ n. ways * n) (sym (total_by h (omega (arith, later))))
 
   pub some_stopped : 0 < total_weight (frame_in h)
@@ -150,7 +149,8 @@ module _ (g h : ValidGame) (round : ℕ) (some : 0 < round) (top : round ≤ rou
       rises = rises_times ways some_on sums a.rises;
       sum = λ k o. sum_times ways sums k o ∙ ap (λ n. ways * n) (a.sum k o ∙ amount_before_last (frame_in h) others round first k o less)
           ∙ out (int_eq (pos 0) o) ways (weight_against (frame_in h) others round first k)
-          ∙ ap (λ n. cond (int_eq (pos 0) o) n 0) (sym (goes_on c.lists others same first k)) ∙ sym (amount_before_last (frame_in g) c.lists round first k o one_less);
+          ∙ ap (λ n. cond (int_eq (pos 0) o) n 0) (sym (goes_on c.lists others same first k))
+          ∙ sym (amount_before_last (frame_in g) c.lists round first k o one_less);
     }
 
     long : length (list_of c.lists round) ≡ signal_count (frame_in g) round

@@ -8,7 +8,7 @@ use Rattle.gs_model.specs.Plans.{Plan}
 use Rattle.gs_model.specs.Positions.{Step, Target, at_point}
 use Rattle.gs_seq.specs.Faults.{FlowsAt, FlowsBefore, FlowsBelow, IsFirstLeak}
 use Rattle.gs_seq.specs.Slots.{slots_before}
-use Rattle.gs_seq.specs.declared.flows.Source.{Source}
+use Rattle.gs_seq.specs.declared.flows.StepSource.{StepSource}
 
 -- the class in an earlier round that a class descends from: that of its first member's ancestor, in each frame with these parents
 abbrev pub IsClassAbove : Filter → ℕ → ℕ → ℕ → ℕ → Type 0
@@ -16,16 +16,16 @@ IsClassAbove c round to class above = (f : Frame) → InRange f → f.parents �
     → above ≡ class_of c.lists to (ancestor f round to (first_member c.lists round class))
 
 -- the slot of a step at a class
-abbrev pub slot_above : Source → ℕ → ℕ
+abbrev pub slot_above : StepSource → ℕ → ℕ
 slot_above step above = step.first + ((above - 1) * step.moves + step.choice)
 
 -- the weight of a step at the class above
-abbrev pub IsWeightAbove : Filter → Source → ℕ → ℕ → List ℕ → ℕ → Type 0
+abbrev pub IsWeightAbove : Filter → StepSource → ℕ → ℕ → List ℕ → ℕ → Type 0
 IsWeightAbove c step round class weights weight = (above : ℕ) × IsClass c.lists step.round above × IsClassAbove c round step.round class above
     × (weight ≡ get_or weights (slot_above step above) 0)
 
 -- what the program keeps of a player's step before a position
-pub record IsSource (f : Frame) (lists : ClassLists) (player : ℕ) (to : Target) (u : Step) (s : Source) : Type 0 where
+pub record IsSource (f : Frame) (lists : ClassLists) (player : ℕ) (to : Target) (u : Step) (s : StepSource) : Type 0 where
   pub made : last_step f player to ≡ Some u
   pub round : s.round ≡ round_of f (at_point u.point)
   pub first : s.first ≡ slots_before f lists player u.point
@@ -33,7 +33,7 @@ pub record IsSource (f : Frame) (lists : ClassLists) (player : ℕ) (to : Target
   pub choice : s.choice ≡ u.choice
 
 -- a player's last step before a position, or none
-abbrev pub MatchSource : Frame → ClassLists → ℕ → Target → Option Source → Type 0
+abbrev pub MatchSource : Frame → ClassLists → ℕ → Target → Option StepSource → Type 0
 MatchSource f lists player to None = last_step f player to ≡ None
 MatchSource f lists player to (Some s) = (u : Step) × IsSource f lists player to u s
 

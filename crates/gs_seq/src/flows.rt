@@ -17,7 +17,7 @@ pub const MOST_TOTAL: u64 = 1 << 36;
 
 /// A player's last step before a position.
 #[derive(Clone, Copy, Debug)]
-pub struct Source {
+pub struct StepSource {
     /// The round of the point where it was made.
     pub(crate) round: u8,
     /// The slot of that point's first class and first move.
@@ -54,7 +54,7 @@ pub(crate) fn source_of(
     player: u8,
     point: u32,
     first: u64,
-) -> Option<Source>
+) -> Option<StepSource>
     requires parents { classes.now.parents ≡ (frame_in game.now).parents }
     requires in_range { point < point_count (frame_in game.now) }
     requires own { player_at (frame_in game.now) point ≡ player }
@@ -63,7 +63,7 @@ pub(crate) fn source_of(
 {
     let step = game.points()[point as usize].own?;
     let before = &game.points()[step.point as usize];
-    Some(Source {
+    Some(StepSource {
         round: before.round,
         first: first - slots_between(game, classes, player, step.point, point),
         moves: before.moves.len() as u64,
@@ -75,7 +75,7 @@ pub(crate) fn source_of(
 pub(crate) fn weight_above(
     classes: &Classes,
     weights: &[u64],
-    step: Source,
+    step: StepSource,
     round: u8,
     class: u32,
 ) -> u64
@@ -98,7 +98,7 @@ pub(crate) fn coming(
     classes: &Classes,
     total: u64,
     weights: &[u64],
-    source: Option<Source>,
+    source: Option<StepSource>,
     point: u32,
     class: u32,
 ) -> u64

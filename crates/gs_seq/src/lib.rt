@@ -21,7 +21,7 @@ mod slots;
 mod stop;
 
 pub use fault::PlanFault;
-pub use flows::{MOST_TOTAL, Source, class_above, plan_fault};
+pub use flows::{MOST_TOTAL, StepSource, class_above, plan_fault};
 pub use form::Abstract;
 pub use laws::{pairs_are_exchanged, plans_have_no_fault};
 pub use limits::Limits;

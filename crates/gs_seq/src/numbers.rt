@@ -6,14 +6,14 @@ ghost use Rattle.gs_model.specs.{Classes.{ClassLists, IsClass}, Frame.{end_count
 ghost use Rattle.gs_model.specs.{Pairs.{class_number}, Positions.{at_end, at_point}};
 ghost use Rattle.gs_seq.specs.{Games.{frame_in}, Plans.{IsPlanOf, class_plan}, Slots.{AreOffsets}, Sources.{MatchSource}};
 
-use crate::flows::{Source, weight_above};
+use crate::flows::{StepSource, weight_above};
 use crate::plan::Plan;
 use crate::slots::slots_between;
 use gs_filter::Classes;
 use gs_game::{Step, ValidGame};
 
 /// What is kept of a step.
-fn source_from(game: &ValidGame, offsets: &[u32], step: Step) -> Source
+fn source_from(game: &ValidGame, offsets: &[u32], step: Step) -> StepSource
     requires point { step.point < point_count (frame_in game.now) }
     requires long { length offsets.now ≡ point_count (frame_in game.now) }
     ensures round { result.round ≡ round_of (frame_in game.now) (at_point step.point) }
@@ -22,7 +22,7 @@ fn source_from(game: &ValidGame, offsets: &[u32], step: Step) -> Source
     ensures choice { result.choice ≡ step.choice }
 {
     let point = &game.points()[step.point as usize];
-    Source {
+    StepSource {
         round: point.round,
         first: u64::from(offsets[step.point as usize]),
         moves: point.moves.len() as u64,
@@ -31,7 +31,7 @@ fn source_from(game: &ValidGame, offsets: &[u32], step: Step) -> Source
 }
 
 /// The last step before a point of the player who chooses there.
-pub(crate) fn point_source(game: &ValidGame, offsets: &[u32], point: u32) -> Option<Source>
+pub(crate) fn point_source(game: &ValidGame, offsets: &[u32], point: u32) -> Option<StepSource>
     requires point { point < point_count (frame_in game.now) }
     requires long { length offsets.now ≡ point_count (frame_in game.now) }
     ensures { (lists : ClassLists) → AreOffsets (frame_in game.now) lists offsets.now
@@ -51,7 +51,12 @@ pub fn end_step(game: &ValidGame, player: u8, end: u32) -> Option<Step>
 }
 
 /// What is kept of a player's last step before an end.
-pub(crate) fn end_source(game: &ValidGame, offsets: &[u32], player: u8, end: u32) -> Option<Source>
+pub(crate) fn end_source(
+    game: &ValidGame,
+    offsets: &[u32],
+    player: u8,
+    end: u32,
+) -> Option<StepSource>
     requires some { 0 < player }
     requires two { player ≤ 2 }
     requires end { end < end_count (frame_in game.now) }
@@ -63,7 +68,12 @@ pub(crate) fn end_source(game: &ValidGame, offsets: &[u32], player: u8, end: u32
 }
 
 /// What is kept of a player's last step before an end, with no list of offsets: the slots before it are counted.
-pub fn source_at_end(game: &ValidGame, classes: &Classes, player: u8, end: u32) -> Option<Source>
+pub fn source_at_end(
+    game: &ValidGame,
+    classes: &Classes,
+    player: u8,
+    end: u32,
+) -> Option<StepSource>
     requires parents { classes.now.parents ≡ (frame_in game.now).parents }
     requires some { 0 < player }
     requires two { player ≤ 2 }
@@ -72,7 +82,7 @@ pub fn source_at_end(game: &ValidGame, classes: &Classes, player: u8, end: u32) 
 {
     let step = end_step(game, player, end)?;
     let before = &game.points()[step.point as usize];
-    Some(Source {
+    Some(StepSource {
         round: before.round,
         first: slots_between(game, classes, player, 0, step.point),
         moves: before.moves.len() as u64,
@@ -85,7 +95,7 @@ pub fn number_by(
     game: &ValidGame,
     classes: &Classes,
     plan: &Plan,
-    source: Option<Source>,
+    source: Option<StepSource>,
     end: u32,
     class: u32,
 ) -> u64

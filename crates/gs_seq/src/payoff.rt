@@ -4,7 +4,7 @@ ghost use Rattle.std.specs.Prelude.{◌≡◌, ◌*◌, ◌<◌, ◌≤◌, ◌^
 ghost use Rattle.gs_game.specs.Seen.{end_of};
 ghost use Rattle.gs_seq.specs.Payoffs.{pair_pays};
 
-use crate::flows::Source;
+use crate::flows::StepSource;
 use crate::form::Abstract;
 use crate::numbers::{end_source, number_by, plus, scaled};
 use crate::pair::Pair;
@@ -64,7 +64,7 @@ impl<'a> Abstract<'a> {
         &self,
         player: u8,
         other: &Plan,
-        source: Option<Source>,
+        source: Option<StepSource>,
         end: u32,
         class: u32,
         row: Pairs<'_>,

@@ -1,7 +1,6 @@
 -- Where no raw plan gains anything, each fraction that is the gap is 0, and a reduced one is 0 over 1.
 use Rattle.std.proofs.Common.{◌≡◌, ℕ, ◌*◌, ◌<◌, false, ℤ, pos, ◌+ℤ◌, ◌-ℤ◌, ◌*ℤ◌, neg_ℤ, ◌≤ℤ◌, ◌<ℤ◌, refl, sym, ap, ◌∙◌, subst, arith}
 use Rattle.std.specs.Prelude.{IsTrue}
-use Rattle.std.proofs.Math.Nat.{mul-pos}
 use borrow.Author.Differences.{product_is}
 use Rattle.std.proofs.lemmas.Int.{ints}
 use Rattle.gs_frac.specs.Gcd.{gcd_of}
@@ -12,6 +11,7 @@ use Rattle.gs_model.specs.Frame.{Frame, total_weight}
 use Rattle.gs_model.specs.Payoff.{raw_payoff}
 use Rattle.gs_model.specs.Plans.{Plan}
 use Rattle.gs_model.specs.Verdict.{IsFirstGap, IsSecondGap}
+use Rattle.gs_model.proofs.Basics.{product_positive}
 use Rattle.gs_rows.proofs.Ring.{cancel_nonneg, linear, ring, times_nonneg, times_pos, zero_times}
 
 -- a number above 0 as a whole number
@@ -44,9 +44,6 @@ not_below D X Z W p q num some_z some_w reach none =
         let left : Z *ℤ (D *ℤ p +ℤ num *ℤ W) -ℤ (D *ℤ X) *ℤ q ≡ Z *ℤ (D *ℤ p +ℤ num *ℤ W) -ℤ D *ℤ (X *ℤ q) = simp ring (omega (arith, linear)) in
         let right : Z *ℤ (D *ℤ p +ℤ num *ℤ W) -ℤ D *ℤ (Z *ℤ p) ≡ (Z *ℤ W) *ℤ num = simp ring (omega (arith, linear)) in
         left ∙ ap (λ v. Z *ℤ (D *ℤ p +ℤ num *ℤ W) -ℤ D *ℤ v) reach ∙ right
-
-some_product : (a b : ℕ) → 0 < a → 0 < b → 0 < a * b
-some_product a b la lb = mul-pos la lb
 
 product : (m n : ℕ) → pos (m * n) ≡ pos m *ℤ pos n
 product m n = omega (arith, ints, product_is (pos m) (pos n))
@@ -99,7 +96,7 @@ turned_bound a b c d ea eb h = omega (arith, linear)
 
 module _ (f : Frame) (x y : Plan) (num : ℤ) (den : ℕ) (deals : 0 < total_weight f) (one : 0 < x.total) (two : 0 < y.total) where
   some_scale : 0 < total_weight f * x.total * y.total
-  some_scale = some_product (total_weight f * x.total) y.total (some_product (total_weight f) x.total deals one) two
+  some_scale = product_positive (total_weight f * x.total) y.total (product_positive (total_weight f) x.total deals one) two
 
   -- where player 1 gains nothing, his gap is 0
   pub no_first_gap : IsFirstGap f x y num den → IsFirstGap f x y (pos 0) 1 → num ≡ pos 0

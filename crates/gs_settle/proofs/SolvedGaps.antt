@@ -8,7 +8,7 @@ use Rattle.gs_model.specs.Verdict.{IsVerdict}
 use Rattle.gs_seq.specs.Plans.{lifted}
 use Rattle.gs_seq.specs.Slots.{plan_of}
 use Rattle.gs_seq.specs.declared.plan.Plan.{Plan}
-use Rattle.gs_solve.specs.Solutions.{IsSolution}
+use Rattle.gs_solve.specs.Solutions.{IsGameSolution}
 use Rattle.gs_strategy.specs.Confirmed.{over}
 use Rattle.gs_strategy.specs.Values.{Weights, frame_in}
 use Rattle.gs_settle.specs.Solving.{IsSolved}
@@ -35,7 +35,7 @@ module _ (g : FileGame) (lists : ClassLists) (x y : Plan) (text : List ℕ) (tol
       subst (λ (w : Weights). IsVerdict (frame_in g) (lifted (frame_in g) lists x) (plan_at g lists w) (over n.value) (over n.gap1) (over n.gap2)) told.second
       at_first
 
-  pub is_solved : 0 < total_weight (frame_in g) → IsSolution (frame_in g) lists x y → IsSolved g lists text
+  pub is_solved : 0 < total_weight (frame_in g) → IsGameSolution (frame_in g) lists x y → IsSolved g lists text
   is_solved deals solution =
       let n = told.strategy.numbers in
       let a = lifted (frame_in g) lists x in

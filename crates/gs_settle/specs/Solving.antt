@@ -5,7 +5,7 @@ use Rattle.gs_model.specs.Classes.{ClassLists}
 use Rattle.gs_reply.specs.Refusals.{Refusal, Overflows, At_step, At_total, Many_pivots, Too_large, Table_numbers}
 use Rattle.gs_reply.specs.Replies.{Reply, Prints, Refuses}
 use Rattle.gs_seq.specs.declared.plan.Plan.{Plan}
-use Rattle.gs_solve.specs.Solutions.{IsSolution, IsSolveStop}
+use Rattle.gs_solve.specs.Solutions.{IsGameSolution, IsSolveStop}
 use Rattle.gs_solve.specs.declared.stop.SolveStop.TheVariants.{TableTooLarge, Wide, Pivots, Total}
 use Rattle.gs_strategy.specs.Values.{frame_in}
 use Rattle.gs_settle.specs.Texts.{IsTextOf}
@@ -14,7 +14,7 @@ use Rattle.gs_settle.specs.Texts.{IsTextOf}
 pub record IsSolved (g : FileGame) (lists : ClassLists) (text : List ℕ) : Type 0 where
   pub one : Plan
   pub two : Plan
-  pub solution : IsSolution (frame_in g) lists one two
+  pub solution : IsGameSolution (frame_in g) lists one two
   pub told : IsTextOf g lists one two text
   pub gap1 : told.strategy.numbers.gap1 ≡ (pos 0, pos 1)
   pub gap2 : told.strategy.numbers.gap2 ≡ (pos 0, pos 1)

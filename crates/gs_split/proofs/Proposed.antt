@@ -13,7 +13,6 @@ use Rattle.std.proofs.lemmas.List.Sums.{sum_by-append, sum_by-cons}
 use borrow.Author.Differences.{product_is}
 use Rattle.gs_boards.specs.Boards.{deal_sum, paid}
 use Rattle.gs_boards.specs.declared.pays.Pays.TheVariants.{Showdown}
-use Rattle.gs_boards.proofs.Runs.{not_eq}
 use Rattle.gs_model.specs.Classes.{ClassLists, InOneClass, class_of, list_of}
 use Rattle.gs_model.specs.Deals.{Deal, deals}
 use Rattle.gs_model.specs.Frame.{Frame, ancestor, frame_of, last_round, parents_of, signal_count, signals_in}
@@ -29,8 +28,9 @@ use Rattle.gs_model.proofs.Ranges.{parents_at}
 use Rattle.gs_model.proofs.RawBound.{All-range}
 use Rattle.gs_model.proofs.Regroup.{sum_z-pos}
 use Rattle.gs_model.proofs.Total.{mul_assoc_z, sum_z-same}
-use Rattle.gs_model.proofs.Basics.{pos-same}
-use Rattle.gs_lossless.proofs.Descent.{last_is, parent_is, tabled}
+use Rattle.gs_model.proofs.Basics.{pos-injective, not_eq}
+use Rattle.gs_model.proofs.Walked.{last_round_of}
+use Rattle.gs_lossless.proofs.Descent.{parent_is, tabled}
 use Rattle.gs_split.specs.Proposal.{AreFair, AreFairFrom, IsProposal, child_number, child_term, deal_number, mixed}
 use Rattle.gs_split.specs.Turns.{AreParted, HaveNumbers}
 
@@ -209,7 +209,7 @@ module _ (g : Game) (p : IsPlayable g) (lists other : ClassLists) (l : IsLossles
       → child_number (parents g (round + 1)) (list_of lists (round + 1)) numbers s
       ≡ child_number (parents g (round + 1)) (list_of lists (round + 1)) numbers t
   children_same round numbers some lt fair s t c =
-      ap (λ n. n % 2 ^ 32) (pos-same (sum s) (sum t) (turn s ∙ alike_items eqb Decides-eqb (class_of other (round + 1)) (above s) (above t) value
+      ap (λ n. n % 2 ^ 32) (pos-injective (sum s) (sum t) (turn s ∙ alike_items eqb Decides-eqb (class_of other (round + 1)) (above s) (above t) value
       (signals_in (frame_of g) (round + 1)) even (λ k. fair_children (frame_of g) other l round s t k some lt c) ∙ sym (turn t)))
     where
       ps : List ℕ
@@ -230,7 +230,7 @@ module _ (g : Game) (p : IsPlayable g) (lists other : ClassLists) (l : IsLossles
 
       turn : (s : ℕ) → pos (sum s) ≡ sum_z (λ x. pos (above s x) *ℤ value x) (signals_in (frame_of g) (round + 1))
       turn s =
-          let top : round + 1 ≤ round_count g = omega (arith, lt, last_is g) in
+          let top : round + 1 ≤ round_count g = omega (arith, lt, last_round_of g) in
           let e : length ps ≡ signal_count (frame_of g) (round + 1) = ap (λ (l : List ℕ). length l) (sym (parents_at g (round + 1) (omega arith) top)) in
           ap (λ n. pos (sum_by (λ x. cond (get_or ps x 0 == s) (term x) 0) (range_with_len 0 n))) e
           ∙ sym (sum_z-pos (λ x. cond (get_or ps x 0 == s) (term x) 0) (signals_in (frame_of g) (round + 1)))
@@ -261,7 +261,7 @@ pub deals_fair : (g : Game) (p : IsPlayable g) (lists : ClassLists) (numbers : L
 deals_fair g p lists numbers long some all is = record {
   long = all;
   same = λ other l r s t c.
-      pos-same (get_or numbers s 0) (get_or numbers t 0)
+      pos-injective (get_or numbers s 0) (get_or numbers t 0)
       (is s (omega (arith, c.first_in, long)) ∙ ap (λ z. int_rem_euclid z (pos (2 ^ 32))) (sums_same g p lists other l r long some s t c)
       ∙ sym (is t (omega (arith, c.second_in, long))));
 }

@@ -7,7 +7,7 @@ use Rattle.gs_model.specs.BestAnswers.{Values}
 use Rattle.gs_model.specs.Classes.{ClassLists, class_count}
 use Rattle.gs_model.specs.Frame.{Frame, round_of}
 use Rattle.gs_model.specs.Positions.{at_point}
-use Rattle.gs_seq.proofs.SlotLaws.{not_eq}
+use Rattle.gs_model.proofs.Basics.{not_eq}
 use Rattle.gs_best.specs.Rows.{AreWorths}
 use Rattle.gs_best.specs.Tables.{moves_of, start_of}
 use Rattle.gs_totals.specs.ClassTotals.{total_worth}

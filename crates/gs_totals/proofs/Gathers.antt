@@ -10,11 +10,12 @@ use borrow.Author.Differences.{abs_is}
 use Rattle.gs_model.specs.Classes.{ClassLists, IsClass, class_count}
 use Rattle.gs_model.specs.Frame.{Frame}
 use Rattle.gs_model.specs.Sums.{sum_z}
-use Rattle.gs_seq.proofs.SlotLaws.{not_eq}
+use Rattle.gs_model.proofs.Basics.{not_eq}
 use Rattle.gs_best.specs.Rows.{AreModest}
-use Rattle.gs_best.proofs.Ranges.{range_abs, sum_more, sum_same}
+use Rattle.gs_best.proofs.Ranges.{range_abs, sum_same}
 use Rattle.gs_totals.specs.ClassTotals.{class_above, gathered}
 use Rattle.gs_totals.specs.Merged.{row_from}
+use Rattle.gs_seq.proofs.EndTotals.{range_more}
 
 -- what the first classes of a round hold below a class
 abbrev pub gathered_to : Frame → ClassLists → ℕ → ℕ → List ℤ → ℕ → ℕ → ℕ → ℤ
@@ -45,7 +46,7 @@ module _ (f : Frame) (lists : ClassLists) (from to : ℕ) (values : List ℤ) (s
       let one = λ (k : ℕ). cond (class_above f lists from to k == c) (row_from values start k) (pos 0) in
       let e : 1 + n ≡ n + 1 = omega arith in
       let g : n + 1 - 1 ≡ n = omega arith in
-      sum_more one 1 n ∙ ap (λ k. gathered_to f lists from to values start c n +ℤ one k) e
+      range_more one 1 n ∙ ap (λ k. gathered_to f lists from to values start c n +ℤ one k) e
       ∙ ap (λ i. gathered_to f lists from to values start c n +ℤ cond (class_above f lists from to (n + 1) == c) (get_or values (start + i) (pos 0)) (pos 0))
       g
 

@@ -8,8 +8,8 @@ use Rattle.gs_model.specs.Classes.{IsClass, class_count}
 use Rattle.gs_model.specs.Frame.{leads_to, move_count, point_count, round_of}
 use Rattle.gs_model.specs.Positions.{at_point}
 use Rattle.gs_model.specs.Sums.{sum_z}
+use Rattle.gs_model.proofs.Basics.{product_le}
 use Rattle.gs_seq.specs.declared.plan.Plan.{Plan}
-use Rattle.gs_best.proofs.Chips.{product_le}
 use Rattle.gs_best.proofs.Forms.{form_class_few, form_classes, form_in_range, form_modest, form_moves}
 use Rattle.gs_best.proofs.Ranges.{range_abs}
 use Rattle.gs_totals.specs.ClassTotals.{class_above, total_worth}

@@ -1,5 +1,5 @@
 -- Class totals are small: at most the greatest payoff times the other player's total times the weight of all deals.
-use Rattle.std.proofs.Common.{◌≡◌, ◌≢◌, ℕ, zero, suc, ◌+◌, ◌-◌, ◌*◌, ◌<◌, ◌≤◌, Bool, true, false, cond, List, [], ◌∷◌, length, get_or, refl, sym, ap, ◌∙◌, subst, arith, eqb, ⊎_elim, Option, Some, None}
+use Rattle.std.proofs.Common.{◌≡◌, ◌≢◌, ℕ, zero, suc, ◌+◌, ◌-◌, ◌*◌, ◌<◌, ◌≤◌, Bool, true, false, cond, List, [], ◌∷◌, length, get_or, refl, sym, ap, ◌∙◌, arith, eqb, ⊎_elim, Option, Some, None}
 use Rattle.std.specs.Prelude.{◌==◌, if◌then◌else◌, ℤ, pos, ◌*ℤ◌, unsigned_abs, sum_by, All}
 use Rattle.std.specs.List.{range_with_len}
 use Rattle.std.proofs.Math.Nat.{mul-le-mul_left}
@@ -8,7 +8,6 @@ use Rattle.std.proofs.lemmas.Bool.Decides.{Decides-eqb}
 use Rattle.std.proofs.lemmas.Int.{ints, unsigned_abs-mul}
 use Rattle.std.proofs.lemmas.List.Elements.{All-head, All-tail}
 use Rattle.std.proofs.lemmas.List.Sums.{sum_by-cons}
-use Rattle.std.proofs.lemmas.List.FromFn.{get_or-range_with_len, length-range_with_len}
 use borrow.Author.Differences.{abs_is}
 use Rattle.gs_model.specs.BestAnswers.{Values, end_worth}
 use Rattle.gs_model.specs.Classes.{ClassLists, IsClass, IsClasses, class_count, class_of, classes_in, first_member}
@@ -30,9 +29,11 @@ use Rattle.gs_model.proofs.RawBound.{range_once}
 use Rattle.gs_model.proofs.Regroup.{sum_z-pos}
 use Rattle.gs_model.proofs.Tables.{is_table}
 use Rattle.gs_model.proofs.Total.{sum_z-regroup, sum_z-same, sum_z-same_all}
-use Rattle.gs_model.proofs.Basics.{pos-same}
+use Rattle.gs_model.proofs.Basics.{pos-injective, sum-cond}
 use Rattle.gs_seq.specs.Payoffs.{end_sum}
-use Rattle.gs_seq.proofs.RowFacts.{abs_all, times_sum}
+use Rattle.gs_seq.proofs.RowFacts.{abs_all, sum-times}
+use Rattle.gs_seq.proofs.EndTotals.{abs_range}
+use Rattle.gs_seq.proofs.EarlierRows.{sum-same_all}
 use Rattle.gs_totals.specs.ClassTotals.{class_above, total_worth}
 use Rattle.gs_totals.specs.Places.{IsFollowedFrom}
 use Rattle.gs_best.proofs.Below.{range_add}
@@ -49,17 +50,6 @@ faced f lists player y g c =
 
 -- ---- sums
 
-abs_over : (v : ℕ → ℤ) (bound : ℕ → ℕ) (a n : ℕ) → ((m : ℕ) → a ≤ m → m < a + n → unsigned_abs (v m) ≤ bound m)
-    → unsigned_abs (sum_z v (range_with_len a n)) ≤ sum_by bound (range_with_len a n)
-abs_over v bound a n h = abs_all v bound (range_with_len a n) (λ i d l.
-    let inside : i < n = subst (λ m. i < m) (length-range_with_len a n) l in
-    subst (λ m. unsigned_abs (v m) ≤ bound m) (sym (get_or-range_with_len a n i d inside)) (h (a + i) (omega arith) (omega arith)))
-
-same_over : {X : Type 0} (f g : X → ℕ) (xs : List X) → All (λ x. f x ≡ g x) xs → sum_by f xs ≡ sum_by g xs
-same_over f g [] h = refl
-same_over f g (x ∷ xs) h =
-    omega (arith, sum_by-cons f x xs, sum_by-cons g x xs, All-head (λ x. f x ≡ g x) x xs h, same_over f g xs (All-tail (λ x. f x ≡ g x) x xs h))
-
 few_over : {X : Type 0} (f g : X → ℕ) (xs : List X) → All (λ x. f x ≤ g x) xs → sum_by f xs ≤ sum_by g xs
 few_over f g [] h = omega arith
 few_over f g (x ∷ xs) h = omega (
@@ -73,11 +63,6 @@ few_over f g (x ∷ xs) h = omega (
 tested_few : (b : Bool) (w n t : ℕ) → n ≤ t → cond b (w * n) 0 ≤ t * w
 tested_few true w n t l = omega (arith, mul-le-mul_left w l)
 tested_few false w n t l = omega arith
-
-tested_sum : {X : Type 0} (b : Bool) (g : X → ℕ) (xs : List X) → sum_by (λ x. cond b (g x) 0) xs ≡ cond b (sum_by g xs) 0
-tested_sum true g xs = refl
-tested_sum false g [] = refl
-tested_sum false g (x ∷ xs) = omega (arith, sum_by-cons (λ x. 0) x xs, tested_sum false g xs)
 
 abs_tested : (b : Bool) (x : ℤ) (most n : ℕ) → unsigned_abs x ≤ most * n → unsigned_abs (cond b x (pos 0)) ≤ most * cond b n 0
 abs_tested true x most n h = h
@@ -97,14 +82,14 @@ test_out false b false n h = refl
 -- the other's numbers at his moves, over deals
 flow_sum : (n : ℕ) (B : Deal → Bool) (N : Deal → ℕ → ℕ) (T : Deal → ℕ) (xs : List Deal) → All (λ d. sum_by (N d) (range_with_len 0 n) ≡ T d) xs
     → sum_by (λ m. sum_by (λ (d : Deal). cond (B d) (d.weight * N d m) 0) xs) (range_with_len 0 n) ≡ sum_by (λ (d : Deal). cond (B d) (d.weight * T d) 0) xs
-flow_sum n B N T [] h = tested_sum false (λ (m : ℕ). 0) (range_with_len 0 n)
+flow_sum n B N T [] h = sum-cond false (λ (m : ℕ). 0) (range_with_len 0 n)
 flow_sum n B N T (x ∷ xs) h =
     let one = λ (m : ℕ). cond (B x) (x.weight * N x m) 0 in
     let rest = λ (m : ℕ). sum_by (λ (d : Deal). cond (B d) (d.weight * N d m) 0) xs in
-    let split = same_over (λ (m : ℕ). sum_by (λ (d : Deal). cond (B d) (d.weight * N d m) 0) (x ∷ xs)) (λ m. one m + rest m) (range_with_len 0 n)
+    let split = sum-same_all (λ (m : ℕ). sum_by (λ (d : Deal). cond (B d) (d.weight * N d m) 0) (x ∷ xs)) (λ m. one m + rest m) (range_with_len 0 n)
     (λ i d l. sum_by-cons (λ (e : Deal). cond (B e) (e.weight * N e (get_or (range_with_len 0 n) i d)) 0) x xs) in
-    let head = tested_sum (B x) (λ m. x.weight * N x m) (range_with_len 0 n)
-    ∙ ap (λ v. cond (B x) v 0) (times_sum x.weight (N x) (range_with_len 0 n)
+    let head = sum-cond (B x) (λ m. x.weight * N x m) (range_with_len 0 n)
+    ∙ ap (λ v. cond (B x) v 0) (sum-times x.weight (N x) (range_with_len 0 n)
     ∙ ap (λ v. x.weight * v) (All-head (λ d. sum_by (N d) (range_with_len 0 n) ≡ T d) x xs h)) in
     omega (
       arith,
@@ -152,8 +137,8 @@ module _ (f : Frame) (r : InRange f) (lists : ClassLists) (k : IsClasses f.paren
         same = (Decides-eqb (own_class i x) e).0 t ∙ sym first;
       }))))
       ∙ sum_z-pos (λ d. cond (class_above f lists i j e == c) (cond (own_class i d == e) (X d) 0) 0) f.deals
-      ∙ ap pos (tested_sum (class_above f lists i j e == c) (λ d. cond (own_class i d == e) (X d) 0) f.deals)) in
-      pos-same (sum_by (λ e. cond (class_above f lists i j e == c) (sum_by (λ d. cond (own_class i d == e) (X d) 0) f.deals) 0) (classes_in lists i))
+      ∙ ap pos (sum-cond (class_above f lists i j e == c) (λ d. cond (own_class i d == e) (X d) 0) f.deals)) in
+      pos-injective (sum_by (λ e. cond (class_above f lists i j e == c) (sum_by (λ d. cond (own_class i d == e) (X d) 0) f.deals) 0) (classes_in lists i))
       (sum_by one f.deals)
       (sym
       (sym (sum_z-pos one f.deals)
@@ -208,7 +193,7 @@ module _ (f : Frame) (r : InRange f) (lists : ClassLists) (k : IsClasses f.paren
         let size = abs_all (λ d. cond (eqb (own_class j d) c) (X d) (pos 0)) (λ d. most * cond (eqb (own_class j d) c) (n d) 0) f.deals
         (λ i d l. let e = get_or f.deals i d in abs_tested (eqb (own_class j e) c) (X e) most (n e)
         (abs_times (n e) most (payoff_to f player z e.outcome) (pays z i d lz l))) in
-        let all = times_sum most (λ d. cond (eqb (own_class j d) c) (n d) 0) f.deals in
+        let all = sum-times most (λ d. cond (eqb (own_class j d) c) (n d) 0) f.deals in
         omega (arith, ap unsigned_abs (at_ends z c lz lc ∙ end_by_deals z c lz), size, all)
 
     -- the other's number of a step before a later round, in a deal
@@ -231,9 +216,9 @@ module _ (f : Frame) (r : InRange f) (lists : ClassLists) (k : IsClasses f.paren
         let i = round_of f g in
         let j = round_of f (at_point q) in
         let t = λ (e : ℕ). class_above f lists i j e == c in
-        let size = abs_over (λ e. cond (t e) (V g e) (pos 0)) (λ e. most * cond (t e) (faced f lists player y g e) 0) 1 (class_count lists i)
+        let size = abs_range (λ e. cond (t e) (V g e) (pos 0)) (λ e. most * cond (t e) (faced f lists player y g e) 0) 1 (class_count lists i)
         (λ e lo hi. abs_tested (t e) (V g e) most (faced f lists player y g e) (bounded e (omega arith, omega arith))) in
-        let all = times_sum most (λ e. cond (t e) (faced f lists player y g e) 0) (classes_in lists i) in
+        let all = sum-times most (λ e. cond (t e) (faced f lists player y g e) 0) (classes_in lists i) in
         let below = deals_below i j c (λ d. d.weight * facing g d) (w.some_round q lq) (w.onward q m lq lm) (w.within q m lq lm) in
         omega (arith, size, all, ap (λ n. most * n) below)
 
@@ -246,7 +231,7 @@ module _ (f : Frame) (r : InRange f) (lists : ClassLists) (k : IsClasses f.paren
         let j = round_of f (at_point q) in
         let o = last_step f (other_player player) (at_point q) in
         let keeps = v.others q m lq lm (λ his. apart (sym own ∙ his)) in
-        let same = same_over (λ d. cond (own_class j d == c) (d.weight * facing (leads_to f q m) d) 0)
+        let same = sum-same_all (λ d. cond (own_class j d == c) (d.weight * facing (leads_to f q m) d) 0)
         (λ d. cond (own_class j d == c) (d.weight * facing (at_point q) d) 0) f.deals
         (λ n d l. let x = get_or f.deals n d in
         ap (λ a. cond (own_class j x == c) (x.weight * a) 0)
@@ -263,13 +248,13 @@ module _ (f : Frame) (r : InRange f) (lists : ClassLists) (k : IsClasses f.paren
         let raw : IsRawPlan f (other_player player) Y = lift_is_raw_plan f h lists (keeps_from f lists k.filter) (firsts_from f lists k) (other_player player)
         (known_from f (other_player player) r v) y v.point_in (plan_by f lists (other_player player) y v k plan) in
         let parts = λ (m : ℕ). sum_by (λ d. cond (own_class j d == c) (d.weight * facing (leads_to f q m) d) 0) f.deals in
-        let size = abs_over (λ m. total_worth f lists V q m c) (λ m. most * parts m) 0 (move_count f q) (λ m low hi. let lm : m
+        let size = abs_range (λ m. total_worth f lists V q m c) (λ m. most * parts m) 0 (move_count f q) (λ m low hi. let lm : m
         < move_count f q = omega arith in move_bounded q m c lq lm (next m lm)) in
-        let all = times_sum most parts (choices_at f q) in
+        let all = sum-times most parts (choices_at f q) in
         let turn : (m : ℕ) → m < move_count f q → parts m ≡ sum_by (λ (d : Deal). cond (own_class j d == c) (d.weight * Y.number q (at_round f j d.two) m) 0)
         f.deals = λ m lm.
         (let i = round_of f (leads_to f q m) in
-        same_over (λ d. cond (own_class j d == c) (d.weight * facing (leads_to f q m) d) 0)
+        sum-same_all (λ d. cond (own_class j d == c) (d.weight * facing (leads_to f q m) d) 0)
         (λ (d : Deal). cond (own_class j d == c) (d.weight * Y.number q (at_round f j d.two) m) 0) f.deals
         (λ n d l. let x = get_or f.deals n d in
         ap (λ a. cond (own_class j x == c) (x.weight * a) 0)
@@ -333,7 +318,7 @@ module _ (f : Frame) (r : InRange f) (lists : ClassLists) (k : IsClasses f.paren
     few_at j c g i =
         let few = few_over (λ d. cond (own_class j d == c) (d.weight * facing g d) 0) (λ (d : Deal). y.total * d.weight) f.deals
         (λ n d l. let x = get_or f.deals n d in tested_few (own_class j x == c) x.weight (facing g x) y.total (facing_few g i n d l)) in
-        omega (arith, few, times_sum y.total (λ (d : Deal). d.weight) f.deals)
+        omega (arith, few, sum-times y.total (λ (d : Deal). d.weight) f.deals)
 
     -- totals are at most the greatest payoff times the other's total times the weight of all deals
     pub totals_few : ((q : ℕ) → q < point_count f → (player_at f q ≡ player → ⊥) → player_at f q ≡ other_player player) → (g : Target) (c : ℕ) → IsInside f g

@@ -1,4 +1,4 @@
-//! A point whose moves are read.
+//! A point with its row.
 
 ghost use Rattle.std.specs.Prelude.{◌≡◌, ◌+◌, ◌<◌};
 ghost use Rattle.gs_filter.specs.Filter.{IsSound};

@@ -5,7 +5,7 @@ use Rattle.std.proofs.lemmas.List.Sums.{sum_by-append}
 use Rattle.gs_model.specs.Cards.{ways, left_after, left_from}
 use Rattle.gs_model.specs.Deals.{own_ways}
 use Rattle.gs_model.specs.Signals.{Seen, Signal, left_by, own_cards, public_cards}
-use Rattle.gs_game.proofs.Ways.{copies_after}
+use Rattle.gs_model.proofs.Listed.{left_at}
 use Rattle.gs_tree.proofs.Taken.{taken_none}
 
 -- how often a card stands among cards
@@ -55,7 +55,7 @@ pub beside_read : (left held board before : List ℕ) (card : ℕ) → get_or (l
     ≡ get_or left card 0 - times card held - times card board - times card before
 beside_read left held board before card = omega (
   arith,
-  copies_after (left_after (left_after left held) board) before card,
-  copies_after (left_after left held) board card,
-  copies_after left held card,
+  left_at (left_after (left_after left held) board) before card,
+  left_at (left_after left held) board card,
+  left_at left held card,
 )

@@ -11,12 +11,12 @@ use lib.Pointwise.{pointwise}
 use Rattle.gs_card.specs.Decks.{DeckValue, IsDeck, kinds}
 use Rattle.gs_model.specs.Game.{Game, round_count}
 use Rattle.gs_model.specs.Signals.{public_cards, signal_at}
+use Rattle.gs_model.proofs.Basics.{product_le}
 use Rattle.gs_tree.specs.Boards.{code_behind, seen_last}
 use Rattle.gs_tree.specs.Kept.{AreHands}
 use Rattle.gs_tree.specs.Walk.{last_count}
 use Rattle.gs_tree.proofs.Hands.{dealt}
 use Rattle.gs_tree.proofs.Linked.{equal, unequal, last_place}
-use Rattle.gs_tree.proofs.Paths.{product_small}
 
 -- one digit more
 pub code_push : (k a : ℕ) (xs : List ℕ) (c : ℕ) → code_behind k a (xs ++ c ∷ []) ≡ code_behind k a xs * k + c
@@ -30,7 +30,7 @@ code_above k a (x ∷ xs) h =
     let rest = code_above k (a * k + x) xs h.1 in
     let more : (a + 1) * k ≡ a * k + k = omega arith in
     let within : (a * k + x + 1) * k ^ length xs ≤ ((a + 1) * k) * k ^ length xs =
-    product_small (a * k + x + 1) (k ^ length xs) ((a + 1) * k) (k ^ length xs) (omega (arith, h.0, more)) (omega arith) in
+    product_le (a * k + x + 1) (k ^ length xs) ((a + 1) * k) (k ^ length xs) (omega (arith, h.0, more)) (omega arith) in
     let next : (a + 1) * k ^ suc (length xs) ≡ (a + 1) * (k * k ^ length xs) = ap (λ n. (a + 1) * n) (pow-succ' k (length xs)) in
     let one : ((a + 1) * k) * k ^ length xs ≡ (a + 1) * (k * k ^ length xs) = omega arith in
     omega (arith, rest, within, next, one)
@@ -47,7 +47,7 @@ power_small k n h l = at_three n l (k ^ n) (power_below n)
   where
     power_below : (n : ℕ) → k ^ n ≤ 52 ^ n
     power_below zero = omega (arith, pow-zero k, pow-zero 52)
-    power_below (suc n) = omega (arith, product_small k (k ^ n) 52 (52 ^ n) h (power_below n), pow-succ' k n, pow-succ' 52 n)
+    power_below (suc n) = omega (arith, product_le k (k ^ n) 52 (52 ^ n) h (power_below n), pow-succ' k n, pow-succ' 52 n)
 
     at_three : (n : ℕ) → n ≤ 3 → (w : ℕ) → w ≤ 52 ^ n → w ≤ 140608
     at_three zero l w h = omega arith
@@ -74,7 +74,7 @@ digits k a b c d l m e = ⊎_elim
   where
     less : (a b c d : ℕ) → a < b → c < k → d < k → a * k + c ≡ b * k + d → ⊥
     less a b c d h l m e =
-        let r : (a + 1) * k ≤ b * k = product_small (a + 1) k b k (omega arith) (omega arith) in
+        let r : (a + 1) * k ≤ b * k = product_le (a + 1) k b k (omega arith) (omega arith) in
         let more : (a + 1) * k ≡ a * k + k = omega arith in
         omega (arith, r, more, e)
 

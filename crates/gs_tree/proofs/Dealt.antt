@@ -1,5 +1,5 @@
 -- What a signal shows last: cards of the deck, as many as the round gives.
-use Rattle.std.proofs.Common.{◌≡◌, ℕ, zero, suc, ◌<◌, List, [], ◌∷◌, length, map, refl, sym, ◌∙◌, arith, subst, All}
+use Rattle.std.proofs.Common.{◌≡◌, ℕ, zero, suc, ◌<◌, List, [], ◌∷◌, length, map, sym, arith, subst, All}
 use Rattle.std.specs.Prelude.{flat_map}
 use Rattle.std.specs.List.{AllByRecursion}
 use Rattle.std.proofs.lemmas.List.{length-map, get_or-map}
@@ -9,10 +9,11 @@ use Rattle.gs_model.specs.Game.{Game, Round, round_at}
 use Rattle.gs_model.specs.Signals.{Seen, Signal, signals, signal_at, showings, left_by}
 use Rattle.gs_model.proofs.Ranges.{every-flat_map}
 use Rattle.gs_model.proofs.Basics.{every-map, every-weaker}
+use Rattle.gs_model.proofs.Listed.{length-after}
+use Rattle.gs_model.proofs.Beside.{length-left_by}
 use Rattle.gs_card.specs.Groups.{IsGroup}
 use Rattle.gs_card.proofs.GroupLaws.{groups_are_groups, cards_within}
 use Rattle.gs_tree.specs.Layers.{last_seen, showing}
-use Rattle.gs_tree.proofs.Taken.{length-taken}
 use Rattle.gs_tree.proofs.Grown.{shows_of, seen_grown, nothing_seen}
 
 -- what a round shows: cards of the deck, and as many as it gives
@@ -22,18 +23,13 @@ pub record IsShown (kinds : ℕ) (r : Round) (p : Seen) : Type 0 where
   pub own_counted : length p.own ≡ r.private
   pub public_counted : length p.public ≡ r.public
 
-pub length-left_by : (left : List ℕ) (s : Signal) → length (left_by left s) ≡ length left
-length-left_by left [] = refl
-length-left_by left (p ∷ s) = length-left_by (left_after (left_after left p.own) p.public) s ∙ length-taken (left_after left p.own) p.public
-    ∙ length-taken left p.own
-
 showing_is : (left own public : List ℕ) (r : Round) → IsGroup left r.private own → IsGroup (left_after left own) r.public public
     → IsShown (length left) r (showing own public)
 showing_is left own public r a b =
     let P : ℕ → Type 0 = λ n. All (λ c. c < n) public in
     record {
       own_in = cards_within left r.private own a;
-      public_in = subst P (length-taken left own) (cards_within (left_after left own) r.public public b);
+      public_in = subst P (length-after left own) (cards_within (left_after left own) r.public public b);
       own_counted = a.sized;
       public_counted = b.sized;
     }

@@ -13,16 +13,11 @@ use Rattle.gs_model.specs.Deals.{Deal, deal_of, deals, pairings}
 use Rattle.gs_model.specs.Game.{Game, round_count}
 use Rattle.gs_model.specs.Signals.{Signal, signal_at, signals}
 use Rattle.gs_model.proofs.Exchanged.{filter-flat_map}
-use Rattle.gs_model.proofs.Basics.{flat_map-same}
+use Rattle.gs_model.proofs.Basics.{flat_map-same, range_step, range_end}
+use Rattle.gs_model.proofs.Sparse.{range_append}
 use Rattle.gs_tree.specs.Walk.{deal_at, deals_between, last_count, pair_at}
 
 -- ---- one step
-
-pub range_step : (a n : ℕ) → a < n → range_with_len a (n - a) ≡ a ∷ range_with_len (a + 1) (n - (a + 1))
-range_step a n l = let e : n - a ≡ suc (n - (a + 1)) = omega arith in ap (range_with_len a) e
-
-pub range_end : (a n : ℕ) → n ≤ a → range_with_len a (n - a) ≡ []
-range_end a n l = let e : n - a ≡ 0 = omega arith in ap (range_with_len a) e
 
 pub between_step : (g : Game) (from to : ℕ) → from < to → deals_between g from to
     ≡ cond (nat_lt 0 (pair_at g from).weight) (pair_at g from ∷ deals_between g (from + 1) to) (deals_between g (from + 1) to)
@@ -32,13 +27,6 @@ pub between_end : (g : Game) (from to : ℕ) → to ≤ from → deals_between g
 between_end g from to l = ap (λ r. filter (λ d. nat_lt 0 d.weight) (map (pair_at g) r)) (range_end from to l)
 
 -- ---- rows
-
-range_two : (a m n : ℕ) → range_with_len a (m + n) ≡ range_with_len a m ++ range_with_len (a + m) n
-range_two a zero n = let e : zero + n ≡ n = omega arith in let f : a + zero ≡ a = omega arith in
-    ap (range_with_len a) e ∙ ap (λ k. range_with_len k n) (sym f)
-range_two a (suc m) n =
-    let e : suc m + n ≡ suc (m + n) = omega arith in let f : a + 1 + m ≡ a + suc m = omega arith in
-    ap (range_with_len a) e ∙ ap (λ l. a ∷ l) (range_two (a + 1) m n) ∙ ap (λ k. a ∷ (range_with_len (a + 1) m ++ range_with_len k n)) f
 
 -- the numbers of a row, as the places in it
 row_of : (n i : ℕ) (F : ℕ → ℕ → Deal) (j m : ℕ) → j + m ≤ n → map (λ k. F (k / n) (k % n)) (range_with_len (i * n + j) m) ≡ map (F i) (range_with_len j m)
@@ -62,7 +50,7 @@ rows_of n F a (suc m) =
     let f : a * n + n ≡ (a + 1) * n = omega arith in
     let z : a * n + 0 ≡ a * n = omega arith in
     ap (λ k. map pair (range_with_len (a * n) k)) e
-    ∙ ap (map pair) (range_two (a * n) n (m * n))
+    ∙ ap (map pair) (range_append (a * n) n (m * n))
     ∙ map-append pair (range_with_len (a * n) n) (range_with_len (a * n + n) (m * n))
     ∙ ap (λ k. map pair (range_with_len k n) ++ map pair (range_with_len (a * n + n) (m * n))) (sym z)
     ∙ ap (λ l. l ++ map pair (range_with_len (a * n + n) (m * n))) (row_of n a F 0 n (omega arith))

@@ -1,16 +1,19 @@
 -- The weights of edges and of the way to a signal.
-use Rattle.std.proofs.Common.{◌≡◌, ℕ, zero, suc, ◌-◌, ◌*◌, ◌^◌, ◌<◌, ◌≤◌, ◌++◌, List, [], ◌∷◌, length, get_or, refl, sym, ap, ◌∙◌, arith, subst, All}
+use Rattle.std.proofs.Common.{◌≡◌, ℕ, zero, suc, ◌-◌, ◌*◌, ◌^◌, ◌<◌, ◌≤◌, List, [], ◌∷◌, length, get_or, refl, sym, ap, ◌∙◌, arith, subst, All}
 use Rattle.std.proofs.Math.Nat.{pow-succ'}
 use Rattle.gs_model.specs.Cards.{ways, left_after}
 use Rattle.gs_model.specs.Deals.{path_weight}
 use Rattle.gs_model.specs.Game.{Game, Round, round_at, round_count}
 use Rattle.gs_model.specs.Signals.{Seen, Signal, signals, signal_at, parents, last_edge, edge, left_by}
 use Rattle.gs_model.specs.Betting.{even}
-use Rattle.gs_model.proofs.Children.{last_edge-push}
+use Rattle.gs_model.proofs.Children.{last_edge-push, path_weight-push}
+use Rattle.gs_model.proofs.Basics.{product_le}
+use Rattle.gs_model.proofs.Listed.{length-after}
+use Rattle.gs_model.proofs.Beside.{length-left_by}
 use Rattle.gs_game.specs.Limits.{IsDealable}
 use Rattle.gs_tree.specs.Layers.{last_seen}
-use Rattle.gs_tree.proofs.Taken.{ways_power, few_left, length-taken}
-use Rattle.gs_tree.proofs.Dealt.{IsShown, last_is_shown, length-left_by}
+use Rattle.gs_tree.proofs.Taken.{ways_power, few_left}
+use Rattle.gs_tree.proofs.Dealt.{IsShown, last_is_shown}
 use Rattle.gs_tree.proofs.Lookups.{IsChild, is_child}
 
 left_small : (left : List ℕ) (s : Signal) → All (λ c. c ≤ 9) left → All (λ c. c ≤ 9) (left_by left s)
@@ -31,18 +34,15 @@ at_three w (suc (suc zero)) l h = omega arith
 at_three w (suc (suc (suc zero))) l h = omega arith
 at_three w (suc (suc (suc (suc n)))) l h = absurd (omega arith)
 
-pub product_small : (a b m n : ℕ) → a ≤ m → b ≤ n → a * b ≤ m * n
-product_small a b m n h k = grind (arith, h, k)
-
 -- an edge weighs at most 59,049
 edge_small : (left : List ℕ) (r : Round) (p : Seen) → All (λ c. c ≤ 9) left → IsShown (length left) r p → r.private ≤ 2 → r.public ≤ 3 → edge left p ≤ 59049
 edge_small left r p few h a b =
     let P : ℕ → Type 0 = λ n. All (λ c. c < n) p.public in
     let own = at_two (ways left p.own) (length p.own) (omega (arith, h.own_counted)) (ways_power left p.own h.own_in few) in
     let public = at_three (ways (left_after left p.own) p.public) (length p.public) (omega (arith, h.public_counted))
-    (ways_power (left_after left p.own) p.public (subst P (sym (length-taken left p.own)) h.public_in)
+    (ways_power (left_after left p.own) p.public (subst P (sym (length-after left p.own)) h.public_in)
     (few_left left (left_after left p.own) p.own refl few)) in
-    product_small (ways left p.own) (ways (left_after left p.own) p.public) 81 729 own public
+    product_le (ways left p.own) (ways (left_after left p.own) p.public) 81 729 own public
 
 last_edge-is : (g : Game) (round i : ℕ) → IsChild g round i → last_edge g.copies (signal_at g round i)
     ≡ edge (left_by g.copies (signal_at g (round - 1) (get_or (parents g round) i 0))) (last_seen (signal_at g round i))
@@ -62,12 +62,6 @@ last_edge_small g round i h few some le l =
     subst Q (sym (last_edge-is g round i c)) (edge_small (left_by g.copies front) (round_at g round) (last_seen (signal_at g round i))
     (left_small g.copies front few) shown small.0 small.1)
 
-path_weight-push : (left : List ℕ) (s : Signal) (p : Seen) → path_weight left (s ++ p ∷ []) ≡ path_weight left s * edge (left_by left s) p
-path_weight-push left [] p = omega arith
-path_weight-push left (q ∷ s) p =
-    let l = left_after (left_after left q.own) q.public in
-    ap (λ n. edge left q * n) (path_weight-push l s p) ∙ omega arith
-
 -- the ways to a signal, from those to its parent
 pub path_step : (g : Game) (round i : ℕ) → IsChild g round i → path_weight g.copies (signal_at g round i)
     ≡ path_weight g.copies (signal_at g (round - 1) (get_or (parents g round) i 0)) * last_edge g.copies (signal_at g round i)
@@ -81,7 +75,7 @@ power_step w e zero some h k = absurd (omega arith)
 power_step w e (suc n) some h k =
     let before : suc n - 1 ≡ n = omega arith in
     let P : ℕ → Type 0 = λ m. w ≤ 59049 ^ m in
-    let small : w * e ≤ 59049 ^ n * 59049 = product_small w e (59049 ^ n) 59049 (subst P before h) k in
+    let small : w * e ≤ 59049 ^ n * 59049 = product_le w e (59049 ^ n) 59049 (subst P before h) k in
     let next : 59049 ^ suc n ≡ 59049 * 59049 ^ n = pow-succ' 59049 n in
     omega (arith, next)
 
@@ -94,7 +88,7 @@ power_fits w (suc (suc (suc (suc zero)))) l h = omega arith
 power_fits w (suc (suc (suc (suc (suc n))))) l h = absurd (omega arith)
 
 pub few_product : (w s i : ℕ) → i < 3 → w ≤ 9 ^ i → s ≤ 9 → w * s ≤ 729
-few_product w s i l h k = product_small w s 81 9 (at_two w i (omega arith) h) k
+few_product w s i l h k = product_le w s 81 9 (at_two w i (omega arith) h) k
 
 -- the ways to a signal of a round
 pub path_small : (g : Game) (round i : ℕ) → IsDealable g → All (λ c. c ≤ 9) g.copies → round ≤ round_count g → i < length (signals g round)

@@ -15,13 +15,13 @@ use Rattle.gs_model.specs.Betting.{even}
 use Rattle.gs_game.specs.Limits.{IsDealable}
 use Rattle.gs_model.specs.Game.{Game, Round, round_at, round_count}
 use Rattle.gs_model.specs.Signals.{Seen, Signal, own_cards, parents, signal_at, signals}
+use Rattle.gs_model.proofs.Basics.{product_le}
 use Rattle.gs_tree.specs.Layers.{last_seen}
 use Rattle.gs_tree.specs.Walk.{last_count}
 use Rattle.gs_tree.proofs.Beside.{own_ways-push}
 use Rattle.gs_tree.proofs.Dealt.{IsShown, last_is_shown}
 use Rattle.gs_tree.proofs.Hands.{own_cards-push}
 use Rattle.gs_tree.proofs.Lookups.{grown_from}
-use Rattle.gs_tree.proofs.Paths.{product_small}
 use Rattle.gs_tree.proofs.Grown.{nothing_seen}
 
 -- ---- lists of equal parts
@@ -56,7 +56,7 @@ part_is f n (x ∷ xs) d h (suc i) l =
 pub part_in : (i n m : ℕ) → i < n → i * m + m ≤ n * m
 part_in i n m l =
     let more : (i + 1) * m ≡ i * m + m = omega arith in
-    let within : (i + 1) * m ≤ n * m = product_small (i + 1) m n m (omega arith) (omega arith) in
+    let within : (i + 1) * m ≤ n * m = product_le (i + 1) m n m (omega arith) (omega arith) in
     omega arith
 
 -- how long each part is, by the length of all
@@ -166,7 +166,7 @@ turn g left rounds i k r start end own d e l o m at s w =
 -- one factor more
 pub power_more : (w e k : ℕ) → w ≤ 59049 ^ k → e ≤ 729 → w * e ≤ 59049 ^ (k + 1)
 power_more w e k h l =
-    let small : w * e ≤ 59049 ^ k * 59049 = product_small w e (59049 ^ k) 59049 h (omega arith) in
+    let small : w * e ≤ 59049 ^ k * 59049 = product_le w e (59049 ^ k) 59049 h (omega arith) in
     let next : 59049 ^ suc k ≡ 59049 * 59049 ^ k = pow-succ' 59049 k in
     let at : suc k ≡ k + 1 = omega arith in
     omega (arith, ap (λ j. 59049 ^ j) at)

@@ -5,10 +5,10 @@ use Rattle.std.proofs.lemmas.Nat.{div-mul-add, mod-mul-add, mul-add-lt}
 use Rattle.gs_model.specs.Deals.{Deal, path_weight, own_ways}
 use Rattle.gs_model.specs.Game.{Game, round_count}
 use Rattle.gs_model.specs.Signals.{signal_at, left_by}
+use Rattle.gs_model.proofs.Basics.{product_le}
 use Rattle.gs_tree.specs.Boards.{AreBoards}
 use Rattle.gs_tree.specs.Walk.{deal_at, deals_between, last_count, pair_at, number_of, shows_same, IsOnWalk, IsRowStart, IsNextPair}
 use Rattle.gs_tree.proofs.Pairs.{between_step, between_end}
-use Rattle.gs_tree.proofs.Paths.{product_small}
 use Rattle.gs_tree.proofs.Same.{public_alike}
 
 skip : (g : Game) (m from to : ℕ) → ((k : ℕ) → from ≤ k → k < from + m → (pair_at g k).weight ≡ 0) → deals_between g from to ≡ deals_between g (from + m) to
@@ -124,5 +124,5 @@ step_none g one two next other end d lo lt h e none =
 -- behind the last row nothing is left
 pub walked : (g : Game) (one two end : ℕ) → end ≤ one → deals_between g (number_of g one two) (end * last_count g) ≡ []
 walked g one two end l =
-    let rows : end * last_count g ≤ one * last_count g = product_small end (last_count g) one (last_count g) l (omega arith) in
+    let rows : end * last_count g ≤ one * last_count g = product_le end (last_count g) one (last_count g) l (omega arith) in
     between_end g (number_of g one two) (end * last_count g) (omega (arith, rows))

@@ -52,13 +52,6 @@ taken_small left g n h = All-from_recursion (λ c. c ≤ n) (left_after left g) 
     go kind [] h = tt
     go kind (c ∷ cs) h = (omega (arith, h.0), go (suc kind) cs h.1)
 
-pub length-taken : (left g : List ℕ) → length (left_after left g) ≡ length left
-length-taken left g = go 0 left
-  where
-    go : (kind : ℕ) (left : List ℕ) → length (left_from kind left g) ≡ length left
-    go kind [] = refl
-    go kind (c ∷ cs) = omega (arith, go (suc kind) cs)
-
 get_or_same : (xs : List ℕ) (i d e : ℕ) → i < length xs → get_or xs i e ≡ get_or xs i d
 get_or_same [] i d e l = absurd (omega arith)
 get_or_same (x ∷ xs) zero d e l = refl

@@ -9,13 +9,16 @@ use Rattle.gs_model.specs.Game.{Game, round_count}
 use Rattle.gs_model.specs.Signals.{Seen, Signal, edge, left_by, own_cards, public_cards, signal_at}
 use Rattle.gs_model.proofs.Exchanged.{and_both, same_cards-is}
 use Rattle.gs_model.proofs.Facing.{leaves_are_deals, signals_differ}
-use Rattle.gs_model.proofs.Basics.{parts_positive}
+use Rattle.gs_model.proofs.Basics.{factors_positive, product_positive}
+use Rattle.gs_model.proofs.Listed.{length-after, left_at}
+use Rattle.gs_model.proofs.Beside.{length-left_by}
+use Rattle.gs_model.proofs.SingleCards.{product-le_one}
 use Rattle.gs_tree.specs.Walk.{deal_at, last_count, shows_same}
 use Rattle.gs_tree.proofs.Beside.{left_by_cards, times-append}
 use Rattle.gs_tree.proofs.Hands.{dealt}
 use Rattle.gs_tree.proofs.Same.{one_list, parted, shaped, shapes}
 use Rattle.gs_tree.specs.Plain.{IsPlain}
-use Rattle.gs_game.proofs.Ways.{Single, copies_after, length_after, one_product, single_after, some_product, times, ways_one, ways_room, ways_some}
+use Rattle.gs_game.proofs.Ways.{Single, single_after, times, ways_one, ways_room, ways_some}
 
 -- the ways to a signal and to own groups are one at most
 path_one : (left : List ℕ) (s : Signal) → Single left → path_weight left s ≤ 1
@@ -24,12 +27,12 @@ path_one left (p ∷ s) h =
     let l1 = left_after left p.own in
     let l2 = left_after l1 p.public in
     let h1 = single_after left p.own h in
-    one_product (edge left p) (path_weight l2 s) (one_product (ways left p.own) (ways l1 p.public) (ways_one left p.own h) (ways_one l1 p.public h1))
+    product-le_one (edge left p) (path_weight l2 s) (product-le_one (ways left p.own) (ways l1 p.public) (ways_one left p.own h) (ways_one l1 p.public h1))
     (path_one l2 s (single_after l1 p.public h1))
 
 own_one : (left : List ℕ) (s : Signal) → Single left → own_ways left s ≤ 1
 own_one left [] h = omega arith
-own_one left (p ∷ s) h = one_product (ways left p.own) (own_ways (left_after left p.own) s) (ways_one left p.own h)
+own_one left (p ∷ s) h = product-le_one (ways left p.own) (own_ways (left_after left p.own) s) (ways_one left p.own h)
     (own_one (left_after left p.own) s (single_after left p.own h))
 
 -- own groups can be taken just where there are enough copies of each kind
@@ -37,26 +40,26 @@ own_some : (left : List ℕ) (s : Signal) → ((card : ℕ) → card < length le
 own_some left [] h = omega arith
 own_some left (p ∷ s) h =
     let rest = left_after left p.own in
-    some_product (ways left p.own) (own_ways rest s)
+    product_positive (ways left p.own) (own_ways rest s)
     (ways_some left p.own (λ card l. omega (arith, h card l, times-append card p.own (own_cards s))))
     (own_some rest s (λ card l. omega (
       arith,
-      h card (omega (arith, l, length_after left p.own)),
+      h card (omega (arith, l, length-after left p.own)),
       times-append card p.own (own_cards s),
-      copies_after left p.own card,
+      left_at left p.own card,
     )))
 
 own_room : (left : List ℕ) (s : Signal) → 0 < own_ways left s → (card : ℕ) → card < length left → times card (own_cards s) ≤ get_or left card 0
 own_room left [] h card l = omega arith
 own_room left (p ∷ s) h card l =
     let rest = left_after left p.own in
-    let b = parts_positive (ways left p.own) (own_ways rest s) h in
+    let b = factors_positive (ways left p.own) (own_ways rest s) h in
     omega (
       arith,
       ways_room left p.own b.0 card l,
-      own_room rest s b.1 card (omega (arith, l, length_after left p.own)),
+      own_room rest s b.1 card (omega (arith, l, length-after left p.own)),
       times-append card p.own (own_cards s),
-      copies_after left p.own card,
+      left_at left p.own card,
     )
 
 -- a signal shows no more copies of a kind than there are
@@ -66,17 +69,17 @@ path_room left [] h card l = omega arith
 path_room left (p ∷ s) h card l =
     let l1 = left_after left p.own in
     let l2 = left_after l1 p.public in
-    let b = parts_positive (edge left p) (path_weight l2 s) h in
-    let e = parts_positive (ways left p.own) (ways l1 p.public) b.0 in
-    let in1 : card < length l1 = omega (arith, l, length_after left p.own) in
-    let in2 : card < length l2 = omega (arith, in1, length_after l1 p.public) in
+    let b = factors_positive (edge left p) (path_weight l2 s) h in
+    let e = factors_positive (ways left p.own) (ways l1 p.public) b.0 in
+    let in1 : card < length l1 = omega (arith, l, length-after left p.own) in
+    let in2 : card < length l2 = omega (arith, in1, length-after l1 p.public) in
     omega (
       arith,
       ways_room left p.own e.0 card l,
       ways_room l1 p.public e.1 card in1,
       path_room l2 s b.1 card in2,
-      copies_after left p.own card,
-      copies_after l1 p.public card,
+      left_at left p.own card,
+      left_at l1 p.public card,
       times-append card p.own (own_cards s),
       times-append card p.public (public_cards s),
     )
@@ -86,11 +89,7 @@ copies_by : (left : List ℕ) (s : Signal) (card : ℕ) → get_or (left_by left
     ≡ get_or left card 0 - times card (own_cards s) - times card (public_cards s)
 copies_by left s card =
     ap (λ l. get_or l card 0) (left_by_cards left s)
-    ∙ omega (arith, copies_after (left_after left (own_cards s)) (public_cards s) card, copies_after left (own_cards s) card)
-
-length_by : (left : List ℕ) (s : Signal) → length (left_by left s) ≡ length left
-length_by left [] = refl
-length_by left (p ∷ s) = length_by (left_after (left_after left p.own) p.public) s ∙ length_after (left_after left p.own) p.public ∙ length_after left p.own
+    ∙ omega (arith, left_at (left_after left (own_cards s)) (public_cards s) card, left_at left (own_cards s) card)
 
 single_by : (left : List ℕ) (s : Signal) → Single left → Single (left_by left s)
 single_by left s h card = omega (arith, copies_by left s card, h card)
@@ -166,7 +165,7 @@ module _ (g : Game) (plain : IsPlain g) where
   own_self : (i : ℕ) → i < last_count g → own_ways (left_by g.copies (signal_at g (round_count g) i)) (signal_at g (round_count g) i) ≡ 0
   own_self i l = ⊎_elim
       (λ (h : 0 < own_ways left s).
-      let in' : card i < length left = omega (arith, card_in i l, length_by g.copies s) in
+      let in' : card i < length left = omega (arith, card_in i l, length-left_by g.copies s) in
       absurd (omega (
         arith,
         own_room left s h (card i) in',

@@ -17,7 +17,7 @@ pub(crate) fn is_plain(game: &Game, hands: &Hands) -> bool
     requires { AreHands (game_of game.now) (round_count (game_of game.now)) hands.now.paths hands.now.owns.items hands.now.publics.items hands.now.own
         hands.now.public }
     ensures plain { IsTrue result → IsPlain (game_of game.now) }
-    ensures other { result ≡ false → IsPlain (game_of game.now) → last_count (game_of game.now) ≡ 0 }
+    ensures not_plain { result ≡ false → IsPlain (game_of game.now) → last_count (game_of game.now) ≡ 0 }
 {
     let copies = game.deck.counts();
     hands.own == 1 && are_single(copies)

@@ -4,7 +4,8 @@ use Rattle.std.proofs.lemmas.Int.{fits_signed_from_abs, ints, to_z-of_z}
 use borrow.Author.Differences.{abs_is}
 use mir.Syntax.{w128}
 use Rattle.gs_model.proofs.Sparse.{abs_sum}
-use Rattle.gs_best.proofs.Fractions.{over_scale, over_turn, some_product, turned_sum}
+use Rattle.gs_model.proofs.Choose.{products_positive}
+use Rattle.gs_best.proofs.Fractions.{over_scale, over_turn, turned_sum}
 use Rattle.gs_best.proofs.Totals.{scaled_small}
 use Rattle.gs_best.proofs.numbers.judged.Goals.{After-scaled-scale, After-scaled, After-minus-gap1, After-scaled-2, After-plus-gap2}
 use Rattle.gs_best.proofs.numbers.judged.Goals as goal
@@ -16,7 +17,7 @@ scale_is c =
     ∙ over_scale (c.args.weight * c.args.totals.0) c.args.totals.1 c.scaled-scale.result _ c.scaled-scale.ensures (to_z-of_z w128 c.from.result (record { sfits = c.from.type_inv }) ∙ c.from.ensures)
 
 positive : (c : After-scaled-scale) → pos 0 <ℤ to_z w128 (of_z w128 c.scaled-scale.result)
-positive c = omega (arith, ints, scale_is c, some_product c.args.weight c.args.totals.0 c.args.totals.1 c.requires.weight.0 c.requires.one.0 c.requires.two.0)
+positive c = omega (arith, ints, scale_is c, products_positive c.args.weight c.args.totals.0 c.args.totals.1 c.requires.weight.0 c.requires.one.0 c.requires.two.0)
 
 -- what each best answer gains with the other's total, and the gaps
 first : (c : After-scaled) → c.scaled.result ≡ pos c.args.totals.0 *ℤ c.args.best.0

@@ -3,8 +3,9 @@ use Rattle.std.specs.Prelude.{◌==◌}
 use Rattle.std.proofs.lemmas.Bool.Decides.{Decides-eqb}
 use Rattle.gs_model.specs.Frame.{round_of}
 use Rattle.gs_model.specs.Positions.{at_point}
+use Rattle.gs_model.proofs.Basics.{not_eq}
 use Rattle.gs_seq.specs.Abstracts.{frame_of}
-use Rattle.gs_seq.proofs.SlotLaws.{not_eq, sum_range_more}
+use Rattle.gs_seq.proofs.SlotLaws.{sum_range_more}
 use Rattle.gs_best.proofs.work.points_of.Goals as goal
 use Rattle.gs_best.proofs.work.points_of.Goals.{then-round_at-round, else-round_at-round}
 

@@ -18,7 +18,7 @@ use Rattle.gs_text.specs.VerdictText.{verdict_text}
 use Rattle.gs_tree.specs.Trees.{deck_of, rules_of}
 use Rattle.gs_compare.specs.Judging.{AreHands, hands_text}
 use Rattle.gs_compare.proofs.Judged.{are_hands, are_judged}
-use Rattle.gs_compare.proofs.Replies.{too_many}
+use Rattle.gs_compare.proofs.TooMany.{too_many}
 use Rattle.gs_compare.proofs.judging.fought.Goals as goal
 
 pub invariant_of-facing : goal.invariant_of-facing

@@ -8,7 +8,7 @@ use Rattle.gs_seq.specs.Plans.{IsPlanOf}
 use Rattle.gs_strategy.specs.Views.{numbers_of, stored_view}
 use Rattle.gs_text.specs.VerdictText.{verdict_text}
 use Rattle.gs_compare.proofs.Judged.{are_judged}
-use Rattle.gs_compare.proofs.Replies.{too_many}
+use Rattle.gs_compare.proofs.TooMany.{too_many}
 use Rattle.gs_compare.proofs.judging.judged.Goals as goal
 
 pub raw_verdict-requires-clause-first : goal.raw_verdict-requires-clause-first

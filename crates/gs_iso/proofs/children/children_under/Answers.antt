@@ -2,16 +2,16 @@ use Rattle.std.proofs.Common.{◌≡◌, ◌+◌, ◌-◌, ◌<◌, ◌++◌, �
 use Rattle.std.specs.List.{range_with_len}
 use Rattle.std.proofs.lemmas.List.FromFn.{map-range_with_len_more}
 use Rattle.gs_model.specs.Signals.{signals}
+use Rattle.gs_model.proofs.SingleCards.{children_within}
 use Rattle.gs_tree.specs.Trees.{rules_of}
 use Rattle.gs_iso.specs.Numbers.{child_part}
-use Rattle.gs_iso.proofs.Below.{children_in}
 use Rattle.gs_iso.proofs.children.children_under.Goals as goal
 
 pub edge-requires-clause-in_range : goal.edge-requires-clause-in_range
 edge-requires-clause-in_range c =
     let g = rules_of c.args.signals.now in
     let e : suc c.args.round ≡ c.args.round + 1 = omega arith in
-    let lt : c.loop-child.child < length (signals g (suc c.args.round)) = omega (arith, c.loop-child-test.true, c.children-first.ensures.end, children_in g c.args.round c.args.signal c.requires.in_range) in
+    let lt : c.loop-child.child < length (signals g (suc c.args.round)) = omega (arith, c.loop-child-test.true, c.children-first.ensures.end, children_within g c.args.round c.args.signal c.requires.in_range) in
     subst (λ r. c.loop-child.child < length (signals g r)) e lt
 
 pub bounds-below-child : goal.bounds-below-child
@@ -19,7 +19,7 @@ bounds-below-child c =
     let g = rules_of c.args.signals.now in
     let e : suc c.args.round ≡ c.args.round + 1 = omega arith in
     let n = ap (λ r. length (signals g r)) e in
-    omega (arith, n, c.requires.numbers.long, c.loop-child-test.true, c.children-first.ensures.end, children_in g c.args.round c.args.signal c.requires.in_range)
+    omega (arith, n, c.requires.numbers.long, c.loop-child-test.true, c.children-first.ensures.end, children_within g c.args.round c.args.signal c.requires.in_range)
 
 pub loop-child-preserved : goal.loop-child-preserved
 loop-child-preserved c =

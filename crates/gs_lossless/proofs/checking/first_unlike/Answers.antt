@@ -2,9 +2,10 @@ use Rattle.std.proofs.Common.{◌+◌, ◌≤◌, arith, subst}
 use Rattle.gs_model.specs.Frame.{frame_of}
 use Rattle.gs_model.specs.Game.{round_count}
 use Rattle.gs_model.proofs.Ranges.{signal_count_is}
+use Rattle.gs_model.proofs.Walked.{last_round_of}
 use Rattle.gs_tree.specs.Trees.{rules_of}
 use Rattle.gs_lossless.specs.Stops.{MatchUnlike}
-use Rattle.gs_lossless.proofs.Descent.{last_is, list_long}
+use Rattle.gs_lossless.proofs.Descent.{list_long}
 use Rattle.gs_lossless.proofs.Scanned.{alike_more, first_unlike_from, not_single, refuted}
 use Rattle.gs_lossless.proofs.Settled.{lossless_by_firsts, over}
 use Rattle.gs_lossless.proofs.checking.first_unlike.Goals as goal
@@ -25,7 +26,7 @@ returns-in-Some-clause-unlike c =
     let f = frame_of g in
     let l = c.args.grouped.now.classes.now in
     first_unlike_from f l.lists c.loop-before.before c.first-first.result c.in-Some.second c.class_of-class.result
-    (omega (arith, c.loop-before-test.true, c.rounds-before-end.ensures.value, last_is g))
+    (omega (arith, c.loop-before-test.true, c.rounds-before-end.ensures.value, last_round_of g))
     (subst (MatchUnlike f l.lists (c.loop-before.before + 1)) c.in-Some.is c.in_ok-second.ensures)
     c.class_of-class.ensures.value c.first-first.ensures.value c.loop-before.invariant
 
@@ -51,4 +52,4 @@ returns-clause-lossless c =
     let f = frame_of g in
     let l = c.args.grouped.now.classes.now in
     let classes = over f l c.args.grouped.now.parents c.rounds-rounds.ensures.sound.classes in
-    lossless_by_firsts f l.lists classes.filter (λ r s some top ls. c.loop-before.invariant r some (omega (arith, top, last_is g)) s ls)
+    lossless_by_firsts f l.lists classes.filter (λ r s some top ls. c.loop-before.invariant r some (omega (arith, top, last_round_of g)) s ls)

@@ -4,11 +4,12 @@ use Rattle.std.proofs.lemmas.Bool.{cases_lt}
 use Rattle.gs_model.specs.Frame.{frame_of, last_round}
 use Rattle.gs_model.specs.Signals.{signals}
 use Rattle.gs_model.proofs.Ranges.{in_range, signal_count_is}
+use Rattle.gs_model.proofs.Walked.{last_round_of}
 use Rattle.gs_tree.specs.Trees.{rules_of}
 use Rattle.gs_lossless.specs.Amounts.{AgreesWithFirst}
 use Rattle.gs_lossless.specs.Scans.{AgreeBelow}
 use Rattle.gs_lossless.specs.declared.sides.Side.TheVariants.{Children, Deals}
-use Rattle.gs_lossless.proofs.Descent.{count_last, last_is, playable}
+use Rattle.gs_lossless.proofs.Descent.{count_last, playable}
 use Rattle.gs_lossless.proofs.Scanned.{none_apart}
 use Rattle.gs_lossless.proofs.Settled.{lossless_by_last, over}
 use Rattle.gs_lossless.proofs.checking.settles.Goals as goal
@@ -34,9 +35,9 @@ returns c =
     let l = c.args.grouped.now.classes.now in
     let p = playable c.args.grouped.now.signals.now in
     let classes = over f l c.args.grouped.now.parents c.rounds-rounds.ensures.sound.classes in
-    let top : c.rounds-last.result ≡ last_round f = c.rounds-last.ensures.value ∙ sym (last_is g) in
+    let top : c.rounds-last.result ≡ last_round f = c.rounds-last.ensures.value ∙ sym (last_round_of g) in
     λ t.
     let here = none_apart f l.lists Deals c.rounds-last.result c.count-end-2.result c.in_ok-first_apart-2.field-0 (not_turned (is_some c.in_ok-first_apart-2.field-0) c.is_none.result c.is_none.ensures t) c.in_ok-first_apart-2.ensures in
     lossless_by_last f l.lists (in_range g p) classes.filter
     (λ s ls. subst (λ (k : ℕ). AgreesWithFirst f l.lists Deals k s) top (here s (omega (arith, ls, count_last g p, c.count-end-2.ensures.value, ap (λ (k : ℕ). length (signals g k)) c.rounds-last.ensures.value))))
-    (λ r s some lr ls. c.loop-round.invariant r some (omega (arith, lr, top)) s (omega (arith, ls, signal_count_is g r some (omega (arith, lr, last_is g)))))
+    (λ r s some lr ls. c.loop-round.invariant r some (omega (arith, lr, top)) s (omega (arith, ls, signal_count_is g r some (omega (arith, lr, last_round_of g)))))

@@ -2,33 +2,33 @@ use Rattle.std.proofs.Common.{◌≡◌, ◌<◌, ℕ, None, ap, arith, sym, ◌
 use Rattle.std.specs.Prelude.{unwrap_or}
 use Rattle.gs_model.specs.Frame.{frame_of, last_round, signal_count}
 use Rattle.gs_model.proofs.Ranges.{signal_count_is}
+use Rattle.gs_model.proofs.Walked.{last_round_of}
 use Rattle.gs_tree.specs.Trees.{rules_of}
 use Rattle.gs_lossless.specs.Scans.{IsFirstApart}
 use Rattle.gs_lossless.specs.Stops.{MatchUnlike}
 use Rattle.gs_lossless.specs.declared.sides.Side.TheVariants.{Children}
-use Rattle.gs_lossless.proofs.Descent.{last_is}
 use Rattle.gs_lossless.proofs.Scanned.{children_from, end_in, unlike_from}
 use Rattle.gs_lossless.proofs.checking.unlike_in.Goals as goal
 
 pub count-requires-clause-in_range : goal.count-requires-clause-in_range
-count-requires-clause-in_range c = omega (arith, c.requires.top, last_is (rules_of c.args.grouped.now.signals.now))
+count-requires-clause-in_range c = omega (arith, c.requires.top, last_round_of (rules_of c.args.grouped.now.signals.now))
 
 pub returns-then-round-rounds : goal.returns-then-round-rounds
 returns-then-round-rounds c =
     let g = rules_of c.args.grouped.now.signals.now in
     let f = frame_of g in
-    let last : c.args.round ≡ last_round f = c.if-round-rounds.true ∙ c.rounds.ensures.value ∙ sym (last_is g) in
+    let last : c.args.round ≡ last_round f = c.if-round-rounds.true ∙ c.rounds.ensures.value ∙ sym (last_round_of g) in
     unlike_from f c.args.grouped.now.classes.now.lists c.args.round c.requires.some c.in_ok-apart.apart None c.in_ok-apart.ensures (λ before. absurd (omega (arith, before, last)))
 
 pub first_apart-requires-clause-side : goal.first_apart-requires-clause-side
 first_apart-requires-clause-side c =
-    (c.requires.some, omega (arith, c.requires.top, c.if-round-rounds.false, c.rounds.ensures.value, last_is (rules_of c.args.grouped.now.signals.now)))
+    (c.requires.some, omega (arith, c.requires.top, c.if-round-rounds.false, c.rounds.ensures.value, last_round_of (rules_of c.args.grouped.now.signals.now)))
 
 pub first_apart-requires-clause-within : goal.first_apart-requires-clause-within
 first_apart-requires-clause-within c =
     let g = rules_of c.args.grouped.now.signals.now in
     let in' = end_in (frame_of g) c.args.grouped.now.classes.now.lists c.args.round _ c.in_ok-apart.apart c.in_ok-apart.ensures in
-    let all = signal_count_is g c.args.round c.requires.some (omega (arith, c.requires.top, last_is g)) in
+    let all = signal_count_is g c.args.round c.requires.some (omega (arith, c.requires.top, last_round_of g)) in
     omega (arith, in', all, c.unwrap_or-end.ensures, ap (unwrap_or c.in_ok-apart.apart) (c.count.ensures.value ∙ sym all))
 
 pub returns : goal.returns
@@ -37,8 +37,8 @@ returns c =
     let f = frame_of g in
     let lists = c.args.grouped.now.classes.now.lists in
     let apart = c.in_ok-apart.apart in
-    let before : c.args.round < last_round f = omega (arith, c.requires.top, c.if-round-rounds.false, c.rounds.ensures.value, last_is g) in
+    let before : c.args.round < last_round f = omega (arith, c.requires.top, c.if-round-rounds.false, c.rounds.ensures.value, last_round_of g) in
     let end : c.unwrap_or-end.result ≡ unwrap_or apart (signal_count f c.args.round) = c.unwrap_or-end.ensures
-    ∙ ap (unwrap_or apart) (c.count.ensures.value ∙ sym (signal_count_is g c.args.round c.requires.some (omega (arith, before, last_is g)))) in
+    ∙ ap (unwrap_or apart) (c.count.ensures.value ∙ sym (signal_count_is g c.args.round c.requires.some (omega (arith, before, last_round_of g)))) in
     let children = children_from f lists c.args.round _ c.in_ok-before.before before (subst (λ (n : ℕ). IsFirstApart f lists Children c.args.round n c.in_ok-before.before) end c.in_ok-before.ensures) in
     subst (λ (r : Option ℕ). MatchUnlike f lists c.args.round r) (sym c.or.ensures) (unlike_from f lists c.args.round c.requires.some apart c.in_ok-before.before c.in_ok-apart.ensures children)

@@ -4,17 +4,18 @@ use Rattle.std.proofs.lemmas.List.FromFn.{map-range_with_len_more}
 use Rattle.gs_model.specs.Classes.{class_of}
 use Rattle.gs_model.specs.Frame.{at_round, frame_of, last_round, signal_count}
 use Rattle.gs_model.specs.Signals.{signals}
+use Rattle.gs_model.proofs.Walked.{last_round_of}
 use Rattle.gs_tree.specs.Trees.{rules_of}
-use Rattle.gs_lossless.proofs.Descent.{count_last, last_is, list_long, playable}
+use Rattle.gs_lossless.proofs.Descent.{count_last, list_long, playable}
 use Rattle.gs_lossless.proofs.keys.ancestor_classes.Goals as goal
 
 pub ancestor-requires-clause-last : goal.ancestor-requires-clause-last
-ancestor-requires-clause-last c = omega (arith, c.requires.1, last_is (rules_of c.args.grouped.now.signals.now))
+ancestor-requires-clause-last c = omega (arith, c.requires.1, last_round_of (rules_of c.args.grouped.now.signals.now))
 
 pub class_of-requires-clause-within : goal.class_of-requires-clause-within
 class_of-requires-clause-within c =
     let g = rules_of c.args.grouped.now.signals.now in
-    let n = list_long g c.args.grouped.now.classes.now c.args.grouped.now.parents c.rounds-rounds.ensures.sound c.args.round c.requires.0 (omega (arith, c.requires.1, last_is g)) in
+    let n = list_long g c.args.grouped.now.classes.now c.args.grouped.now.parents c.rounds-rounds.ensures.sound c.args.round c.requires.0 (omega (arith, c.requires.1, last_round_of g)) in
     omega (arith, n, c.ancestor.ensures.within)
 
 pub loop-signal-preserved : goal.loop-signal-preserved

@@ -2,8 +2,9 @@ use Rattle.std.proofs.Common.{◌≡◌, ◌-◌, ◌<◌, ℕ, List, ap, get_or
 use Rattle.gs_model.specs.Frame.{ancestor, frame_of}
 use Rattle.gs_model.specs.Signals.{signals}
 use Rattle.gs_model.proofs.Ranges.{length-parents}
+use Rattle.gs_model.proofs.Walked.{last_round_of}
 use Rattle.gs_tree.specs.Trees.{rules_of}
-use Rattle.gs_lossless.proofs.Descent.{climb, climb_in, last_is, playable, tabled}
+use Rattle.gs_lossless.proofs.Descent.{climb, climb_in, playable, tabled}
 use Rattle.gs_lossless.proofs.runs.ancestor.Goals as goal
 
 pub loop-at-init : goal.loop-at-init
@@ -14,7 +15,7 @@ loop-at-init c =
       from = omega arith;
       to = omega arith;
       within = subst (λ k. c.args.signal < length (signals g k)) (sym n) c.requires.in_range;
-      same = ap (λ k. ancestor (frame_of g) k c.args.round c.args.signal) (n ∙ sym (last_is g));
+      same = ap (λ k. ancestor (frame_of g) k c.args.round c.args.signal) (n ∙ sym (last_round_of g));
     }
 
 pub bounds-parents_in-place : goal.bounds-parents_in-place

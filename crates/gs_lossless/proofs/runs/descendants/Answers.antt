@@ -1,8 +1,8 @@
 use Rattle.std.proofs.Common.{◌∙◌, sym, subst, arith}
 use Rattle.gs_model.specs.Frame.{frame_of}
+use Rattle.gs_model.proofs.Walked.{last_round_of}
 use Rattle.gs_tree.specs.Trees.{rules_of}
 use Rattle.gs_lossless.specs.Amounts.{IsRunIn}
-use Rattle.gs_lossless.proofs.Descent.{last_is}
 use Rattle.gs_lossless.proofs.runs.descendants.Goals as goal
 
 pub descendants_in-requires-clause-onward : goal.descendants_in-requires-clause-onward
@@ -14,4 +14,4 @@ descendants_in-requires-clause-top c = omega (arith, c.rounds.ensures.value)
 pub returns : goal.returns
 returns c =
     let g = rules_of c.args.signals.now in
-    subst (λ k. IsRunIn (frame_of g) k c.args.round c.args.signal c.descendants_in.result.first c.descendants_in.result.end) (c.rounds.ensures.value ∙ sym (last_is g)) c.descendants_in.ensures
+    subst (λ k. IsRunIn (frame_of g) k c.args.round c.args.signal c.descendants_in.result.first c.descendants_in.result.end) (c.rounds.ensures.value ∙ sym (last_round_of g)) c.descendants_in.ensures

@@ -4,12 +4,13 @@ use Rattle.gs_model.specs.Classes.{ClassLists, class_of, class_size, first_membe
 use Rattle.gs_model.specs.Frame.{frame_of}
 use Rattle.gs_model.specs.Numbering.{IsNumbered}
 use Rattle.gs_model.specs.Signals.{signals}
+use Rattle.gs_model.proofs.Walked.{last_round_of}
 use Rattle.gs_tree.specs.Trees.{rules_of}
 use Rattle.gs_lossless.specs.Amounts.{Agree, AreAmounts, key_count, keys_of}
 use Rattle.gs_lossless.specs.Scans.{StandFor, StoredBelow}
 use Rattle.gs_lossless.specs.declared.parts.Part.{Part}
 use Rattle.gs_lossless.proofs.Alike.{last_keys}
-use Rattle.gs_lossless.proofs.Descent.{keys_long, last_is, list_long, playable}
+use Rattle.gs_lossless.proofs.Descent.{keys_long, list_long, playable}
 use Rattle.gs_lossless.proofs.Scanned.{agree_more, agree_self, side_in, stored_first, stored_later, stored_single, stood_agrees, stood_later}
 use Rattle.gs_lossless.proofs.Settled.{first_le, agree_if_same, same_if_agree, single_agrees}
 use Rattle.gs_lossless.proofs.scan.first_apart.Goals as goal
@@ -21,7 +22,7 @@ module _ (c : After-rounds-rounds) where
   long =
       let g = rules_of c.args.grouped.now.signals.now in
       let h = side_in (frame_of g) c.args.side c.args.round c.requires.side in
-      list_long g c.args.grouped.now.classes.now c.args.grouped.now.parents c.rounds-rounds.ensures.sound c.args.round h.0 (omega (arith, h.1, last_is g))
+      list_long g c.args.grouped.now.classes.now c.args.grouped.now.parents c.rounds-rounds.ensures.sound c.args.round h.0 (omega (arith, h.1, last_round_of g))
 
   numbered : IsNumbered (list_of c.args.grouped.now.classes.now.lists c.args.round)
   numbered =

@@ -3,10 +3,12 @@ use Rattle.std.specs.Prelude.{◌==◌}
 use Rattle.std.proofs.lemmas.Result.{IfOk-weaker}
 use Rattle.gs_model.specs.Frame.{frame_of}
 use Rattle.gs_model.specs.Signals.{signals}
+use Rattle.gs_model.proofs.SingleCards.{children_within}
+use Rattle.gs_model.proofs.Walked.{last_round_of}
 use Rattle.gs_tree.specs.Trees.{rules_of}
 use Rattle.gs_lossless.specs.Amounts.{key_count}
 use Rattle.gs_lossless.specs.declared.parts.Part.{Part}
-use Rattle.gs_lossless.proofs.Descent.{children_within, count_last, last_is, playable}
+use Rattle.gs_lossless.proofs.Descent.{count_last, playable}
 use Rattle.gs_lossless.proofs.PartsOf.{ArePartsOf, amounts_from, before_last, of_children, of_deals}
 use Rattle.gs_lossless.proofs.Scanned.{side_in}
 use Rattle.gs_lossless.proofs.sides.side_sums.Goals as goal
@@ -15,7 +17,7 @@ use Rattle.gs_lossless.proofs.sides.side_sums.Goals.{Joined-side, in-Children+in
 pub children-first-requires-clause-before_last : goal.children-first-requires-clause-before_last
 children-first-requires-clause-before_last c =
     let g = rules_of c.args.signals.now in
-    omega (arith, before_last (frame_of g) c.args.side c.args.round c.in-Children.is c.requires.side, last_is g)
+    omega (arith, before_last (frame_of g) c.args.side c.args.round c.in-Children.is c.requires.side, last_round_of g)
 
 pub child_parts-requires-clause-ordered : goal.child_parts-requires-clause-ordered
 child_parts-requires-clause-ordered c = omega (arith, c.children-first.ensures.first, c.children-first.ensures.end)
@@ -31,7 +33,7 @@ pub descendants-run-requires-clause-last : goal.descendants-run-requires-clause-
 descendants-run-requires-clause-last c =
     let g = rules_of c.args.signals.now in
     let side = side_in (frame_of g) c.args.side c.args.round c.requires.side in
-    omega (arith, side.1, last_is g)
+    omega (arith, side.1, last_round_of g)
 
 pub run_parts-requires-clause-within : goal.run_parts-requires-clause-within
 run_parts-requires-clause-within c =
@@ -45,7 +47,7 @@ known c =
       | in-Children+in_ok-parts-in-Children w ↦ of_children c.args.signals.now c.args.side c.args.round c.args.signal c.args.keys.now _ _ _ w.in-Children.is c.requires.side c.requires.in_range
           w.children-first.ensures.first w.children-first.ensures.end (ap items w.parts-is ∙ w.in_ok-parts-in-Children.ensures)
       | in-Deals+in_ok-parts-in-Deals w ↦
-          let by = ap (λ k. c.args.round == k) (w.rounds.ensures.value ∙ sym (last_is (rules_of c.args.signals.now))) in
+          let by = ap (λ k. c.args.round == k) (w.rounds.ensures.value ∙ sym (last_round_of (rules_of c.args.signals.now))) in
           of_deals c.args.signals.now c.args.side c.args.round c.args.signal c.args.keys.now _ _ _ _ w.in-Deals.is by w.descendants-run.ensures (ap items w.parts-is ∙ w.in_ok-parts-in-Deals.ensures)
     ]
 

@@ -9,10 +9,10 @@ use Rattle.gs_model.specs.Classes.{list_of}
 use Rattle.gs_model.specs.Frame.{frame_of, signal_count}
 use Rattle.gs_model.specs.Game.{Game, round_count}
 use Rattle.gs_model.specs.Signals.{Signal, signals}
+use Rattle.gs_model.proofs.Walked.{last_round_of}
 use Rattle.gs_tree.specs.Trees.{rules_of}
 use Rattle.gs_lossless.specs.Scans.{IsFirstApart}
 use Rattle.gs_lossless.specs.declared.sides.Side.TheVariants.{Deals}
-use Rattle.gs_lossless.proofs.Descent.{last_is}
 use Rattle.gs_lossless.proofs.Scanned.{side_signals, side_top}
 use Rattle.gs_lossless.proofs.Settled.{if_ok}
 use Rattle.gs_lossless.proofs.Transfer.{apart_from}
@@ -41,7 +41,7 @@ pub first_apart-requires-clause-side : goal.first_apart-requires-clause-side
 first_apart-requires-clause-side c =
     let h = rules_of c.in_ok-stopped.stopped in
     let l = later (rules_of c.args.grouped.now.signals.now) h c.args.round c.rounds.result c.if-round-rounds.true c.rounds.ensures.value (stops (goal.at.first_apart-requires-clause-side c).In_ok-stopped) in
-    (c.requires.0, omega (arith, l, last_is h))
+    (c.requires.0, omega (arith, l, last_round_of h))
 
 pub first_apart-requires-clause-within : goal.first_apart-requires-clause-within
 first_apart-requires-clause-within c =

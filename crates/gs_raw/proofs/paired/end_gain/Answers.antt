@@ -1,14 +1,14 @@
 use Rattle.std.proofs.Common.{◌+◌, ap, ◌∙◌, subst, arith}
 use Rattle.std.proofs.lemmas.Int.{to_z-of_z}
 use mir.Syntax.{w128}
-use Rattle.gs_best.proofs.Forms.{form_in_range, form_walked}
+use Rattle.gs_best.proofs.Forms.{form_in_range, form_walked, form_signals}
 use Rattle.gs_lossless.specs.Amounts.{IsRunIn}
 use Rattle.gs_model.specs.Classes.{first_member}
 use Rattle.gs_model.specs.Frame.{round_of, signal_count}
 use Rattle.gs_model.specs.Positions.{at_end}
 use Rattle.gs_seq.specs.Abstracts.{frame_of, lists_of}
 use Rattle.gs_seq.specs.Plans.{lifted}
-use Rattle.gs_raw.proofs.SignalPays.{run_pays_hand, signal_few, single_at}
+use Rattle.gs_raw.proofs.SignalPays.{run_pays_hand, single_at}
 use Rattle.gs_raw.proofs.paired.end_gain.Goals as goal
 
 pub overflow_add-signal : goal.overflow_add-signal
@@ -16,7 +16,7 @@ overflow_add-signal c =
     let a = c.args.side.now.form.now in
     let z = c.args.end in
     let w = form_walked a 1 (omega arith) (omega arith) in
-    omega (arith, c.requires.signal, signal_few a 1 (omega arith) (omega (arith, w.end_round z c.requires.end, w.end_in z c.requires.end)))
+    omega (arith, c.requires.signal, form_signals a 1 (omega arith) (omega (arith, w.end_round z c.requires.end, w.end_in z c.requires.end)))
 
 pub run_below-run-requires-clause-class : goal.run_below-run-requires-clause-class
 run_below-run-requires-clause-class c =

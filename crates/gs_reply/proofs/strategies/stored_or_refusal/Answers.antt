@@ -1,7 +1,7 @@
 use Rattle.std.proofs.Common.{◌≢◌, rules}
 use Rattle.gs_strategy.specs.Checks.{Reads}
 use Rattle.gs_strategy.specs.declared.fault.StoreFault.TheVariants.{Memory}
-use Rattle.gs_reply.proofs.Held.{refused, some_fault}
+use Rattle.gs_reply.proofs.Held.{some_fault, strategy_refused}
 use Rattle.gs_reply.proofs.strategies.stored_or_refusal.Goals as goal
 
 pub bad_strategy-requires : goal.bad_strategy-requires
@@ -12,4 +12,4 @@ bad_strategy-requires c =
 pub returns-in_ok-bad_strategy-in-Err-clause-refused : goal.returns-in_ok-bad_strategy-in-Err-clause-refused
 returns-in_ok-bad_strategy-in-Err-clause-refused c =
     let told : c.in-Err.fault ≢ Memory = search rules in
-    refused c.args.which c.args.bytes.now c.in-Err.fault c.in_ok-bad_strategy-in-Err.field-0 told c.in-Err.ensures.exact c.in_ok-bad_strategy-in-Err.ensures
+    strategy_refused c.args.which c.args.bytes.now c.in-Err.fault c.in_ok-bad_strategy-in-Err.field-0 told c.in-Err.ensures.exact c.in_ok-bad_strategy-in-Err.ensures

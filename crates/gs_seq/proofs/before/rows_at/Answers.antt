@@ -1,13 +1,13 @@
 use Rattle.std.proofs.Common.{arith}
-use Rattle.gs_lossless.proofs.Descent.{last_is}
 use Rattle.gs_tree.specs.Trees.{rules_of}
 use Rattle.gs_seq.specs.Games.{frame_in}
 use Rattle.gs_seq.proofs.SlotLaws.{over}
 use Rattle.gs_seq.proofs.before.rows_at.Goals as goal
+use Rattle.gs_model.proofs.Walked.{last_round_of}
 
 pub stopped_classes-requires-clause-top : goal.stopped_classes-requires-clause-top
 stopped_classes-requires-clause-top c =
-    omega (arith, c.requires.before_last, last_is (rules_of c.args.signals.now), (over (frame_in c.args.signals.now.game.now) c.args.classes.now c.requires.parents c.rounds-rounds.ensures.sound).rounds)
+    omega (arith, c.requires.before_last, last_round_of (rules_of c.args.signals.now), (over (frame_in c.args.signals.now.game.now) c.args.classes.now c.requires.parents c.rounds-rounds.ensures.sound).rounds)
 
 pub rows_in-requires-clause-top : goal.rows_in-requires-clause-top
-rows_in-requires-clause-top c = omega (arith, c.requires.before_last, last_is (rules_of c.args.signals.now))
+rows_in-requires-clause-top c = omega (arith, c.requires.before_last, last_round_of (rules_of c.args.signals.now))

@@ -1,8 +1,8 @@
 use Rattle.std.proofs.Common.{◌≡◌, ◌+◌, ◌∙◌, ap, Vec, Global, length, sym, arith}
 use Rattle.std.proofs.lemmas.List.{length_push}
-use Rattle.gs_lossless.proofs.Descent.{last_is}
 use Rattle.gs_model.specs.Frame.{last_round}
 use Rattle.gs_model.specs.Lossless.{IsLossless}
+use Rattle.gs_model.proofs.Walked.{last_round_of}
 use Rattle.gs_tree.specs.Trees.{rules_of}
 use Rattle.gs_tree.specs.declared.signals.Signals.{Signals}
 use Rattle.gs_seq.specs.Games.{frame_in}
@@ -28,5 +28,5 @@ loop-before-preserved c =
 pub returns-clause-long : goal.returns-clause-long
 returns-clause-long c =
     let last : c.rounds-count.result ≡ last_round (frame_in c.args.lossless.now.signals.now.game.now) =
-    c.rounds-count.ensures.value ∙ sym (last_is (rules_of c.signals-signals.result.now)) ∙ ap (λ (x : Signals). last_round (frame_in x.game.now)) c.signals-signals.ensures.held in
+    c.rounds-count.ensures.value ∙ sym (last_round_of (rules_of c.signals-signals.result.now)) ∙ ap (λ (x : Signals). last_round (frame_in x.game.now)) c.signals-signals.ensures.held in
     omega (arith, c.loop-before.invariant.long, last, c.rounds-count.ensures.some, c.loop-before-test.false, c.loop-before.auto.before-end)

@@ -1,6 +1,5 @@
 use Rattle.std.proofs.Common.{◌+◌, ◌∙◌, Vec, sym, arith}
 use Rattle.std.specs.declared.alloc.Global.{Global}
-use Rattle.gs_lossless.proofs.Descent.{last_is}
 use Rattle.gs_tree.specs.Trees.{rules_of}
 use Rattle.gs_seq.specs.Games.{frame_in}
 use Rattle.gs_seq.specs.Rows.{IsRow}
@@ -9,13 +8,14 @@ use Rattle.gs_seq.proofs.CellLaws.{pushed_to}
 use Rattle.gs_seq.proofs.SlotLaws.{over}
 use Rattle.gs_seq.proofs.Stopped.{in_stopped}
 use Rattle.gs_seq.proofs.before.rows_by.Goals as goal
+use Rattle.gs_model.proofs.Walked.{last_round_of}
 
 pub side_keys-requires-clause-side : goal.side_keys-requires-clause-side
 side_keys-requires-clause-side c = in_stopped c.args.at.now.signals.now.game.now c.args.at.now.stopped.now.game.now c.args.at.now.round c.args.at.now.some (omega (arith, c.args.at.now.before_last)) c.args.at.now.stops
 
 pub classes-count-requires-clause-top : goal.classes-count-requires-clause-top
 classes-count-requires-clause-top c =
-    omega (arith, c.args.at.now.before_last, last_is (rules_of c.args.at.now.signals.now), (over (frame_in c.args.at.now.signals.now.game.now) c.args.at.now.classes.now c.args.at.now.parents c.rounds-rounds.ensures.sound).rounds)
+    omega (arith, c.args.at.now.before_last, last_round_of (rules_of c.args.at.now.signals.now), (over (frame_in c.args.at.now.signals.now.game.now) c.args.at.now.classes.now c.args.at.now.parents c.rounds-rounds.ensures.sound).rounds)
 
 pub loop-before-preserved : goal.loop-before-preserved
 loop-before-preserved c =

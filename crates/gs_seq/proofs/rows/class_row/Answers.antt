@@ -1,13 +1,14 @@
 use Rattle.std.proofs.Common.{◌≡◌, length, ap, sym, ◌∙◌, subst, arith}
 use Rattle.gs_lossless.specs.Amounts.{AreAmounts}
 use Rattle.gs_lossless.specs.declared.sides.Side.TheVariants.{Deals}
-use Rattle.gs_lossless.proofs.Descent.{keys_long, last_is, list_long, playable}
+use Rattle.gs_lossless.proofs.Descent.{keys_long, list_long, playable}
 use Rattle.gs_lossless.proofs.Settled.{if_ok}
 use Rattle.gs_tree.specs.Trees.{rules_of}
 use Rattle.gs_seq.specs.Games.{frame_in}
 use Rattle.gs_seq.specs.Rows.{IsRow, gathered}
 use Rattle.gs_seq.proofs.RowRoom.{row_fits, row_is}
 use Rattle.gs_seq.proofs.rows.class_row.Goals as goal
+use Rattle.gs_model.proofs.Walked.{last_round_of}
 
 pub side_sums-requires-clause-all : goal.side_sums-requires-clause-all
 side_sums-requires-clause-all c =
@@ -17,7 +18,7 @@ side_sums-requires-clause-all c =
 pub side_sums-requires-clause-in_range : goal.side_sums-requires-clause-in_range
 side_sums-requires-clause-in_range c =
     let g = rules_of c.args.signals.now in
-    omega (arith, c.first-first.ensures.within, list_long g c.args.classes.now c.requires.parents c.rounds-rounds.ensures.sound c.args.round c.requires.some (omega (arith, c.requires.top, last_is g)))
+    omega (arith, c.first-first.ensures.within, list_long g c.args.classes.now c.requires.parents c.rounds-rounds.ensures.sound c.args.round c.requires.some (omega (arith, c.requires.top, last_round_of g)))
 
 pub row_of-requires : goal.row_of-requires
 row_of-requires c =

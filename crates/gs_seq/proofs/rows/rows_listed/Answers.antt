@@ -1,7 +1,7 @@
 use Rattle.std.proofs.Common.{◌≡◌, ◌+◌, ◌-◌, ◌++◌, ◌∷◌, [], ℕ, List, Vec, Global, ap, get_or, length, sym, ◌∙◌, subst, arith}
-use Rattle.gs_lossless.proofs.Descent.{last_is}
 use Rattle.gs_model.specs.Frame.{last_round}
 use Rattle.gs_model.specs.Lossless.{IsLossless}
+use Rattle.gs_model.proofs.Walked.{last_round_of}
 use Rattle.gs_tree.specs.Trees.{rules_of}
 use Rattle.gs_tree.specs.declared.signals.Signals.{Signals}
 use Rattle.gs_seq.specs.Games.{frame_in}
@@ -15,7 +15,7 @@ pub rows_in-requires-clause-lossless : goal.rows_in-requires-clause-lossless
 rows_in-requires-clause-lossless c = read_of c.args.lossless.now c.signals-signals.result.now c.classes.result.now IsLossless c.signals-signals.ensures.held c.classes.ensures.held c.classes.ensures.lossless
 
 pub rows_in-requires-clause-top : goal.rows_in-requires-clause-top
-rows_in-requires-clause-top c = omega (arith, c.rounds-last.ensures.value, last_is (rules_of c.signals-signals.result.now))
+rows_in-requires-clause-top c = omega (arith, c.rounds-last.ensures.value, last_round_of (rules_of c.signals-signals.result.now))
 
 pub loop-round-init : goal.loop-round-init
 loop-round-init c =
@@ -23,7 +23,7 @@ loop-round-init c =
     let first = c.in_ok-rows_in.field-0 in
     let round : ℕ = c.rounds-last.result in
     let last : round ≡ last_round (frame_in s.signals.now.game.now) =
-    c.rounds-last.ensures.value ∙ sym (last_is (rules_of c.signals-signals.result.now)) ∙ ap (λ (x : Signals). last_round (frame_in x.game.now)) c.signals-signals.ensures.held in
+    c.rounds-last.ensures.value ∙ sym (last_round_of (rules_of c.signals-signals.result.now)) ∙ ap (λ (x : Signals). last_round (frame_in x.game.now)) c.signals-signals.ensures.held in
     let items : c.push.new.self.items ≡ first ∷ [] = c.in_ok-push.ensures.items ∙ ap (λ xs. xs ++ first ∷ []) c.in_ok-rows.ensures.items in
     let here = held_by s c.signals-signals.result.now c.classes.result.now (λ f lists. AreRowsIn f lists round first.items) c.signals-signals.ensures.held c.classes.ensures.held c.in_ok-rows_in.ensures in
     record {

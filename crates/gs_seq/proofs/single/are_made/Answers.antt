@@ -1,6 +1,6 @@
 use Rattle.std.proofs.Common.{◌≡◌, ◌∙◌, sym, subst, arith}
-use Rattle.gs_lossless.proofs.Descent.{last_is}
 use Rattle.gs_model.specs.Frame.{last_round}
+use Rattle.gs_model.proofs.Walked.{last_round_of}
 use Rattle.gs_tree.specs.Trees.{rules_of}
 use Rattle.gs_seq.specs.Games.{frame_in}
 use Rattle.gs_seq.specs.Rows.{IsSingleIn}
@@ -10,9 +10,9 @@ use Rattle.gs_seq.proofs.single.are_made.Goals as goal
 pub is_single-requires-clause-top : goal.is_single-requires-clause-top
 is_single-requires-clause-top c =
     let f = frame_in c.args.signals.now.game.now in
-    omega (arith, c.rounds.ensures.value, last_is (rules_of c.args.signals.now), (over f c.args.classes.now c.requires c.rounds-rounds.ensures.sound).rounds)
+    omega (arith, c.rounds.ensures.value, last_round_of (rules_of c.args.signals.now), (over f c.args.classes.now c.requires c.rounds-rounds.ensures.sound).rounds)
 
 pub returns-then-is_large : goal.returns-then-is_large
 returns-then-is_large c =
-    let last : c.rounds.result ≡ last_round (frame_in c.args.signals.now.game.now) = c.rounds.ensures.value ∙ sym (last_is (rules_of c.args.signals.now)) in
+    let last : c.rounds.result ≡ last_round (frame_in c.args.signals.now.game.now) = c.rounds.ensures.value ∙ sym (last_round_of (rules_of c.args.signals.now)) in
     λ t. subst (IsSingleIn c.args.classes.now.lists) last (c.is_single.ensures t)

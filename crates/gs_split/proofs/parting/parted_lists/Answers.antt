@@ -3,20 +3,20 @@ use Rattle.std.proofs.lemmas.List.{map-append}
 use Rattle.gs_model.specs.Classes.{ClassLists, list_of}
 use Rattle.gs_model.specs.Frame.{frame_of, last_round, signal_count}
 use Rattle.gs_model.specs.Rows.{rows}
+use Rattle.gs_model.proofs.Walked.{last_round_of}
 use Rattle.gs_filter.proofs.RowLaws.{length-rows, round_read}
 use Rattle.gs_tree.specs.Trees.{rules_of}
-use Rattle.gs_lossless.proofs.Descent.{last_is}
 use Rattle.gs_split.specs.Turns.{IsRoundParted, classes_above}
 use Rattle.gs_split.proofs.Turned.{ArePartedTo, above_long, above_some, all_turned, turned_more}
 use Rattle.gs_split.proofs.parting.parted_lists.Goals as goal
 
 pub bounds-numbers-from : goal.bounds-numbers-from
 bounds-numbers-from c =
-    let l = last_is (rules_of c.args.grouped.now.signals.now) in
+    let l = last_round_of (rules_of c.args.grouped.now.signals.now) in
     omega (arith, c.from-in-loop-done.ensures, c.requires.rounds, length-rows c.args.numbers.now, c.loop-done-test.true, c.rounds-done-end.ensures.value, l)
 
 pub round_parted-requires-clause-top : goal.round_parted-requires-clause-top
-round_parted-requires-clause-top c = omega (arith, c.loop-done-test.true, c.rounds-done-end.ensures.value, last_is (rules_of c.args.grouped.now.signals.now))
+round_parted-requires-clause-top c = omega (arith, c.loop-done-test.true, c.rounds-done-end.ensures.value, last_round_of (rules_of c.args.grouped.now.signals.now))
 
 pub round_parted-requires-clause-any : goal.round_parted-requires-clause-any
 round_parted-requires-clause-any c = λ one.
@@ -35,7 +35,7 @@ round_parted-requires-clause-above c = λ more.
 pub round_parted-requires-clause-numbers : goal.round_parted-requires-clause-numbers
 round_parted-requires-clause-numbers c =
     let f = frame_of (rules_of c.args.grouped.now.signals.now) in
-    let lt : c.loop-done.done + 1 ≤ last_round f = omega (arith, c.loop-done-test.true, c.rounds-done-end.ensures.value, last_is (rules_of c.args.grouped.now.signals.now)) in
+    let lt : c.loop-done.done + 1 ≤ last_round f = omega (arith, c.loop-done-test.true, c.rounds-done-end.ensures.value, last_round_of (rules_of c.args.grouped.now.signals.now)) in
     let at = c.deref-in-loop-done.ensures.value ∙ round_read c.args.numbers.now c.from-in-loop-done.result c.index-numbers-from.result (omega (arith, c.from-in-loop-done.ensures, c.requires.rounds, length-rows c.args.numbers.now, lt)) c.index-numbers-from.is in
     ap (λ (l : List ℕ). length l) at ∙ ap (λ k. length (list_of (rows c.args.numbers.now) (k + 1))) c.from-in-loop-done.ensures ∙ c.requires.each (c.loop-done.done + 1) (omega arith) lt
 
@@ -47,7 +47,7 @@ loop-done-preserved c =
     let lists = c.loop-done.lists.items in
     let here = c.in_ok-here.here in
     let above = c.last_classes-above.result.now in
-    let lt : c.loop-done.done + 1 ≤ last_round f = omega (arith, c.loop-done-test.true, c.rounds-done-end.ensures.value, last_is (rules_of c.args.grouped.now.signals.now)) in
+    let lt : c.loop-done.done + 1 ≤ last_round f = omega (arith, c.loop-done-test.true, c.rounds-done-end.ensures.value, last_round_of (rules_of c.args.grouped.now.signals.now)) in
     let is = c.last_classes-above.ensures ∙ ap (λ (vs : List (Vec ℕ Global)). classes_above (rows vs)) c.deref.ensures.value in
     let at = c.deref-in-loop-done.ensures.value ∙ round_read c.args.numbers.now c.from-in-loop-done.result c.index-numbers-from.result (omega (arith, c.from-in-loop-done.ensures, c.requires.rounds, length-rows c.args.numbers.now, lt)) c.index-numbers-from.is ∙ ap (λ k. list_of numbers (k + 1)) c.from-in-loop-done.ensures in
     let more : rows c.push.new.self.items ≡ rows lists ++ here.items ∷ [] = ap (λ (vs : List (Vec ℕ Global)). rows vs) c.in_ok-push.ensures.items ∙ map-append (λ (v : Vec ℕ Global). v.items) lists (here ∷ []) in
@@ -63,4 +63,4 @@ pub returns : goal.returns
 returns c =
     let g = rules_of c.args.grouped.now.signals.now in
     all_turned (frame_of g) c.args.grouped.now.classes.now.lists (rows c.args.numbers.now) (rows c.loop-done.lists.items)
-    (omega (arith, c.loop-done.invariant.long, c.loop-done-test.false, c.loop-done.auto.done-end, c.rounds-done-end.ensures.value, last_is g)) c.loop-done.invariant.each
+    (omega (arith, c.loop-done.invariant.long, c.loop-done-test.false, c.loop-done.auto.done-end, c.rounds-done-end.ensures.value, last_round_of g)) c.loop-done.invariant.each

@@ -4,8 +4,9 @@ use Rattle.gs_model.specs.Classes.{list_of}
 use Rattle.gs_model.specs.Frame.{frame_of}
 use Rattle.gs_model.specs.Game.{round_count}
 use Rattle.gs_model.proofs.Ranges.{length-parents, parents_at, signal_count_is}
+use Rattle.gs_model.proofs.Walked.{last_round_of}
 use Rattle.gs_tree.specs.Trees.{rules_of}
-use Rattle.gs_lossless.proofs.Descent.{last_is, list_long}
+use Rattle.gs_lossless.proofs.Descent.{list_long}
 use Rattle.gs_numbers.specs.Numbers.{IsKeyClasses}
 use Rattle.gs_split.specs.Turns.{IsRoundParted, turn_key}
 use Rattle.gs_split.proofs.Turned.{both_ok, first_parents, list_read, parents_under, round_made}
@@ -13,13 +14,13 @@ use Rattle.gs_split.proofs.parting.round_parted.Goals as goal
 use Rattle.gs_split.proofs.parting.round_parted.Goals.{After-deref}
 
 pub parents_in-requires-clause-last : goal.parents_in-requires-clause-last
-parents_in-requires-clause-last c = omega (arith, c.requires.top, last_is (rules_of c.args.grouped.now.signals.now))
+parents_in-requires-clause-last c = omega (arith, c.requires.top, last_round_of (rules_of c.args.grouped.now.signals.now))
 
 pub round_classes-requires : goal.round_classes-requires
 round_classes-requires c =
     let g = rules_of c.args.grouped.now.signals.now in
     let round = c.args.round in
-    let top : round ≤ round_count g = omega (arith, c.requires.top, last_is g) in
+    let top : round ≤ round_count g = omega (arith, c.requires.top, last_round_of g) in
     let n = c.args.grouped.now.signals.now.game.now.limits.signals_in round top in
     let m = signal_count_is g round c.requires.some top in
     omega (arith, n, m, c.requires.numbers)
@@ -34,7 +35,7 @@ pub invariant_of-keys : goal.invariant_of-keys
 invariant_of-keys c =
     let g = rules_of c.args.grouped.now.signals.now in
     let round = c.args.round in
-    let top : round ≤ round_count g = omega (arith, c.requires.top, last_is g) in
+    let top : round ≤ round_count g = omega (arith, c.requires.top, last_round_of g) in
     let sound = c.rounds-rounds.ensures.sound in
     let many = sym (signal_count_is g round c.requires.some top) ∙ sym c.requires.numbers in
     record {
@@ -52,7 +53,7 @@ returns c =
     let lists = c.args.grouped.now.classes.now.lists in
     let above = c.args.above.now in
     let numbers = c.args.numbers.now in
-    let top : round ≤ round_count g = omega (arith, c.requires.top, last_is g) in
+    let top : round ≤ round_count g = omega (arith, c.requires.top, last_round_of g) in
     let ps = c.parents_in.ensures ∙ sym (parents_at g round c.requires.some top) in
     both_ok c.round_classes.result
     (λ (v : Vec ℕ Global). length v.items ≡ length numbers)

@@ -1,9 +1,9 @@
 use Rattle.std.proofs.Common.{◌≡◌, ◌+◌, ◌-◌, ◌++◌, ◌∷◌, ℕ, List, [], ap, arith, get_or, length, subst, sym, ◌∙◌, Vec, Global}
 use Rattle.gs_model.specs.Frame.{frame_of, last_round}
 use Rattle.gs_model.specs.Rows.{rows}
+use Rattle.gs_model.proofs.Walked.{last_round_of}
 use Rattle.gs_filter.proofs.RowLaws.{length-rows}
 use Rattle.gs_tree.specs.Trees.{rules_of}
-use Rattle.gs_lossless.proofs.Descent.{last_is}
 use Rattle.gs_split.specs.Proposal.{AreFair, AreFairFrom}
 use Rattle.gs_split.proofs.Proposed.{fair_last_alone, fair_more}
 use Rattle.gs_split.proofs.proposal.all_numbers.Goals as goal
@@ -14,7 +14,7 @@ loop-round-init c =
     let f = frame_of g in
     let lists = c.args.grouped.now.classes.now.lists in
     let r = c.rounds-round.result in
-    let is : r ≡ last_round f = omega (arith, c.rounds-round.ensures.value, last_is g) in
+    let is : r ≡ last_round f = omega (arith, c.rounds-round.ensures.value, last_round_of g) in
     let e : c.push.new.self.items ≡ c.args.last ∷ [] = c.in_ok-push.ensures.items ∙ ap (λ (xs : List (Vec ℕ Global)). xs ++ c.args.last ∷ []) c.in_ok-numbers.ensures.items in
     record {
       some = omega (arith, c.rounds-round.ensures.some);

@@ -4,8 +4,9 @@ use Rattle.gs_model.specs.Classes.{list_of}
 use Rattle.gs_model.specs.Frame.{frame_of, signal_count}
 use Rattle.gs_model.specs.Signals.{parents, signals}
 use Rattle.gs_model.proofs.Ranges.{length-parents, signal_count_is}
+use Rattle.gs_model.proofs.Walked.{last_round_of}
 use Rattle.gs_tree.specs.Trees.{rules_of}
-use Rattle.gs_lossless.proofs.Descent.{last_is, list_long, playable}
+use Rattle.gs_lossless.proofs.Descent.{list_long, playable}
 use Rattle.gs_split.specs.Proposal.{AreFair, child_number}
 use Rattle.gs_split.proofs.Proposed.{children_fair}
 use Rattle.gs_split.proofs.Turned.{both_ok, list_next, parents_under}
@@ -13,7 +14,7 @@ use Rattle.gs_split.proofs.proposal.fair_numbers.Goals as goal
 use Rattle.gs_split.proofs.proposal.fair_numbers.Goals.{After-count, After-deref, After-parents_in-parents}
 
 pub parents_in-parents-requires-clause-last : goal.parents_in-parents-requires-clause-last
-parents_in-parents-requires-clause-last c = omega (arith, c.requires.before_last, last_is (rules_of c.args.grouped.now.signals.now))
+parents_in-parents-requires-clause-last c = omega (arith, c.requires.before_last, last_round_of (rules_of c.args.grouped.now.signals.now))
 
 -- the classes of the next round
 next : (c : After-deref) → c.deref.result.now ≡ list_of c.args.grouped.now.classes.now.lists (c.args.round + 1)
@@ -29,25 +30,25 @@ many c = sym (length-parents (rules_of c.args.grouped.now.signals.now) (c.args.r
 count : (c : After-count) → c.count.result ≡ signal_count (frame_of (rules_of c.args.grouped.now.signals.now)) c.args.round
 count c =
     let g = rules_of c.args.grouped.now.signals.now in
-    c.count.ensures.value ∙ sym (signal_count_is g c.args.round c.requires.some (omega (arith, c.requires.before_last, last_is g)))
+    c.count.ensures.value ∙ sym (signal_count_is g c.args.round c.requires.some (omega (arith, c.requires.before_last, last_round_of g)))
 
 pub child_numbers-requires-clause-classes : goal.child_numbers-requires-clause-classes
 child_numbers-requires-clause-classes c =
     let g = rules_of c.args.grouped.now.signals.now in
     ap (λ (l : List ℕ). length l) (next (goal.at.child_numbers-requires-clause-classes c).After-deref)
-    ∙ list_long g c.args.grouped.now.classes.now c.args.grouped.now.parents c.rounds-rounds.ensures.sound (c.args.round + 1) (omega arith) (omega (arith, c.requires.before_last, last_is g)) ∙ many (goal.at.child_numbers-requires-clause-classes c).After-parents_in-parents
+    ∙ list_long g c.args.grouped.now.classes.now c.args.grouped.now.parents c.rounds-rounds.ensures.sound (c.args.round + 1) (omega arith) (omega (arith, c.requires.before_last, last_round_of g)) ∙ many (goal.at.child_numbers-requires-clause-classes c).After-parents_in-parents
 
 pub child_numbers-requires-clause-numbers : goal.child_numbers-requires-clause-numbers
 child_numbers-requires-clause-numbers c =
     let g = rules_of c.args.grouped.now.signals.now in
-    c.requires.fair.long ∙ signal_count_is g (c.args.round + 1) (omega arith) (omega (arith, c.requires.before_last, last_is g)) ∙ many (goal.at.child_numbers-requires-clause-numbers c).After-parents_in-parents
+    c.requires.fair.long ∙ signal_count_is g (c.args.round + 1) (omega arith) (omega (arith, c.requires.before_last, last_round_of g)) ∙ many (goal.at.child_numbers-requires-clause-numbers c).After-parents_in-parents
 
 pub child_numbers-requires-clause-in_range : goal.child_numbers-requires-clause-in_range
 child_numbers-requires-clause-in_range c =
     let f = frame_of (rules_of c.args.grouped.now.signals.now) in
     let down : c.args.round ≡ c.args.round + 1 - 1 = omega arith in
     subst (λ (ps : List ℕ). All (λ p. p < c.count.result) ps) (sym c.parents_in-parents.ensures)
-    (parents_under c.args.grouped.now.signals.now (c.args.round + 1) c.count.result (omega arith) (omega (arith, c.requires.before_last, last_is (rules_of c.args.grouped.now.signals.now))) (λ one. absurd (omega (arith, one, c.requires.some)))
+    (parents_under c.args.grouped.now.signals.now (c.args.round + 1) c.count.result (omega arith) (omega (arith, c.requires.before_last, last_round_of (rules_of c.args.grouped.now.signals.now))) (λ one. absurd (omega (arith, one, c.requires.some)))
     (λ _. count (goal.at.child_numbers-requires-clause-in_range c).After-count ∙ ap (signal_count f) down))
 
 pub returns : goal.returns
@@ -67,4 +68,4 @@ returns c =
     c.child_numbers.ensures.long c.child_numbers.ensures.each
 
 pub count-requires-clause-in_range : goal.count-requires-clause-in_range
-count-requires-clause-in_range c = omega (arith, c.requires.before_last, last_is (rules_of c.args.grouped.now.signals.now))
+count-requires-clause-in_range c = omega (arith, c.requires.before_last, last_round_of (rules_of c.args.grouped.now.signals.now))

@@ -3,11 +3,12 @@ use Rattle.gs_model.specs.Classes.{list_of}
 use Rattle.gs_model.specs.Frame.{frame_of, last_round, signal_count}
 use Rattle.gs_model.specs.Game.{Game, round_count}
 use Rattle.gs_model.proofs.Ranges.{signal_count_is}
+use Rattle.gs_model.proofs.Walked.{last_round_of}
 use Rattle.gs_filter.proofs.RowLaws.{length-rows}
 use Rattle.gs_tree.specs.Trees.{rules_of}
 use Rattle.gs_tree.specs.Walk.{last_count}
 use Rattle.gs_tree.specs.declared.signals.Signals.{Signals}
-use Rattle.gs_lossless.proofs.Descent.{last_is, list_long, playable}
+use Rattle.gs_lossless.proofs.Descent.{list_long, playable}
 use Rattle.gs_split.specs.Proposal.{AreFair, deal_number}
 use Rattle.gs_split.proofs.Proposed.{deals_fair}
 use Rattle.gs_split.proofs.Turned.{both_ok, list_read}
@@ -21,7 +22,7 @@ deal_numbers-requires c =
     let some : 0 < round_count g = (playable s).some in
     let sound = c.rounds-rounds.ensures.sound in
     let all = sound.classes.rounds ∙ ap (λ (ps : List (List ℕ)). length ps) c.args.grouped.now.parents in
-    let here = list_read c.lists.result.now c.args.grouped.now.classes.now.lists c.from.result (round_count g) c.index-lists-from.result c.deref.result.now c.lists.ensures.value (omega (arith, c.from.ensures, c.rounds-last.ensures.value)) some (omega (arith, all, last_is g)) c.index-lists-from.is c.deref.ensures.value in
+    let here = list_read c.lists.result.now c.args.grouped.now.classes.now.lists c.from.result (round_count g) c.index-lists-from.result c.deref.result.now c.lists.ensures.value (omega (arith, c.from.ensures, c.rounds-last.ensures.value)) some (omega (arith, all, last_round_of g)) c.index-lists-from.is c.deref.ensures.value in
     ap (λ (l : List ℕ). length l) here ∙ list_long g c.args.grouped.now.classes.now c.args.grouped.now.parents sound (round_count g) some (omega arith) ∙ ap (λ (x : Signals). last_count (rules_of x)) (sym c.requires)
 
 pub returns : goal.returns
@@ -31,11 +32,11 @@ returns c =
     let f = frame_of g in
     let lists = c.args.grouped.now.classes.now.lists in
     let last = last_round f in
-    let top : last ≤ round_count g = omega (arith, last_is g) in
-    let some : 0 < last = omega (arith, last_is g, (playable s).some) in
+    let top : last ≤ round_count g = omega (arith, last_round_of g) in
+    let some : 0 < last = omega (arith, last_round_of g, (playable s).some) in
     let sound = c.rounds-rounds.ensures.sound in
     let all = sound.classes.rounds ∙ ap (λ (ps : List (List ℕ)). length ps) c.args.grouped.now.parents in
-    let here : c.deref.result.now ≡ list_of lists last = list_read c.lists.result.now lists c.from.result last c.index-lists-from.result c.deref.result.now c.lists.ensures.value (omega (arith, c.from.ensures, c.rounds-last.ensures.value, last_is g)) some (omega (arith, all)) c.index-lists-from.is c.deref.ensures.value in
+    let here : c.deref.result.now ≡ list_of lists last = list_read c.lists.result.now lists c.from.result last c.index-lists-from.result c.deref.result.now c.lists.ensures.value (omega (arith, c.from.ensures, c.rounds-last.ensures.value, last_round_of g)) some (omega (arith, all)) c.index-lists-from.is c.deref.ensures.value in
     let long : length (list_of lists last) ≡ signal_count f last = list_long g c.args.grouped.now.classes.now c.args.grouped.now.parents sound last some top ∙ sym (signal_count_is g last some top) in
     let same : rules_of c.args.order.now.signals.now ≡ g = ap (λ (x : Signals). rules_of x) c.requires in
     both_ok c.deal_numbers.result
@@ -52,4 +53,4 @@ bounds-lists-from c =
     let g = rules_of c.args.grouped.now.signals.now in
     let all = c.rounds-rounds.ensures.sound.classes.rounds ∙ ap (λ (ps : List (List ℕ)). length ps) c.args.grouped.now.parents in
     let long = ap (λ (l : List (List ℕ)). length l) c.lists.ensures.value in
-    omega (arith, c.from.ensures, c.rounds-last.ensures.value, c.rounds-last.ensures.some, all, long, length-rows c.lists.result.now, last_is g)
+    omega (arith, c.from.ensures, c.rounds-last.ensures.value, c.rounds-last.ensures.some, all, long, length-rows c.lists.result.now, last_round_of g)

@@ -2,12 +2,13 @@ use Rattle.std.proofs.Common.{◌≡◌, ◌∙◌, ◌≤◌, ap, arith, length
 use Rattle.std.proofs.lemmas.Result.{IfOk-weaker}
 use Rattle.gs_model.specs.Frame.{frame_of}
 use Rattle.gs_model.specs.Game.{round_count}
+use Rattle.gs_model.proofs.Walked.{last_round_of}
 use Rattle.gs_tree.specs.Trees.{rules_of}
 use Rattle.gs_tree.specs.Walk.{last_count}
 use Rattle.gs_tree.specs.declared.signals.Signals.{Signals}
 use Rattle.gs_alike.specs.Alike.{AreStandIns}
 use Rattle.gs_lossless.proofs.Alike.{firsts_of_deals, last_keys}
-use Rattle.gs_lossless.proofs.Descent.{last_is, playable}
+use Rattle.gs_lossless.proofs.Descent.{playable}
 use Rattle.gs_lossless.proofs.Scanned.{side_in}
 use Rattle.gs_split.proofs.Agreed.{firsts_of_themselves}
 use Rattle.gs_split.proofs.sides.side_firsts.Goals as goal
@@ -28,12 +29,12 @@ returns-then-round-rounds c =
 pub count-count-requires-clause-in_range : goal.count-count-requires-clause-in_range
 count-count-requires-clause-in_range c =
     let g = rules_of c.args.signals.now in
-    let h = side_in (frame_of g) c.args.side c.args.round c.requires.side in omega (arith, h.1, last_is g)
+    let h = side_in (frame_of g) c.args.side c.args.round c.requires.side in omega (arith, h.1, last_round_of g)
 
 pub returns : goal.returns
 returns c =
     let g = rules_of c.args.signals.now in
     let h = side_in (frame_of g) c.args.side c.args.round c.requires.side in
-    let top : c.args.round ≤ round_count g = omega (arith, h.1, last_is g) in
+    let top : c.args.round ≤ round_count g = omega (arith, h.1, last_round_of g) in
     let all : c.loop-signal.signal ≡ c.count-count.result = omega (arith, c.loop-signal-test.false) in
     λ lists e. firsts_of_themselves g c.args.side c.args.round c.loop-signal.signal lists c.loop-signal.firsts.items h.0 top (all ∙ c.count-count.ensures.value) c.loop-signal.invariant.long c.loop-signal.invariant.each

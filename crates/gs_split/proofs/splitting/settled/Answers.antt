@@ -1,8 +1,9 @@
 use Rattle.std.proofs.Common.{◌∙◌, Bool, List, arith, rules, subst, sym}
 use Rattle.gs_model.specs.Frame.{frame_of}
 use Rattle.gs_model.proofs.Ranges.{in_range}
+use Rattle.gs_model.proofs.Walked.{last_round_of}
 use Rattle.gs_tree.specs.Trees.{rules_of}
-use Rattle.gs_lossless.proofs.Descent.{last_is, playable}
+use Rattle.gs_lossless.proofs.Descent.{playable}
 use Rattle.gs_lossless.proofs.Settled.{over}
 use Rattle.gs_split.specs.Turns.{AreKnown}
 use Rattle.gs_split.proofs.Known.{none_known}
@@ -12,14 +13,14 @@ use Rattle.gs_split.proofs.splitting.settled.Goals as goal
 pub turn-requires-clause-known : goal.turn-requires-clause-known
 turn-requires-clause-known c =
     let g = rules_of c.args.signals.now in
-    none_known (frame_of g) c.args.from.now.lists c.deref.result.now c.from.result (c.deref.ensures.value ∙ c.in_ok-known.ensures.items_if_clones_equal (λ y k. search rules)) (omega (arith, c.from.ensures, c.rounds.ensures.value, last_is g))
+    none_known (frame_of g) c.args.from.now.lists c.deref.result.now c.from.result (c.deref.ensures.value ∙ c.in_ok-known.ensures.items_if_clones_equal (λ y k. search rules)) (omega (arith, c.from.ensures, c.rounds.ensures.value, last_round_of g))
 
 pub loop-total-init : goal.loop-total-init
 loop-total-init c =
     let g = rules_of c.args.signals.now in
     record {
       parents = search rules;
-      known = none_known (frame_of g) c.in_ok-classes.classes.lists c.in_ok-known.known.items c.from.result (c.in_ok-known.ensures.items_if_clones_equal (λ y k. search rules)) (omega (arith, c.from.ensures, c.rounds.ensures.value, last_is g));
+      known = none_known (frame_of g) c.in_ok-classes.classes.lists c.in_ok-known.known.items c.from.result (c.in_ok-known.ensures.items_if_clones_equal (λ y k. search rules)) (omega (arith, c.from.ensures, c.rounds.ensures.value, last_round_of g));
       underway = search rules;
     }
 
@@ -47,4 +48,4 @@ returns-clause-coarsest c =
     let p = playable c.args.signals.now in
     let now = c.loop-total.classes in
     let k = over f now c.loop-total.invariant.parents c.class_total.ensures.classes in
-    ended f (in_range g p) c.args.from.now.lists now.lists c.loop-total.total k c.loop-total.invariant.underway (omega (arith, last_is g, p.some)) (omega (arith, c.loop-total-test.false, c.class_total.ensures.value))
+    ended f (in_range g p) c.args.from.now.lists now.lists c.loop-total.total k c.loop-total.invariant.underway (omega (arith, last_round_of g, p.some)) (omega (arith, c.loop-total-test.false, c.class_total.ensures.value))

@@ -3,23 +3,23 @@ use Rattle.std.proofs.lemmas.List.{map-append}
 use Rattle.gs_model.specs.Classes.{ClassLists}
 use Rattle.gs_model.specs.Frame.{frame_of, last_round}
 use Rattle.gs_model.specs.Rows.{rows}
+use Rattle.gs_model.proofs.Walked.{last_round_of}
 use Rattle.gs_tree.specs.Trees.{rules_of}
-use Rattle.gs_lossless.proofs.Descent.{last_is}
 use Rattle.gs_split.specs.Turns.{AreTurnNumbers}
 use Rattle.gs_split.proofs.Turned.{AreExactTo, all_exact, exact_more}
 use Rattle.gs_split.proofs.turns.exact_numbers.Goals as goal
 
 pub bounds-known-from : goal.bounds-known-from
 bounds-known-from c =
-    let l = last_is (rules_of c.args.grouped.now.signals.now) in
+    let l = last_round_of (rules_of c.args.grouped.now.signals.now) in
     omega (arith, c.from-in-loop-done.ensures, c.requires.known.long, c.loop-done-test.true, c.rounds-done-end.ensures.value, l)
 
 pub round_numbers-requires-clause-top : goal.round_numbers-requires-clause-top
-round_numbers-requires-clause-top c = omega (arith, c.loop-done-test.true, c.rounds-done-end.ensures.value, last_is (rules_of c.args.grouped.now.signals.now))
+round_numbers-requires-clause-top c = omega (arith, c.loop-done-test.true, c.rounds-done-end.ensures.value, last_round_of (rules_of c.args.grouped.now.signals.now))
 
 pub round_numbers-requires-clause-known : goal.round_numbers-requires-clause-known
 round_numbers-requires-clause-known c =
-    let lt : c.loop-done.done + 1 ≤ last_round (frame_of (rules_of c.args.grouped.now.signals.now)) = omega (arith, c.loop-done-test.true, c.rounds-done-end.ensures.value, last_is (rules_of c.args.grouped.now.signals.now)) in
+    let lt : c.loop-done.done + 1 ≤ last_round (frame_of (rules_of c.args.grouped.now.signals.now)) = omega (arith, c.loop-done-test.true, c.rounds-done-end.ensures.value, last_round_of (rules_of c.args.grouped.now.signals.now)) in
     let at : c.from-in-loop-done.result ≡ c.loop-done.done + 1 - 1 = omega (arith, c.from-in-loop-done.ensures) in
     λ marked s t one. c.requires.known.same (c.loop-done.done + 1) s t (omega arith) lt (subst (λ k. get_or c.args.known.now k false ≡ true) at marked) one
 
@@ -40,4 +40,4 @@ pub returns : goal.returns
 returns c =
     let g = rules_of c.args.grouped.now.signals.now in
     all_exact (frame_of g) c.args.grouped.now.classes.now.lists (rows c.loop-done.numbers.items)
-    (omega (arith, c.loop-done.invariant.long, c.loop-done-test.false, c.loop-done.auto.done-end, c.rounds-done-end.ensures.value, last_is g)) c.loop-done.invariant.each
+    (omega (arith, c.loop-done.invariant.long, c.loop-done-test.false, c.loop-done.auto.done-end, c.rounds-done-end.ensures.value, last_round_of g)) c.loop-done.invariant.each

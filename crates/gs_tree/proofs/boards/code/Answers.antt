@@ -2,15 +2,15 @@ use Rattle.std.proofs.Common.{◌≡◌, ◌+◌, ◌*◌, ◌≤◌, ℕ, List,
 use Rattle.std.proofs.lemmas.List.{take_more}
 use Rattle.gs_tree.specs.Boards.{code_behind}
 use Rattle.gs_tree.proofs.Coded.{code_fits, code_push}
-use Rattle.gs_tree.proofs.Paths.{product_small}
 use Rattle.gs_tree.proofs.boards.code.Goals as goal
 use Rattle.gs_tree.proofs.boards.code.Goals.{In-loop-card}
+use Rattle.gs_model.proofs.Basics.{product_le}
 
 -- the code so far leaves room for one more card
 small : (c : In-loop-card) → c.loop-card.code * c.args.kinds ≤ 140608 * 52
 small c =
     let fits = code_fits c.args.kinds c.loop-card.card-index c.args.cards.now c.requires.few_kinds c.requires.few_cards c.requires.of_deck (omega arith) in
-    product_small c.loop-card.code c.args.kinds 140608 52 (omega (arith, fits, c.loop-card.invariant)) c.requires.few_kinds
+    product_le c.loop-card.code c.args.kinds 140608 52 (omega (arith, fits, c.loop-card.invariant)) c.requires.few_kinds
 
 pub overflow_mul-code : goal.overflow_mul-code
 overflow_mul-code c = omega (arith, small (goal.at.overflow_mul-code c).In-loop-card)

@@ -1,8 +1,8 @@
 use Rattle.std.proofs.Common.{◌≡◌, ◌-◌, ◌<◌, ◌≤◌, ℕ, List, length, get_or, sym, ◌∙◌, arith}
 use Rattle.gs_model.specs.Cards.{left_after}
+use Rattle.gs_model.proofs.Listed.{length-after}
 use Rattle.gs_card.proofs.TakenCards.{ways_more, few_ways, ways-none}
 use Rattle.gs_tree.proofs.Beside.{beside_read}
-use Rattle.gs_tree.proofs.Taken.{length-taken}
 use Rattle.gs_tree.proofs.Paths.{at_three, few_product}
 use Rattle.gs_tree.proofs.tables.ways_beside.Goals as goal
 
@@ -26,7 +26,7 @@ loop-i-preserved c =
     let i : ℕ = c.loop-i.i in
     let card : ℕ = c.index-own-i.result in
     let here : card < length counts = omega (arith, c.requires.own_in i card (omega arith), c.index-own-i.is, c.kinds-kinds.ensures.deck.counted) in
-    let there : card < length left = omega (arith, here, length-taken (left_after (left_after counts c.args.held.now) c.args.board.now) c.args.before.now, length-taken (left_after counts c.args.held.now) c.args.board.now, length-taken counts c.args.held.now) in
+    let there : card < length left = omega (arith, here, length-after (left_after (left_after counts c.args.held.now) c.args.board.now) c.args.before.now, length-after (left_after counts c.args.held.now) c.args.board.now, length-after counts c.args.held.now) in
     let few : get_or counts card 0 ≤ 9 = c.kinds-kinds.ensures.deck.copies card 0 here in
     let read = beside_read counts c.args.held.now c.args.board.now c.args.before.now card in
     let copies : c.from.result ≡ get_or counts card 0 = c.from.ensures ∙ c.count.ensures in

@@ -1,6 +1,6 @@
 use Rattle.std.proofs.Common.{length, ap, arith, sym, ◌∙◌}
-use Rattle.gs_card.proofs.Ranges.{range_step}
 use Rattle.gs_card.proofs.cards.CardsIterator.next.Goals as goal
+use Rattle.gs_model.proofs.Basics.{range_step}
 
 pub returns-clause-steps : goal.returns-clause-steps
 returns-clause-steps c = sym c.self.view_is ∙ range_step c.self.inside.next c.self.inside.end c.if-self.false

@@ -6,7 +6,7 @@ use Rattle.std.proofs.lemmas.List.{get_or-take, take-map}
 use Rattle.std.proofs.lemmas.List.Elements.{All-from_recursion, recursion_from_All}
 use Rattle.gs_card.specs.Decks.{DeckValue}
 use Rattle.gs_model.specs.Game.{Game as Rules, Round as RoundRules, High}
-use Rattle.gs_game.specs.Answers.{Answers}
+use Rattle.gs_game.specs.FaultOf.{IsFaultOf}
 use Rattle.gs_game.specs.Games.{HasFewCards, game_of, round_of}
 use Rattle.gs_game.specs.GoingOn.{stopped_game, unbet}
 use Rattle.gs_game.specs.Refusals.{Refusal, first_refusal}
@@ -29,7 +29,7 @@ few_first rs n h =
     λ k d l. let m = length-take n rs in subst HasFewCards (sym (get_or-take n rs k d (omega (arith, l, m)))) (each k d (omega (arith, l, m)))
 
 -- a fault that is not want of memory is a refusal
-refused : (r : Option Refusal) (fault : GameFault) → fault ≢ faults.Memory → Answers r fault → r ≢ None
+refused : (r : Option Refusal) (fault : GameFault) → fault ≢ faults.Memory → IsFaultOf r fault → r ≢ None
 refused r (faults.Rounds count) apart answers none = cc
 refused r faults.NoPrivate apart answers none = cc
 refused r (faults.RankingCards own all) apart answers none = cc
@@ -101,5 +101,5 @@ returns-after-fault-clause-whenever c =
       | in-Memory w ↦ subst P (sym w.result-is) tt
       | in_default w ↦
           subst P (sym w.result-is)
-          (refused (first_refusal (stopped_game (game_of game) c.args.round)) c.in-Err.fault w.in_default.not-Memory (subst (λ (g : Rules). Answers (first_refusal g) c.in-Err.fault) made c.in-Err.ensures.refused))
+          (refused (first_refusal (stopped_game (game_of game) c.args.round)) c.in-Err.fault w.in_default.not-Memory (subst (λ (g : Rules). IsFaultOf (first_refusal g) c.in-Err.fault) made c.in-Err.ensures.refused))
     ]

@@ -1,6 +1,7 @@
 use Rattle.std.proofs.Common.{◌≡◌, ◌-◌, ◌<◌, ◌≤◌, List, length, map, ap, sym, ◌∙◌, subst, arith}
 use Rattle.std.specs.Prelude.{◌==◌, All, filter}
 use Rattle.gs_filter.specs.Filter.{Filter, IsSound}
+use Rattle.gs_filter.proofs.ClassLaws.{greatest_within}
 use Rattle.gs_game.specs.Games.{game_of}
 use Rattle.gs_model.specs.Classes.{class_count, list_of}
 use Rattle.gs_model.specs.Deals.{Deal, deals}
@@ -13,7 +14,7 @@ use Rattle.gs_seq.specs.Rows.{IsRow, IsSingleIn}
 use Rattle.gs_seq.specs.Singles.{IsSlight, deal_pair}
 use Rattle.gs_seq.specs.declared.pair.Pair.{Pair}
 use Rattle.gs_seq.proofs.Singles.{count_is, made_row, slight}
-use Rattle.gs_seq.proofs.SlotLaws.{greatest_few, over}
+use Rattle.gs_seq.proofs.SlotLaws.{over}
 use Rattle.gs_seq.proofs.form.Abstract.pairs.Goals as goal
 use Rattle.gs_seq.proofs.form.Abstract.pairs.Goals.{After-deals_of, After-rounds-rounds, After-signals}
 
@@ -50,7 +51,7 @@ deals_of-requires c =
     let s = sound at.After-rounds-rounds in
     let k = over f cls e s in
     let some : 0 < last_round f = omega (arith, c.requires.some, l.last) in
-    let most = greatest_few (list_of cls.lists (last_round f)) (k.numbered (last_round f) some (omega arith)) in
+    let most = greatest_within (list_of cls.lists (last_round f)) (k.numbered (last_round f) some (omega arith)) in
     let class : c.args.one ≤ class_count cls.lists (last_round f) = omega (arith, c.requires.class.1, ap (class_count cls.lists) l.last) in
     let same = ap (λ (x : Signals). last_count (rules_of x)) c.signals.ensures.held in
     omega (arith, most, class, k.lengths (last_round f) some (omega arith), count_is g cls e s l.single, same, c.requires.class.0)

@@ -13,4 +13,4 @@ both P N false pass fail = fail refl
 
 pub returns : goal.returns
 returns c = subst (λ (x : Described). MatchBool c.is_plain.result (IsPlain (game_of x)) (IsPlain (game_of x) → last_count (game_of x) ≡ 0)) c.game.ensures
-    (both _ _ c.is_plain.result c.is_plain.ensures.plain c.is_plain.ensures.other)
+    (both _ _ c.is_plain.result c.is_plain.ensures.plain c.is_plain.ensures.not_plain)

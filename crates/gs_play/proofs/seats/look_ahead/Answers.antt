@@ -2,7 +2,7 @@ use Rattle.gs_best.proofs.Forms.{form_classes, form_in_range, form_lossless}
 use Rattle.gs_totals.specs.Roles.{frame_in, lists_in}
 use Rattle.gs_totals.proofs.Sides.{other_walked, walked}
 use Rattle.gs_play.proofs.Turned.{put_stays, put_stays_once}
-use Rattle.gs_play.proofs.seats.stays.Goals as goal
+use Rattle.gs_play.proofs.seats.look_ahead.Goals as goal
 
 pub returns-then-times-eq1-clause-stays : goal.returns-then-times-eq1-clause-stays
 returns-then-times-eq1-clause-stays c =
