@@ -1,18 +1,9 @@
-//! `gameshrink`: the program.
+//! `gameshrink`: the program. `run` of `gs_run` does all of its work and carries what is proved of it.
 #![tactic(auto)]
 
-mod laws;
-mod run;
-mod status;
-#[cfg(test)]
-mod tests;
-
 use gs_io::{StdSink, StdSource};
+use gs_run::{out_of_memory, refuse_words, run};
 use gs_words::WordsStop;
-pub use laws::length_limit_is_told;
-pub use run::run;
-use run::{out_of_memory, refuse_words};
-pub use status::Status;
 use std::io::ErrorKind;
 use std::process::ExitCode;
 use std::rt::Env;

@@ -1,0 +1,122 @@
+-- What a run does to its three ends, status by status.
+use Rattle.std.specs.Prelude.{◌≡◌, ◌⊎◌, ℕ, ◌+◌, ◌<◌, ◌≤◌, List, [], length, take, codes, Bool, true, false, Some, None, Result, Ok, Err}
+use Rattle.std.specs.declared.option.Option.{Option}
+use Rattle.std.specs.declared.alloc.Global.{Global}
+use Rattle.std.specs.Prelude.{Vec}
+use Rattle.std.specs.Io.KnownBytes.{Consumes, Appends, IsAtEnd}
+use Rattle.gs_answer.specs.Asking.{Asks, reads}
+use Rattle.gs_io.specs.Causes.{Rose}
+use Rattle.gs_io.specs.Moves.{ReadsAll, TookPrefix}
+use Rattle.gs_io.specs.declared.ReadStop.{ReadStop}
+use Rattle.gs_reply.specs.Refusals.{Refusal, cause_of, line_of}
+use Rattle.gs_reply.specs.Replies.{Reply, Prints, Refuses}
+use Rattle.gs_words.specs.Requests.{request_of}
+use Rattle.gs_words.specs.Tasks.{Task}
+use Rattle.gs_run.specs.Told.{TellsTo}
+use Rattle.gs_run.specs.Statuses.{status_of}
+use Rattle.gs_run.specs.declared.status.Status.{Status}
+use Rattle.gs_run.specs.declared.status.Status.TheVariants as status
+
+-- what is seen of the source, of the output and of the errors' end: the bytes that they tell, and their counts of faults
+pub record Ends : Type 0 where
+  pub left : Option (List ℕ)
+  pub read_faults : ℕ
+  pub given : Option (List ℕ)
+  pub write_faults : ℕ
+  pub told : Option (List ℕ)
+  pub tell_faults : ℕ
+
+-- the ends, by what each of them tells and counts
+abbrev pub ends : Option (List ℕ) → ℕ → Option (List ℕ) → ℕ → Option (List ℕ) → ℕ → Ends
+ends left read_faults given write_faults told tell_faults =
+    record { left = left; read_faults = read_faults; given = given; write_faults = write_faults; told = told; tell_faults = tell_faults }
+
+-- how long an input may be
+abbrev pub most_bytes : ℕ
+most_bytes = 16777216
+
+-- the words ask for a task, of which this is true
+abbrev pub Asked : List (List ℕ) → (Task → Type 0) → Type 0
+Asked words what = (task : Task) × (request_of words ≡ Some task) × what task
+
+-- nothing was read
+abbrev pub Unread : Ends → Ends → Type 0
+Unread old new = (new.left ≡ old.left) × (new.read_faults ≡ old.read_faults)
+
+-- the source was read to its end, and these were its bytes
+pub record ReadsWhole (old new : Ends) (bytes : List ℕ) : Type 0 where
+  pub taken : Consumes old.left new.left bytes
+  pub end : IsAtEnd new.left
+  pub few : length bytes ≤ most_bytes
+  pub faults : new.read_faults ≡ old.read_faults
+
+-- the input of a task: all bytes of the source where it reads one, else none
+abbrev pub Inputs : Bool → Ends → Ends → List ℕ → Type 0
+Inputs true old new bytes = ReadsWhole old new bytes
+Inputs false old new bytes = (bytes ≡ []) × Unread old new
+
+-- what reading the input of a task does to the source, by its answer
+abbrev pub ReadsInput : Bool → Option (List ℕ) → Option (List ℕ) → ℕ → ℕ → Result (Vec ℕ Global) ReadStop → Type 0
+ReadsInput true old new before now result = ReadsAll (λ v. v.items) most_bytes old new before now result
+ReadsInput false old new before now (Ok v) = (v.items ≡ []) × (new ≡ old) × (now ≡ before)
+ReadsInput false old new before now (Err e) = ⊥
+
+-- nothing went out
+abbrev pub Quiet : Ends → Ends → Type 0
+Quiet old new = (new.given ≡ old.given) × (new.write_faults ≡ old.write_faults)
+
+-- the errors' end has got the line, or a front of it where it has failed
+abbrev pub Tells : Ends → Ends → List ℕ → Type 0
+Tells old new line = TellsTo old.told old.tell_faults new.told new.tell_faults line
+
+-- the errors' end has got nothing
+abbrev pub Silent : Ends → Ends → Type 0
+Silent old new = (new.told ≡ old.told) × (new.tell_faults ≡ old.tell_faults)
+
+-- the input of the task was read, and this is what it says of it
+pub record IsAnswered (task : Task) (old new : Ends) (reply : Reply) : Type 0 where
+  pub bytes : List ℕ
+  pub input : Inputs (reads task) old new bytes
+  pub says : Asks task bytes reply
+
+-- the input was refused with this status
+pub record IsRefused (task : Task) (old new : Ends) (s : Status) : Type 0 where
+  pub why : Refusal
+  pub answered : IsAnswered task old new (Refuses why)
+  pub status : status_of (cause_of why) ≡ s
+  pub quiet : Quiet old new
+  pub told : Tells old new (line_of why)
+
+-- a front of the source was taken, and nothing unless the words ask for a task that reads it
+pub record TookInput (words : List (List ℕ)) (old new : Ends) : Type 0 where
+  pub front : TookPrefix (most_bytes + 1) old.left new.left
+  pub unread : (new.left ≡ old.left) ⊎ Asked words (λ task. reads task ≡ true)
+
+-- the line that names the commands
+abbrev pub usage_line : List ℕ
+usage_line = codes "usage: gameshrink shrink, check, solve, play, evaluate, query, make, upgrade, judge, duel, certify, verify or path\n"
+
+-- the line that refuses an input that is too long
+abbrev pub long_line : List ℕ
+long_line = codes "input longer than 16777216 bytes\n"
+
+-- what each status says; every other status is that of a refusal
+abbrev pub RunsTo : List (List ℕ) → Ends → Ends → Status → Type 0
+RunsTo words old new status.Ok =
+    Asked words (λ task. ((text : List ℕ) × IsAnswered task old new (Prints text) × Appends old.given new.given text)
+    × (new.write_faults ≡ old.write_faults) × Silent old new)
+RunsTo words old new status.Usage =
+    (request_of words ≡ None) × Unread old new × Quiet old new × Tells old new usage_line
+RunsTo words old new status.ReadFault =
+    Asked words (λ task. (reads task ≡ true) × (TookPrefix (most_bytes + 1) old.left new.left × Rose old.read_faults new.read_faults) × Quiet old new
+    × Tells old new (codes "read fault\n"))
+RunsTo words old new status.TooLong =
+    Asked words (λ task. (reads task ≡ true) × ((bytes : List ℕ) × Consumes old.left new.left bytes × (length bytes ≡ most_bytes + 1))
+    × (new.read_faults ≡ old.read_faults) × Quiet old new × Tells old new long_line)
+RunsTo words old new status.Memory =
+    TookInput words old new × (new.read_faults ≡ old.read_faults) × Quiet old new × Tells old new (codes "out of memory\n")
+RunsTo words old new status.WriteFault =
+    Asked words (λ task. ((text : List ℕ) × IsAnswered task old new (Prints text)
+    × ((count : ℕ) × (count < length text) × Appends old.given new.given (take count text)))
+    × Rose old.write_faults new.write_faults × Tells old new (codes "write fault\n"))
+RunsTo words old new s = Asked words (λ task. IsRefused task old new s)
