@@ -13,8 +13,10 @@ use Rattle.gs_rows.proofs.Laws.{end_feasible}
 use Rattle.gs_rows.proofs.Bases.{IsFull, from_cols, col_of, table_of, state_of}
 use Rattle.gs_rows.proofs.Opening.{IsOpened}
 use Rattle.gs_rows.proofs.PairLists.{less_one, place_of, listed_at, whole_opened, opened_pair_list}
-use Rattle.gs_simplex.specs.Table.{table_rows, table_aim, IsTableAfter}
+use Rattle.gs_simplex.specs.Table.{table_rows, IsTableOf, IsTableAfter}
 use Rattle.gs_simplex.specs.Conditions.{IsNewPair, CanTakeAt, IsTaken, HasFeasibleSides}
+use Rattle.gs_simplex.proofs.Multiples.{down_nonneg}
+use Rattle.gs_simplex.proofs.Kept.{row_zero_kept}
 
 -- the front of a front
 take_take : {X : Type 0} (xs : List X) (k t : ℕ) → k ≤ t → take k (take t xs) ≡ take k xs
@@ -38,7 +40,7 @@ front_opened p o t xs h u = whole_opened p (take t o) (front_taken p o t h u.tak
 
 -- what the checks of one pair show
 pub can_take_from : (p : Program) (o : Listing) (t r c : ℕ) (xs : List ℤ) → t < length o → slice_index_or o t (0, 0) ≡ (r + 1, c + 1) → r < p.rows
-    → c < p.cols → IsNewPair o t → IsRowsOf p (take t o) (table_rows p xs) (table_aim p xs)
+    → c < p.cols → IsNewPair o t → IsTableOf p (take t o) xs
     → table_rows p xs r c ≢ pos 0 → CanTakeAt p (table_rows p xs) o t
 can_take_from p o t r c xs h at rm cm new rows ne =
     let long : length (take t o) ≡ t = length-take-le t o (omega arith) in
@@ -46,7 +48,8 @@ can_take_from p o t r c xs h at rm cm new rows ne =
     (new k kt).0 (ap (λ (w : ℕ × ℕ). w.0) (sym (get_or-take t o k (0, 0) kt) ∙ place_of (take t o) r x.0 x.1) ∙ sym (ap (λ (w : ℕ × ℕ). w.0) at))) in
     let column_free : ColListed (take t o) c → ⊥ = λ x. (let k = x.1.0 in let kt : k < t = omega (arith, x.1.1) in
     (new k kt).1 (ap (λ (w : ℕ × ℕ). w.1) (sym (get_or-take t o k (0, 0) kt) ∙ place_of (take t o) x.0 c x.1) ∙ sym (ap (λ (w : ℕ × ℕ). w.1) at))) in
-    let w = rows.unlisted r rm row_free in
+    let held = rows.rows_of in
+    let w = held.2.unlisted r rm row_free in
     record {
       pair = (
         r,
@@ -57,7 +60,7 @@ can_take_from p o t r c xs h at rm cm new rows ne =
           column = cm;
           row_free = row_free;
           column_free = column_free;
-          found = (w.0, w.1, table_rows p xs r, w.2, ne);
+          found = (w.0, w.1, held.0 r, w.2, λ z. ne (row_zero_kept p xs held.0 held.1 held.3 r c rm (omega arith) z));
         },
         ne,
       );
@@ -68,7 +71,9 @@ pub taken_more : (p : Program) (o : Listing) (t r c : ℕ) (xs new : List ℤ) �
     → CanTake p (take t o) r c → IsTaken p o t xs → IsTableAfter p xs new r c → IsTaken p o (t + 1) new
 taken_more p o t r c xs new h at can u w =
     let il = (front_opened p o t xs (omega arith) u).is_list in
-    let P : Listing → Type 0 = λ x. IsRowsOf p x (table_rows p new) (table_aim p new) in
+    let v = u.rows.rows_of in
+    let q = w.after v.0 v.1 (v.2.primitive r can.row) v.3 in
+    let P : Listing → Type 0 = λ x. IsRowsOf p x q.0 q.1 in
     let e : take (t + 1) o ≡ take t o ++ ((r + 1, c + 1) ∷ []) = take_more o t (0, 0) h ∙ ap (λ x. take t o ++ (x ∷ [])) at in
     record {
       taken = λ k kt. elim (cases_eq k t) [
@@ -77,7 +82,7 @@ taken_more p o t r c xs new h at can u w =
         | inr ne ↦ u.taken k (omega arith)
       ];
       table = w.table;
-      rows = subst P (sym e) (take_rows p (take t o) r c (table_rows p xs) (table_rows p new) (table_aim p xs) (table_aim p new) il can u.rows w.eliminated);
+      rows = record { rows_of = (q.0, q.1, subst P (sym e) (take_rows p (take t o) r c v.0 q.0 v.1 q.1 il can v.2 q.2), q.3) };
     }
 
 -- ---- all together
@@ -106,13 +111,17 @@ module _ (p : Program) (o : Listing) (xs : List ℤ) (u : IsTaken p o (length o)
   full : IsFull p o
   full = record { is_list = is_opened.is_list; once = is_opened.once; regular = is_opened.regular; all = row_named; free_in = free_named }
 
-  rows_o : IsRowsOf p o (table_rows p xs) (table_aim p xs)
-  rows_o = let P : Listing → Type 0 = λ x. IsRowsOf p x (table_rows p xs) (table_aim p xs) in subst P (take-length o) u.rows
+  rows_o : IsTableOf p o xs
+  rows_o = let P : Listing → Type 0 = λ x. IsTableOf p x xs in subst P (take-length o) u.rows
+
+  sides_o : HasFeasibleSides p o rows_o.rows_of.0
+  sides_o i j h free = let m = (rows_o.rows_of.3.rows_kept i (is_opened.is_list.row_inside i j h)).by in
+      down_nonneg m.0 (table_rows p xs i p.cols) (rows_o.rows_of.0 i p.cols) m.1 (m.2 p.cols (omega arith)) (sides i j h free)
 
   pub opening_from : length o ≡ p.rows → IsOpening p o
   opening_from long =
-      let n = p.cols in let m = p.rows in let R = table_rows p xs in let a = table_aim p xs in
-      let t = table_of p o full R a rows_o in
+      let n = p.cols in let m = p.rows in let R = rows_o.rows_of.0 in let a = rows_o.rows_of.1 in let rows_of = rows_o.rows_of.2 in
+      let t = table_of p o full R a rows_of in
       let b = basic_exists m n (number p) (col_of p o full) R t in
       let D = b.0 in let v = b.1 in let w = b.2 in
       record {
@@ -130,7 +139,7 @@ module _ (p : Program) (o : Listing) (xs : List ℤ) (u : IsTaken p o (length o)
                   let s : number p i n *ℤ v n ≡ neg_ℤ (D *ℤ number p i n) = ap (λ x. number p i n *ℤ x) w.side ∙ simp ring in omega (arith, linear));
             };
             nonnegative = λ j jn out. end_feasible m n (number p) (Rattle.gs_rows.specs.Program.aim_of p) (IsFree p) (col_of p o full) R a D v
-                (state_of p o full R a rows_o sides) w j jn out;
+                (state_of p o full R a rows_of sides_o) w j jn out;
           },
           λ j jn out. w.outside j jn (λ i im e. out (from_cols p o full j (i, im, e))),
         );

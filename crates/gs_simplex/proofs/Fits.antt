@@ -129,6 +129,18 @@ narrow_product a x rest h fa fx =
 abs_difference : (x y : ℤ) → unsigned_abs (x -ℤ y) ≤ unsigned_abs x + unsigned_abs y
 abs_difference x y = omega (arith, ints)
 
+-- and at most what bounds give
+pub difference_bound : (a x f y : ℤ) (top most : ℕ) → unsigned_abs x ≤ top → unsigned_abs y ≤ most
+    → unsigned_abs (a *ℤ x -ℤ f *ℤ y) ≤ unsigned_abs a * top + unsigned_abs f * most
+difference_bound a x f y top most h k = omega (
+  arith,
+  abs_difference (a *ℤ x) (f *ℤ y),
+  unsigned_abs-mul a x,
+  unsigned_abs-mul f y,
+  mul-le (unsigned_abs a) (unsigned_abs x) (unsigned_abs a) top (omega arith) h,
+  mul-le (unsigned_abs f) (unsigned_abs y) (unsigned_abs f) most (omega arith) k,
+)
+
 pub narrow_difference : (a x f y : ℤ) → unsigned_abs a * unsigned_abs x + unsigned_abs f * unsigned_abs y < 2 ^ 62 → unsigned_abs (a *ℤ x -ℤ f *ℤ y) < 2 ^ 62
 narrow_difference a x f y h = omega (arith, h, abs_difference (a *ℤ x) (f *ℤ y), unsigned_abs-mul a x, unsigned_abs-mul f y)
 

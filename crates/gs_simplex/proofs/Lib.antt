@@ -1,8 +1,10 @@
 pub mod Fits
 pub mod Guesses
+pub mod Multiples
 pub mod Reduce
 pub mod Places
 pub mod Tables
+pub mod Kept
 pub mod Lives
 pub mod Starts
 pub mod Choosing

@@ -1,16 +1,17 @@
 -- Rows that are 0 outside some places.
-use Rattle.std.proofs.Common.{◌≡◌, ◌≢◌, ℕ, ◌+◌, ◌<◌, ◌≤◌, ◌⊎◌, inl, inr, List, length, slice_index, slice_set, ℤ, pos, neg_ℤ, ◌-ℤ◌, ◌*ℤ◌, sym, ap, subst, ◌∙◌, arith, get_or-set_other, get_or-set_same}
+use Rattle.std.proofs.Common.{◌≡◌, ◌≢◌, ℕ, ◌+◌, ◌<◌, ◌≤◌, ◌⊎◌, inl, inr, List, length, slice_index, slice_set, ℤ, pos, ◌-ℤ◌, ◌*ℤ◌, sym, ap, subst, ◌∙◌, arith, get_or-set_other, get_or-set_same}
 use Rattle.std.proofs.lemmas.Bool.{cases_eq, cases_lt, cases_order}
 use Rattle.std.proofs.lemmas.List.{length-set}
 use Rattle.gs_rows.specs.declared.Program.{Program}
 use Rattle.gs_rows.specs.Program.{Listing, IsListed, IsPairList, IsRowsOf}
-use Rattle.gs_rows.proofs.Ring.{linear, one_times, times_zero}
+use Rattle.gs_rows.proofs.Ring.{linear, one_times, times_zero, cancel_zero}
 use Rattle.gs_rows.proofs.Solutions.{find_col}
 use Rattle.gs_rows.proofs.PairLists.{pair_list_is_list, row_decided, column_decided}
-use Rattle.gs_simplex.specs.Numbers.{at, cell, IsTurned}
-use Rattle.gs_simplex.specs.Table.{table_rows, table_aim, IsTable}
+use Rattle.gs_simplex.specs.Numbers.{at, cell, IsDivided}
+use Rattle.gs_simplex.specs.Table.{IsTable, IsKept}
 use Rattle.gs_simplex.specs.Live.{IsOutside, ArePlaces, IsFound, IsSupport, IsChange, IsLive}
 use Rattle.gs_simplex.proofs.Tables.{flipped_other}
+use Rattle.gs_simplex.proofs.Kept.{row_zero_kept, aim_zero_kept}
 
 -- a column at one of the places, or at none
 pub place_or_none : (places : List ℕ) (found j : ℕ) → ((k : ℕ) × (k < found) × (slice_index places k ≡ j)) ⊎ ((k : ℕ) → k < found → slice_index places k ≢ j)
@@ -32,6 +33,25 @@ support_same places found width row row' lead lead' er el u = record {
   inside = u.inside;
   differ = u.differ;
   outside = λ j h none. (sym (er j h) ∙ (u.outside j h none).0, sym (el j h) ∙ (u.outside j h none).1);
+}
+
+pub support_row : (places : List ℕ) (found width : ℕ) (row lead : ℕ → ℤ) → IsSupport places found width row lead → IsSupport places found width row row
+support_row places found width row lead u = record {
+  few = u.few;
+  inside = u.inside;
+  differ = u.differ;
+  outside = λ j h none. (let z = (u.outside j h none).0 in (z, z));
+}
+
+-- a row divided is 0 where it was
+pub support_divided : (places : List ℕ) (found width : ℕ) (row new : ℕ → ℤ) → IsSupport places found width row row → IsDivided width row new
+    → IsSupport places found width new new
+support_divided places found width row new u d = record {
+  few = u.few;
+  inside = u.inside;
+  differ = u.differ;
+  outside = λ j h none. (let g = d.multiple.by in
+      let z : new j ≡ pos 0 = cancel_zero g.0 (new j) g.1 (sym (g.2 j h) ∙ (u.outside j h none).0) in (z, z));
 }
 
 both_zero : (own far x y : ℤ) → x ≡ pos 0 → y ≡ pos 0 → own *ℤ x -ℤ far *ℤ y ≡ pos 0
@@ -176,23 +196,26 @@ module _ (places now owns : List ℕ) (found count r width i : ℕ) (rows : ℕ 
   }
 
 -- ---- what is found of a list is so of its rows
-module _ (p : Program) (l : Listing) (r c found : ℕ) (places owns : List ℕ) (items mid : List ℤ) (lead : ℕ
-    → ℤ) (pairs : IsPairList p l) (table : IsTable p items) (rows : IsRowsOf p l (table_rows p items) (table_aim p items)) (rm : r < p.rows)
+module _ (p : Program) (l : Listing) (r found : ℕ) (places owns : List ℕ) (items mid : List ℤ) (lead : ℕ
+    → ℤ) (pairs : IsPairList p l) (table : IsTable p items) (R : ℕ → ℕ → ℤ) (a : ℕ → ℤ) (rows : IsRowsOf p l R a) (same : IsKept p R a items) (rm : r < p.rows)
     (f : IsFound p l r places owns found)
     (kept : (i : ℕ) → i ≢ r → (j : ℕ) → j < p.cols + 2 → cell mid (p.cols + 2) i j ≡ cell items (p.cols + 2) i j)
-    (turned : IsTurned (cell items (p.cols + 2) r) lead c (p.cols + 2)) where
+    (taken : (j : ℕ) → j < p.cols + 2 → cell items (p.cols + 2) r j ≡ pos 0 → lead j ≡ pos 0) where
   -- the row of a row that the column is not listed with has 0 there
   zero_at : (i h j : ℕ) → i < p.rows → IsListed l h j → h ≢ i → cell items (p.cols + 2) i j ≡ pos 0
-  zero_at i h j im at_h ne = elim (row_decided p l pairs i) [
-    | inl w ↦ (rows.listed i w.0 w.1).2.zeros j (h, at_h) (λ e. ne ((pair_list_is_list p l pairs).one_row h i j at_h (let P : ℕ → Type 0 =
-        λ t. IsListed l i t in subst P (sym e) w.1)))
-    | inr none ↦ (rows.unlisted i im none).2.zeros j (h, at_h)
-  ]
+  zero_at i h j im at_h ne =
+      let jm : j < p.cols = (pair_list_is_list p l pairs).column_inside h j at_h in
+      row_zero_kept p items R a same i j im (omega arith) (elim (row_decided p l pairs i) [
+        | inl w ↦ (rows.listed i w.0 w.1).2.zeros j (h, at_h) (λ e. ne ((pair_list_is_list p l pairs).one_row h i j at_h (let P : ℕ → Type 0 =
+            λ t. IsListed l i t in subst P (sym e) w.1)))
+        | inr none ↦ (rows.unlisted i im none).2.zeros j (h, at_h)
+      ])
 
   zero_aim : (h j : ℕ) → IsListed l h j → cell items (p.cols + 2) p.rows j ≡ pos 0
   zero_aim h j at_h =
       let jm : j < p.cols = (pair_list_is_list p l pairs).column_inside h j at_h in
-      sym (flipped_other p.cols (cell items (p.cols + 2) p.rows) j (λ e. omega arith)) ∙ rows.aim_row.2.zeros j (h, at_h)
+      sym (flipped_other p.cols (cell items (p.cols + 2) p.rows) j (λ e. omega arith))
+      ∙ aim_zero_kept p items R a same j (omega arith) (rows.aim_row.2.zeros j (h, at_h))
 
   own_at : (i : ℕ) → i < p.rows + 1 → slice_index owns i < p.cols + 2
   own_at i h = elim (row_decided p l pairs i) [
@@ -247,10 +270,7 @@ module _ (p : Program) (l : Listing) (r c found : ℕ) (places owns : List ℕ) 
     ];
     apart = own_apart;
     outside = λ i j im ne jm apart out. kept i ne j jm ∙ row_zero i j im jm apart out;
-    outside_lead = λ j jm out. elim turned.self [
-      | inl s ↦ s j jm ∙ taken_zero j jm out
-      | inr s ↦ s j jm ∙ ap neg_ℤ (taken_zero j jm out)
-    ];
+    outside_lead = λ j jm out. taken j jm (taken_zero j jm out);
   }
 
 -- ---- what is found of the marks is so of the list

@@ -1,10 +1,10 @@
 -- The path up to a table: its first state, one more step of the opening or one more pivot, and each way in which it stops.
-use Rattle.std.proofs.Common.{◌≡◌, ◌≢◌, ℕ, suc, ◌+◌, ◌-◌, ◌*◌, ◌<◌, ◌≤◌, inl, inr, List, [], ◌∷◌, ◌++◌, length, take, drop, slice_index_or, slice_set, ℤ, pos, neg_ℤ, ◌<ℤ◌, ◌≤ℤ◌, Option, Some, None, MatchOption, refl, sym, ap, subst, ◌∙◌, arith}
+use Rattle.std.proofs.Common.{◌≡◌, ◌≢◌, ℕ, suc, ◌+◌, ◌-◌, ◌*◌, ◌<◌, ◌≤◌, inl, inr, List, [], ◌∷◌, ◌++◌, length, take, drop, slice_index_or, slice_set, ℤ, pos, neg_ℤ, ◌<ℤ◌, ◌≤ℤ◌, Option, Some, None, IfNone, MatchOption, refl, sym, ap, subst, ◌∙◌, arith}
 use Rattle.std.proofs.lemmas.Bool.{cases_eq}
 use Rattle.std.proofs.lemmas.List.{take_more, length-take-le, length-drop}
 use Rattle.std.proofs.Math.Seq.{take-length}
 use Rattle.gs_rows.specs.declared.Program.{Program}
-use Rattle.gs_rows.specs.Rows.{IsNarrow}
+use Rattle.gs_rows.specs.Rows.{IsPrimitive}
 use Rattle.gs_rows.specs.Elimination.{IsEliminated}
 use Rattle.gs_rows.specs.Program.{Listing, IsPairList, IsRowsOf, CanTake, IsTakenInTurn, IsOpening}
 use Rattle.gs_rows.specs.Path.{States, IsPath, IsWhole, IsPivot, Enters, NoneEnters, Leaves, NoneLeaves, AllNarrow, IsFirstWide, ends, wide, pivots, unbounded, PathStops}
@@ -18,46 +18,39 @@ use Rattle.gs_rows.proofs.Agree.{Agree, enters_same, leaves_same, lists_same, pa
 use Rattle.gs_rows.proofs.Exists.{take_nonzero}
 use Rattle.gs_rows.proofs.PairLists.{less_one, pair_list_is_list, pair_list_is_once, opened_pair_list, changed_pair_list}
 use Rattle.gs_simplex.specs.Numbers.{at, cell}
-use Rattle.gs_simplex.specs.Table.{table_rows, table_aim, IsTable, IsPrimitiveTable, IsTableAfter, stated, IsWideAfter}
+use Rattle.gs_simplex.specs.Table.{table_rows, table_aim, IsTable, IsKept, IsTableOf, IsTableAfter, stated, IsWideAfter}
 use Rattle.gs_simplex.specs.State.{IsSoFar, IsPivoted, IsWidePivot}
 use Rattle.gs_simplex.specs.Choice.{IsLeaving}
-use Rattle.gs_simplex.proofs.Places.{row_inside, at_part}
-use Rattle.gs_simplex.proofs.Tables.{flipped_abs, flipped_other}
+use Rattle.gs_simplex.proofs.Places.{at_part}
+use Rattle.gs_simplex.proofs.Tables.{flipped_other}
+use Rattle.gs_simplex.proofs.Kept.{narrow_kept, aim_zero_kept, nonzero_kept, enters_kept, none_enters_kept, leaves_kept, none_leaves_kept}
 
 -- ---- what a table holds
-pub narrow_of : (p : Program) (xs : List ℤ) → IsTable p xs → AllNarrow p (table_rows p xs) (table_aim p xs)
-narrow_of p xs u = (
-  λ i j im jn. u.narrow (i * (p.cols + 2) + j) (omega (arith, u.long, row_inside (p.rows + 1) (p.cols + 2) i j (omega arith) (omega arith))),
-  λ j jn.
-      (let h : IsNarrow (cell xs (p.cols + 2) p.rows j) = u.narrow (p.rows * (p.cols + 2) + j)
-      (omega (arith, u.long, row_inside (p.rows + 1) (p.cols + 2) p.rows j (omega arith) (omega arith))) in
-      omega (arith, h, flipped_abs p.cols (cell xs (p.cols + 2) p.rows) j)),
-)
+pub rows_at : (p : Program) (o : Listing) (t : ℕ) (l : Listing) (xs : List ℤ) (u : IsSoFar p o t l xs)
+    → IsRowsOf p l (u.states.0.rows t) (u.states.0.aim t)
+rows_at p o t l xs u = let s = u.states.0 in let P : Listing → Type 0 = λ x. IsRowsOf p x (s.rows t) (s.aim t) in
+    subst P u.states.2 (u.states.1.rows t (omega arith))
 
-pub rows_of_so_far : (p : Program) (o : Listing) (t : ℕ) (l : Listing) (xs : List ℤ) → IsSoFar p o t l xs → IsRowsOf p l (table_rows p xs) (table_aim p xs)
-rows_of_so_far p o t l xs u =
-    let s = u.states.0 in
-    let P : Listing → Type 0 = λ x. IsRowsOf p x (s.rows t) (s.aim t) in let Q : (ℕ → ℕ → ℤ) → Type 0 = λ x. IsRowsOf p l x (s.aim t) in let R : (ℕ → ℤ)
-    → Type 0 = λ x. IsRowsOf p l (table_rows p xs) x in
-    subst R u.states.4 (subst Q u.states.3 (subst P u.states.2 (u.states.1.rows t (omega arith))))
+pub rows_of_so_far : (p : Program) (o : Listing) (t : ℕ) (l : Listing) (xs : List ℤ) → IsSoFar p o t l xs → IsTableOf p l xs
+rows_of_so_far p o t l xs u = record { rows_of = (u.states.0.rows t, u.states.0.aim t, rows_at p o t l xs u, u.states.3) }
 
-pub primitive_of : (p : Program) (l : Listing) (xs : List ℤ) → IsRowsOf p l (table_rows p xs) (table_aim p xs) → IsPrimitiveTable p xs
-primitive_of p l xs u = record { rows = u.primitive; aim = u.primitive_aim }
+narrow_at : (p : Program) (o : Listing) (t : ℕ) (l : Listing) (xs : List ℤ) (u : IsSoFar p o t l xs) → IsTable p xs
+    → AllNarrow p (u.states.0.rows t) (u.states.0.aim t)
+narrow_at p o t l xs u table = narrow_kept p xs (u.states.0.rows t) (u.states.0.aim t) u.states.3 table
 
 -- ---- the first step
-pub so_far_start : (p : Program) (o : Listing) (xs : List ℤ) → IsRowsOf p [] (table_rows p xs) (table_aim p xs) → IsSoFar p o 0 [] xs
+pub so_far_start : (p : Program) (o : Listing) (xs : List ℤ) → IsTableOf p [] xs → IsSoFar p o 0 [] xs
 so_far_start p o xs u = record {
   states = (
-    states (λ k. []) (λ k. table_rows p xs) (λ k. table_aim p xs) (λ k. 0) (λ k. 0),
+    states (λ k. []) (λ k. u.rows_of.0) (λ k. u.rows_of.1) (λ k. 0) (λ k. 0),
     record {
       opens = λ k kt ko. (let e : 0 ≡ k = omega arith in let P : ℕ → Type 0 = λ x. [] ≡ take x o in subst P e refl);
       pivots = λ k ok kt. absurd (omega arith);
-      rows = λ k kt. u;
+      rows = λ k kt. u.rows_of.2;
       narrow = λ k k0 kt. absurd (omega arith);
     },
     refl,
-    refl,
-    refl,
+    u.rows_of.3,
   );
 }
 
@@ -71,20 +64,17 @@ taken_next o t r c h at = ap (λ x. take x o) (let q : suc t ≡ t + 1 = omega a
 
 pub next_opens : (p : Program) (o : Listing) (t : ℕ) (xs : List ℤ) (r c : ℕ) (Q : ℕ → ℕ → ℤ) (b : ℕ → ℤ) → IsTakenInTurn p o → t < length o
     → slice_index_or o t (0, 0) ≡ (r + 1, c + 1) → CanTake p (take t o) r c → IsTable p xs
-    → IsSoFar p o t (take t o) xs → IsEliminated p (table_rows p xs) (table_aim p xs) r c Q b → IsNext p o t (take (suc t) o) Q b
+    → (u : IsSoFar p o t (take t o) xs) → IsEliminated p (u.states.0.rows t) (u.states.0.aim t) r c Q b → IsNext p o t (take (suc t) o) Q b
 next_opens p o t xs r c Q b taken h at can table u el =
     let w = opened p o taken t (omega arith) in
-    let rows = rows_of_so_far p o t (take t o) xs u in
+    let s = u.states.0 in
     let P : Listing → Type 0 = λ x. IsRowsOf p x Q b in
     let new : IsRowsOf p (take (suc t) o) Q b = subst P (sym (taken_next o t r c h at))
-    (take_rows p (take t o) r c (table_rows p xs) Q (table_aim p xs) b w.is_list can rows el) in
-    let s = u.states.0 in
-    let R : (ℕ → ℕ → ℤ) → Type 0 = λ x. AllNarrow p x (s.aim t) in let S : (ℕ → ℤ) → Type 0 = λ x. AllNarrow p (table_rows p xs) x in
-    let narrow : AllNarrow p (s.rows t) (s.aim t) = subst R (sym u.states.3) (subst S (sym u.states.4) (narrow_of p xs table)) in
+    (take_rows p (take t o) r c (s.rows t) Q (s.aim t) b w.is_list can (rows_at p o t (take t o) xs u) el) in
     record {
       states = (
         states (upto t s.lists (take (suc t) o)) (upto t s.rows Q) (upto t s.aim b) s.entering s.leaving,
-        path_opens p o t s.lists s.rows s.aim s.entering s.leaving Q b u.states.1 h (λ z. narrow) new,
+        path_opens p o t s.lists s.rows s.aim s.entering s.leaving Q b u.states.1 h (λ z. narrow_at p o t (take t o) xs u table) new,
         upto_new t s.lists (take (suc t) o),
         upto_new t s.rows Q,
         upto_new t s.aim b,
@@ -92,40 +82,38 @@ next_opens p o t xs r c Q b taken h at can table u el =
     }
 
 pub next_pivots : (p : Program) (o : Listing) (t : ℕ) (l : Listing) (xs : List ℤ) (q r c e : ℕ) (Q : ℕ → ℕ → ℤ) (b : ℕ → ℤ) → length o ≤ t → IsPairList p l
-    → IsTable p xs → IsSoFar p o t l xs → Enters p l (table_aim p xs) e → q < length l
-    → slice_index_or l q (0, 0) ≡ (r + 1, c + 1) → Leaves p l (table_rows p xs) e r c → IsEliminated p (table_rows p xs) (table_aim p xs) r e Q b
+    → IsTable p xs → (u : IsSoFar p o t l xs) → Enters p l (u.states.0.aim t) e → q < length l
+    → slice_index_or l q (0, 0) ≡ (r + 1, c + 1) → Leaves p l (u.states.0.rows t) e r c → IsEliminated p (u.states.0.rows t) (u.states.0.aim t) r e Q b
     → IsNext p o t (slice_set l q (r + 1, e + 1)) Q b
 next_pivots p o t l xs q r c e Q b h pairs table u en ql at lv el =
     let next = slice_set l q (r + 1, e + 1) in
-    let rows = rows_of_so_far p o t l xs u in
-    let same : (j : ℕ) → j ≤ p.cols → Q r j ≡ table_rows p xs r j = λ j jn. elim el.self [
-      | inl s ↦ s j jn
-      | inr s ↦ (let x : Q r e ≡ neg_ℤ (table_rows p xs r e) = s e (omega (arith, en.column)) in let y : pos 0 <ℤ Q r e = el.own in
-          let z : pos 0 <ℤ table_rows p xs r e = lv.pivot in absurd (omega (arith, linear)))
-    ] in
-    let new : IsRowsOf p next Q b = turn_rows p l q r c e ql at (pair_list_is_list p l pairs) (pair_list_is_once p l pairs) (table_rows p xs) Q
-    (table_aim p xs) b en.column en.unlisted lv.pivot rows el same in
     let s = u.states.0 in
-    let R : (ℕ → ℕ → ℤ) → Type 0 = λ x. AllNarrow p x (s.aim t) in let S : (ℕ → ℤ) → Type 0 = λ x. AllNarrow p (table_rows p xs) x in
-    let narrow : AllNarrow p (s.rows t) (s.aim t) = subst R (sym u.states.3) (subst S (sym u.states.4) (narrow_of p xs table)) in
-    let T1 : (ℕ → ℕ → ℤ) → Type 0 = λ x. IsPivot p l x (table_aim p xs) next e c in let T2 : (ℕ → ℤ) → Type 0 = λ x. IsPivot p l (s.rows t) x next e c in
-    let T3 : Listing → Type 0 = λ x. IsPivot p x (s.rows t) (s.aim t) next e c in
-    let turn : IsPivot p (s.lists t) (s.rows t) (s.aim t) next e c = subst T3 (sym u.states.2)
-    (subst T2 (sym u.states.4) (subst T1 (sym u.states.3) (record { enters = en; place = (q, r, ql, at, lv, refl) }))) in
+    let same : (j : ℕ) → j ≤ p.cols → Q r j ≡ s.rows t r j = λ j jn. elim el.self [
+      | inl s ↦ s j jn
+      | inr x ↦ (let x : Q r e ≡ neg_ℤ (s.rows t r e) = x e (omega (arith, en.column)) in let y : pos 0 <ℤ Q r e = el.own in
+          let z : pos 0 <ℤ s.rows t r e = lv.pivot in absurd (omega (arith, linear)))
+    ] in
+    let new : IsRowsOf p next Q b = turn_rows p l q r c e ql at (pair_list_is_list p l pairs) (pair_list_is_once p l pairs) (s.rows t) Q
+    (s.aim t) b en.column en.unlisted lv.pivot (rows_at p o t l xs u) el same in
+    let T : Listing → Type 0 = λ x. IsPivot p x (s.rows t) (s.aim t) next e c in
+    let turn : IsPivot p (s.lists t) (s.rows t) (s.aim t) next e c = subst T (sym u.states.2) (record { enters = en; place = (q, r, ql, at, lv, refl) }) in
     record {
       states = (
         states (upto t s.lists next) (upto t s.rows Q) (upto t s.aim b) (λ k. elim (cases_eq k t) [ inl s ↦ e | inr ne ↦ s.entering k ])
             (λ k. elim (cases_eq k t) [ inl s ↦ c | inr ne ↦ s.leaving k ]),
-        path_turns p o t s.lists s.rows s.aim s.entering s.leaving next Q b e c u.states.1 h (λ z. narrow) turn new,
+        path_turns p o t s.lists s.rows s.aim s.entering s.leaving next Q b e c u.states.1 h (λ z. narrow_at p o t l xs u table) turn new,
         upto_new t s.lists next,
         upto_new t s.rows Q,
         upto_new t s.aim b,
       );
     }
 
-pub so_far_next : (p : Program) (o : Listing) (t : ℕ) (next : Listing) (new : List ℤ) → IsNext p o t next (table_rows p new) (table_aim p new)
+pub so_far_next : (p : Program) (o : Listing) (t : ℕ) (next : Listing) (Q : ℕ → ℕ → ℤ) (b : ℕ → ℤ) (new : List ℤ) → IsNext p o t next Q b → IsKept p Q b new
     → IsSoFar p o (suc t) next new
-so_far_next p o t next new u = record { states = u.states }
+so_far_next p o t next Q b new u kept =
+    let s = u.states.0 in
+    let R : (ℕ → ℕ → ℤ) → Type 0 = λ x. IsKept p x (s.aim (suc t)) new in let S : (ℕ → ℤ) → Type 0 = λ x. IsKept p Q x new in
+    record { states = (s, u.states.1, u.states.2, subst R (sym u.states.3) (subst S (sym u.states.4) kept)) }
 
 -- ---- the stops
 pub wide_stops : (p : Program) (o : Listing) (limit t : ℕ) (next : Listing) (Q : ℕ → ℕ → ℤ) (b : ℕ → ℤ) (i j : ℕ) (z : ℤ) → t < length o + limit
@@ -150,22 +138,20 @@ wide_stops p o limit t next Q b i j z h u w =
 whole : (p : Program) (o : Listing) (limit t : ℕ) (l : Listing) (xs : List ℤ) (u : IsSoFar p o t l xs) → IsTable p xs → length o ≤ t → t ≤ length o + limit
     → IsWhole p o limit t u.states.0
 whole p o limit t l xs u table h k =
-    let s = u.states.0 in
-    let R : (ℕ → ℕ → ℤ) → Type 0 = λ x. AllNarrow p x (s.aim t) in let S : (ℕ → ℤ) → Type 0 = λ x. AllNarrow p (table_rows p xs) x in
-    record { path = u.states.1; whole = h; within = k; narrow = λ z. subst R (sym u.states.3) (subst S (sym u.states.4) (narrow_of p xs table)) }
+    record { path = u.states.1; whole = h; within = k; narrow = λ z. narrow_at p o t l xs u table }
 
 pub ends_stops : (p : Program) (o : Listing) (limit n : ℕ) (l : Listing) (xs : List ℤ) → IsSoFar p o (length o + n) l xs → IsTable p xs → n ≤ limit
     → NoneEnters p l (table_aim p xs) → PathStops p o limit (ends n l)
 ends_stops p o limit n l xs u table h none =
     let s = u.states.0 in let t = length o + n in
-    let P : (ℕ → ℤ) → Type 0 = λ x. NoneEnters p l x in let Q : Listing → Type 0 = λ x. NoneEnters p x (s.aim t) in
+    let Q : Listing → Type 0 = λ x. NoneEnters p x (s.aim t) in
     record {
       stops = (
         t,
         s,
         (
           whole p o limit t l xs u table (omega arith) (omega arith),
-          subst Q (sym u.states.2) (subst P (sym u.states.4) none),
+          subst Q (sym u.states.2) (none_enters_kept p xs (s.rows t) (s.aim t) u.states.3 l none),
           refl,
           sym u.states.2,
         ),
@@ -175,14 +161,15 @@ ends_stops p o limit n l xs u table h none =
 enters_at : (p : Program) (o : Listing) (t : ℕ) (l : Listing) (xs : List ℤ) (u : IsSoFar p o t l xs) (e : ℕ) → Enters p l (table_aim p xs) e
     → Enters p (u.states.0.lists t) (u.states.0.aim t) e
 enters_at p o t l xs u e en =
-    let s = u.states.0 in let P : (ℕ → ℤ) → Type 0 = λ x. Enters p l x e in let Q : Listing → Type 0 = λ x. Enters p x (s.aim t) e in
-    subst Q (sym u.states.2) (subst P (sym u.states.4) en)
+    let s = u.states.0 in let Q : Listing → Type 0 = λ x. Enters p x (s.aim t) e in
+    subst Q (sym u.states.2) (enters_kept p xs (s.rows t) (s.aim t) u.states.3 l e en)
 
-pub pivots_stops : (p : Program) (o : Listing) (limit : ℕ) (l : Listing) (xs : List ℤ) (e r c : ℕ) → IsSoFar p o (length o + limit) l xs → IsTable p xs
+pub pivots_stops : (p : Program) (o : Listing) (limit : ℕ) (l : Listing) (xs : List ℤ) (e r c : ℕ) → IsPairList p l
+    → IsSoFar p o (length o + limit) l xs → IsTable p xs
     → Enters p l (table_aim p xs) e → Leaves p l (table_rows p xs) e r c → PathStops p o limit pivots
-pivots_stops p o limit l xs e r c u table en lv =
+pivots_stops p o limit l xs e r c pairs u table en lv =
     let s = u.states.0 in let t = length o + limit in
-    let P : (ℕ → ℕ → ℤ) → Type 0 = λ x. Leaves p l x e r c in let Q : Listing → Type 0 = λ x. Leaves p x (s.rows t) e r c in
+    let Q : Listing → Type 0 = λ x. Leaves p x (s.rows t) e r c in
     record {
       stops = (
         t,
@@ -190,23 +177,24 @@ pivots_stops p o limit l xs e r c u table en lv =
         (
           whole p o limit t l xs u table (omega arith) (omega arith),
           refl,
-          (e, r, c, enters_at p o t l xs u e en, subst Q (sym u.states.2) (subst P (sym u.states.3) lv)),
+          (e, r, c, enters_at p o t l xs u e en, subst Q (sym u.states.2) (leaves_kept p xs (s.rows t) (s.aim t) u.states.3 l e r c pairs en.column lv)),
         ),
       );
     }
 
-pub unbounded_stops : (p : Program) (o : Listing) (limit n : ℕ) (l : Listing) (xs : List ℤ) (e : ℕ) → IsSoFar p o (length o + n) l xs → IsTable p xs
+pub unbounded_stops : (p : Program) (o : Listing) (limit n : ℕ) (l : Listing) (xs : List ℤ) (e : ℕ) → IsPairList p l → IsSoFar p o (length o + n) l xs
+    → IsTable p xs
     → n ≤ limit → Enters p l (table_aim p xs) e → NoneLeaves p l (table_rows p xs) e → PathStops p o limit (unbounded (e + 1))
-unbounded_stops p o limit n l xs e u table h en none =
+unbounded_stops p o limit n l xs e pairs u table h en none =
     let s = u.states.0 in let t = length o + n in
-    let P : (ℕ → ℕ → ℤ) → Type 0 = λ x. NoneLeaves p l x e in let Q : Listing → Type 0 = λ x. NoneLeaves p x (s.rows t) e in
+    let Q : Listing → Type 0 = λ x. NoneLeaves p x (s.rows t) e in
     record {
       stops = (
         t,
         s,
         (
           whole p o limit t l xs u table (omega arith) (omega arith),
-          (e, refl, enters_at p o t l xs u e en, subst Q (sym u.states.2) (subst P (sym u.states.3) none)),
+          (e, refl, enters_at p o t l xs u e en, subst Q (sym u.states.2) (none_leaves_kept p xs (s.rows t) (s.aim t) u.states.3 l e pairs en.column none)),
         ),
       );
     }
@@ -226,14 +214,15 @@ module _ (p : Program) (xs : List ℤ) (n : ℕ) (e : n ≡ p.rows * (p.cols + 2
   pub none_enters_from : (l : Listing) → ((j : ℕ) → j < length part → at part j ≤ℤ pos 0) → NoneEnters p l (table_aim p xs)
   none_enters_from l h j jn out = let P : ℤ → Type 0 = λ t. t ≤ℤ pos 0 in subst P (part_at j jn) (h j (omega (arith, part_long)))
 
-  pub enters_from : (l : Listing) (k : ℕ) → IsRowsOf p l (table_rows p xs) (table_aim p xs) → k < length part → pos 0 <ℤ at part k
+  pub enters_from : (l : Listing) (k : ℕ) → IsTableOf p l xs → k < length part → pos 0 <ℤ at part k
       → ((j : ℕ) → j < k → at part j ≤ℤ pos 0) → Enters p l (table_aim p xs) k
   enters_from l k rows inside up before =
       let column : k < p.cols = omega (arith, part_long) in
       let rises : pos 0 <ℤ table_aim p xs k = (let P : ℤ → Type 0 = λ t. pos 0 <ℤ t in subst P (part_at k column) up) in
       record {
         column = column;
-        unlisted = λ h. (let z : table_aim p xs k ≡ pos 0 = rows.aim_row.2.zeros k h in omega (arith, linear));
+        unlisted = λ h. (let w = rows.rows_of in
+            let z : table_aim p xs k ≡ pos 0 = aim_zero_kept p xs w.0 w.1 w.3 k (omega arith) (w.2.aim_row.2.zeros k h) in omega (arith, linear));
         rises = rises;
         least = λ j jk out. (let P : ℤ → Type 0 = λ t. t ≤ℤ pos 0 in subst P (part_at j (omega arith)) (before j jk));
       }
@@ -241,6 +230,10 @@ module _ (p : Program) (xs : List ℤ) (n : ℕ) (e : n ≡ p.rows * (p.cols + 2
 pub none_of : {X : Type 0} (r : Option X) (P : Type 0) (Q : X → Type 0) → r ≡ None → MatchOption r P Q → P
 none_of None P Q e h = h
 none_of (Some x) P Q e h = absurd (cc)
+
+pub if_none : {X : Type 0} (r : Option X) (P : Type 0) → r ≡ None → IfNone r P → P
+if_none None P e h = h
+if_none (Some x) P e h = absurd (cc)
 
 -- ---- a step of the opening
 can_take_at : (p : Program) (o : Listing) (t r c : ℕ) → IsTakenInTurn p o → t < length o → slice_index_or o t (0, 0) ≡ (r + 1, c + 1)
@@ -259,12 +252,16 @@ module _ (p : Program) (o : Listing) (t r c : ℕ) (xs : List ℤ) (opens : IsOp
 
   pub open_nonzero : table_rows p xs r c ≢ pos 0
   open_nonzero =
-      let w = opened p o opens.taken t (omega arith) in
-      take_nonzero p (take t o) r c (table_rows p xs) (table_aim p xs) w.is_list w.regular can (rows_of_so_far p o t (take t o) xs u)
+      let w = opened p o opens.taken t (omega arith) in let s = u.states.0 in
+      nonzero_kept p xs (s.rows t) (s.aim t) u.states.3 r c can.row (omega (arith, can.column))
+      (take_nonzero p (take t o) r c (s.rows t) (s.aim t) w.is_list w.regular can (rows_at p o t (take t o) xs u))
+
+  open_prim : IsPrimitive p.cols (u.states.0.rows t r)
+  open_prim = (rows_at p o t (take t o) xs u).primitive r can.row
 
   pub open_wide : (i j : ℕ) (z : ℤ) → IsWideAfter p xs r c i j z → (limit : ℕ) → PathStops p o limit (wide (t + 1) (i + 1) (j + 1) (stated p i j z))
   open_wide i j z w limit =
-      let q = w.rows in
+      let q = w.after (u.states.0.rows t) (u.states.0.aim t) open_prim u.states.3 in
       wide_stops p o limit t (take (suc t) o) q.0 q.1 i j (stated p i j z) (omega arith)
       (next_opens p o t xs r c q.0 q.1 opens.taken h at can table u q.2) q.3
 
@@ -275,8 +272,8 @@ module _ (p : Program) (o : Listing) (t r c : ℕ) (xs : List ℤ) (opens : IsOp
   open_next new w =
       let e : suc t ≡ t + 1 = omega arith in
       let P : ℕ → Type 0 = λ k. IsSoFar p o k (take k o) new in
-      subst P e (so_far_next p o t (take (suc t) o) new (next_opens p o t xs r c (table_rows p new)
-      (table_aim p new) opens.taken h at can table u w.eliminated))
+      let q = w.after (u.states.0.rows t) (u.states.0.aim t) open_prim u.states.3 in
+      subst P e (so_far_next p o t (take (suc t) o) q.0 q.1 new (next_opens p o t xs r c q.0 q.1 opens.taken h at can table u q.2) q.3)
 
 pub opening_pairs : (p : Program) (o : Listing) → IsOpening p o → IsPairList p o
 opening_pairs p o u = let P : Listing → Type 0 = λ x. IsPairList p x in subst P (take-length o)
@@ -299,11 +296,17 @@ same_names l q r c k d a b =
 module _ (p : Program) (o : Listing) (t : ℕ) (l : Listing) (xs : List ℤ) (q e : ℕ) (h : length o
     ≤ t) (pairs : IsPairList p l) (table : IsTable p xs) (u : IsSoFar p o t l xs) (en : Enters p l (table_aim p xs) e)
     (lv : IsLeaving p l (table_rows p xs) e (Some q)) where
-  leaves_at : (r c : ℕ) → slice_index_or l q (0, 0) ≡ (r + 1, c + 1) → Leaves p l (table_rows p xs) e r c
+  leaves_at : (r c : ℕ) → slice_index_or l q (0, 0) ≡ (r + 1, c + 1) → Leaves p l (u.states.0.rows t) e r c
   leaves_at r c at =
       let s = same_names l q lv.0 lv.1 r c lv.3 at in
       let P : ℕ → Type 0 = λ x. Leaves p l (table_rows p xs) e x lv.1 in let Q : ℕ → Type 0 = λ x. Leaves p l (table_rows p xs) e r x in
-      subst Q s.1 (subst P s.0 lv.4)
+      leaves_kept p xs (u.states.0.rows t) (u.states.0.aim t) u.states.3 l e r c pairs en.column (subst Q s.1 (subst P s.0 lv.4))
+
+  enters_kept_at : Enters p l (u.states.0.aim t) e
+  enters_kept_at = enters_kept p xs (u.states.0.rows t) (u.states.0.aim t) u.states.3 l e en
+
+  pivot_prim : (r c : ℕ) → slice_index_or l q (0, 0) ≡ (r + 1, c + 1) → IsPrimitive p.cols (u.states.0.rows t r)
+  pivot_prim r c at = (rows_at p o t l xs u).primitive r ((pair_list_is_list p l pairs).row_inside r c (leaves_at r c at).listed)
 
   pub pivot_next : (next : Listing) (new : List ℤ) → IsPivoted p l next xs new q e → (IsTable p new) × (IsPairList p next) × IsSoFar p o (t + 1) next new
   pivot_next next new w =
@@ -313,17 +316,19 @@ module _ (p : Program) (o : Listing) (t : ℕ) (l : Listing) (xs : List ℤ) (q 
       → Type 0 = λ k. IsSoFar p o k (slice_set l q (r + 1, e + 1)) new in
       let both = subst P (sym a.3) (
         changed_pair_list p l q r c e lv.2 a.2 pairs en.column en.unlisted,
-        subst T step (so_far_next p o t (slice_set l q (r + 1, e + 1)) new
-            (next_pivots p o t l xs q r c e (table_rows p new) (table_aim p new) h pairs table u en lv.2 a.2 (leaves_at r c a.2) a.4.eliminated)),
+        (let x = a.4.after (u.states.0.rows t) (u.states.0.aim t) (pivot_prim r c a.2) u.states.3 in
+            subst T step (so_far_next p o t (slice_set l q (r + 1, e + 1)) x.0 x.1 new
+            (next_pivots p o t l xs q r c e x.0 x.1 h pairs table u enters_kept_at lv.2 a.2 (leaves_at r c a.2) x.2) x.3)),
       ) in
       (a.4.table, both.0, both.1)
 
   pub pivot_wide : (i j : ℕ) (z : ℤ) → IsWidePivot p l xs q e i j z → (limit : ℕ) → t < length o + limit
       → PathStops p o limit (wide (t + 1) (i + 1) (j + 1) (stated p i j z))
   pivot_wide i j z w limit k =
-      let a = w.pair in let r = a.0 in let c = a.1 in let b = a.3.rows in
+      let a = w.pair in let r = a.0 in let c = a.1 in
+      let b = a.3.after (u.states.0.rows t) (u.states.0.aim t) (pivot_prim r c a.2) u.states.3 in
       wide_stops p o limit t (slice_set l q (r + 1, e + 1)) b.0 b.1 i j (stated p i j z) k
-      (next_pivots p o t l xs q r c e b.0 b.1 h pairs table u en lv.2 a.2 (leaves_at r c a.2) b.2) b.3
+      (next_pivots p o t l xs q r c e b.0 b.1 h pairs table u enters_kept_at lv.2 a.2 (leaves_at r c a.2) b.2) b.3
 
 -- ---- which columns a pivot changes
 -- the path s has this list after t steps, and its rows agree with these: its next pivot is theirs
@@ -350,9 +355,8 @@ turn_at p o made l xs q e r c next new ok pairs u en lv at w =
     path u.states.1 made (omega arith) (omega arith) in
     let ag = paths_agree p o (t + 1) t s.lists s0.lists s.rows s0.rows s.aim s0.aim s.entering s0.entering s.leaving s0.leaving ok path u.states.1 made
     (omega arith) (omega arith) in
-    let A : (ℕ → ℕ → ℤ) → Type 0 = λ x. Agree p (s.rows t) x (s.aim t) (s0.aim t) in let B : (ℕ → ℤ)
-    → Type 0 = λ x. Agree p (s.rows t) (table_rows p xs) (s.aim t) x in
     let n = same_names l q lv.0 lv.1 r c lv.3 at in
-    let z = turn_same_as p o t l (table_rows p xs) (table_aim p xs) e lv.0 lv.1 s (omega arith) path (same
-    ∙ u.states.2) (subst B u.states.4 (subst A u.states.3 ag)) (pair_list_is_list p l pairs) en lv.4 in
+    let z = turn_same_as p o t l (s0.rows t) (s0.aim t) e lv.0 lv.1 s (omega arith) path (same ∙ u.states.2) ag (pair_list_is_list p l pairs)
+    (enters_kept p xs (s0.rows t) (s0.aim t) u.states.3 l e en)
+    (leaves_kept p xs (s0.rows t) (s0.aim t) u.states.3 l e lv.0 lv.1 pairs en.column lv.4) in
     (s, path, ap (λ x. x + 1) (sym z.0), ap (λ x. x + 1) (sym n.1 ∙ sym z.1))

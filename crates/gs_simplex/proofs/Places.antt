@@ -1,12 +1,14 @@
 -- Numbers of rows that stand one after the other in one list, and what is at each place after a part was written.
-use Rattle.std.proofs.Common.{◌≡◌, ◌≢◌, ℕ, suc, ◌+◌, ◌-◌, ◌*◌, ◌<◌, ◌≤◌, ◌⊎◌, inl, inr, List, [], ◌++◌, length, take, drop, map, Vec, vec_items, Global, get_or, slice_index_or, ℤ, pos, ◌-ℤ◌, ◌*ℤ◌, unsigned_abs, refl, sym, ap, subst, ◌∙◌, arith}
+use Rattle.std.proofs.Common.{◌≡◌, ◌≢◌, ℕ, suc, ◌+◌, ◌-◌, ◌*◌, ◌<◌, ◌≤◌, ◌⊎◌, inl, inr, List, [], ◌++◌, length, take, drop, map, Vec, vec_items, Global, get_or, slice_index, slice_index_or, slice_set, ℤ, pos, neg_ℤ, ◌-ℤ◌, ◌*ℤ◌, ◌<ℤ◌, unsigned_abs, refl, sym, ap, subst, ◌∙◌, arith, below_more, get_or-set_other, get_or-set_same}
 use Prim.Native.Nat.{◌∣◌}
 use borrow.Rule.Slice.PartMut.{put_mid}
 use Rattle.std.proofs.lemmas.Bool.{cases_order, cases_lt}
 use Rattle.std.proofs.lemmas.List.{get_or_append_left, get_or-append_right, get_or_default, get_or-drop, get_or-take, length-take-le, length-append, length-drop, length-map}
 use Rattle.std.proofs.Math.ListN.{get_or-map}
 use Rattle.gs_rows.specs.Rows.{IsNarrow, IsPrimitive}
-use Rattle.gs_simplex.specs.Numbers.{at, cell, AllNarrow, IsReduced, IsReducedTo, IsDivided}
+use Rattle.gs_simplex.specs.Numbers.{at, cell, AllNarrow, IsAtMost, IsMultiple, IsDivided, cleared_by, IsMixed, IsReduced, IsReducedTo, IsTurned, IsLeadOf}
+use Rattle.gs_rows.proofs.Ring.{linear}
+use Rattle.gs_simplex.proofs.Multiples.{down_nonneg}
 
 -- the numbers of a row of a list of rows
 pub vec_at : (rows : List (Vec ℤ Global)) (i : ℕ) (v : Vec ℤ Global) → i < length rows → v ≡ get_or rows i v
@@ -72,19 +74,34 @@ primitive_same_row last f g e u = elim u.form [
   | inr d ↦ record { form = inr (λ k h. d k (λ j l. let P : ℤ → Type 0 = λ t. k ∣ unsigned_abs t in subst P (sym (e j l)) (h j l))) }
 ]
 
+pub multiple_same : (width : ℕ) (old old' new new' : ℕ → ℤ) → ((j : ℕ) → j < width → old j ≡ old' j) → ((j : ℕ) → j < width → new j ≡ new' j)
+    → IsMultiple width old new → IsMultiple width old' new'
+multiple_same width old old' new new' eo en u = let m = u.by in
+    record { by = (m.0, m.1, λ j h. sym (eo j h) ∙ m.2 j h ∙ ap (λ t. m.0 *ℤ t) (en j h)) }
+
+pub divided_same : (width : ℕ) (old old' new new' : ℕ → ℤ) → 0 < width → ((j : ℕ) → j < width → old j ≡ old' j) → ((j : ℕ) → j < width → new j ≡ new' j)
+    → IsDivided width old new → IsDivided width old' new'
+divided_same width old old' new new' some eo en u = record {
+  multiple = multiple_same width old old' new new' eo en u.multiple;
+  primitive = primitive_same_row (width - 1) new new' (λ j h. en j (omega arith)) u.primitive;
+}
+
 pub reduced_same : (lead lead' : ℕ → ℤ) (c width : ℕ) (old old' new new' : ℕ → ℤ) → c < width → ((j : ℕ) → j < width → lead j ≡ lead' j)
     → ((j : ℕ) → j < width → old j ≡ old' j) → ((j : ℕ) → j < width → new j ≡ new' j)
     → IsReduced lead c width old new → IsReduced lead' c width old' new'
-reduced_same lead lead' c width old old' new new' cw el eo en u = record {
-  divided = (
-    u.divided.0,
-    u.divided.1,
-    λ j h. ap (λ t. t *ℤ old' j -ℤ old' c *ℤ lead' j) (sym (el c cw)) ∙ ap (λ t. lead c *ℤ t -ℤ old' c *ℤ lead' j) (sym (eo j h))
-        ∙ ap (λ t. lead c *ℤ old j -ℤ t *ℤ lead' j) (sym (eo c cw))
-        ∙ ap (λ t. lead c *ℤ old j -ℤ old c *ℤ t) (sym (el j h)) ∙ u.divided.2 j h ∙ ap (λ t. u.divided.0 *ℤ t) (en j h),
-  );
-  primitive = primitive_same_row (width - 1) new new' (λ j h. en j (omega arith)) u.primitive;
-}
+reduced_same lead lead' c width old old' new new' cw el eo en =
+    divided_same width (cleared_by lead c old) (cleared_by lead' c old') new new' (omega arith)
+    (λ j h. ap (λ t. t *ℤ old j -ℤ old c *ℤ lead j) (el c cw) ∙ ap (λ t. lead' c *ℤ t -ℤ old c *ℤ lead j) (eo j h)
+    ∙ ap (λ t. lead' c *ℤ old' j -ℤ t *ℤ lead j) (eo c cw) ∙ ap (λ t. lead' c *ℤ old' j -ℤ old' c *ℤ t) (el j h)) en
+
+pub mixed_same : (lead : ℕ → ℤ) (c width : ℕ) (old old' new new' : ℕ → ℤ) → c < width → ((j : ℕ) → j < width → old j ≡ old' j)
+    → ((j : ℕ) → j < width → new j ≡ new' j) → IsMixed lead c width old new → IsMixed lead c width old' new'
+mixed_same lead c width old old' new new' cw eo en =
+    multiple_same width (cleared_by lead c old) (cleared_by lead c old') new new'
+    (λ j h. ap (λ t. lead c *ℤ t -ℤ old c *ℤ lead j) (eo j h) ∙ ap (λ t. lead c *ℤ old' j -ℤ t *ℤ lead j) (eo c cw)) en
+
+pub at_most_same : (width most : ℕ) (old new : ℕ → ℤ) → ((j : ℕ) → j < width → old j ≡ new j) → IsAtMost width old most → IsAtMost width new most
+at_most_same width most old new e u j h = let P : ℤ → Type 0 = λ t. unsigned_abs t ≤ most in subst P (e j h) (u j h)
 
 pub reduced_to_same : (lead lead' : ℕ → ℤ) (c width : ℕ) (old old' : ℕ → ℤ) (j : ℕ) (z : ℤ) → c < width → ((j : ℕ) → j < width → lead j ≡ lead' j)
     → ((j : ℕ) → j < width → old j ≡ old' j)
@@ -124,9 +141,56 @@ pub rows_left : (old now new : List ℤ) (width i : ℕ) → ((k : ℕ) → (k <
     → (h : ℕ) → i + 1 ≤ h → (j : ℕ) → j < width → cell new width h j ≡ cell old width h j
 rows_left old now new width i others left h l j jw = row_stays now new width i others h (λ e. omega arith) j jw ∙ left h (omega arith) j jw
 
-pub divided_same : (width : ℕ) (old old' new new' : ℕ → ℤ) → 0 < width → ((j : ℕ) → j < width → old j ≡ old' j) → ((j : ℕ) → j < width → new j ≡ new' j)
-    → IsDivided width old new → IsDivided width old' new'
-divided_same width old old' new new' some eo en u = record {
-  divided = (u.divided.0, u.divided.1, λ j h. sym (eo j h) ∙ u.divided.2 j h ∙ ap (λ t. u.divided.0 *ℤ t) (en j h));
-  primitive = primitive_same_row (width - 1) new new' (λ j h. en j (omega arith)) u.primitive;
+-- ---- a row that is taken: turned, and then divided
+pub lead_of : (old mid new : ℕ → ℤ) (c width : ℕ) → c < width → IsTurned old mid c width → IsDivided width mid new → IsLeadOf old new c width
+lead_of old mid new c width cw t u =
+    let g = u.multiple.by in
+    record {
+      own = down_nonneg g.0 (mid c) (new c) g.1 (g.2 c cw) t.own;
+      divided = elim t.self [
+        | inl s ↦ inl (divided_same width mid old new new (omega arith) s (λ j h. refl) u)
+        | inr s ↦ inr (divided_same width mid (λ j. neg_ℤ (old j)) new new (omega arith) s (λ j h. refl) u)
+      ];
+    }
+
+-- by what the row was divided
+pub lead_by : (old new : ℕ → ℤ) (c width : ℕ) → IsLeadOf old new c width
+    → (d : ℤ) × (pos 0 <ℤ d) × (((j : ℕ) → j < width → old j ≡ d *ℤ new j) ⊎ ((j : ℕ) → j < width → old j ≡ neg_ℤ (d *ℤ new j)))
+    × IsPrimitive (width - 1) new
+lead_by old new c width u = elim u.divided [
+  | inl v ↦ (let m = v.multiple.by in (m.0, m.1, inl m.2, v.primitive))
+  | inr v ↦ (let m = v.multiple.by in (m.0, m.1, inr (λ j h. let e = m.2 j h in omega (arith, linear)), v.primitive))
+]
+
+pub lead_same : (old old' new : ℕ → ℤ) (c width : ℕ) → 0 < width → ((j : ℕ) → j < width → old j ≡ old' j) → IsLeadOf old new c width
+    → IsLeadOf old' new c width
+lead_same old old' new c width some e u = record {
+  own = u.own;
+  divided = elim u.divided [
+    | inl s ↦ inl (divided_same width old old' new new some e (λ j h. refl) s)
+    | inr s ↦ inr (divided_same width (λ j. neg_ℤ (old j)) (λ j. neg_ℤ (old' j)) new new some (λ j h. ap neg_ℤ (e j h)) (λ j h. refl) s)
+  ];
 }
+
+-- what stands outside a part that was written
+pub others_put : (xs ys : List ℤ) (start width n : ℕ) → n ≡ start + width - start → start + width ≤ length xs → length ys ≡ n → (k : ℕ)
+    → (k < start) ⊎ (start + width ≤ k) → at (put_mid start n xs ys) k ≡ at xs k
+others_put xs ys start width n e h long k w = elim w [
+  | inl l ↦ at_put_below xs ys start n k l (omega arith)
+  | inr l ↦ at_put_above xs ys start n k (omega arith) long (omega arith)
+]
+
+-- ---- one more row with its bound
+pub tops_more : (now new : List ℤ) (tops : List ℕ) (w i top : ℕ) → i < length tops
+    → ((h : ℕ) → h < i → (j : ℕ) → j < w → cell new w h j ≡ cell now w h j) → ((h : ℕ) → h < i → IsAtMost w (cell now w h) (slice_index tops h))
+    → IsAtMost w (cell new w i) top → (h : ℕ) → h < i + 1 → IsAtMost w (cell new w h) (slice_index (slice_set tops i top) h)
+tops_more now new tops w i top il stays done here =
+    below_more (λ h. IsAtMost w (cell new w h) (slice_index (slice_set tops i top) h)) i
+    (λ h l. let P : ℕ → Type 0 = λ t. IsAtMost w (cell new w h) t in
+    subst P (sym (get_or-set_other tops i h top 0 (λ e. omega arith)))
+    (at_most_same w (slice_index tops h) (cell now w h) (cell new w h) (λ j jw. sym (stays h l j jw)) (done h l)))
+    (let P : ℕ → Type 0 = λ t. IsAtMost w (cell new w i) t in subst P (sym (get_or-set_same tops i top 0 il)) here)
+
+pub tops_left_more : (tops old : List ℕ) (i top : ℕ) → ((h : ℕ) → i ≤ h → slice_index tops h ≡ slice_index old h) → (h : ℕ) → i + 1 ≤ h
+    → slice_index (slice_set tops i top) h ≡ slice_index old h
+tops_left_more tops old i top left h l = get_or-set_other tops i h top 0 (λ e. omega arith) ∙ left h (omega arith)

@@ -1,16 +1,16 @@
 -- A row divided by the greatest common divisor of its numbers: it is primitive, and after a pivot it is the row reduced by the lead.
-use Rattle.std.proofs.Common.{◌≡◌, ℕ, zero, suc, ◌+◌, ◌-◌, ◌*◌, ◌<◌, ◌≤◌, ◌^◌, ◌⊎◌, inl, inr, List, length, ℤ, pos, ◌-ℤ◌, ◌*ℤ◌, ◌<ℤ◌, unsigned_abs, max, sym, ap, subst, ◌∙◌, arith, below_more}
+use Rattle.std.proofs.Common.{◌≡◌, ℕ, zero, suc, ◌+◌, ◌-◌, ◌*◌, ◌/◌, ◌<◌, ◌≤◌, ◌^◌, ◌⊎◌, inl, inr, List, length, ℤ, pos, ◌-ℤ◌, ◌*ℤ◌, ◌<ℤ◌, unsigned_abs, max, sym, ap, subst, ◌∙◌, arith, below_more}
 use Prim.Native.Nat.{◌∣◌}
 use Rattle.std.proofs.lemmas.Bool.{cases_eq}
 use Rattle.std.proofs.lemmas.Int.{ints, unsigned_abs-mul}
 use Rattle.std.specs.Int.{IsGcd}
 use Rattle.std.proofs.lemmas.Nat.Gcd.{dvd_refl, dvd-zero, dvd_trans}
-use Rattle.std.proofs.Math.Nat.{eq-one_of_dvd-one, one-dvd, eq-zero_of_zero-dvd, mul-dvd-mul_left, dvd_of_mul-dvd-mul_left, le_of_dvd}
+use Rattle.std.proofs.Math.Nat.{eq-one_of_dvd-one, one-dvd, eq-zero_of_zero-dvd, mul-dvd-mul_left, dvd_of_mul-dvd-mul_left, le_of_dvd, le-div_iff_mul-le}
 use Rattle.gs_rows.specs.Rows.{IsNarrow, IsPrimitive}
 use Rattle.gs_rows.proofs.Ring.{ring, linear, one_times, times_pos, times_times, cancel, cancel_zero}
 use Rattle.gs_rows.proofs.Sums.{cases_last}
 use Rattle.gs_rows.proofs.Primitive.{over, over_times, zero_abs}
-use Rattle.gs_simplex.specs.Numbers.{at, AllNarrow, IsDivisor, IsShared, IsQuotient, IsWideQuotient, IsReduced, IsReducedTo, IsDivided}
+use Rattle.gs_simplex.specs.Numbers.{at, AllNarrow, AllAtMost, IsAtMost, IsDivisor, IsShared, IsQuotient, IsWideQuotient, IsMultiple, IsDivided, IsMixed, IsReduced, IsReducedTo}
 
 -- one more number among those divided, which may be 0
 pub one_more : (f : ℕ → ℤ) (i found next m : ℕ) → m ≡ unsigned_abs (f i) → IsGcd found m next → IsDivisor i f found → IsDivisor (i + 1) f next
@@ -99,20 +99,25 @@ shared_row lc rc own far g r l m e f h =
     let q : (g *ℤ own) *ℤ r -ℤ (g *ℤ far) *ℤ l ≡ g *ℤ (own *ℤ r -ℤ far *ℤ l) = simp ring (omega (arith, linear)) in
     ap (λ t. t *ℤ r -ℤ rc *ℤ l) e ∙ ap (λ t. (g *ℤ own) *ℤ r -ℤ t *ℤ l) f ∙ q ∙ ap (λ t. g *ℤ t) (sym h)
 
--- a row of narrow products, divided
-pub reduced_divided : (lead row mid new : ℕ → ℤ) (c width : ℕ) (own far : ℤ) → IsShared (lead c) (row c) own far
-    → ((j : ℕ) → j < width → mid j ≡ own *ℤ row j -ℤ far *ℤ lead j) → IsDivided width mid new → IsReduced lead c width row new
-reduced_divided lead row mid new c width own far sh is u =
-    let g = sh.by.0 in let h = u.divided.0 in
+-- a row of narrow products, over a common divisor
+pub mixed_times : (lead row mid new : ℕ → ℤ) (c width : ℕ) (own far : ℤ) → IsShared (lead c) (row c) own far
+    → ((j : ℕ) → j < width → mid j ≡ own *ℤ row j -ℤ far *ℤ lead j) → IsMultiple width mid new → IsMixed lead c width row new
+mixed_times lead row mid new c width own far sh is u =
+    let g = sh.by.0 in let h = u.by.0 in
     record {
-      divided = (
+      by = (
         g *ℤ h,
-        times_pos g h sh.by.1 u.divided.1,
-        λ j l. shared_row (lead c) (row c) own far g (row j) (lead j) (mid j) sh.by.2 sh.by.3 (is j l) ∙ ap (λ t. g *ℤ t) (u.divided.2 j l)
+        times_pos g h sh.by.1 u.by.1,
+        λ j l. shared_row (lead c) (row c) own far g (row j) (lead j) (mid j) sh.by.2 sh.by.3 (is j l) ∙ ap (λ t. g *ℤ t) (u.by.2 j l)
             ∙ sym (times_times g h (new j)),
       );
-      primitive = u.primitive;
     }
+
+-- and over the greatest one
+reduced_divided : (lead row mid new : ℕ → ℤ) (c width : ℕ) (own far : ℤ) → IsShared (lead c) (row c) own far
+    → ((j : ℕ) → j < width → mid j ≡ own *ℤ row j -ℤ far *ℤ lead j) → IsDivided width mid new → IsReduced lead c width row new
+reduced_divided lead row mid new c width own far sh is u =
+    record { multiple = mixed_times lead row mid new c width own far sh is u.multiple; primitive = u.primitive }
 
 -- the row of a pivot, divided
 module _ (lead row : ℕ → ℤ) (c width d by : ℕ) (own far : ℤ) (mixed : List ℤ) (sh : IsShared (lead c) (row c) own far) (wide : 0 < width) (long : length mixed
@@ -125,7 +130,7 @@ module _ (lead row : ℕ → ℤ) (c width d by : ℕ) (own far : ℤ) (mixed : 
   divided_from q h =
       let s : length mixed ≡ suc (width - 1) = omega arith in
       let P : ℕ → Type 0 = λ t. IsDivisor t (at mixed) d in
-      record { divided = (pos by, by_positive, h); primitive = quotients_primitive d by (width - 1) (at mixed) q (subst P s u) e (λ j l. h j (omega arith)) }
+      record { multiple = record { by = (pos by, by_positive, h) }; primitive = quotients_primitive d by (width - 1) (at mixed) q (subst P s u) e (λ j l. h j (omega arith)) }
 
   pub reduced_from : (q : ℕ → ℤ) → ((j : ℕ) → j < width → at mixed j ≡ pos by *ℤ q j) → IsReduced lead c width row q
   reduced_from q h = reduced_divided lead row (at mixed) q c width own far sh is (divided_from q h)
@@ -150,22 +155,21 @@ module _ (lead row : ℕ → ℤ) (c width d by : ℕ) (own far : ℤ) (mixed : 
       }
 
 -- a row with 0 in the column stays
-pub kept_reduced : (lead row : ℕ → ℤ) (c width : ℕ) → pos 0 <ℤ lead c → row c ≡ pos 0 → IsPrimitive (width - 1) row → IsReduced lead c width row row
-kept_reduced lead row c width own z prim = record {
-  divided = (
+pub kept_mixed : (lead row : ℕ → ℤ) (c width : ℕ) → pos 0 <ℤ lead c → row c ≡ pos 0 → IsMixed lead c width row row
+kept_mixed lead row c width own z = record {
+  by = (
     lead c,
     own,
     λ j l. (let s : row c *ℤ lead j ≡ pos 0 = ap (λ t. t *ℤ lead j) z ∙ Rattle.gs_rows.proofs.Ring.zero_times (lead j) in
         omega (arith, linear)),
   );
-  primitive = prim;
 }
 
 -- ---- a row divided
 divided_by : (row new : List ℤ) (d by : ℕ) → 0 < length row → IsDivisor (length row) (at row) d → by ≡ max d 1
     → ((j : ℕ) → j < length row → at row j ≡ pos by *ℤ at new j) → IsDivided (length row) (at row) (at new)
 divided_by row new d by some u e h = record {
-  divided = (pos by, omega (arith, ints), h);
+  multiple = record { by = (pos by, omega (arith, ints), h) };
   primitive =
       (let s : length row ≡ suc (length row - 1) = omega arith in
       let P : ℕ → Type 0 = λ t. IsDivisor t (at row) d in
@@ -178,6 +182,14 @@ divided_row row new d some u more q = divided_by row new d d some u (omega (arit
 
 pub undivided_row : (row : List ℤ) (d : ℕ) → 0 < length row → IsDivisor (length row) (at row) d → d ≤ 1 → IsDivided (length row) (at row) (at row)
 undivided_row row d some u small = divided_by row row d 1 some u (omega (arith, small)) (λ j l. sym (one_times (at row j)))
+
+-- a bound of a row over what it is divided by
+pub bound_over : (row new : List ℤ) (by most : ℕ) → 0 < by → IsQuotient by row new (length row) → AllAtMost row most
+    → IsAtMost (length row) (at new) (most / by)
+bound_over row new by most some q h j l =
+    let s : unsigned_abs (at row j) ≡ by * unsigned_abs (at new j) = ap unsigned_abs (q.each j l) ∙ unsigned_abs-mul (pos by) (at new j) in
+    let k : unsigned_abs (at new j) * by ≤ most = omega (arith, h j l, s) in
+    (le-div_iff_mul-le some).1 k
 
 -- of no numbers it is 0, which is narrow
 pub nothing_common : (f : ℕ → ℤ) (z : ℤ) → z ≡ pos 0 → IsDivisor 0 f (unsigned_abs z) × (unsigned_abs z < 2 ^ 62)

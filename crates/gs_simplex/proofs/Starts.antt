@@ -1,5 +1,5 @@
 -- The program's rows, each divided, are the table that a path starts from.
-use Rattle.std.proofs.Common.{◌≡◌, inl, inr, ℕ, zero, suc, ◌+◌, ◌-◌, ◌*◌, ◌<◌, ◌^◌, List, [], length, ℤ, pos, neg_ℤ, unsigned_abs, sym, ap, subst, ◌∙◌, arith}
+use Rattle.std.proofs.Common.{◌≡◌, inl, inr, ℕ, zero, suc, ◌+◌, ◌-◌, ◌*◌, ◌<◌, ◌^◌, List, [], length, slice_index, ℤ, pos, neg_ℤ, unsigned_abs, sym, ap, subst, ◌∙◌, arith}
 use Rattle.std.proofs.lemmas.Bool.{cases_eq, cases_lt}
 use Rattle.gs_rows.specs.declared.Program.{Program}
 use Rattle.gs_rows.specs.Rows.{IsNarrow, IsPrimitive}
@@ -7,7 +7,8 @@ use Rattle.gs_rows.specs.Program.{IsShaped, IsRowsOf}
 use Rattle.gs_rows.proofs.Exists.{empty_rows_from}
 use Rattle.gs_rows.proofs.Ring.{cancel_zero}
 use Rattle.gs_simplex.specs.Numbers.{at, cell, AllNarrow, IsDivided}
-use Rattle.gs_simplex.specs.Table.{table_rows, table_aim, IsTable}
+use Rattle.gs_simplex.specs.Table.{table_rows, table_aim, IsTable, HasTops}
+use Rattle.gs_simplex.proofs.Places.{row_inside}
 use Rattle.gs_simplex.specs.State.{IsRaw}
 use Rattle.gs_simplex.proofs.Tables.{flipped_at, flipped_other, primitive_shorter}
 
@@ -40,12 +41,18 @@ raw_narrow p xs s u k h = rows_cover (p.cols + 2) (p.rows + 1) (λ t. IsNarrow (
           ]))
     ]) k (omega (arith, u.long))
 
+-- a bound above every narrow number
+pub wide_tops : (p : Program) (xs : List ℤ) (tops : List ℕ) → IsTable p xs → ((i : ℕ) → i < p.rows + 1 → slice_index tops i ≡ 2 ^ 62) → HasTops p xs tops
+wide_tops p xs tops u e i h j jw =
+    let n : IsNarrow (cell xs (p.cols + 2) i j) = u.narrow (i * (p.cols + 2) + j) (omega (arith, u.long, row_inside (p.rows + 1) (p.cols + 2) i j h jw)) in
+    omega (arith, n, e i h)
+
 -- the table that the divided rows are
 module _ (p : Program) (raw new : List ℤ) (shaped : IsShaped p) (u : IsRaw p raw) (long : length new ≡ length raw)
     (divided : (i : ℕ) → i < p.rows → IsDivided (p.cols + 2) (cell raw (p.cols + 2) i) (cell new (p.cols + 2) i))
     (last : (j : ℕ) → j < p.cols + 2 → cell new (p.cols + 2) p.rows j ≡ cell raw (p.cols + 2) p.rows j) (narrow : AllNarrow new) where
   end_zero : (i : ℕ) → i < p.rows → cell new (p.cols + 2) i (p.cols + 1) ≡ pos 0
-  end_zero i h = let g = (divided i h).divided in cancel_zero g.0 (cell new (p.cols + 2) i (p.cols + 1)) g.1 (sym (g.2 (p.cols + 1) (omega arith))
+  end_zero i h = let g = (divided i h).multiple.by in cancel_zero g.0 (cell new (p.cols + 2) i (p.cols + 1)) g.1 (sym (g.2 (p.cols + 1) (omega arith))
       ∙ u.zero i h)
 
   pub start_table : IsTable p new
@@ -53,7 +60,7 @@ module _ (p : Program) (raw new : List ℤ) (shaped : IsShaped p) (u : IsRaw p r
 
   pub start_rows : IsRowsOf p [] (table_rows p new) (table_aim p new)
   start_rows = empty_rows_from p (table_rows p new) (table_aim p new)
-      (λ i h. let g = (divided i h).divided in (
+      (λ i h. let g = (divided i h).multiple.by in (
         g.0,
         g.1,
         λ j jn. sym (u.rows i j h jn) ∙ g.2 j (omega arith),

@@ -8,21 +8,16 @@ use Rattle.gs_rows.specs.declared.Program.{Program}
 use Rattle.gs_rows.specs.Rows.{IsNarrow, IsPrimitive}
 use Rattle.gs_rows.specs.Elimination.{IsEliminated}
 use Rattle.gs_rows.specs.Path.{IsFirstWide}
-use Rattle.gs_rows.proofs.Ring.{linear, times_zero, times_neg, cancel_zero}
+use Rattle.gs_rows.proofs.Ring.{linear, times_zero, times_neg, times_pos, cancel_zero}
 use Rattle.gs_rows.proofs.Pivot.{primitive_same}
 use Rattle.gs_rows.proofs.Exists.{elimination_exists}
 use Rattle.gs_rows.proofs.Primitive.{zero_abs}
-use Rattle.gs_simplex.specs.Numbers.{at, cell, IsReduced, IsTurned, IsCleared, IsClearedTo}
-use Rattle.gs_simplex.specs.Table.{table_rows, table_aim, IsTable, IsPrimitiveTable, IsTableAfter, stated, IsWideAfter}
-use Rattle.gs_simplex.proofs.Places.{primitive_same_row, reduced_same, row_apart}
+use Rattle.gs_simplex.specs.Numbers.{at, cell, IsMultiple, IsReduced, IsMixed, IsLeadOf, IsCleared, IsClearedTo}
+use Rattle.gs_simplex.specs.Table.{table_rows, IsTable, IsKept, IsTableAfter, stated, IsWideAfter}
+use Rattle.gs_simplex.proofs.Multiples.{multiple_of_same, multiple_of_equal, mixed_along, down_narrow, up_zero, same_turn}
+use Rattle.gs_simplex.proofs.Places.{reduced_same, mixed_same, row_apart, lead_by}
 
 -- ---- a row with 0 at its end
-pub primitive_longer : (last : ℕ) (f : ℕ → ℤ) → f (last + 1) ≡ pos 0 → IsPrimitive last f → IsPrimitive (last + 1) f
-primitive_longer last f z u = elim u.form [
-  | inl zs ↦ record { form = inl (λ j h. elim (cases_eq j (last + 1)) [ inl e ↦ ap f e ∙ z | inr ne ↦ zs j (omega arith) ]) }
-  | inr d ↦ record { form = inr (λ k h. d k (λ j l. h j (omega arith))) }
-]
-
 pub primitive_shorter : (last : ℕ) (f : ℕ → ℤ) → f (last + 1) ≡ pos 0 → IsPrimitive (last + 1) f → IsPrimitive last f
 primitive_shorter last f z u = elim u.form [
   | inl zs ↦ record { form = inl (λ j h. zs j (omega arith)) }
@@ -33,12 +28,6 @@ primitive_shorter last f z u = elim u.form [
     ]));
   }
 ]
-
-flip_both : (a x y l g n : ℤ) → a *ℤ x -ℤ y *ℤ l ≡ g *ℤ n → a *ℤ neg_ℤ x +ℤ y *ℤ l ≡ g *ℤ neg_ℤ n
-flip_both a x y l g n e = omega (arith, linear, times_neg a x, times_neg g n)
-
-drop_zero : (a x y l g n : ℤ) → a *ℤ x -ℤ y *ℤ l ≡ g *ℤ n → l ≡ pos 0 → a *ℤ x ≡ g *ℤ n
-drop_zero a x y l g n e z = let q : y *ℤ l ≡ pos 0 = ap (λ t. y *ℤ t) z ∙ times_zero y in omega (arith, linear)
 
 -- ---- a row with the number at place n negated
 abbrev pub flipped : ℕ → (ℕ → ℤ) → ℕ → ℤ
@@ -63,57 +52,85 @@ primitive_flipped n last f g e u = elim u.form [
   | inr d ↦ record { form = inr (λ k h. d k (λ j l. let P : ℕ → Type 0 = λ t. k ∣ t in subst P (e j) (h j l))) }
 ]
 
--- ---- the rows of a table are primitive up to the further place
-pub rows_primitive : (p : Program) (xs : List ℤ) → IsTable p xs → IsPrimitiveTable p xs → (i : ℕ) → i < p.rows + 1
-    → IsPrimitive (p.cols + 2 - 1) (cell xs (p.cols + 2) i)
-rows_primitive p xs t u i h =
-    let s : p.cols + 1 ≡ p.cols + 2 - 1 = omega arith in
-    let P : ℕ → Type 0 = λ k. IsPrimitive k (cell xs (p.cols + 2) i) in
-    subst P s (elim (cases_lt i p.rows) [
-      | inl l ↦ primitive_longer p.cols (cell xs (p.cols + 2) i) (t.zero i l) (u.rows i l)
-      | inr g ↦ (let e : p.rows ≡ i = omega arith in let Q : ℕ → Type 0 = λ k. IsPrimitive (p.cols + 1) (cell xs (p.cols + 2) k) in
-          subst Q e (primitive_flipped p.cols (p.cols + 1) (table_aim p xs) (cell xs (p.cols + 2) p.rows)
-          (λ j. sym (flipped_abs p.cols (cell xs (p.cols + 2) p.rows) j)) u.aim))
-    ])
+-- negated at a place on the other side
+pub flipped_in : (n last : ℕ) (k : ℤ) (f g : ℕ → ℤ) → ((j : ℕ) → j ≤ last → flipped n f j ≡ k *ℤ g j) → (j : ℕ) → j ≤ last → f j ≡ k *ℤ flipped n g j
+flipped_in n last k f g e j h = elim (cases_eq j n) [
+  | inl s ↦
+      (let a : flipped n f j ≡ neg_ℤ (f j) = (let P : ℕ → Type 0 = λ t. flipped n f t ≡ neg_ℤ (f t) in subst P (sym s) (flipped_at n f)) in
+      let b : flipped n g j ≡ neg_ℤ (g j) = (let P : ℕ → Type 0 = λ t. flipped n g t ≡ neg_ℤ (g t) in subst P (sym s) (flipped_at n g)) in
+      let c : flipped n f j ≡ k *ℤ g j = e j h in
+      let d : f j ≡ neg_ℤ (k *ℤ g j) = omega (arith, linear) in
+      d ∙ sym (times_neg k (g j)) ∙ ap (λ t. k *ℤ t) (sym b))
+  | inr ne ↦ sym (flipped_other n f j ne) ∙ e j h ∙ ap (λ t. k *ℤ t) (sym (flipped_other n g j ne))
+]
+
+pub flipped_out : (n last : ℕ) (g k : ℤ) (f q : ℕ → ℤ) → ((j : ℕ) → j ≤ last → g *ℤ f j ≡ k *ℤ flipped n q j) → (j : ℕ) → j ≤ last
+    → g *ℤ flipped n f j ≡ k *ℤ q j
+flipped_out n last g k f q e j h = elim (cases_eq j n) [
+  | inl s ↦
+      (let a : flipped n f j ≡ neg_ℤ (f j) = (let P : ℕ → Type 0 = λ t. flipped n f t ≡ neg_ℤ (f t) in subst P (sym s) (flipped_at n f)) in
+      let b : flipped n q j ≡ neg_ℤ (q j) = (let P : ℕ → Type 0 = λ t. flipped n q t ≡ neg_ℤ (q t) in subst P (sym s) (flipped_at n q)) in
+      let c : g *ℤ f j ≡ neg_ℤ (k *ℤ q j) = e j h ∙ ap (λ t. k *ℤ t) b ∙ times_neg k (q j) in
+      let d : g *ℤ neg_ℤ (f j) ≡ neg_ℤ (g *ℤ f j) = times_neg g (f j) in
+      ap (λ t. g *ℤ t) a ∙ omega (arith, linear))
+  | inr ne ↦ ap (λ t. g *ℤ t) (flipped_other n f j ne) ∙ e j h ∙ ap (λ t. k *ℤ t) (flipped_other n q j ne)
+]
 
 -- ---- a pivot on the table: `mid` is the table after row r was taken to the lead
 module _ (p : Program) (old mid : List ℤ) (lead : ℕ → ℤ) (r c : ℕ) (rows : r < p.rows) (cols : c < p.cols) (table : IsTable p old)
     (others : (k : ℕ) → (k < r * (p.cols + 2)) ⊎ (r * (p.cols + 2) + (p.cols + 2) ≤ k) → at mid k ≡ at old k)
     (same : (j : ℕ) → j < p.cols + 2 → lead j ≡ at mid (r * (p.cols + 2) + j))
-    (turned : IsTurned (λ j. at old (r * (p.cols + 2) + j)) lead c (p.cols + 2))
+    (taken : IsLeadOf (λ j. at old (r * (p.cols + 2) + j)) lead c (p.cols + 2))
     (nonzero : table_rows p old r c ≢ pos 0) where
   -- the other rows are those of the table before
   row_kept : (i : ℕ) → i ≢ r → (j : ℕ) → j < p.cols + 2 → cell mid (p.cols + 2) i j ≡ cell old (p.cols + 2) i j
   row_kept i ne j h = others (i * (p.cols + 2) + j) (row_apart (p.cols + 2) i r j h ne)
 
+  -- by what the row that is taken is divided, and whether it is negated
+  by : (d : ℤ) × (pos 0 <ℤ d) × (((j : ℕ) → j < p.cols + 2 → table_rows p old r j ≡ d *ℤ lead j)
+      ⊎ ((j : ℕ) → j < p.cols + 2 → table_rows p old r j ≡ neg_ℤ (d *ℤ lead j))) × IsPrimitive (p.cols + 2 - 1) lead
+  by = lead_by (λ j. at old (r * (p.cols + 2) + j)) lead c (p.cols + 2) taken
+
+  -- the lead is 0 only where the row is, and where it is
+  lead_zero : (j : ℕ) → j < p.cols + 2 → lead j ≡ pos 0 → table_rows p old r j ≡ pos 0
+  lead_zero j h z = let d = by in let e : d.0 *ℤ lead j ≡ pos 0 = ap (λ t. d.0 *ℤ t) z ∙ times_zero d.0 in
+      elim d.2 [ inl s ↦ s j h ∙ e | inr s ↦ s j h ∙ ap neg_ℤ e ]
+
+  pub zero_lead : (j : ℕ) → j < p.cols + 2 → table_rows p old r j ≡ pos 0 → lead j ≡ pos 0
+  zero_lead j h z = let d = by in cancel_zero d.0 (lead j) d.1 (elim d.2 [
+    | inl s ↦ sym (s j h) ∙ z
+    | inr s ↦ (let e = s j h in omega (arith, linear))
+  ])
+
   pub own : pos 0 <ℤ lead c
-  own = elim turned.self [
-    | inl s ↦ (let e : lead c ≡ table_rows p old r c = s c (omega arith) in let h : pos 0 ≤ℤ lead c = turned.own in
-        let ne : lead c ≢ pos 0 = λ z. nonzero (sym e ∙ z) in omega (arith, ints))
-    | inr s ↦ (let e : lead c ≡ neg_ℤ (table_rows p old r c) = s c (omega arith) in let h : pos 0 ≤ℤ lead c = turned.own in
-        let ne : lead c ≢ pos 0 = λ z. nonzero (let q : table_rows p old r c ≡ pos 0 = omega (arith, ints) in q) in omega (arith, ints))
-  ]
+  own = let h : pos 0 ≤ℤ lead c = taken.own in let ne : lead c ≢ pos 0 = λ z. nonzero (lead_zero c (omega arith) z) in omega (arith, ints)
 
   -- the lead has 0 at the further place
   lead_end : lead (p.cols + 1) ≡ pos 0
-  lead_end = elim turned.self [
-    | inl s ↦ s (p.cols + 1) (omega arith) ∙ table.zero r rows
-    | inr s ↦ s (p.cols + 1) (omega arith) ∙ ap neg_ℤ (table.zero r rows)
-  ]
+  lead_end = zero_lead (p.cols + 1) (omega arith) (table.zero r rows)
 
-  -- a reduced row, from the table before
+  lead_primitive : IsPrimitive p.cols lead
+  lead_primitive = primitive_shorter p.cols lead lead_end
+      (let s : p.cols + 2 - 1 ≡ p.cols + 1 = omega arith in let P : ℕ → Type 0 = λ k. IsPrimitive k lead in subst P s by.3)
+
+  -- a reduced or mixed row, from the table before
   reduced_old : (i : ℕ) (new : ℕ → ℤ) → i ≢ r → IsReduced lead c (p.cols + 2) (cell mid (p.cols + 2) i) new
       → IsReduced lead c (p.cols + 2) (cell old (p.cols + 2) i) new
   reduced_old i new ne u = reduced_same lead lead c (p.cols + 2) (cell mid (p.cols + 2) i) (cell old (p.cols + 2) i) new new (omega arith) (λ j h. refl)
+      (λ j h. row_kept i ne j h) (λ j h. refl) u
+
+  mixed_old : (i : ℕ) (new : ℕ → ℤ) → i ≢ r → IsMixed lead c (p.cols + 2) (cell mid (p.cols + 2) i) new
+      → IsMixed lead c (p.cols + 2) (cell old (p.cols + 2) i) new
+  mixed_old i new ne u = mixed_same lead c (p.cols + 2) (cell mid (p.cols + 2) i) (cell old (p.cols + 2) i) new new (omega arith)
       (λ j h. row_kept i ne j h) (λ j h. refl) u
 
   reduced_primitive : (old new : ℕ → ℤ) → IsReduced lead c (p.cols + 2) old new → IsPrimitive (p.cols + 1) new
   reduced_primitive o new u = let s : p.cols + 2 - 1 ≡ p.cols + 1 = omega arith in let P : ℕ → Type 0 = λ k. IsPrimitive k new in subst P s u.primitive
 
   -- a program row keeps 0 at the further place
-  reduced_end : (i : ℕ) (new : ℕ → ℤ) → i < p.rows → IsReduced lead c (p.cols + 2) (cell old (p.cols + 2) i) new → new (p.cols + 1) ≡ pos 0
-  reduced_end i new h u =
-      let g = u.divided in
+  mixed_end : (i : ℕ) (new : ℕ → ℤ) → i < p.rows → IsMixed lead c (p.cols + 2) (cell old (p.cols + 2) i) new → new (p.cols + 1) ≡ pos 0
+  mixed_end i new h u =
+      let g = u.by in
       let e : lead c *ℤ cell old (p.cols + 2) i (p.cols + 1) -ℤ cell old (p.cols + 2) i c *ℤ lead (p.cols + 1) ≡ g.0 *ℤ new (p.cols + 1) =
       g.2 (p.cols + 1) (omega arith) in
       let a : lead c *ℤ cell old (p.cols + 2) i (p.cols + 1) ≡ pos 0 = ap (λ t. lead c *ℤ t) (table.zero i h) ∙ times_zero (lead c) in
@@ -121,163 +138,133 @@ module _ (p : Program) (old mid : List ℤ) (lead : ℕ → ℤ) (r c : ℕ) (ro
       ∙ times_zero (cell old (p.cols + 2) i c) in
       cancel_zero g.0 (new (p.cols + 1)) g.1 (omega (arith, linear))
 
+  reduced_end : (i : ℕ) (new : ℕ → ℤ) → i < p.rows → IsReduced lead c (p.cols + 2) (cell old (p.cols + 2) i) new → new (p.cols + 1) ≡ pos 0
+  reduced_end i new h u = mixed_end i new h u.multiple
+
   reduced_row_primitive : (i : ℕ) (new : ℕ → ℤ) → i < p.rows → IsReduced lead c (p.cols + 2) (cell old (p.cols + 2) i) new → IsPrimitive p.cols new
   reduced_row_primitive i new h u = primitive_shorter p.cols new (reduced_end i new h u) (reduced_primitive (cell old (p.cols + 2) i) new u)
 
-  -- ---- all rows narrow
-  module _ (new : List ℤ) (long : length new ≡ length old) (cleared : IsCleared mid new (p.rows + 1) (p.cols + 2) r c lead) where
-    row_r : (j : ℕ) → j < p.cols + 2 → cell new (p.cols + 2) r j ≡ lead j
-    row_r j h = cleared.kept j h ∙ sym (same j h)
-
-    row_i : (i : ℕ) → i < p.rows + 1 → i ≢ r → IsReduced lead c (p.cols + 2) (cell old (p.cols + 2) i) (cell new (p.cols + 2) i)
-    row_i i h ne = reduced_old i (cell new (p.cols + 2) i) ne (cleared.others i h ne)
-
-    not_r : p.rows ≢ r
-    not_r e = omega arith
-
-    aim_below : (j : ℕ) → j < p.cols → table_aim p old j ≡ cell old (p.cols + 2) p.rows j
-    aim_below j h = flipped_other p.cols (cell old (p.cols + 2) p.rows) j (λ e. omega arith)
-
-    aim_past : (xs : List ℤ) → table_aim p xs (suc p.cols) ≡ cell xs (p.cols + 2) p.rows (p.cols + 1)
-    aim_past xs = flipped_other p.cols (cell xs (p.cols + 2) p.rows) (suc p.cols) (λ e. omega arith)
-        ∙ ap (cell xs (p.cols + 2) p.rows) (let q : suc p.cols ≡ p.cols + 1 = omega arith in q)
-
-    aim_each : (j : ℕ) → j < p.cols + 2 → lead c *ℤ cell old (p.cols + 2) p.rows j -ℤ cell old (p.cols + 2) p.rows c *ℤ lead j
-        ≡ (row_i p.rows (omega arith) not_r).divided.0 *ℤ cell new (p.cols + 2) p.rows j
-    aim_each j h = (row_i p.rows (omega arith) not_r).divided.2 j h
-
-    aim_after : (g : ℤ) × (pos 0 <ℤ g) × ((j : ℕ) → j < p.cols → cell new (p.cols + 2) r c *ℤ table_aim p old j -ℤ table_aim p old c
-        *ℤ cell new (p.cols + 2) r j ≡ g *ℤ table_aim p new j)
-        × (cell new (p.cols + 2) r c *ℤ table_aim p old p.cols +ℤ table_aim p old c *ℤ cell new (p.cols + 2) r p.cols ≡ g *ℤ table_aim p new p.cols)
-        × (cell new (p.cols + 2) r c *ℤ table_aim p old (suc p.cols) ≡ g *ℤ table_aim p new (suc p.cols))
-    aim_after =
-        let w = p.cols + 2 in let n = p.cols in
-        let g = (row_i p.rows (omega arith) not_r).divided.0 in
-        let X = cell old w p.rows in let N = cell new w p.rows in
-        let own_is : cell new w r c ≡ lead c = row_r c (omega arith) in
-        let far_is : table_aim p old c ≡ X c = aim_below c cols in (
-          g,
-          (row_i p.rows (omega arith) not_r).divided.1,
-          λ j jn. ap (λ t. t *ℤ table_aim p old j -ℤ table_aim p old c *ℤ cell new w r j) own_is
-              ∙ ap (λ t. lead c *ℤ t -ℤ table_aim p old c *ℤ cell new w r j) (aim_below j jn)
-              ∙ ap (λ t. lead c *ℤ X j -ℤ t *ℤ cell new w r j) far_is ∙ ap (λ t. lead c *ℤ X j -ℤ X c *ℤ t) (row_r j (omega arith)) ∙ aim_each j (omega arith)
-              ∙ ap (λ t. g *ℤ t) (sym (flipped_other n N j (λ e. omega arith))),
-          ap (λ t. t *ℤ table_aim p old n +ℤ table_aim p old c *ℤ cell new w r n) own_is
-              ∙ ap (λ t. lead c *ℤ t +ℤ table_aim p old c *ℤ cell new w r n) (flipped_at n X)
-              ∙ ap (λ t. lead c *ℤ neg_ℤ (X n) +ℤ t *ℤ cell new w r n) far_is ∙ ap (λ t. lead c *ℤ neg_ℤ (X n) +ℤ X c *ℤ t) (row_r n (omega arith))
-              ∙ flip_both (lead c) (X n) (X c) (lead n) g (N n) (aim_each n (omega arith)) ∙ ap (λ t. g *ℤ t) (sym (flipped_at n N)),
-          ap (λ t. t *ℤ table_aim p old (suc n)) own_is ∙ ap (λ t. lead c *ℤ t) (aim_past old)
-              ∙ drop_zero (lead c) (X (n + 1)) (X c) (lead (n + 1)) g (N (n + 1)) (aim_each (n + 1) (omega arith)) lead_end
-              ∙ ap (λ t. g *ℤ t) (sym (aim_past new)),
-        )
-
-    lead_primitive : IsPrimitive p.cols (table_rows p old r) → IsPrimitive p.cols lead
-    lead_primitive u = elim turned.self [
-      | inl s ↦ primitive_same_row p.cols (table_rows p old r) lead (λ j h. sym (s j (omega arith))) u
-      | inr s ↦ primitive_same_row p.cols (λ j. neg_ℤ (table_rows p old r j)) lead (λ j h. sym (s j (omega arith)))
-          (primitive_flipped 0 p.cols (table_rows p old r) (λ j. neg_ℤ (table_rows p old r j)) (λ j. let q : unsigned_abs (neg_ℤ (table_rows p old r j))
-          ≡ unsigned_abs (table_rows p old r j) = omega (arith, ints) in q) u)
-    ]
-
-    pub table_after : IsPrimitiveTable p old → IsTableAfter p old new r c
-    table_after prim = record {
-      table = record {
-        long = long ∙ table.long;
-        zero = λ i h. elim (cases_eq i r) [
-          | inl e ↦ (let P : ℕ → Type 0 = λ k. cell new (p.cols + 2) k (p.cols + 1) ≡ pos 0 in subst P (sym e) (row_r (p.cols + 1) (omega arith) ∙ lead_end))
-          | inr ne ↦ reduced_end i (cell new (p.cols + 2) i) h (row_i i (omega arith) ne)
-        ];
-        narrow = cleared.narrow;
-      };
-      eliminated = record {
-        own = (let P : ℤ → Type 0 = λ t. pos 0 <ℤ t in subst P (sym (row_r c (omega arith))) own);
-        self = elim turned.self [
-          | inl s ↦ inl (λ j h. row_r j (omega arith) ∙ s j (omega arith))
-          | inr s ↦ inr (λ j h. row_r j (omega arith) ∙ s j (omega arith))
-        ];
-        other = λ i h ne. (let g = (row_i i (omega arith) ne).divided in (
-          g.0,
-          g.1,
-          λ j jn. ap (λ t. t *ℤ cell old (p.cols + 2) i j -ℤ cell old (p.cols + 2) i c *ℤ cell new (p.cols + 2) r j) (row_r c (omega arith))
-              ∙ ap (λ t. lead c *ℤ cell old (p.cols + 2) i j -ℤ cell old (p.cols + 2) i c *ℤ t) (row_r j (omega arith)) ∙ g.2 j (omega arith),
-        ));
-        aim_row = aim_after;
-        primitive = λ i h. elim (cases_eq i r) [
-          | inl e ↦ (let P : ℕ → Type 0 = λ k. IsPrimitive p.cols (cell new (p.cols + 2) k) in
-              subst P (sym e) (primitive_same_row p.cols lead (cell new (p.cols + 2) r) (λ j l. sym (row_r j (omega arith)))
-              (lead_primitive (prim.rows r rows))))
-          | inr ne ↦ reduced_row_primitive i (cell new (p.cols + 2) i) h (row_i i (omega arith) ne)
-        ];
-        primitive_aim = primitive_flipped p.cols (p.cols + 1) (cell new (p.cols + 2) p.rows) (table_aim p new)
-            (λ j. flipped_abs p.cols (cell new (p.cols + 2) p.rows) j)
-            (reduced_primitive (cell old (p.cols + 2) p.rows) (cell new (p.cols + 2) p.rows) (row_i p.rows (omega arith) not_r));
-      };
-    }
-
-  -- ---- some number not narrow
-  module _ (i j : ℕ) (z : ℤ) (cleared : IsClearedTo mid (p.rows + 1) (p.cols + 2) r c lead i j z) (prim : IsPrimitiveTable p old) (narrow : (k : ℕ)
-      → k < p.cols + 2 → IsNarrow (lead k)) (Q : ℕ → ℕ → ℤ) (b : ℕ → ℤ)
-      (el : IsEliminated p (table_rows p old) (table_aim p old) r c Q b) where
+  -- ---- the rows that follow those that the table keeps
+  module _ (R : ℕ → ℕ → ℤ) (a : ℕ → ℤ) (kept : IsKept p R a old) (Q : ℕ → ℕ → ℤ) (b : ℕ → ℤ) (el : IsEliminated p R a r c Q b) where
     lead_is : (k : ℕ) → k ≤ p.cols → Q r k ≡ lead k
     lead_is k kn =
-        let q : pos 0 <ℤ Q r c = el.own in let l : pos 0 <ℤ lead c = own in
-        elim el.self [
-          | inl s ↦ elim turned.self [
-            | inl t ↦ s k kn ∙ sym (t k (omega arith))
-            | inr t ↦ (let e : Q r c ≡ table_rows p old r c = s c (omega arith) in let f : lead c ≡ neg_ℤ (table_rows p old r c) = t c (omega arith) in
-                absurd (omega (arith, linear)))
-          ]
-          | inr s ↦ elim turned.self [
-            | inl t ↦ (let e : Q r c ≡ neg_ℤ (table_rows p old r c) = s c (omega arith) in let f : lead c ≡ table_rows p old r c = t c (omega arith) in
-                absurd (omega (arith, linear)))
-            | inr t ↦ s k kn ∙ sym (t k (omega arith))
-          ]
-        ]
+        let m = (kept.rows_kept r rows).by in let d = by in
+        sym (primitive_same p.cols d.0 m.0 d.1 m.1 lead (Q r)
+        (same_turn m.0 d.0 m.1 d.1 p.cols c (omega arith) (R r) (Q r) (table_rows p old r) lead (λ j jn. m.2 j (omega arith)) el.own own el.self
+        (elim d.2 [ inl s ↦ inl (λ j jn. s j (omega arith)) | inr s ↦ inr (λ j jn. s j (omega arith)) ]))
+        lead_primitive (el.primitive r rows) k kn)
+
+    -- what a row that is mixed is times, and what the row that follows is
+    row_along : (h : ℕ) (new : ℕ → ℤ) (hm : h < p.rows) (ne : h ≢ r) (u : IsMixed lead c (p.cols + 2) (cell old (p.cols + 2) h) new) → (k : ℕ) → k ≤ p.cols
+        → u.by.0 *ℤ new k ≡ ((kept.rows_kept h hm).by.0 *ℤ (el.other h hm ne).0) *ℤ Q h k
+    row_along h new hm ne u k kn =
+        let o = el.other h hm ne in let m = (kept.rows_kept h hm).by in
+        mixed_along (lead c) (cell old (p.cols + 2) h k) (cell old (p.cols + 2) h c) (lead k) m.0 (R h k) (R h c) u.by.0 (new k) o.0 (Q h k)
+        (u.by.2 k (omega arith)) (m.2 k (omega arith)) (m.2 c (omega arith))
+        (ap (λ t. t *ℤ R h k -ℤ R h c *ℤ lead k) (sym (lead_is c (omega arith))) ∙ ap (λ t. Q r c *ℤ R h k -ℤ R h c *ℤ t) (sym (lead_is k kn)) ∙ o.2 k kn)
+
+    row_factor : (h : ℕ) (hm : h < p.rows) (ne : h ≢ r) → pos 0 <ℤ ((kept.rows_kept h hm).by.0 *ℤ (el.other h hm ne).0)
+    row_factor h hm ne = times_pos _ _ (kept.rows_kept h hm).by.1 (el.other h hm ne).1
+
+    row_multiple : (h : ℕ) (new : ℕ → ℤ) → h < p.rows → h ≢ r → IsMixed lead c (p.cols + 2) (cell old (p.cols + 2) h) new → IsMultiple (p.cols + 1) new (Q h)
+    row_multiple h new hm ne u = multiple_of_same p.cols u.by.0 ((kept.rows_kept h hm).by.0 *ℤ (el.other h hm ne).0) u.by.1 (row_factor h hm ne) new (Q h)
+        (row_along h new hm ne u) (el.primitive h hm)
 
     row_is : (h : ℕ) (new : ℕ → ℤ) → h < p.rows → h ≢ r → IsReduced lead c (p.cols + 2) (cell old (p.cols + 2) h) new → (k : ℕ) → k ≤ p.cols → Q h k ≡ new k
-    row_is h new hm ne u =
-        let o = el.other h hm ne in let g = u.divided in let X = cell old (p.cols + 2) h in
-        primitive_same p.cols o.0 g.0 o.1 g.1 (Q h) new
-        (λ k kn. sym (o.2 k kn) ∙ ap (λ t. t *ℤ X k -ℤ X c *ℤ Q r k) (lead_is c (omega arith)) ∙ ap (λ t. lead c *ℤ X k -ℤ X c *ℤ t) (lead_is k kn)
-        ∙ g.2 k (omega arith))
-        (el.primitive h hm) (reduced_row_primitive h new hm u)
+    row_is h new hm ne u k kn =
+        let v = u.multiple in
+        sym (primitive_same p.cols v.by.0 ((kept.rows_kept h hm).by.0 *ℤ (el.other h hm ne).0) v.by.1 (row_factor h hm ne) new (Q h)
+        (row_along h new hm ne v) (reduced_row_primitive h new hm u) (el.primitive h hm) k kn)
 
-    aim_equal : (new : ℕ → ℤ) → (u : IsReduced lead c (p.cols + 2) (cell old (p.cols + 2) p.rows) new) → (k : ℕ) → k ≤ p.cols + 1
-        → el.aim_row.0 *ℤ flipped p.cols b k ≡ u.divided.0 *ℤ new k
-    aim_equal new u k kn =
-        let n = p.cols in let X = cell old (n + 2) p.rows in let A = table_aim p old in let a = el.aim_row in let g = u.divided in
-        let far : A c ≡ X c = flipped_other n X c (λ e. omega arith) in
+    -- the aim's row with its last number negated, as the table has it
+    aim_flat : (k : ℕ) → k ≤ p.cols + 1 → lead c *ℤ flipped p.cols a k -ℤ flipped p.cols a c *ℤ lead k ≡ el.aim_row.0 *ℤ flipped p.cols b k
+    aim_flat k kn =
+        let n = p.cols in let X = flipped p.cols a in let e = el.aim_row in
+        let far : X c ≡ a c = flipped_other n a c (λ e. omega arith) in
         let le = lead_is c (omega arith) in
+        let past : (k : ℕ) → k < n → lead c *ℤ X k -ℤ X c *ℤ lead k ≡ e.0 *ℤ flipped n b k = λ k l.
+        ap (λ t. lead c *ℤ t -ℤ X c *ℤ lead k) (flipped_other n a k (λ e. omega arith)) ∙ ap (λ t. lead c *ℤ a k -ℤ t *ℤ lead k) far
+        ∙ ap (λ t. t *ℤ a k -ℤ a c *ℤ lead k) (sym le) ∙ ap (λ t. Q r c *ℤ a k -ℤ a c *ℤ t) (sym (lead_is k (omega arith))) ∙ e.2 k l
+        ∙ ap (λ t. e.0 *ℤ t) (sym (flipped_other n b k (λ e. omega arith))) in
         elim (cases_lt k n) [
-          | inl l ↦ ap (λ t. a.0 *ℤ t) (flipped_other n b k (λ e. omega arith)) ∙ sym (a.2 k l) ∙ ap (λ t. t *ℤ A k -ℤ A c *ℤ Q r k) le
-              ∙ ap (λ t. lead c *ℤ t -ℤ A c *ℤ Q r k) (flipped_other n X k (λ e. omega arith))
-              ∙ ap (λ t. lead c *ℤ X k -ℤ t *ℤ Q r k) far ∙ ap (λ t. lead c *ℤ X k -ℤ X c *ℤ t) (lead_is k (omega arith)) ∙ g.2 k (omega arith)
+          | inl l ↦ past k l
           | inr m ↦ elim (cases_eq k n) [
-            | inl e ↦
-                (let s : lead c *ℤ neg_ℤ (X n) +ℤ X c *ℤ lead n ≡ a.0 *ℤ b n =
-                ap (λ t. lead c *ℤ t +ℤ X c *ℤ lead n) (sym (flipped_at n X)) ∙ ap (λ t. t *ℤ A n +ℤ X c *ℤ lead n) (sym le)
-                ∙ ap (λ t. Q r c *ℤ A n +ℤ t *ℤ lead n) (sym far) ∙ ap (λ t. Q r c *ℤ A n +ℤ A c *ℤ t) (sym (lead_is n (omega arith))) ∙ a.3 in
-                let v : a.0 *ℤ neg_ℤ (b n) ≡ lead c *ℤ X n -ℤ X c *ℤ lead n = omega (arith, linear, times_neg a.0 (b n), times_neg (lead c) (X n)) in
-                let P : ℕ → Type 0 = λ t. a.0 *ℤ flipped n b t ≡ g.0 *ℤ new t in
-                subst P (sym e) (ap (λ t. a.0 *ℤ t) (flipped_at n b) ∙ v ∙ g.2 n (omega arith)))
+            | inl s ↦
+                (let v : lead c *ℤ a n +ℤ a c *ℤ lead n ≡ e.0 *ℤ b n = ap (λ t. t *ℤ a n +ℤ a c *ℤ lead n) (sym le)
+                ∙ ap (λ t. Q r c *ℤ a n +ℤ a c *ℤ t) (sym (lead_is n (omega arith))) ∙ e.3 in
+                let w : lead c *ℤ neg_ℤ (a n) -ℤ a c *ℤ lead n ≡ e.0 *ℤ neg_ℤ (b n) = omega (arith, linear, times_neg e.0 (b n), times_neg (lead c) (a n)) in
+                let P : ℕ → Type 0 = λ t. lead c *ℤ X t -ℤ X c *ℤ lead t ≡ e.0 *ℤ flipped n b t in
+                subst P (sym s) (ap (λ t. lead c *ℤ t -ℤ X c *ℤ lead n) (flipped_at n a) ∙ ap (λ t. lead c *ℤ neg_ℤ (a n) -ℤ t *ℤ lead n) far ∙ w
+                ∙ ap (λ t. e.0 *ℤ t) (sym (flipped_at n b))))
             | inr ne ↦
-                (let e : suc n ≡ k = omega arith in let f : n + 1 ≡ suc n = omega arith in
-                let P : ℕ → Type 0 = λ t. a.0 *ℤ flipped n b t ≡ g.0 *ℤ new t in
-                let R : ℕ → Type 0 = λ t. lead c *ℤ X (n + 1) ≡ g.0 *ℤ new t in
-                let x : A (suc n) ≡ X (n + 1) = flipped_other n X (suc n) (λ e. omega arith) ∙ ap X (sym f) in
-                let y : lead c *ℤ X (n + 1) ≡ g.0 *ℤ new (suc n) = subst R f
-                (drop_zero (lead c) (X (n + 1)) (X c) (lead (n + 1)) g.0 (new (n + 1)) (g.2 (n + 1) (omega arith)) lead_end) in
-                subst P e (ap (λ t. a.0 *ℤ t) (flipped_other n b (suc n) (λ e. omega arith)) ∙ sym a.4 ∙ ap (λ t. t *ℤ A (suc n)) le ∙ ap (λ t. lead c *ℤ t) x
-                ∙ y))
+                (let s : suc n ≡ k = omega arith in
+                let end : lead (suc n) ≡ pos 0 = ap lead (let q : suc n ≡ n + 1 = omega arith in q) ∙ lead_end in
+                let z : X c *ℤ lead (suc n) ≡ pos 0 = ap (λ t. X c *ℤ t) end ∙ times_zero (X c) in
+                let v : lead c *ℤ X (suc n) ≡ e.0 *ℤ flipped n b (suc n) = ap (λ t. lead c *ℤ t) (flipped_other n a (suc n) (λ e. omega arith))
+                ∙ ap (λ t. t *ℤ a (suc n)) (sym le) ∙ e.4 ∙ ap (λ t. e.0 *ℤ t) (sym (flipped_other n b (suc n) (λ e. omega arith))) in
+                let P : ℕ → Type 0 = λ t. lead c *ℤ X t -ℤ X c *ℤ lead t ≡ e.0 *ℤ flipped n b t in
+                subst P s (omega (arith, linear)))
           ]
         ]
 
-    aim_is : (new : ℕ → ℤ) → IsReduced lead c (p.cols + 2) (cell old (p.cols + 2) p.rows) new → (k : ℕ) → k ≤ p.cols + 1 → flipped p.cols b k ≡ new k
-    aim_is new u =
-        primitive_same (p.cols + 1) el.aim_row.0 u.divided.0 el.aim_row.1 u.divided.1 (flipped p.cols b) new (aim_equal new u)
-        (primitive_flipped p.cols (p.cols + 1) b (flipped p.cols b) (λ k. flipped_abs p.cols b k) el.primitive_aim)
-        (reduced_primitive (cell old (p.cols + 2) p.rows) new u)
+    aim_along : (new : ℕ → ℤ) → (u : IsMixed lead c (p.cols + 2) (cell old (p.cols + 2) p.rows) new) → (k : ℕ) → k ≤ p.cols + 1
+        → u.by.0 *ℤ new k ≡ (kept.aim_kept.by.0 *ℤ el.aim_row.0) *ℤ flipped p.cols b k
+    aim_along new u k kn =
+        let n = p.cols in let m = kept.aim_kept.by in let X = cell old (n + 2) p.rows in
+        let x : (j : ℕ) → j ≤ n + 1 → X j ≡ m.0 *ℤ flipped n a j = flipped_in n (n + 1) m.0 X a (λ j jn. m.2 j (omega arith)) in
+        mixed_along (lead c) (X k) (X c) (lead k) m.0 (flipped n a k) (flipped n a c) u.by.0 (new k) el.aim_row.0 (flipped n b k)
+        (u.by.2 k (omega arith)) (x k kn) (x c (omega arith)) (aim_flat k kn)
 
+    aim_factor : pos 0 <ℤ (kept.aim_kept.by.0 *ℤ el.aim_row.0)
+    aim_factor = times_pos _ _ kept.aim_kept.by.1 el.aim_row.1
+
+    aim_multiple : (new : ℕ → ℤ) → IsMixed lead c (p.cols + 2) (cell old (p.cols + 2) p.rows) new → IsMultiple (p.cols + 2) (flipped p.cols new) b
+    aim_multiple new u = let two : p.cols + 1 + 1 ≡ p.cols + 2 = omega arith in let W : ℕ → Type 0 = λ w. IsMultiple w (flipped p.cols new) b in
+        subst W two (multiple_of_same (p.cols + 1) u.by.0 (kept.aim_kept.by.0 *ℤ el.aim_row.0) u.by.1 aim_factor (flipped p.cols new) b
+        (flipped_out p.cols (p.cols + 1) u.by.0 (kept.aim_kept.by.0 *ℤ el.aim_row.0) new b (aim_along new u)) el.primitive_aim)
+
+    aim_is : (new : ℕ → ℤ) → IsReduced lead c (p.cols + 2) (cell old (p.cols + 2) p.rows) new → (k : ℕ) → k ≤ p.cols + 1 → flipped p.cols b k ≡ new k
+    aim_is new u k kn =
+        let v = u.multiple in
+        sym (primitive_same (p.cols + 1) v.by.0 (kept.aim_kept.by.0 *ℤ el.aim_row.0) v.by.1 aim_factor new (flipped p.cols b) (aim_along new v)
+        (reduced_primitive (cell old (p.cols + 2) p.rows) new u)
+        (primitive_flipped p.cols (p.cols + 1) b (flipped p.cols b) (λ k. flipped_abs p.cols b k) el.primitive_aim) k kn)
+
+    -- ---- all rows narrow
+    pub kept_after : (new : List ℤ) → IsCleared mid new (p.rows + 1) (p.cols + 2) r c lead → IsKept p Q b new
+    kept_after new cleared = record {
+      rows_kept = λ i h. elim (cases_eq i r) [
+        | inl e ↦ (let P : ℕ → Type 0 = λ k. IsMultiple (p.cols + 1) (cell new (p.cols + 2) k) (Q k) in
+            subst P (sym e) (multiple_of_equal (p.cols + 1) (cell new (p.cols + 2) r) (Q r)
+            (λ j jn. cleared.kept j (omega arith) ∙ sym (same j (omega arith)) ∙ sym (lead_is j (omega arith)))))
+        | inr ne ↦ row_multiple i (cell new (p.cols + 2) i) h ne (mixed_old i (cell new (p.cols + 2) i) ne (cleared.others i (omega arith) ne))
+      ];
+      aim_kept = (let ne : p.rows ≢ r = λ e. omega arith in
+          aim_multiple (cell new (p.cols + 2) p.rows) (mixed_old p.rows (cell new (p.cols + 2) p.rows) ne (cleared.others p.rows (omega arith) ne)));
+    }
+
+  -- ---- what follows exists
+  next_exists : (R : ℕ → ℕ → ℤ) (a : ℕ → ℤ) → IsPrimitive p.cols (R r) → IsKept p R a old → (Q : ℕ → ℕ → ℤ) × (b : ℕ → ℤ) × IsEliminated p R a r c Q b
+  next_exists R a prim kept = let m = (kept.rows_kept r rows).by in
+      elimination_exists p R a r c (λ z. nonzero (up_zero m.0 (table_rows p old r c) (R r c) (m.2 c (omega arith)) z)) prim
+
+  pub table_after : (new : List ℤ) → length new ≡ length old → IsCleared mid new (p.rows + 1) (p.cols + 2) r c lead → IsTableAfter p old new r c
+  table_after new long cleared = record {
+    table = record {
+      long = long ∙ table.long;
+      zero = λ i h. elim (cases_eq i r) [
+        | inl e ↦ (let P : ℕ → Type 0 = λ k. cell new (p.cols + 2) k (p.cols + 1) ≡ pos 0 in
+            subst P (sym e) (cleared.kept (p.cols + 1) (omega arith) ∙ sym (same (p.cols + 1) (omega arith)) ∙ lead_end))
+        | inr ne ↦ mixed_end i (cell new (p.cols + 2) i) h (mixed_old i (cell new (p.cols + 2) i) ne (cleared.others i (omega arith) ne))
+      ];
+      narrow = cleared.narrow;
+    };
+    after = λ R a prim kept. (let x = next_exists R a prim kept in (x.0, x.1, x.2, kept_after R a kept x.0 x.1 x.2 new cleared));
+  }
+
+  -- ---- some number not narrow
+  module _ (i j : ℕ) (z : ℤ) (cleared : IsClearedTo mid (p.rows + 1) (p.cols + 2) r c lead i j z) (narrow : (k : ℕ) → k < p.cols + 2 → IsNarrow (lead k))
+      (R : ℕ → ℕ → ℤ) (a : ℕ → ℤ) (kept : IsKept p R a old) (Q : ℕ → ℕ → ℤ) (b : ℕ → ℤ) (el : IsEliminated p R a r c Q b) where
     narrow_is : (x y : ℤ) → unsigned_abs x ≡ unsigned_abs y → IsNarrow y → IsNarrow x
     narrow_is x y e h = omega (arith, h)
 
@@ -294,14 +281,14 @@ module _ (p : Program) (old mid : List ℤ) (lead : ℕ → ℤ) (r c : ℕ) (ro
 
     narrow_before : (h k : ℕ) → h < p.rows → k ≤ p.cols → (h < i) ⊎ ((h ≡ i) × (k < j)) → IsNarrow (Q h k)
     narrow_before h k hm kn s = elim (cases_eq h r) [
-      | inl e ↦ (let P : ℕ → Type 0 = λ t. IsNarrow (Q t k) in let R : ℤ → Type 0 = λ t. IsNarrow t in
-          subst P (sym e) (subst R (sym (lead_is k kn)) (narrow k (omega arith))))
+      | inl e ↦ (let P : ℕ → Type 0 = λ t. IsNarrow (Q t k) in let N : ℤ → Type 0 = λ t. IsNarrow t in
+          subst P (sym e) (subst N (sym (lead_is R a kept Q b el k kn)) (narrow k (omega arith))))
       | inr ne ↦ elim s [
-        | inl less ↦ (let v = cleared.before h less ne in let R : ℤ → Type 0 = λ t. IsNarrow t in
-            subst R (sym (row_is h v.0 hm ne (reduced_old h v.0 ne v.1) k kn)) (v.2 k (omega arith)))
-        | inr q ↦ (let P : ℕ → Type 0 = λ t. IsNarrow (Q t k) in let R : ℤ → Type 0 = λ t. IsNarrow t in
+        | inl less ↦ (let v = cleared.before h less ne in let m = (row_multiple R a kept Q b el h v.0 hm ne (mixed_old h v.0 ne v.1)).by in
+            down_narrow m.0 (v.0 k) (Q h k) m.1 (m.2 k (omega arith)) (v.2 k (omega arith)))
+        | inr q ↦ (let P : ℕ → Type 0 = λ t. IsNarrow (Q t k) in let N : ℤ → Type 0 = λ t. IsNarrow t in
             let im : i < p.rows = omega (arith, q.0, hm) in
-            subst P (sym q.0) (subst R (sym (row_is i cleared.here.row.0 im cleared.apart here_row k kn)) (cleared.here.row.3 k q.1)))
+            subst P (sym q.0) (subst N (sym (row_is R a kept Q b el i cleared.here.row.0 im cleared.apart here_row k kn)) (cleared.here.row.3 k q.1)))
       ]
     ]
 
@@ -329,7 +316,7 @@ module _ (p : Program) (old mid : List ℤ) (lead : ℕ → ℤ) (r c : ℕ) (ro
     aim_here : (e : i ≡ p.rows) → b j ≡ stated p i j z
     aim_here e =
         let h : j < p.cols + 2 = cleared.here.inside in
-        let s : flipped p.cols b j ≡ z = aim_is cleared.here.row.0 (aim_row_here e) j (omega arith) ∙ cleared.here.row.2 in
+        let s : flipped p.cols b j ≡ z = aim_is R a kept Q b el cleared.here.row.0 (aim_row_here e) j (omega arith) ∙ cleared.here.row.2 in
         elim (cases_eq j p.cols) [
           | inl f ↦ (let g : flipped p.cols b j ≡ neg_ℤ (b j) = (let P : ℕ → Type 0 = λ t. flipped p.cols b t ≡ neg_ℤ (b t) in
               subst P (sym f) (flipped_at p.cols b)) in
@@ -341,7 +328,7 @@ module _ (p : Program) (old mid : List ℤ) (lead : ℕ → ℤ) (r c : ℕ) (ro
     wide_after = record {
       row = (let h : i < p.rows + 1 = cleared.inside in omega arith);
       here = elim (cases_lt i p.rows) [
-        | inl im ↦ inl (im, in_row im, row_is i cleared.here.row.0 im cleared.apart here_row j (in_row im) ∙ cleared.here.row.2 ∙ sym (stated_row im))
+        | inl im ↦ inl (im, in_row im, row_is R a kept Q b el i cleared.here.row.0 im cleared.apart here_row j (in_row im) ∙ cleared.here.row.2 ∙ sym (stated_row im))
         | inr m ↦ (let e : i ≡ p.rows = (let h : i < p.rows + 1 = cleared.inside in omega arith) in
             inr (e, (let h : j < p.cols + 2 = cleared.here.inside in omega arith), aim_here e))
       ];
@@ -349,11 +336,14 @@ module _ (p : Program) (old mid : List ℤ) (lead : ℕ → ℤ) (r c : ℕ) (ro
       before = narrow_before;
       before_aim = λ k kj e. narrow_is (b k) (flipped p.cols b k) (sym (flipped_abs p.cols b k))
           (let h : j < p.cols + 2 = cleared.here.inside in let P : ℤ → Type 0 = λ t. IsNarrow t in
-          subst P (sym (aim_is cleared.here.row.0 (aim_row_here e) k (omega arith))) (cleared.here.row.3 k kj));
+          subst P (sym (aim_is R a kept Q b el cleared.here.row.0 (aim_row_here e) k (omega arith))) (cleared.here.row.3 k kj));
     }
 
-  pub wide_from : (i j : ℕ) (z : ℤ) → IsClearedTo mid (p.rows + 1) (p.cols + 2) r c lead i j z → IsPrimitiveTable p old
-      → ((k : ℕ) → k < p.cols + 2 → IsNarrow (lead k)) → IsWideAfter p old r c i j z
-  wide_from i j z cleared prim narrow =
-      let el = elimination_exists p (table_rows p old) (table_aim p old) r c nonzero (prim.rows r rows) in
-      record { size = cleared.here.size; rows = (el.0, el.1, el.2, wide_after i j z cleared prim narrow el.0 el.1 el.2) }
+  pub wide_from : (i j : ℕ) (z : ℤ) → IsClearedTo mid (p.rows + 1) (p.cols + 2) r c lead i j z → ((k : ℕ) → k < p.cols + 2 → IsNarrow (lead k))
+      → IsWideAfter p old r c i j z
+  wide_from i j z cleared narrow = record {
+    row = (let h : i < p.rows + 1 = cleared.inside in omega arith);
+    column = (let h : j < p.cols + 2 = cleared.here.inside in omega arith);
+    size = cleared.here.size;
+    after = λ R a prim kept. (let x = next_exists R a prim kept in (x.0, x.1, x.2, wide_after i j z cleared narrow R a kept x.0 x.1 x.2));
+  }

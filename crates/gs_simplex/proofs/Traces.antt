@@ -17,6 +17,7 @@ use Rattle.gs_simplex.specs.Table.{table_aim, IsTable}
 use Rattle.gs_simplex.specs.State.{IsSoFar, IsTurnAt}
 use Rattle.gs_simplex.specs.Answer.{IsSmall}
 use Rattle.gs_simplex.specs.Trace.{IsBasis, IsBasisBelow, IsBasisAt, IsAimValue, IsTurnOf, IsTrace, IsNoted}
+use Rattle.gs_simplex.proofs.Multiples.{down_fraction}
 use Rattle.gs_simplex.proofs.Paths.{turn_same_as, ends_stops}
 
 -- what holds of each element after a push
@@ -140,8 +141,10 @@ module _ (p : Program) (o : Listing) (n : ℕ) (s : States) (ok : IsOpening p o)
   value_is k h l xs f u e =
       let t = length o + k in let r = u.states.0 in
       let ag = agrees k t r u.states.1 h (omega arith) in
-      let same : (j : ℕ) → j ≤ p.cols + 1 → s.aim t j ≡ table_aim p xs j = λ j jn. ag.aim j jn ∙ ap (λ (g : ℕ → ℤ). g j) u.states.4 in
-      ap (λ x. f.num *ℤ x) (same (p.cols + 1) (omega arith)) ∙ e ∙ ap (λ x. x *ℤ f.den) (sym (same p.cols (omega arith)))
+      let m = u.states.3.aim_kept.by in
+      ap (λ x. f.num *ℤ x) (ag.aim (p.cols + 1) (omega arith))
+      ∙ down_fraction m.0 f.num f.den (table_aim p xs (p.cols + 1)) (table_aim p xs p.cols) (r.aim t (p.cols + 1)) (r.aim t p.cols) m.1
+      (m.2 (p.cols + 1) (omega arith)) (m.2 p.cols (omega arith)) e ∙ ap (λ x. x *ℤ f.den) (sym (ag.aim p.cols (omega arith)))
 
   pub bases_apart : (k h : ℕ) → k < h → h ≤ n → (a b : List ℕ) → IsBasis (s.lists (length o + k)) a → IsBasis (s.lists (length o + h)) b → a ≡ b → ⊥
   bases_apart k h kh hn a b u w e =

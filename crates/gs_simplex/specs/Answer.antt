@@ -4,7 +4,6 @@ use Rattle.std.specs.List.{HoldsAt}
 use Rattle.gs_rows.specs.declared.Program.{Program}
 use Rattle.gs_rows.specs.Program.{Listing, IsListed, ColListed, IsRowsOf}
 use Rattle.gs_rows.specs.Path.{ends, wide, pivots, unbounded, PathStops}
-use Rattle.gs_simplex.specs.Table.{table_rows, table_aim}
 use Rattle.gs_frac.specs.declared.value.Fraction.{Fraction}
 use Rattle.gs_simplex.specs.declared.answer.Best.{Best}
 use Rattle.gs_simplex.specs.declared.answer.Stop.{Stop}
@@ -38,13 +37,13 @@ pub record IsBest (p : Program) (o : Listing) (limit : ℕ) (b : Best) : Type 0 
   pub prices : length b.price.items ≡ p.cols
   pub last : (rows : ℕ → ℕ → ℤ) × (aim : ℕ → ℤ) × IsBestAt p b.basis.items rows aim b.value.items b.price.items
 
--- the values and prices at a table
-pub record IsBestTable (p : Program) (xs : List ℤ) (l : Listing) (pivots : ℕ) (b : Best) : Type 0 where
+-- the values and prices at a list
+pub record IsBestTable (p : Program) (l : Listing) (pivots : ℕ) (b : Best) : Type 0 where
   pub pivots_are : b.pivots ≡ pivots
   pub basis_is : b.basis.items ≡ l
   pub values : length b.value.items ≡ p.cols
   pub prices : length b.price.items ≡ p.cols
-  pub best : IsBestAt p l (table_rows p xs) (table_aim p xs) b.value.items b.price.items
+  pub best : (rows : ℕ → ℕ → ℤ) × (aim : ℕ → ℤ) × IsBestAt p l rows aim b.value.items b.price.items
 
 -- what `run` answers
 abbrev pub IsAnswer : Program → Listing → ℕ → Result Best Stop → Type 0

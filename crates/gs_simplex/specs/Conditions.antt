@@ -1,9 +1,9 @@
 -- What the tests find out of a program and an opening before they call `run`.
 use Rattle.std.specs.Prelude.{◌≡◌, ◌≢◌, ℕ, ◌+◌, ◌<◌, List, length, take, slice_index_or, ℤ, pos, ◌≤ℤ◌}
 use Rattle.gs_rows.specs.declared.Program.{Program}
-use Rattle.gs_rows.specs.Program.{Listing, IsListed, IsFree, IsRowsOf, CanTake}
+use Rattle.gs_rows.specs.Program.{Listing, IsListed, IsFree, CanTake}
 use Rattle.gs_simplex.specs.Numbers.{AllNarrow}
-use Rattle.gs_simplex.specs.Table.{table_rows, table_aim, IsTable}
+use Rattle.gs_simplex.specs.Table.{IsTable, IsTableOf}
 
 -- a row has this width and narrow numbers
 pub record IsWideRow (width : ℕ) (row : List ℤ) : Type 0 where
@@ -23,7 +23,7 @@ pub record CanTakeAt (p : Program) (rows : ℕ → ℕ → ℤ) (o : Listing) (s
 pub record IsTaken (p : Program) (o : Listing) (t : ℕ) (xs : List ℤ) : Type 0 where
   pub taken : (k : ℕ) → k < t → (r : ℕ) × (c : ℕ) × (slice_index_or o k (0, 0) ≡ (r + 1, c + 1)) × CanTake p (take k o) r c
   pub table : IsTable p xs
-  pub rows : IsRowsOf p (take t o) (table_rows p xs) (table_aim p xs)
+  pub rows : IsTableOf p (take t o) xs
 
 -- no right side of a row whose listed column is not free is below 0
 abbrev pub HasFeasibleSides : Program → Listing → (ℕ → ℕ → ℤ) → Type 0

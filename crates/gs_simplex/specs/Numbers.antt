@@ -1,5 +1,6 @@
--- Rows as lists of numbers, and what becomes of one row in a pivot.
-use Rattle.std.specs.Prelude.{◌≡◌, ◌≢◌, ℕ, ◌+◌, ◌-◌, ◌*◌, ◌<◌, ◌≤◌, ◌^◌, ◌⊎◌, ℤ, pos, neg_ℤ, ◌≤ℤ◌, ◌-ℤ◌, ◌*ℤ◌, ◌<ℤ◌, List, slice_index_or, length, unsigned_abs}
+-- Rows as lists of numbers, and what a pivot makes of a row.
+use Rattle.std.specs.Prelude.{◌≡◌, ◌≢◌, ℕ, ◌+◌, ◌-◌, ◌*◌, ◌<◌, ◌≤◌, ◌^◌, ◌⊎◌, ℤ, pos, neg_ℤ, ◌≤ℤ◌, ◌-ℤ◌, ◌*ℤ◌, ◌<ℤ◌, unsigned_abs}
+use Rattle.std.specs.Prelude.{List, slice_index, slice_index_or, length}
 use Prim.Native.Nat.{◌∣◌}
 use Rattle.gs_rows.specs.Rows.{IsNarrow, IsPrimitive}
 
@@ -15,9 +16,13 @@ AllNarrow xs = (j : ℕ) → j < length xs → IsNarrow (at xs j)
 abbrev pub AllWithin : List ℤ → Type 0
 AllWithin xs = (j : ℕ) → j < length xs → unsigned_abs (at xs j) ≤ 2 ^ 125
 
+-- the first `width` numbers of a row are at most `most` in size
+abbrev pub IsAtMost : ℕ → (ℕ → ℤ) → ℕ → Type 0
+IsAtMost width row most = (j : ℕ) → j < width → unsigned_abs (row j) ≤ most
+
 -- each number is at most `most` in size
 abbrev pub AllAtMost : List ℤ → ℕ → Type 0
-AllAtMost xs most = (j : ℕ) → j < length xs → unsigned_abs (at xs j) ≤ most
+AllAtMost xs most = IsAtMost (length xs) (at xs) most
 
 -- the greatest number that divides the first `count` numbers, 0 where all are 0
 pub record IsDivisor (count : ℕ) (f : ℕ → ℤ) (d : ℕ) : Type 0 where
@@ -41,17 +46,28 @@ pub record IsWideQuotient (by : ℕ) (mixed : List ℤ) (j : ℕ) (z : ℤ) : Ty
   pub wide : ¬ IsNarrow z
   pub before : (k : ℕ) → k < j → (y : ℤ) × (at mixed k ≡ pos by *ℤ y) × IsNarrow y
 
--- `new` is the lead's number in column c times the old row, less the old row's number there times the lead, divided by all common divisors
-pub record IsReduced (lead : ℕ → ℤ) (c width : ℕ) (old new : ℕ → ℤ) : Type 0 where
-  pub divided : (g : ℤ) × (pos 0 <ℤ g) × ((j : ℕ) → j < width → lead c *ℤ old j -ℤ old c *ℤ lead j ≡ g *ℤ new j)
-  pub primitive : IsPrimitive (width - 1) new
+-- the old row is a positive multiple of the new one
+pub record IsMultiple (width : ℕ) (old new : ℕ → ℤ) : Type 0 where
+  pub by : (g : ℤ) × (pos 0 <ℤ g) × ((j : ℕ) → j < width → old j ≡ g *ℤ new j)
 
--- the old row is a multiple of the new one, whose numbers have no common divisor
+-- the new row is the old one divided by its greatest common divisor
 pub record IsDivided (width : ℕ) (old new : ℕ → ℤ) : Type 0 where
-  pub divided : (g : ℤ) × (pos 0 <ℤ g) × ((j : ℕ) → j < width → old j ≡ g *ℤ new j)
+  pub multiple : IsMultiple width old new
   pub primitive : IsPrimitive (width - 1) new
 
--- the row so reduced has its first number that is not narrow, z, in column j
+-- the old row cleared by the lead, so that it has 0 in column c: the lead's number there times the old row, less the old row's number there times the lead
+abbrev pub cleared_by : (ℕ → ℤ) → ℕ → (ℕ → ℤ) → ℕ → ℤ
+cleared_by lead c old j = lead c *ℤ old j -ℤ old c *ℤ lead j
+
+-- the cleared row is a positive multiple of the new one
+abbrev pub IsMixed : (ℕ → ℤ) → ℕ → ℕ → (ℕ → ℤ) → (ℕ → ℤ) → Type 0
+IsMixed lead c width old new = IsMultiple width (cleared_by lead c old) new
+
+-- the new row is the cleared row divided by its greatest common divisor
+abbrev pub IsReduced : (ℕ → ℤ) → ℕ → ℕ → (ℕ → ℤ) → (ℕ → ℤ) → Type 0
+IsReduced lead c width old new = IsDivided width (cleared_by lead c old) new
+
+-- z, in column j, is the first number of the reduced row that is not narrow
 pub record IsReducedTo (lead : ℕ → ℤ) (c width : ℕ) (old : ℕ → ℤ) (j : ℕ) (z : ℤ) : Type 0 where
   pub inside : j < width
   pub size : unsigned_abs z ≤ 2 ^ 125
@@ -62,24 +78,29 @@ pub record IsReducedTo (lead : ℕ → ℤ) (c width : ℕ) (old : ℕ → ℤ) 
 abbrev pub cell : List ℤ → ℕ → ℕ → ℕ → ℤ
 cell xs width i j = at xs (i * width + j)
 
--- the numbers of a row are all 0, or no number but 1 divides them all
-abbrev pub IsRowPrimitive : List ℤ → ℕ → ℕ → Type 0
-IsRowPrimitive xs width i = IsPrimitive (width - 1) (cell xs width i)
+-- no number of the first `count` rows is above its row's bound in size
+abbrev pub AreTops : ℕ → ℕ → List ℤ → List ℕ → Type 0
+AreTops count width xs tops = (i : ℕ) → i < count → IsAtMost width (cell xs width i) (slice_index tops i)
 
--- the row is as before or negated, so that its number in column c is not below 0
+-- the new row is the old one or its negative; its number in column c is not negative
 pub record IsTurned (old new : ℕ → ℤ) (c width : ℕ) : Type 0 where
   pub own : pos 0 ≤ℤ new c
   pub self : ((j : ℕ) → j < width → new j ≡ old j) ⊎ ((j : ℕ) → j < width → new j ≡ neg_ℤ (old j))
 
--- each of `count` rows but r is reduced in column c by the lead, and row r is as before
+-- the new row is the old one or its negative, divided by its greatest common divisor; its number in column c is not negative
+pub record IsLeadOf (old new : ℕ → ℤ) (c width : ℕ) : Type 0 where
+  pub own : pos 0 ≤ℤ new c
+  pub divided : (IsDivided width old new) ⊎ IsDivided width (λ j. neg_ℤ (old j)) new
+
+-- each of `count` rows but r is mixed with the lead in column c, and row r stays
 pub record IsCleared (old new : List ℤ) (count width r c : ℕ) (lead : ℕ → ℤ) : Type 0 where
-  pub others : (i : ℕ) → i < count → i ≢ r → IsReduced lead c width (cell old width i) (cell new width i)
+  pub others : (i : ℕ) → i < count → i ≢ r → IsMixed lead c width (cell old width i) (cell new width i)
   pub kept : (j : ℕ) → j < width → cell new width r j ≡ cell old width r j
   pub narrow : AllNarrow new
 
--- so reduced, the rows have their first number that is not narrow, z, in row i and column j
+-- z, in row i and column j, is the first number of the reduced rows that is not narrow; the rows before row i need only be mixed
 pub record IsClearedTo (old : List ℤ) (count width r c : ℕ) (lead : ℕ → ℤ) (i j : ℕ) (z : ℤ) : Type 0 where
   pub inside : i < count
   pub apart : i ≢ r
   pub here : IsReducedTo lead c width (cell old width i) j z
-  pub before : (h : ℕ) → h < i → h ≢ r → (new : ℕ → ℤ) × (IsReduced lead c width (cell old width h) new) × ((k : ℕ) → k < width → IsNarrow (new k))
+  pub before : (h : ℕ) → h < i → h ≢ r → (new : ℕ → ℤ) × (IsMixed lead c width (cell old width h) new) × ((k : ℕ) → k < width → IsNarrow (new k))

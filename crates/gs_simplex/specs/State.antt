@@ -1,14 +1,14 @@
 -- The state of the method after some steps, and what comes next: the path ends, is unbounded, or goes on with a pivot.
 use Rattle.std.specs.Prelude.{◌≡◌, ℕ, ◌+◌, ◌*◌, ◌<◌, ◌≤◌, [], List, ℤ, pos, length, vec_len, slice_index_or, slice_set, Some}
 use Rattle.gs_rows.specs.declared.Program.{Program}
-use Rattle.gs_rows.specs.Program.{number, aim_of, Listing, IsPairList, IsRowsOf}
+use Rattle.gs_rows.specs.Program.{number, aim_of, Listing, IsPairList}
 use Rattle.gs_rows.specs.Path.{States, IsPath, Enters, NoneEnters, NoneLeaves}
 use Rattle.gs_simplex.specs.Choice.{IsLeaving}
 use Rattle.gs_simplex.specs.declared.answer.Turn.{Turn}
 use Rattle.gs_simplex.specs.declared.path.Choice.{Choice}
 use Rattle.gs_simplex.specs.declared.path.Choice.TheVariants.{Ends, Unbounded, Leaves}
 use Rattle.gs_simplex.specs.Numbers.{cell}
-use Rattle.gs_simplex.specs.Table.{table_rows, table_aim, IsTable, IsTableAfter, IsWideAfter}
+use Rattle.gs_simplex.specs.Table.{table_aim, IsTable, IsKept, IsTableOf, HasTops, IsTableAfter, IsWideAfter}
 use Rattle.gs_simplex.specs.declared.table.Table.{Table}
 use Rattle.gs_simplex.specs.Live.{HasPlaces}
 
@@ -16,6 +16,7 @@ use Rattle.gs_simplex.specs.Live.{HasPlaces}
 pub record HasRoom (p : Program) (t : Table) : Type 0 where
   pub lead : vec_len t.lead ≡ p.cols + 2
   pub mixed : vec_len t.mixed ≡ p.cols + 2
+  pub tops : vec_len t.tops ≡ p.rows + 1
   pub live : HasPlaces p t.live
 
 -- the program's rows and the aim's as a table, not yet divided
@@ -31,16 +32,18 @@ pub record IsRaw (p : Program) (xs : List ℤ) : Type 0 where
 pub record IsStart (p : Program) (t : Table) : Type 0 where
   pub room : HasRoom p t
   pub table : IsTable p t.numbers.items
-  pub rows : IsRowsOf p [] (table_rows p t.numbers.items) (table_aim p t.numbers.items)
+  pub rows : IsTableOf p [] t.numbers.items
+  pub tops : HasTops p t.numbers.items t.tops.items
 
--- t steps of the path from the opening lead to this list and these rows
+-- t steps of the path from the opening lead to this list, and the table holds positive multiples of its rows
 pub record IsSoFar (p : Program) (opening : Listing) (t : ℕ) (basis : Listing) (xs : List ℤ) : Type 0 where
-  pub states : (s : States) × (IsPath p opening t s) × (s.lists t ≡ basis) × (s.rows t ≡ table_rows p xs) × (s.aim t ≡ table_aim p xs)
+  pub states : (s : States) × (IsPath p opening t s) × (s.lists t ≡ basis) × IsKept p (s.rows t) (s.aim t) xs
 
 -- the state of the method after t steps
 pub record IsState (p : Program) (opening : Listing) (t : ℕ) (basis : Listing) (held : Table) : Type 0 where
   pub room : HasRoom p held
   pub table : IsTable p held.numbers.items
+  pub tops : HasTops p held.numbers.items held.tops.items
   pub pairs : IsPairList p basis
   pub so_far : IsSoFar p opening t basis held.numbers.items
 

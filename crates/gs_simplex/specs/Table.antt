@@ -1,11 +1,13 @@
--- The rows of a step as they stand in memory: one after the other, each with a number for each column, the right side and a further place, which is 0 in
--- a program row; then the aim's row with its multiple in that place and its last number negated, so that a pivot treats all rows alike.
+-- The simplex table: how the rows of a step stand in memory. A row has a number for each column, the right side, and one further place, which is 0 in a
+-- program row. The aim's row comes last, with its multiple in the further place and its last number negated, so that a pivot treats all rows alike.
+-- The table holds a positive multiple of each row: only rows whose numbers would grow long are divided by their greatest common divisor.
 use Rattle.std.specs.Prelude.{◌≡◌, ℕ, ◌+◌, ◌*◌, ◌^◌, ◌<◌, ◌≤◌, ℤ, pos, neg_ℤ, List, length, unsigned_abs, nat_eq, ◌&&◌, if◌then◌else◌}
 use Rattle.gs_rows.specs.declared.Program.{Program}
 use Rattle.gs_rows.specs.Rows.{IsPrimitive}
 use Rattle.gs_rows.specs.Elimination.{IsEliminated}
 use Rattle.gs_rows.specs.Path.{IsFirstWide}
-use Rattle.gs_simplex.specs.Numbers.{cell, AllNarrow}
+use Rattle.gs_rows.specs.Program.{Listing, IsRowsOf}
+use Rattle.gs_simplex.specs.Numbers.{cell, AllNarrow, AreTops, IsMultiple}
 
 -- the numbers of the program rows' rows
 abbrev pub table_rows : Program → List ℤ → ℕ → ℕ → ℤ
@@ -21,22 +23,33 @@ pub record IsTable (p : Program) (xs : List ℤ) : Type 0 where
   pub zero : (i : ℕ) → i < p.rows → cell xs (p.cols + 2) i (p.cols + 1) ≡ pos 0
   pub narrow : AllNarrow xs
 
--- no row has a common divisor
-pub record IsPrimitiveTable (p : Program) (xs : List ℤ) : Type 0 where
-  pub rows : (i : ℕ) → i < p.rows → IsPrimitive p.cols (table_rows p xs i)
-  pub aim : IsPrimitive (p.cols + 1) (table_aim p xs)
+-- the table holds a positive multiple of each of these rows
+pub record IsKept (p : Program) (rows : ℕ → ℕ → ℤ) (aim : ℕ → ℤ) (xs : List ℤ) : Type 0 where
+  pub rows_kept : (i : ℕ) → i < p.rows → IsMultiple (p.cols + 1) (table_rows p xs i) (rows i)
+  pub aim_kept : IsMultiple (p.cols + 2) (table_aim p xs) aim
 
--- the table after a pivot
+-- the table holds a positive multiple of each row of a list
+pub record IsTableOf (p : Program) (l : Listing) (xs : List ℤ) : Type 0 where
+  pub rows_of : (rows : ℕ → ℕ → ℤ) × (aim : ℕ → ℤ) × (IsRowsOf p l rows aim) × IsKept p rows aim xs
+
+-- no number of the table is above its row's bound in size
+abbrev pub HasTops : Program → List ℤ → List ℕ → Type 0
+HasTops p xs tops = AreTops (p.rows + 1) (p.cols + 2) xs tops
+
+-- the table after a pivot: whatever rows it held multiples of, it holds multiples of the rows that the pivot makes of them
 pub record IsTableAfter (p : Program) (old new : List ℤ) (r c : ℕ) : Type 0 where
   pub table : IsTable p new
-  pub eliminated : IsEliminated p (table_rows p old) (table_aim p old) r c (table_rows p new) (table_aim p new)
+  pub after : (rows : ℕ → ℕ → ℤ) (aim : ℕ → ℤ) → IsPrimitive p.cols (rows r) → IsKept p rows aim old
+      → (next : ℕ → ℕ → ℤ) × (next_aim : ℕ → ℤ) × (IsEliminated p rows aim r c next next_aim) × IsKept p next next_aim new
 
--- the number in row i and column j of the table, as the row states it
+-- the number in row i and column j of the table with the sign that it has in the row
 abbrev pub stated : Program → ℕ → ℕ → ℤ → ℤ
 stated p i j z = if nat_eq i p.rows && nat_eq j p.cols then neg_ℤ z else z
 
--- after the pivot the first number that is not narrow is z, in row i and column j of the table
+-- z, in row i and column j of the table, is the first number that is not narrow in the rows after a pivot
 pub record IsWideAfter (p : Program) (old : List ℤ) (r c i j : ℕ) (z : ℤ) : Type 0 where
+  pub row : i ≤ p.rows
+  pub column : j ≤ p.cols + 1
   pub size : unsigned_abs z ≤ 2 ^ 125
-  pub rows : (new : ℕ → ℕ → ℤ) × (new_aim : ℕ → ℤ) × (IsEliminated p (table_rows p old) (table_aim p old) r c new new_aim)
-      × (IsFirstWide p new new_aim i j (stated p i j z))
+  pub after : (rows : ℕ → ℕ → ℤ) (aim : ℕ → ℤ) → IsPrimitive p.cols (rows r) → IsKept p rows aim old
+      → (next : ℕ → ℕ → ℤ) × (next_aim : ℕ → ℤ) × (IsEliminated p rows aim r c next next_aim) × IsFirstWide p next next_aim i j (stated p i j z)

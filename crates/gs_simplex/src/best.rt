@@ -1,9 +1,9 @@
-//! Values and prices at the last basis.
+//! Values and prices at the last basis; a price is a reduced cost.
 
 ghost use Rattle.std.specs.Prelude.{◌≡◌, ℕ, ◌+◌, ◌-◌, ◌*◌, ◌^◌, ◌<◌, ℤ, pos, neg_ℤ, ◌*ℤ◌, ◌<ℤ◌, length, slice_index, IfOk};
 ghost use Rattle.std.specs.List.{HoldsAt};
-ghost use Rattle.gs_rows.specs.Program.{IsPairList, IsListed, ColListed, IsRowsOf};
-ghost use Rattle.gs_simplex.specs.{Table.{table_rows, table_aim, IsTable}, Values.{IsRowIndex, IsValue, CanValue}};
+ghost use Rattle.gs_rows.specs.Program.{IsPairList, IsListed, ColListed};
+ghost use Rattle.gs_simplex.specs.{Table.{table_rows, table_aim, IsTable, IsTableOf}, Values.{IsRowIndex, IsValue, CanValue}};
 ghost use Rattle.gs_simplex.specs.Answer.{IsBestTable};
 
 use crate::answer::Best;
@@ -12,7 +12,7 @@ use gs_frac::Fraction;
 use gs_rows::Program;
 use std::alloc::{AllocError, Global};
 
-// Notes the row of each listed column, from 1.
+// Writes for each listed column the number of its row, from 1.
 pub(crate) fn mark_rows(p: &Program, basis: &[(u32, u32)], rows: &mut [u32])
     requires small_rows { p.now.rows < 2 ^ 31 }
     requires pairs { IsPairList p.now basis.now }
@@ -26,7 +26,7 @@ pub(crate) fn mark_rows(p: &Program, basis: &[(u32, u32)], rows: &mut [u32])
     }
 }
 
-// For each column the row that it is listed with, from 1, or 0.
+// Returns for each column the number of the row that it is listed with, from 1, or 0.
 pub(crate) fn listed_rows(
     alloc: Global,
     p: &Program,
@@ -41,7 +41,7 @@ pub(crate) fn listed_rows(
     Ok(rows)
 }
 
-// The value of column `j`, which is listed with row `row`, from 1, or unlisted where that is 0.
+// Returns the value of column `j`. It is listed with row `row`, from 1, or unlisted where that is 0.
 fn value_at(p: &Program, numbers: &[i64], row: u32, j: usize) -> Fraction
     requires table { IsTable p.now numbers.now }
     requires column { j < p.now.cols }
@@ -56,7 +56,7 @@ fn value_at(p: &Program, numbers: &[i64], row: u32, j: usize) -> Fraction
     Fraction::new(i128::from(side), i128::from(own))
 }
 
-// The value of each column.
+// Returns the value of each column.
 fn values(
     alloc: Global,
     p: &Program,
@@ -77,7 +77,7 @@ fn values(
     Ok(value)
 }
 
-// The price of column `j`.
+// Returns the price of column `j`.
 fn price_at(p: &Program, numbers: &[i64], j: usize) -> Fraction
     requires table { IsTable p.now numbers.now }
     requires column { j < p.now.cols }
@@ -89,7 +89,7 @@ fn price_at(p: &Program, numbers: &[i64], j: usize) -> Fraction
     Fraction::new(-i128::from(falls), i128::from(multiple))
 }
 
-// The price of each column.
+// Returns the price of each column.
 fn prices(alloc: Global, p: &Program, numbers: &[i64]) -> Result<Vec<Fraction>, AllocError>
     requires table { IsTable p.now numbers.now }
     requires multiple { pos 0 <ℤ table_aim p.now numbers.now (p.now.cols + 1) }
@@ -107,7 +107,7 @@ fn prices(alloc: Global, p: &Program, numbers: &[i64]) -> Result<Vec<Fraction>, 
     Ok(price)
 }
 
-/// The values and prices at the last basis.
+/// Returns the last basis with its values and prices.
 pub(crate) fn best(
     alloc: Global,
     p: &Program,
@@ -118,8 +118,8 @@ pub(crate) fn best(
     requires small_rows { p.now.rows < 2 ^ 31 }
     requires table { IsTable p.now numbers.now }
     requires pairs { IsPairList p.now basis.items }
-    requires rows { IsRowsOf p.now basis.items (table_rows p.now numbers.now) (table_aim p.now numbers.now) }
-    ensures { IfOk result (IsBestTable p.now numbers.now basis.items pivots) }
+    requires rows { IsTableOf p.now basis.items numbers.now }
+    ensures { IfOk result (IsBestTable p.now basis.items pivots) }
 {
     let rows = listed_rows(alloc, p, &basis)?;
     let value = values(alloc, p, numbers, &rows)?;

@@ -1,7 +1,8 @@
 //! The simplex method on whole-number rows, by Bland's rule.
 //!
 //! [`run`] follows the path of a program from an opening: it lists the opening's pairs one after the other and then makes pivots. Each step's rows are
-//! whole numbers without a common divisor; the crate `gs_rows` says which rows they are, and that no basis comes twice.
+//! whole numbers without a common divisor; the crate `gs_rows` says which rows they are, and that no basis comes twice. The simplex table here holds a
+//! positive multiple of each row, since signs and ratios do not change by it.
 //! What is called aim, price and opening here is called objective, reduced cost and starting basis in the literature.
 //! Sources: Bland 1977, "New finite pivoting rules for the simplex method"; Edmonds 1967 for elimination in whole numbers.
 #![tactic(auto)]
@@ -32,10 +33,10 @@ use tracing::{Log, aim_value};
 /// The most numbers of a table, `(rows + 1) * (cols + 1)`.
 pub const MOST_NUMBERS: u64 = 1_048_576;
 
-/// The last basis of the path with its values and prices, or what stopped the path first.
+/// Returns the last basis of the path with its values and prices, or what stopped the path first.
 ///
 /// The opening lists pairs of a row and a column, both counted from 1. `limit` is the most pivots after the opening.
-/// A table of more than [`MOST_NUMBERS`] numbers is refused before any step; of the other stops the one that the path meets first is answered.
+/// A table of more than [`MOST_NUMBERS`] numbers is refused before any step. Of the other stops the one that the path meets first is returned.
 pub fn run(alloc: Global, p: &Program, opening: &[(u32, u32)], limit: u32) -> Result<Best, Stop>
     requires small_rows { p.now.rows < 2 ^ 31 }
     requires small_cols { p.now.cols < 2 ^ 31 }
@@ -52,7 +53,7 @@ pub fn run(alloc: Global, p: &Program, opening: &[(u32, u32)], limit: u32) -> Re
     Ok(best(alloc, p, &table.numbers, basis, pivots)?)
 }
 
-/// The path's pivots and bases, with the aim's value after the opening and at the end, or what stopped the path first: that which [`run`] answers.
+/// Returns the path's pivots and bases, with the aim's value after the opening and at the end, or what stopped the path first, as [`run`] does.
 pub fn trace(
     alloc: Global,
     p: &Program,

@@ -1,9 +1,9 @@
-//! The path: the pairs of the opening one after the other, and then pivots.
+//! The path: first the pairs of the opening, one after the other, and then the pivots by Bland's rule.
 
-ghost use Rattle.std.specs.Prelude.{◌≡◌, ◌≢◌, MatchOption, MatchResult, ℕ, ◌+◌, ◌*◌, ◌<◌, ◌≤◌, ◌^◌, pos, length, slice_index_or};
+ghost use Rattle.std.specs.Prelude.{◌≡◌, ◌≢◌, IfNone, MatchOption, MatchResult, ℕ, ◌+◌, ◌*◌, ◌<◌, ◌≤◌, ◌^◌, pos, length, slice_index_or};
 ghost use Rattle.std.specs.Prelude.{unsigned_abs, Some};
-ghost use Rattle.gs_rows.specs.Program.{IsShaped, IsPairList, IsOpening, IsRowsOf};
-ghost use Rattle.gs_simplex.specs.Table.{table_rows, table_aim, stated, IsTable};
+ghost use Rattle.gs_rows.specs.Program.{IsShaped, IsPairList, IsOpening};
+ghost use Rattle.gs_simplex.specs.Table.{table_rows, table_aim, stated, IsTable, IsTableOf, HasTops};
 ghost use Rattle.gs_simplex.specs.{State.{HasRoom, IsStart, IsState, IsChoice, IsPivoted, IsWidePivot, IsEnd, IsTurned}, Answer.{IsSmall, IsStop}};
 ghost use Rattle.gs_simplex.specs.Trace.{IsBegun, CanFollow};
 
@@ -14,7 +14,7 @@ use crate::table::{Table, WideCell};
 use gs_rows::Program;
 use std::alloc::Global;
 
-/// What comes next.
+/// What Bland's rule chooses.
 #[derive(Clone, Copy)]
 pub(crate) enum Choice {
     /// No column enters.
@@ -25,7 +25,7 @@ pub(crate) enum Choice {
     Leaves(usize, usize),
 }
 
-// The stop at a wide number.
+// Returns the stop at a number that is not narrow.
 fn wide_stop(p: &Program, step: u32, cell: WideCell) -> Stop
     requires row { cell.row ≤ p.now.rows }
     requires column { cell.column ≤ p.now.cols + 1 }
@@ -44,12 +44,12 @@ fn wide_stop(p: &Program, step: u32, cell: WideCell) -> Stop
     }
 }
 
-// Bland's choice.
+// Returns what Bland's rule chooses for this table.
 fn choose(p: &Program, numbers: &[i64], basis: &[(u32, u32)]) -> Choice
     requires shaped { IsShaped p.now }
     requires table { IsTable p.now numbers.now }
     requires pairs { IsPairList p.now basis.now }
-    requires rows { IsRowsOf p.now basis.now (table_rows p.now numbers.now) (table_aim p.now numbers.now) }
+    requires rows { IsTableOf p.now basis.now numbers.now }
     ensures { IsChoice p.now basis.now (table_rows p.now numbers.now) (table_aim p.now numbers.now) result }
 {
     let start = p.rows as usize * (p.cols as usize + 2);
@@ -69,7 +69,7 @@ pub(crate) struct Position {
     pub(crate) table: Table,
 }
 
-// Lists the pairs of the opening one after the other.
+// Lists the pairs of the opening one after the other, or returns the stop at the first number that is not narrow.
 pub(crate) fn open(p: &Program, opening: &[(u32, u32)], table: &mut Table) -> Result<(), Stop>
     requires small_rows { p.now.rows < 2 ^ 31 }
     requires small_cols { p.now.cols < 2 ^ 31 }
@@ -88,7 +88,7 @@ pub(crate) fn open(p: &Program, opening: &[(u32, u32)], table: &mut Table) -> Re
     Ok(())
 }
 
-// Takes the opening, where the table is not too large.
+// Returns the position after the opening, or why there is none: the table is too large, a number is not narrow, or memory ran out.
 pub(crate) fn begin(alloc: Global, p: &Program, opening: &[(u32, u32)]) -> Result<Position, Stop>
     requires small_rows { p.now.rows < 2 ^ 31 }
     requires small_cols { p.now.cols < 2 ^ 31 }
@@ -106,7 +106,7 @@ pub(crate) fn begin(alloc: Global, p: &Program, opening: &[(u32, u32)]) -> Resul
     Ok(Position { basis, table })
 }
 
-// One pivot: the row at a place of the list is listed with column `column`. It answers the first number that is then not narrow.
+// Makes one pivot: the row at a place of the list leaves its column for `column`. Returns the first number that is then not narrow.
 fn pivot(
     p: &Program,
     basis: &mut [(u32, u32)],
@@ -117,7 +117,8 @@ fn pivot(
     requires room { HasRoom p.now table.old }
     requires table { IsTable p.now table.old.numbers.items }
     requires pairs { IsPairList p.now basis.old }
-    requires rows { IsRowsOf p.now basis.old (table_rows p.now table.old.numbers.items) (table_aim p.now table.old.numbers.items) }
+    requires rows { IsTableOf p.now basis.old table.old.numbers.items }
+    requires tops { HasTops p.now table.old.numbers.items table.old.tops.items }
     requires inside { place < length basis.old }
     requires column { column < p.now.cols }
     requires small_rows { p.now.rows < 2 ^ 31 }
@@ -127,6 +128,7 @@ fn pivot(
     ensures room { HasRoom p.now table.new }
     ensures pivoted { MatchOption result (IsPivoted p.now basis.old basis.new table.old.numbers.items table.new.numbers.items place column)
         (λ w. IsWidePivot p.now basis.old table.old.numbers.items place column w.row w.column w.number) }
+    ensures tops { IfNone result (HasTops p.now table.new.numbers.items table.new.tops.items) }
 {
     let (row, _) = pair_at(p, basis, place);
     if let Some(cell) = table.list(p, basis, row, column) {
@@ -136,7 +138,7 @@ fn pivot(
     None
 }
 
-// One step from the state after `made` pivots: nothing where the path ends there, and otherwise the pivot.
+// Makes the next pivot after `made` pivots and returns it, or `None` where the path has ended, or what stops the path.
 pub(crate) fn step(
     p: &Program,
     opening: &[(u32, u32)],
@@ -179,7 +181,7 @@ pub(crate) fn step(
     }
 }
 
-// Makes pivots until the path stops, at most `limit`, and answers how many.
+// Makes pivots until the path ends, at most `limit`, and returns how many, or what stopped the path.
 pub(crate) fn follow(
     p: &Program,
     opening: &[(u32, u32)],

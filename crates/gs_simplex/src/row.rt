@@ -1,25 +1,33 @@
-//! The arithmetic of one row: its products stay in place where they are narrow, and take 128 bits otherwise; a row is divided by its greatest common divisor.
+//! The arithmetic of one row in whole numbers. Products stay in place where they are narrow, and take 128 bits otherwise. A row is divided by its greatest
+//! common divisor only where its numbers may be long.
 
-ghost use Rattle.std.specs.Prelude.{◌≡◌, ◌≢◌, MatchOption, ℕ, ◌+◌, ◌-◌, ◌*◌, ◌<◌, ◌≤◌, ◌^◌, IsTrue, ℤ, pos, ◌-ℤ◌, ◌*ℤ◌, ◌<ℤ◌, unsigned_abs};
-ghost use Rattle.std.specs.Prelude.{length, slice_index};
+ghost use Rattle.std.specs.Prelude.{◌≡◌, ◌≢◌, MatchOption, MatchResult, ℕ, ◌+◌, ◌*◌, ◌/◌, ◌<◌, ◌≤◌, ◌^◌, IsTrue, ℤ, pos, ◌-ℤ◌, ◌*ℤ◌, ◌<ℤ◌};
+ghost use Rattle.std.specs.Prelude.{length, slice_index, unsigned_abs};
 ghost use Prim.Native.Nat.{◌∣◌};
 ghost use Rattle.std.specs.Int.{IsGcd};
-ghost use Rattle.gs_rows.specs.Rows.{IsNarrow, IsPrimitive};
-ghost use Rattle.gs_simplex.specs.Numbers.{at, AllNarrow, AllWithin, AllAtMost, IsDivisor, IsShared, IsQuotient, IsWideQuotient, IsReduced};
-ghost use Rattle.gs_simplex.specs.Numbers.{IsReducedTo, IsDivided};
+ghost use Rattle.gs_rows.specs.Rows.{IsNarrow};
+ghost use Rattle.gs_simplex.specs.Numbers.{at, AllNarrow, AllWithin, AllAtMost, IsDivisor, IsShared, IsQuotient, IsWideQuotient};
+ghost use Rattle.gs_simplex.specs.Numbers.{IsMultiple, IsDivided, IsMixed, IsReducedTo};
 ghost use Rattle.gs_simplex.specs.Live.{IsSupport, IsChange};
 
 use crate::exact::{Divisor, short_gcd};
 use gs_frac::gcd;
 
-/// A number of 63 bits or more, and the column where it stands, from 0.
+/// Numbers below this size are narrow.
+pub(crate) const WIDE: u128 = 1 << 62;
+
+// Rows whose numbers are all below this size are not divided.
+const LONG: u64 = 1 << 30;
+
+/// A number that is not narrow, and its column, from 0.
 #[derive(Clone, Copy)]
 pub(crate) struct WideNumber {
     pub(crate) column: usize,
     pub(crate) number: i128,
 }
 
-/// The row of a pivot, from 0, as the other rows meet it: it clears `column`, and outside the first `count` places of `filled` its numbers are 0.
+/// The pivot row as the other rows meet it. It clears `column`, and its numbers are at most `most` in size. They are 0 outside the first `count` places of
+/// `filled`. Rows and columns count from 0.
 #[derive(Clone, Copy)]
 pub(crate) struct Lead<'a> {
     pub(crate) row: usize,
@@ -35,11 +43,10 @@ pub(crate) struct Lead<'a> {
     pub(crate) ghost support: { IsSupport filled.now count (length numbers.now) (at numbers.now) (at numbers.now) },
 }
 
-// The greatest size of a number at the first `found` places.
+// Returns a bound on the numbers of a row that is 0 outside the first `found` places: the greatest size.
 pub(crate) fn greatest(row: &[i64], places: &[u32], found: usize) -> u64
-    requires few { found ≤ length places.now }
-    requires inside { (k : ℕ) → k < found → slice_index places.now k < length row.now }
-    ensures { (k : ℕ) → k < found → unsigned_abs (at row.now (slice_index places.now k)) ≤ result }
+    requires support { IsSupport places.now found (length row.now) (at row.now) (at row.now) }
+    ensures { AllAtMost row.now result }
 {
     let mut most: u64 = 0;
     for k in 0..found {
@@ -48,7 +55,7 @@ pub(crate) fn greatest(row: &[i64], places: &[u32], found: usize) -> u64
     most
 }
 
-// `number` over `by`, which divides it, for narrow numbers.
+// Returns `number` over `by`, which divides it, for narrow numbers.
 fn narrow_quotient(number: i64, by: u64) -> i64
     requires some { 0 < by }
     requires small { by < 2 ^ 62 }
@@ -63,7 +70,7 @@ fn narrow_quotient(number: i64, by: u64) -> i64
     number / (by as i64)
 }
 
-// The same by the divisor's guess, and by division where that is none.
+// Returns `number` over `by`, which divides it, for narrow numbers: the divisor's guess, or the result of a division where there is none.
 fn guessed_quotient(number: i64, by: u64, divisor: &Divisor) -> i64
     requires same { divisor.now.number ≡ pos by }
     requires some { 0 < by }
@@ -79,7 +86,7 @@ fn guessed_quotient(number: i64, by: u64, divisor: &Divisor) -> i64
     }
 }
 
-// The greatest common divisor of a number above 0 and another one.
+// Returns the greatest common divisor of `own`, which is above 0, and `far`.
 fn shared(own: i64, far: i64) -> u64
     requires own { pos 0 <ℤ own }
     requires narrow { IsNarrow own }
@@ -94,7 +101,7 @@ fn shared(own: i64, far: i64) -> u64
     short_gcd(far.unsigned_abs(), own.unsigned_abs())
 }
 
-// Whether all sums of a product with `own` and one with `far` are narrow, where the numbers are at most `row` and `lead` in size.
+// Returns whether `own` times a number of at most `row` in size, less `far` times one of at most `lead`, is always narrow.
 fn stays_narrow(own: i64, far: i64, row: u64, lead: u64) -> bool
     requires narrow_own { IsNarrow own }
     requires narrow_far { IsNarrow far }
@@ -102,10 +109,40 @@ fn stays_narrow(own: i64, far: i64, row: u64, lead: u64) -> bool
 {
     let first = u128::from(own.unsigned_abs()) * u128::from(row);
     let second = u128::from(far.unsigned_abs()) * u128::from(lead);
-    first + second < 0x4000_0000_0000_0000
+    first + second < WIDE
 }
 
-// `own` times `x` less `far` times `y`, where that stays narrow.
+// Returns a bound on the size of such a difference, where it is narrow.
+fn mixed_most(own: i64, far: i64, row: u64, lead: u64) -> u64
+    requires { unsigned_abs own * row + unsigned_abs far * lead < 2 ^ 62 }
+    ensures { result ≡ unsigned_abs own * row + unsigned_abs far * lead }
+{
+    own.unsigned_abs() * row + far.unsigned_abs() * lead
+}
+
+// Returns a bound on the numbers of a row: the known one, `top`, where all products stay narrow by it, and otherwise the greatest size.
+fn known_or_greatest(
+    row: &[i64],
+    places: &[u32],
+    found: usize,
+    top: u64,
+    own: i64,
+    far: i64,
+    lead: u64,
+) -> u64
+    requires narrow_own { IsNarrow own }
+    requires narrow_far { IsNarrow far }
+    requires support { IsSupport places.now found (length row.now) (at row.now) (at row.now) }
+    requires bound { AllAtMost row.now top }
+    ensures { AllAtMost row.now result }
+{
+    if stays_narrow(own, far, top, lead) {
+        return top;
+    }
+    greatest(row, places, found)
+}
+
+// Returns `own` times `x` less `far` times `y`, where that stays narrow.
 fn narrow_mixed_number(own: i64, x: i64, far: i64, y: i64) -> i64
     requires { unsigned_abs own * unsigned_abs x + unsigned_abs far * unsigned_abs y < 2 ^ 62 }
     ensures value { result ≡ own *ℤ x -ℤ far *ℤ y }
@@ -114,7 +151,7 @@ fn narrow_mixed_number(own: i64, x: i64, far: i64, y: i64) -> i64
     own * x - far * y
 }
 
-// Which places change when a row becomes `own` times itself less `far` times the lead: those of the lead where `own` is 1, and otherwise all that the row has.
+// Returns the places that change when a row becomes `own` times itself less `far` times the lead, and their number. Where `own` is 1 they are the lead's.
 fn touched<'a>(lead: &Lead<'a>, own: i64, places: &'a [u32], found: usize) -> (&'a [u32], usize)
     ensures { let numbers = lead.now.numbers.now in (row : ℕ → ℤ) (far : ℤ) → IsSupport places.now found (length numbers) row (at numbers)
         → IsChange result.0.now result.1 (length numbers) row (at numbers) own far }
@@ -125,7 +162,7 @@ fn touched<'a>(lead: &Lead<'a>, own: i64, places: &'a [u32], found: usize) -> (&
     (places, found)
 }
 
-// Sets `row` to `own` times itself less `far` times `lead`, where that stays narrow. Outside the first `found` places that changes nothing.
+// Sets `row` to `own` times itself less `far` times `lead`, where that stays narrow and changes nothing outside the first `found` places.
 fn mix_narrow(lead: &[i64], row: &mut [i64], places: &[u32], found: usize, own: i64, far: i64)
     requires same_length { length lead.now ≡ length row.old }
     requires change { IsChange places.now found (length row.old) (at row.old) (at lead.now) own far }
@@ -143,7 +180,7 @@ fn mix_narrow(lead: &[i64], row: &mut [i64], places: &[u32], found: usize, own: 
     }
 }
 
-// `own` times `x` less `far` times `y`.
+// Returns `own` times `x` less `far` times `y` in 128 bits.
 fn mixed_number(own: i64, x: i64, far: i64, y: i64) -> i128
     requires narrow_own { IsNarrow own }
     requires narrow_x { IsNarrow x }
@@ -173,7 +210,7 @@ fn mix(lead: &[i64], row: &[i64], own: i64, far: i64, mixed: &mut [i128])
     }
 }
 
-// The greatest common divisor of the divisor so far, 0 for none, and one more number.
+// Returns the greatest common divisor of the divisor so far, 0 for none, and one more number.
 fn common_divisor(found: u128, number: u128) -> u128
     ensures { IsGcd found number result }
 {
@@ -187,7 +224,7 @@ fn common_divisor(found: u128, number: u128) -> u128
     gcd(found, number)
 }
 
-// The greatest number that divides all of `mixed`, 0 where all are 0.
+// Returns the greatest common divisor of `mixed`, 0 where all are 0.
 fn divisor(mixed: &[i128]) -> u128
     requires { AllWithin mixed.now }
     ensures { IsDivisor (length mixed.now) (at mixed.now) result }
@@ -202,7 +239,7 @@ fn divisor(mixed: &[i128]) -> u128
     found
 }
 
-// The greatest common divisor of the divisor so far, 0 for none, and a narrow number other than 0.
+// Returns the greatest common divisor of the divisor so far, 0 for none, and a narrow number other than 0.
 fn narrow_common_divisor(found: Divisor, number: i64) -> Divisor
     requires some { number ≢ pos 0 }
     requires narrow { IsNarrow number }
@@ -219,7 +256,7 @@ fn narrow_common_divisor(found: Divisor, number: i64) -> Divisor
     }
 }
 
-// `number` over `by`, which divides it.
+// Returns `number` over `by`, which divides it.
 fn quotient(number: i128, by: u128) -> i128
     requires some { 0 < by }
     requires divides { by ∣ unsigned_abs number }
@@ -234,13 +271,13 @@ fn quotient(number: i128, by: u128) -> i128
     if number == 0 {
         return 0;
     }
-    if by < 0x4000_0000_0000_0000 && number.unsigned_abs() < 0x4000_0000_0000_0000 {
+    if by < WIDE && number.unsigned_abs() < WIDE {
         return i128::from(number as i64 / by as i64);
     }
     number / (by as i128)
 }
 
-// Sets `row` to `mixed` over `by`, number by number, and answers the first quotient that is not narrow.
+// Sets `row` to `mixed` over `by`, number by number, and returns the first quotient that is not narrow.
 fn narrow_into(mixed: &[i128], by: u128, row: &mut [i64]) -> Option<WideNumber>
     requires room { length mixed.now ≡ length row.old }
     requires some { 0 < by }
@@ -251,7 +288,7 @@ fn narrow_into(mixed: &[i128], by: u128, row: &mut [i64]) -> Option<WideNumber>
 {
     for j in 0..mixed.len() {
         let number = quotient(mixed[j], by);
-        if number.unsigned_abs() >= 0x4000_0000_0000_0000 {
+        if number.unsigned_abs() >= WIDE {
             return Some(WideNumber { column: j, number });
         }
         row[j] = number as i64;
@@ -259,8 +296,8 @@ fn narrow_into(mixed: &[i128], by: u128, row: &mut [i64]) -> Option<WideNumber>
     None
 }
 
-// The greatest number that divides all of a row of narrow numbers that is 0 outside the first `found` places; 0 where all are 0. It begins with the last
-// place: in the programs of games the last columns are the slacks, whose numbers are small, so that 1 is found soon.
+// Returns the greatest common divisor of a narrow row that is 0 outside the first `found` places; 0 where all numbers are 0. It begins with the last place:
+// in the program of a game the last columns are the slacks, whose numbers are small, so 1 is found soon.
 fn narrow_divisor(row: &[i64], places: &[u32], found: usize) -> u64
     requires narrow { AllNarrow row.now }
     requires support { IsSupport places.now found (length row.now) (at row.now) (at row.now) }
@@ -296,22 +333,47 @@ fn divide_all(row: &mut [i64], places: &[u32], found: usize, by: u64)
     }
 }
 
-// Divides a row that is 0 outside the first `found` places by its greatest common divisor.
-#[tactic(auto, using(crate::proofs::Reduce::divided_row, crate::proofs::Reduce::undivided_row, crate::proofs::Reduce::divisor_narrow))]
-pub(crate) fn divide_row(row: &mut [i64], places: &[u32], found: usize)
+// Divides a row that is 0 outside the first `found` places by its greatest common divisor, and returns the divisor, at least 1.
+pub(crate) fn divide_row(row: &mut [i64], places: &[u32], found: usize) -> u64
     requires some { 0 < length row.old }
     requires narrow { AllNarrow row.old }
     requires support { IsSupport places.now found (length row.old) (at row.old) (at row.old) }
     ensures divided { IsDivided (length row.old) (at row.old) (at row.new) }
     ensures narrow { AllNarrow row.new }
+    ensures some { 0 < result }
+    ensures bound { (most : ℕ) → AllAtMost row.old most → AllAtMost row.new (most / result) }
 {
     let by = narrow_divisor(row, places, found);
     if by > 1 {
         divide_all(row, places, found, by);
+        return by;
     }
+    1
 }
 
-// Both numbers over the greatest common divisor, the first of which is above 0.
+// Divides a row by its greatest common divisor where a number of it is `LONG` or more in size, and returns a bound on its numbers. Before that the divisor
+// costs more than it saves. The numbers are at most `top` in size, and 0 outside the first `found` places.
+fn lessen(row: &mut [i64], places: &[u32], found: usize, top: u64) -> u64
+    requires some { 0 < length row.old }
+    requires narrow { AllNarrow row.old }
+    requires bound { AllAtMost row.old top }
+    requires support { IsSupport places.now found (length row.old) (at row.old) (at row.old) }
+    ensures multiple { IsMultiple (length row.old) (at row.old) (at row.new) }
+    ensures narrow { AllNarrow row.new }
+    ensures bound { AllAtMost row.new result }
+{
+    if top < LONG {
+        return top;
+    }
+    let most = greatest(row, places, found);
+    if most < LONG {
+        return most;
+    }
+    let by = divide_row(row, places, found);
+    most / by
+}
+
+// Returns both numbers over their greatest common divisor. The first is above 0.
 fn multipliers(own: i64, far: i64) -> (i64, i64)
     requires own { pos 0 <ℤ own }
     requires narrow_own { IsNarrow own }
@@ -324,35 +386,41 @@ fn multipliers(own: i64, far: i64) -> (i64, i64)
     (narrow_quotient(own, by), narrow_quotient(far, by))
 }
 
-// Clears the lead's column of `row`: `row` becomes the lead's number there times itself less its own number there times the lead, divided by all common
-// divisors. Outside the first `found` places both are 0. It answers the first number that is then not narrow; the row is left half done.
+// Clears the lead's column of `row`: the lead's number there times the row, less the row's number there times the lead, over a common divisor. Returns a
+// bound on the new numbers; or the first number that is not narrow even after division by the greatest common divisor, and then the row is half done. The
+// row's numbers are at most `top` in size. Row and lead are 0 outside the first `found` places.
 pub(crate) fn reduce_row(
     lead: &Lead<'_>,
     row: &mut [i64],
     mixed: &mut [i128],
     places: &[u32],
     found: usize,
-) -> Option<WideNumber>
+    top: u64,
+) -> Result<u64, WideNumber>
     requires support { IsSupport places.now found (length lead.now.numbers.now) (at row.old) (at lead.now.numbers.now) }
     requires long { length row.old ≡ length lead.now.numbers.now }
     requires room { length mixed.old ≡ length lead.now.numbers.now }
     requires narrow { AllNarrow row.old }
-    requires primitive { IsPrimitive (length lead.now.numbers.now - 1) (at row.old) }
-    ensures { MatchOption result (IsReduced (at lead.now.numbers.now) lead.now.column (length lead.now.numbers.now) (at row.old) (at row.new)
-        × AllNarrow row.new)
+    requires bound { AllAtMost row.old top }
+    ensures { MatchResult result
+        (λ most. IsMixed (at lead.now.numbers.now) lead.now.column (length lead.now.numbers.now) (at row.old) (at row.new)
+        × AllNarrow row.new × AllAtMost row.new most)
         (λ w. IsReducedTo (at lead.now.numbers.now) lead.now.column (length lead.now.numbers.now) (at row.old) w.column w.number) }
 {
     if row[lead.column] == 0 {
-        return None;
+        return Ok(top);
     }
     let (own, far) = multipliers(lead.numbers[lead.column], row[lead.column]);
-    let (changing, count) = touched(lead, own, places, found);
-    if stays_narrow(own, far, greatest(row, changing, count), lead.most) {
+    let near = known_or_greatest(row, places, found, top, own, far, lead.most);
+    if stays_narrow(own, far, near, lead.most) {
+        let (changing, count) = touched(lead, own, places, found);
         mix_narrow(lead.numbers, row, changing, count, own, far);
-        divide_row(row, places, found);
-        return None;
+        return Ok(lessen(row, places, found, mixed_most(own, far, near, lead.most)));
     }
     mix(lead.numbers, row, own, far, mixed);
     let by = divisor(mixed).max(1);
-    narrow_into(mixed, by, row)
+    match narrow_into(mixed, by, row) {
+        None => Ok(WIDE as u64),
+        Some(wide) => Err(wide),
+    }
 }

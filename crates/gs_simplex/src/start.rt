@@ -1,11 +1,11 @@
-//! The rows of the empty list: the program's, each divided by its greatest common divisor.
+//! The table of the empty list: the program's rows, each divided by its greatest common divisor.
 
 ghost use Rattle.std.specs.Prelude.{◌≡◌, ℕ, ◌+◌, ◌-◌, ◌*◌, ◌^◌, ◌<◌, ◌≤◌, ◌++◌, [], ◌∷◌, ◌⊎◌, length, OnOk, IfOk};
 ghost use Rattle.gs_rows.specs.Program.{IsShaped};
 ghost use Rattle.gs_simplex.specs.{Numbers.{at, cell, AllNarrow, IsDivided}, State.{IsRaw, IsStart}};
 
 use crate::live::{Live, fill};
-use crate::row::divide_row;
+use crate::row::{WIDE, divide_row};
 use crate::table::Table;
 use gs_rows::Program;
 use std::alloc::{AllocError, Global};
@@ -19,7 +19,7 @@ fn push_row(numbers: &mut Vec<i64>, row: &[i64], last: i64) -> Result<(), AllocE
     Ok(())
 }
 
-// The program's rows and the aim's, as they stand in a table but not yet divided.
+// Returns the program's rows and the aim's row as they stand in a table, not yet divided.
 fn raw_numbers(alloc: Global, p: &Program) -> Result<Vec<i64>, AllocError>
     requires shaped { IsShaped p.now }
     requires small { (p.now.rows + 1) * (p.now.cols + 1) ≤ 1048576 }
@@ -35,7 +35,7 @@ fn raw_numbers(alloc: Global, p: &Program) -> Result<Vec<i64>, AllocError>
     Ok(numbers)
 }
 
-// Divides the row of this width that begins at `start`. Where it is not 0 is listed in `filled`.
+// Divides the row of this width that begins at `start` by its greatest common divisor. Lists in `filled` the places where it is not 0.
 fn divide_at(numbers: &mut [i64], start: usize, width: usize, filled: &mut [u32])
     requires inside { start + width ≤ length numbers.old }
     requires some { 0 < width }
@@ -52,7 +52,7 @@ fn divide_at(numbers: &mut [i64], start: usize, width: usize, filled: &mut [u32]
     divide_row(row, filled, count);
 }
 
-// Divides each of the first `count` rows, which have this width.
+// Divides each of the first `count` rows, which have this width, by its greatest common divisor.
 fn divide_rows(numbers: &mut [i64], count: usize, width: usize, filled: &mut [u32])
     requires long { (count + 1) * width ≡ length numbers.old }
     requires some { 0 < width }
@@ -69,7 +69,7 @@ fn divide_rows(numbers: &mut [i64], count: usize, width: usize, filled: &mut [u3
 }
 
 impl Table {
-    // The rows of the empty list.
+    // Returns the table of the empty list.
     pub(crate) fn start(alloc: Global, p: &Program) -> Result<Table, AllocError>
         requires small_rows { p.now.rows < 2 ^ 31 }
         requires small_cols { p.now.cols < 2 ^ 31 }
@@ -83,10 +83,13 @@ impl Table {
         let mixed = vec![in alloc; 0i128; width]?;
         let mut live = Live::room(alloc, p)?;
         divide_rows(&mut numbers, p.rows as usize, width, &mut live.filled);
+        // every number is narrow, and so below this bound
+        let tops = vec![in alloc; WIDE as u64; p.rows as usize + 1]?;
         Ok(Table {
             numbers,
             lead,
             mixed,
+            tops,
             live,
         })
     }

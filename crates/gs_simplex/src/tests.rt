@@ -1,7 +1,7 @@
 ghost use Rattle.std.specs.Prelude.{◌≡◌, ℕ, ◌+◌, ◌-◌, ◌*◌, ◌<◌, ◌≤◌, ◌^◌, IsTrue, IfOk, [], length, map, take, slice_index_or};
 ghost use Rattle.std.specs.Vec.{vec_items};
-ghost use Rattle.gs_rows.specs.Program.{IsShaped, IsOpening, IsPairList, IsRowsOf, IsFree};
-ghost use Rattle.gs_simplex.specs.{Numbers.{AllNarrow}, Table.{table_rows, table_aim, IsTable}, State.{IsStart}, Answer.{IsSmall}};
+ghost use Rattle.gs_rows.specs.Program.{IsShaped, IsOpening, IsPairList, IsFree};
+ghost use Rattle.gs_simplex.specs.{Numbers.{AllNarrow}, Table.{table_rows, IsTable, IsTableOf}, State.{IsStart}, Answer.{IsSmall}};
 ghost use Rattle.gs_simplex.specs.Conditions.{IsWideRow, IsNewPair, CanTakeAt, IsTaken, HasFeasibleSides};
 
 use super::*;
@@ -71,7 +71,7 @@ fn in_range(p: &Program, pair: (u32, u32)) -> bool
 fn can_take(p: &Program, numbers: &[i64], opening: &[(u32, u32)], step: usize) -> bool
     requires inside { step < length opening.now }
     requires table { IsTable p.now numbers.now }
-    requires rows { IsRowsOf p.now (take step opening.now) (table_rows p.now numbers.now) (table_aim p.now numbers.now) }
+    requires rows { IsTableOf p.now (take step opening.now) numbers.now }
     ensures { IsTrue result → CanTakeAt p.now (table_rows p.now numbers.now) opening.now step }
 {
     let (row, column) = opening[step];

@@ -1,11 +1,11 @@
 use Rattle.std.proofs.Common.{Result, Ok, Err, ◌≡◌, ℕ, ◌+◌, List, ◌++◌, ℤ, length, take, drop, sym, subst, ◌∙◌, arith}
 use Rattle.std.proofs.lemmas.List.{take_at}
 use Rattle.gs_rows.specs.declared.Program.{Program}
-use Rattle.gs_rows.specs.Program.{Listing, IsRowsOf}
+use Rattle.gs_rows.specs.Program.{Listing}
 use Rattle.gs_rows.specs.Path.{PathStops, ends}
 use Rattle.gs_simplex.specs.declared.answer.Best.{Best}
 use Rattle.gs_simplex.specs.declared.table.Table.{Table}
-use Rattle.gs_simplex.specs.Table.{table_rows, table_aim}
+use Rattle.gs_simplex.specs.Table.{IsTableOf}
 use Rattle.gs_simplex.specs.State.{IsEnd}
 use Rattle.gs_simplex.specs.Answer.{IsSmall, IsStop, IsAnswer, IsBest, IsBestAt, IsBestTable}
 use Rattle.std.specs.Result.{IsErrAnd}
@@ -16,22 +16,22 @@ use Rattle.gs_simplex.proofs.run.Goals as goal
 taken : (n : ℕ) (xs ys : Listing) → length xs ≡ n → take n (xs ++ ys) ≡ xs
 taken n xs ys e = take_at xs ys n e
 
-end_rows : (p : Program) (o : Listing) (limit n : ℕ) (l l' : Listing) (t : Table) (xs : List ℤ) → IsEnd p o limit n l t → l' ≡ l → xs ≡ t.numbers.items → IsRowsOf p l' (table_rows p xs) (table_aim p xs)
+end_rows : (p : Program) (o : Listing) (limit n : ℕ) (l l' : Listing) (t : Table) (xs : List ℤ) → IsEnd p o limit n l t → l' ≡ l → xs ≡ t.numbers.items → IsTableOf p l' xs
 end_rows p o limit n l l' t xs u el ex =
-    let P : Listing → Type 0 = λ x. IsRowsOf p x (table_rows p xs) (table_aim p xs) in let Q : List ℤ → Type 0 = λ x. IsRowsOf p l (table_rows p x) (table_aim p x) in
+    let P : Listing → Type 0 = λ x. IsTableOf p x xs in let Q : List ℤ → Type 0 = λ x. IsTableOf p l x in
     subst P (sym el) (subst Q (sym ex) (rows_of_so_far p o (length o + n) l t.numbers.items u.state.so_far))
 
-best_of : (p : Program) (o : Listing) (limit n : ℕ) (l l' : Listing) (t : Table) (xs : List ℤ) (b : Best) → IsSmall p → IsEnd p o limit n l t → l' ≡ l → xs ≡ t.numbers.items → IsBestTable p xs l' n b → IsBest p o limit b
-best_of p o limit n l l' t xs b small u el ex w =
+best_of : (p : Program) (o : Listing) (limit n : ℕ) (l l' : Listing) (t : Table) (b : Best) → IsSmall p → IsEnd p o limit n l t → l' ≡ l → IsBestTable p l' n b → IsBest p o limit b
+best_of p o limit n l l' t b small u el w =
     let stop : PathStops p o limit (ends n l) = ends_stops p o limit n l t.numbers.items u.state.so_far u.state.table u.within u.none in
     let P : ℕ → Type 0 = λ k. PathStops p o limit (ends k b.basis.items) in let Q : Listing → Type 0 = λ x. PathStops p o limit (ends n x) in
-    let B : Listing → Type 0 = λ x. IsBestAt p x (table_rows p xs) (table_aim p xs) b.value.items b.price.items in
+    let B : Listing → Type 0 = λ x. IsBestAt p x w.best.0 w.best.1 b.value.items b.price.items in
     record {
       small = small;
       stops = subst P (sym w.pivots_are) (subst Q (sym (w.basis_is ∙ el)) stop);
       values = w.values;
       prices = w.prices;
-      last = (table_rows p xs, table_aim p xs, subst B (sym w.basis_is) w.best);
+      last = (w.best.0, w.best.1, subst B (sym w.basis_is) w.best.2);
     }
 
 err_answer : (p : Program) (o : Listing) (limit : ℕ) (r : Result Best Stop) (s : Stop) → IsErrAnd r (λ x. x ≡ s) → IsStop p o limit s → IsAnswer p o limit r
@@ -51,5 +51,5 @@ best-requires-clause-rows c =
 pub returns : goal.returns
 returns c =
     let l = c.follow.new.basis in let b = c.in_ok-basis.field-0.basis in
-    best_of c.args.p.now c.args.opening.now c.args.limit c.in_ok-pivots.pivots l (take b.len (l ++ drop (length l) b.items)) c.follow.new.table c.deref.result.now c.in_ok-best.field-0 c.in_ok-basis.ensures.small c.in_ok-pivots.ensures
-    (taken b.len l (drop (length l) b.items) (omega (arith, c.follow.auto.basis, c.deref_mut.ensures.len))) c.deref.ensures.value c.in_ok-best.ensures
+    best_of c.args.p.now c.args.opening.now c.args.limit c.in_ok-pivots.pivots l (take b.len (l ++ drop (length l) b.items)) c.follow.new.table c.in_ok-best.field-0 c.in_ok-basis.ensures.small c.in_ok-pivots.ensures
+    (taken b.len l (drop (length l) b.items) (omega (arith, c.follow.auto.basis, c.deref_mut.ensures.len))) c.in_ok-best.ensures

@@ -1,4 +1,4 @@
-use Rattle.std.proofs.Common.{Result, Ok, Err, ◌≡◌, ℕ, suc, ◌+◌, List, ℤ, pos, ◌<ℤ◌, length, sym, subst, arith}
+use Rattle.std.proofs.Common.{Result, Ok, Err, ◌≡◌, ℕ, ◌+◌, List, ℤ, pos, ◌<ℤ◌, length, sym, subst}
 use Rattle.gs_rows.specs.declared.Program.{Program}
 use Rattle.gs_rows.specs.Program.{Listing}
 use Rattle.gs_rows.specs.Path.{NoneEnters}
@@ -9,7 +9,8 @@ use Rattle.gs_simplex.specs.State.{IsSoFar}
 use Rattle.gs_simplex.specs.Answer.{IsStop}
 use Rattle.gs_simplex.specs.Trace.{IsTraceAnswer}
 use Rattle.std.specs.Result.{IsErrAnd}
-use Rattle.gs_simplex.proofs.Paths.{rows_of_so_far}
+use Rattle.gs_simplex.proofs.Paths.{rows_at}
+use Rattle.gs_simplex.proofs.Kept.{multiple_kept}
 use Rattle.gs_simplex.proofs.Traces.{trace_of}
 use Rattle.gs_simplex.proofs.trace.Goals as goal
 
@@ -19,8 +20,7 @@ err_answer p o limit (Err x) s e h = let P : Stop → Type 0 = λ y. IsStop p o 
 
 multiple_of : (p : Program) (o : Listing) (t : ℕ) (l : Listing) (xs : List ℤ) → IsSoFar p o t l xs → pos 0 <ℤ table_aim p xs (p.cols + 1)
 multiple_of p o t l xs u =
-    let e : suc p.cols ≡ p.cols + 1 = omega arith in
-    let P : ℕ → Type 0 = λ k. pos 0 <ℤ table_aim p xs k in subst P e (rows_of_so_far p o t l xs u).aim_row.2.multiple
+    multiple_kept p xs (u.states.0.rows t) (u.states.0.aim t) u.states.3 (rows_at p o t l xs u).aim_row.2.multiple
 
 same_so_far : (p : Program) (o : Listing) (t : ℕ) (l : Listing) (xs ys : List ℤ) → ys ≡ xs → IsSoFar p o t l xs → IsSoFar p o t l ys
 same_so_far p o t l xs ys e u = let P : List ℤ → Type 0 = λ x. IsSoFar p o t l x in subst P (sym e) u

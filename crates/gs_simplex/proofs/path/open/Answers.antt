@@ -1,14 +1,14 @@
 use Rattle.std.proofs.Common.{◌+◌, take, sym, subst, arith}
 use Rattle.gs_simplex.specs.declared.answer.Stop.{Stop}
-use Rattle.gs_simplex.specs.Table.{IsTableAfter, IsWideAfter}
+use Rattle.gs_simplex.specs.Table.{HasTops, IsTableAfter, IsWideAfter}
 use Rattle.gs_simplex.specs.Answer.{IsStop}
-use Rattle.gs_simplex.proofs.Paths.{rows_of_so_far, so_far_start, none_of, open_nonzero, open_wide, open_pairs, open_next, opening_pairs, empty_pairs}
+use Rattle.gs_simplex.proofs.Paths.{rows_of_so_far, so_far_start, none_of, if_none, open_nonzero, open_wide, open_pairs, open_next, opening_pairs, empty_pairs}
 use Rattle.gs_simplex.proofs.path.open.Goals as goal
 
 pub loop-step-init : goal.loop-step-init
 loop-step-init c =
     let s = c.requires.start in let p = c.args.p.now in
-    record { room = s.room; table = s.table; pairs = empty_pairs p; so_far = so_far_start p c.args.opening.now c.args.table.now.numbers.items s.rows }
+    record { room = s.room; table = s.table; tops = s.tops; pairs = empty_pairs p; so_far = so_far_start p c.args.opening.now c.args.table.now.numbers.items s.rows }
 
 pub pair_at-row-requires-clause-pairs : goal.pair_at-row-requires-clause-pairs
 pair_at-row-requires-clause-pairs c = opening_pairs c.args.p.now c.args.opening.now c.requires.opens
@@ -46,6 +46,7 @@ loop-step-preserved c =
     record {
       room = c.list.ensures.room;
       table = a.table;
+      tops = if_none c.list.result (HasTops p new c.list.new.self.tops.items) c.in_default.is c.list.ensures.tops;
       pairs = open_pairs p o t r k xs c.requires.opens c.loop-step-test.true c.pair_at-row.ensures.pair v.table v.so_far (t + 1) (omega (arith, c.loop-step-test.true));
       so_far = open_next p o t r k xs c.requires.opens c.loop-step-test.true c.pair_at-row.ensures.pair v.table v.so_far new a;
     }

@@ -1,18 +1,17 @@
 use Rattle.std.proofs.Common.{◌≡◌, ℕ, ◌+◌, ℤ, List, length, Some, sym, subst, arith}
-use Rattle.gs_rows.specs.Program.{IsRowsOf}
 use Rattle.gs_rows.specs.Path.{Enters, NoneLeaves, PathStops, wide}
 use Rattle.gs_simplex.specs.declared.answer.Stop.{Stop}
-use Rattle.gs_simplex.specs.Table.{table_rows, table_aim, stated}
+use Rattle.gs_simplex.specs.Table.{table_rows, table_aim, IsTableOf, HasTops, stated}
 use Rattle.gs_simplex.specs.Choice.{IsLeaving}
 use Rattle.gs_simplex.specs.State.{IsSoFar, IsPivoted, IsWidePivot}
 use Rattle.gs_simplex.specs.Answer.{IsStop}
-use Rattle.gs_simplex.proofs.Paths.{rows_of_so_far, turn_at, none_of, pivots_stops, unbounded_stops, pivot_next, pivot_wide}
+use Rattle.gs_simplex.proofs.Paths.{rows_of_so_far, turn_at, none_of, if_none, pivots_stops, unbounded_stops, pivot_next, pivot_wide}
 use Rattle.gs_simplex.proofs.path.step.Goals as goal
 
 pub choose-requires-clause-rows : goal.choose-requires-clause-rows
 choose-requires-clause-rows c =
     let p = c.args.p.now in let o = c.args.opening.now in let l = c.args.basis.now in
-    let P : List ℤ → Type 0 = λ x. IsRowsOf p l (table_rows p x) (table_aim p x) in
+    let P : List ℤ → Type 0 = λ x. IsTableOf p l x in
     subst P (sym c.deref.ensures.value) (rows_of_so_far p o (length o + c.args.made) l c.args.table.now.numbers.items c.requires.state.so_far)
 
 pub returns-in-Unbounded : goal.returns-in-Unbounded
@@ -20,7 +19,7 @@ returns-in-Unbounded c =
     let p = c.args.p.now in let o = c.args.opening.now in let l = c.args.basis.now in let e = c.in-Unbounded.column in let v = c.requires.state in
     let P : List ℤ → Type 0 = λ x. (Enters p l (table_aim p x) e) × NoneLeaves p l (table_rows p x) e in
     let w = subst P c.deref.ensures.value c.in-Unbounded.ensures in
-    (c.requires.small, unbounded_stops p o c.args.limit c.args.made l c.args.table.now.numbers.items e v.so_far v.table c.requires.within w.0 w.1)
+    (c.requires.small, unbounded_stops p o c.args.limit c.args.made l c.args.table.now.numbers.items e v.pairs v.so_far v.table c.requires.within w.0 w.1)
 
 pub returns-then-made-limit : goal.returns-then-made-limit
 returns-then-made-limit c =
@@ -28,7 +27,7 @@ returns-then-made-limit c =
     let P : List ℤ → Type 0 = λ x. (Enters p l (table_aim p x) e) × IsLeaving p l (table_rows p x) e (Some c.in-Leaves.place) in
     let w = subst P c.deref.ensures.value c.in-Leaves.ensures in
     let T : ℕ → Type 0 = λ k. IsSoFar p o (length o + k) l xs in
-    (c.requires.small, pivots_stops p o c.args.limit l xs e w.1.0 w.1.1 (subst T c.if-made-limit.true v.so_far) v.table w.0 w.1.4)
+    (c.requires.small, pivots_stops p o c.args.limit l xs e w.1.0 w.1.1 v.pairs (subst T c.if-made-limit.true v.so_far) v.table w.0 w.1.4)
 
 pub pivot-requires-clause-rows : goal.pivot-requires-clause-rows
 pivot-requires-clause-rows c =
@@ -59,7 +58,7 @@ returns-in_default c =
     let s : t + 1 ≡ length o + (c.args.made + 1) = omega arith in
     let T : ℕ → Type 0 = λ k. IsSoFar p o k next new in
     record {
-      state = record { room = c.pivot.ensures.room; table = n.0; pairs = n.1; so_far = subst T s n.2 };
+      state = record { room = c.pivot.ensures.room; table = n.0; tops = if_none c.pivot.result (HasTops p new c.pivot.new.table.tops.items) c.in_default.is c.pivot.ensures.tops; pairs = n.1; so_far = subst T s n.2 };
       within = omega (arith, c.requires.within, c.if-made-limit.false);
       pivot = turn_at p o c.args.made l xs q e (c.pair_at-leaving.result.0) (c.pair_at-leaving.result.1) next new c.requires.opens v.pairs v.so_far f.0 f.1 c.pair_at-leaving.ensures.pair n.2;
     }

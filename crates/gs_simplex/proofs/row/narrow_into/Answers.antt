@@ -38,8 +38,8 @@ more by mixed row j z m h e s f g inv =
       narrow = below_more (λ i. unsigned_abs (at new i) < 2 ^ 62) j (λ i l. let P : ℤ → Type 0 = λ t. unsigned_abs t < 2 ^ 62 in subst P (sym (other i l)) (inv.narrow i l)) (let P : ℤ → Type 0 = λ t. unsigned_abs t < 2 ^ 62 in subst P (sym here) narrow);
     }
 
-pub returns-then-unsigned_abs-ge4611686018427387904 : goal.returns-then-unsigned_abs-ge4611686018427387904
-returns-then-unsigned_abs-ge4611686018427387904 c =
+pub returns-then-unsigned_abs-ge-WIDE : goal.returns-then-unsigned_abs-ge-WIDE
+returns-then-unsigned_abs-ge-WIDE c =
     let P : ℤ → Type 0 = λ t. IsWideQuotient c.args.by c.args.mixed.now c.loop-j.j t in
     subst P (sym (kept_128 c.quotient-number.result (omega (arith, c.quotient-number.ensures.small_result))))
     (broad c.args.by c.args.mixed.now c.loop-j.row c.loop-j.j c.quotient-number.result c.unsigned_abs.result c.loop-j-test.true

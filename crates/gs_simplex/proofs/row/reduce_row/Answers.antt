@@ -1,11 +1,11 @@
-use Rattle.std.proofs.Common.{◌≡◌, MatchOption, Some, None, ℕ, ◌+◌, ◌*◌, ◌<◌, ◌≤◌, ◌^◌, ℤ, pos, ◌-ℤ◌, ◌*ℤ◌, ◌<ℤ◌, unsigned_abs, length, slice_index, to_z, of_z, w64, sym, ap, subst, ◌∙◌, arith}
+use Rattle.std.proofs.Common.{◌≡◌, ℕ, ◌+◌, ◌*◌, ◌<◌, ◌≤◌, ◌^◌, ℤ, pos, ◌-ℤ◌, ◌*ℤ◌, ◌<ℤ◌, unsigned_abs, length, slice_index, to_z, of_z, w64, sym, ap, subst, ◌∙◌, arith}
 use Rattle.gs_rows.specs.Rows.{IsNarrow}
-use Rattle.gs_simplex.specs.Numbers.{at, AllNarrow, IsShared, IsQuotient, IsWideQuotient, IsReduced, IsReducedTo, IsDivided}
+use Rattle.gs_simplex.specs.Numbers.{at, IsShared, IsMultiple}
 use Rattle.std.proofs.lemmas.Nat.{mul-le}
 use Rattle.gs_simplex.specs.Live.{IsSupport, IsChange}
-use Rattle.gs_simplex.proofs.Fits.{kept_64, narrow_passed}
-use Rattle.gs_simplex.proofs.Lives.{support_mixed}
-use Rattle.gs_simplex.proofs.Reduce.{kept_reduced, divisor_small, by_divides, reduced_divided, reduced_from, reduced_wide}
+use Rattle.gs_simplex.proofs.Fits.{kept_64, narrow_passed, difference_bound}
+use Rattle.gs_simplex.proofs.Lives.{support_mixed, support_row}
+use Rattle.gs_simplex.proofs.Reduce.{kept_mixed, divisor_small, by_divides, mixed_times, reduced_from, reduced_wide}
 use Rattle.gs_simplex.proofs.row.reduce_row.Goals as goal
 use Rattle.gs_simplex.proofs.row.reduce_row.Goals.{After-touched-count}
 
@@ -17,7 +17,7 @@ pub returns-then-row-lead-eq0 : goal.returns-then-row-lead-eq0
 returns-then-row-lead-eq0 c =
     let q = c.requires in let l = c.args.lead.now in let lead = l.numbers.now in let row = c.args.row.now in
     let zero : at row l.column ≡ pos 0 = stored_zero (at row l.column) (q.narrow l.column (omega (arith, q.long, l.inside))) c.if-row-lead-eq0.true in
-    (kept_reduced (at lead) (at row) l.column (length lead) l.own zero q.primitive, q.narrow)
+    (kept_mixed (at lead) (at row) l.column (length lead) l.own zero, q.narrow, q.bound)
 
 -- the multipliers and the numbers that they are of are narrow as they are passed
 pub multipliers-own-requires-clause-own : goal.multipliers-own-requires-clause-own
@@ -56,11 +56,17 @@ changed c =
 pub mix_narrow-requires-clause-change : goal.mix_narrow-requires-clause-change
 mix_narrow-requires-clause-change c = changed (goal.at.mix_narrow-requires-clause-change c).After-touched-count
 
-pub greatest-requires-clause-few : goal.greatest-requires-clause-few
-greatest-requires-clause-few c = (changed (goal.at.greatest-requires-clause-few c).After-touched-count).few
+pub known_or_greatest-near-requires-clause-narrow_own : goal.known_or_greatest-near-requires-clause-narrow_own
+known_or_greatest-near-requires-clause-narrow_own c = narrow_passed c.multipliers-own.result.0 c.multipliers-own.ensures.narrow_own
 
-pub greatest-requires-clause-inside : goal.greatest-requires-clause-inside
-greatest-requires-clause-inside c = (changed (goal.at.greatest-requires-clause-inside c).After-touched-count).inside
+pub known_or_greatest-near-requires-clause-narrow_far : goal.known_or_greatest-near-requires-clause-narrow_far
+known_or_greatest-near-requires-clause-narrow_far c = narrow_passed c.multipliers-own.result.1 c.multipliers-own.ensures.narrow_far
+
+pub known_or_greatest-near-requires-clause-support : goal.known_or_greatest-near-requires-clause-support
+known_or_greatest-near-requires-clause-support c =
+    let row = at c.args.row.now in
+    let P : ℕ → Type 0 = λ w. IsSupport c.args.places.now c.args.found w row row in
+    subst P (sym c.requires.long) (support_row c.args.places.now c.args.found (length c.args.lead.now.numbers.now) row (at c.args.lead.now.numbers.now) c.requires.support)
 
 -- a bound on the numbers bounds their products
 products_below : (a b x y most top : ℕ) → x ≤ most → y ≤ top → a * most + b * top < 2 ^ 62 → a * x + b * y < 2 ^ 62
@@ -70,13 +76,23 @@ pub mix_narrow-requires-clause-narrow : goal.mix_narrow-requires-clause-narrow
 mix_narrow-requires-clause-narrow c = λ k h.
     let l = c.args.lead.now in let j = slice_index c.touched-count.result.0.now k in
     let inside : j < length c.args.row.now = (changed (goal.at.mix_narrow-requires-clause-narrow c).After-touched-count).inside k h in
-    products_below _ _ (unsigned_abs (at c.args.row.now j)) (unsigned_abs (at l.numbers.now j)) c.greatest.result l.most (c.greatest.ensures k h) (l.bound j (omega (arith, c.requires.long))) (c.stays_narrow.ensures c.if-stays_narrow.true)
+    products_below _ _ (unsigned_abs (at c.args.row.now j)) (unsigned_abs (at l.numbers.now j)) c.known_or_greatest-near.result l.most (c.known_or_greatest-near.ensures j inside) (l.bound j (omega (arith, c.requires.long))) (c.stays_narrow.ensures c.if-stays_narrow.true)
 
-pub divide_row-requires-clause-support : goal.divide_row-requires-clause-support
-divide_row-requires-clause-support c =
+pub lessen-requires-clause-support : goal.lessen-requires-clause-support
+lessen-requires-clause-support c =
     let lead = c.args.lead.now.numbers.now in let row = c.args.row.now in let mid = c.mix_narrow.new.row in let m = c.multipliers-own in
     let P : ℕ → Type 0 = λ w. IsSupport c.args.places.now c.args.found w (at mid) (at mid) in
     subst P (sym (c.mix_narrow.auto.row ∙ c.requires.long)) (support_mixed c.args.places.now c.args.found (length lead) (at row) (at lead) (at mid) (to_z w64 (of_z w64 m.result.0)) (to_z w64 (of_z w64 m.result.1)) c.requires.support (λ j h. c.mix_narrow.ensures.mixed j (omega (arith, c.requires.long))))
+
+pub lessen-requires-clause-bound : goal.lessen-requires-clause-bound
+lessen-requires-clause-bound c = λ j h.
+    let l = c.args.lead.now in let row = c.args.row.now in let m = c.multipliers-own.result in let most = c.known_or_greatest-near in
+    let inside : j < length row = omega (arith, c.mix_narrow.auto.row) in
+    let e : at c.mix_narrow.new.row j ≡ to_z w64 (of_z w64 m.0) *ℤ at row j -ℤ to_z w64 (of_z w64 m.1) *ℤ at l.numbers.now j = c.mix_narrow.ensures.mixed j inside in
+    let b : unsigned_abs (at c.mix_narrow.new.row j) ≤ unsigned_abs (to_z w64 (of_z w64 m.0)) * most.result + unsigned_abs (to_z w64 (of_z w64 m.1)) * l.most =
+    (let P : ℤ → Type 0 = λ t. unsigned_abs t ≤ unsigned_abs (to_z w64 (of_z w64 m.0)) * most.result + unsigned_abs (to_z w64 (of_z w64 m.1)) * l.most in
+    subst P (sym e) (difference_bound (to_z w64 (of_z w64 m.0)) (at row j) (to_z w64 (of_z w64 m.1)) (at l.numbers.now j) most.result l.most (most.ensures j inside) (l.bound j (omega (arith, c.requires.long))))) in
+    omega (arith, b, c.mixed_most.ensures)
 
 pub narrow_into-requires-clause-small : goal.narrow_into-requires-clause-small
 narrow_into-requires-clause-small c =
@@ -107,27 +123,35 @@ returns-then-stays_narrow c =
     let inside : k < length lead = c.args.lead.now.inside in
     let long : length mid ≡ length lead = omega (arith, c.mix_narrow.auto.row, c.requires.long) in
     let sh = stored_shared (at lead k) (at row k) m.result.0 m.result.1 (c.args.lead.now.narrow k inside) (c.requires.narrow k (omega (arith, c.requires.long))) m.ensures.narrow_own m.ensures.narrow_far m.ensures.shared in (
-      reduced_divided (at lead) (at row) (at mid) (at c.divide_row.new.row) k (length lead) (to_z w64 (of_z w64 m.result.0)) (to_z w64 (of_z w64 m.result.1)) sh (λ j l. c.mix_narrow.ensures.mixed j (omega (arith, c.requires.long)))
-          (let P : ℕ → Type 0 = λ t. IsDivided t (at mid) (at c.divide_row.new.row) in subst P long c.divide_row.ensures.divided),
-      c.divide_row.ensures.narrow,
+      mixed_times (at lead) (at row) (at mid) (at c.lessen.new.row) k (length lead) (to_z w64 (of_z w64 m.result.0)) (to_z w64 (of_z w64 m.result.1)) sh (λ j l. c.mix_narrow.ensures.mixed j (omega (arith, c.requires.long)))
+          (let P : ℕ → Type 0 = λ t. IsMultiple t (at mid) (at c.lessen.new.row) in subst P long c.lessen.ensures.multiple),
+      c.lessen.ensures.narrow,
+      c.lessen.ensures.bound,
     )
 
-pub returns : goal.returns
-returns c =
-    let lead = c.args.lead.now.numbers.now in let row = c.args.row.now in let mixed = c.mix.new.mixed in let new = c.narrow_into.new.row in let k = c.args.lead.now.column in let m = c.multipliers-own in
+pub returns-in-None : goal.returns-in-None
+returns-in-None c =
+    let lead = c.args.lead.now.numbers.now in let row = c.args.row.now in let mixed = c.mix.new.mixed in let k = c.args.lead.now.column in let m = c.multipliers-own in
     let inside : k < length lead = c.args.lead.now.inside in
     let long : length mixed ≡ length lead = omega (arith, c.mix.auto.mixed, c.requires.long, c.requires.room) in
     let some : 0 < length lead = omega arith in
     let sh = stored_shared (at lead k) (at row k) m.result.0 m.result.1 (c.args.lead.now.narrow k inside) (c.requires.narrow k (omega (arith, c.requires.long))) m.ensures.narrow_own m.ensures.narrow_far m.ensures.shared in
     let own = to_z w64 (of_z w64 m.result.0) in let far = to_z w64 (of_z w64 m.result.1) in
     let is : (j : ℕ) → j < length lead → at mixed j ≡ own *ℤ at row j -ℤ far *ℤ at lead j = λ j l. c.mix.ensures.mixed j (omega (arith, c.requires.long)) in
-    let u = c.divisor.ensures in
-    let by = c.max-by.result in
-    elim c.narrow_into.result as (λ r. MatchOption r (IsQuotient by mixed new (length mixed)) (λ w. IsWideQuotient by mixed w.column w.number)
-    → MatchOption r (IsReduced (at lead) k (length lead) (at row) (at new) × AllNarrow new) (λ w. IsReducedTo (at lead) k (length lead) (at row) w.column w.number)) [
-      | None ↦ λ q. (
-        reduced_from (at lead) (at row) k (length lead) c.divisor.result by own far mixed sh some long is u c.max-by.ensures (at new) (λ j l. q.each j (omega arith)),
-        λ j l. q.narrow j (omega arith),
-      )
-      | Some w ↦ λ q. reduced_wide (at lead) (at row) k (length lead) c.divisor.result by own far mixed sh some long is u c.max-by.ensures w.column w.number q
-    ] c.narrow_into.ensures
+    let new = c.narrow_into.new.row in let q = c.in-None.ensures in
+    let same : length new ≡ length mixed = omega (arith, c.narrow_into.auto.row, c.requires.long) in (
+      (reduced_from (at lead) (at row) k (length lead) c.divisor.result c.max-by.result own far mixed sh some long is c.divisor.ensures c.max-by.ensures (at new) (λ j l. q.each j (omega arith))).multiple,
+      λ j l. q.narrow j (omega arith),
+      λ j l. (let n : unsigned_abs (at new j) < 2 ^ 62 = q.narrow j (omega arith) in omega arith),
+    )
+
+pub returns-in-Some : goal.returns-in-Some
+returns-in-Some c =
+    let lead = c.args.lead.now.numbers.now in let row = c.args.row.now in let mixed = c.mix.new.mixed in let k = c.args.lead.now.column in let m = c.multipliers-own in
+    let inside : k < length lead = c.args.lead.now.inside in
+    let long : length mixed ≡ length lead = omega (arith, c.mix.auto.mixed, c.requires.long, c.requires.room) in
+    let some : 0 < length lead = omega arith in
+    let sh = stored_shared (at lead k) (at row k) m.result.0 m.result.1 (c.args.lead.now.narrow k inside) (c.requires.narrow k (omega (arith, c.requires.long))) m.ensures.narrow_own m.ensures.narrow_far m.ensures.shared in
+    let own = to_z w64 (of_z w64 m.result.0) in let far = to_z w64 (of_z w64 m.result.1) in
+    let is : (j : ℕ) → j < length lead → at mixed j ≡ own *ℤ at row j -ℤ far *ℤ at lead j = λ j l. c.mix.ensures.mixed j (omega (arith, c.requires.long)) in
+    reduced_wide (at lead) (at row) k (length lead) c.divisor.result c.max-by.result own far mixed sh some long is c.divisor.ensures c.max-by.ensures c.in-Some.wide.column c.in-Some.wide.number c.in-Some.ensures

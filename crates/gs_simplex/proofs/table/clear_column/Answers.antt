@@ -1,20 +1,23 @@
-use Rattle.std.proofs.Common.{◌≡◌, ◌≢◌, ◌⊎◌, ℕ, ◌+◌, ◌-◌, ◌*◌, ◌<◌, ◌≤◌, ℤ, List, length, slice_index, refl, sym, subst, ◌∙◌, arith, below_more, get_or-set_other}
-use Rattle.gs_simplex.specs.Numbers.{at, cell, AllNarrow, IsReduced, IsReducedTo, IsClearedTo}
+use Rattle.std.proofs.Common.{◌≡◌, ◌≢◌, ◌⊎◌, ℕ, ◌+◌, ◌*◌, ◌<◌, ◌≤◌, ℤ, List, length, slice_index, refl, sym, subst, ◌∙◌, arith, below_more, get_or-set_other}
+use Rattle.gs_simplex.specs.Numbers.{at, cell, IsAtMost, IsMixed, IsReducedTo, IsClearedTo}
 use Rattle.gs_simplex.proofs.Fits.{kept_128}
 use Rattle.gs_simplex.proofs.Lives.{support_same, support_of}
-use Rattle.gs_simplex.proofs.Paths.{none_of}
-use Rattle.gs_simplex.proofs.Places.{primitive_same_row, reduced_same, reduced_to_same, row_stays, rows_left}
+use Rattle.gs_simplex.proofs.Places.{mixed_same, at_most_same, reduced_to_same, row_stays, rows_left, tops_more, tops_left_more}
 use Rattle.gs_simplex.proofs.table.clear_column.Goals as goal
 
 pub loop-i-preserved-then-i-lead : goal.loop-i-preserved-then-i-lead
 loop-i-preserved-then-i-lead c =
-    let v = c.loop-i.invariant in
+    let v = c.loop-i.invariant in let lead = c.args.lead.now in let w = length lead.numbers.now in let now = c.loop-i.numbers in let i = c.loop-i.i in
+    let here : IsAtMost w (cell now w i) lead.most = (let P : ℕ → Type 0 = λ t. IsAtMost w (cell now w t) lead.most in
+    subst P (sym c.if-i-lead.true) (at_most_same w lead.most (at lead.numbers.now) (cell now w lead.row) (λ j jw. sym (v.kept j jw ∙ c.requires.lead j jw)) lead.bound)) in
     record {
       width = refl;
       done = below_more _ c.loop-i.i v.done (λ ne. absurd (ne c.if-i-lead.true));
       left = λ h l j jw. v.left h (omega arith) j jw;
       kept = v.kept;
       narrow = v.narrow;
+      tops_done = tops_more now now c.loop-i.tops w i lead.most (omega (arith, c.loop-i.auto.tops, c.requires.few_tops)) (λ h l j jw. refl) v.tops_done here;
+      tops_left = tops_left_more c.loop-i.tops c.args.tops.now i lead.most v.tops_left;
       places = v.places;
     }
 
@@ -25,22 +28,22 @@ reduce_at-requires-clause-support c =
     support_same _ c.args.found w (cell old w i) (cell now w i) row row (λ j h. sym (v.left i (omega arith) j h)) (λ j h. refl)
     (support_of c.args.places.now c.loop-i.places c.args.owns.now c.args.found count lead.row w i (cell old w) row c.requires.live c.loop-i-test.true c.if-i-lead.false c.loop-i.auto.places v.places)
 
-pub reduce_at-requires-clause-primitive : goal.reduce_at-requires-clause-primitive
-reduce_at-requires-clause-primitive c =
-    let lead = c.args.lead.now in
+pub reduce_at-requires-clause-bound : goal.reduce_at-requires-clause-bound
+reduce_at-requires-clause-bound c =
+    let lead = c.args.lead.now in let v = c.loop-i.invariant in
     let w = length lead.numbers.now in let i = c.loop-i.i in
-    let cw : lead.column < w = lead.inside in
-    primitive_same_row (w - 1) (cell c.args.numbers.now w i) (cell c.loop-i.numbers w i) (λ j h. sym (c.loop-i.invariant.left i (omega arith) j (omega arith))) (c.requires.primitive i c.loop-i-test.true)
+    let P : ℕ → Type 0 = λ t. IsAtMost w (cell c.loop-i.numbers w i) t in
+    subst P (sym (v.tops_left i (omega arith))) (at_most_same w (slice_index c.args.tops.now i) (cell c.args.numbers.now w i) (cell c.loop-i.numbers w i) (λ j jw. sym (v.left i (omega arith) j jw)) (c.requires.tops i c.loop-i-test.true c.if-i-lead.false))
 
-pub returns-in-Some : goal.returns-in-Some
-returns-in-Some c =
+pub returns-in-Err-clause-cleared : goal.returns-in-Err-clause-cleared
+returns-in-Err-clause-cleared c =
     let lead = c.args.lead.now in let count = length c.args.owns.now in
     let w = length lead.numbers.now in let i = c.loop-i.i in let old = c.args.numbers.now in let now = c.loop-i.numbers in
     let row = at lead.numbers.now in
-    let z = c.in-Some.wide.number in
-    let here : IsReducedTo row lead.column w (cell old w i) c.in-Some.wide.column z =
-    reduced_to_same row row lead.column w (cell now w i) (cell old w i) c.in-Some.wide.column z lead.inside (λ j h. refl) (λ j h. c.loop-i.invariant.left i (omega arith) j h) c.in-Some.ensures.answer in
-    let P : ℤ → Type 0 = λ t. IsClearedTo old count w lead.row lead.column row i c.in-Some.wide.column t in
+    let z = c.in-Err.wide.number in
+    let here : IsReducedTo row lead.column w (cell old w i) c.in-Err.wide.column z =
+    reduced_to_same row row lead.column w (cell now w i) (cell old w i) c.in-Err.wide.column z lead.inside (λ j h. refl) (λ j h. c.loop-i.invariant.left i (omega arith) j h) c.in-Err.ensures.answer in
+    let P : ℤ → Type 0 = λ t. IsClearedTo old count w lead.row lead.column row i c.in-Err.wide.column t in
     subst P (sym (kept_128 z (omega (arith, here.size)))) (record {
       inside = c.loop-i-test.true;
       apart = c.if-i-lead.false;
@@ -54,15 +57,15 @@ returns-in-Some c =
     })
 
 module _ (old now new : List ℤ) (lead : ℕ → ℤ) (count w r c i : ℕ) (cw : c < w) (ne : i ≢ r)
-    (done : (h : ℕ) → h < i → h ≢ r → IsReduced lead c w (cell old w h) (cell now w h))
+    (done : (h : ℕ) → h < i → h ≢ r → IsMixed lead c w (cell old w h) (cell now w h))
     (left : (h : ℕ) → i ≤ h → (j : ℕ) → j < w → cell now w h j ≡ cell old w h j)
     (kept : (j : ℕ) → j < w → cell now w r j ≡ cell old w r j)
     (others : (k : ℕ) → (k < i * w) ⊎ (i * w + w ≤ k) → at new k ≡ at now k)
-    (here : IsReduced lead c w (cell now w i) (cell new w i)) where
-  done_more : (h : ℕ) → h < i + 1 → h ≢ r → IsReduced lead c w (cell old w h) (cell new w h)
-  done_more = below_more (λ h. h ≢ r → IsReduced lead c w (cell old w h) (cell new w h)) i
-      (λ h l d. reduced_same lead lead c w (cell old w h) (cell old w h) (cell now w h) (cell new w h) cw (λ j jw. refl) (λ j jw. refl) (λ j jw. sym (row_stays now new w i others h (λ e. omega arith) j jw)) (done h l d))
-      (λ d. reduced_same lead lead c w (cell now w i) (cell old w i) (cell new w i) (cell new w i) cw (λ j jw. refl) (λ j jw. left i (omega arith) j jw) (λ j jw. refl) here)
+    (here : IsMixed lead c w (cell now w i) (cell new w i)) where
+  done_more : (h : ℕ) → h < i + 1 → h ≢ r → IsMixed lead c w (cell old w h) (cell new w h)
+  done_more = below_more (λ h. h ≢ r → IsMixed lead c w (cell old w h) (cell new w h)) i
+      (λ h l d. mixed_same lead c w (cell old w h) (cell old w h) (cell now w h) (cell new w h) cw (λ j jw. refl) (λ j jw. sym (row_stays now new w i others h (λ e. omega arith) j jw)) (done h l d))
+      (λ d. mixed_same lead c w (cell now w i) (cell old w i) (cell new w i) (cell new w i) cw (λ j jw. left i (omega arith) j jw) (λ j jw. refl) here)
 
   kept_more : (j : ℕ) → j < w → cell new w r j ≡ cell old w r j
   kept_more j jw = row_stays now new w i others r (λ e. ne (sym e)) j jw ∙ kept j jw
@@ -73,21 +76,25 @@ loop-i-preserved c =
     let w = length lead.numbers.now in let i = c.loop-i.i in let old = c.args.numbers.now in let now = c.loop-i.numbers in let new = c.reduce_at.new.numbers in
     let row = at lead.numbers.now in
     let v = c.loop-i.invariant in
-    let a : IsReduced row lead.column w (cell now w i) (cell new w i) × AllNarrow new =
-    none_of c.reduce_at.result (IsReduced row lead.column w (cell now w i) (cell new w i) × AllNarrow new) (λ x. IsReducedTo row lead.column w (cell now w i) x.column x.number) c.in_default.is c.reduce_at.ensures.answer in
+    let a = c.in-Ok.ensures.answer in
     record {
       width = refl;
       done = done_more old now new row count w lead.row lead.column i lead.inside c.if-i-lead.false v.done v.left v.kept c.reduce_at.ensures.others a.0;
       left = rows_left old now new w i c.reduce_at.ensures.others v.left;
       kept = kept_more old now new row count w lead.row lead.column i lead.inside c.if-i-lead.false v.done v.left v.kept c.reduce_at.ensures.others a.0;
       narrow = a.1;
+      tops_done = tops_more now new c.loop-i.tops w i c.in-Ok.top (omega (arith, c.loop-i.auto.tops, c.requires.few_tops)) (λ h l j jw. row_stays now new w i c.reduce_at.ensures.others h (λ e. omega arith) j jw) v.tops_done a.2;
+      tops_left = tops_left_more c.loop-i.tops c.args.tops.now i c.in-Ok.top v.tops_left;
       places = λ k h. get_or-set_other c.loop-i.places 0 k (slice_index c.args.owns.now i) 0 (λ e. omega arith) ∙ v.places k h;
     }
 
-pub returns : goal.returns
-returns c =
+pub returns-clause-cleared : goal.returns-clause-cleared
+returns-clause-cleared c =
     record {
       others = λ i h ne. c.loop-i.invariant.done i (omega arith) ne;
       kept = c.loop-i.invariant.kept;
       narrow = c.loop-i.invariant.narrow;
     }
+
+pub returns-clause-tops : goal.returns-clause-tops
+returns-clause-tops c = λ i h. c.loop-i.invariant.tops_done i (omega arith)

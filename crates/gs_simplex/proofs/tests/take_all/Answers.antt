@@ -2,9 +2,9 @@ use Rattle.std.proofs.Common.{◌≡◌, ℕ, ◌+◌, ◌-◌, ◌<◌, List, �
 use Rattle.gs_rows.specs.declared.Program.{Program}
 use Rattle.gs_rows.specs.Program.{Listing}
 use Rattle.gs_rows.proofs.PairLists.{opened_pair_list}
-use Rattle.gs_simplex.specs.Table.{table_rows, IsTableAfter, IsWideAfter}
+use Rattle.gs_simplex.specs.Table.{table_rows, HasTops, IsTableAfter, IsWideAfter}
 use Rattle.gs_simplex.specs.Conditions.{CanTakeAt, IsTaken}
-use Rattle.gs_simplex.proofs.Paths.{none_of}
+use Rattle.gs_simplex.proofs.Paths.{none_of, if_none}
 use Rattle.gs_simplex.proofs.Checks.{front_opened, taken_more}
 use Rattle.gs_simplex.proofs.tests.take_all.Goals as goal
 
@@ -30,6 +30,7 @@ loop-step-preserved c =
     let r = (slice_index_or o t (0, 0)).0 - 1 in let k = (slice_index_or o t (0, 0)).1 - 1 in
     record {
       room = c.list.ensures.room;
+      tops = if_none c.list.result (HasTops p new c.list.new.self.tops.items) c.in_default.is c.list.ensures.tops;
       taken = step_taken p o t xs c.deref.result.now new c.loop-step-test.true c.deref.ensures.value (c.if-not-can_take.ensures refl) c.loop-step.invariant.taken
           (none_of c.list.result (IsTableAfter p xs new r k) (λ w. IsWideAfter p xs r k w.row w.column w.number) c.in_default.is c.list.ensures.listed);
     }

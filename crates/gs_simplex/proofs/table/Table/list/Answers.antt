@@ -1,27 +1,26 @@
-use Rattle.std.proofs.Common.{◌≡◌, ◌≢◌, MatchOption, Option, Some, None, ◌⊎◌, inl, inr, ℕ, ◌+◌, ◌-◌, ◌*◌, ◌<◌, ◌≤◌, ℤ, pos, neg_ℤ, ◌<ℤ◌, unsigned_abs, List, ◌++◌, length, take, drop, sym, ap, subst, ◌∙◌, arith}
+use Rattle.std.proofs.Common.{◌≡◌, ◌≢◌, IfNone, MatchOption, Option, Some, None, ◌⊎◌, inl, inr, ℕ, ◌+◌, ◌-◌, ◌*◌, ◌<◌, ◌≤◌, ℤ, pos, ◌<ℤ◌, List, ◌++◌, length, slice_index, take, drop, sym, ap, subst, ◌∙◌, arith}
 use Rattle.std.proofs.lemmas.List.{take_at}
-use Rattle.std.proofs.lemmas.Bool.{cases_eq, cases_lt}
-use Rattle.std.proofs.lemmas.Int.{ints}
+use Rattle.std.proofs.lemmas.Bool.{cases_lt}
 use Rattle.gs_rows.specs.declared.Program.{Program}
-use Rattle.gs_rows.specs.Rows.{IsNarrow, IsPrimitive}
+use Rattle.gs_rows.specs.Rows.{IsNarrow}
 use Rattle.gs_simplex.specs.declared.table.WideCell.{WideCell}
-use Rattle.gs_simplex.specs.Numbers.{at, cell, AllNarrow, IsTurned, IsCleared, IsClearedTo}
-use Rattle.gs_simplex.specs.Table.{table_rows, table_aim, IsTable, IsPrimitiveTable, IsTableAfter, IsWideAfter}
-use Rattle.gs_simplex.proofs.Places.{row_inside, row_apart, primitive_same_row}
-use Rattle.gs_simplex.proofs.Tables.{own, rows_primitive, primitive_flipped, table_after, wide_from}
-use Rattle.gs_rows.specs.Program.{Listing, IsPairList, IsRowsOf}
-use Rattle.gs_simplex.specs.Live.{IsFound, IsLive}
-use Rattle.gs_simplex.proofs.Lives.{everywhere, live_of}
-use Rattle.gs_simplex.proofs.Paths.{primitive_of}
+use Rattle.gs_simplex.specs.Numbers.{at, cell, AllNarrow, IsAtMost, AreTops, IsLeadOf, IsCleared, IsClearedTo}
+use Rattle.gs_simplex.specs.Table.{table_rows, IsTable, IsTableOf, HasTops, IsTableAfter, IsWideAfter}
+use Rattle.gs_simplex.proofs.Places.{row_apart, at_most_same}
+use Rattle.gs_simplex.proofs.Tables.{own, zero_lead, table_after, wide_from}
+use Rattle.gs_rows.specs.Program.{Listing, IsPairList}
+use Rattle.gs_simplex.specs.Live.{IsFound, IsSupport, IsLive}
+use Rattle.gs_simplex.proofs.Lives.{live_of}
 use Rattle.gs_simplex.proofs.table.Table.list.Goals as goal
-use Rattle.gs_simplex.proofs.table.Table.list.Goals.{After-deref, After-deref-numbers, After-deref_mut-3, After-take_lead}
+use Rattle.gs_simplex.proofs.table.Table.list.Goals.{After-deref, After-deref-numbers, After-deref_mut-3, After-take_lead-count}
 
 -- what take_lead leaves
 record IsTaken (p : Program) (old mid lead : List ℤ) (r c : ℕ) : Type 0 where
   long : length mid ≡ length old
   wide : length lead ≡ p.cols + 2
   same : (j : ℕ) → j < length lead → at lead j ≡ at mid (r * (p.cols + 2) + j)
-  turned : IsTurned (λ j. at old (r * (p.cols + 2) + j)) (at lead) c (length lead)
+  taken : IsLeadOf (λ j. at old (r * (p.cols + 2) + j)) (at lead) c (length lead)
+  narrow : AllNarrow lead
   others : (k : ℕ) → (k < r * (p.cols + 2)) ⊎ (r * (p.cols + 2) + length lead ≤ k) → at mid k ≡ at old k
 
 -- what is known of the rows and of the lead, in rows of `width` numbers, where the lead's column is to be cleared
@@ -29,36 +28,29 @@ record IsLed (p : Program) (old mid lead : List ℤ) (width r c : ℕ) : Type 0 
   own : pos 0 <ℤ at lead c
   narrow_lead : AllNarrow lead
   narrow : AllNarrow mid
-  primitive : (i : ℕ) → i < p.rows + 1 → IsPrimitive (width - 1) (cell mid width i)
-  live : (l : Listing) (places owns : List ℕ) (found : ℕ) → IsPairList p l → IsRowsOf p l (table_rows p old) (table_aim p old) → IsFound p l r places owns found
+  lead_row : (j : ℕ) → j < width → cell mid width r j ≡ at lead j
+  tops : (tops : List ℕ) → HasTops p old tops → (i : ℕ) → i < p.rows + 1 → i ≢ r → IsAtMost width (cell mid width i) (slice_index tops i)
+  live : (l : Listing) (places owns : List ℕ) (found : ℕ) → IsPairList p l → IsTableOf p l old → IsFound p l r places owns found
       → IsLive places owns found (p.rows + 1) r width (cell mid width) (at lead)
   answer : (new : List ℤ) (res : Option WideCell) → length new ≡ length mid
       → MatchOption res (IsCleared mid new (p.rows + 1) width r c (at lead)) (λ w. IsClearedTo mid (p.rows + 1) width r c (at lead) w.row w.column w.number)
       → MatchOption res (IsTableAfter p old new r c) (λ w. IsWideAfter p old r c w.row w.column w.number)
 
-module _ (p : Program) (old mid lead : List ℤ) (r c : ℕ) (rows : r < p.rows) (cols : c < p.cols) (table : IsTable p old) (prim : IsPrimitiveTable p old) (nonzero : table_rows p old r c ≢ pos 0) (u : IsTaken p old mid lead r c) where
+module _ (p : Program) (old mid lead : List ℤ) (r c : ℕ) (rows : r < p.rows) (cols : c < p.cols) (table : IsTable p old) (nonzero : table_rows p old r c ≢ pos 0) (u : IsTaken p old mid lead r c) where
   same_at : (j : ℕ) → j < p.cols + 2 → at lead j ≡ at mid (r * (p.cols + 2) + j)
   same_at j h = u.same j (omega (arith, u.wide))
 
-  turned_at : IsTurned (λ j. at old (r * (p.cols + 2) + j)) (at lead) c (p.cols + 2)
-  turned_at = let P : ℕ → Type 0 = λ k. IsTurned (λ j. at old (r * (p.cols + 2) + j)) (at lead) c k in subst P u.wide u.turned
+  taken_at : IsLeadOf (λ j. at old (r * (p.cols + 2) + j)) (at lead) c (p.cols + 2)
+  taken_at = let P : ℕ → Type 0 = λ k. IsLeadOf (λ j. at old (r * (p.cols + 2) + j)) (at lead) c k in subst P u.wide u.taken
 
   others_at : (k : ℕ) → (k < r * (p.cols + 2)) ⊎ (r * (p.cols + 2) + (p.cols + 2) ≤ k) → at mid k ≡ at old k
   others_at k s = elim s [ inl l ↦ u.others k (inl l) | inr l ↦ u.others k (inr (omega (arith, u.wide))) ]
 
   own_at : pos 0 <ℤ at lead c
-  own_at = own p old mid (at lead) r c rows cols table others_at same_at turned_at nonzero
-
-  narrow_neg : (x y : ℤ) → x ≡ neg_ℤ y → IsNarrow y → IsNarrow x
-  narrow_neg x y e h = let q : unsigned_abs (neg_ℤ y) ≡ unsigned_abs y = omega (arith, ints) in omega (arith, h, ap unsigned_abs e)
+  own_at = own p old mid (at lead) r c rows cols table others_at same_at taken_at nonzero
 
   narrow_lead : (k : ℕ) → k < p.cols + 2 → IsNarrow (at lead k)
-  narrow_lead k h =
-      let n : IsNarrow (at old (r * (p.cols + 2) + k)) = table.narrow (r * (p.cols + 2) + k) (omega (arith, table.long, row_inside (p.rows + 1) (p.cols + 2) r k (omega arith) h)) in
-      elim turned_at.self [
-        | inl s ↦ (let P : ℤ → Type 0 = λ t. IsNarrow t in subst P (sym (s k h)) n)
-        | inr s ↦ narrow_neg (at lead k) (at old (r * (p.cols + 2) + k)) (s k h) n
-      ]
+  narrow_lead k h = u.narrow k (omega (arith, u.wide))
 
   narrow_mid : AllNarrow mid
   narrow_mid k h =
@@ -72,25 +64,11 @@ module _ (p : Program) (old mid lead : List ℤ) (r c : ℕ) (rows : r < p.rows)
         ]
       ]
 
-  mid_primitive : (i : ℕ) → i < p.rows + 1 → IsPrimitive (p.cols + 2 - 1) (cell mid (p.cols + 2) i)
-  mid_primitive i h = elim (cases_eq i r) [
-    | inr ne ↦ primitive_same_row (p.cols + 2 - 1) (cell old (p.cols + 2) i) (cell mid (p.cols + 2) i) (λ j l. sym (others_at (i * (p.cols + 2) + j) (row_apart (p.cols + 2) i r j (omega arith) ne))) (rows_primitive p old table prim i h)
-    | inl e ↦
-        (let w : IsPrimitive (p.cols + 2 - 1) (cell old (p.cols + 2) r) = rows_primitive p old table prim r (omega arith) in
-        let P : ℕ → Type 0 = λ t. IsPrimitive (p.cols + 2 - 1) (cell mid (p.cols + 2) t) in
-        subst P (sym e) (elim turned_at.self [
-          | inl s ↦ primitive_same_row (p.cols + 2 - 1) (cell old (p.cols + 2) r) (cell mid (p.cols + 2) r) (λ j l. sym (s j (omega arith)) ∙ same_at j (omega arith)) w
-          | inr s ↦ primitive_same_row (p.cols + 2 - 1) (λ j. neg_ℤ (cell old (p.cols + 2) r j)) (cell mid (p.cols + 2) r) (λ j l. sym (s j (omega arith)) ∙ same_at j (omega arith))
-              (primitive_flipped 0 (p.cols + 2 - 1) (cell old (p.cols + 2) r) (λ j. neg_ℤ (cell old (p.cols + 2) r j))
-              (λ j. let q : unsigned_abs (neg_ℤ (cell old (p.cols + 2) r j)) ≡ unsigned_abs (cell old (p.cols + 2) r j) = omega (arith, ints) in q) w)
-        ]))
-  ]
-
   answer : (new : List ℤ) (res : Option WideCell) → length new ≡ length mid
       → MatchOption res (IsCleared mid new (p.rows + 1) (p.cols + 2) r c (at lead)) (λ w. IsClearedTo mid (p.rows + 1) (p.cols + 2) r c (at lead) w.row w.column w.number)
       → MatchOption res (IsTableAfter p old new r c) (λ w. IsWideAfter p old r c w.row w.column w.number)
-  answer new None e h = table_after p old mid (at lead) r c rows cols table others_at same_at turned_at nonzero new (e ∙ u.long) h prim
-  answer new (Some w) e h = wide_from p old mid (at lead) r c rows cols table others_at same_at turned_at nonzero w.row w.column w.number h prim narrow_lead
+  answer new None e h = table_after p old mid (at lead) r c rows cols table others_at same_at taken_at nonzero new (e ∙ u.long) h
+  answer new (Some w) e h = wide_from p old mid (at lead) r c rows cols table others_at same_at taken_at nonzero w.row w.column w.number h narrow_lead
 
   kept_row : (i : ℕ) → i ≢ r → (j : ℕ) → j < p.cols + 2 → cell mid (p.cols + 2) i j ≡ cell old (p.cols + 2) i j
   kept_row i ne j h = others_at (i * (p.cols + 2) + j) (row_apart (p.cols + 2) i r j h ne)
@@ -98,57 +76,58 @@ module _ (p : Program) (old mid lead : List ℤ) (r c : ℕ) (rows : r < p.rows)
   led : IsLed p old mid lead (p.cols + 2) r c
   led = record {
     own = own_at;
-    narrow_lead = λ k h. narrow_lead k (omega (arith, h, u.wide));
+    narrow_lead = u.narrow;
     narrow = narrow_mid;
-    primitive = mid_primitive;
-    live = λ l places owns found pairs of f. live_of p l r c found places owns old mid (at lead) pairs table of rows f kept_row turned_at;
+    lead_row = λ j h. sym (same_at j h);
+    tops = λ tops has i h ne. at_most_same (p.cols + 2) (slice_index tops i) (cell old (p.cols + 2) i) (cell mid (p.cols + 2) i) (λ j l. sym (kept_row i ne j l)) (has i h);
+    live = λ l places owns found pairs of f. live_of p l r found places owns old mid (at lead) pairs table of.rows_of.0 of.rows_of.1 of.rows_of.2 of.rows_of.3 rows f kept_row (zero_lead p old mid (at lead) r c rows cols table others_at same_at taken_at nonzero);
     answer = answer;
   }
 
 -- what take_lead left, in the table and in the lead
-taken_lead : (c : After-take_lead) → IsTaken c.args.p.now c.args.self.now.numbers.items c.take_lead.new.numbers c.take_lead.new.lead c.args.r c.args.c
+taken_lead : (c : After-take_lead-count) → IsTaken c.args.p.now c.args.self.now.numbers.items c.take_lead-count.new.numbers c.take_lead-count.new.lead c.args.r c.args.c
 taken_lead c =
-    let P : List ℤ → Type 0 = λ x. IsTaken c.args.p.now x c.take_lead.new.numbers c.take_lead.new.lead c.args.r c.args.c in
+    let P : List ℤ → Type 0 = λ x. IsTaken c.args.p.now x c.take_lead-count.new.numbers c.take_lead-count.new.lead c.args.r c.args.c in
     subst P c.deref_mut.ensures.value (record {
-      long = c.take_lead.auto.numbers;
-      wide = omega (arith, c.take_lead.auto.lead, c.deref_mut-2.ensures.len, c.requires.room.lead);
-      same = c.take_lead.ensures.same;
-      turned = c.take_lead.ensures.turned;
-      others = c.take_lead.ensures.others;
+      long = c.take_lead-count.auto.numbers;
+      wide = omega (arith, c.take_lead-count.auto.lead, c.deref_mut-2.ensures.len, c.requires.room.lead);
+      same = c.take_lead-count.ensures.same;
+      taken = c.take_lead-count.ensures.taken;
+      narrow = c.take_lead-count.ensures.narrow;
+      others = c.take_lead-count.ensures.others;
     })
 
-same_numbers : (c : After-deref_mut-3) → c.deref_mut-3.result.now ≡ c.take_lead.new.numbers
-same_numbers c = c.deref_mut-3.ensures.value ∙ take_at c.take_lead.new.numbers (drop (length c.take_lead.new.numbers) c.args.self.now.numbers.items) c.args.self.now.numbers.len (omega (arith, c.take_lead.auto.numbers, c.deref_mut.ensures.len))
+same_numbers : (c : After-deref_mut-3) → c.deref_mut-3.result.now ≡ c.take_lead-count.new.numbers
+same_numbers c = c.deref_mut-3.ensures.value ∙ take_at c.take_lead-count.new.numbers (drop (length c.take_lead-count.new.numbers) c.args.self.now.numbers.items) c.args.self.now.numbers.len (omega (arith, c.take_lead-count.auto.numbers, c.deref_mut.ensures.len))
 
-same_lead : (c : After-deref-numbers) → c.deref-numbers.result.now ≡ c.take_lead.new.lead
-same_lead c = c.deref-numbers.ensures.value ∙ take_at c.take_lead.new.lead (drop (length c.take_lead.new.lead) c.args.self.now.lead.items) c.args.self.now.lead.len (omega (arith, c.take_lead.auto.lead, c.deref_mut-2.ensures.len))
+same_lead : (c : After-deref-numbers) → c.deref-numbers.result.now ≡ c.take_lead-count.new.lead
+same_lead c = c.deref-numbers.ensures.value ∙ take_at c.take_lead-count.new.lead (drop (length c.take_lead-count.new.lead) c.args.self.now.lead.items) c.args.self.now.lead.len (omega (arith, c.take_lead-count.auto.lead, c.deref_mut-2.ensures.len))
 
 -- what is known of the rows and of the lead as they are passed
 led_here : (c : After-deref_mut-3) → IsLed c.args.p.now c.args.self.now.numbers.items c.deref_mut-3.result.now c.deref-numbers.result.now (length c.deref-numbers.result.now) c.args.r c.args.c
 led_here c =
     let w = goal.at.After-deref_mut-3 c in
     let p = c.args.p.now in let r = c.args.r in let k = c.args.c in let items = c.args.self.now.numbers.items in let now = c.deref_mut-3.result.now in let lead = c.deref-numbers.result.now in
-    let taken = taken_lead w.After-take_lead in let same = same_lead w.After-deref-numbers in
+    let taken = taken_lead w.After-take_lead-count in let same = same_lead w.After-deref-numbers in
     let W : ℕ → Type 0 = λ n. IsLed p items now lead n r k in
     let M : List ℤ → Type 0 = λ x. IsLed p items x lead (p.cols + 2) r k in
-    let L : List ℤ → Type 0 = λ x. IsLed p items c.take_lead.new.numbers x (p.cols + 2) r k in
+    let L : List ℤ → Type 0 = λ x. IsLed p items c.take_lead-count.new.numbers x (p.cols + 2) r k in
     subst W (sym (ap length same ∙ taken.wide)) (subst M (sym (same_numbers c)) (subst L (sym same)
-    (led p items c.take_lead.new.numbers c.take_lead.new.lead r k c.requires.row c.requires.column c.requires.table (primitive_of p c.args.basis.now items c.requires.rows) c.requires.nonzero taken)))
+    (led p items c.take_lead-count.new.numbers c.take_lead-count.new.lead r k c.requires.row c.requires.column c.requires.table c.requires.nonzero taken)))
 
 owns_long : (c : After-deref) → length c.deref.result.now ≡ c.args.p.now.rows + 1
 owns_long c = ap (λ (l : List ℕ). length l) c.deref.ensures.value ∙ c.find-found.ensures.found.owns_long
-
--- the greatest number where the lead is not 0 is the greatest of all
-pub invariant_of-lead-clause-bound : goal.invariant_of-lead-clause-bound
-invariant_of-lead-clause-bound c =
-    let lead = c.deref-numbers.result.now in
-    everywhere (λ j (z : ℤ). unsigned_abs z ≤ c.greatest.result) c.fill-count.new.filled c.fill-count.result (length lead) (at lead) (at lead) c.fill-count.ensures c.greatest.ensures (λ j. omega arith)
 
 pub invariant_of-lead-clause-narrow : goal.invariant_of-lead-clause-narrow
 invariant_of-lead-clause-narrow c = (led_here (goal.at.invariant_of-lead-clause-narrow c).After-deref_mut-3).narrow_lead
 
 pub invariant_of-lead-clause-own : goal.invariant_of-lead-clause-own
 invariant_of-lead-clause-own c = (led_here (goal.at.invariant_of-lead-clause-own c).After-deref_mut-3).own
+
+pub invariant_of-lead-clause-support : goal.invariant_of-lead-clause-support
+invariant_of-lead-clause-support c =
+    let P : List ℤ → Type 0 = λ x. IsSupport c.take_lead-count.new.filled c.take_lead-count.result (length x) (at x) (at x) in
+    subst P (sym (same_lead (goal.at.invariant_of-lead-clause-support c).After-deref-numbers)) c.take_lead-count.ensures.support
 
 pub clear_column-requires-clause-live : goal.clear_column-requires-clause-live
 clear_column-requires-clause-live c =
@@ -163,19 +142,42 @@ clear_column-requires-clause-live c =
 pub clear_column-requires-clause-narrow : goal.clear_column-requires-clause-narrow
 clear_column-requires-clause-narrow c = (led_here (goal.at.clear_column-requires-clause-narrow c).After-deref_mut-3).narrow
 
-pub clear_column-requires-clause-primitive : goal.clear_column-requires-clause-primitive
-clear_column-requires-clause-primitive c =
-    let w = goal.at.clear_column-requires-clause-primitive c in
-    λ i l. (led_here w.After-deref_mut-3).primitive i (omega (arith, l, owns_long w.After-deref))
+pub clear_column-requires-clause-tops : goal.clear_column-requires-clause-tops
+clear_column-requires-clause-tops c = λ i h ne.
+    let w = goal.at.clear_column-requires-clause-tops c in
+    let width = length c.deref-numbers.result.now in
+    let P : List ℕ → Type 0 = λ x. IsAtMost width (cell c.deref_mut-3.result.now width i) (slice_index x i) in
+    subst P (sym c.deref_mut-6.ensures.value) ((led_here w.After-deref_mut-3).tops c.args.self.now.tops.items c.requires.tops i (omega (arith, h, owns_long w.After-deref)) ne)
 
 pub returns-clause-listed : goal.returns-clause-listed
 returns-clause-listed c =
     let w = goal.at.returns-clause-listed c in
     let p = c.args.p.now in let r = c.args.r in let k = c.args.c in let items = c.args.self.now.numbers.items in let n = c.args.self.now.numbers.len in
-    let mid = c.take_lead.new.numbers in let now = c.deref_mut-3.result.now in let new = c.clear_column.new.numbers in
+    let mid = c.take_lead-count.new.numbers in let now = c.deref_mut-3.result.now in let new = c.clear_column.new.numbers in
     let width = length c.deref-numbers.result.now in let lead = at c.deref-numbers.result.now in let res = c.clear_column.result in
     let rest = drop (length new) (take n (mid ++ drop (length mid) items)) in
-    let long : length new ≡ n = omega (arith, c.clear_column.auto.numbers, c.take_lead.auto.numbers, c.deref_mut.ensures.len, ap length (same_numbers w.After-deref_mut-3)) in
+    let long : length new ≡ n = omega (arith, c.clear_column.auto.numbers, c.take_lead-count.auto.numbers, c.deref_mut.ensures.len, ap length (same_numbers w.After-deref_mut-3)) in
     let N : List ℤ → Type 0 = λ x. MatchOption res (IsTableAfter p items x r k) (λ y. IsWideAfter p items r k y.row y.column y.number) in
     let C : ℕ → Type 0 = λ count. MatchOption res (IsCleared now new count width r k lead) (λ y. IsClearedTo now count width r k lead y.row y.column y.number) in
-    subst N (sym (take_at new rest n long)) ((led_here w.After-deref_mut-3).answer new res c.clear_column.auto.numbers (subst C (owns_long w.After-deref) c.clear_column.ensures))
+    subst N (sym (take_at new rest n long)) ((led_here w.After-deref_mut-3).answer new res c.clear_column.auto.numbers (subst C (owns_long w.After-deref) c.clear_column.ensures.cleared))
+
+-- a fact where there is no answer, of equal lists
+tops_of : (p : Program) (res : Option WideCell) (new new' : List ℤ) (tops tops' : List ℕ) (count width : ℕ) → new' ≡ new → tops' ≡ tops → count ≡ p.rows + 1 → width ≡ p.cols + 2
+    → IfNone res (AreTops count width new tops) → IfNone res (HasTops p new' tops')
+tops_of p None new new' tops tops' count width en et ec ew u =
+    let C : ℕ → Type 0 = λ k. AreTops k width new tops in let W : ℕ → Type 0 = λ k. AreTops (p.rows + 1) k new tops in
+    let N : List ℤ → Type 0 = λ x. AreTops (p.rows + 1) (p.cols + 2) x tops in let T : List ℕ → Type 0 = λ x. AreTops (p.rows + 1) (p.cols + 2) new' x in
+    subst T (sym et) (subst N (sym en) (subst W ew (subst C ec u)))
+tops_of p (Some w) new new' tops tops' count width en et ec ew u = u
+
+pub returns-clause-tops : goal.returns-clause-tops
+returns-clause-tops c =
+    let w = goal.at.returns-clause-tops c in
+    let items = c.args.self.now.numbers.items in let n = c.args.self.now.numbers.len in let mid = c.take_lead-count.new.numbers in
+    let new = c.clear_column.new.numbers in let tops = c.clear_column.new.tops in let old = c.args.self.now.tops in
+    let long : length new ≡ n = omega (arith, c.clear_column.auto.numbers, c.take_lead-count.auto.numbers, c.deref_mut.ensures.len, ap length (same_numbers w.After-deref_mut-3)) in
+    let same = same_lead w.After-deref-numbers in
+    tops_of c.args.p.now c.clear_column.result new (take n (new ++ drop (length new) (take n (mid ++ drop (length mid) items)))) tops (take old.len (tops ++ drop (length tops) old.items)) (length c.deref.result.now) (length c.deref-numbers.result.now)
+    (take_at new (drop (length new) (take n (mid ++ drop (length mid) items))) n long)
+    (take_at tops (drop (length tops) old.items) old.len (omega (arith, c.clear_column.auto.tops, c.deref_mut-6.ensures.len)))
+    (owns_long w.After-deref) (ap length same ∙ (taken_lead w.After-take_lead-count).wide) c.clear_column.ensures.tops
