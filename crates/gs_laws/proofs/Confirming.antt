@@ -1,0 +1,88 @@
+-- A strategy that is confirmed has no trouble.
+use Rattle.std.proofs.Common.{◌≡◌, ℕ, ◌*◌, ◌<◌, List, Ok, ap, subst, inl, inr, arith}
+use Rattle.gs_confirm.specs.Commands.{Evaluates, OfConfirmed, SaysNumbers}
+use Rattle.gs_confirm.specs.Troubles.{IsFirstWrong, IsTrouble}
+use Rattle.gs_file.specs.Reading.{FileGame, read_at}
+use Rattle.gs_file.specs.declared.version.Version.{Version}
+use Rattle.gs_file.specs.declared.version.Version.TheVariants.{Two}
+use Rattle.gs_model.specs.Classes.{ClassLists}
+use Rattle.gs_model.specs.Frame.{Frame, total_weight}
+use Rattle.gs_model.specs.Plans.{Plan as RawPlan}
+use Rattle.gs_model.specs.Verdict.{IsVerdict}
+use Rattle.gs_reply.specs.Refusals.{Limit, Refusal, Sequences, Cells, Table_numbers, Raw_cells, Bad_game, Unlike_pair, Overflows, Many_pivots, Too_large, Bad_strategy, Wrong_number, Bad_query, Other_game, Bad_certificate}
+use Rattle.gs_reply.specs.Replies.{OfRead, Reply, Prints}
+use Rattle.gs_reply.specs.Troubles.{Passes}
+use Rattle.gs_reply.specs.declared.strategies.Which.TheVariants.{Only}
+use Rattle.gs_seq.specs.Stops.{IsSmall}
+use Rattle.gs_seq.specs.declared.plan.Plan.{Plan}
+use Rattle.gs_settle.specs.Texts.{IsTextOf}
+use Rattle.gs_strategy.proofs.Only.{only}
+use Rattle.gs_strategy.specs.Checks.{ReadResult}
+use Rattle.gs_strategy.specs.Confirmed.{AreNumbersOf, IsConfirmed, frame_of, over, raw_plan}
+use Rattle.gs_strategy.specs.Laws.{AreFractions, IsStrategy}
+use Rattle.gs_strategy.specs.Texts.{strategy_text}
+use Rattle.gs_strategy.specs.Values.{FractionParts, Numbers, Strategy, frame_in}
+use Rattle.gs_text.specs.VerdictText.{verdict_text}
+use Rattle.gs_laws.proofs.Dealt.{told_dealt}
+use Rattle.gs_laws.proofs.Strategies.{printed_strategy}
+use Rattle.gs_laws.proofs.Verdicts.{numbers_one, scale_some}
+
+pub verdicts_one : (f : Frame) (x y : RawPlan) (n m : Numbers) → 0 < total_weight f * x.total * y.total → AreFractions n → AreFractions m
+    → IsVerdict f x y (over n.value) (over n.gap1) (over n.gap2) → IsVerdict f x y (over m.value) (over m.gap1) (over m.gap2) → n ≡ m
+verdicts_one f x y n m some h k one two =
+    numbers_one f x y n m some (record { value = h.value; gap1 = h.gap1; gap2 = h.gap2 }) (record { value = k.value; gap1 = k.gap1; gap2 = k.gap2 }) one two
+
+-- the weight of all deals and both totals are above 0
+pub strategy_scale : (version : Version) (s : Strategy) → IsStrategy version s
+    → 0 < total_weight (frame_of s) * (raw_plan s s.one).total * (raw_plan s s.two).total
+strategy_scale version s h =
+    scale_some (total_weight (frame_of s)) s.one.total s.two.total (told_dealt version s.game h.written.game).deals h.first.plan.total_in.0
+    h.second.plan.total_in.0
+
+-- two lists of numbers of a strategy are the same
+pub strategy_numbers : (version : Version) (s : Strategy) (n m : Numbers) → IsStrategy version s → AreNumbersOf s n → AreNumbersOf s m → n ≡ m
+strategy_numbers version s n m h a b =
+    verdicts_one (frame_of s) (raw_plan s s.one) (raw_plan s s.two) n m (strategy_scale version s h)
+    (record { value = a.value; gap1 = a.gap1; gap2 = a.gap2 }) (record { value = b.value; gap1 = b.gap1; gap2 = b.gap2 }) a.verdict b.verdict
+
+pub small_passes : (g : FileGame) (lists : ClassLists) (limit : Limit) → IsSmall (frame_in g) lists → Passes g lists limit → ⊥
+small_passes g lists (Sequences player count) small (inl h) = let k = small.sequences.one in let e = h.1 in let o = h.2 in omega arith
+small_passes g lists (Sequences player count) small (inr h) = let k = small.sequences.two in let e = h.1.1 in let o = h.1.2 in omega arith
+small_passes g lists (Cells count) small h = let k = small.cells in let e = h.1 in let o = h.2 in omega arith
+small_passes g lists (Table_numbers count) small h = h
+small_passes g lists (Raw_cells count) small h = h
+
+none_wrong : (n m : Numbers) (name : List ℕ) (one other : FractionParts) → n ≡ m → IsFirstWrong n m name one other → ⊥
+none_wrong n m name one other e (inl h) = h.3 (ap (λ (k : Numbers). k.value) e)
+none_wrong n m name one other e (inr (inl h)) = h.4 (ap (λ (k : Numbers). k.gap1) e)
+none_wrong n m name one other e (inr (inr h)) = h.5 (ap (λ (k : Numbers). k.gap2) e)
+
+pub no_trouble : (version : Version) (s : Strategy) (why : Refusal) → IsStrategy version s → IsConfirmed s → IsTrouble s why → ⊥
+no_trouble version s (Unlike_pair round one two) h c t = t.not_lossless c.lossless
+no_trouble version s (Too_large limit) h c t = small_passes s.game s.classes limit c.small t.passed
+no_trouble version s (Wrong_number name stated found) h c t =
+    none_wrong s.numbers t.numbers name stated found (strategy_numbers version s s.numbers t.numbers h c.numbers t.are) t.first
+no_trouble version s (Bad_game why) h c t = t
+no_trouble version s (Overflows at) h c t = t
+no_trouble version s Many_pivots h c t = t
+no_trouble version s (Bad_strategy which why) h c t = t
+no_trouble version s (Bad_query why) h c t = t
+no_trouble version s Other_game h c t = t
+no_trouble version s (Bad_certificate why) h c t = t
+
+-- what is said of a confirmed strategy is said without trouble
+pub said_of_confirmed : (version : Version) (s : Strategy) (says : Strategy → Reply → Type 0) (reply : Reply) → IsStrategy version s → IsConfirmed s
+    → OfConfirmed says s reply → says s reply
+said_of_confirmed version s says reply h c (inl p) = p.1
+said_of_confirmed version s says reply h c (inr q) = absurd (no_trouble version s q.0 h c q.1)
+
+pub evaluated : (version : Version) (s : Strategy) (reply : Reply) → IsStrategy version s → IsConfirmed s → Evaluates (strategy_text version s) reply
+    → reply ≡ Prints (verdict_text s.numbers)
+evaluated version s reply h c o =
+    said_of_confirmed version s SaysNumbers reply h c (subst (λ (x : ReadResult). OfRead Only (OfConfirmed SaysNumbers) x reply)
+    (only version s o.read h o.reads) o.said)
+
+pub printed_evaluated : (bytes : List ℕ) (g : FileGame) (lists : ClassLists) (one two : Plan) (text : List ℕ) (reply : Reply) → read_at bytes ≡ Ok g
+    → (t : IsTextOf g lists one two text) → Evaluates text reply → reply ≡ Prints (verdict_text t.strategy.numbers)
+printed_evaluated bytes g lists one two text reply e t o =
+    evaluated Two t.strategy reply (printed_strategy bytes g lists one two text e t) t.confirmed (subst (λ (b : List ℕ). Evaluates b reply) t.printed o)

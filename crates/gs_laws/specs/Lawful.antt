@@ -1,0 +1,67 @@
+-- What is known of a game and of a strategy that are accepted: the game is playable and has deals, and the strategy's plans stand for raw plans of it.
+use Rattle.std.specs.Prelude.{◌≡◌, ◌<◌, ℕ, List, Ok}
+use Rattle.gs_file.specs.JsonLaws.{IsTold}
+use Rattle.gs_file.specs.Reading.{FileGame, read_at, rules_of}
+use Rattle.gs_file.specs.declared.version.Version.{Version}
+use Rattle.gs_file.specs.declared.version.Version.TheVariants.{Two}
+use Rattle.gs_model.specs.Classes.{ClassLists}
+use Rattle.gs_model.specs.Frame.{total_weight}
+use Rattle.gs_model.specs.Game.{IsPlayable}
+use Rattle.gs_model.specs.Plans.{IsRawPlan}
+use Rattle.gs_seq.specs.declared.plan.Plan.{Plan}
+use Rattle.gs_settle.specs.Texts.{IsTextOf}
+use Rattle.gs_strategy.specs.Checks.{Reads}
+use Rattle.gs_strategy.specs.Confirmed.{raw_plan}
+use Rattle.gs_strategy.specs.Laws.{IsStrategy}
+use Rattle.gs_strategy.specs.Texts.{strategy_text}
+use Rattle.gs_strategy.specs.Values.{Strategy, frame_in}
+
+-- the game can be played, as the laws of games ask, and has deals: their weights are not all 0
+pub record IsDealt (g : FileGame) : Type 0 where
+  pub playable : IsPlayable (rules_of g)
+  pub deals : 0 < total_weight (frame_in g)
+
+-- Player 1's plan of one strategy and player 2's plan of another stand for raw plans of these players in one game: totals above 0, and at each point of
+-- the player and each raw signal the numbers of the moves add up to the number of the last step before. And the game has deals.
+pub record AreRawPlans (one two : Strategy) : Type 0 where
+  pub first : IsRawPlan (frame_in one.game) 1 (raw_plan one one.one)
+  pub second : IsRawPlan (frame_in one.game) 2 (raw_plan two two.two)
+  pub deals : 0 < total_weight (frame_in one.game)
+
+-- ---- games
+
+-- a game that a file states can be written in version 2
+abbrev pub AcceptedAreTold : Type 0
+AcceptedAreTold = (bytes : List ℕ) (g : FileGame) → read_at bytes ≡ Ok g → IsTold Two g
+
+-- a game that can be written is playable and has deals
+abbrev pub ToldAreDealt : Type 0
+ToldAreDealt = (version : Version) (g : FileGame) → IsTold version g → IsDealt g
+
+-- a game that a file states is playable and has deals
+abbrev pub AcceptedAreDealt : Type 0
+AcceptedAreDealt = (bytes : List ℕ) (g : FileGame) → read_at bytes ≡ Ok g → IsDealt g
+
+-- ---- strategies
+
+-- what bytes are read as is a strategy, and they are its text in some version
+abbrev pub ReadAreStrategies : Type 0
+ReadAreStrategies = (bytes : List ℕ) (s : Strategy) → Reads bytes (Ok s) → (version : Version) × IsStrategy version s × (bytes ≡ strategy_text version s)
+
+-- the plans of two strategies of one game stand for raw plans
+abbrev pub StrategiesAreRaw : Type 0
+StrategiesAreRaw = (v w : Version) (one two : Strategy) → IsStrategy v one → IsStrategy w two → one.game ≡ two.game → AreRawPlans one two
+
+-- the plans of two strategies of one game that were read stand for raw plans
+abbrev pub ReadAreRaw : Type 0
+ReadAreRaw = (first second : List ℕ) (one two : Strategy) → Reads first (Ok one) → Reads second (Ok two) → one.game ≡ two.game → AreRawPlans one two
+
+-- the strategy whose text is printed of a game that a file states is a strategy that version 2 can write
+abbrev pub PrintedAreStrategies : Type 0
+PrintedAreStrategies = (bytes : List ℕ) (g : FileGame) (lists : ClassLists) (one two : Plan) (text : List ℕ) → read_at bytes ≡ Ok g
+    → (t : IsTextOf g lists one two text) → IsStrategy Two t.strategy
+
+-- the plans of a strategy whose text is printed of a game that a file states stand for raw plans
+abbrev pub PrintedAreRaw : Type 0
+PrintedAreRaw = (bytes : List ℕ) (g : FileGame) (lists : ClassLists) (one two : Plan) (text : List ℕ) → read_at bytes ≡ Ok g
+    → (t : IsTextOf g lists one two text) → AreRawPlans t.strategy t.strategy

@@ -1,0 +1,4 @@
+pub mod Lawful
+pub mod Confirming
+pub mod Answers
+pub mod RawGames
