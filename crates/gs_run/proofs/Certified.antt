@@ -25,7 +25,8 @@ use Rattle.gs_words.specs.Tasks.{Certify, Verify}
 use Rattle.gs_run.proofs.Completed.{completes, ends_so, over_strategy}
 use Rattle.gs_run.proofs.Judged.{both_written, text_parted}
 use Rattle.gs_run.proofs.Promised.{of_strategy, printed, prints_so, same_text}
-use Rattle.gs_run.specs.Promises.{CertifiedAtLast, CertifiesWell, CompletesStrategy, EndsSo, EndsWell, OfCertificate, OfConfirmed, VerifiesAtLast, VerifiesWell}
+use Rattle.gs_run.specs.Endings.{EndsSo, EndsWell}
+use Rattle.gs_run.specs.Promises.{CertifiedAtLast, CertifiesWell, CompletesStrategy, OfCertificate, OfConfirmed, VerifiesAtLast, VerifiesWell}
 use Rattle.gs_run.specs.Running.{Ends, RunsTo}
 use Rattle.gs_run.specs.declared.status.Status.{Status}
 

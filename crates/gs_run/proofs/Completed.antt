@@ -25,7 +25,8 @@ use Rattle.gs_words.specs.Requests.{request_of}
 use Rattle.gs_words.specs.Tasks.{Task, Shrink, Check, Make, Evaluate, Query, Upgrade, Certify, Verify, Solve, Play, Path, Judge, Duel}
 use Rattle.gs_words.specs.declared.request.Grouping.{Grouping}
 use Rattle.gs_run.proofs.Promised.{same_task}
-use Rattle.gs_run.specs.Promises.{Completes, CompletesGame, CompletesStrategy, EndsChecked, EndsSo, EndsWell, FilesAtLast, MakesAtLast}
+use Rattle.gs_run.specs.Endings.{EndsChecked, EndsSo, EndsWell}
+use Rattle.gs_run.specs.Promises.{Completes, CompletesGame, CompletesStrategy, FilesAtLast, MakesAtLast}
 use Rattle.gs_run.specs.Running.{Ends, RunsTo, Asked, Inputs, IsAnswered, IsRefused, ReadsWhole}
 use Rattle.gs_run.specs.Statuses.{status_of}
 use Rattle.gs_run.specs.declared.status.Status.{Status}

@@ -1,6 +1,13 @@
 mod Ends
+mod Answered
+mod Meant
+mod Concluded
+mod Decided
+mod Theorem
+mod InMemory
 mod Words
 mod Promised
 mod Completed
 mod Judged
 mod Certified
+mod Kept

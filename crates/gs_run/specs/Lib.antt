@@ -1,4 +1,10 @@
-pub mod Promises
 pub mod Running
 pub mod Statuses
 pub mod Told
+pub mod Meanings
+pub mod Endings
+pub mod Deciding
+pub mod Theorem
+pub mod InMemory
+pub mod Starting
+pub mod Promises

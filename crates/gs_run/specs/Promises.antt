@@ -1,5 +1,5 @@
 -- What a run promises of each command beyond what each status says: what is printed, and that it ends well.
-use Rattle.std.specs.Prelude.{◌≡◌, ◌⊎◌, ℕ, ◌≤◌, ◌++◌, ◌∷◌, List, Bool, length, Some, Ok, true, false, IsTrue}
+use Rattle.std.specs.Prelude.{◌≡◌, ℕ, ◌≤◌, ◌++◌, ◌∷◌, List, Bool, length, Some, Ok, true, false, IsTrue}
 use Rattle.std.specs.Io.KnownBytes.{Appends}
 use Rattle.gs_answer.specs.Asking.{Asks, reads}
 use Rattle.gs_certificate.specs.TextLaws.{IsStated}
@@ -22,13 +22,10 @@ use Rattle.gs_json.specs.FirstLine.{first_line}
 use Rattle.gs_made.specs.Made.{made_game}
 use Rattle.gs_made.specs.declared.kind.Kind.{Kind}
 use Rattle.gs_model.specs.Classes.{ClassLists}
-use Rattle.gs_model.specs.Frame.{frame_of}
 use Rattle.gs_model.specs.Lossless.{IsLossless}
-use Rattle.gs_model.specs.SignalClasses.{IsSignalClasses}
 use Rattle.gs_model.specs.Verdict.{IsVerdict}
 use Rattle.gs_raw.specs.Cells.{raw_cell_count}
-use Rattle.gs_reply.specs.Refusals.{Refusal, cause_of}
-use Rattle.gs_reply.specs.Replies.{Reply, Prints, Refuses}
+use Rattle.gs_reply.specs.Replies.{Reply, Prints}
 use Rattle.gs_seq.specs.Stops.{IsSmall}
 use Rattle.gs_settle.specs.Paths.{IsPathShown, ShowsPath}
 use Rattle.gs_settle.specs.Playing.{IsPlayed, Plays}
@@ -46,9 +43,8 @@ use Rattle.gs_words.specs.Requests.{request_of}
 use Rattle.gs_words.specs.Tasks.{Task, Shrink, Check, Make, Evaluate, Query, Upgrade, Judge, Duel, Certify, Verify, Solve, Play, Path}
 use Rattle.gs_words.specs.declared.names.CommandName.{CommandName}
 use Rattle.gs_words.specs.declared.request.Grouping.{Grouping}
-use Rattle.gs_words.specs.declared.request.Grouping.TheVariants.{Isomorphism}
+use Rattle.gs_run.specs.Endings.{EndsChecked, EndsSo, EndsWell}
 use Rattle.gs_run.specs.Running.{Ends, ReadsWhole, RunsTo, Unread, most_bytes}
-use Rattle.gs_run.specs.Statuses.{status_of}
 use Rattle.gs_run.specs.declared.status.Status.{Status}
 use Rattle.gs_run.specs.declared.status.Status.TheVariants as status
 
@@ -222,12 +218,6 @@ VerifiesWell words old new s = request_of words ≡ Some Verify → s ≡ status
 abbrev pub NothingFailed : Ends → Ends → Type 0
 NothingFailed old new = (Rose old.read_faults new.read_faults → ⊥) × (Rose old.write_faults new.write_faults → ⊥)
 
--- well, with a text that is said; without memory; or at the status of a refusal that is said
-abbrev pub EndsSo : (Reply → Type 0) → Status → Type 0
-EndsSo says s =
-    ((s ≡ status.Ok) × ((text : List ℕ) × says (Prints text))) ⊎ ((s ≡ status.Memory)
-    ⊎ ((why : Refusal) × says (Refuses why) × (status_of (cause_of why) ≡ s)))
-
 -- over any bytes that are not too many, a task that reads them ends so as it says of them
 abbrev pub Completes : List (List ℕ) → Ends → Ends → Status → Type 0
 Completes words old new s =
@@ -235,26 +225,12 @@ Completes words old new s =
     → NothingFailed old new
     → EndsSo (Asks task bytes) s
 
--- the signal classes of the game are not lossless
-pub record AreUnlike (g : FileGame) : Type 0 where
-  pub classes : ClassLists
-  pub are : IsSignalClasses (rules_of g) classes
-  pub not_lossless : IsLossless (frame_of (rules_of g)) classes → ⊥
-
 -- over an accepted game file, which is not too long, a task ends so
 abbrev pub CompletesGame : Task → (FileGame → Status → Type 0) → List (List ℕ) → Ends → Ends → Status → Type 0
 CompletesGame task ends words old new s =
     (bytes : List ℕ) (g : FileGame) → request_of words ≡ Some task → old.left ≡ Some bytes → length bytes ≤ most_bytes → read_at bytes ≡ Ok g
     → NothingFailed old new
     → ends g s
-
--- well, or without memory
-abbrev pub EndsWell : Status → Type 0
-EndsWell s = (s ≡ status.Ok) ⊎ (s ≡ status.Memory)
-
--- the same, or at the refusal of signal classes that are not lossless
-abbrev pub EndsChecked : Grouping → FileGame → Status → Type 0
-EndsChecked grouping g s = (s ≡ status.Ok) ⊎ ((s ≡ status.Memory) ⊎ ((s ≡ status.Unlike) × (grouping ≡ Isomorphism) × AreUnlike g))
 
 -- over the text of a strategy, which is not too long, a task ends well, without memory, or at the exact place of a refusal
 abbrev pub CompletesStrategy : Task → (Strategy → Reply → Type 0) → List (List ℕ) → Ends → Ends → Status → Type 0

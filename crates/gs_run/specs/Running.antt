@@ -61,6 +61,10 @@ ReadsInput true old new before now result = ReadsAll (λ v. v.items) most_bytes 
 ReadsInput false old new before now (Ok v) = (v.items ≡ []) × (new ≡ old) × (now ≡ before)
 ReadsInput false old new before now (Err e) = ⊥
 
+-- no write to the output failed, nor a read where a source is read; and no count stands at its last value
+abbrev pub NothingFailed : Bool → Ends → Ends → Type 0
+NothingFailed reads_source old new = (reads_source ≡ true → Rose old.read_faults new.read_faults → ⊥) × (Rose old.write_faults new.write_faults → ⊥)
+
 -- nothing went out
 abbrev pub Quiet : Ends → Ends → Type 0
 Quiet old new = (new.given ≡ old.given) × (new.write_faults ≡ old.write_faults)
@@ -100,6 +104,10 @@ usage_line = codes "usage: gameshrink shrink, check, solve, play, evaluate, quer
 abbrev pub long_line : List ℕ
 long_line = codes "input longer than 16777216 bytes\n"
 
+-- the line that tells that memory ran out
+abbrev pub memory_line : List ℕ
+memory_line = codes "out of memory\n"
+
 -- what each status says; every other status is that of a refusal
 abbrev pub RunsTo : List (List ℕ) → Ends → Ends → Status → Type 0
 RunsTo words old new status.Ok =
@@ -114,7 +122,7 @@ RunsTo words old new status.TooLong =
     Asked words (λ task. (reads task ≡ true) × ((bytes : List ℕ) × Consumes old.left new.left bytes × (length bytes ≡ most_bytes + 1))
     × (new.read_faults ≡ old.read_faults) × Quiet old new × Tells old new long_line)
 RunsTo words old new status.Memory =
-    TookInput words old new × (new.read_faults ≡ old.read_faults) × Quiet old new × Tells old new (codes "out of memory\n")
+    TookInput words old new × (new.read_faults ≡ old.read_faults) × Quiet old new × Tells old new memory_line
 RunsTo words old new status.WriteFault =
     Asked words (λ task. ((text : List ℕ) × IsAnswered task old new (Prints text)
     × ((count : ℕ) × (count < length text) × Appends old.given new.given (take count text)))

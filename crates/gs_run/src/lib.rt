@@ -1,10 +1,14 @@
-//! The whole of the program, over any source and any two sinks.
+//! The whole of the program: over any source and any two sinks, over words and bytes in memory, and as a process.
 #![tactic(auto)]
 
 mod laws;
+mod memory;
+mod process;
 mod runs;
 mod status;
 
-pub use laws::length_limit_is_told;
-pub use runs::{out_of_memory, refuse_words, run};
+pub use laws::{commands_keep, length_limit_is_told, runs_are_one};
+pub use memory::{Outcome, run_bytes};
+pub use process::start;
+pub use runs::run;
 pub use status::Status;

@@ -1,10 +1,10 @@
 //! The whole of the program, over any source and any two sinks.
 
-ghost use Rattle.std.specs.Prelude.{◌≡◌, codes, map, string_bytes};
+ghost use Rattle.std.specs.Prelude.{◌≡◌, map, string_bytes};
 ghost use Rattle.gs_answer.specs.Asking.{reads};
 ghost use Rattle.gs_words.specs.Tasks.{task_of};
-ghost use Rattle.gs_run.specs.Promises.{Keeps};
-ghost use Rattle.gs_run.specs.Running.{ReadsInput, RunsTo, ends, usage_line};
+ghost use Rattle.gs_run.specs.Running.{ReadsInput, RunsTo, ends, memory_line, usage_line};
+ghost use Rattle.gs_run.specs.Theorem.{Does};
 ghost use Rattle.gs_run.specs.Told.{TellsTo};
 ghost use Rattle.gs_run.specs.declared.status.Status.TheVariants as status;
 
@@ -15,7 +15,15 @@ use gs_reply::Answer;
 use gs_words::{Request, WordsStop, read_words};
 use std::alloc::Global;
 
-const MOST_BYTES: u64 = 16_777_216;
+/// How long an input may be.
+pub(crate) const MOST_BYTES: u64 = 16_777_216;
+
+/// The line that refuses words that are no command with its options.
+pub(crate) const USAGE_LINE: &str =
+    "usage: gameshrink shrink, check, solve, play, evaluate, query, make, upgrade, judge, duel, certify, verify or path\n";
+
+/// The line that refuses an input that is too long.
+pub(crate) const LONG_LINE: &str = "input longer than 16777216 bytes\n";
 
 // Tells a line.
 fn tell<E: Sink>(err: &mut E, line: &[u8])
@@ -34,19 +42,17 @@ fn refuse<E: Sink>(err: &mut E, status: Status, line: &str) -> Status
 }
 
 /// Tells the words that can be used.
-pub fn refuse_words<E: Sink>(err: &mut E) -> Status
+pub(crate) fn refuse_words<E: Sink>(err: &mut E) -> Status
     ensures status { result ≡ status.Usage }
     ensures told { TellsTo (E.given err.old) (E.faults err.old) (E.given err.new) (E.faults err.new) usage_line }
 {
-    let usage =
-        "usage: gameshrink shrink, check, solve, play, evaluate, query, make, upgrade, judge, duel, certify, verify or path\n";
-    refuse(err, Status::Usage, usage)
+    refuse(err, Status::Usage, USAGE_LINE)
 }
 
 /// Tells that memory ran out.
-pub fn out_of_memory<E: Sink>(err: &mut E) -> Status
+pub(crate) fn out_of_memory<E: Sink>(err: &mut E) -> Status
     ensures status { result ≡ status.Memory }
-    ensures told { TellsTo (E.given err.old) (E.faults err.old) (E.given err.new) (E.faults err.new) (codes "out of memory\n") }
+    ensures told { TellsTo (E.given err.old) (E.faults err.old) (E.given err.new) (E.faults err.new) memory_line }
 {
     refuse(err, Status::Memory, "out of memory\n")
 }
@@ -83,9 +89,7 @@ fn run_words<S: Source, O: Sink, E: Sink>(
     let bytes = match input(alloc, source, request) {
         Ok(bytes) => bytes,
         Err(ReadStop::Fault) => return refuse(err, Status::ReadFault, "read fault\n"),
-        Err(ReadStop::TooLong) => {
-            return refuse(err, Status::TooLong, "input longer than 16777216 bytes\n");
-        }
+        Err(ReadStop::TooLong) => return refuse(err, Status::TooLong, LONG_LINE),
         Err(ReadStop::Memory) => return out_of_memory(err),
     };
     match answer(alloc, request, &bytes) {
@@ -101,12 +105,11 @@ fn run_words<S: Source, O: Sink, E: Sink>(
     }
 }
 
-/// Does what the words ask for. `words` are the program's words without its own name: a command and its options.
+/// Does what the words ask for, and returns how the run ended. `words` are the program's words without its own name: a command and its options.
 ///
-/// The source is read to its end before work starts, by the commands that read an input, and everything is computed before the first byte goes
-/// out. A run that is refused gives nothing to `out`, but for one whose write fails, which gave a proper
-/// prefix of its text. It tells one line to `err`; where that fails the status stays. A run that ends well
-/// tells nothing.
+/// Commands that read an input read the source to its end first. All work is done before the first byte goes to `out`. A run that ends well tells
+/// nothing to `err`. Any other tells one line, and its status stays even where that write fails. It gives nothing to `out`, unless a write failed:
+/// then a proper prefix of the text went out.
 pub fn run<S: Source, O: Sink, E: Sink>(
     alloc: Global,
     words: &[String],
@@ -114,7 +117,13 @@ pub fn run<S: Source, O: Sink, E: Sink>(
     out: &mut O,
     err: &mut E,
 ) -> Status
-    ensures { Keeps (map string_bytes words.now)
+    ensures does { Does (record {
+      words = map string_bytes words.now;
+      old = ends (S.left source.old) (S.faults source.old) (O.given out.old) (O.faults out.old) (E.given err.old) (E.faults err.old);
+      new = ends (S.left source.new) (S.faults source.new) (O.given out.new) (O.faults out.new) (E.given err.new) (E.faults err.new);
+      status = result;
+    }) }
+    ensures runs { RunsTo (map string_bytes words.now)
         (ends (S.left source.old) (S.faults source.old) (O.given out.old) (O.faults out.old) (E.given err.old) (E.faults err.old))
         (ends (S.left source.new) (S.faults source.new) (O.given out.new) (O.faults out.new) (E.given err.new) (E.faults err.new))
         result }

@@ -1,0 +1,99 @@
+-- How each command ends over bytes that it accepts, where nothing outside fails: well, out of memory, or at a refusal that its definition tells.
+use Rattle.std.specs.Prelude.{◌≡◌, ◌⊎◌, ℕ, ◌++◌, List, false, true}
+use Rattle.gs_certificate.specs.TextLaws.{IsStated}
+use Rattle.gs_certificate.specs.Texts.{Stated, certificate_text}
+use Rattle.gs_certificate.specs.Views.{certificate_view}
+use Rattle.gs_certificate.specs.declared.certificate.Certificate.{Certificate}
+use Rattle.gs_certify.specs.Certificates.{SaysCertified}
+use Rattle.gs_certify.specs.Verifying.{SaysChecked}
+use Rattle.gs_compare.specs.Commands.{SaysDuel, SaysJudged}
+use Rattle.gs_confirm.specs.Commands.{OfConfirmed, SaysNumbers, SaysQueried, SaysUpgraded}
+use Rattle.gs_file.specs.Reading.{FileGame, rules_of}
+use Rattle.gs_file.specs.States.{FileStates}
+use Rattle.gs_file.specs.declared.version.Version.{Version}
+use Rattle.gs_made.specs.Made.{made_game}
+use Rattle.gs_model.specs.Classes.{ClassLists}
+use Rattle.gs_model.specs.Frame.{frame_of}
+use Rattle.gs_model.specs.Lossless.{IsLossless}
+use Rattle.gs_model.specs.SignalClasses.{IsSignalClasses}
+use Rattle.gs_reply.specs.Refusals.{Refusal, cause_of}
+use Rattle.gs_reply.specs.Replies.{Reply, Prints, Refuses}
+use Rattle.gs_settle.specs.Paths.{ShowsPath}
+use Rattle.gs_settle.specs.Playing.{Plays}
+use Rattle.gs_settle.specs.Settling.{OfGrouping}
+use Rattle.gs_settle.specs.Solving.{Solves}
+use Rattle.gs_strategy.specs.Confirmed.{IsConfirmed}
+use Rattle.gs_strategy.specs.Laws.{IsStrategy}
+use Rattle.gs_strategy.specs.Texts.{strategy_text}
+use Rattle.gs_strategy.specs.Values.{Strategy}
+use Rattle.gs_words.specs.Tasks.{Task, Shrink, Check, Make, Evaluate, Query, Upgrade, Judge, Duel, Certify, Verify, Solve, Play, Path}
+use Rattle.gs_words.specs.declared.request.Grouping.{Grouping}
+use Rattle.gs_words.specs.declared.request.Grouping.TheVariants.{Isomorphism}
+use Rattle.gs_run.specs.Meanings.{Means}
+use Rattle.gs_run.specs.Statuses.{status_of}
+use Rattle.gs_run.specs.declared.status.Status.{Status}
+use Rattle.gs_run.specs.declared.status.Status.TheVariants as status
+
+-- well, with a text that is said; out of memory; or at the status of a refusal that is said
+abbrev pub EndsSo : (Reply → Type 0) → Status → Type 0
+EndsSo says s =
+    ((s ≡ status.Ok) × ((text : List ℕ) × says (Prints text))) ⊎ ((s ≡ status.Memory)
+    ⊎ ((why : Refusal) × says (Refuses why) × (status_of (cause_of why) ≡ s)))
+
+-- well, or out of memory
+abbrev pub EndsWell : Status → Type 0
+EndsWell s = (s ≡ status.Ok) ⊎ (s ≡ status.Memory)
+
+-- the signal classes of the game are not lossless
+pub record AreUnlike (g : FileGame) : Type 0 where
+  pub classes : ClassLists
+  pub are : IsSignalClasses (rules_of g) classes
+  pub not_lossless : IsLossless (frame_of (rules_of g)) classes → ⊥
+
+-- well, out of memory, or at the refusal of signal classes that are not lossless
+abbrev pub EndsChecked : Grouping → FileGame → Status → Type 0
+EndsChecked grouping g s = (s ≡ status.Ok) ⊎ ((s ≡ status.Memory) ⊎ ((s ≡ status.Unlike) × (grouping ≡ Isomorphism) × AreUnlike g))
+
+-- ---- over files
+
+-- this is said of the game that the bytes state
+abbrev pub OverGame : (FileGame → Status → Type 0) → List ℕ → Status → Type 0
+OverGame ends bytes s = (g : FileGame) → FileStates bytes g → ends g s
+
+-- this is said of the strategy whose file the bytes are
+abbrev pub OverStrategy : (Strategy → Status → Type 0) → List ℕ → Status → Type 0
+OverStrategy ends bytes s = (version : Version) (t : Strategy) → IsStrategy version t → bytes ≡ strategy_text version t → ends t s
+
+-- this is said of the two strategies whose files the bytes are, the second behind the first
+abbrev pub OverTwo : (Strategy → Strategy → Status → Type 0) → List ℕ → Status → Type 0
+OverTwo ends bytes s =
+    (v w : Version) (one two : Strategy) → IsStrategy v one → IsStrategy w two → bytes ≡ strategy_text v one ++ strategy_text w two → ends one two s
+
+-- over a strategy file and behind it a certificate's text; and over what `certify` prints of a strategy file
+pub record OverCertificate (bytes : List ℕ) (s : Status) : Type 0 where
+  pub any : (version : Version) (t : Strategy) (c : Stated) → IsStrategy version t → IsStated c → bytes ≡ strategy_text version t ++ certificate_text c
+      → EndsSo (λ reply. (d : Certificate) × (certificate_view d ≡ c) × SaysChecked t d reply) s
+  pub certified : (version : Version) (t : Strategy) → IsStrategy version t → Means Certify (strategy_text version t) bytes → EndsWell s
+
+-- as it is said of the strategy; and well, or out of memory, where the strategy is confirmed, as each is that `solve` or `play` prints
+abbrev pub EndsEvaluated : Strategy → Status → Type 0
+EndsEvaluated t s = EndsSo (OfConfirmed SaysNumbers t) s × (IsConfirmed t → EndsWell s)
+
+-- ---- the table
+
+-- how each command ends over bytes that it accepts
+abbrev pub Concludes : Task → List ℕ → Status → Type 0
+Concludes (Shrink summary) = OverGame (λ g s. EndsWell s)
+Concludes (Check grouping summary) = OverGame (EndsChecked grouping)
+Concludes (Solve grouping) = OverGame (λ g s. EndsSo (OfGrouping grouping Solves g) s)
+Concludes (Play grouping turns) = OverGame (λ g s. EndsSo (OfGrouping grouping (Plays turns) g) s)
+Concludes (Path grouping) = OverGame (λ g s. EndsSo (OfGrouping grouping ShowsPath g) s)
+Concludes Evaluate = OverStrategy EndsEvaluated
+Concludes (Query player line signal) = OverStrategy (λ t s. EndsSo (OfConfirmed (SaysQueried player line signal) t) s)
+Concludes Upgrade = OverStrategy (λ t s. EndsSo (OfConfirmed SaysUpgraded t) s)
+Concludes Judge = OverStrategy (λ t s. EndsSo (SaysJudged t) s)
+Concludes Duel = OverTwo (λ one two s. EndsSo (SaysDuel one two) s)
+Concludes Certify = OverStrategy (λ t s. EndsSo (OfConfirmed SaysCertified t) s)
+Concludes Verify = OverCertificate
+Concludes (Make kind ranks suits cap false) = λ bytes s. EndsWell s
+Concludes (Make kind ranks suits cap true) = λ bytes s. OverGame (λ g t. EndsWell t) (made_game kind ranks suits cap) s

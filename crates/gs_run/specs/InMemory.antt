@@ -1,0 +1,55 @@
+-- What the program does with words and bytes in memory, as `Does` says it of a run, with no source and no sinks.
+use Rattle.std.specs.Prelude.{◌≡◌, ◌≢◌, ◌⊎◌, ℕ, ◌<◌, ◌≤◌, List, [], Bool, length, Some, None, true, false}
+use Rattle.gs_answer.specs.Asking.{Asks, reads}
+use Rattle.gs_reply.specs.Refusals.{cause_of, line_of}
+use Rattle.gs_reply.specs.Replies.{Reply, Prints, Refuses}
+use Rattle.gs_words.specs.Requests.{request_of}
+use Rattle.gs_words.specs.Tasks.{Task, Solve}
+use Rattle.gs_words.specs.declared.request.Grouping.{Grouping}
+use Rattle.gs_run.specs.Endings.{Concludes}
+use Rattle.gs_run.specs.Meanings.{AskFor, Means, ShowsSolution}
+use Rattle.gs_run.specs.Running.{Asked, long_line, most_bytes, usage_line}
+use Rattle.gs_run.specs.Statuses.{status_of}
+use Rattle.gs_run.specs.declared.status.Status.{Status}
+use Rattle.gs_run.specs.declared.status.Status.TheVariants as status
+
+-- an input of a task that reads one is not too long
+abbrev pub Fits : Bool → List ℕ → Type 0
+Fits true input = length input ≤ most_bytes
+Fits false input = Unit {0}
+
+-- the reply was given: its text printed, or its line told
+abbrev pub GivesReply : Reply → Status → List ℕ → List ℕ → Type 0
+GivesReply (Prints text) s printed told = (s ≡ status.Ok) × (printed ≡ text) × (told ≡ [])
+GivesReply (Refuses why) s printed told = (s ≡ status_of (cause_of why)) × (printed ≡ []) × (told ≡ line_of why)
+
+-- a reply that the definition of the task says of the input was given
+abbrev pub GivesAnswer : Task → List ℕ → Status → List ℕ → List ℕ → Type 0
+GivesAnswer task input s printed told = (reply : Reply) × Asks task input reply × GivesReply reply s printed told
+
+-- words that are no request were given the usage line, an input that is too long the line that refuses it, and any other what the definition of its task says
+abbrev pub GivesSo : List (List ℕ) → List ℕ → Status → List ℕ → List ℕ → Type 0
+GivesSo words input s printed told =
+    ((request_of words ≡ None) × (s ≡ status.Usage) × (printed ≡ []) × (told ≡ usage_line))
+    ⊎ Asked words (λ task. ((reads task ≡ true) × (most_bytes < length input) × (s ≡ status.TooLong) × (printed ≡ []) × (told ≡ long_line))
+    ⊎ (Fits (reads task) input × GivesAnswer task input s printed told))
+
+-- what the program does with words and bytes in memory: how it ends, what it prints and what it tells
+pub record DoesInMemory (words : List (List ℕ)) (input : List ℕ) (s : Status) (printed told : List ℕ) : Type 0 where
+  -- a command with its options is never refused for its words
+  pub takes_words : (task : Task) → AskFor words task → s ≢ status.Usage
+  -- words that are no request get the usage line
+  pub no_request : request_of words ≡ None → (s ≡ status.Usage) × (printed ≡ []) × (told ≡ usage_line)
+  -- at status 0 it prints what the command means, and tells nothing
+  pub prints : (task : Task) → AskFor words task → s ≡ status.Ok → Means task input printed × (told ≡ [])
+  -- and the plans that `solve` prints are read off its path
+  pub path : (grouping : Grouping) → AskFor words (Solve grouping) → s ≡ status.Ok → ShowsSolution grouping input printed
+  -- at every other status it prints nothing
+  pub quiet : s ≢ status.Ok → printed ≡ []
+  -- over bytes that the command accepts it ends as the table of endings says, and never for want of memory
+  pub ends : (task : Task) → AskFor words task → Fits (reads task) input → Concludes task input s × (s ≢ status.Memory)
+  -- an input that is too long is refused
+  pub too_long : (task : Task) → request_of words ≡ Some task → reads task ≡ true → most_bytes < length input
+      → (s ≡ status.TooLong) × (printed ≡ []) × (told ≡ long_line)
+  -- any words and bytes have one reply, and it is given
+  pub decided : (task : Task) (reply : Reply) → request_of words ≡ Some task → Fits (reads task) input → Asks task input reply → GivesReply reply s printed told

@@ -1,0 +1,161 @@
+-- What each command prints, by the bytes that it reads, in the words of games and strategies. No order of checks is spoken of.
+use Rattle.std.specs.Prelude.{◌≡◌, ℕ, ◌<◌, ◌≤◌, ◌++◌, ◌∷◌, List, pos, Some, false, true, IsTrue}
+use Rattle.gs_certificate.specs.Texts.{certificate_text}
+use Rattle.gs_certificate.specs.Views.{certificate_view}
+use Rattle.gs_certificate.specs.declared.certificate.Certificate.{Certificate}
+use Rattle.gs_certify.specs.Certificates.{IsCertified}
+use Rattle.gs_certify.specs.Verifying.{IsVerified}
+use Rattle.gs_compare.specs.Judging.{AreHands, hands_text}
+use Rattle.gs_confirm.specs.Queries.{IsQueried}
+use Rattle.gs_file.specs.Reading.{FileGame, rules_of}
+use Rattle.gs_file.specs.States.{FileStates}
+use Rattle.gs_file.specs.declared.version.Version.{Version}
+use Rattle.gs_file.specs.declared.version.Version.TheVariants.{Two}
+use Rattle.gs_group.specs.Checking.{IsChecked, IsGrouping}
+use Rattle.gs_group.specs.Shrinking.{IsShrunk}
+use Rattle.gs_laws.specs.Lawful.{AreRawPlans}
+use Rattle.gs_made.specs.Made.{made_game}
+use Rattle.gs_model.specs.Classes.{ClassLists}
+use Rattle.gs_model.specs.Frame.{signal_count}
+use Rattle.gs_model.specs.Lossless.{IsLossless}
+use Rattle.gs_model.specs.Payoff.{hand_weight}
+use Rattle.gs_model.specs.Play.{IsFictitiousPlay}
+use Rattle.gs_model.specs.Verdict.{IsVerdict}
+use Rattle.gs_raw.specs.Cells.{raw_cell_count}
+use Rattle.gs_seq.specs.Slots.{plan_of}
+use Rattle.gs_seq.specs.Stops.{IsSmall}
+use Rattle.gs_settle.specs.Paths.{IsPathShown}
+use Rattle.gs_settle.specs.Solving.{IsSolved}
+use Rattle.gs_strategy.specs.Confirmed.{IsConfirmed, over, raw_plan}
+use Rattle.gs_strategy.specs.Laws.{AreFractions, IsStrategy}
+use Rattle.gs_strategy.specs.Texts.{strategy_text}
+use Rattle.gs_strategy.specs.Values.{FractionParts, Numbers, Strategy, frame_in}
+use Rattle.gs_text.specs.VerdictText.{verdict_text}
+use Rattle.gs_words.specs.Commands.{command_word}
+use Rattle.gs_words.specs.Plain.{Given, are_plain, given_for, option_words}
+use Rattle.gs_words.specs.Requests.{task_for}
+use Rattle.gs_words.specs.Tasks.{Task, Shrink, Check, Make, Evaluate, Query, Upgrade, Judge, Duel, Certify, Verify, Solve, Play, Path}
+use Rattle.gs_words.specs.declared.names.CommandName.{CommandName}
+use Rattle.gs_words.specs.declared.request.Grouping.{Grouping}
+
+-- ---- words
+
+-- the words are a command and options of it, in any order, each at most once and each required one there; together they ask for the task
+pub record AskFor (words : List (List ℕ)) (task : Task) : Type 0 where
+  pub command : CommandName
+  pub options : List Given
+  pub plain : IsTrue (are_plain command options)
+  pub are : words ≡ command_word command ∷ option_words options
+  pub task_is : task_for command (given_for options) ≡ Some task
+
+-- ---- game files
+
+-- the bytes are a game file, and this is said of its game and of the text
+pub record OfGameFile (says : FileGame → List ℕ → Type 0) (bytes text : List ℕ) : Type 0 where
+  pub game : FileGame
+  pub states : FileStates bytes game
+  pub said : says game text
+
+-- The text is the strategy file, in version 2, of a strategy of the game over the classes of the grouping. Both plans stand for raw plans of their
+-- players. The classes are lossless, and the three numbers are the value of the plans and what each player could still gain by any raw plan. Further
+-- this is said of the strategy.
+pub record IsStrategyFile (grouping : Grouping) (says : Strategy → Type 0) (g : FileGame) (text : List ℕ) : Type 0 where
+  pub strategy : Strategy
+  pub game : strategy.game ≡ g
+  pub grouped : IsGrouping grouping (rules_of g) strategy.classes
+  pub is : IsStrategy Two strategy
+  pub raw : AreRawPlans strategy strategy
+  pub confirmed : IsConfirmed strategy
+  pub said : says strategy
+  pub text_is : text ≡ strategy_text Two strategy
+
+-- the plans are those after this many turns of fictitious play
+abbrev pub IsPlayedOut : ℕ → Strategy → Type 0
+IsPlayedOut turns s = IsFictitiousPlay (frame_in s.game) s.classes turns (plan_of (frame_in s.game) s.classes s.one.total s.one.weights)
+    (plan_of (frame_in s.game) s.classes s.two.total s.two.weights)
+
+-- the classes of the grouping are lossless, the game over them keeps the limits, and this is said of the game, the classes and the text
+pub record OverLossless (grouping : Grouping) (says : FileGame → ClassLists → List ℕ → Type 0) (g : FileGame) (text : List ℕ) : Type 0 where
+  pub classes : ClassLists
+  pub grouped : IsGrouping grouping (rules_of g) classes
+  pub lossless : IsLossless (frame_in g) classes
+  pub small : IsSmall (frame_in g) classes
+  pub said : says g classes text
+
+-- ---- strategy files
+
+-- The bytes are the strategy file, in version 1 or 2, of a strategy. Both plans stand for raw plans of their players. Further this is said of the
+-- strategy and of the text.
+pub record OfStrategyFile (says : Strategy → List ℕ → Type 0) (bytes text : List ℕ) : Type 0 where
+  pub version : Version
+  pub strategy : Strategy
+  pub is : IsStrategy version strategy
+  pub written : bytes ≡ strategy_text version strategy
+  pub raw : AreRawPlans strategy strategy
+  pub said : says strategy text
+
+-- The value of player 1's plan of one strategy against player 2's of another, each over the classes of its own strategy, and both gaps, as reduced
+-- fractions: no raw plan of a player gains more than the gap, and some raw plan gains it.
+pub record AreOnRawCards (one two : Strategy) (n : Numbers) : Type 0 where
+  pub few : raw_cell_count (frame_in one.game) ≤ 16777216
+  pub fractions : AreFractions n
+  pub verdict : IsVerdict (frame_in one.game) (raw_plan one one.one) (raw_plan two two.two) (over n.value) (over n.gap1) (over n.gap2)
+
+-- the three lines of these numbers, of a strategy's own two plans
+abbrev pub IsJudged : Strategy → List ℕ → Type 0
+IsJudged s text = (n : Numbers) × AreOnRawCards s s n × (text ≡ verdict_text n)
+
+-- the lines of these numbers, of player 1's plan of the first strategy against player 2's of the second; then a line for each raw signal of round 1 with
+-- what it is worth to player 1, and each of these signals is dealt
+abbrev pub IsDuelled : Strategy → Strategy → List ℕ → Type 0
+IsDuelled one two text = (n : Numbers) × AreOnRawCards one two n
+    × ((signal : ℕ) → signal < signal_count (frame_in one.game) 1 → 0 < hand_weight (frame_in one.game) signal)
+    × ((hands : List FractionParts) × AreHands one two hands × (text ≡ verdict_text n ++ hands_text one.game.deck (rules_of one.game) hands))
+
+-- The bytes are two strategy files of one game, the second behind the first, each in version 1 or 2. Player 1's plan of the first and player 2's plan of
+-- the second stand for raw plans. Further this is said of the two strategies and of the text.
+pub record OfTwoFiles (says : Strategy → Strategy → List ℕ → Type 0) (bytes text : List ℕ) : Type 0 where
+  pub first_version : Version
+  pub second_version : Version
+  pub one : Strategy
+  pub two : Strategy
+  pub first : IsStrategy first_version one
+  pub second : IsStrategy second_version two
+  pub written : bytes ≡ strategy_text first_version one ++ strategy_text second_version two
+  pub one_game : one.game ≡ two.game
+  pub raw : AreRawPlans one two
+  pub said : says one two text
+
+-- The bytes are a strategy file and behind it the text of a certificate that holds of the strategy's plans, whoever made it. The text is the value of the
+-- plans and both bounds.
+pub record OfCertifiedFile (bytes text : List ℕ) : Type 0 where
+  pub version : Version
+  pub strategy : Strategy
+  pub certificate : Certificate
+  pub is : IsStrategy version strategy
+  pub written : bytes ≡ strategy_text version strategy ++ certificate_text (certificate_view certificate)
+  pub raw : AreRawPlans strategy strategy
+  pub verified : IsVerified strategy certificate text
+
+-- ---- the table
+
+-- what each command prints, by the bytes that it reads; `make` reads none
+abbrev pub Means : Task → List ℕ → List ℕ → Type 0
+Means (Shrink summary) = OfGameFile (IsShrunk summary)
+Means (Check grouping summary) = OfGameFile (IsChecked grouping summary)
+Means (Solve grouping) = OfGameFile (IsStrategyFile grouping (λ s. (s.numbers.gap1 ≡ (pos 0, pos 1)) × (s.numbers.gap2 ≡ (pos 0, pos 1))))
+Means (Play grouping turns) = OfGameFile (IsStrategyFile grouping (IsPlayedOut turns))
+Means (Path grouping) = OfGameFile (OverLossless grouping IsPathShown)
+Means Evaluate = OfStrategyFile (λ s text. IsConfirmed s × (text ≡ verdict_text s.numbers))
+Means (Query player line signal) = OfStrategyFile (λ s text. IsConfirmed s × IsQueried s player line signal text)
+Means Upgrade = OfStrategyFile (λ s text. IsConfirmed s × (text ≡ strategy_text Two s))
+Means Judge = OfStrategyFile IsJudged
+Means Duel = OfTwoFiles IsDuelled
+Means Certify = OfStrategyFile (λ s text. IsConfirmed s × IsCertified s text)
+Means Verify = OfCertifiedFile
+Means (Make kind ranks suits cap false) = λ bytes text. text ≡ made_game kind ranks suits cap
+Means (Make kind ranks suits cap true) = λ bytes text. OfGameFile (IsShrunk true) (made_game kind ranks suits cap) text
+
+-- the plans that `solve` prints are read off the end of the path of the game's linear program
+abbrev pub ShowsSolution : Grouping → List ℕ → List ℕ → Type 0
+ShowsSolution grouping = OfGameFile (OverLossless grouping IsSolved)

@@ -1,0 +1,29 @@
+-- What the process does with its real ends. No contract of std says what the words of the command line are, what a terminal, pipe or file gives, or
+-- what it takes. So the words are some words here, and a clause on bytes says something only of ends that tell their bytes.
+use Rattle.std.specs.Prelude.{◌≡◌, ◌⊎◌, ℕ, List}
+use Rattle.gs_run.specs.Running.{Ends, Quiet, RunsTo, Tells, Unread, memory_line, usage_line}
+use Rattle.gs_run.specs.Statuses.{code_of}
+use Rattle.gs_run.specs.Theorem.{Does}
+use Rattle.gs_run.specs.declared.status.Status.{Status}
+use Rattle.gs_run.specs.declared.status.Status.TheVariants as status
+
+-- nothing was read and nothing printed, and this line was told
+pub record OnlyTells (line : List ℕ) (old new : Ends) : Type 0 where
+  pub unread : Unread old new
+  pub quiet : Quiet old new
+  pub told : Tells old new line
+
+-- a run over some words
+pub record RanOver (old new : Ends) (s : Status) : Type 0 where
+  pub words : List (List ℕ)
+  pub does : Does (record { words = words; old = old; new = new; status = s })
+  pub runs : RunsTo words old new s
+
+-- how the process ends: as a run over the words that it collected; at words that are no text; or out of memory for them
+abbrev pub EndsStarted : Ends → Ends → Status → Type 0
+EndsStarted old new s =
+    RanOver old new s ⊎ (((s ≡ status.Usage) × OnlyTells usage_line old new) ⊎ ((s ≡ status.Memory) × OnlyTells memory_line old new))
+
+-- the process ends so, and its number is that of the status
+abbrev pub Started : Ends → Ends → ℕ → Type 0
+Started old new code = (s : Status) × (code ≡ code_of s) × EndsStarted old new s
