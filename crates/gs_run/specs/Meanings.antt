@@ -31,7 +31,7 @@ use Rattle.gs_strategy.specs.Laws.{AreFractions, IsStrategy}
 use Rattle.gs_strategy.specs.Texts.{strategy_text}
 use Rattle.gs_strategy.specs.Values.{FractionParts, Numbers, Strategy, frame_in}
 use Rattle.gs_text.specs.VerdictText.{verdict_text}
-use Rattle.gs_words.specs.Commands.{command_word}
+use Rattle.gs_words.specs.Commands.{entry_of}
 use Rattle.gs_words.specs.Plain.{Given, are_plain, given_for, option_words}
 use Rattle.gs_words.specs.Requests.{task_for}
 use Rattle.gs_words.specs.Tasks.{Task, Shrink, Check, Make, Evaluate, Query, Upgrade, Judge, Duel, Certify, Verify, Solve, Play, Path}
@@ -45,7 +45,7 @@ pub record AskFor (words : List (List ℕ)) (task : Task) : Type 0 where
   pub command : CommandName
   pub options : List Given
   pub plain : IsTrue (are_plain command options)
-  pub are : words ≡ command_word command ∷ option_words options
+  pub are : words ≡ (entry_of command).word ∷ option_words options
   pub task_is : task_for command (given_for options) ≡ Some task
 
 -- ---- game files
