@@ -5,9 +5,3 @@ mod Concluded
 mod Decided
 mod Theorem
 mod InMemory
-mod Words
-mod Promised
-mod Completed
-mod Judged
-mod Certified
-mod Kept

@@ -7,4 +7,3 @@ pub mod Deciding
 pub mod Theorem
 pub mod InMemory
 pub mod Starting
-pub mod Promises

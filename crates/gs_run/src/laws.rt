@@ -2,7 +2,6 @@
 
 ghost use Rattle.std.specs.{Prelude.{◌≡◌, ◌++◌, ℕ, List, codes}, Fmt.{decimal}};
 ghost use Rattle.gs_run.specs.Deciding.{OneReply};
-ghost use Rattle.gs_run.specs.Promises.{Keeps};
 ghost use Rattle.gs_run.specs.Running.{Ends, RunsTo, long_line, most_bytes};
 ghost use Rattle.gs_run.specs.declared.status.Status.{Status as RunStatus};
 
@@ -15,9 +14,4 @@ pub fn length_limit_is_told()
 pub fn runs_are_one()
     ensures { (words : List (List ℕ)) (old new : Ends) (s : RunStatus) (before after : Ends) (t : RunStatus) → RunsTo words old new s
         → RunsTo words before after t → OneReply words old new s before after t }
-{}
-
-/// What each status says gives, command by command, what is printed and how a run ends.
-pub fn commands_keep()
-    ensures { (words : List (List ℕ)) (old new : Ends) (s : RunStatus) → RunsTo words old new s → Keeps words old new s }
 {}

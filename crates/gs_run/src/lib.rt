@@ -7,7 +7,7 @@ mod process;
 mod runs;
 mod status;
 
-pub use laws::{commands_keep, length_limit_is_told, runs_are_one};
+pub use laws::{length_limit_is_told, runs_are_one};
 pub use memory::{Outcome, run_bytes};
 pub use process::start;
 pub use runs::run;
