@@ -1,6 +1,6 @@
 -- The simplex table: how the rows of a step stand in memory. A row has a number for each column, the right side, and one further place, which is 0 in a
 -- program row. The aim's row comes last, with its multiple in the further place and its last number negated, so that a pivot treats all rows alike.
--- The table holds a positive multiple of each row: only rows whose numbers would grow long are divided by their greatest common divisor.
+-- The table holds a positive multiple of each row, which need not be divided by its greatest common divisor.
 use Rattle.std.specs.Prelude.{◌≡◌, ℕ, ◌+◌, ◌*◌, ◌^◌, ◌<◌, ◌≤◌, ℤ, pos, neg_ℤ, List, length, unsigned_abs, nat_eq, ◌&&◌, if◌then◌else◌}
 use Rattle.gs_rows.specs.declared.Program.{Program}
 use Rattle.gs_rows.specs.Rows.{IsPrimitive}

@@ -70,7 +70,7 @@ fn narrow_quotient(number: i64, by: u64) -> i64
     number / (by as i64)
 }
 
-// Returns `number` over `by`, which divides it, for narrow numbers: the divisor's guess, or the result of a division where there is none.
+// Returns `number` over `by`, which divides it, for narrow numbers. Takes the divisor's guess where there is one, and divides otherwise.
 fn guessed_quotient(number: i64, by: u64, divisor: &Divisor) -> i64
     requires same { divisor.now.number ≡ pos by }
     requires some { 0 < by }
@@ -112,7 +112,7 @@ fn stays_narrow(own: i64, far: i64, row: u64, lead: u64) -> bool
     first + second < WIDE
 }
 
-// Returns a bound on the size of such a difference, where it is narrow.
+// Returns a bound on `own` times a number of at most `row` in size, less `far` times one of at most `lead`, where the bound is below 2^62.
 fn mixed_most(own: i64, far: i64, row: u64, lead: u64) -> u64
     requires { unsigned_abs own * row + unsigned_abs far * lead < 2 ^ 62 }
     ensures { result ≡ unsigned_abs own * row + unsigned_abs far * lead }
@@ -387,8 +387,8 @@ fn multipliers(own: i64, far: i64) -> (i64, i64)
 }
 
 // Clears the lead's column of `row`: the lead's number there times the row, less the row's number there times the lead, over a common divisor. Returns a
-// bound on the new numbers; or the first number that is not narrow even after division by the greatest common divisor, and then the row is half done. The
-// row's numbers are at most `top` in size. Row and lead are 0 outside the first `found` places.
+// bound on the new numbers. Where a number is not narrow even after division by the greatest common divisor, returns the first one instead, and the row is
+// half done. The row's numbers are at most `top` in size. Row and lead are 0 outside the first `found` places.
 pub(crate) fn reduce_row(
     lead: &Lead<'_>,
     row: &mut [i64],
