@@ -4,7 +4,7 @@ use Rattle.gs_model.specs.Game.{Game}
 use Rattle.gs_tree.specs.Walk.{last_count}
 use Rattle.gs_alike.specs.Alike.{AreAlike}
 
--- for each item one with the same mark, no later, and itself where the mark is no place of an item
+-- for each item one with the same mark, not behind it; the item itself where the mark is not the place of an item
 pub record AreFirsts (marks firsts : List ℕ) : Type 0 where
   pub long : length firsts ≡ length marks
   pub before : (i : ℕ) → i < length marks → slice_index firsts i ≤ i

@@ -41,7 +41,7 @@ pub(crate) fn list_hands(
     Ok(())
 }
 
-/// The kind with the hands of the board at a place, each as often: a new one where there is none.
+/// The kind with the hands of the board at a place, each as often; a new kind if no known one has them.
 pub(crate) fn kind_of(
     alloc: Global,
     kinds: &mut Kinds,

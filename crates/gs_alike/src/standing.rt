@@ -12,7 +12,7 @@ use gs_tree::Signals;
 use std::alloc::{AllocError, Global};
 use std::collections::HashMap;
 
-/// The boards of the last round, with the signals that they are of. None is looked at where some kind of cards has more than one copy, or the
+/// The boards of the last round, with the signals that they are of. They are not looked at where some kind of cards has more than one copy, or the
 /// players are dealt more than one private card.
 #[derive(Drop)]
 pub struct Boards<'a> {
@@ -70,7 +70,7 @@ impl<'a> Boards<'a> {
         Ok(marks)
     }
 
-    /// For each signal of the last round one that is like it, no later than itself: of the same key, as hard to come by, and with the same deals
+    /// For each signal of the last round one that is like it and not behind it: of the same key, as hard to come by, and with the same deals
     /// by the opponent's key, outcome and weight.
     pub fn stand_ins(&self, alloc: Global, keys: &[u32]) -> Result<Vec<u32>, AllocError>
         requires { length keys.now ≡ last_count (rules_of self.now.signals.now) }

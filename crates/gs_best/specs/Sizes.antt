@@ -20,7 +20,7 @@ sizes_of f lists = map (λ round. (points_in f round, class_count lists round)) 
 abbrev pub IsWide : Frame → ClassLists → ℕ → Type 0
 IsWide f lists wide = (round : ℕ) → 0 < round → round ≤ last_round f → class_count lists round ≤ wide
 
--- each of the rows to work on has a length of which this is true
+-- each of the rows to work on has a length that meets the test
 pub record AreOfLength (is_long : ℕ → Type 0) (s : Scratch) : Type 0 where
   pub numbers : is_long (length s.numbers.items)
   pub ends : is_long (length s.ends.items)
@@ -32,7 +32,7 @@ pub record AreOfLength (is_long : ℕ → Type 0) (s : Scratch) : Type 0 where
 abbrev pub HasRoom : Frame → ClassLists → Scratch → Type 0
 HasRoom f lists = AreOfLength (IsWide f lists)
 
--- there is room for so many points and so many values
+-- there is room for this many points and this many values
 pub record Holds (points entries : ℕ) (t : Table) : Type 0 where
   pub starts : points ≤ length t.starts.items
   pub values : entries ≤ length t.values.items

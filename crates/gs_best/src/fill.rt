@@ -12,7 +12,7 @@ use crate::room::{Scratch, Table, place_points};
 use crate::work::room_for;
 use std::alloc::{AllocError, Global};
 
-/// Copies so many values of a row into a list, from a place on.
+/// Copies the first values of a row into a list, from a place on.
 pub fn copy_values(row: &[i128], start: usize, count: usize, values: &mut [i128])
     requires row { count ≤ length row.now }
     requires room { start + count ≤ length values.old }
@@ -23,7 +23,7 @@ pub fn copy_values(row: &[i128], start: usize, count: usize, values: &mut [i128]
     }
 }
 
-/// Copies so many moves of a row into a list, from a place on.
+/// Copies the first moves of a row into a list, from a place on.
 pub fn copy_moves(row: &[u8], start: usize, count: usize, moves: &mut [u8])
     requires row { count ≤ length row.now }
     requires room { start + count ≤ length moves.old }

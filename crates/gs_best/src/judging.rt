@@ -33,7 +33,7 @@ fn round_sum(form: &Abstract, round: u8, values: &[i128], start: usize) -> i128
     run_sum(form, round, all, values, start)
 }
 
-/// What a player's best raw plan of total 1 gains, where his best values are known: their sum at the start, over all raw signals of its round.
+/// What a player's best raw plan of total 1 gains, where the player's best values are known: their sum at the start, over all raw signals of its round.
 fn start_total(side: &Deviator<'_>, table: &Table, scratch: &mut Scratch) -> i128
     requires filled { let f = frame_of side.now.form.now in let lists = lists_of side.now.form.now in
         IsFilled f lists side.now.player (lifted f lists side.now.other.now) table.now }

@@ -9,7 +9,7 @@ use crate::form::{chooser, class_total, point_total, round_at};
 use crate::room::Table;
 use std::alloc::{AllocError, Global};
 
-/// So many moves more, from a place of a list on.
+/// The next moves of a list, from a place on.
 fn push_row(moves: &mut Vec<u8>, picks: &[u8], start: usize, count: usize) -> Result<(), AllocError>
     requires { start + count ≤ length picks.now }
     ensures { IfOk result (λ _. moves.new.items ≡ moves.old.items ++ take count (drop start picks.now)) }

@@ -27,7 +27,7 @@ fn added(choice: u8, sum: i128, worth: i128) -> i128
     if choice == 0 { worth } else { plus(sum, worth) }
 }
 
-/// Raises each of so many bests to its worth, where this is the first move or it is greater.
+/// Raises each of the first bests to its worth, where this is the first move or the worth is greater.
 pub fn raise(worths: &[i128], choice: u8, count: usize, best: &mut [i128], moves: &mut [u8])
     requires worths { count ≤ length worths.now }
     requires best { count ≤ length best.old }
@@ -44,7 +44,7 @@ pub fn raise(worths: &[i128], choice: u8, count: usize, best: &mut [i128], moves
     }
 }
 
-/// Adds to each of so many sums its worth; the first move's worth begins them.
+/// Adds to each of the first sums its worth; the first move's worth begins them.
 pub fn add(worths: &[i128], choice: u8, count: usize, sums: &mut [i128])
     requires worths { count ≤ length worths.now }
     requires sums { count ≤ length sums.old }
@@ -57,7 +57,7 @@ pub fn add(worths: &[i128], choice: u8, count: usize, sums: &mut [i128])
     }
 }
 
-/// The values of a point, and where the player chooses his first best moves, for each class of the point's round.
+/// The values of a point, and where the player chooses the first best moves, for each class of the point's round.
 pub(crate) fn merge_moves(side: &Deviator<'_>, point: u32, table: &Table, scratch: &mut Scratch)
     requires point { point < point_count (frame_of side.now.form.now) }
     requires laid_out { IsLaidOut (frame_of side.now.form.now) (lists_of side.now.form.now) table.now }

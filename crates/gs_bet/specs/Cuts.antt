@@ -62,7 +62,7 @@ pub record IsOpen (o : Open) (outer : List Open) : Type 0 where
   pub fresh : has_letter o.moves o.letter ≡ false
   pub chips : o.chips ≤ 4096
 
--- the same of all open acts
+-- each open act is one, inside those after it
 abbrev pub AreOpen : List Open → Type 0
 AreOpen [] = Unit {0}
 AreOpen (o ∷ outer) = IsOpen o outer × AreOpen outer

@@ -30,7 +30,7 @@ abbrev pub is_player : ℕ → Bool
 is_player p = p == 1 || p == 2
 
 abbrev mutual
-  -- at most so many acts stand within each other, and each act is as it has to be
+  -- at most `left` acts stand within each other, and each act is as it has to be
   pub is_sound : ℕ → Bet → Bool
   is_sound zero (act player moves) = false
   is_sound (suc left) (act player moves) = is_player player && (has_move moves && are_sound left moves)

@@ -49,7 +49,7 @@ unfoldable pub chips_at : ℕ → List ℕ → ℕ × List ℕ
 chips_at n [] = (n, [])
 chips_at n (b ∷ bytes) = if goes_on n b then chips_at (n * 10 + (b - 48)) bytes else (n, b ∷ bytes)
 
--- the player of an act, where so many acts are left
+-- the player of an act, where `left` further acts may open
 unfoldable pub player_at : ℕ → List ℕ → Read ℕ
 player_at left [] = Err (Syntax, [])
 player_at left (b ∷ bytes) = if b == 49 || b == 50 then (if left == 0 then Err (TooDeep, b ∷ bytes) else Ok (b - 48, bytes)) else Err (Syntax, b ∷ bytes)
@@ -63,14 +63,14 @@ move_at tree moves bytes = do
   next ← tree colon.1
   Ok (push_move moves letter.0 chips.0 next.0, next.1)
 
--- whether another move follows, behind so many
+-- whether another move follows these
 unfoldable pub more_at : ℕ → List ℕ → Read Bool
 more_at moves [] = Err (Syntax, [])
 more_at moves (b ∷ bytes) =
     if b == 93 then Ok (false, bytes)
     else (if b == 44 && nat_lt moves 26 then Ok (true, bytes) else Err (Syntax, b ∷ bytes))
 
--- the moves up to `]`, at most so many
+-- the moves up to `]`, at most `left` of them
 unfoldable pub moves_at : (List ℕ → Read Bet) → ℕ → Moves → List ℕ → Read Moves
 moves_at tree zero moves bytes = Err (Syntax, bytes)
 moves_at tree (suc room) moves bytes = do
@@ -85,7 +85,7 @@ inner_at deeper (b ∷ bytes) =
     if b == 61 then Ok (even, bytes)
     else (if b == 33 then Ok (fold, bytes) else deeper (b ∷ bytes))
 
--- an act, where so many are left, and deeper reads those within it
+-- an act, where `left` further acts may open; `deeper` reads those within it
 unfoldable pub act_with : ℕ → (List ℕ → Read Bet) → List ℕ → Read Bet
 act_with left deeper bytes = do
   player ← player_at left bytes
@@ -93,7 +93,7 @@ act_with left deeper bytes = do
   moves ← moves_at (inner_at deeper) 26 none bracket.1
   Ok (act player.0 moves.0, moves.1)
 
--- an act, where so many are left
+-- an act, where `left` further acts may open
 unfoldable pub act_at : ℕ → List ℕ → Read Bet
 act_at zero bytes = act_with 0 (λ rest. Err (Syntax, rest)) bytes
 act_at (suc left) bytes = act_with (suc left) (act_at left) bytes

@@ -23,11 +23,11 @@ tree_step (Act a) = a
 tree_step Fold = fold
 tree_step Even = even
 
--- the same of an act
+-- one layer of an act of the program, as the definitions see it
 abbrev pub act_step : Act-F Bet Bet PlainMove → Bet
 act_step a = act a.player (moves_of a.moves.items)
 
--- the same of a move
+-- one layer of a move of the program, as the definitions see it
 abbrev pub move_step : Move-F Bet Bet PlainMove → PlainMove
 move_step m = record { letter = m.letter; chips = m.chips; next = m.next }
 

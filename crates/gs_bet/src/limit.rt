@@ -26,7 +26,7 @@ fn add(moves: &mut Vec<Move>, letter: u8, chips: u16, next: Tree) -> Result<(), 
     Ok(())
 }
 
-/// A player against a bet, with so many raises left.
+/// A player against a bet, by how many raises are left.
 fn against_bet(alloc: Global, bet: u16, left: u8, player: u8) -> Result<Tree, AllocError>
     requires bet { bet ≤ 2048 }
     requires player { player ≤ 3 }
@@ -70,7 +70,7 @@ fn first_choice(alloc: Global, bet: u16, cap: u8) -> Result<Tree, AllocError>
     Ok(choice(1, moves))
 }
 
-/// Limit betting: each bet puts `bet` chips, a raise twice as many, and a round has at most `cap` bets and raises. It fails for want of memory alone.
+/// Limit betting: each bet puts `bet` chips, a raise twice as many, and a round has at most `cap` bets and raises. It fails only where memory runs out.
 pub fn limit_tree(alloc: Global, bet: u16, cap: u8) -> Result<BetTree, AllocError>
     requires some { 1 ≤ bet }
     requires bet { bet ≤ 2048 }

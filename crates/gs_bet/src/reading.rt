@@ -187,7 +187,7 @@ fn whole_of(alloc: Global, bytes: &[u8]) -> Result<Tree, Stop>
     Ok(tree)
 }
 
-/// The tree whose text this is; else what stands behind the longest prefix that begins a tree's text, or want of memory.
+/// The tree whose text this is; else what stands behind the longest prefix that begins a tree's text, or that memory ran out.
 pub fn parse_tree(alloc: Global, text: &str) -> Result<BetTree, TreeFault>
     // What is read has this text.
     ensures found { IfOk result (λ t. text.now ≡ tree_text (plain t.tree)) }

@@ -12,7 +12,7 @@ use Rattle.gs_boards.specs.declared.pays.Pays.{Pays}
 use Rattle.gs_boards.specs.declared.pays.Pays.TheVariants.{Fixed, Showdown}
 use Rattle.gs_boards.specs.declared.place.Place.{Place}
 
--- what a player wins in a deal, by his outcome
+-- what a player wins in a deal, by the own outcome
 abbrev pub paid : Pays → ℤ → ℤ
 paid (Fixed stake) outcome = stake
 paid (Showdown chips) outcome = pos chips *ℤ outcome

@@ -2,7 +2,7 @@
 use Rattle.std.specs.Prelude.{ℕ, ◌≡◌, ◌+◌, ◌*◌, ◌^◌, ◌<◌, ◌≤◌, List, length, slice_index_or}
 use Rattle.gs_boards.specs.declared.place.Place.{Place}
 
--- a place comes no later than another: it is on a board no later, and on one board it is no stronger
+-- a place comes at or before another: its board does, and on one board it is not the stronger
 pub record IsNoLater (p q : Place) : Type 0 where
   pub board : p.board ≤ q.board
   pub strength : p.board ≡ q.board → p.strength ≤ q.strength

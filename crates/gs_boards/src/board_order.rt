@@ -37,8 +37,8 @@ impl<'s> BoardOrder<'s> {
         Ok(Some(BoardOrder { signals, places }))
     }
 
-    /// What each last-round signal is paid in its deals, by the other player's numbers at his signals: the number times the weight times what the deal
-    /// pays. It takes no memory, and looks twice at each signal.
+    /// What each last-round signal is paid in its deals, by the other player's numbers at the signals beside it: the number times the weight
+    /// times what the deal pays. It takes no memory, and looks twice at each signal.
     pub fn deal_sums(&self, pays: Pays, numbers: &[u64], sums: &mut [i128])
         requires numbers { last_count (rules_of self.now.signals.now) ≤ length numbers.now }
         requires sums { length sums.old ≡ last_count (rules_of self.now.signals.now) }

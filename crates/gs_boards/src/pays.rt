@@ -11,7 +11,7 @@ use crate::running::Running;
 pub enum Pays {
     /// The same in each deal, as at a fold.
     Fixed(i32),
-    /// These chips times his outcome, as at a showdown.
+    /// These chips times the player's outcome, as at a showdown.
     Showdown(u16),
 }
 

@@ -22,7 +22,7 @@ lists_in c = lists_of c.side.now.form.now
 abbrev pub table_in : Claim → Values
 table_in c = table_of (frame_in c) (lists_in c) c.side.now.player (lifted (frame_in c) (lists_in c) c.side.now.other.now) c.values.now
 
--- so many numbers, and small, and what is kept is what ends pay
+-- the numbers are as many as points and classes ask for, and small; what is kept is what ends pay
 pub record IsClaim (c : Claim) : Type 0 where
   pub numbers : AreNumbers (frame_in c) (lists_in c) c.values.now
   pub ends : IfSome c.ends (λ kept. ArePaid (frame_in c) (lists_in c) c.side.now.player (class_plan (frame_in c) (lists_in c) c.side.now.other.now) kept.now)

@@ -7,7 +7,7 @@ use Rattle.gs_model.specs.Positions.{at_end}
 use Rattle.gs_seq.specs.Payoffs.{end_classes, end_sum}
 use Rattle.gs_certificate.specs.declared.tables.EndSums.{EndSums}
 
--- for the first so many ends a list has from the place of each on what it pays a player at each class of its round, against the other's plan over classes
+-- for each of the first ends, a list has from its place on what the end pays a player at each class of its round, against the other's plan over classes
 pub record AreKept (f : Frame) (lists : ClassLists) (player : ℕ) (y : Plan) (count : ℕ) (starts : List ℕ) (sums : List ℤ) : Type 0 where
   pub long : length starts ≡ count
   pub within : (z : ℕ) → z < count → get_or starts z 0 + end_classes f lists z ≤ length sums

@@ -32,13 +32,13 @@ pub record IsWay (f : Frame) (lists : ClassLists) (q : ℕ) (w : Way) : Type 0 w
   pub top : w.round ≤ last_round f
   pub place : w.place ≡ place_of f lists (target_of w.to)
 
--- where the first so many moves of a point lead, in room for 26
+-- where the first moves of a point lead, in room for 26
 pub record AreWays (f : Frame) (lists : ClassLists) (q count : ℕ) (ways : List Way) : Type 0 where
   pub long : length ways ≡ 26
   pub each : (m : ℕ) (d : Way) → m < count → IsWay f lists q (get_or ways m d)
   pub leads : (m : ℕ) (d : Way) → m < count → target_of (get_or ways m d).to ≡ leads_to f q m
 
--- of the first so many classes of a point the first one's place whose number is less than what a move to a position is worth, or how many they are
+-- the place of the first class, among the first ones of a point, whose number is less than a move's worth; their count if there is none
 pub record IsFirstBelow (f : Frame) (lists : ClassLists) (v : Values) (q : ℕ) (t : Target) (count place : ℕ) : Type 0 where
   pub within : place ≤ count
   pub before : (c : ℕ) → IsClass lists (round_of f (at_point q)) c → c ≤ place → target_worth f lists v q t c ≤ℤ v (at_point q) c

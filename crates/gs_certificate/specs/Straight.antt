@@ -16,7 +16,7 @@ pub record StandsFor (bytes : List ℕ) (zs : List ℤ) (rest : List ℕ) : Type
   pub numbers : zs ≡ front ++ last ∷ []
   pub text : bytes ≡ opened front ++ (signed_decimal last ++ (codes "\"]" ++ rest))
 
--- the bytes begin with so many digits, which represent this size
+-- the bytes begin with this many digits, which represent this size
 pub record AreDigits (bytes : List ℕ) (size count : ℕ) : Type 0 where
   pub within : count ≤ length bytes
   pub digits : all_ascii_digits (take count bytes) ≡ true

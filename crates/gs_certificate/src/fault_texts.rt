@@ -10,7 +10,7 @@ use gs_frac::{FracFault, Fraction};
 use std::alloc::{AllocError, Global};
 use std::fmt::Write;
 
-// A player's numbers of which one is too low.
+// A player's numbers, one of them too low.
 fn low_text(alloc: Global, player: u8, point: u32, class: u32) -> Result<Vec<u8>, AllocError>
     ensures { IfOk result (λ v. v.items ≡ codes "player " ++ decimal player ++ codes " low at point " ++ decimal point ++ codes " class " ++ decimal class) }
 {
@@ -20,7 +20,7 @@ fn low_text(alloc: Global, player: u8, point: u32, class: u32) -> Result<Vec<u8>
     Ok(text.into_bytes())
 }
 
-// A player's bound that is not what his numbers give.
+// A player's bound that is not what the player's numbers give.
 fn bound_text(alloc: Global, player: u8, found: Fraction) -> Result<Vec<u8>, AllocError>
     ensures { IfOk result (λ v. v.items ≡ codes "player " ++ decimal player ++ codes " bound found " ++ fraction_text found.num found.den) }
 {

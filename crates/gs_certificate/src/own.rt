@@ -53,7 +53,7 @@ fn is_below(claim: &Claim<'_>, spot: Spot, way: Way, class: u32) -> bool
     number < worth(claim, spot, way, class)
 }
 
-/// Of the first so many classes of a point the first whose number is less than what a move is worth; their count if there is none.
+/// The first class, among the first ones of a point, whose number is less than what a move is worth; their count if there is none.
 fn first_below(claim: &Claim<'_>, spot: Spot, way: Way, count: u32) -> u32
     requires claim { IsClaim claim.now }
     requires spot { IsSpot (frame_in claim.now) (lists_in claim.now) spot }

@@ -18,7 +18,7 @@ use std::alloc::{AllocError, Global};
 pub(crate) enum Stop {
     /// The bytes are not the text of bounds and numbers.
     Other,
-    /// Want of memory.
+    /// Memory ran out.
     Memory,
 }
 
@@ -36,7 +36,7 @@ struct Side<'b> {
     rest: &'b [u8],
 }
 
-/// What stands behind a front that the bytes begin with.
+/// What stands behind a prefix that the bytes begin with.
 fn behind<'b>(bytes: &'b [u8], front: &[u8]) -> Result<&'b [u8], Stop>
     ensures { IfOk result (λ rest. bytes.now ≡ front.now ++ rest.now) }
 {
@@ -72,7 +72,7 @@ fn digits_in(bytes: &[u8]) -> (u64, usize)
     (size, bytes.len())
 }
 
-/// Whether so many digits are the text of a number: at least one, without leading zeros.
+/// Whether these digits are the text of a number: at least one, without leading zeros.
 fn is_plain(digits: &[u8], count: usize) -> bool
     requires { count ≤ length digits.now }
     ensures { result ≡ true → (0 < count) × (1 < count → get_or digits.now 0 0 ≢ 48) }

@@ -45,11 +45,11 @@ IsBadQuery g player line text Round =
 abbrev pub weights_of_player : Strategy → ℕ → Weights
 weights_of_player s player = if player == 1 then s.one else s.two
 
--- his gap in it
+-- the player's gap in the strategy
 abbrev pub gap_of_player : Strategy → ℕ → FractionParts
 gap_of_player s player = if player == 1 then s.numbers.gap1 else s.numbers.gap2
 
--- the mixture of the player's raw plan at a point and a raw signal, and then his gap
+-- the mixture of the player's raw plan at a point and a raw signal, and then the player's gap
 pub record IsToldAt (s : Strategy) (player point place : ℕ) (text : List ℕ) : Type 0 where
   pub moves : List (ℕ × Fraction)
   pub mixture : IsMixture (frame_of s) (raw_plan s (weights_of_player s player)) point place moves

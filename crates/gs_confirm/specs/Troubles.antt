@@ -1,4 +1,4 @@
--- Why a strategy is not confirmed: the checks stand in their order, and each trouble applies where none before it does.
+-- Why a strategy is not confirmed: the checks stand in their order; a trouble applies if no earlier one does.
 use Rattle.std.specs.Prelude.{◌≡◌, ◌≢◌, ◌⊎◌, ℕ, List, codes}
 use Rattle.gs_model.specs.Lossless.{IsLossless}
 use Rattle.gs_reply.specs.Replies.{Reply, Refuses}

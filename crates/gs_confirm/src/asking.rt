@@ -2,7 +2,7 @@
 
 ghost use Rattle.std.specs.Prelude.{◌<◌, ◌≤◌};
 
-/// What a player does at a point, by the text of its line, where he holds a raw signal, by its text.
+/// What a player does at a point, by the text of its line, with a raw signal, by its text.
 #[derive(Clone, Copy)]
 pub struct Query<'w> {
     pub player: u8,

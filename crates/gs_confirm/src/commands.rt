@@ -26,7 +26,7 @@ pub fn evaluate_answer(alloc: Global, bytes: &[u8]) -> Result<Answer, AllocError
     answered(alloc, &Ask::Evaluate, bytes)
 }
 
-/// What a player does at the point and the raw signal that two texts name, and his gap; or why the file or the texts are refused.
+/// What a player does at the point and the raw signal that two texts name, and the player's gap; or why the file or the texts are refused.
 pub fn query_answer(
     alloc: Global,
     player: u8,

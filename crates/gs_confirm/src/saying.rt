@@ -38,7 +38,7 @@ fn gap_of(stored: &Stored, player: u8) -> &Fraction
     }
 }
 
-// What a player does at a spot, and his gap.
+// What a player does at a decision point with a hand, and the player's gap.
 fn told_at(
     alloc: Global,
     query: &Query<'_>,

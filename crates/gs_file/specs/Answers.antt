@@ -11,7 +11,7 @@ use Rattle.gs_file.specs.Faults.{Fault, not_text, not_toml, missing_key, unknown
 use Rattle.gs_file.specs.declared.fault.FileFault.{FileFault}
 use Rattle.gs_file.specs.declared.fault.FileFault.TheVariants as fault
 
--- the fault of a game's rules; want of memory is none of them
+-- the fault of a game's rules; running out of memory is not one of them
 abbrev pub FailsByRules : {Y : Type 0} → GameFault → Result Y Fault → Type 0
 FailsByRules (rules.Rounds count) read = read ≡ Err (game (refusal.rounds count))
 FailsByRules rules.NoPrivate read = read ≡ Err (game refusal.no_private)
@@ -26,7 +26,7 @@ FailsByRules (rules.TooManySignals round) read = read ≡ Err (game (refusal.too
 FailsByRules rules.TooManyDeals read = read ≡ Err (game refusal.too_many_deals)
 FailsByRules rules.Memory read = ⊥
 
--- the fault is what reading meets first; want of memory may be answered at any point, and is never told as another fault
+-- the fault is what reading meets first; running out of memory may be answered at any point, and is never told as another fault
 abbrev pub Fails : {Y : Type 0} → FileFault → Result Y Fault → Type 0
 Fails fault.NotText read = read ≡ Err not_text
 Fails fault.NotToml read = read ≡ Err not_toml

@@ -21,7 +21,7 @@ use Rattle.gs_file.specs.declared.fault.Key.TheVariants as key
 use Rattle.gs_file.specs.declared.form.Form.TheVariants.{File}
 use Rattle.gs_file.specs.declared.version.Version.TheVariants.{One, Two}
 
--- the key stands in the table, with a value of which this is true
+-- the key stands in the table, with a value that meets the test
 abbrev pub Has : Members → Key → (Data → Type 0) → Type 0
 Has table k P = (d : Data) × (get_member (key_in File k) table ≡ Some d) × P d
 

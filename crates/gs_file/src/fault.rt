@@ -58,7 +58,7 @@ pub struct Place {
     pub round: u8,
 }
 
-/// The first thing that is wrong with a game file, or want of memory. The checks stand in the order of the file's description.
+/// The first thing that is wrong with a game file, or that memory ran out. The checks stand in the order of the file's description.
 #[derive(Debug, Drop)]
 pub enum FileFault {
     /// The bytes are not UTF-8.
@@ -81,7 +81,7 @@ pub enum FileFault {
     TreeText { round: u8, fault: TreeFault },
     /// The game breaks a rule.
     Game(GameFault),
-    /// Want of memory.
+    /// Memory ran out.
     Memory,
 }
 

@@ -24,7 +24,7 @@ pub record IsSound (f : Filter) : Type 0 where
   pub forest : AreParents f.parents
   pub classes : IsClasses f.parents f.lists
 
--- the class of the parents of a class's members, all of which have parents of one class
+-- the class of the parents of a class's members: all members have parents of that class
 abbrev pub IsParentClass : Filter → ℕ → ℕ → ℕ → Type 0
 IsParentClass f round class above =
     (s : ℕ) → s < length (list_of f.lists round) → class_of f.lists round s ≡ class

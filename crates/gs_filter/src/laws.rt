@@ -2,7 +2,7 @@
 
 ghost use Rattle.gs_filter.specs.Laws.{ClassesHaveNoFault};
 
-/// Lists that are classes break no rule: no fault but want of memory is one of theirs.
+/// Lists that are classes break no rule: they have no fault but that memory may run out.
 pub fn classes_have_no_fault()
     ensures { ClassesHaveNoFault }
 {}

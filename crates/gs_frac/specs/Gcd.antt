@@ -2,7 +2,7 @@
 use Rattle.std.specs.Prelude.{ℕ, zero, suc, ◌%◌, ◌==◌, if◌then◌else◌}
 use Rattle.std.specs.Int.{◌∣◌}
 
--- so many turns of Euclid's method
+-- a number of turns of Euclid's method
 abbrev pub gcd_within : ℕ → ℕ → ℕ → ℕ
 gcd_within zero a b = a
 gcd_within (suc turns) a b = if b == 0 then a else gcd_within turns b (a % b)

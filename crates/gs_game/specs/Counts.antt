@@ -3,7 +3,7 @@ use Rattle.std.specs.Prelude.{ℕ, suc, ◌+◌, List, [], ◌∷◌}
 use Rattle.gs_model.specs.Betting.{Bet, Moves, act, fold, even, none, move}
 
 abbrev mutual
-  -- the ends below a tree, where so many follow an even leaf
+  -- the ends below a tree, by how many follow an even leaf
   pub ends_of : ℕ → Bet → ℕ
   ends_of more (act player moves) = move_ends more moves
   ends_of more fold = 1
@@ -15,7 +15,7 @@ abbrev mutual
   move_ends more (move letter chips next moves) = ends_of more next + move_ends more moves
 
 abbrev mutual
-  -- the points of a tree and below it, where so many follow an even leaf
+  -- the points of a tree and below it, by how many follow an even leaf
   pub points_of : ℕ → Bet → ℕ
   points_of more (act player moves) = suc (move_points more moves)
   points_of more fold = 0

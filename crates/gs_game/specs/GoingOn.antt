@@ -13,7 +13,7 @@ abbrev pub own_cards_of : List Round → ℕ
 own_cards_of [] = 0
 own_cards_of (r ∷ rs) = r.private + own_cards_of rs
 
--- the cards that a player sees over some rounds: his own and the public ones
+-- the cards that a player sees over some rounds: the own and the public ones
 abbrev pub cards_shown : List Round → ℕ
 cards_shown [] = 0
 cards_shown (r ∷ rs) = r.private + r.public + cards_shown rs
@@ -27,7 +27,7 @@ pub record StopsAfter (g : Game) (round : ℕ) (h : Game) : Type 0 where
   pub copies : h.copies ≡ g.copies
   pub sizes : seen_sizes h.rounds ≡ seen_sizes (take round g.rounds) ++ 0 ∷ 0 ∷ []
 
--- a round that deals so many cards, and in which nobody bets
+-- a round without betting that deals these numbers of cards
 abbrev pub unbet : ℕ → ℕ → Round
 unbet private public = record { private = private; public = public; tree = limit_bet 1 0 }
 

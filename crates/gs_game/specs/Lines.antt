@@ -17,7 +17,7 @@ abbrev mutual
   tree_lines go_on before fold = record { points = []; ends = before ∷ [] }
   tree_lines go_on before even = go_on before
 
-  -- the same of the positions that the moves of a choice lead to
+  -- the texts of the positions that the moves of a choice lead to, behind the text before the choice
   pub move_lines : (List ℕ → Texts) → List ℕ → Moves → Texts
   move_lines go_on before none = record { points = []; ends = [] }
   move_lines go_on before (move letter chips next moves) =
@@ -42,7 +42,7 @@ text_at x (at_end z) = slice_get x.ends z
 -- ---- the position that a text names, by going along it; points and ends are numbered from the given numbers on
 
 abbrev mutual
-  -- in a tree; so many points and ends follow an even leaf, and `go_on` goes along what follows it
+  -- in a tree, by how many points and ends follow an even leaf; `go_on` goes along what follows it
   pub follow : (ℕ → ℕ → List ℕ → Option Target) → ℕ → ℕ → ℕ → ℕ → Bet → List ℕ → Option Target
   follow go_on more_points more_ends points ends (act player moves) [] = Some (at_point points)
   follow go_on more_points more_ends points ends (act player moves) (b ∷ text) = follow_moves go_on more_points more_ends (points + 1) ends moves b text
@@ -72,26 +72,26 @@ pub record RoundsFollow (ts : List Bet) (points ends : ℕ) : Type 0 where
   pub few_points : points + points_in ts < 2 ^ 32
   pub few_ends : ends + ends_in ts < 2 ^ 32
 
--- the same of a tree and the rounds after it
+-- a tree and the rounds after it: each of these but the last has an even leaf, and the numbers of all points and ends stay below 2^32
 pub record TreeFollows (rest : List Bet) (t : Bet) (points ends : ℕ) : Type 0 where
   pub evens : no_even_from 1 rest ≡ None
   pub few_points : points + points_of (points_in rest) t < 2 ^ 32
   pub few_ends : ends + ends_of (ends_in rest) t < 2 ^ 32
 
--- the same of the moves of a choice and the rounds after it
+-- the moves of a choice and the rounds after it: each of these but the last has an even leaf, and all numbers stay below 2^32
 pub record MovesFollow (rest : List Bet) (ms : Moves) (points ends : ℕ) : Type 0 where
   pub evens : no_even_from 1 rest ≡ None
   pub few_points : points + move_points (points_in rest) ms < 2 ^ 32
   pub few_ends : ends + move_ends (ends_in rest) ms < 2 ^ 32
 
--- ---- positions by number among so many points and ends
+-- ---- positions by number among points and ends
 
--- the number of a position is below so many points, or so many ends
+-- the number of a position is below the count of points, or of ends
 abbrev pub IsAmong : ℕ → ℕ → Target → Type 0
 IsAmong points ends (at_point q) = q < points
 IsAmong points ends (at_end z) = z < ends
 
--- a position behind so many points and ends, by its number behind them
+-- a position behind some points and ends, by its number behind them
 abbrev pub IsPast : ℕ → ℕ → Target → Target → Type 0
 IsPast points ends (at_point q) further = (points ≤ q) × (further ≡ at_point (q - points))
 IsPast points ends (at_end z) further = (ends ≤ z) × (further ≡ at_end (z - ends))

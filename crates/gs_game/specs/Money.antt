@@ -36,20 +36,20 @@ abbrev mutual
   uneven_path path one two fold = None
   uneven_path path one two even = if one == two then None else Some path
 
-  -- the same of the moves of a choice, from the first on
+  -- the first such path below the moves of a choice, from the first move on
   pub uneven_move : List ℕ → ℕ → ℕ → ℕ → Moves → Option (List ℕ)
   uneven_move path one two player none = None
   uneven_move path one two player (move letter chips next moves) =
       first_of (uneven_path (path ++ letter ∷ []) (one_after player chips one) (two_after player chips two) next) (uneven_move path one two player moves)
 
 abbrev mutual
-  -- the most that one player has put at any end, where both have put so much before a tree; `go_on` says the same of what follows an even leaf
+  -- the most that one player has put at any end, by what both have put before a tree; `go_on` gives that of what follows an even leaf
   pub most_put : (ℕ → ℕ → ℕ) → ℕ → ℕ → Bet → ℕ
   most_put go_on one two (act player moves) = most_moved go_on one two player moves
   most_put go_on one two fold = max one two
   most_put go_on one two even = go_on one two
 
-  -- the same of the moves of a choice: the most over them
+  -- the most over the moves of a choice
   pub most_moved : (ℕ → ℕ → ℕ) → ℕ → ℕ → ℕ → Moves → ℕ
   most_moved go_on one two player none = 0
   most_moved go_on one two player (move letter chips next moves) =
@@ -60,18 +60,18 @@ abbrev pub most_in : List Bet → ℕ → ℕ → ℕ
 most_in [] one two = max one two
 most_in (t ∷ ts) one two = most_put (most_in ts) one two t
 
--- so much more is put after an even leaf, by the one who has put more
+-- the most that is put after an even leaf, over what was put before it, by the player who has put more
 abbrev pub put_above : ℕ → ℕ → ℕ → ℕ
 put_above above one two = max one two + above
 
--- so many acts stand within each other in a tree, and so much has been put before it, that each player, by 4,096 chips an act, stays at 2^24 or below
+-- the acts within each other in a tree, at 4,096 chips each, leave each player at 2^24 or below, by what was put before it
 pub record Fits (one two : ℕ) (t : Bet) : Type 0 where
   pub left : ℕ
   pub sound : is_sound left t ≡ true
   pub room_one : one + left * 4096 ≤ 2 ^ 24
   pub room_two : two + left * 4096 ≤ 2 ^ 24
 
--- the same of the trees that moves lead to, with one act more for the move itself
+-- the trees that moves lead to leave such room, with one act more for the move itself
 pub record MovesFit (one two : ℕ) (ms : Moves) : Type 0 where
   pub left : ℕ
   pub sound : are_sound left ms ≡ true

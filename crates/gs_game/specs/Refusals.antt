@@ -33,7 +33,7 @@ own_cards rs = sum_by (λ (r : Round). r.private) rs
 abbrev pub public_cards : List Round → ℕ
 public_cards rs = sum_by (λ (r : Round). r.public) rs
 
--- whether a ranking can rank hands of so many own cards, and so many with the public ones
+-- whether a ranking can rank hands, by the number of own cards and of all cards
 abbrev pub ranks : Ranking → ℕ → ℕ → Bool
 ranks High own all = own == 1
 ranks Pair own all = own == 1
@@ -107,7 +107,7 @@ betting_refusal g = first_of (even_refusal g) (first_of (uneven_refusal g) (firs
 unfoldable pub weight_refusal : Game → Option Refusal
 weight_refusal g = if nat_lt 67108864 (total_weight (frame_of g)) then Some (too_heavy (total_weight (frame_of g))) else None
 
--- the first of so many rounds, from the given one on, that has more than 200,000 raw signals
+-- the first of the rounds from the given one on that has more than 200,000 raw signals
 abbrev pub signals_from : Game → ℕ → ℕ → Option Refusal
 signals_from g zero round = None
 signals_from g (suc left) round = if nat_lt 200000 (length (signals g round)) then Some (too_many_signals round) else signals_from g left (round + 1)

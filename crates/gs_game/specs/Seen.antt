@@ -31,7 +31,7 @@ pub record OwnPoint : Type 0 where
   pub own : Option Step
   pub moves : List Arrow
 
--- what a player knows of his last step at a point of the walk
+-- what a player knows of the own last step at a point of the walk
 abbrev pub own_point : Point → OwnPoint
 own_point p = record { player = p.player; round = p.round; own = if p.player == 1 then p.one else p.two; moves = p.moves }
 

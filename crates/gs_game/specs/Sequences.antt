@@ -13,7 +13,7 @@ abbrev pub draws : ℕ → List ℕ → ℕ
 draws n [] = 1
 draws n (size ∷ sizes) = choose n size * draws (n - size) sizes
 
--- a product of so many equal factors
+-- a product of equal factors, by their number
 abbrev pub power : ℕ → ℕ → ℕ
 power b zero = 1
 power b (suc n) = b * power b n

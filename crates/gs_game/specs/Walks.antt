@@ -11,7 +11,7 @@ use Rattle.gs_game.specs.declared.positions.Point.{Point as StoredPoint}
 use Rattle.gs_game.specs.declared.positions.End.{End as StoredEnd}
 use Rattle.gs_game.specs.declared.positions.Target.{Target as StoredTarget}
 
--- a place of the program, where so many points and ends are numbered
+-- a place of the program, by how many points and ends are numbered
 abbrev pub place_of : StoredPlace → ℕ → ℕ → Place
 place_of p points ends =
     record {
@@ -40,7 +40,7 @@ pub record IsWalkable (rest : List Bet) (t : Bet) (p : Place) : Type 0 where
   pub points : p.point + points_of (points_in rest) t < 2 ^ 32
   pub ends : p.end + ends_of (ends_in rest) t < 2 ^ 32
 
--- the same of the moves of a point from one of them on
+-- the numbers of a walk of the moves of a point, from one of them on, and then of some rounds, are small
 pub record AreWalkable (rest : List Bet) (player : ℕ) (ms : Moves) (p : Place) : Type 0 where
   pub left : ℕ
   pub sound : are_sound left ms ≡ true
@@ -49,7 +49,7 @@ pub record AreWalkable (rest : List Bet) (player : ℕ) (ms : Moves) (p : Place)
   pub points : p.point + move_points (points_in rest) ms < 2 ^ 32
   pub ends : p.end + move_ends (ends_in rest) ms < 2 ^ 32
 
--- the same of the rounds that are left
+-- the numbers of a walk of the rounds that are left are small
 pub record RoundsWalkable (rounds : List Bet) (p : Place) : Type 0 where
   pub round : p.round + length rounds ≤ 4
   pub put : most_in rounds p.put_one p.put_two ≤ 4096

@@ -61,7 +61,7 @@ fn most_put(rounds: &[Round]) -> u32
     }
 }
 
-/// The ends below a tree, where so many follow an even leaf, as far as 128 bits hold their number.
+/// The ends below a tree, by how many follow an even leaf, as far as 128 bits hold their number.
 fn count_ends(tree: &Tree, more: u128) -> u128
     ensures { result ≡ min (ends_of more (plain tree.now)) (2 ^ 128 - 1) }
 {

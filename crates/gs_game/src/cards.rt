@@ -44,7 +44,7 @@ pub fn are_single(copies: &[u8]) -> bool
     copies.iter().all(|count| *count <= 1)
 }
 
-/// Whether the ranking can rank hands of so many own cards, and so many with the public ones.
+/// Whether the ranking can rank hands, by the number of own cards and of all cards.
 fn ranks(ranking: Ranking, own: u8, all: u8) -> bool
     ensures { result ≡ ranks (ranking_of ranking) own all }
 {

@@ -24,7 +24,7 @@ impl Game {
         requires bonus { IsBonus (ranking_of self.ranking) self.bonus.items }
         // A game is accepted only where no refusal applies, and stays as it is.
         ensures accepted { IfOk result (λ valid. (first_refusal (game_of self) ≡ None) × (valid.game ≡ self)) }
-        // A fault but want of memory is the first refusal that applies.
+        // A fault, unless memory ran out, is the first refusal that applies.
         ensures refused { IfErr result (IsFaultOf (first_refusal (game_of self))) }
     {
         check_cards(&self)?;

@@ -30,7 +30,7 @@ pub enum GameFault {
     TooManySignals { round: u8 },
     /// There are more than 8,000,000 deals.
     TooManyDeals,
-    /// Want of memory.
+    /// Memory ran out.
     Memory,
 }
 

@@ -13,7 +13,7 @@ use crate::valid::ValidGame;
 use gs_bet::{Act, Tree};
 use std::alloc::{AllocError, Global};
 
-/// A position behind so many others, by its number behind them; none where it is among them.
+/// A position by its number behind others; none if it is among these.
 fn past(at: Target, others: Numbers) -> Option<Target>
     ensures { MatchOption result (IsAmong others.points others.ends (target_of at))
         (λ further. IsPast others.points others.ends (target_of at) (target_of further)) }

@@ -18,7 +18,7 @@ pub struct Numbers {
     pub ends: u32,
 }
 
-/// The points and ends of a tree and below it, where so many follow an even leaf.
+/// The points and ends of a tree and below it, by how many follow an even leaf.
 pub fn numbers_below(tree: &Tree, more: Numbers) -> Numbers
     requires points { points_of more.points (plain tree.now) < 2 ^ 32 }
     requires ends { ends_of more.ends (plain tree.now) < 2 ^ 32 }

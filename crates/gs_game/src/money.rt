@@ -76,7 +76,7 @@ pub fn find_uneven(tree: &Tree, put: Put, path: &mut Vec<u8>) -> Result<bool, Al
     }
 }
 
-/// The most that one player has put at a leaf of the tree, where so much more is put after an even leaf.
+/// The most that one player has put at a leaf of the tree, by what more is put after an even leaf.
 pub fn most_above(tree: &Tree, put: Put, above: u32) -> u32
     requires fits { Fits put.one put.two (plain tree.now) }
     requires above { above ≤ 2 ^ 28 }

@@ -50,7 +50,7 @@ impl Place {
         if player == 1 { self.one } else { self.two }
     }
 
-    /// The place after a move of a player: his step and his chips.
+    /// The place after a move of a player: the player's step and chips.
     pub fn after(self, player: u8, step: Step, chips: u16) -> Place
         requires one { one_after player chips self.put_one < 2 ^ 16 }
         requires two { two_after player chips self.put_two < 2 ^ 16 }

@@ -21,7 +21,7 @@ pub struct Arrow {
     pub to: Target,
 }
 
-/// A point: who chooses, in which round, his own last step before it, and the moves.
+/// A point: who chooses, in which round, that player's last step before it, and the moves.
 #[derive(Debug, Drop)]
 pub struct Point {
     pub player: u8,

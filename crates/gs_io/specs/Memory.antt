@@ -29,7 +29,7 @@ next_call calls = min (calls + 1) (2 ^ 32 - 1)
 abbrev pub is_listed : List ℕ → ℕ → Bool
 is_listed fails call = list_any (λ k. k == call) fails
 
--- what a read into so many places does: it fails where its number is listed, and else gives the next bytes, as many as there are, as have a place, and as a piece has
+-- what a read does: it fails if its number is listed, and otherwise gives the next bytes, as many as are left, have a place and fit a piece
 abbrev pub TakesNext : Reading → ℕ → Reading → Result ℕ Failed → Type 0
 TakesNext old places new (Ok count) =
     (is_listed old.fails (next_call old.calls) ≡ false) × (count ≡ min (min (length old.left) places) old.piece)

@@ -8,7 +8,7 @@ use Rattle.gs_io.specs.declared.ReadStop.TheVariants as stop
 use Rattle.gs_io.specs.declared.WriteStop.{WriteStop}
 use Rattle.gs_io.specs.declared.WriteStop.TheVariants as write_stop
 
--- some first bytes of what was left were taken, so many at most
+-- some first bytes of what was left were taken, at most this many
 abbrev pub TookPrefix : ℕ → Option (List ℕ) → Option (List ℕ) → Type 0
 TookPrefix most old new = (bytes : List ℕ) × Consumes old new bytes × (length bytes ≤ most)
 
@@ -16,7 +16,7 @@ TookPrefix most old new = (bytes : List ℕ) × Consumes old new bytes × (lengt
 -- and its count of faults from `before` to `now`. `items` are the bytes of the answer.
 --   Ok: these were all the bytes that were left, and no more than the limit; no read failed
 --   Fault: a read failed, after some bytes
---   TooLong: there are more bytes than the limit, of which one more than the limit was taken; no read failed
+--   TooLong: there are more bytes than the limit; one more than the limit was taken, and no read failed
 --   Memory: there was no room for the bytes that were taken; no read failed
 abbrev pub ReadsAll : {V : Type 0} → (V → List ℕ) → ℕ → Option (List ℕ) → Option (List ℕ) → ℕ → ℕ → Result V ReadStop → Type 0
 ReadsAll items limit old new before now (Ok v) =

@@ -45,7 +45,7 @@ pub enum ReadStop {
 /// Why a write of everything stopped.
 #[derive(Clone, Copy, Debug, PartialEq, Eq)]
 pub enum WriteStop {
-    /// A write failed, after so many bytes.
+    /// A write failed, after this many bytes.
     Fault { written: usize },
 }
 

@@ -8,7 +8,7 @@ use crate::{Failed, Sink, Source, count_fault};
 use std::alloc::{AllocError, Global};
 use std::marker::Model;
 
-// Copies the first bytes, at most so many and as many as there is room for.
+// Copies the first bytes: at most this many, and as many as there is room for.
 fn copy_front(from: &[u8], into: &mut [u8], most: usize) -> usize
     ensures count { result ≡ min (min (length from.now) (length into.old)) most }
     ensures copied { take result into.new ≡ take result from.now }

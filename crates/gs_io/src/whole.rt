@@ -9,7 +9,7 @@ use std::alloc::Global;
 // how many bytes one read asks for
 const PIECE: usize = 8192;
 
-/// All the bytes that are left, of which there may be `limit`.
+/// All the bytes that are left, at most `limit` of them.
 ///
 /// At `Fault` and at `TooLong` the source has given a prefix of its bytes, which is dropped: at
 /// `TooLong` just one byte more than the limit, whatever is left behind it.

@@ -29,7 +29,7 @@ IsPairedFor g rest s t (Some to) = IsomorphicFor g rest s t × IsPairingFor g re
 abbrev pub IsPaired : Game → ℕ → Signal → Signal → Option (List ℕ) → Type 0
 IsPaired g round s t = IsPairedFor g (drop round g.rounds) s t
 
--- a pairing of two lists by a test, or none where there is none
+-- a pairing of two lists by a test, or that there is none
 abbrev pub IsPairingAnswer : {X : Type 0} → (X → X → Bool) → List X → List X → Option (List ℕ) → Type 0
 IsPairingAnswer eq xs ys None = (to : List ℕ) → IsPairingOf (λ x y. eq x y ≡ true) xs ys to → ⊥
 IsPairingAnswer eq xs ys (Some to) = IsPairingOf (λ x y. eq x y ≡ true) xs ys to

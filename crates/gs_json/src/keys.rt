@@ -6,7 +6,7 @@ ghost use Rattle.gs_json.specs.Shapes.{keys_in};
 
 use serde_json::Value;
 
-/// How many keys an object has; 0 of a value that is none.
+/// How many keys an object has; 0 for a value that is no object.
 pub fn key_count(value: &Value) -> usize
     ensures { result ≡ keys_in (view value.now) }
 {

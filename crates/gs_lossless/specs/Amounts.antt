@@ -28,7 +28,7 @@ Agree f lists side round s t = (c : ℕ) (o : ℤ) → amount f lists side round
 abbrev pub AgreesWithFirst : Frame → ClassLists → Side → ℕ → ℕ → Type 0
 AgreesWithFirst f lists side round s = Agree f lists side round (first_member lists round (class_of lists round s)) s
 
--- each signal of a round has one that stands for it on one side: of its class, no later, and one that it agrees with
+-- each signal of a round has one that stands for it on one side: of its class, not behind it, and one that it agrees with
 pub record AreSideFirsts (f : Frame) (lists : ClassLists) (side : Side) (round : ℕ) (firsts : List ℕ) : Type 0 where
   pub long : length firsts ≡ signal_count f round
   pub before : (s : ℕ) → s < length firsts → get_or firsts s 0 ≤ s

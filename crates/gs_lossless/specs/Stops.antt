@@ -9,12 +9,12 @@ use Rattle.gs_lossless.specs.declared.sides.Side.TheVariants.{Children}
 use Rattle.gs_lossless.specs.declared.stop.CheckStop.{CheckStop}
 use Rattle.gs_lossless.specs.declared.stop.CheckStop.TheVariants.{Unlike, Memory}
 
--- the stop names the first unlike pair; want of memory says nothing
+-- the stop names the first unlike pair; running out of memory says nothing
 abbrev pub IsUnlikeIn : Frame → ClassLists → CheckStop → Type 0
 IsUnlikeIn f lists (Unlike round first second) = IsFirstUnlike f lists round first second
 IsUnlikeIn f lists Memory = Unit {0}
 
--- the stop is no want of memory
+-- the stop is not that memory ran out
 abbrev pub IsUnlike : CheckStop → Type 0
 IsUnlike (Unlike round first second) = Unit {0}
 IsUnlike Memory = ⊥

@@ -86,7 +86,7 @@ fn unlike_in(alloc: Global, grouped: &Grouped<'_>, round: u8) -> Result<Option<u
     Ok(before.or(apart))
 }
 
-/// The first unlike pair, or none where the classes are lossless.
+/// The first unlike pair; none if the classes are lossless.
 fn first_unlike(alloc: Global, grouped: &Grouped<'_>) -> Result<(), CheckStop>
     ensures lossless { IfOk result (λ _. IsLossless (frame_of (rules_of grouped.now.signals.now)) grouped.now.classes.now.lists) }
     ensures unlike { IfErr result (IsUnlikeIn (frame_of (rules_of grouped.now.signals.now)) grouped.now.classes.now.lists) }

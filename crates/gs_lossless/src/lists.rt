@@ -5,7 +5,7 @@ ghost use Rattle.std.specs.declared.alloc.Global.{Global};
 
 use std::alloc::{AllocError, Global};
 
-/// So many empty lists.
+/// This many empty lists.
 pub fn empty_lists<T: Drop>(alloc: Global, count: u32) -> Result<Vec<Vec<T>>, AllocError>
     ensures long { IfOk result (λ v. length v.items ≡ count) }
     ensures empty { IfOk result (λ v. (k : ℕ) (d : Vec T Global) → k < count → (get_or v.items k d).items ≡ []) }

@@ -15,7 +15,7 @@ use std::alloc::{AllocError, Global};
 const SOON: u32 = 4096;
 
 /// The stand-ins that are listed when a signal is reached. In the last round they are made at one signal, for each signal of the round one that stands for
-/// it, no later than itself: it sees the same deals. Until then, and in a round before the last, they stay what they were.
+/// it, not behind it: it sees the same deals. Until then, and in a round before the last, they stay what they were.
 pub(crate) fn stand_ins_at(
     alloc: Global,
     signals: &Signals,

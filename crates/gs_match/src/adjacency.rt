@@ -7,7 +7,7 @@ ghost use Rattle.gs_match.specs.Adjacency.{AreEdgesInRange, AreNeighbours, row_o
 use crate::graph::Graph;
 use std::alloc::{AllocError, Global};
 
-/// So many empty lists.
+/// This many empty lists.
 fn empty_lists(alloc: Global, count: u32) -> Result<Vec<Vec<u32>>, AllocError>
     ensures long { IfOk result (λ lists. length lists.items ≡ count) }
     ensures empty { IfOk result (λ lists. (k : ℕ) → row_of (rows lists.items) k ≡ []) }

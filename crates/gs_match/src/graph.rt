@@ -1,4 +1,4 @@
-//! Graphs, matchings, and why there is none.
+//! Graphs, matchings, and why a graph has no perfect matching.
 
 ghost use Rattle.std.specs.Prelude.{◌≡◌};
 ghost use Rattle.gs_match.specs.declared.graph.NoMatch.TheVariants.{Memory};

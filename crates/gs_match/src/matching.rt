@@ -38,7 +38,7 @@ fn visited(alloc: Global, visits: &[Visit]) -> Result<Vec<u32>, AllocError>
     Ok(set)
 }
 
-/// A perfect matching, or why there is none: by augmenting paths from each left node in turn.
+/// A perfect matching, or why the graph has none: by augmenting paths from each left node in turn.
 pub fn perfect(alloc: Global, graph: &Graph) -> Result<Match, NoMatch>
     requires { AreEdgesInRange graph.now }
     ensures equal { IfOk result (λ _. graph.now.left ≡ graph.now.right) }

@@ -1,4 +1,4 @@
--- Numbers by first sight, and the keys that they lead to.
+-- Numbers in order of first occurrence, and the keys that they lead to.
 use Rattle.std.specs.Prelude.{ℕ, ◌-◌, ◌<◌, ◌≡◌, Bool, true, List, Some, Vec, get_or, length, slice_get}
 use Rattle.std.specs.declared.alloc.Global.{Global}
 use lib.Pointwise.{pointwise}

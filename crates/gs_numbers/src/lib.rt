@@ -1,4 +1,4 @@
-//! Numbers by first sight: equal keys get equal numbers, from 1 on.
+//! Numbers in order of first occurrence: equal keys get equal numbers, from 1 on.
 #![tactic(auto)]
 
 mod numbers;

@@ -10,7 +10,7 @@ use indexmap::IndexSet;
 use std::alloc::{AllocError, Global};
 use std::hash::Hash;
 
-/// The number of a key: one above its place among the keys that were seen, in the order of their first sight.
+/// The number of a key: one above its place among the keys that were seen, in order of first occurrence.
 pub fn number_of<K: Eq + Hash + Drop>(keys: &mut IndexSet<K>, key: K) -> Result<u32, AllocError>
     requires { index_set_len keys.old + 1 < 2 ^ 32 }
     ensures grown { OnOk result (keys.new.keys ≡ insert_key K.eq keys.old.keys key) }
@@ -23,7 +23,7 @@ pub fn number_of<K: Eq + Hash + Drop>(keys: &mut IndexSet<K>, key: K) -> Result<
     Ok(index as u32 + 1)
 }
 
-/// The number of a list, by first sight too. A copy of it is kept where it was not seen before, and else the lists stay.
+/// The number of a list, in order of first occurrence too. A copy of a new list is kept; at a known one nothing changes.
 pub fn number_of_list<P: Copy + Eq + Hash + Drop>(
     alloc: Global,
     lists: &mut IndexSet<Vec<P>>,

@@ -14,7 +14,7 @@ use Rattle.gs_totals.specs.Room.{HasRows}
 use Rattle.gs_totals.specs.declared.places.Totals.{Totals}
 use Rattle.gs_play.specs.declared.seats.Seat.{Seat}
 
--- room for a player's totals and choices, and an answer of his
+-- room for a player's totals and choices, and the player's answer
 pub record HasRoom (f : Frame) (lists : ClassLists) (player : ℕ) (s : Seat) : Type 0 where
   pub answer : IsPlanOf f lists player s.answer
   pub one : s.answer.total ≡ 1
@@ -22,12 +22,12 @@ pub record HasRoom (f : Frame) (lists : ClassLists) (player : ℕ) (s : Seat) : 
   pub rows : HasRows f lists s.totals
   pub picks : start_of f lists (point_count f) ≤ length s.picks.items
 
--- and what ends pay him against the other's plan y
+-- and what ends pay the player against the other's plan y
 pub record IsSeat (f : Frame) (lists : ClassLists) (player : ℕ) (y : ModelPlan) (s : Seat) : Type 0 where
   pub room : HasRoom f lists player s
   pub paid : AreEndSums f lists player y s.totals.ends.items
 
--- his best totals against y, and the answer that puts all on the moves that they choose
+-- the player's best totals against y, and the answer that puts all on the moves that they choose
 pub record HasAnswered (f : Frame) (lists : ClassLists) (player : ℕ) (y : ModelPlan) (s : Seat) : Type 0 where
   pub best : AreBestTotals f lists player y (totals_of f lists player y s.totals.points.items) (moves_of f lists s.picks.items)
   pub puts : ArePutBefore f lists player (moves_of f lists s.picks.items) s.answer.weights.items (point_count f)

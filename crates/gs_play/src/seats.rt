@@ -20,7 +20,7 @@ use gs_totals::{
 use std::alloc::{AllocError, Global};
 use std::mem::swap;
 
-/// A player's plan so far and his best answer, and what these rest on: his class totals against the other's plan, and the moves that they choose.
+/// A player's plan so far and best answer, and what these rest on: the class totals against the other's plan, and the moves that they choose.
 #[derive(Drop)]
 pub(crate) struct Seat {
     pub(crate) plan: Plan,
@@ -173,7 +173,7 @@ fn renew(role: &Role<'_>, same: bool, other: &Seat, steps: &mut Totals, scratch:
     renew_ends(&ledger, &other.next, steps, scratch);
 }
 
-/// Finds what the other's answer adds to a player's totals each turn, as long as his choices stay.
+/// Finds what the other's answer adds to a player's totals each turn, as long as the player's choices stay.
 fn rise(role: &Role<'_>, seat: &Seat, more: &Plan, steps: &mut Totals, scratch: &mut Scratch)
     requires room { HasRoom (frame_in role.now) (lists_in role.now) role.now.player seat.now }
     requires moves { AreInMoves (frame_in role.now) (lists_in role.now) role.now.player (moves_in role.now seat.now.picks.items) }
@@ -192,7 +192,7 @@ fn rise(role: &Role<'_>, seat: &Seat, more: &Plan, steps: &mut Totals, scratch: 
     follow(&ledger, steps, &seat.picks, scratch);
 }
 
-/// A number of turns, at most so many, in which no choice of a player changes.
+/// A number of turns, at most `times`, in which no choice of a player changes.
 fn lasts(
     role: &Role<'_>,
     seat: &Seat,
@@ -224,8 +224,8 @@ fn lasts(
     lasting(&course, scratch, times)
 }
 
-/// Finds what the other's answer, which may be the same one as before, adds to a player's totals each turn, and a number of turns, at most so many, in
-/// which his own answer stays the first best one; of one turn alone it is known, and only
+/// Finds what the other's answer, which may be the same one as before, adds to a player's totals each turn, and a number of turns, at most `times`, in
+/// which the player's own answer stays the first best one; of one turn alone it is known, and only
 /// what ends pay is found.
 pub(crate) fn look_ahead(
     role: &Role<'_>,
@@ -267,8 +267,8 @@ pub(crate) fn look_ahead(
     lasts(role, seat, other, steps, scratch, times)
 }
 
-/// Adds a player's answer to his plan so many times, and to his totals what the other's answer adds each time; where his choices last for more turns,
-/// his answer is known after them.
+/// Adds a player's answer to the plan a number of times, and to the totals what the other's answer adds each time; where the choices last for more turns,
+/// the answer is known after them.
 pub(crate) fn move_on(role: &Role<'_>, seat: &mut Seat, steps: &Totals, times: u32, lasts: u32)
     requires room { HasRoom (frame_in role.now) (lists_in role.now) role.now.player seat.old }
     requires plan { IsPlanOf (frame_in role.now) (lists_in role.now) role.now.player seat.old.plan }

@@ -16,11 +16,11 @@ ranking_for Kuhn = High
 ranking_for Leduc = Pair
 ranking_for Rhode = Three
 
--- a round of so many private and public cards, with limit betting of this bet
+-- a round by its numbers of private and public cards, with limit betting of this bet
 abbrev pub round_for : ℕ → ℕ × ℕ × ℕ → Round
 round_for cap r = record { private = r.0; public = r.1; tree = limit_bet r.2 cap }
 
--- the game of a kind with so many of the highest ranks and of the first suits, one copy of each card, no bonuses, and at most `cap` bets and raises in a round
+-- the game of a kind with the given numbers of highest ranks and first suits, one copy of each card, no bonuses, and at most `cap` bets and raises in a round
 abbrev pub game_for : Kind → ℕ → ℕ → ℕ → FileGame
 game_for kind ranks suits cap = record {
   deck = deck_of (last ranks (codes "23456789TJQKA")) (take suits (codes "shdc")) [];

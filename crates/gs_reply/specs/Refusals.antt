@@ -28,7 +28,7 @@ pub data Overflowing : Type 0 where
 
 -- why an input is refused: it is no game file; its classes have an unlike pair in a round, here by the texts of the two signals; its solution overflows
 -- or takes too many pivots; its game is too large; it is no strategy file; a number, by its name, is stated otherwise than it was found; a query names
--- no spot; two games differ; a certificate is none or does not hold, here by the text of what is wrong with it
+-- no decision point; two games differ; a certificate is malformed or does not hold, here by the text of what is wrong with it
 pub data Refusal : Type 0 where
   Bad_game : Fault → Refusal
   Unlike_pair : ℕ → List ℕ → List ℕ → Refusal

@@ -15,7 +15,7 @@ pub data Reply : Type 0 where
   Prints : List ℕ → Reply
   Refuses : Refusal → Reply
 
--- what is said of the game that a file states; a file that states none is refused for its first fault
+-- what is said of the game that a file states; a file that states no game is refused for its first fault
 abbrev pub OfReading : (FileGame → Reply → Type 0) → Result FileGame Fault → Reply → Type 0
 OfReading says (Ok g) reply = says g reply
 OfReading says (Err why) reply = reply ≡ Refuses (Bad_game why)
@@ -44,7 +44,7 @@ abbrev pub Tells : Answer → Refusal → Type 0
 Tells (answer.Prints text) why = ⊥
 Tells (answer.Refuses kind line) why = (kind ≡ cause_of why) × (line.items ≡ line_of why)
 
--- an answer of the program is a reply of which this is true
+-- an answer of the program is a reply that meets the test
 abbrev pub Answers : (Reply → Type 0) → Answer → Type 0
 Answers says (answer.Prints text) = says (Prints text.items)
 Answers says (answer.Refuses kind line) = (why : Refusal) × says (Refuses why) × Tells (answer.Refuses kind line) why

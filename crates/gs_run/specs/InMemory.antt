@@ -46,7 +46,7 @@ pub record DoesInMemory (words : List (List ℕ)) (input : List ℕ) (s : Status
   pub path : (grouping : Grouping) → AskFor words (Solve grouping) → s ≡ status.Ok → ShowsSolution grouping input printed
   -- at every other status it prints nothing
   pub quiet : s ≢ status.Ok → printed ≡ []
-  -- over bytes that the command accepts it ends as the table of endings says, and never for want of memory
+  -- over bytes that the command accepts it ends as the table of endings says, and never by running out of memory
   pub ends : (task : Task) → AskFor words task → Fits (reads task) input → Concludes task input s × (s ≢ status.Memory)
   -- an input that is too long is refused
   pub too_long : (task : Task) → request_of words ≡ Some task → reads task ≡ true → most_bytes < length input

@@ -35,7 +35,7 @@ ends left read_faults given write_faults told tell_faults =
 abbrev pub most_bytes : ℕ
 most_bytes = 16777216
 
--- the words ask for a task, of which this is true
+-- the words ask for a task that meets the test
 abbrev pub Asked : List (List ℕ) → (Task → Type 0) → Type 0
 Asked words what = (task : Task) × (request_of words ≡ Some task) × what task
 
@@ -69,7 +69,7 @@ NothingFailed reads_source old new = (reads_source ≡ true → Rose old.read_fa
 abbrev pub Quiet : Ends → Ends → Type 0
 Quiet old new = (new.given ≡ old.given) × (new.write_faults ≡ old.write_faults)
 
--- the errors' end has got the line, or a front of it where it has failed
+-- stderr received the line, or a prefix of it if a write failed
 abbrev pub Tells : Ends → Ends → List ℕ → Type 0
 Tells old new line = TellsTo old.told old.tell_faults new.told new.tell_faults line
 
@@ -91,7 +91,7 @@ pub record IsRefused (task : Task) (old new : Ends) (s : Status) : Type 0 where
   pub quiet : Quiet old new
   pub told : Tells old new (line_of why)
 
--- a front of the source was taken, and nothing unless the words ask for a task that reads it
+-- a prefix of the source was taken, and nothing unless the words ask for a task that reads it
 pub record TookInput (words : List (List ℕ)) (old new : Ends) : Type 0 where
   pub front : TookPrefix (most_bytes + 1) old.left new.left
   pub unread : (new.left ≡ old.left) ⊎ Asked words (λ task. reads task ≡ true)

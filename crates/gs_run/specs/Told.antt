@@ -4,7 +4,7 @@ use Rattle.std.specs.declared.option.Option.{Option}
 use Rattle.std.specs.Io.KnownBytes.{Appends}
 use Rattle.gs_io.specs.Causes.{Rose}
 
--- the sink has got the line, or a front of it where it has failed
+-- the sink received the line, or a prefix of it if a write failed
 pub record TellsTo (old : Option (List ℕ)) (before : ℕ) (new : Option (List ℕ)) (now : ℕ) (line : List ℕ) : Type 0 where
   pub count : ℕ
   pub front : Appends old new (take count line)

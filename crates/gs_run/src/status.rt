@@ -35,7 +35,7 @@ pub enum Status {
     BadQuery,
     /// The two strategies are of two games.
     OtherGame,
-    /// The certificate is none, or does not hold.
+    /// The certificate is malformed, or does not hold.
     BadCertificate,
 }
 

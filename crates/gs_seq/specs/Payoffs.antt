@@ -8,7 +8,7 @@ use Rattle.gs_model.specs.Positions.{End, EndKind, Folded1, Folded2, Show, at_en
 use Rattle.gs_model.specs.Sums.{sum_z}
 use Rattle.gs_seq.specs.declared.pair.Pair.{Pair}
 
--- what an end pays a player at a class of his, in deals times the other's numbers: over the other's classes his number at the end times what the
+-- what an end pays a player at an own class, in deals times the other's numbers: over the other's classes his number at the end times what the
 -- end pays in the deals of both classes
 abbrev pub end_sum : Frame → ClassLists → ℕ → Plan → ℕ → ℕ → ℤ
 end_sum f lists player y z c =
@@ -25,11 +25,11 @@ AreNumbersAt f lists player y z numbers = (e : ℕ) → IsClass lists (round_of 
 
 -- ---- of private functions
 
--- what two plans pay player 1 at an end: over his classes his number there times that sum
+-- what two plans pay player 1 at an end: over player 1's classes, the number there times that sum
 abbrev pub payoff_at : Frame → ClassLists → Plan → Plan → ℕ → ℤ
 payoff_at f lists x y z = sum_z (λ c. pos (class_number f lists 1 x z c) *ℤ end_sum f lists 1 y z c) (classes_in lists (round_of f (at_end z)))
 
--- the chips that a fold pays a player: he loses what he has put where he folds, and wins what the other has put where that one folds
+-- the chips that a fold pays a player: who folds loses what they have put, and the other wins that
 abbrev pub stake : ℕ → ℕ → ℕ → ℤ
 stake player folder put = if player == folder then neg_ℤ (pos put) else pos put
 
@@ -46,7 +46,7 @@ pair_pays player z p = pays z.kind
 abbrev pub AreFew : ℕ → List ℕ → Type 0
 AreFew n numbers = (k : ℕ) → k < n → slice_index numbers k ≤ 2 ^ 36
 
--- what an end pays a player at a class of his by the other's numbers there, one for each class
+-- what an end pays a player at an own class by the other's numbers there, one for each class
 abbrev pub number_sum : Frame → ClassLists → ℕ → List ℕ → ℕ → ℕ → ℤ
 number_sum f lists player numbers z c =
     let round = round_of f (at_end z) in

@@ -11,11 +11,11 @@ use Rattle.gs_model.specs.Positions.{at_point}
 abbrev pub slots_at : Frame → ClassLists → ℕ → ℕ → ℕ
 slots_at f lists player q = if player_at f q == player then class_count lists (round_of f (at_point q)) * move_count f q else 0
 
--- how many he has at the points before a point
+-- how many slots a player has at the points before a point
 abbrev pub slots_before : Frame → ClassLists → ℕ → ℕ → ℕ
 slots_before f lists player q = sum_by (slots_at f lists player) (range_with_len 0 q)
 
--- how many he has
+-- how many slots a player has
 abbrev pub slot_count : Frame → ClassLists → ℕ → ℕ
 slot_count f lists player = slots_before f lists player (point_count f)
 

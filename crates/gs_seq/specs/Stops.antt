@@ -8,12 +8,12 @@ use Rattle.gs_seq.specs.declared.limits.Limits.{Limits}
 use Rattle.gs_seq.specs.declared.stop.SeqStop.{SeqStop}
 use Rattle.gs_seq.specs.declared.stop.SeqStop.TheVariants.{TooManySequences, TooManyCells, Memory}
 
--- both players have at most so many sequences
+-- both players have at most this many sequences
 pub record HasSequencesWithin (most : ℕ) (f : Frame) (lists : ClassLists) : Type 0 where
   pub one : sequence_count f lists 1 ≤ most
   pub two : sequence_count f lists 2 ≤ most
 
--- a player with more, and how many he has
+-- a player with more sequences, and how many they are
 abbrev pub HasOver : ℕ → Frame → ClassLists → ℕ → SeqStop → Type 0
 HasOver most f lists player (TooManySequences p count) = (p ≡ player) × (count ≡ sequence_count f lists player) × (most < count)
 HasOver most f lists player (TooManyCells count) = ⊥
@@ -23,7 +23,7 @@ HasOver most f lists player Memory = ⊥
 abbrev pub IsTooLong : ℕ → Frame → ClassLists → SeqStop → Type 0
 IsTooLong most f lists e = HasOver most f lists 1 e ⊎ ((sequence_count f lists 1 ≤ most) × HasOver most f lists 2 e)
 
--- a stop at limits is the first in order: sequences, then cells; want of memory may be answered at any point
+-- a stop at limits is the first in order: sequences, then cells; running out of memory may be answered at any point
 abbrev pub IsStopAt : Limits → Frame → ClassLists → SeqStop → Type 0
 IsStopAt most f lists (TooManySequences player count) = IsTooLong most.sequences f lists (TooManySequences player count)
 IsStopAt most f lists (TooManyCells count) = HasSequencesWithin most.sequences f lists × (count ≡ cell_count f lists) × (most.cells < count)

@@ -46,7 +46,7 @@ fn put_first(
     }
 }
 
-/// The weights, so many, of the plan of total 1 that takes the first move everywhere.
+/// The `count` weights of the plan of total 1 that takes the first move everywhere.
 fn first_weights(
     alloc: Global,
     game: &ValidGame,
@@ -99,7 +99,7 @@ impl<'a> Abstract<'a> {
     }
 
     /// What comes to a class of a point by a total and the weights of the slots before the point: the weight of the player's last step, at the class
-    /// above, or the total where he made none.
+    /// above, or the total if the player made none.
     pub fn coming(&self, total: u64, weights: &[u64], point: u32, class: u32) -> u64
         requires point { point < point_count (frame_of self.now) }
         requires class { IsClass (lists_of self.now) (round_of (frame_of self.now) (at_point point)) class }

@@ -198,7 +198,7 @@ fn first_leak(
     None
 }
 
-/// The first reason why a total and weights are no plan of a player, or none where they are one.
+/// The first reason why a total and weights are no plan of a player; none if they are one.
 pub fn plan_fault(
     game: &ValidGame,
     classes: &Classes,

@@ -52,7 +52,7 @@ pub struct Abstract<'a> {
     ghost single: { (b : Along) → order ≡ Some b → IsSingleIn lossless.now.classes.now.lists (last_round (frame_in lossless.now.signals.now.game.now)) },
 }
 
-/// The signals of the last round along their boards, where only so many earlier rounds have rows.
+/// The signals of the last round along their boards, where only the first `listed` rounds have rows.
 fn order_of<'a>(
     alloc: Global,
     lossless: &'a Lossless<'a>,
@@ -226,7 +226,7 @@ impl<'a> Abstract<'a> {
     }
 
     /// A plan's number at an end and a class of its round: the weight of its player's last step before the end, at the class above, or the total
-    /// where he made none.
+    /// if the player made none.
     pub fn number_at_end(&self, plan: &Plan, end: u32, class: u32) -> u64
         requires some { 0 < plan.now.player }
         requires two { plan.now.player ≤ 2 }

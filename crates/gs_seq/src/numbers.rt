@@ -90,7 +90,7 @@ pub fn source_at_end(
     })
 }
 
-/// A plan's number at a class of an end's round: the weight of its player's last step at the class above, or the total where he made none.
+/// A plan's number at a class of an end's round: the weight of its player's last step at the class above, or the total if the player made none.
 pub fn number_by(
     game: &ValidGame,
     classes: &Classes,

@@ -22,7 +22,7 @@ fn number_of(numbers: &[u64], class: u32) -> u64
     numbers[class as usize - 1]
 }
 
-/// What an end pays a player in a deal, by his outcome.
+/// What an end pays a player in a deal, by the player's outcome.
 fn pays_at(player: u8, end: End) -> Pays
     ensures { (d : Dealt) → pos d.weight *ℤ paid result d.outcome ≡ pair_pays player (end_of end) (deal_pair d) }
 {
@@ -63,7 +63,7 @@ impl<'a> Abstract<'a> {
         self.classes().classes(self.end_in(end).round)
     }
 
-    /// What an end pays a player at each class of his against a plan of the other player, class by class from a place of a list on, as `end_sum`; the
+    /// What an end pays a player at each own class against a plan of the other player, class by class from a place of a list on, as `end_sum`; the
     /// rest of the list is as it was. The other's numbers there are written anew.
     pub fn end_sums(
         &self,
@@ -96,7 +96,7 @@ impl<'a> Abstract<'a> {
         }
     }
 
-    /// What an end of the last round pays a player at each class of his, as `pay_all`, where each signal is a class of its own: by sums along the boards.
+    /// What an end of the last round pays a player at each own class, as `pay_all`, where each signal is a class of its own: by sums along the boards.
     fn pay_along(
         &self,
         order: &BoardOrder<'_>,
@@ -143,7 +143,7 @@ impl<'a> Abstract<'a> {
         }
     }
 
-    /// What an end pays a player at each class of his, from a place of a list on, by the other's numbers there; the rest of the list is as it was.
+    /// What an end pays a player at each own class, from a place of a list on, by the other's numbers there; the rest of the list is as it was.
     fn pay_all(&self, player: u8, end: u32, numbers: &[u64], start: usize, sums: &mut [i128])
         requires some { 0 < player }
         requires two { player ≤ 2 }
@@ -162,7 +162,7 @@ impl<'a> Abstract<'a> {
         }
     }
 
-    /// What an end pays a player at a class of his by the other's numbers there.
+    /// What an end pays a player at an own class by the other's numbers there.
     fn paid(&self, player: u8, end: u32, class: u32, numbers: &[u64]) -> i128
         requires some { 0 < player }
         requires two { player ≤ 2 }

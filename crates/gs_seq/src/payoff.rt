@@ -44,7 +44,7 @@ impl<'a> Abstract<'a> {
     ghost use Rattle.gs_seq.specs.{Abstracts.{frame_of, lists_of}, Payoffs.{end_classes, end_sum, payoff_at}, Plans.{IsPlanOf, class_plan, lifted}};
     ghost use Rattle.gs_seq.specs.{Rows.{IsRow}, Sources.{MatchSource}};
 
-    /// What an end pays a player at a class of his against a plan of the other player, over the classes beside it: the plan's number times what the
+    /// What an end pays a player at an own class against a plan of the other player, over the classes beside it: the plan's number times what the
     /// end pays in the deals of both classes.
     pub fn end_sum(&self, player: u8, other: &Plan, end: u32, class: u32) -> i128
         requires some { 0 < player }

@@ -90,7 +90,7 @@ fn add(row: &mut Vec<Pair>, pair: Pair) -> Result<(), AllocError>
     Ok(())
 }
 
-/// The row of a class with so many members, by the parts of one of them in ascending order.
+/// The row of a class, by the number of its members and the parts of one of them in ascending order.
 pub(crate) fn row_of(alloc: Global, sums: &[Part], members: u64) -> Result<Vec<Pair>, AllocError>
     requires { members * sum_by (λ p. p.weight) sums.now < 2 ^ 32 }
     ensures { IfOk result (λ v. v.items ≡ gathered members sums.now) }

@@ -1,4 +1,4 @@
-//! The slots of a player: one for each of his points, class of its round, and move.
+//! The slots of a player: one for each own point, class of its round, and move.
 
 ghost use Rattle.std.specs.Prelude.{◌≡◌, ◌+◌, ◌<◌, ◌≤◌, ◌^◌, IfOk, OnOk, IfErr};
 ghost use Rattle.gs_model.specs.Frame.{point_count};
@@ -81,7 +81,7 @@ pub(crate) fn few_slots(
     Ok((one, two))
 }
 
-/// How many slots a player has, where he has at most `most` sequences.
+/// How many slots a player has, if the sequences are at most `most`.
 fn few_slots_of(game: &ValidGame, classes: &Classes, player: u8, most: u32) -> Result<u32, SeqStop>
     requires { classes.now.parents ≡ (frame_in game.now).parents }
     ensures value { IfOk result (λ n. n ≡ slots_in (frame_in game.now) classes.now.lists player) }

@@ -8,7 +8,7 @@ use std::alloc::AllocError;
 /// Why a game with its classes has no sequence form here.
 #[derive(Clone, Copy, Debug, PartialEq, Eq)]
 pub enum SeqStop {
-    /// The first player with more sequences than may be, the empty one counted, and how many he has.
+    /// The first player with more sequences than may be, the empty one counted, and how many they are.
     TooManySequences { player: u8, count: u64 },
     /// The pairs of classes that some deal has, added up over all ends, are more than may be: `count`.
     TooManyCells { count: u64 },

@@ -19,7 +19,7 @@ use Rattle.gs_settle.specs.Solving.{SaysStopped}
 abbrev pub turn_line : ℕ → Turn → List ℕ
 turn_line number turn = decimal number ++ codes " enters " ++ decimal turn.enter ++ codes " leaves " ++ decimal turn.leave ++ codes "\n"
 
--- the lines of pivots, after so many
+-- the lines of pivots, behind this many
 abbrev pub turn_lines : ℕ → List Turn → List ℕ
 turn_lines before [] = []
 turn_lines before (turn ∷ turns) = turn_line (before + 1) turn ++ turn_lines (before + 1) turns

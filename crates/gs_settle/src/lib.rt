@@ -22,7 +22,7 @@ use settling::settle;
 use std::alloc::{AllocError, Global};
 use tasks::Task;
 
-/// What `play` answers to the bytes of a game file: the text of the strategy of both players' plans after so many turns of fictitious play over the
+/// What `play` answers to the bytes of a game file: the text of the strategy of both players' plans after a number of turns of fictitious play over the
 /// classes of a grouping; or why the file is refused.
 pub fn play_answer(
     alloc: Global,

@@ -52,7 +52,7 @@ pub record IsLeast (p : Program) (l : Listing) (rows : ℕ → ℕ → ℤ) (e c
   pub here : (k : ℕ) × (k < count) × IsRatio p l rows e k a
   pub others : (k : ℕ) → k < count → (IsNoRatio p l rows e k) ⊎ ((b : Ratio) × (IsRatio p l rows e k b) × NotAfter a b)
 
--- the least ratio among the first places, or none where none of them may leave
+-- the least ratio among the first places, or that none of them may leave
 abbrev pub IsLeastSoFar : Program → Listing → (ℕ → ℕ → ℤ) → ℕ → ℕ → Option Ratio → Type 0
 IsLeastSoFar p l rows e count None = (k : ℕ) → k < count → IsNoRatio p l rows e k
 IsLeastSoFar p l rows e count (Some a) = IsLeast p l rows e count a

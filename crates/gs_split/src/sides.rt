@@ -14,7 +14,7 @@ use gs_tree::Signals;
 use indexmap::IndexSet;
 use std::alloc::{AllocError, Global};
 
-/// For each signal of a round one that stands for it on one side, no later than itself: in the last round one that sees the same deals, before it the
+/// For each signal of a round one that stands for it on one side and is not behind it: in the last round one that sees the same deals, before it the
 /// signal itself.
 fn side_firsts(
     alloc: Global,

@@ -147,7 +147,7 @@ fn rule_text(alloc: Global, fault: &GameFault) -> Result<Vec<u8>, AllocError>
     }
 }
 
-// A version that is none.
+// A version that does not exist.
 fn version_text(alloc: Global, version: i64) -> Result<Vec<u8>, AllocError>
     ensures { IfOk result (λ v. v.items ≡ fault_text (bad_version version)) }
 {

@@ -41,7 +41,7 @@ fn shape_text(alloc: Global, part: FilePart) -> Result<Vec<u8>, AllocError>
     Ok(text.into_bytes())
 }
 
-/// A game that is none.
+/// A value that is no game.
 fn game_text(alloc: Global, fault: &FileFault) -> Result<Vec<u8>, AllocError>
     requires { fault.now ≢ file.Memory }
     ensures { IfOk result (λ v. (why : GameRule) → IsFault fault.now why → v.items ≡ codes "game: " ++ fault_text why) }

@@ -7,11 +7,11 @@ use Rattle.gs_model.specs.Frame.{Frame, move_count, player_at, point_count, roun
 use Rattle.gs_model.specs.Positions.{at_point}
 use Rattle.gs_totals.specs.ClassTotals.{total_worth}
 
--- a number after so many turns, by what it is now and what each turn adds
+-- a number after some turns, by what it is now and what each turn adds
 abbrev pub line : ℤ → ℤ → ℕ → ℤ
 line now rise k = now +ℤ pos k *ℤ rise
 
--- a table after so many turns
+-- a table after some turns
 abbrev pub tables_after : Values → Values → ℕ → Values
 tables_after v d k g c = line (v g c) (d g c) k
 
@@ -20,7 +20,7 @@ pub record IsBeforeChange (worth rise : ℕ → ℤ) (n place times : ℕ) : Typ
   pub later : (m k : ℕ) → place < m → m < n → k < times → line (worth m) (rise m) k ≤ℤ line (worth place) (rise place) k
   pub earlier : (m k : ℕ) → m < place → k < times → line (worth m) (rise m) k <ℤ line (worth place) (rise place) k
 
--- a number of turns within which no choice of a player changes, by his class totals and what each turn adds to them
+-- a number of turns within which no choice of a player changes, by the player's class totals and what each turn adds to them
 abbrev pub AreBeforeChange : Frame → ClassLists → ℕ → Values → Values → (ℕ → ℕ → ℕ) → ℕ → Type 0
 AreBeforeChange f lists player v d move times =
     (q c : ℕ) → q < point_count f → player_at f q ≡ player → IsClass lists (round_of f (at_point q)) c

@@ -15,7 +15,7 @@ pub record IsNotAhead (before : Bool) (value worth : ℤ) : Type 0 where
 abbrev pub IsBehind : Bool → ℤ → ℤ → ℤ → ℤ → ℕ → Type 0
 IsBehind before value worth slope rise times = (k : ℕ) → k < times → IsNotAhead before (line value slope k) (line worth rise k)
 
--- so for each of so many classes that have not chosen the move
+-- so for each of the first classes that have not chosen the move
 abbrev pub AreBehind : ℕ → ℕ → ℕ → List ℕ → List ℤ → List ℤ → List ℤ → List ℤ → ℕ → Type 0
 AreBehind count choice start picks values worths slopes rises times =
     (k : ℕ) → k < count → slice_index picks (start + k) ≢ choice

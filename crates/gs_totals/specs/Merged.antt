@@ -27,7 +27,7 @@ pub record IsFollowing (f : Frame) (lists : ClassLists) (player : ℕ) (v : Valu
   pub own : player_at f q ≡ player → AreChosen f lists v move q (move_count f q) row
   pub others : player_at f q ≢ player → AreSums f lists (total_worth f lists v) q (move_count f q) row
 
--- each of so many numbers is taken from a row where the class has chosen the move
+-- each of the first numbers is taken from a row where the class has chosen the move
 abbrev pub AreTaken : ℕ → ℕ → ℕ → List ℕ → List ℤ → List ℤ → List ℤ → Type 0
 AreTaken count choice start picks worths old new = (k : ℕ) → k < count → get_or new k (pos 0)
     ≡ (if slice_index picks (start + k) == choice then get_or worths k (pos 0) else get_or old k (pos 0))

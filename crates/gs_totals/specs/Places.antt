@@ -52,14 +52,14 @@ abbrev pub AreSmallPoints : Frame → ClassLists → List ℤ → Type 0
 AreSmallPoints f lists values = (q c : ℕ) → q < point_count f → IsClass lists (round_of f (at_point q)) c
     → unsigned_abs (get_or values (start_of f lists q + (c - 1)) (pos 0)) < 2 ^ 90
 
--- the numbers of all ends have so many times those of a second list added
+-- the numbers of all ends have those of a second list added a number of times
 abbrev pub AreEndLines : Frame → ClassLists → List ℤ → List ℤ → ℕ → List ℤ → Type 0
 AreEndLines f lists old steps times new =
     (z c : ℕ) → z < end_count f → IsClass lists (round_of f (at_end z)) c
     → get_or new (end_start f lists z + (c - 1)) (pos 0) ≡ line (get_or old (end_start f lists z + (c - 1)) (pos 0))
     (get_or steps (end_start f lists z + (c - 1)) (pos 0)) times
 
--- the numbers of all points have so many times those of a second list added
+-- the numbers of all points have those of a second list added a number of times
 abbrev pub ArePointLines : Frame → ClassLists → List ℤ → List ℤ → ℕ → List ℤ → Type 0
 ArePointLines f lists old steps times new =
     (q c : ℕ) → q < point_count f → IsClass lists (round_of f (at_point q)) c

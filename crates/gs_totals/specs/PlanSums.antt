@@ -5,11 +5,11 @@ use Rattle.gs_model.specs.Frame.{Frame, move_count, player_at, point_count, roun
 use Rattle.gs_model.specs.Plans.{Plan}
 use Rattle.gs_model.specs.Positions.{at_point}
 
--- a plan with another added so many times
+-- a plan with another one added a number of times
 abbrev pub plus_times : Plan → ℕ → Plan → Plan
 plus_times x k b = record { total = x.total + k * b.total; number = λ q c m. x.number q c m + k * b.number q c m }
 
--- two plans of a player are the same wherever he chooses
+-- two plans of a player are the same wherever the player chooses
 pub record AreAlike (f : Frame) (lists : ClassLists) (player : ℕ) (x y : Plan) : Type 0 where
   pub total : x.total ≡ y.total
   pub numbers : (q c m : ℕ) → q < point_count f → player_at f q ≡ player → IsClass lists (round_of f (at_point q)) c → m < move_count f q

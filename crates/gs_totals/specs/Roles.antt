@@ -1,4 +1,4 @@
--- A player's plans, moves and class totals in his game.
+-- A player's plans, moves and class totals in a game.
 use Rattle.std.specs.Prelude.{ℕ, List, ℤ}
 use Rattle.gs_model.specs.BestAnswers.{Values}
 use Rattle.gs_model.specs.Classes.{ClassLists}
@@ -16,7 +16,7 @@ use Rattle.gs_totals.specs.declared.role.Role.{Role}
 abbrev pub frame_in : Role → Frame
 frame_in k = frame_of k.form.now
 
--- the classes of his game
+-- the classes of the game
 abbrev pub lists_in : Role → ClassLists
 lists_in k = lists_of k.form.now
 
@@ -28,7 +28,7 @@ plan_in k p = class_plan (frame_of k.form.now) (lists_of k.form.now) p
 abbrev pub moves_in : Role → List ℕ → ℕ → ℕ → ℕ
 moves_in k picks = moves_of (frame_in k) (lists_in k) picks
 
--- his class totals against a plan of the other's, as a list has them at points
+-- the player's class totals against a plan of the other's, as a list has them at points
 abbrev pub totals_in : Role → Plan → List ℤ → Values
 totals_in k other values = totals_of (frame_in k) (lists_in k) k.player (plan_in k other) values
 
@@ -36,6 +36,6 @@ totals_in k other values = totals_of (frame_in k) (lists_in k) k.player (plan_in
 abbrev pub IsOthers : Role → Plan → Type 0
 IsOthers k p = IsPlanOf (frame_in k) (lists_in k) (other_player k.player) p
 
--- class totals have what each end pays him against a plan of the other's
+-- class totals have what each end pays the player against a plan of the other's
 abbrev pub ArePaid : Role → Plan → Totals → Type 0
 ArePaid k other t = AreEndSums (frame_in k) (lists_in k) k.player (plan_in k other) t.ends.items

@@ -8,7 +8,7 @@ use crate::places::{Totals, end_room};
 use gs_best::value_total;
 use gs_seq::{Abstract, plus, scaled};
 
-/// A number to which a step is added so many times.
+/// A number to which a step is added a number of times.
 fn advanced(sum: i128, step: i128, times: u32) -> i128
     requires sum { unsigned_abs sum < 2 ^ 90 }
     requires step { unsigned_abs step < 2 ^ 90 }
@@ -18,7 +18,7 @@ fn advanced(sum: i128, step: i128, times: u32) -> i128
     plus(sum, scaled(u64::from(times), step))
 }
 
-/// Adds to the first so many numbers so many times those of another list.
+/// Adds to the first numbers those of another list a number of times.
 fn advance_first(sums: &mut [i128], steps: &[i128], count: usize, times: u32)
     requires sums { count ≤ length sums.old }
     requires steps { count ≤ length steps.now }
@@ -32,7 +32,7 @@ fn advance_first(sums: &mut [i128], steps: &[i128], count: usize, times: u32)
     }
 }
 
-/// Adds to a player's class totals so many times what each turn adds: to what ends pay, and where his choices last for more turns to the totals of points
+/// Adds to a player's class totals what each turn adds, a number of times: to what ends pay, and where the choices last for more turns to the totals of points
 /// as well.
 pub fn advance(form: &Abstract, totals: &mut Totals, steps: &Totals, times: u32, lasts: u32)
     requires rows { HasRows (frame_of form.now) (lists_of form.now) totals.old }

@@ -5,7 +5,7 @@ ghost use Rattle.gs_totals.specs.Roles.{IsOthers};
 use crate::role::Role;
 use gs_seq::Plan;
 
-/// A player and a plan of the other's that he faces.
+/// A player and the other's plan that the player faces.
 #[derive(Clone, Copy)]
 pub struct Ledger<'a> {
     pub role: Role<'a>,

@@ -10,7 +10,7 @@ use crate::point_row::PointRow;
 use crate::rows::read_worths;
 use gs_best::{add, chooser, move_total, raise};
 
-/// Takes the worth of a move for each of so many classes that have chosen it; their moves are listed from a place on.
+/// Takes the worth of a move for each of the first classes that have chosen it; their moves are listed from a place on.
 fn take(worths: &[i128], choice: u8, count: usize, picks: &[u8], start: usize, row: &mut [i128])
     requires worths { count ≤ length worths.now }
     requires picks { start + count ≤ length picks.now }
@@ -65,7 +65,7 @@ fn chosen_moves(at: &PointRow<'_, '_>, picks: &[u8], worths: &mut [i128], row: &
     }
 }
 
-/// The class totals of a point, and where the player chooses his first best moves.
+/// The class totals of a point, and where the player chooses the first best moves.
 pub(crate) fn merge_moves(
     at: &PointRow<'_, '_>,
     worths: &mut [i128],

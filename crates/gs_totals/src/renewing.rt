@@ -16,7 +16,7 @@ use gs_best::{class_total, end_total, game, round_at, round_total};
 use gs_game::Step;
 use gs_seq::{Abstract, end_step};
 
-/// Whether two lists of a player's weights agree at a step of his, at each class of its point.
+/// Whether two lists of a player's weights agree at an own step, at each class of its point.
 fn agree_at(form: &Abstract, step: Step, before: &[u64], now: &[u64]) -> bool
     requires point { step.point < point_count (frame_of form.now) }
     requires choice { step.choice < move_count (frame_of form.now) step.point }
@@ -37,7 +37,7 @@ fn agree_at(form: &Abstract, step: Step, before: &[u64], now: &[u64]) -> bool
     true
 }
 
-/// Whether the other player's plan has the same numbers at an end as with other weights, by the weights of his last step.
+/// Whether the other player's plan has the same numbers at an end as with other weights, by the weights of that player's last step.
 fn is_same_at(ledger: &Ledger<'_>, before: &[u64], end: u32) -> bool
     requires before { let k = ledger.now.role in length before.now ≡ slot_count (frame_in k) (lists_in k) (other_player k.player) }
     requires end { end < end_count (frame_in ledger.now.role) }

@@ -20,7 +20,7 @@ struct Row<'a> {
     start: usize,
 }
 
-/// Sets so many numbers to 0.
+/// Sets the first numbers to 0.
 fn clear(sums: &mut [i128], count: usize)
     requires { count ≤ length sums.old }
     ensures { (k : ℕ) → k < count → get_or sums.new k (pos 0) ≡ pos 0 }

@@ -3,7 +3,7 @@ use Rattle.std.specs.Prelude.{ℕ, ◌≡◌, ◌<◌, ◌+◌, ◌*◌, true, f
 use Rattle.gs_model.specs.Game.{Game}
 use Rattle.gs_tree.specs.Walk.{last_count, shows_same}
 
--- for each last-round signal the first one that shows the same public cards, and the next one, or the number of all where there is none
+-- for each last-round signal the first one that shows the same public cards, and the next one, or the number of all if no other follows
 pub record AreBoards (g : Game) (firsts nexts : List ℕ) : Type 0 where
   pub firsts_long : length firsts ≡ last_count g
   pub nexts_long : length nexts ≡ last_count g

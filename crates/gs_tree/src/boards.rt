@@ -17,7 +17,7 @@ use std::collections::HashMap;
 pub(crate) struct Boards {
     // the first one
     pub(crate) firsts: Vec<u32>,
-    // the next one, or the number of all signals where there is none
+    // the next one, or the number of all signals if no other follows
     pub(crate) nexts: Vec<u32>,
 }
 
@@ -47,7 +47,7 @@ fn seen_last(count: u32, entry: u32) -> Option<u32>
     if entry < count { Some(entry) } else { None }
 }
 
-/// How many lists of so many cards there are.
+/// How many lists of this many cards there are.
 fn code_count(kinds: usize, cards: usize) -> usize
     requires few_kinds { kinds ≤ 52 }
     requires few_cards { cards ≤ 3 }
@@ -133,7 +133,7 @@ fn link_by_table(alloc: Global, game: &Game, hands: &Hands) -> Result<Boards, Al
     let count = hands.paths.len() as u32;
     let kinds = usize::from(game.deck.kinds());
     let mut boards = none_linked(alloc, count)?;
-    // the last signal before the next one that shows these cards, or the number of all signals where there is none
+    // the last signal before the next one that shows these cards, or the number of all signals if no other follows
     let mut last = none_seen(alloc, count, code_count(kinds, hands.public))?;
     for signal in 0..count {
         let code = board_code(game, hands, signal);

@@ -11,7 +11,7 @@ pub struct Deal {
     pub two: u32,
     /// The ways of drawing it from the physical cards.
     pub weight: u64,
-    /// Player 1's outcome: from 1 to 9 where he wins, 0 at equal hands, from -9 to -1 where he loses.
+    /// Player 1's outcome: from 1 to 9 for a win, 0 at equal hands, from -9 to -1 for a loss.
     pub outcome: i8,
 }
 

@@ -29,7 +29,7 @@ fn pair_weight(one: u32, two: u32) -> u64
 
 /// The raw signals of a game.
 ///
-/// A raw signal of round `j` is what one player sees up to that round: his own groups and the public groups of rounds 1 to `j`. Rounds count
+/// A raw signal of round `j` is what one player sees up to that round: the own groups and the public groups of rounds 1 to `j`. Rounds count
 /// from 1. The signals of a round are named by their places, from 0, in the order of what they show, round by round and the own group first.
 #[derive(Drop)]
 pub struct Signals<'g> {
@@ -194,7 +194,7 @@ impl<'g> Signals<'g> {
     }
 
     /// For each signal of the last round the first one that shows the same public cards, and the next one that does, or the number of all
-    /// signals where there is none.
+    /// signals if no other follows.
     pub fn boards(&self) -> (&[u32], &[u32])
         ensures { AreBoards (rules_of self.now) result.0.now result.1.now }
     {

@@ -38,7 +38,7 @@ fn none_grown(alloc: Global, room: usize, parents: usize) -> Result<Grown, Alloc
     })
 }
 
-/// How many signals a round may have that shows one card after so many signals, and 200,000 at the most.
+/// How many signals a round that shows one card may have, by the number of signals before it, and 200,000 at most.
 fn room_for(count: u32, kinds: u8) -> usize {
     let all = u64::from(count) * u64::from(kinds);
     all.min(200_000) as usize

@@ -42,7 +42,7 @@ impl Ways {
         }
     }
 
-    /// So many ones.
+    /// This many ones.
     pub(crate) fn all_ones(alloc: Global, count: u32) -> Ways
         ensures { result ≡ replicate count 1 }
     {

@@ -24,7 +24,7 @@ abbrev pub is_set : Option Text → Bool
 is_set None = false
 is_set (Some text) = bytes_eq text (codes "true")
 
--- the grouping that is named, `split` where none is
+-- the grouping that is named, `split` by default
 abbrev pub grouping_in : Option Text → Option Grouping
 grouping_in None = Some Coarsest
 grouping_in (Some word) = grouping_of word
@@ -84,7 +84,7 @@ ReadsWords (Ok request) words = request_of words ≡ Some (task_of request)
 ReadsWords (Err stop.Usage) words = request_of words ≡ None
 ReadsWords (Err stop.Memory) words = Unit {0}
 
--- words are not taken for want of memory, or for another error
+-- words are not taken because memory ran out, or for another error
 abbrev pub IsStopFor : ErrorKind → WordsStop → Type 0
 IsStopFor kind stop.Memory = kind ≡ OutOfMemory
 IsStopFor kind stop.Usage = kind ≡ OutOfMemory → ⊥

@@ -165,7 +165,7 @@ fn request_in<'a>(matches: &ArgMatches<'a>) -> Option<Request<'a>>
     request_for(command_named(name)?, options)
 }
 
-/// What the words ask for, the first of which is the command. They are read with `clap`: that it
+/// What the words ask for. The first one is the command. They are read with `clap`: that it
 /// refuses them, a request for help included, is `Usage`, and so is a value that its option does
 /// not take.
 #[tactic(auto, unfolding(crate::specs::Requests::request_of))]

@@ -29,7 +29,7 @@ pub enum Request<'w> {
     Solve {
         grouping: Grouping,
     },
-    /// The strategy over these classes after so many turns of play, at most 1,000,000.
+    /// The strategy over these classes after this many turns of play, at most 1,000,000.
     Play {
         grouping: Grouping,
         turns: u32,

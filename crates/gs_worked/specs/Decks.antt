@@ -7,7 +7,7 @@ use Rattle.gs_model.specs.SignalClasses.{SameClass}
 use Rattle.gs_model.specs.Signals.{Signal, signal_at, signals}
 use Rattle.gs_model.specs.ViewTree.{leaves}
 
--- one round, one private card each, one copy of each of so many kinds in so many suits; no betting is looked at
+-- one round, one private card each, one copy of each kind of the given ranks and suits; no betting is looked at
 abbrev pub single_cards : ℕ → ℕ → Game
 single_cards suits kinds = record {
   suits = suits;
