@@ -8,21 +8,21 @@ and more slowly. Without --solver Clp is taken where it is installed. Its plans 
 `gameshrink judge` finds the value and both gaps of these, which are written into the file. So they are exact whatever the solver did, and
 `evaluate` confirms the file. With --classes raw each hand is a class by itself; the default are the coarsest lossless classes.
 
-On standard error it says where the game's value lies by these gaps. Leduc takes Clp half a second; Rhode Island of 4 ranks and 4 suits with
-one bet a round some 20 s. `gameshrink` refuses games with more than 262,144 sequences of a player.
+On standard error it says where the game's value lies by these gaps. Leduc takes Clp a fifth of a second of processor time, Rhode Island of 4
+ranks and 4 suits with one bet a round 10 s.
 """
 
-import argparse
 import os
 import signal
 import sys
 from fractions import Fraction
 
-from program import TOP, Program
+from program import TOP, Program, Words
 
 sys.path.append(os.path.join(TOP, "results"))
 import solvers  # noqa: E402
 from sequence_form import LARGEST_TOTAL, Game, SequenceForm, read_classes  # noqa: E402
+from texts import outwards  # noqa: E402
 
 SOLVERS = {
     "clp": (solvers.has_floating, solvers.solved_in_floating_point, "coinor-clp"),
@@ -40,7 +40,7 @@ def solver_for(name):
 
 
 def main():
-    words = argparse.ArgumentParser(description=__doc__, formatter_class=argparse.RawDescriptionHelpFormatter, usage=argparse.SUPPRESS)
+    words = Words()
     words.add_argument("game")
     words.add_argument("--solver", choices=list(SOLVERS))
     words.add_argument("--classes", choices=["split", "raw"], default="split")
@@ -50,19 +50,23 @@ def main():
     if not 1 <= asked.total <= LARGEST_TOTAL:
         sys.exit("near.py: --total is from 1 to 2^36")
     program, solved = Program(asked.program), solver_for(asked.solver)
-    with open(asked.game, encoding="ascii") as file:
+    with open(asked.game, encoding="utf-8") as file:
         text = file.read()
-    form = SequenceForm(Game(text), read_classes(program.printed("check --classes %s" % asked.classes, text)))
+    classes = read_classes(program.printed("check --classes %s" % asked.classes, text))
+    form = SequenceForm(Game(text), classes)
     _, columns, prices = solved(form.program())
     near = program.filled(form.strategy(form.rounded_plans(columns, prices, asked.total)))
     sys.stdout.write(near)
     value, gap1, gap2 = map(Fraction, program.judged(near))
-    print("near.py: the value is from %.12f to %.12f; both gaps together are %.3g" % (value - gap2, value + gap1, gap1 + gap2), file=sys.stderr)
+    least, most = outwards(value - gap2)[0], outwards(value + gap1)[1]
+    print("near.py: the game is worth at least %s and at most %s to player 1" % (least, most), file=sys.stderr)
 
 
 if __name__ == "__main__":
     signal.signal(signal.SIGPIPE, signal.SIG_DFL)
     try:
         main()
-    except (OSError, UnicodeDecodeError) as fault:
-        sys.exit("near.py: %s" % fault)
+    except OSError as fault:
+        sys.exit("near.py: %s: %s" % (fault.filename, fault.strerror))
+    except UnicodeDecodeError:
+        sys.exit("near.py: the game file is no UTF-8 text")

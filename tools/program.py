@@ -1,5 +1,6 @@
-"""The built program, as the scripts run it."""
+"""The built program, as the scripts run it, and the words of a script."""
 
+import argparse
 import json
 import os
 import subprocess
@@ -42,3 +43,13 @@ class Program:
         numbers = self.judged(text)
         file = {**json.loads(text), **dict(zip(("value", "gap1", "gap2"), numbers))}
         return json.dumps(file, sort_keys=True, separators=(",", ":")) + "\n"
+
+
+class Words(argparse.ArgumentParser):
+    """A script's words. Its docstring is the help text, and a refusal is one line."""
+
+    def format_help(self):
+        return sys.modules["__main__"].__doc__.lstrip()
+
+    def error(self, message):
+        self.exit(2, "%s: %s; --help says more\n" % (os.path.basename(sys.argv[0]), message))

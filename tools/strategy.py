@@ -28,6 +28,8 @@ its members; they must agree. A player who has no rule at all keeps the plan of 
 What a strategy file holds are weights: what a player's last move has is shared among the moves of the next point. `pack` rounds them to whole
 numbers of total N, 2^36 by default: down, and what is left goes to the largest remainders. With --exact the total is the least one at which
 nothing is rounded; it must not be above 2^36.
+
+A refusal is one line. It names the row, counted over all lines of the table's file, or the player, the line and the hand.
 """
 
 import argparse
@@ -40,7 +42,7 @@ from fractions import Fraction
 from math import lcm
 
 from layout import LARGEST_TOTAL, Game, Layout, strategy_text
-from program import Program
+from program import Program, Words
 
 COLUMNS = ["player", "line", "hand", "move", "probability"]
 NUMBER = re.compile(r"\d{1,30}(/\d{1,30}|\.\d{1,30}([eE][-+]?\d{1,2})?|[eE]-?\d{1,2})?|\.\d{1,30}([eE][-+]?\d{1,2})?")
@@ -60,7 +62,7 @@ def read_strategy(text, name):
         if [len(plan) for plan in plans] != sizes:
             raise Refusal("%s has %d and %d weights, and its game and classes want %d and %d" % (name, *(len(p) - 1 for p in plans), *(s - 1 for s in sizes)))
         return layout, plans
-    except (ValueError, KeyError, IndexError, TypeError, RecursionError):
+    except (ValueError, KeyError, IndexError, TypeError, AttributeError, RecursionError):
         raise Refusal("%s is no strategy file; `gameshrink play --turns 0 --classes raw < GAME.toml` prints one" % name) from None
 
 
@@ -122,14 +124,14 @@ class Rule:
 def read_rules(lines):
     """Returns the rules of a table in order, by their patterns."""
     kept = [(row, line) for row, line in enumerate(lines, 1) if line.strip() and not line.startswith("#")]
-    table, rules = list(csv.reader(line for _, line in kept)), {}
-    head = [cell.strip() for cell in table[0]] if table else []
+    table, rules = [(row, [cell.strip() for cell in next(csv.reader([line]))]) for row, line in kept], {}
+    head = table[0][1] if table else []
     if not set(COLUMNS) <= set(head):
-        raise Refusal("the table's first line must name the columns %s" % ",".join(COLUMNS))
-    for (row, _), cells in zip(kept[1:], table[1:]):
+        raise Refusal("the first row of the table must name the columns %s" % ",".join(COLUMNS))
+    for row, cells in table[1:]:
         if len(cells) < len(head):
-            raise Refusal("row %d has %d cells, and the first line names %d columns" % (row, len(cells), len(head)))
-        named = dict(zip(head, map(str.strip, cells)))
+            raise Refusal("row %d has %d cells, and the first row has %d" % (row, len(cells), len(head)))
+        named = dict(zip(head, cells))
         key = named["player"], named["line"], named["hand"]
         rules.setdefault(key, Rule(key)).add(row, named["move"], named["probability"])
     return list(rules.values())
@@ -207,8 +209,8 @@ def total_of(text):
 
 
 def main():
-    words = argparse.ArgumentParser(description=__doc__, formatter_class=argparse.RawDescriptionHelpFormatter, usage=argparse.SUPPRESS)
-    commands = words.add_subparsers(dest="command", required=True, metavar="table, unpack, pack or fill")
+    words = Words()
+    commands = words.add_subparsers(dest="command", required=True, metavar="COMMAND")
     for name in ("table", "unpack"):
         commands.add_parser(name)
     pack = commands.add_parser("pack")
@@ -238,5 +240,7 @@ if __name__ == "__main__":
     signal.signal(signal.SIGPIPE, signal.SIG_DFL)
     try:
         main()
-    except (Refusal, OSError, UnicodeDecodeError) as fault:
+    except OSError as fault:
+        sys.exit("strategy.py: %s: %s" % (fault.filename, fault.strerror))
+    except (Refusal, UnicodeDecodeError, csv.Error) as fault:
         sys.exit("strategy.py: %s" % fault)
