@@ -1,0 +1,136 @@
+"""What the atlas shows: sentences, each with the rows that carry it. Every number in them is worked out from the rows."""
+
+from fractions import Fraction
+
+from atlas_games import LEDUC, RHODE, name_of
+from texts import decimal, span
+
+NAMES = {"kuhn": "Kuhn", "leduc": "Leduc", "rhode": "Rhode Island"}
+
+
+def low(row):
+    return row.value - row.gap2
+
+
+def high(row):
+    return row.value + row.gap1
+
+
+def named(deck):
+    return "%s %d/%d/%d" % (NAMES[deck[0]], *deck[1:])
+
+
+def ends(rows):
+    """Returns the least and the greatest value of rows, as texts, with the decks that have them."""
+    least, most = min(rows, key=lambda deck: low(rows[deck])), max(rows, key=lambda deck: high(rows[deck]))
+    return rows[least].agreed()[:9], named(least), rows[most].agreed()[:9], named(most)
+
+
+def favoured(rows):
+    """Who is favoured."""
+    even = [deck for deck, row in rows.items() if row.is_exact() and row.value == 0]
+    below = [deck for deck, row in rows.items() if high(row) < 0]
+    above = [deck for deck, row in rows.items() if low(row) > 0]
+    yield "Player 2, who acts second, is favoured in %d of %d games: their upper bound is below 0." % (len(below), len(rows)), "all rows"
+    yield "Player 1 is favoured in %s." % (", ".join(map(named, above)) or "none"), "all rows: the lower bound is above 0 in %s" % (len(above) or "none")
+    yield "%d games are even: value and both gaps are exactly 0." % len(even), ", ".join(map(named, even))
+
+
+def of(rows, kind, test):
+    return {deck: row for deck, row in rows.items() if deck[0] == kind and test(*deck[1:])}
+
+
+def ranges(rows):
+    """Between which numbers the values lie."""
+    for kind, text, test in (
+        ("leduc", "Leduc of three or more ranks and two or more suits", lambda r, s, c: r >= 3 and s >= 2),
+        ("leduc", "Leduc of one suit, where nobody can pair, and four or more ranks", lambda r, s, c: r >= 4 and s == 1),
+        ("rhode", "Rhode Island of three or more ranks", lambda r, s, c: r >= 3),
+    ):
+        chosen = of(rows, kind, test)
+        if chosen:
+            yield "%s is worth from %s to %s chips a deal." % (text, ends(chosen)[0], ends(chosen)[2]), "%d rows; the ends are %s and %s" % (len(chosen), ends(chosen)[1], ends(chosen)[3])
+
+
+def change(rows, kind, at, now):
+    """Returns what happens to the value of a kind's decks of three or more ranks when number `at` of the deck grows by one to `now`."""
+    moved = lambda deck: (*deck[:at], now - 1, *deck[at + 1 :])  # noqa: E731
+    decks = [deck for deck in rows if deck[0] == kind and deck[1] >= 3 and deck[at] == now and moved(deck) in rows]
+    pairs = {deck: (rows[moved(deck)], rows[deck]) for deck in decks}
+    fall = [deck for deck, (before, after) in pairs.items() if high(after) < low(before)]
+    rise = [deck for deck, (before, after) in pairs.items() if low(after) > high(before)]
+    same = [deck for deck, (before, after) in pairs.items() if deck not in fall + rise and before.exact() == after.exact()]
+    size = {deck: abs(after.value - before.value) for deck, (before, after) in pairs.items()}
+    return decks, fall, rise, same, max(decks, key=size.get) if decks else None, size
+
+
+def changes(rows, kind, at, name, steps):
+    """Returns a sentence for each step of suits or of the cap."""
+    for now in steps:
+        decks, fall, rise, same, most, size = change(rows, kind, at, now)
+        if decks:
+            left = len(decks) - len(fall) - len(rise)
+            text = "From %s to %d the value of %s falls in %d of %d decks of three or more ranks and rises in %d" % (name % (now - 1), now, NAMES[kind], len(fall), len(decks), len(rise))
+            text += "; in %d the brackets meet%s." % (left, ", and the exact values are equal in %d of them" % len(same) if same else "") if left else "."
+            yield text, "the largest change, %s chips, has %s" % (decimal(size[most], 4), named(most))
+
+
+def suits(rows):
+    """How the value moves with one suit more."""
+    yield from changes(rows, "leduc", 2, "suits %d", (2, 3, 4))
+    yield from changes(rows, "rhode", 2, "suits %d", (3, 4))
+
+
+def caps(rows):
+    """How the value moves with one raise more."""
+    yield from changes(rows, "leduc", 3, "cap %d", (2, 3, 4))
+    yield from changes(rows, "rhode", 3, "cap %d", (2, 3))
+
+
+def ranks(rows):
+    """How the value moves with the ranks."""
+    mixed, whole = [], []
+    for suit in range(1, 5):
+        for cap in range(1, 5):
+            line = sorted(of(rows, "leduc", lambda r, s, c: r >= 3 and (s, c) == (suit, cap)))
+            pairs = [(rows[a], rows[b]) for a, b in zip(line, line[1:])]
+            fall, rise = any(high(b) < low(a) for a, b in pairs), any(low(b) > high(a) for a, b in pairs)
+            whole += [(suit, cap)] if pairs else []
+            mixed += [(suit, cap)] if fall and rise else []
+    if whole:
+        others = ", ".join("%d suits with cap %d" % pair for pair in whole if pair not in mixed)
+        yield "With the ranks the value of Leduc moves both ways for %d of %d pairs of suits and cap." % (len(mixed), len(whole)), "all but %s" % others if others else "Leduc's rows of three or more ranks"
+    late = of(rows, "leduc", lambda r, s, c: r >= 8 and s >= 2)
+    if late:
+        least, a, most, b = ends(late)
+        yield "From 8 ranks and two suits on the values of Leduc lie close together, from %s to %s." % (least, most), "%d rows; the ends are %s and %s" % (len(late), a, b)
+
+
+def isomorphism(rows, cache):
+    """Where the isomorphism classes cost nothing."""
+    found = {deck: cache.record("isomorphic_" + name_of(deck)) for deck in LEDUC + RHODE}
+    lost = {deck: [Fraction(record[key]) for key in ("gap1", "gap2")] for deck, record in found.items() if record and "gap1" in record}
+    alike = [deck for deck in lost if deck in rows and rows[deck].record["isomorphic"] == rows[deck].record["classes"]]
+    other = [deck for deck in lost if deck in rows and deck not in alike]
+    free = [deck for deck in other if sum(lost[deck]) < Fraction(1, 10**9)]
+    cost = [deck for deck in other if deck not in free]
+    if alike:
+        assert all(sum(lost[deck]) < Fraction(1, 10**9) for deck in alike), "lossless classes lose"
+        yield "Isomorphism costs nothing where its classes are lossless: both gaps on raw cards are below 10^-9 in all %d such games." % len(alike), ", ".join(map(named, alike))
+    if free:
+        yield "In %d games the classes are not lossless and the plans found over them still lose less than 10^-9." % len(free), ", ".join(map(named, free))
+    if cost:
+        least, most = min(cost, key=lambda deck: sum(lost[deck])), max(cost, key=lambda deck: sum(lost[deck]))
+        text = "In the other %d games plans that are optimal over the isomorphism classes leave both players together from %s to %s chips a deal."
+        yield text % (len(cost), decimal(sum(lost[least]), 4), decimal(sum(lost[most]), 4)), "%s has least, %s most" % (named(least), named(most))
+        for suit in range(2, 5):
+            line = sorted(deck for deck in cost if deck[0] == "leduc" and deck[2:] == (suit, 2))
+            if line:
+                texts = ", ".join("%d: %s" % (deck[1], decimal(sum(lost[deck]), 3)) for deck in line)
+                yield "Of Leduc with %d suits and cap 2 the loss is, by ranks, %s." % (suit, texts), "ranks %s" % span([deck[1] for deck in line])
+
+
+def claims(rows, cache):
+    """Returns the lines of the section; `rows` are those of Leduc and Rhode Island."""
+    found = [*favoured(rows), *ranges(rows), *ranks(rows), *suits(rows), *caps(rows), *isomorphism(rows, cache)]
+    return ["- %s *(%s)*" % sentence for sentence in found]

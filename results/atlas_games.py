@@ -1,0 +1,308 @@
+"""The games of the atlas, one at a time: what the program says of a deck, the solvers' plans, and the program's verdict on them.
+
+A deck is a kind, ranks, suits and cap, as `make` takes them. Each piece of work on a deck is one record of the cache, a file of JSON; where
+it made plans their strategy file stands beside it, compressed by xz.
+"""
+
+import hashlib
+import json
+import lzma
+import math
+import os
+import subprocess
+import tempfile
+import time
+from fractions import Fraction
+
+import atlas_solvers
+import solvers
+from sequence_form import LARGEST_TOTAL, Game, SequenceForm, read_classes
+from program import Program
+
+RANKS, SUITS = range(2, 14), range(1, 5)
+KUHN = [("kuhn", ranks, suits, cap) for ranks in RANKS for suits in SUITS for cap in range(9)]
+LEDUC = [("leduc", ranks, suits, cap) for ranks in RANKS for suits in SUITS for cap in range(1, 5)]
+RHODE = [("rhode", ranks, suits, cap) for ranks in range(2, 7) for suits in range(2, 5) for cap in range(1, 4)]
+PLAYED = [("kuhn", 3, 1, 1), ("kuhn", 13, 4, 2), ("leduc", 3, 2, 2), ("leduc", 13, 4, 1), ("rhode", 3, 4, 1)]
+TURNS = sorted({n * 10**k for n in (1, 2, 3, 5, 7) for k in range(6)} | {10**6})
+WIDEST = Fraction(1, 10**9)
+NUMBERS = ["value", "gap1", "gap2"]
+ROUNDS = {"kuhn": 1, "leduc": 2, "rhode": 3}
+SOLVE_SECONDS = 60
+
+
+class Refused(Exception):
+    """The line of a refusal by the program."""
+
+
+class Judge(Program):
+    """The built program, whose refusals are exceptions."""
+
+    def printed(self, words, text=""):
+        out, status = self.run(words, text)
+        if status:
+            raise Refused(out or "status %d" % status)
+        return out + "\n"
+
+    def game(self, deck):
+        """Returns a deck's game file."""
+        return self.made(*deck)
+
+    def own_classes(self, game):
+        """Returns the game and the lossless classes of a game file, as the program states them in a strategy file."""
+        file = json.loads(self.printed("play --turns 0", game))
+        return file["game"], file["classes"]
+
+    def checksum(self):
+        """Returns the checksum of the program's file."""
+        with open(self.path, "rb") as file:
+            return hashlib.sha256(file.read()).hexdigest()
+
+
+def name_of(deck):
+    return "%s_%d_%d_%d" % tuple(deck)
+
+
+# ---- the cache
+
+
+class Cache:
+    """A folder with a record for each piece of work, and a strategy file for each that made plans."""
+
+    def __init__(self, folder):
+        self.folder = folder
+        os.makedirs(folder, exist_ok=True)
+
+    def path(self, name):
+        return os.path.join(self.folder, name)
+
+    def record(self, name):
+        """Returns a record, or nothing where there is none."""
+        if not os.path.exists(self.path(name + ".json")):
+            return None
+        with open(self.path(name + ".json"), encoding="ascii") as file:
+            return json.load(file)
+
+    def keep(self, name, record):
+        """Writes a record whole, or, where the run is broken off, not at all."""
+        with open(self.path(name + ".new"), "w", encoding="ascii") as file:
+            json.dump(record, file, indent=1)
+            file.write("\n")
+        os.replace(self.path(name + ".new"), self.path(name + ".json"))
+
+    def strategy(self, name):
+        with lzma.open(self.path(name + ".strategy.xz"), "rt", encoding="ascii") as file:
+            return file.read()
+
+    def keep_strategy(self, name, text):
+        with lzma.open(self.path(name + ".strategy.xz"), "wt", encoding="ascii") as file:
+            file.write(text)
+
+
+# ---- plans
+
+
+def least_total(weights):
+    """Returns the least total of which all weights are whole parts, or nothing where it is above 2^36."""
+    least = 1
+    for weight in weights:
+        least = math.lcm(least, weight.denominator)
+        if least > LARGEST_TOTAL:
+            return None
+    return least
+
+
+def is_plan(form, player, weights):
+    """Whether weights, from the empty sequence on, are at least 0 and flow from move to move."""
+    rows = form.constraints(player)
+    return min(weights) >= 0 and all(sum(factor * weights[at] for at, factor in row.items()) == (number == 0) for number, row in enumerate(rows))
+
+
+def plans_of(form, found):
+    """Returns both players' weights behind their totals. An exact plan stays as it is where a total of 2^36 or less has it; else it is rounded
+    to total 2^36, from its first 80 binary digits."""
+    short = ({name: Fraction(round(x * 2**80), 2**80) for name, x in numbers.items()} for numbers in (found.columns, found.prices))
+    plans = form.rounded_plans(*short, LARGEST_TOTAL)
+    for player, (names, numbers) in enumerate((("x%d", found.columns), ("y%d", found.prices)), 1):
+        weights = [abs(numbers.get(names % slot, Fraction(0))) for slot in range(len(form.slots[player]) + 1)]
+        least = least_total(weights)
+        if least and is_plan(form, player, weights):
+            plans[player - 1] = [int(weight * least) for weight in weights]
+    return plans
+
+
+def optimum(form, seconds):
+    """Returns Clp's optimum of a game, and that of QSopt_ex or why there is none."""
+    with tempfile.TemporaryDirectory() as folder:
+        with open(os.path.join(folder, "game.lp"), "w", encoding="ascii") as file:
+            file.write(form.program())
+        near = atlas_solvers.by_clp(folder, seconds)
+        try:
+            return near, atlas_solvers.by_qsopt(folder, seconds)
+        except atlas_solvers.Failure as failure:
+            return near, str(failure)
+
+
+def judged(judge, form, plans):
+    """Returns a strategy file with its value and gaps on raw cards. Where a game has too many pairs of raw signals for `judge`, the numbers are
+    those that `evaluate` names in turn as it refuses wrong ones: it looks at classes alone."""
+    try:
+        return judge.filled(form.strategy(plans))
+    except Refused as refusal:
+        if not str(refusal).startswith("too large"):
+            raise
+    numbers = ["0/1", "0/1", "0/1"]
+    for _ in range(4):
+        try:
+            judge.printed("evaluate", form.strategy(plans, numbers))
+            break
+        except Refused as refusal:
+            words = str(refusal).split()
+            if words[:2] != ["wrong", "numbers:"]:
+                raise
+            numbers[NUMBERS.index(words[2])] = words[5]
+    return form.strategy(plans, numbers)
+
+
+def numbers_of(text):
+    """Returns the value and gaps that a strategy file states, as fractions."""
+    file = json.loads(text)
+    return [Fraction(file[key]) for key in NUMBERS]
+
+
+def kept(cache, name, text):
+    """Keeps a strategy file; returns what its record says of it."""
+    cache.keep_strategy(name, text)
+    stated = {key: json.loads(text)[key] for key in NUMBERS}
+    return {**stated, "sha256": hashlib.sha256(text.encode()).hexdigest(), "bytes": len(text)}
+
+
+# ---- pieces of work
+
+
+def counts(summary):
+    """Returns the deals, and for each round the signals and the classes, of a summary."""
+    lines = [line.split() for line in summary.splitlines()]
+    return int(lines[0][1]), [int(line[5]) for line in lines[1:]], [int(line[3]) for line in lines[1:]]
+
+
+def classed(judge, deck, _cache, _seconds):
+    """Returns a deck's deals, signals and classes, round by round."""
+    game = judge.game(deck)
+    deals, signals, isomorphic = counts(judge.printed("shrink --summary", game))
+    return {"deals": deals, "signals": signals, "isomorphic": isomorphic, "classes": counts(judge.printed("check --summary", game))[2]}
+
+
+def solved(judge, deck, cache, seconds):
+    """Returns how near an outside solver's plans come to a game's value, by the program's verdict, and the exact solver's value."""
+    record, game = classed(judge, deck, cache, seconds), judge.game(deck)
+    judge.own_classes(game)
+    form = SequenceForm(Game(game), read_classes(judge.printed("check", game)))
+    record["sequences"] = [len(form.slots[player]) + 1 for player in (1, 2)]
+    near, exact = optimum(form, seconds)
+    record["solvers"], record["seconds"] = [solvers.floating_name()], [round(near.seconds, 2)]
+    if isinstance(exact, str):
+        record["exact_failed"] = exact
+    else:
+        record["exact"] = str(-exact.aim / form.weight)
+        record["solvers"].append(solvers.exact_name())
+        record["seconds"].append(round(exact.seconds, 2))
+    text = judged(judge, form, plans_of(form, near if isinstance(exact, str) else exact))
+    record.update(kept(cache, name_of(deck), text))
+    fault = fault_of(judge, deck, record, text)
+    return {**record, "failed": fault} if fault else record
+
+
+def fault_of(judge, deck, record, text):
+    """Returns what is wrong with a game's stored strategy by the program, or nothing."""
+    stated = json.loads(text)
+    if judge.own_classes(judge.game(deck)) != (stated["game"], stated["classes"]):
+        return "the strategy is of another game or other classes"
+    if judge.printed("evaluate", text) != "".join("%s %s\n" % (key, record[key]) for key in NUMBERS):
+        return "evaluate prints other numbers"
+    value, gap1, gap2 = numbers_of(text)
+    if gap1 + gap2 >= WIDEST:
+        return "the bracket is %.2g wide" % (gap1 + gap2)
+    if "exact" in record and not value - gap2 <= Fraction(record["exact"]) <= value + gap1:
+        return "the exact solver's value lies outside the bracket"
+    return None
+
+
+def lost(judge, deck, cache, seconds):
+    """Returns what plans that are optimal over the isomorphism classes leave open on raw cards."""
+    game = judge.game(deck)
+    form = SequenceForm(Game(game), read_classes(judge.printed("shrink", game)))
+    near, exact = optimum(form, seconds)
+    text = judged(judge, form, plans_of(form, near if isinstance(exact, str) else exact))
+    return kept(cache, "isomorphic_" + name_of(deck), text)
+
+
+def own_solution(judge, deck, _cache, _seconds):
+    """Returns the value that `solve` finds, or the line of its refusal."""
+    try:
+        done = subprocess.run([judge.path, "solve"], input=judge.game(deck).encode(), capture_output=True, check=False, timeout=SOLVE_SECONDS)
+    except subprocess.TimeoutExpired:
+        return {"refused": "not ended within %d seconds" % SOLVE_SECONDS}
+    return {"refused": done.stderr.decode().strip()} if done.returncode else {"value": json.loads(done.stdout)["value"]}
+
+
+def played(judge, deck, _cache, _seconds):
+    """Returns the value and both gaps after so many turns of play."""
+    game, found = judge.game(deck), {}
+    for turns in TURNS:
+        file = json.loads(judge.printed("play --turns %d" % turns, game))
+        found[turns] = [file[key] for key in NUMBERS]
+    return {"turns": found}
+
+
+def size(deck):
+    """Returns a number that grows with a game's sequences: last-round points times classes, roughly."""
+    kind, ranks, suits, cap = deck
+    classes = ranks ** ROUNDS[kind] * (1 + (kind == "rhode" and suits > 1))
+    return (1 + 2 * cap) ** (ROUNDS[kind] - 1) * (2 + 2 * cap) * classes
+
+
+def jobs():
+    """Returns all work: the name of each record, what makes it, and its deck; what takes least time first."""
+    decks = [(kind, ranks, suits, 1) for kind in ROUNDS for ranks in RANKS for suits in SUITS]
+    lossy = [deck for deck in LEDUC + RHODE if deck[0] == "leduc" or deck[3] == 1]
+    small = [deck for deck in LEDUC + RHODE if deck[1] <= 5 and deck[3] <= 2]
+    work = [("classes_", classed, decks), ("", solved, KUHN + LEDUC + RHODE), ("solve_", own_solution, KUHN + small), ("isomorphic_", lost, lossy), ("play_", played, PLAYED)]
+    named = [(prefix + name_of(deck), make, deck) for prefix, make, decks in work for deck in decks]
+    return sorted(named, key=lambda job: size(job[2]))
+
+
+def done(cache, judge, name, make, deck, seconds):
+    """Makes a record and keeps it; a refusal and a failure are records too."""
+    begun = time.time()
+    try:
+        record = make(judge, deck, cache, seconds)
+    except Refused as refusal:
+        record = {"refused": str(refusal)}
+    except atlas_solvers.Failure as failure:
+        record = {"failed": str(failure)}
+    when = time.strftime("%Y-%m-%d %H:%M", time.gmtime(begun))
+    cache.keep(name, {"deck": deck, **record, "when": when, "took": round(time.time() - begun, 1)})
+    return record
+
+
+def confirmed(cache, judge, name, make, deck):
+    """Has the program judge a record's strategy again, or solve a game again; returns what is wrong, or nothing."""
+    record = cache.record(name)
+    if record is None or make in (classed, played):
+        return None
+    if make is own_solution:
+        again = own_solution(judge, deck, cache, None)
+        if "value" in record:
+            return None if again.get("value") == record["value"] else "%s: solve finds otherwise" % name
+        cache.keep(name, {"deck": deck, **again})
+        return None
+    if "sha256" not in record:
+        return None
+    text = cache.strategy(name)
+    if hashlib.sha256(text.encode()).hexdigest() != record["sha256"]:
+        return "%s: the strategy file is another" % name
+    if make is lost:
+        return None if judge.filled(text) == text else "%s: judge prints other numbers" % name
+    fault = fault_of(judge, deck, record, text)
+    return "%s: %s" % (name, fault) if fault != record.get("failed") else None

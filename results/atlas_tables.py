@@ -1,0 +1,338 @@
+"""docs/ATLAS.md and docs/atlas/: the tables of the atlas, its CSV, its stored strategies and its pictures, from the records of the cache."""
+
+import csv
+import gzip
+import json
+import math
+import os
+from dataclasses import dataclass
+from fractions import Fraction
+
+import atlas_pictures
+from atlas_claims import claims
+from atlas_games import KUHN, LEDUC, NUMBERS, PLAYED, RANKS, RHODE, ROUNDS, SUITS, name_of
+from program import TOP
+from texts import decimal, listed, number, small, table
+
+FOLDER = os.path.join(TOP, "docs", "atlas")
+DIGITS, LONGEST = 12, 1500
+NAMES = {"kuhn": "Kuhn", "leduc": "Leduc", "rhode": "Rhode Island"}
+STORED = [("kuhn", 3, 1, 1), ("kuhn", 13, 4, 2)]
+STORED += [("leduc", *deck) for deck in [(3, 2, 1), (3, 2, 2), (3, 2, 3), (3, 2, 4), (3, 3, 1), (3, 3, 2), (3, 4, 2), (4, 2, 2), (5, 1, 2), (5, 2, 2), (5, 4, 2)]]
+STORED += [("leduc", *deck) for deck in [(6, 2, 2), (8, 2, 2), (10, 2, 2), (13, 1, 1), (13, 2, 1), (13, 2, 2), (13, 4, 1)]]
+STORED += [("rhode", *deck) for deck in [(2, 3, 1), (3, 2, 1), (3, 4, 1), (4, 2, 1), (4, 4, 1), (5, 4, 1)]]
+
+
+@dataclass
+class Row:
+    """A solved game: its deck, its record, and value and gaps by the program."""
+
+    deck: tuple
+    record: dict
+    value: Fraction
+    gap1: Fraction
+    gap2: Fraction
+
+    def lower(self, digits=DIGITS):
+        return decimal(Fraction(math.floor((self.value - self.gap2) * 10**digits), 10**digits), digits)
+
+    def upper(self, digits=DIGITS):
+        return decimal(Fraction(math.ceil((self.value + self.gap1) * 10**digits), 10**digits), digits)
+
+    def agreed(self):
+        """Returns the value with as many digits, 12 at most, as both bounds have when they are rounded to the nearest."""
+        low, high = self.value - self.gap2, self.value + self.gap1
+        digits = next(n for n in range(DIGITS, 0, -1) if n == 1 or decimal(low, n) == decimal(high, n))
+        return decimal(low, digits)
+
+    def is_exact(self):
+        return self.gap1 == self.gap2 == 0
+
+    def exact(self):
+        """Returns the exact value: the program's own where both gaps are 0, else the exact solver's, else nothing."""
+        return str(self.value) if self.is_exact() else self.record.get("exact")
+
+
+def rows_of(cache, decks):
+    """Returns the rows of the games that were solved, and the decks and records of the others."""
+    rows, others = {}, []
+    for deck in decks:
+        record = cache.record(name_of(deck))
+        if record and "sha256" in record and "failed" not in record:
+            rows[deck] = Row(deck, record, *(Fraction(record[key]) for key in NUMBERS))
+        else:
+            others.append((deck, record or {"failed": "not tried in this run"}))
+    return rows, others
+
+
+# ---- CSV
+
+
+HEAD = ["kind", "ranks", "suits", "cap", "deals", "signals", "isomorphic_classes", "lossless_classes", "sequences1", "sequences2"]
+HEAD += ["value", "gap1", "gap2", "lower", "upper", "agreed", "exact", "exact_by", "solve", "solvers", "seconds", "sha256", "bytes", "note"]
+
+
+def spaced(numbers):
+    return " ".join(map(str, numbers))
+
+
+def csv_row(cache, deck, row, record):
+    """Returns the CSV row of a game, solved or not."""
+    sizes = [record.get("deals", ""), *(spaced(record.get(key, [])) for key in ("signals", "isomorphic", "classes"))]
+    sizes += record.get("sequences", ["", ""])
+    own = cache.record("solve_" + name_of(deck)) or {}
+    found = own.get("value") or own.get("refused", "")
+    note = record.get("refused") or record.get("failed") or ""
+    if row is None:
+        return [*deck, *sizes, *[""] * 8, found, *[""] * 4, note]
+    exact = row.exact() or ""
+    by = "" if not exact else "gaps 0" if row.is_exact() else "QSopt_ex"
+    if len(exact) > LONGEST:
+        exact, note = "", "an exact value of %d characters, left out" % len(exact)
+    kept = [" + ".join(record["solvers"]), spaced(record["seconds"]), record["sha256"], record["bytes"], note]
+    return [*deck, *sizes, *(record[key] for key in NUMBERS), row.lower(), row.upper(), row.agreed(), exact, by, found, *kept]
+
+
+def write_csv(cache, decks, rows):
+    whole = [csv_row(cache, deck, rows.get(deck), cache.record(name_of(deck)) or {"failed": "not tried in this run"}) for deck in decks]
+    atlas_pictures.write_rows(os.path.join(FOLDER, "games.csv"), HEAD, whole)
+
+
+def write_classes(cache):
+    """Writes the class counts of all decks."""
+    head = ["kind", "ranks", "suits", "deals", "signals", "isomorphic_classes", "lossless_classes", "note"]
+    whole = []
+    for kind in ROUNDS:
+        for ranks in RANKS:
+            for suits in SUITS:
+                record = cache.record("classes_" + name_of((kind, ranks, suits, 1))) or {"failed": "not tried in this run"}
+                sizes = [spaced(record.get(key, [])) for key in ("signals", "isomorphic", "classes")]
+                whole.append([kind, ranks, suits, record.get("deals", ""), *sizes, record.get("refused") or record.get("failed") or ""])
+    atlas_pictures.write_rows(os.path.join(FOLDER, "classes.csv"), head, whole)
+
+
+# ---- stored strategies
+
+
+def write_stored(cache, judge, rows):
+    """Writes the stored strategies, each with its certificate; returns those that there are with their sizes."""
+    folder, sizes = os.path.join(FOLDER, "strategies"), {}
+    os.makedirs(folder, exist_ok=True)
+    for name in os.listdir(folder):
+        os.remove(os.path.join(folder, name))
+    for deck in STORED:
+        if deck in rows:
+            text = judge.printed("certify", cache.strategy(name_of(deck)))
+            packed = gzip.compress(text.encode(), 9, mtime=0)
+            with open(os.path.join(folder, name_of(deck) + ".jsonl.gz"), "wb") as file:
+                file.write(packed)
+            sizes[deck] = len(packed)
+    return sizes
+
+
+# ---- pictures
+
+
+def by_ranks(rows, kind, suits, cap):
+    return {deck[1]: row.value for deck, row in rows.items() if (deck[0], *deck[2:]) == (kind, suits, cap)}
+
+
+def lost_by_ranks(cache, kind, suits, cap):
+    """Returns both gaps by ranks."""
+    records = {ranks: cache.record("isomorphic_%s_%d_%d_%d" % (kind, ranks, suits, cap)) or {} for ranks in RANKS}
+    return [("gap %d" % player, {ranks: Fraction(r["gap%d" % player]) for ranks, r in records.items() if "gap1" in r}) for player in (1, 2)]
+
+
+def classes_by_signals(cache, kind, suits, key):
+    records = (cache.record("classes_%s_%d_%d_1" % (kind, ranks, suits)) or {} for ranks in RANKS)
+    return {record["signals"][-1]: record[key][-1] for record in records if key in record}
+
+
+def write_pictures(cache, rows):
+    panels = [("leduc", suits) for suits in (1, 2, 4)] + [("rhode", 4)]
+    title = lambda kind, suits: "%s, %d suit%s" % (NAMES[kind], suits, "s" * (suits > 1))  # noqa: E731
+    caps = lambda kind: (1, 2, 3, 4) if kind == "leduc" else (1, 2, 3)  # noqa: E731
+    atlas_pictures.values(FOLDER, [(title(*p), [("cap %d" % cap, by_ranks(rows, *p, cap)) for cap in caps(p[0]) if by_ranks(rows, *p, cap)]) for p in panels])
+    lossy = [("leduc", 2, 2), ("leduc", 4, 2), ("rhode", 4, 1)]
+    atlas_pictures.losses(FOLDER, [("%s, cap %d" % (title(*p[:2]), p[2]), lost_by_ranks(cache, *p)) for p in lossy])
+    kinds = [("isomorphic", "by isomorphism"), ("classes", "lossless")]
+    columns = [("%s %s" % (title(*p), text), classes_by_signals(cache, *p, key)) for p in [("leduc", 4), ("rhode", 2), ("rhode", 4)] for key, text in kinds]
+    atlas_pictures.classes(FOLDER, columns)
+    games = [(deck, cache.record("play_" + name_of(deck)) or {}) for deck in PLAYED]
+    found = [("%s %d/%d/%d" % (NAMES[deck[0]], *deck[1:]), record["turns"]) for deck, record in games if "turns" in record]
+    atlas_pictures.turns(FOLDER, [(name, {int(n): [Fraction(x) for x in numbers] for n, numbers in turns.items()}) for name, turns in found])
+
+
+# ---- the document
+
+
+def exact_text(row):
+    exact = row.exact()
+    if exact is None:
+        return ""
+    return exact if len(exact) <= 40 else "%d characters" % len(exact)
+
+
+def game_table(rows):
+    head = ["ranks", "suits", "cap", "classes", "sequences", "value at least", "value at most", "agreed", "gap 1", "gap 2", "exact value", "seconds"]
+    cells = []
+    for (_, *deck), row in rows.items():
+        record = row.record
+        sequences = number(record["sequences"][0]) if len(set(record["sequences"])) == 1 else listed(record["sequences"])
+        gaps = [small(row.gap1), small(row.gap2)]
+        cells.append([*deck, listed(record["classes"]), sequences, row.lower(), row.upper(), row.agreed(), *gaps, exact_text(row), " + ".join("%.1f" % s for s in record["seconds"])])
+    return table(head, cells)
+
+
+def of_kind(rows, kind):
+    return {deck: row for deck, row in rows.items() if deck[0] == kind}
+
+
+def failed_lines(others):
+    """Returns the games without a bracket, by reason."""
+    reasons = {}
+    for (kind, *deck), record in others:
+        reasons.setdefault(record.get("refused") or record.get("failed"), []).append("%s %s" % (NAMES[kind], "/".join(map(str, deck))))
+    return ["- `%s`: %s." % (reason, ", ".join(games)) for reason, games in reasons.items()]
+
+
+def stored_table(rows, sizes):
+    cells = []
+    for deck, size in sizes.items():
+        kind, *numbers = deck
+        cells.append([NAMES[kind], *numbers, "[%s](atlas/strategies/%s.jsonl.gz)" % (name_of(deck), name_of(deck)), number(size), rows[deck].agreed()])
+    return table(["game", "ranks", "suits", "cap", "file", "bytes", "value"], cells)
+
+
+def lost_table(cache):
+    cells = []
+    for deck in sorted(LEDUC + RHODE):
+        record = cache.record("isomorphic_" + name_of(deck))
+        if record and "gap1" in record:
+            cells.append([NAMES[deck[0]], *deck[1:], *(decimal(Fraction(record[key]), 7) for key in NUMBERS)])
+    return table(["game", "ranks", "suits", "cap", "value", "gap 1 on raw cards", "gap 2 on raw cards"], cells)
+
+
+def runs_of(cache):
+    """Returns what the cache notes of its runs."""
+    path = cache.path("runs.jsonl")
+    if not os.path.exists(path):
+        return []
+    with open(path, encoding="ascii") as file:
+        return [json.loads(line) for line in file]
+
+
+def run_lines(cache):
+    """Returns what the runs did, when and how long."""
+    lines = []
+    for run in runs_of(cache):
+        some = " of the records `%s*`" % run["only"] if run["only"] else ""
+        if run["run"] == "worked":
+            what = "%d records made%s%s" % (run["told"], some, "" if run["whole"] else ", broken off")
+        else:
+            what = "the strategies%s judged again, %s%s" % (some, "%d otherwise" % run["told"] if run["told"] else "none otherwise", "" if run["whole"] else ", broken off")
+        took = "%d s" % run["seconds"] if run["seconds"] < 600 else "%.1f hours" % (run["seconds"] / 3600)
+        lines.append("| %s | %s | %d | `%s` | %s |" % (run["when"], took, run["processes"], run["program"][:16], what))
+    return ["| begun, UTC | took | processes | program's sha256 | what |", "| --- | --- | --- | --- | --- |", *lines]
+
+
+def seconds_of(rows):
+    return sum(sum(row.record["seconds"]) for row in rows.values()) / 3600
+
+
+def head_lines(rows, kuhn):
+    both = {**rows, **kuhn}
+    widest = max(both.values(), key=lambda row: row.gap1 + row.gap2)
+    named = sum("exact" in row.record for row in both.values())
+    return [
+        "# Atlas",
+        "",
+        "What is a game worth, to ten digits, and which plans prove it? For whoever cites a value of Leduc, Rhode Island or Kuhn, or tests a solver by it.",
+        "",
+        "The atlas has %d games: %d Leduc decks, %d Rhode Island decks and %d Kuhn decks, as `./gameshrink make` prints them." % (len(both), len(of_kind(rows, "leduc")), len(of_kind(rows, "rhode")), len(kuhn)),
+        "Each has plans of both players whose value and gaps the program computed exactly. The widest bracket is %s." % small(widest.gap1 + widest.gap2),
+        "For %d games QSopt_ex, an exact solver, gives the value as a fraction too; each lies in its bracket. In %d games both gaps are 0, so the program alone proves the fraction." % (named, sum(row.is_exact() for row in both.values())),
+        "",
+        "**How a row is made.** Clp solves the linear program of the game in sequence form over the coarsest lossless classes. QSopt_ex begins at Clp's basis and solves it exactly. "
+        "The plans are rounded to whole numbers of total 2^36, or kept where a smaller total has them. `judge` computes value and gaps on raw cards, and `evaluate` confirms the file. "
+        "So no number of the bracket rests on a solver: the value lies between the plans' value less gap 2 and their value plus gap 1.",
+        "",
+        "**How to check a row.** A [stored strategy](#stored-strategies) needs the program alone. Any row is made again by `results/atlas CACHE`, and all strategies of a run are judged again by `results/atlas CACHE --confirm`.",
+        "",
+        "**Columns.** Classes are the coarsest lossless ones, round by round. Sequences count the empty one; both players have as many. Bounds are rounded outwards. "
+        "\"agreed\" is the value with as many digits, 12 at most, as both bounds have when they are rounded. Gaps are rounded up. Seconds are processor seconds of Clp and of QSopt_ex.",
+        "",
+        "**CSV.** [games.csv](atlas/games.csv) has every game with its numbers as fractions, what `solve` finds, and the checksum of its strategy; its bounds are decimals rounded outwards. "
+        "[classes.csv](atlas/classes.csv) has the class counts of all decks of 2 to 13 ranks and 1 to 4 suits.",
+        "",
+    ]
+
+
+def picture_lines():
+    return [
+        "## Pictures",
+        "",
+        "![The value of Leduc and Rhode Island by ranks, a line for each cap](atlas/value_by_ranks.svg)",
+        "",
+        "The value to player 1 by ranks, a line for each cap. Data: [value_by_ranks.csv](atlas/value_by_ranks.csv).",
+        "",
+        "![What the isomorphism classes lose, by ranks](atlas/isomorphism_loss.svg)",
+        "",
+        "Both gaps on raw cards of plans that are optimal over the isomorphism classes. Data: [isomorphism_loss.csv](atlas/isomorphism_loss.csv).",
+        "",
+        "![Classes of the last round against its signals](atlas/class_counts.svg)",
+        "",
+        "Classes of the last round against its signals. Data: [class_counts.csv](atlas/class_counts.csv).",
+        "",
+        "![Both gaps by turns of play](atlas/gaps_by_turns.svg)",
+        "",
+        "Both gaps together after so many turns of `play`, on five games. Data: [gaps_by_turns.csv](atlas/gaps_by_turns.csv).",
+        "",
+    ]
+
+
+def stored_lines(rows, sizes):
+    return [
+        "## Stored strategies",
+        "",
+        "Each file has two lines: the strategy, and a certificate of how much an opponent could gain. `verify` reads both, `evaluate` the first. `tests/atlas` does both for every file, "
+        "and compares what they print with games.csv.",
+        "",
+        "```sh",
+        "zcat docs/atlas/strategies/leduc_3_2_2.jsonl.gz | head -n 1 | ./gameshrink evaluate",
+        "zcat docs/atlas/strategies/leduc_3_2_2.jsonl.gz | ./gameshrink verify",
+        "```",
+        "",
+        *stored_table(rows, sizes),
+        "",
+    ]
+
+
+def lost_lines(cache):
+    return [
+        "## What the isomorphism classes lose",
+        "",
+        "The same work over the classes of `shrink`: plans that are optimal where both players see these classes alone, judged on raw cards. Other optimal plans over the same classes may have other gaps.",
+        "",
+        *lost_table(cache),
+        "",
+    ]
+
+
+def write(cache, judge):
+    """Writes docs/ATLAS.md and all of docs/atlas/."""
+    os.makedirs(FOLDER, exist_ok=True)
+    rows, others = rows_of(cache, LEDUC + RHODE)
+    kuhn, left = rows_of(cache, KUHN)
+    write_csv(cache, KUHN + LEDUC + RHODE, {**rows, **kuhn})
+    write_classes(cache)
+    sizes = write_stored(cache, judge, {**rows, **kuhn})
+    write_pictures(cache, rows)
+    lines = head_lines(rows, kuhn) + ["## What it shows", "", "A deck is named by ranks, suits and cap.", "", *claims(rows, cache), ""]
+    for kind in ("leduc", "rhode"):
+        lines += ["## %s" % NAMES[kind], "", *game_table(of_kind(rows, kind)), ""]
+    lines += lost_lines(cache) + picture_lines() + stored_lines({**rows, **kuhn}, sizes)
+    lines += ["## What is not here", "", "The exact values of Kuhn's decks stand in [RESULTS.md](RESULTS.md) too.", "", *failed_lines(others + left), ""]
+    lines += ["## Runs", "", "The solvers took %.2f processor hours for the games above. Runs of `results/atlas`:" % seconds_of({**rows, **kuhn}), "", *run_lines(cache)]
+    with open(os.path.join(TOP, "docs", "ATLAS.md"), "w", encoding="ascii") as file:
+        file.write("\n".join(lines) + "\n")
