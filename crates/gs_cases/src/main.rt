@@ -1,33 +1,67 @@
-//! Runs of the whole program over memory, as its input lists them: a line for each run that says something else than it is to say, and a last line that
-//! counts them.
+//! Compares runs of the whole program with what files of rows say of them.
 //!
-//! A line `= FILE` is the file that the next lines change. Each other line is a run: the words; a text of that file and the text in its place, or `-` and
-//! a whole file; the call of the source that fails, or 0, the longest piece that goes out, the calls of the output and of the errors' end that fail, or
-//! 0, and how often which byte stands behind the file, where one does; the code, what goes out and what is told. A tilde stands for the end of a line.
+//! Its words are the paths of these files. Of each run it compares the status, stdout and stderr, and it prints what differs. A line that is no row is
+//! printed too, and counts as a run that differs. Behind each file it prints how many runs the file has and how many of them differ, and at the end these
+//! counts over all files. `data/README` has the form of a row.
 #![tactic(auto)]
 
-mod cases;
+mod fault;
+mod report;
+mod row;
+mod runs;
+mod tally;
+mod texts;
 
-use std::io;
+use std::process::ExitCode;
+use std::rt::{Env, Files};
+use std::{env, fs, io};
+use tally::Tally;
+use texts::Texts;
 
-fn main(rt: HostRuntime) -> io::Result<()> {
-    let alloc = rt.alloc();
-    let mut file = String::new(alloc);
-    let mut count = 0u64;
-    let mut differ = 0u64;
-    for line in rt.lines(alloc) {
-        let row = line?;
-        match row.strip_prefix("= ") {
-            Some(text) => file = String::from_str(alloc, text)?,
-            None => {
-                count = count.saturating_add(1);
-                if !cases::is_said(alloc, file.as_str(), row.as_str())? {
-                    differ = differ.saturating_add(1);
-                    println!(rt; "differs: {row}")?;
-                }
-            }
+/// Reads a file. Where that fails, it says which file it was.
+fn read<R: Files + Eprint + AllocGlobal>(rt: &R, path: &str) -> io::Result<String> {
+    let text = fs::read_to_string(rt, path);
+    if text.is_err() {
+        eprintln!(rt; "{path} cannot be read")?;
+    }
+    text
+}
+
+/// Compares the runs of a file, and names the texts that its lines name.
+fn compare_file<R: Files + Print + Eprint + AllocGlobal>(
+    rt: &R,
+    texts: &mut Texts,
+    path: &str,
+) -> io::Result<Tally> {
+    let text = read(rt, path)?;
+    let mut tally = Tally::default();
+    for (place, line) in text.as_str().lines().enumerate() {
+        let found = runs::compare_line(rt.alloc(), texts, line)?;
+        tally.count(&found);
+        if let Some(differences) = found.text() {
+            println!(rt;
+                "{path} line {}: {line}{differences}",
+                place.saturating_add(1)
+            )?;
         }
     }
-    println!(rt; "{count} runs, {differ} differ")?;
-    Ok(())
+    Ok(tally)
+}
+
+/// Compares the runs of all files that the words name. Returns the counts over all.
+fn compare_files<R: Files + Print + Eprint + Env + AllocGlobal>(rt: &R) -> io::Result<Tally> {
+    let mut texts = Texts::new(rt.alloc());
+    let mut all = Tally::default();
+    for path in env::args(rt)?.skip(1) {
+        let tally = compare_file(rt, &mut texts, path.as_str())?;
+        println!(rt; "{path}: {tally}")?;
+        all.add(tally);
+    }
+    println!(rt; "all: {all}")?;
+    Ok(all)
+}
+
+fn main(rt: HostRuntime) -> io::Result<ExitCode> {
+    let all = compare_files(&rt)?;
+    Ok(ExitCode::from(u8::from(all.has_differences())))
 }

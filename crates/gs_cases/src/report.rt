@@ -1,0 +1,86 @@
+//! How a run differs from its row.
+
+use crate::fault::RowFault;
+use crate::row::Row;
+use crate::texts::{Texts, text_of};
+use gs_run::Outcome;
+use std::alloc::{AllocError, Global};
+use std::fmt::Write;
+
+/// What a line shows.
+#[derive(Drop)]
+pub enum Found {
+    /// It has no run.
+    Nothing,
+    /// Its run ends as it has to.
+    Same,
+    /// Its run ends otherwise, or it is no row; a text says what differs.
+    Differs(String),
+}
+
+impl Found {
+    /// Returns the text of what differs.
+    pub fn text(&self) -> Option<&str> {
+        match self {
+            Found::Differs(text) => Some(text.as_str()),
+            _ => None,
+        }
+    }
+}
+
+/// Returns bytes as a row writes them.
+fn written(alloc: Global, bytes: &[u8]) -> Result<String, AllocError> {
+    let mut text = String::new(alloc);
+    for letter in String::from_utf8_lossy(alloc, bytes)?.as_str().chars() {
+        text.push(if letter == '\n' { '~' } else { letter })?;
+    }
+    Ok(text)
+}
+
+/// Whether bytes are what a field describes: a text; `@` and the name of an input; or, as `800 bytes ending TEXT`, their number and their end.
+fn is_field(alloc: Global, texts: &Texts, field: &str, bytes: &[u8]) -> Result<bool, RowFault> {
+    if let Some(name) = field.strip_prefix("@") {
+        return Ok(texts.of(name)? == bytes);
+    }
+    if let Some((count, end)) = field.split_once(" bytes ending ") {
+        let count = count.parse::<usize>().map_err(|_| RowFault::Short)?;
+        return Ok(bytes.len() == count && bytes.ends_with(text_of(alloc, end)?.as_bytes()));
+    }
+    Ok(text_of(alloc, field)?.as_bytes() == bytes)
+}
+
+/// Adds a line on an output that differs.
+fn push_output(
+    alloc: Global,
+    text: &mut String,
+    texts: &Texts,
+    name: &str,
+    field: &str,
+    bytes: &[u8],
+) -> Result<(), RowFault> {
+    if !is_field(alloc, texts, field, bytes)? {
+        let found = written(alloc, bytes)?;
+        write!(text, "\n  {name} {found}")?;
+    }
+    Ok(())
+}
+
+/// Compares how a run ended with its row. What differs stands in lines of their own, each with a line end before it.
+pub fn differences(
+    alloc: Global,
+    texts: &Texts,
+    row: &Row<'_>,
+    end: &Outcome,
+) -> Result<Found, RowFault> {
+    let mut text = String::new(alloc);
+    let status = end.status.code();
+    if status != row.status {
+        write!(text, "\n  status {status}")?;
+    }
+    push_output(alloc, &mut text, texts, "out", row.out, &end.printed)?;
+    push_output(alloc, &mut text, texts, "err", row.err, &end.told)?;
+    if text.is_empty() {
+        return Ok(Found::Same);
+    }
+    Ok(Found::Differs(text))
+}

@@ -1,0 +1,116 @@
+//! Texts that runs read and print: how rows write them, and their names.
+
+use crate::fault::RowFault;
+use std::alloc::{AllocError, Global};
+use std::collections::BTreeMap;
+use std::str;
+
+/// Texts by their names.
+#[derive(Drop)]
+pub struct Texts {
+    named: BTreeMap<String, Vec<u8>>,
+}
+
+/// Returns the text that a row writes: `~` stands for the end of a line, `␣` for a space at its beginning or end.
+pub fn text_of(alloc: Global, written: &str) -> Result<String, AllocError> {
+    let mut text = String::new(alloc);
+    for letter in written.trim().chars() {
+        text.push(match letter {
+            '~' => '\n',
+            '␣' => ' ',
+            other => other,
+        })?;
+    }
+    Ok(text)
+}
+
+/// Adds as many bytes as a part like `200 x 5b` says.
+fn push_repeated(bytes: &mut Vec<u8>, count: &str, byte: &str) -> Result<(), RowFault> {
+    let count = count.trim().parse::<u32>().map_err(|_| RowFault::Repeat)?;
+    let byte = u8::from_str_radix(byte.trim(), 16).map_err(|_| RowFault::Repeat)?;
+    for _ in 0..count {
+        bytes.push(byte)?;
+    }
+    Ok(())
+}
+
+/// Returns a text with one part of it changed, where that part first stands.
+fn changed(alloc: Global, file: &str, change: &str) -> Result<String, RowFault> {
+    let (old, new) = change.split_once("->").ok_or(RowFault::NoPlace)?;
+    let old = text_of(alloc, old)?;
+    let new = text_of(alloc, new)?;
+    let (before, behind) = file.split_once(old.as_str()).ok_or(RowFault::NoPlace)?;
+    Ok(format!(in alloc; "{before}{new}{behind}")?)
+}
+
+/// Returns a text with changes made one after the other; ` ; ` stands between two.
+fn changed_by(alloc: Global, file: &[u8], changes: &str) -> Result<String, RowFault> {
+    let text = str::from_utf8(file).map_err(|_| RowFault::NoPlace)?;
+    let mut text = String::from_str(alloc, text)?;
+    for change in changes.split(" ; ") {
+        text = changed(alloc, text.as_str(), change)?;
+    }
+    Ok(text)
+}
+
+impl Texts {
+    /// Returns no texts.
+    pub fn new(alloc: Global) -> Texts {
+        Texts {
+            named: BTreeMap::new(alloc),
+        }
+    }
+
+    /// Gives a name to a text.
+    pub fn name(&mut self, alloc: Global, name: &str, bytes: Vec<u8>) -> Result<(), RowFault> {
+        if name.is_empty() || self.named.get(name).is_some() {
+            return Err(RowFault::Naming);
+        }
+        self.named.insert(String::from_str(alloc, name)?, bytes)?;
+        Ok(())
+    }
+
+    /// Returns the text of a name.
+    pub fn of(&self, name: &str) -> Result<&[u8], RowFault> {
+        match self.named.get(name.trim()) {
+            Some(bytes) => Ok(bytes),
+            None => Err(RowFault::NoName),
+        }
+    }
+
+    /// Adds what a part like `100 bytes of kuhn` says.
+    fn push_front(&self, bytes: &mut Vec<u8>, count: &str, name: &str) -> Result<(), RowFault> {
+        let count = count.parse::<usize>().map_err(|_| RowFault::Short)?;
+        let front = self.of(name)?.get(..count).ok_or(RowFault::Short)?;
+        bytes.extend_from_slice(front)?;
+        Ok(())
+    }
+
+    /// Adds one part of an input.
+    fn push_part(&self, alloc: Global, bytes: &mut Vec<u8>, part: &str) -> Result<(), RowFault> {
+        if let Some(written) = part.strip_prefix("= ") {
+            bytes.extend_from_slice(text_of(alloc, written)?.as_bytes())?;
+        } else if let Some((name, change)) = part.split_once(": ") {
+            bytes.extend_from_slice(changed_by(alloc, self.of(name)?, change)?.as_bytes())?;
+        } else if let Some((count, name)) = part.split_once(" bytes of ") {
+            self.push_front(bytes, count, name)?;
+        } else if let Some((count, byte)) = part.split_once(" x ") {
+            push_repeated(bytes, count, byte)?;
+        } else {
+            bytes.extend_from_slice(self.of(part)?)?;
+        }
+        Ok(())
+    }
+
+    /// Returns the input that the parts of a row describe; where it has none, an empty one.
+    pub fn read(&self, alloc: Global, parts: &str) -> Result<Vec<u8>, RowFault> {
+        let mut bytes = Vec::new(alloc);
+        if parts.trim().is_empty() {
+            return Ok(bytes);
+        }
+        for part in parts.split(" + ") {
+            self.push_part(alloc, &mut bytes, part.trim())?;
+        }
+        Ok(bytes)
+    }
+}
