@@ -6,8 +6,6 @@
 
 mod memory;
 mod standard;
-#[cfg(test)]
-mod tests;
 mod whole;
 
 ghost use Rattle.std.specs.{Prelude.{◌≡◌, ◌<◌, ◌≤◌, ℕ, List, Option, length, take, IfOk}, Io.{ReadsAtMost}};

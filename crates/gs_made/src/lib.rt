@@ -6,6 +6,3 @@ mod text;
 
 pub use kind::Kind;
 pub use text::made_game;
-
-#[cfg(test)]
-mod tests;

@@ -3,12 +3,6 @@
 /// The cards of Kuhn's game.
 pub const KUHN: &str = "JQK, s, high, 1 0 check";
 
-/// Three ranks of two suits, one own card.
-pub const KUHN_OF_TWO_SUITS: &str = "JQK, sh, high, 1 0 check";
-
-/// One own card and two public ones, of one rank.
-pub const TWO_JACKS: &str = "J, sh 13, high, 1 2 check";
-
 /// The cards of Leduc hold'em.
 pub const LEDUC: &str = "JQK, sh, pair, 1 0 check, 0 1 check";
 
@@ -18,16 +12,13 @@ pub const LEDUC_OF_COPIES: &str = "JQK, s 222, pair, 1 0 check, 0 1 check";
 /// Two ranks of one suit, two jacks and three queens.
 pub const LEDUC_OF_TWO_RANKS: &str = "JQ, s 23, pair, 1 0 check, 0 1 check";
 
-/// The cards of Rhode Island hold'em with jacks and queens of two suits.
-pub const RHODE_JQ: &str = "JQ, sh, three, 1 0 check, 0 1 check, 0 1 check";
-
-/// The same with kings and aces.
+/// The cards of Rhode Island hold'em with kings and aces of two suits.
 pub const RHODE_KA: &str = "KA, sh, three, 1 0 check, 0 1 check, 0 1 check";
 
-/// The same with four ranks of three suits.
+/// The cards of Rhode Island hold'em with four ranks of three suits.
 pub const RHODE_TJQK: &str = "TJQK, shd, three, 1 0 check, 0 1 check, 0 1 check";
 
-/// The same with two suits. Hands above the lowest category win twice what was put, so that boards of one order may pay differently.
+/// The cards of Rhode Island hold'em with four ranks of two suits. Hands above the lowest category win twice what was put, so that boards of one order may pay differently.
 pub const RHODE_OF_BONUSES: &str = "TJQK, sh, three 1 2 1, 1 0 check, 0 1 check, 0 1 check";
 
 /// Two own cards and a public one, of four cards with 2, 1, 3 and no copies.

@@ -41,11 +41,6 @@ fn classes_in(alloc: Global, text: &str) -> Result<Classes, ClassFault> {
     Classes::new(alloc, &parents, lists_of(alloc, text)?)
 }
 
-/// What is wrong with lists of digits over the worked parents.
-fn fault_in(alloc: Global, text: &str) -> Option<ClassFault> {
-    classes_in(alloc, text).err()
-}
-
 /// A class for each signal of the worked parents.
 fn singles(alloc: Global) -> Result<Classes, AllocError> {
     let parents = worked_parents(alloc)?;
@@ -80,58 +75,6 @@ const NUMBERS: &[(u8, u32, Option<(u32, u32, u32)>)] = &[
 
 /// Rounds, signals, and their class in the worked filter.
 const CLASSES: &[(u8, u32, Option<u32>)] = &[(1, 2, Some(1)), (2, 4, Some(1)), (2, 6, None)];
-
-/// Lists of digits over the worked parents, and what is wrong with them.
-const FAULTS: &[(&str, Option<ClassFault>)] = &[
-    ("121 123312", None),
-    ("121", Some(ClassFault::Length { round: 2 })),
-    ("121 123312 1", Some(ClassFault::Length { round: 3 })),
-    ("12 123312", Some(ClassFault::Length { round: 1 })),
-    ("131 12331", Some(ClassFault::Length { round: 2 })),
-    (
-        "131 123312",
-        Some(ClassFault::NotFirstSeen { round: 1, at: 1 }),
-    ),
-    (
-        "211 123312",
-        Some(ClassFault::NotFirstSeen { round: 1, at: 0 }),
-    ),
-    (
-        "101 123312",
-        Some(ClassFault::NotFirstSeen { round: 1, at: 1 }),
-    ),
-    (
-        "121 121911",
-        Some(ClassFault::NotFirstSeen { round: 2, at: 3 }),
-    ),
-    (
-        "121 121311",
-        Some(ClassFault::ParentsApart {
-            round: 2,
-            a: 0,
-            b: 2,
-        }),
-    ),
-    (
-        "123 123312",
-        Some(ClassFault::ParentsApart {
-            round: 2,
-            a: 0,
-            b: 4,
-        }),
-    ),
-];
-
-/// The first row of faults that is not so, with the fault that there is.
-fn other_fault(alloc: Global) -> Option<(&'static str, Option<ClassFault>)> {
-    for &(text, fault) in FAULTS {
-        let found = fault_in(alloc, text);
-        if found != fault {
-            return Some((text, found));
-        }
-    }
-    None
-}
 
 /// The first row of classes' numbers that is not so.
 fn other_numbers(classes: &Classes) -> Option<(u8, u32)> {
@@ -173,7 +116,6 @@ fn singles_text(alloc: Global) -> Result<String, AllocError> {
 #[test]
 fn worked_values(rt: HostRuntime) -> Result<(), Fail> {
     let alloc = rt.alloc();
-    assert_eq!(rt; other_fault(alloc), None);
     assert_eq!(rt; others(alloc)?, (None, None));
     assert_eq!(rt;
         singles_text(alloc)?.as_str(),

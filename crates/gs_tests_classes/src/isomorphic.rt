@@ -1,8 +1,8 @@
-//! Classes of whole games, as a separate program found them by the definitions, and pairings in Leduc's game.
+//! Pairings in Leduc's game.
 
 use crate::asked::{Question, asked};
-use gs_iso::{pairing, shrink};
-use gs_samples::decks::{KUHN, KUHN_OF_TWO_SUITS, LEDUC, RHODE_JQ, TWO_JACKS, TWO_OWN_CARDS};
+use gs_iso::pairing;
+use gs_samples::decks::LEDUC;
 use gs_tree::Signals;
 use std::alloc::Global;
 use std::test::Fail;
@@ -26,49 +26,6 @@ fn first_place(
         Some(found) => Ok(found.to.first().copied()),
         None => Ok(None),
     }
-}
-
-/// The classes of signals as one text.
-struct Shrunk;
-
-impl Question for Shrunk {
-    type Answer = String;
-
-    fn answer(&self, alloc: Global, signals: &Signals<'_>) -> Result<String, Fail> {
-        let classes = shrink(alloc, signals)?;
-        Ok(format!(in alloc; "{:?}", classes.lists())?)
-    }
-}
-
-/// Games, and the numbers of their signal classes.
-const CASES: &[(&str, &str)] = &[
-    (KUHN, "[[1, 2, 3]]"),
-    (KUHN_OF_TWO_SUITS, "[[1, 1, 2, 2, 3, 3]]"),
-    (
-        LEDUC,
-        "[[1, 1, 2, 2, 3, 3], [1, 2, 2, 2, 2, 1, 2, 2, 2, 2, 3, 3, 4, 5, 5, 3, 3, 4, 5, 5, 6, 6, 6, 6, 7, 6, 6, 6, 6, 7]]",
-    ),
-    (TWO_JACKS, "[[1, 1, 1]]"),
-    (
-        RHODE_JQ,
-        "[[1, 1, 2, 2], [1, 2, 2, 1, 2, 2, 3, 3, 4, 3, 3, 4], [1, 1, 2, 3, 2, 3, 1, 1, 2, 3, 2, 3, 4, 5, 4, 5, 6, 6, 4, 5, 4, 5, 6, 6]]",
-    ),
-    (
-        TWO_OWN_CARDS,
-        "[[1, 2, 3, 4, 5], [1, 2, 3, 4, 5, 6, 7, 8, 8, 9, 10, 11]]",
-    ),
-];
-
-#[test]
-fn classes_of_games(rt: HostRuntime) -> Result<(), Fail> {
-    for &(line, classes) in CASES {
-        assert_eq!(rt;
-            asked(rt.alloc(), line, &Shrunk)?.as_str(),
-            classes,
-            "{line}"
-        );
-    }
-    Ok(())
 }
 
 /// The place for the first child in the pairing of two signals of a round.

@@ -11,8 +11,6 @@ mod filters;
 #[cfg(test)]
 mod isomorphic;
 #[cfg(test)]
-mod lossless;
-#[cfg(test)]
 mod matchings;
 #[cfg(test)]
 mod parted;

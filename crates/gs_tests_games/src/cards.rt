@@ -1,42 +1,11 @@
-//! Decks that are refused, the texts of cards, and groups in order.
+//! The texts of cards, and groups in order.
 
 ghost use Rattle.std.specs.Prelude.{◌≤◌};
 
-use gs_card::{Deck, DeckFault, ways};
+use gs_card::{Deck, ways};
 use std::alloc::{AllocError, Global};
 use std::process::Abort;
 use std::test::Fail;
-
-/// One rank more than a deck may have kinds.
-const MANY: &str = "ABCDEFGHIJKLMNOPQRSTUVWXYZabcdefghijklmnopqrstuvwxyz0";
-
-/// Decks, by ranks, suits and copies, and the first fault that they have.
-const DECKS: &[(&str, &str, &str, Option<DeckFault>)] = &[
-    ("", "s", "", Some(DeckFault::NoCards)),
-    ("J", "", "x", Some(DeckFault::NoCards)),
-    ("J-J", "ss", "", Some(DeckFault::BadLetter)),
-    ("JQ", "é", "", Some(DeckFault::BadLetter)),
-    ("JQJ", "s", "x", Some(DeckFault::RepeatedLetter)),
-    ("JQ", "shs", "", Some(DeckFault::RepeatedLetter)),
-    (MANY, "s", "x", Some(DeckFault::TooManyKinds)),
-    ("ABCDEFGHI", "abcdef", "", Some(DeckFault::TooManyKinds)),
-    ("JQ", "sh", "111", Some(DeckFault::BadCopies)),
-    ("JQ", "sh", "11a1", Some(DeckFault::BadCopies)),
-    ("JQ", "sh", "11111", Some(DeckFault::BadCopies)),
-    ("J", "J", "9", None),
-    ("JQ", "sh", "3210", None),
-    ("JQK", "shdc", "", None),
-    ("ABCDEFGHIJKLM", "shdc", "", None),
-];
-
-#[test]
-fn decks_are_refused_in_order(rt: HostRuntime) -> Result<(), Fail> {
-    for &(ranks, suits, copies, want) in DECKS {
-        let found = Deck::new(rt.alloc(), ranks, suits, copies).err();
-        assert_eq!(rt; found, want, "at {ranks} {suits} {copies}");
-    }
-    Ok(())
-}
 
 /// Texts, and the number of the card of three ranks and two suits that each is of.
 const TEXTS: &[(&str, Option<u8>)] = &[

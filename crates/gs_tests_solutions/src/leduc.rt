@@ -1,6 +1,6 @@
 //! Leduc's program, as it is stated from outside and as `gs_solve` makes it, and what stops its path.
 
-use crate::forms::{Question, told};
+use crate::forms::stop_in;
 use crate::stops::stop_text;
 use gs_rows::Program;
 use gs_samples::numbers_in;
@@ -146,7 +146,7 @@ pub(crate) fn stop_of_stated(alloc: Global, form: &Abstract<'_>) -> Result<Strin
 #[test]
 fn leducs_program(rt: HostRuntime) -> Result<(), Fail> {
     assert_eq!(rt;
-        told(rt.alloc(), LEDUC, "ranks", Question::Stop)?.as_str(),
+        stop_in(rt.alloc(), LEDUC, "ranks")?.as_str(),
         "Wide { step: 1686, row: 50, col: 15, number: -4838826802217196096 }"
     );
     Ok(())

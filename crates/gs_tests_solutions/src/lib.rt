@@ -1,11 +1,11 @@
-//! Tests of exact solutions of games, through the public calls of `gs_solve` and `gs_simplex`.
+//! Tests of fractions, and of exact solutions of games, through the public calls of `gs_frac`, `gs_solve` and `gs_simplex`.
 #![tactic(auto)]
 
 #[cfg(test)]
 mod forms;
 #[cfg(test)]
-mod leduc;
+mod fractions;
 #[cfg(test)]
-mod solved;
+mod leduc;
 #[cfg(test)]
 mod stops;

@@ -109,12 +109,6 @@ const CASES: &[(&str, &str, Want<'static>, Result<bool, SeqStop>)] = &[
         ((40, 40), OF_LEDUC),
         Ok(true),
     ),
-    (
-        "9TJQKA, shdc, high 1 2 1, 1 0 eight, 0 0 eight, 0 0 eight, 0 0 sixteen",
-        "",
-        ((0, 0), &[]),
-        Err(SeqStop::TooManyCells { count: 4_521_984 }),
-    ),
 ];
 
 #[test]

@@ -2,7 +2,10 @@
 
 ghost use Rattle.std.specs.Prelude.{◌<◌, ◌≤◌, ◌^◌};
 
-use super::*;
+use gs_io::{
+    MemSink, MemSource, ReadStop, Source, StdSink, StdSource, SureSource, WriteStop, read_all,
+    write_all,
+};
 use std::alloc::{AllocError, Global};
 use std::io::{self, ErrorKind, Read, Write};
 use std::test::Fail;
