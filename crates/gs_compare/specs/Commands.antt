@@ -8,7 +8,7 @@ use Rattle.gs_reply.specs.Replies.{OfFile, Reply, Prints, Refuses}
 use Rattle.gs_reply.specs.declared.strategies.Which.TheVariants.{Only, First, Second}
 use Rattle.gs_strategy.specs.Confirmed.{frame_of}
 use Rattle.gs_strategy.specs.Values.{Numbers, FractionParts, Strategy}
-use Rattle.gs_text.specs.VerdictText.{verdict_text}
+use Rattle.gs_reply.specs.VerdictText.{verdict_text}
 use Rattle.gs_compare.specs.Judging.{AreHands, AreJudged, hands_text}
 
 -- what is said of the numbers of two strategies of one game, where it has at most 16,777,216 raw cells; a game with more is too large

@@ -9,9 +9,8 @@ ghost use Rattle.gs_strategy.specs.Views.{stored_view};
 use crate::games::same_game;
 use crate::hands::push_hands;
 use gs_raw::{Facing, RawStop, raw_duel, raw_verdict};
-use gs_reply::{Answer, many_raw_cells, other_game};
+use gs_reply::{Answer, many_raw_cells, other_game, verdict_text};
 use gs_strategy::Stored;
-use gs_text::verdict_text;
 use gs_tree::Signals;
 use std::alloc::{AllocError, Global};
 

@@ -8,7 +8,7 @@ use Rattle.gs_reply.specs.declared.strategies.Which.TheVariants.{Only}
 use Rattle.gs_strategy.specs.Confirmed.{IsConfirmed}
 use Rattle.gs_strategy.specs.Texts.{strategy_text}
 use Rattle.gs_strategy.specs.Values.{Strategy}
-use Rattle.gs_text.specs.VerdictText.{verdict_text}
+use Rattle.gs_reply.specs.VerdictText.{verdict_text}
 use Rattle.gs_confirm.specs.Queries.{IsBadQuery, IsQueried}
 use Rattle.gs_confirm.specs.Troubles.{IsTrouble}
 

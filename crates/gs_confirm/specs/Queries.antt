@@ -11,7 +11,7 @@ use Rattle.gs_model.specs.Positions.{at_point}
 use Rattle.gs_model.specs.Signals.{signal_at}
 use Rattle.gs_strategy.specs.Confirmed.{frame_of, raw_plan}
 use Rattle.gs_strategy.specs.Values.{FractionParts, Strategy, Weights, frame_in}
-use Rattle.gs_text.specs.VerdictText.{mix_text}
+use Rattle.gs_reply.specs.VerdictText.{mix_text}
 use Rattle.gs_tree.specs.Texts.{signal_text}
 
 -- a text is the line of a point of a game

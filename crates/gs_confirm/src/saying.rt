@@ -10,10 +10,9 @@ use crate::asking::{Ask, Query};
 use gs_file::Version;
 use gs_frac::Fraction;
 use gs_lift::{Mixture, Spot, locate, mix};
-use gs_reply::{Answer, bad_query};
+use gs_reply::{Answer, bad_query, mix_text, verdict_text};
 use gs_seq::{Abstract, Plan};
 use gs_strategy::Stored;
-use gs_text::{mix_text, verdict_text};
 use std::alloc::{AllocError, Global};
 
 // A player's plan.

@@ -22,7 +22,7 @@ use Rattle.gs_strategy.specs.Confirmed.{AreNumbersOf, IsConfirmed, frame_of, ove
 use Rattle.gs_strategy.specs.Laws.{AreFractions, IsStrategy}
 use Rattle.gs_strategy.specs.Texts.{strategy_text}
 use Rattle.gs_strategy.specs.Values.{FractionParts, Numbers, Strategy, frame_in}
-use Rattle.gs_text.specs.VerdictText.{verdict_text}
+use Rattle.gs_reply.specs.VerdictText.{verdict_text}
 use Rattle.gs_laws.proofs.Dealt.{told_dealt}
 use Rattle.gs_laws.proofs.Strategies.{printed_strategy}
 use Rattle.gs_laws.proofs.Verdicts.{numbers_one, scale_some}

@@ -14,7 +14,7 @@ use Rattle.gs_reply.specs.declared.strategies.Which.TheVariants.{First, Second}
 use Rattle.gs_strategy.specs.Confirmed.{frame_of, raw_plan}
 use Rattle.gs_strategy.specs.Laws.{IsStrategy}
 use Rattle.gs_strategy.specs.Values.{FractionParts, Numbers, Strategy}
-use Rattle.gs_text.specs.VerdictText.{verdict_text}
+use Rattle.gs_reply.specs.VerdictText.{verdict_text}
 use Rattle.gs_laws.proofs.Confirming.{verdicts_one}
 use Rattle.gs_laws.proofs.Dealing.{hand_some}
 use Rattle.gs_laws.proofs.Dealt.{told_dealt}

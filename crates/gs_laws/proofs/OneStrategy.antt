@@ -40,7 +40,7 @@ use Rattle.gs_strategy.specs.Checks.{ReadResult, Reads}
 use Rattle.gs_strategy.specs.Confirmed.{frame_of, raw_plan}
 use Rattle.gs_strategy.specs.Laws.{IsStrategy}
 use Rattle.gs_strategy.specs.Values.{FractionParts, Numbers, Strategy, frame_in}
-use Rattle.gs_text.specs.VerdictText.{mix_text, verdict_text}
+use Rattle.gs_reply.specs.VerdictText.{mix_text, verdict_text}
 use Rattle.gs_tree.proofs.Named.{text_once}
 use Rattle.gs_laws.proofs.Confirming.{no_trouble, small_passes, strategy_numbers, verdicts_one}
 use Rattle.gs_laws.proofs.Dealt.{told_dealt, told_playable}

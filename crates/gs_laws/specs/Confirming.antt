@@ -17,7 +17,7 @@ use Rattle.gs_strategy.specs.Confirmed.{IsConfirmed, over}
 use Rattle.gs_strategy.specs.Laws.{AreFractions, IsStrategy}
 use Rattle.gs_strategy.specs.Texts.{strategy_text}
 use Rattle.gs_strategy.specs.Values.{FractionParts, IsFractionOf, Numbers, Strategy}
-use Rattle.gs_text.specs.VerdictText.{verdict_text}
+use Rattle.gs_reply.specs.VerdictText.{verdict_text}
 
 -- where deals and totals are above 0, the verdict on two raw plans is one list of three reduced fractions
 abbrev pub VerdictsAreOne : Type 0

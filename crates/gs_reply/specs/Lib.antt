@@ -1,3 +1,5 @@
 pub mod Refusals
 pub mod Replies
+pub mod StoreText
 pub mod Troubles
+pub mod VerdictText

@@ -7,7 +7,7 @@ use Rattle.gs_lift.specs.declared.fault.QueryFault.{QueryFault}
 use Rattle.gs_lift.specs.declared.fault.QueryFault.TheVariants as query
 use Rattle.gs_strategy.specs.Faults.{Fault as StrategyFault}
 use Rattle.gs_text.specs.FaultText.{fault_text}
-use Rattle.gs_text.specs.StoreText.{store_text}
+use Rattle.gs_reply.specs.StoreText.{store_text}
 use Rattle.gs_reply.specs.declared.answers.Cause.{Cause}
 use Rattle.gs_reply.specs.declared.answers.Cause.TheVariants as cause
 use Rattle.gs_reply.specs.declared.strategies.Which.{Which}

@@ -8,7 +8,9 @@ mod numbers;
 mod queries;
 mod signals;
 mod solving;
+mod stores;
 mod strategies;
+mod verdicts;
 
 pub use answers::{Answer, Cause};
 pub use certificates::bad_certificate;
@@ -20,4 +22,6 @@ pub use solving::{
     many_cells, many_pivots, many_raw_cells, many_sequences, many_table_numbers, overflow_at_step,
     overflow_of_total, too_large,
 };
+pub use stores::store_fault_text;
 pub use strategies::{Which, stored_or_refusal};
+pub use verdicts::{mix_text, verdict_text};

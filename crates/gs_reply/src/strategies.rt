@@ -5,8 +5,8 @@ ghost use Rattle.gs_reply.specs.{Refusals.{Bad_strategy}, Replies.{Answers, IsBa
 ghost use Rattle.gs_strategy.specs.{Checks.{Reads}, Faults.{Fault, IsFault}, Views.{stored_view}};
 
 use crate::answers::{Answer, Cause};
+use crate::stores::store_fault_text;
 use gs_strategy::{StoreFault, Stored, read_strategy};
-use gs_text::store_fault_text;
 use std::alloc::{AllocError, Global};
 
 /// Which of a command's strategy files: its only one, or the first or the second of two.

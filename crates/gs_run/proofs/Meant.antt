@@ -42,7 +42,7 @@ use Rattle.gs_strategy.specs.Laws.{IsStrategy}
 use Rattle.gs_strategy.specs.Texts.{strategy_text}
 use Rattle.gs_strategy.specs.Values.{FractionParts, Numbers, Strategy, Weights, frame_in}
 use Rattle.gs_strategy.specs.Views.{weights_of}
-use Rattle.gs_text.specs.VerdictText.{verdict_text}
+use Rattle.gs_reply.specs.VerdictText.{verdict_text}
 use Rattle.gs_words.specs.Tasks.{Task, Shrink, Check, Make, Evaluate, Query, Upgrade, Judge, Duel, Certify, Verify, Solve, Play, Path}
 use Rattle.gs_words.specs.declared.request.Grouping.{Grouping}
 use Rattle.gs_run.specs.Meanings.{AreOnRawCards, IsDuelled, IsJudged, IsPlayedOut, IsStrategyFile, Means, OfCertifiedFile, OfGameFile, OfStrategyFile, OfTwoFiles, OverLossless, ShowsSolution}

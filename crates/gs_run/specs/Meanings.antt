@@ -30,7 +30,7 @@ use Rattle.gs_strategy.specs.Confirmed.{IsConfirmed, over, raw_plan}
 use Rattle.gs_strategy.specs.Laws.{AreFractions, IsStrategy}
 use Rattle.gs_strategy.specs.Texts.{strategy_text}
 use Rattle.gs_strategy.specs.Values.{FractionParts, Numbers, Strategy, frame_in}
-use Rattle.gs_text.specs.VerdictText.{verdict_text}
+use Rattle.gs_reply.specs.VerdictText.{verdict_text}
 use Rattle.gs_words.specs.Commands.{entry_of}
 use Rattle.gs_words.specs.Plain.{Given, are_plain, given_for, option_words}
 use Rattle.gs_words.specs.Requests.{task_for}

@@ -115,7 +115,7 @@ fn cards_text(alloc: Global, need: u32, have: u32) -> Result<Vec<u8>, AllocError
 }
 
 // What is wrong, and a number behind it.
-pub(crate) fn counted_text(alloc: Global, wrong: &str, number: u128) -> Result<Vec<u8>, AllocError>
+fn counted_text(alloc: Global, wrong: &str, number: u128) -> Result<Vec<u8>, AllocError>
     ensures { IfOk result (λ v. v.items ≡ wrong.now ++ decimal number) }
 {
     Ok(format!(in alloc; "{wrong}{number}")?.into_bytes())

@@ -14,7 +14,7 @@ use Rattle.gs_seq.specs.Games.{frame_in}
 use Rattle.gs_seq.specs.Plans.{IsPlanOf}
 use Rattle.gs_strategy.specs.Values.{FractionParts}
 use Rattle.gs_strategy.specs.Views.{numbers_of, parts_of, stored_view}
-use Rattle.gs_text.specs.VerdictText.{verdict_text}
+use Rattle.gs_reply.specs.VerdictText.{verdict_text}
 use Rattle.gs_tree.specs.Trees.{deck_of, rules_of}
 use Rattle.gs_compare.specs.Judging.{AreHands, hands_text}
 use Rattle.gs_compare.proofs.Judged.{are_hands, are_judged}

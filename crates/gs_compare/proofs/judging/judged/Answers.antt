@@ -6,7 +6,7 @@ use Rattle.gs_reply.specs.Replies.{Prints}
 use Rattle.gs_seq.specs.Games.{frame_in}
 use Rattle.gs_seq.specs.Plans.{IsPlanOf}
 use Rattle.gs_strategy.specs.Views.{numbers_of, stored_view}
-use Rattle.gs_text.specs.VerdictText.{verdict_text}
+use Rattle.gs_reply.specs.VerdictText.{verdict_text}
 use Rattle.gs_compare.proofs.Judged.{are_judged}
 use Rattle.gs_compare.proofs.TooMany.{too_many}
 use Rattle.gs_compare.proofs.judging.judged.Goals as goal

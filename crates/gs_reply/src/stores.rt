@@ -6,14 +6,15 @@ ghost use Rattle.gs_file.specs.declared.fault.FileFault.TheVariants as file;
 ghost use Rattle.gs_filter.specs.FaultText.{fault_text as class_fault_text};
 ghost use Rattle.gs_frac.specs.FaultText.{fault_text as fraction_fault_text};
 ghost use Rattle.gs_strategy.specs.Faults.{Fault, IsFault as IsStoreFault};
-ghost use Rattle.gs_text.specs.{FaultText.{IsFault, fault_text}, StoreText.{part_text as text_of_part, plan_text as text_of_plan, store_text as text_of_store}};
+ghost use Rattle.gs_text.specs.FaultText.{IsFault, fault_text};
+ghost use Rattle.gs_reply.specs.StoreText.{part_text as text_of_part, plan_text as text_of_plan, store_text as text_of_store};
 
-use crate::faults::{counted_text, file_fault_text};
 use gs_file::FileFault;
 use gs_filter::ClassFault;
 use gs_frac::FracFault;
 use gs_seq::PlanFault;
 use gs_strategy::{FilePart, StoreFault};
+use gs_text::file_fault_text;
 use std::alloc::{AllocError, Global};
 
 /// The name of a part.
@@ -99,6 +100,13 @@ fn fraction_fault(alloc: Global, part: FilePart, fault: &FracFault) -> Result<Ve
     Ok(text.into_bytes())
 }
 
+/// What is wrong, and behind it a number.
+fn counted_text(alloc: Global, wrong: &str, number: u64) -> Result<Vec<u8>, AllocError>
+    ensures { IfOk result (λ v. v.items ≡ wrong.now ++ decimal number) }
+{
+    Ok(format!(in alloc; "{wrong}{number}")?.into_bytes())
+}
+
 /// Why a strategy file is refused, without an end of line.
 pub fn store_fault_text(alloc: Global, fault: &StoreFault) -> Result<Vec<u8>, AllocError>
     requires { (why : Fault) × IsStoreFault fault.now why }
@@ -107,14 +115,12 @@ pub fn store_fault_text(alloc: Global, fault: &StoreFault) -> Result<Vec<u8>, Al
     match fault {
         StoreFault::NotJson => Ok(String::from_str(alloc, "not JSON")?.into_bytes()),
         StoreFault::Shape(part) => shape_text(alloc, *part),
-        StoreFault::Version(number) => counted_text(alloc, "version ", u128::from(*number)),
+        StoreFault::Version(number) => counted_text(alloc, "version ", *number),
         StoreFault::Game(fault) => game_text(alloc, fault),
         StoreFault::Classes(fault) => classes_text(alloc, fault),
         StoreFault::Plan { player, fault } => plan_text(alloc, *player, *fault),
         StoreFault::Fraction { part, fault } => fraction_fault(alloc, *part, fault),
-        StoreFault::NotCanonical { at } => {
-            counted_text(alloc, "not canonical at ", u128::from(*at))
-        }
+        StoreFault::NotCanonical { at } => counted_text(alloc, "not canonical at ", *at),
         StoreFault::Memory => Ok(String::from_str(alloc, "out of memory")?.into_bytes()),
     }
 }

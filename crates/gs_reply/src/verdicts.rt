@@ -2,7 +2,7 @@
 
 ghost use Rattle.std.specs.Prelude.{◌≡◌, IfOk};
 ghost use Rattle.gs_strategy.specs.Views.{numbers_of, parts_of};
-ghost use Rattle.gs_text.specs.VerdictText.{mix_text as text_of_mix, verdict_text as text_of_verdict};
+ghost use Rattle.gs_reply.specs.VerdictText.{mix_text as text_of_mix, verdict_text as text_of_verdict};
 
 use gs_frac::{Fraction, Verdict, push_line};
 use gs_lift::Mixture;
