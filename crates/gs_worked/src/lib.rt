@@ -3,7 +3,7 @@
 //! The crate runs nothing: a function here is a law, and its contract names the values.
 #![tactic(auto)]
 
-ghost use Rattle.gs_worked.specs.Decks.{OneRank, TwoSuits};
+ghost use Rattle.gs_worked.specs.{Decks.{OneRank, TwoSuits}, Puts.{PutsAreChips}};
 
 /// Kuhn poker with two suits: two hands of one rank are of one class, and hands of two ranks are not.
 pub fn two_suits()
@@ -13,4 +13,9 @@ pub fn two_suits()
 /// One rank in four suits: all hands are of one class.
 pub fn one_rank()
     ensures { OneRank }
+{}
+
+/// The put of each end is the ante and the chips of the moves on the way to it.
+pub fn puts_are_chips()
+    ensures { PutsAreChips }
 {}
