@@ -2,7 +2,7 @@
 
 from fractions import Fraction
 
-from atlas_games import LEDUC, RHODE, name_of
+from atlas_games import LEDUC, PLAYED, RHODE, name_of
 from texts import decimal, span
 
 NAMES = {"kuhn": "Kuhn", "leduc": "Leduc", "rhode": "Rhode Island"}
@@ -20,10 +20,18 @@ def named(deck):
     return "%s %d/%d/%d" % (NAMES[deck[0]], *deck[1:])
 
 
+def grouped(decks):
+    """Returns decks as a text, the caps of one deck together."""
+    groups = {}
+    for deck in decks:
+        groups.setdefault(deck[:3], []).append(deck[3])
+    return ", ".join("%s %d/%d/%s" % (NAMES[kind], ranks, suits, span(caps).replace(", ", " and ")) for (kind, ranks, suits), caps in groups.items())
+
+
 def ends(rows):
-    """Returns the least and the greatest value of rows, as texts, with the decks that have them."""
+    """Returns the least and the greatest value of rows, rounded outwards, with the decks that have them."""
     least, most = min(rows, key=lambda deck: low(rows[deck])), max(rows, key=lambda deck: high(rows[deck]))
-    return rows[least].agreed()[:9], named(least), rows[most].agreed()[:9], named(most)
+    return rows[least].lower(5), named(least), rows[most].upper(5), named(most)
 
 
 def favoured(rows):
@@ -32,8 +40,8 @@ def favoured(rows):
     below = [deck for deck, row in rows.items() if high(row) < 0]
     above = [deck for deck, row in rows.items() if low(row) > 0]
     yield "Player 2, who acts second, is favoured in %d of %d games: their upper bound is below 0." % (len(below), len(rows)), "all rows"
-    yield "Player 1 is favoured in %s." % (", ".join(map(named, above)) or "none"), "all rows: the lower bound is above 0 in %s" % (len(above) or "none")
-    yield "%d games are even: value and both gaps are exactly 0." % len(even), ", ".join(map(named, even))
+    yield "Player 1 is favoured in %s." % (grouped(above) or "none"), "all rows: the lower bound is above 0 in %s" % (len(above) or "none")
+    yield "%d games are even: value and both gaps are exactly 0." % len(even), grouped(even)
 
 
 def of(rows, kind, test):
@@ -49,7 +57,7 @@ def ranges(rows):
     ):
         chosen = of(rows, kind, test)
         if chosen:
-            yield "%s is worth from %s to %s chips a deal." % (text, ends(chosen)[0], ends(chosen)[2]), "%d rows; the ends are %s and %s" % (len(chosen), ends(chosen)[1], ends(chosen)[3])
+            yield "%s is worth from %s to %s chips a deal, rounded outwards." % (text, ends(chosen)[0], ends(chosen)[2]), "%d rows; the ends are %s and %s" % (len(chosen), ends(chosen)[1], ends(chosen)[3])
 
 
 def change(rows, kind, at, now):
@@ -70,21 +78,21 @@ def changes(rows, kind, at, name, steps):
         decks, fall, rise, same, most, size = change(rows, kind, at, now)
         if decks:
             left = len(decks) - len(fall) - len(rise)
-            text = "From %s to %d the value of %s falls in %d of %d decks of three or more ranks and rises in %d" % (name % (now - 1), now, NAMES[kind], len(fall), len(decks), len(rise))
+            text = "From %s the value of %s falls in %d of %d decks of three or more ranks and rises in %d" % (name % (now - 1, now), NAMES[kind], len(fall), len(decks), len(rise))
             text += "; in %d the brackets meet%s." % (left, ", and the exact values are equal in %d of them" % len(same) if same else "") if left else "."
             yield text, "the largest change, %s chips, has %s" % (decimal(size[most], 4), named(most))
 
 
 def suits(rows):
     """How the value moves with one suit more."""
-    yield from changes(rows, "leduc", 2, "suits %d", (2, 3, 4))
-    yield from changes(rows, "rhode", 2, "suits %d", (3, 4))
+    yield from changes(rows, "leduc", 2, "%d to %d suits", (2, 3, 4))
+    yield from changes(rows, "rhode", 2, "%d to %d suits", (3, 4))
 
 
 def caps(rows):
     """How the value moves with one raise more."""
-    yield from changes(rows, "leduc", 3, "cap %d", (2, 3, 4))
-    yield from changes(rows, "rhode", 3, "cap %d", (2, 3))
+    yield from changes(rows, "leduc", 3, "cap %d to cap %d", (2, 3, 4))
+    yield from changes(rows, "rhode", 3, "cap %d to cap %d", (2, 3))
 
 
 def ranks(rows):
@@ -98,7 +106,7 @@ def ranks(rows):
             whole += [(suit, cap)] if pairs else []
             mixed += [(suit, cap)] if fall and rise else []
     if whole:
-        others = ", ".join("%d suits with cap %d" % pair for pair in whole if pair not in mixed)
+        others = ", ".join("%d suit%s with cap %d" % (suit, "s" * (suit > 1), cap) for suit, cap in whole if (suit, cap) not in mixed)
         yield "With the ranks the value of Leduc moves both ways for %d of %d pairs of suits and cap." % (len(mixed), len(whole)), "all but %s" % others if others else "Leduc's rows of three or more ranks"
     late = of(rows, "leduc", lambda r, s, c: r >= 8 and s >= 2)
     if late:
@@ -116,21 +124,32 @@ def isomorphism(rows, cache):
     cost = [deck for deck in other if deck not in free]
     if alike:
         assert all(sum(lost[deck]) < Fraction(1, 10**9) for deck in alike), "lossless classes lose"
-        yield "Isomorphism costs nothing where its classes are lossless: both gaps on raw cards are below 10^-9 in all %d such games." % len(alike), ", ".join(map(named, alike))
+        yield "Isomorphism costs nothing where its classes are lossless: both gaps on raw cards are below 10^-9 in all %d such games." % len(alike), grouped(alike)
     if free:
-        yield "In %d games the classes are not lossless and the plans found over them still lose less than 10^-9." % len(free), ", ".join(map(named, free))
+        yield "In %d games the classes are not lossless and the plans found over them still lose less than 10^-9." % len(free), grouped(free)
     if cost:
         least, most = min(cost, key=lambda deck: sum(lost[deck])), max(cost, key=lambda deck: sum(lost[deck]))
         text = "In the other %d games plans that are optimal over the isomorphism classes leave both players together from %s to %s chips a deal."
         yield text % (len(cost), decimal(sum(lost[least]), 4), decimal(sum(lost[most]), 4)), "%s has least, %s most" % (named(least), named(most))
-        for suit in range(2, 5):
+        for suit in (2, 4):
             line = sorted(deck for deck in cost if deck[0] == "leduc" and deck[2:] == (suit, 2))
             if line:
-                texts = ", ".join("%d: %s" % (deck[1], decimal(sum(lost[deck]), 3)) for deck in line)
-                yield "Of Leduc with %d suits and cap 2 the loss is, by ranks, %s." % (suit, texts), "ranks %s" % span([deck[1] for deck in line])
+                first, last = line[0], line[-1]
+                text = "Of Leduc with %d suits and cap 2 they leave %s at %d ranks and %s at %d."
+                yield text % (suit, decimal(sum(lost[first]), 4), first[1], decimal(sum(lost[last]), 4), last[1]), "%s and %s" % (named(first), named(last))
+
+
+def play(cache):
+    """How fast the gaps fall with turns of play."""
+    records = {deck: cache.record("play_" + name_of(deck)) or {} for deck in PLAYED}
+    both = {deck: {int(n): Fraction(one) + Fraction(two) for n, (_, one, two) in record["turns"].items()} for deck, record in records.items() if "turns" in record}
+    if both:
+        factors = [found[10**k] / found[10 ** (k + 1)] for found in both.values() for k in (3, 4, 5)]
+        text = "From 1,000 turns of play on, ten times as many turns divide both gaps together by %s to %s."
+        yield text % (decimal(min(factors), 1), decimal(max(factors), 1)), "%s, up to 1,000,000 turns" % ", ".join(map(named, both))
 
 
 def claims(rows, cache):
     """Returns the lines of the section; `rows` are those of Leduc and Rhode Island."""
-    found = [*favoured(rows), *ranges(rows), *ranks(rows), *suits(rows), *caps(rows), *isomorphism(rows, cache)]
+    found = [*favoured(rows), *ranges(rows), *ranks(rows), *suits(rows), *caps(rows), *isomorphism(rows, cache), *play(cache)]
     return ["- %s *(%s)*" % sentence for sentence in found]

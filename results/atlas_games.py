@@ -287,22 +287,20 @@ def done(cache, judge, name, make, deck, seconds):
 
 
 def confirmed(cache, judge, name, make, deck):
-    """Has the program judge a record's strategy again, or solve a game again; returns what is wrong, or nothing."""
+    """Has the program judge a record's strategy again, or solve its game again; returns what is wrong, an empty text where nothing is, and
+    nothing where the record has neither."""
     record = cache.record(name)
-    if record is None or make in (classed, played):
-        return None
-    if make is own_solution:
+    if make is own_solution and record:
         again = own_solution(judge, deck, cache, None)
-        if "value" in record:
-            return None if again.get("value") == record["value"] else "%s: solve finds otherwise" % name
-        cache.keep(name, {"deck": deck, **again})
-        return None
-    if "sha256" not in record:
+        if "value" not in record:
+            cache.keep(name, {**record, **again})
+        return "" if again.get("value") == record.get("value") or "value" not in record else "%s: solve finds otherwise" % name
+    if record is None or "sha256" not in record:
         return None
     text = cache.strategy(name)
     if hashlib.sha256(text.encode()).hexdigest() != record["sha256"]:
         return "%s: the strategy file is another" % name
     if make is lost:
-        return None if judge.filled(text) == text else "%s: judge prints other numbers" % name
+        return "" if judge.filled(text) == text else "%s: judge prints other numbers" % name
     fault = fault_of(judge, deck, record, text)
-    return "%s: %s" % (name, fault) if fault != record.get("failed") else None
+    return "" if fault == record.get("failed") else "%s: %s" % (name, fault)

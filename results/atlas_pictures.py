@@ -68,7 +68,7 @@ def losses(folder, panels):
     """Draws what the isomorphism classes lose, by ranks; `panels` are titles, each with a line for each gap."""
     panels = with_data(panels)
     table_of(folder, "isomorphism_loss", "ranks", [("%s %s" % (title, gap), found) for title, columns in panels for gap, found in columns])
-    script, first = 'set multiplot layout 1,3\nset xlabel "ranks"\nset ylabel "gap on raw cards, chips"\nset yrange [0:]\nset key top right\n', 2
+    script, first = 'set multiplot layout 1,3\nset xlabel "ranks"\nset ylabel "gap on raw cards, chips"\nset yrange [0:]\nset xtics 1\nset key top right\n', 2
     for title, columns in panels:
         script += 'set title "%s"\n' % title + lines("isomorphism_loss", first, columns)
         first += len(columns)
@@ -85,8 +85,8 @@ def classes(folder, columns):
 
 def turns(folder, games):
     """Draws both gaps together by turns of play; `games` are titles with value and gaps by turns."""
-    rows = [[title, n, *(decimal(x, 12) for x in numbers)] for title, found in games for n, numbers in found.items()]
-    write_rows(os.path.join(folder, "gaps_by_turns.csv"), ["game", "turns", "value", "gap1", "gap2"], rows)
+    rows = [[title, n, *numbers, decimal(sum(numbers[1:]), 12)] for title, found in games for n, numbers in found.items()]
+    write_rows(os.path.join(folder, "gaps_by_turns.csv"), ["game", "turns", "value", "gap1", "gap2", "both_gaps"], rows)
     script = 'set logscale xy\nset format x "%.0f"\nset format y "%g"\nset xlabel "turns of play"\nset ylabel "gap 1 + gap 2, chips"\nset key bottom left\n'
-    parts = ("\"< grep '^%s,' gaps_by_turns.csv\" using 2:($4+$5) title \"%s\"" % (title, title) for title, _ in games)
+    parts = ("\"< grep '^%s,' gaps_by_turns.csv\" using 2:6 title \"%s\"" % (title, title) for title, _ in games)
     draw(folder, "gaps_by_turns", (800, 520), script + "plot " + ", ".join(parts) + "\n")

@@ -23,15 +23,19 @@ class Optimum:
     seconds: float
 
 
+MEMORY = 8 * 2**30
+
+
 class Failure(Exception):
     """Why a solver gave no optimum, in one line."""
 
 
 def run_solver(folder, words, seconds):
-    """Runs a solver of at most so many processor seconds; returns what it printed and the seconds that it took."""
+    """Runs a solver of at most so many processor seconds and 8 GiB; returns what it printed and the seconds that it took."""
 
     def limit():
         resource.setrlimit(resource.RLIMIT_CPU, (seconds, seconds))
+        resource.setrlimit(resource.RLIMIT_AS, (MEMORY, MEMORY))
 
     before = resource.getrusage(resource.RUSAGE_CHILDREN)
     done = subprocess.run(words, cwd=folder, stdout=subprocess.PIPE, stderr=subprocess.STDOUT, preexec_fn=limit, check=False)

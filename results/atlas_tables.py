@@ -9,7 +9,7 @@ from dataclasses import dataclass
 from fractions import Fraction
 
 import atlas_pictures
-from atlas_claims import claims
+from atlas_claims import claims, grouped
 from atlas_games import KUHN, LEDUC, NUMBERS, PLAYED, RANKS, RHODE, ROUNDS, SUITS, name_of
 from program import TOP
 from texts import decimal, listed, number, small, table
@@ -19,8 +19,8 @@ DIGITS, LONGEST = 12, 1500
 NAMES = {"kuhn": "Kuhn", "leduc": "Leduc", "rhode": "Rhode Island"}
 STORED = [("kuhn", 3, 1, 1), ("kuhn", 13, 4, 2)]
 STORED += [("leduc", *deck) for deck in [(3, 2, 1), (3, 2, 2), (3, 2, 3), (3, 2, 4), (3, 3, 1), (3, 3, 2), (3, 4, 2), (4, 2, 2), (5, 1, 2), (5, 2, 2), (5, 4, 2)]]
-STORED += [("leduc", *deck) for deck in [(6, 2, 2), (8, 2, 2), (10, 2, 2), (13, 1, 1), (13, 2, 1), (13, 2, 2), (13, 4, 1)]]
-STORED += [("rhode", *deck) for deck in [(2, 3, 1), (3, 2, 1), (3, 4, 1), (4, 2, 1), (4, 4, 1), (5, 4, 1)]]
+STORED += [("leduc", *deck) for deck in [(6, 2, 2), (8, 2, 2), (10, 2, 2), (13, 1, 1), (13, 2, 1), (13, 2, 2), (13, 4, 1), (13, 4, 2), (13, 4, 4)]]
+STORED += [("rhode", *deck) for deck in [(2, 3, 1), (2, 4, 2), (3, 2, 1), (3, 4, 1), (3, 4, 2), (4, 2, 1), (4, 4, 1), (5, 4, 1), (6, 4, 1)]]
 
 
 @dataclass
@@ -61,7 +61,7 @@ def rows_of(cache, decks):
         if record and "sha256" in record and "failed" not in record:
             rows[deck] = Row(deck, record, *(Fraction(record[key]) for key in NUMBERS))
         else:
-            others.append((deck, record or {"failed": "not tried in this run"}))
+            others.append((deck, record or {"failed": "not tried"}))
     return rows, others
 
 
@@ -94,7 +94,7 @@ def csv_row(cache, deck, row, record):
 
 
 def write_csv(cache, decks, rows):
-    whole = [csv_row(cache, deck, rows.get(deck), cache.record(name_of(deck)) or {"failed": "not tried in this run"}) for deck in decks]
+    whole = [csv_row(cache, deck, rows.get(deck), cache.record(name_of(deck)) or {"failed": "not tried"}) for deck in decks]
     atlas_pictures.write_rows(os.path.join(FOLDER, "games.csv"), HEAD, whole)
 
 
@@ -105,10 +105,20 @@ def write_classes(cache):
     for kind in ROUNDS:
         for ranks in RANKS:
             for suits in SUITS:
-                record = cache.record("classes_" + name_of((kind, ranks, suits, 1))) or {"failed": "not tried in this run"}
+                record = cache.record("classes_" + name_of((kind, ranks, suits, 1))) or {"failed": "not tried"}
                 sizes = [spaced(record.get(key, [])) for key in ("signals", "isomorphic", "classes")]
                 whole.append([kind, ranks, suits, record.get("deals", ""), *sizes, record.get("refused") or record.get("failed") or ""])
     atlas_pictures.write_rows(os.path.join(FOLDER, "classes.csv"), head, whole)
+
+
+def write_losses(cache):
+    """Writes value and gaps on raw cards of plans over the isomorphism classes."""
+    whole = []
+    for deck in LEDUC + RHODE:
+        record = cache.record("isomorphic_" + name_of(deck)) or {}
+        if "gap1" in record:
+            whole.append([*deck, *(record[key] for key in NUMBERS), record["sha256"]])
+    atlas_pictures.write_rows(os.path.join(FOLDER, "isomorphism.csv"), ["kind", "ranks", "suits", "cap", *NUMBERS, "sha256"], whole)
 
 
 # ---- stored strategies
@@ -156,7 +166,7 @@ def write_pictures(cache, rows):
     lossy = [("leduc", 2, 2), ("leduc", 4, 2), ("rhode", 4, 1)]
     atlas_pictures.losses(FOLDER, [("%s, cap %d" % (title(*p[:2]), p[2]), lost_by_ranks(cache, *p)) for p in lossy])
     kinds = [("isomorphic", "by isomorphism"), ("classes", "lossless")]
-    columns = [("%s %s" % (title(*p), text), classes_by_signals(cache, *p, key)) for p in [("leduc", 4), ("rhode", 2), ("rhode", 4)] for key, text in kinds]
+    columns = [("%s, %s" % (title(*p), text), classes_by_signals(cache, *p, key)) for p in [("leduc", 4), ("rhode", 2), ("rhode", 4)] for key, text in kinds]
     atlas_pictures.classes(FOLDER, columns)
     games = [(deck, cache.record("play_" + name_of(deck)) or {}) for deck in PLAYED]
     found = [("%s %d/%d/%d" % (NAMES[deck[0]], *deck[1:]), record["turns"]) for deck, record in games if "turns" in record]
@@ -191,9 +201,9 @@ def of_kind(rows, kind):
 def failed_lines(others):
     """Returns the games without a bracket, by reason."""
     reasons = {}
-    for (kind, *deck), record in others:
-        reasons.setdefault(record.get("refused") or record.get("failed"), []).append("%s %s" % (NAMES[kind], "/".join(map(str, deck))))
-    return ["- `%s`: %s." % (reason, ", ".join(games)) for reason, games in reasons.items()]
+    for deck, record in others:
+        reasons.setdefault(record.get("refused") or record.get("failed"), []).append(deck)
+    return ["- `%s`: %s." % (reason, grouped(decks)) for reason, decks in reasons.items()]
 
 
 def stored_table(rows, sizes):
@@ -228,9 +238,9 @@ def run_lines(cache):
     for run in runs_of(cache):
         some = " of the records `%s*`" % run["only"] if run["only"] else ""
         if run["run"] == "worked":
-            what = "%d records made%s%s" % (run["told"], some, "" if run["whole"] else ", broken off")
+            what = "%d records made%s%s" % (run["records"], some, "" if run["whole"] else ", broken off")
         else:
-            what = "the strategies%s judged again, %s%s" % (some, "%d otherwise" % run["told"] if run["told"] else "none otherwise", "" if run["whole"] else ", broken off")
+            what = "%d records%s confirmed, %d otherwise%s" % (run["records"] - run["wrong"], some, run["wrong"], "" if run["whole"] else ", broken off")
         took = "%d s" % run["seconds"] if run["seconds"] < 600 else "%.1f hours" % (run["seconds"] / 3600)
         lines.append("| %s | %s | %d | `%s` | %s |" % (run["when"], took, run["processes"], run["program"][:16], what))
     return ["| begun, UTC | took | processes | program's sha256 | what |", "| --- | --- | --- | --- | --- |", *lines]
@@ -247,7 +257,7 @@ def head_lines(rows, kuhn):
     return [
         "# Atlas",
         "",
-        "What is a game worth, to ten digits, and which plans prove it? For whoever cites a value of Leduc, Rhode Island or Kuhn, or tests a solver by it.",
+        "What is a game worth, within 10^-9, and which plans prove it? For whoever cites a value of Leduc, Rhode Island or Kuhn, or tests a solver by it.",
         "",
         "The atlas has %d games: %d Leduc decks, %d Rhode Island decks and %d Kuhn decks, as `./gameshrink make` prints them." % (len(both), len(of_kind(rows, "leduc")), len(of_kind(rows, "rhode")), len(kuhn)),
         "Each has plans of both players whose value and gaps the program computed exactly. The widest bracket is %s." % small(widest.gap1 + widest.gap2),
@@ -326,6 +336,7 @@ def write(cache, judge):
     kuhn, left = rows_of(cache, KUHN)
     write_csv(cache, KUHN + LEDUC + RHODE, {**rows, **kuhn})
     write_classes(cache)
+    write_losses(cache)
     sizes = write_stored(cache, judge, {**rows, **kuhn})
     write_pictures(cache, rows)
     lines = head_lines(rows, kuhn) + ["## What it shows", "", "A deck is named by ranks, suits and cap.", "", *claims(rows, cache), ""]
