@@ -6,7 +6,8 @@
 The solver works on the game's linear program in sequence form: Clp (Debian package coinor-clp) in floating point, QSopt_ex (qsopt-ex) exactly
 and more slowly. Without --solver Clp is taken where it is installed. Its plans are rounded to whole numbers of total N, 2^36 by default; then
 `gameshrink judge` finds the value and both gaps of these, which are written into the file. So they are exact whatever the solver did, and
-`evaluate` confirms the file. With --classes raw each hand is a class by itself; the default are the coarsest lossless classes.
+`evaluate` confirms the file. With --classes raw each hand is a class by itself; the default are the coarsest lossless classes. FILE is
+./gameshrink of the working folder or of the repository.
 
 On standard error it says where the game's value lies by these gaps. Leduc takes Clp a fifth of a second of processor time, Rhode Island of 4
 ranks and 4 suits with one bet a round 10 s.
@@ -70,3 +71,5 @@ if __name__ == "__main__":
         sys.exit("near.py: %s: %s" % (fault.filename, fault.strerror))
     except UnicodeDecodeError:
         sys.exit("near.py: the game file is no UTF-8 text")
+    except AssertionError:
+        sys.exit("near.py: the solver ended without an optimal solution")

@@ -7,15 +7,15 @@ import subprocess
 import sys
 
 TOP = os.path.dirname(os.path.dirname(os.path.abspath(__file__)))
-USUAL = os.path.join(TOP, "gameshrink")
 
 
 class Program:
-    """The program at a path, by default ./gameshrink at the top of the repository."""
+    """The program at a path; by default ./gameshrink of the working folder, else of the repository."""
 
     def __init__(self, path=None):
-        self.path = os.path.abspath(path or USUAL)
-        if not os.access(self.path, os.X_OK):
+        usual = [os.path.join(folder, "gameshrink") for folder in (os.getcwd(), TOP)]
+        self.path = os.path.abspath(path or next(filter(os.path.exists, usual), usual[0]))
+        if not os.path.isfile(self.path) or not os.access(self.path, os.X_OK):
             sys.exit("there is no program %s" % self.path)
 
     def run(self, words, text=""):

@@ -7,7 +7,8 @@
 It is written from docs/FORMATS.md alone and shares no code with anything else here: it draws all physical cards, lists the deals, and lets each
 player look for the best answer with every raw hand. All numbers are whole or exact fractions. It does not ask whether classes are lossless, nor
 whether the strategy file's text is the one that the program would write. A certificate that does not hold is refused with status 1 and the
-line of `verify`. It takes some 10 s for each million pairs of a deal and an end: Leduc 0.3 s, Rhode Island of 3 ranks and 4 suits 10 s.
+line of `verify`. It takes some 4 s of processor time for each million pairs of a deal and an end: Leduc 0.1 s, Rhode Island of 3 ranks and 4
+suits 2.4 s.
 """
 
 import json
