@@ -1,4 +1,4 @@
-use Rattle.std.proofs.Common.{◌≡◌, ◌+◌, ◌<◌, ℕ, List, length, get_or, arith, ap, subst, sym, ◌∙◌, Some, Option, Vec, Global, IsPermutation, MatchOption}
+use Rattle.std.proofs.Common.{◌≡◌, ◌+◌, ◌<◌, ℕ, List, length, get_or, arith, ap, subst, sym, ◌∙◌, Some, Option, Vec, Global, IsPermutation, MatchOption, rules}
 use Rattle.gs_model.specs.Matching.{Edges, IsHall}
 use Rattle.gs_model.proofs.Graph.{hall_excludes}
 use Rattle.gs_match.specs.declared.search.Visit.{Visit}
@@ -60,3 +60,6 @@ returns-clause-matched c =
     perfect_from c.args.graph.now (rows c.in_ok-adjacent.adjacent.items) c.loop-root.holders.items c.in_ok-by_left.field-0.items c.in_ok-adjacent.ensures c.loop-root.invariant.wide (sym left_is ∙ c.if-graph.false ∙ right_is) m
     (c.in_ok-by_left.ensures.long ∙ ap length c.deref-2.ensures.value)
     (subst (λ (hs : List (Option ℕ)). (b a : ℕ) → holder hs b ≡ Some a → get_or c.in_ok-by_left.field-0.items a 0 ≡ b) c.deref-2.ensures.value c.in_ok-by_left.ensures.each)
+
+pub returns-then-graph-clause-refused : goal.returns-then-graph-clause-refused
+returns-then-graph-clause-refused c = search rules
