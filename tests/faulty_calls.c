@@ -1,7 +1,7 @@
 /* Stands before the C library's `read` and `write` of the descriptors 0, 1 and 2 and lets chosen calls go wrong. `tests/ends` builds and preloads it.
 
    The page that the script shares names a descriptor, the number of the first call that goes wrong, whether all later ones do too, and how: an errno,
-   0 (nothing is read or taken), or -1 (one byte alone is passed on). It counts the calls. */
+   0 (nothing is read or taken), or -1 (one byte alone is passed on). It counts the calls, and the bytes that passed. */
 
 #include <errno.h>
 #include <fcntl.h>
@@ -12,7 +12,7 @@
 #include <unistd.h>
 
 struct page {
-  uint64_t calls[3], descriptor, first, all_later;
+  uint64_t calls[3], bytes[3], descriptor, first, all_later;
   int64_t how;
   uint64_t faulted;
 };
@@ -48,7 +48,9 @@ static ssize_t passed_on(long call, int descriptor, void *bytes, size_t count) {
     if (page->how == 0 || count == 0) return 0;
     count = 1;
   }
-  return syscall(call, descriptor, bytes, count);
+  ssize_t passed = syscall(call, descriptor, bytes, count);
+  if (page && passed > 0 && descriptor >= 0 && descriptor <= 2) page->bytes[descriptor] += (uint64_t)passed;
+  return passed;
 }
 
 ssize_t read(int descriptor, void *bytes, size_t count) { return passed_on(SYS_read, descriptor, bytes, count); }
