@@ -57,7 +57,8 @@ def ranges(rows):
     ):
         chosen = of(rows, kind, test)
         if chosen:
-            yield "%s is worth from %s to %s chips a deal, rounded outwards." % (text, ends(chosen)[0], ends(chosen)[2]), "%d rows; the ends are %s and %s" % (len(chosen), ends(chosen)[1], ends(chosen)[3])
+            least, a, most, b = ends(chosen)
+            yield "%s is worth from %s to %s chips a deal, rounded outwards." % (text, least, most), "%d rows; the ends are %s and %s" % (len(chosen), a, b)
 
 
 def change(rows, kind, at, now):
@@ -78,8 +79,10 @@ def changes(rows, kind, at, name, steps):
         decks, fall, rise, same, most, size = change(rows, kind, at, now)
         if decks:
             left = len(decks) - len(fall) - len(rise)
-            text = "From %s the value of %s falls in %d of %d decks of three or more ranks and rises in %d" % (name % (now - 1, now), NAMES[kind], len(fall), len(decks), len(rise))
-            text += "; in %d the brackets meet%s." % (left, ", and the exact values are equal in %d of them" % len(same) if same else "") if left else "."
+            text = "From %s the value of %s falls in %d of %d decks of three or more ranks and rises in %d"
+            text %= name % (now - 1, now), NAMES[kind], len(fall), len(decks), len(rise)
+            equal = ", and the exact values are equal in %d of them" % len(same) if same else ""
+            text += "; in %d the brackets meet%s." % (left, equal) if left else "."
             yield text, "the largest change, %s chips, has %s" % (decimal(size[most], 4), named(most))
 
 
@@ -107,7 +110,8 @@ def ranks(rows):
             mixed += [(suit, cap)] if fall and rise else []
     if whole:
         others = ", ".join("%d suit%s with cap %d" % (suit, "s" * (suit > 1), cap) for suit, cap in whole if (suit, cap) not in mixed)
-        yield "With the ranks the value of Leduc moves both ways for %d of %d pairs of suits and cap." % (len(mixed), len(whole)), "all but %s" % others if others else "Leduc's rows of three or more ranks"
+        text = "With the ranks the value of Leduc moves both ways for %d of %d pairs of suits and cap."
+        yield text % (len(mixed), len(whole)), "all but %s" % others if others else "Leduc's rows of three or more ranks"
     late = of(rows, "leduc", lambda r, s, c: r >= 8 and s >= 2)
     if late:
         least, a, most, b = ends(late)

@@ -54,9 +54,13 @@ class Judge(Program):
         return file["game"], file["classes"]
 
     def checksum(self):
-        """Returns the checksum of the program's file."""
+        """Returns the checksum of the program's file; of the one that ./gameshrink runs, where that is a script."""
         with open(self.path, "rb") as file:
-            return hashlib.sha256(file.read()).hexdigest()
+            whole = file.read()
+        if whole.startswith(b"#!"):
+            with open(os.path.join(os.path.dirname(self.path), "crates", "shrink_cli", "out", "shrink_cli"), "rb") as file:
+                whole = file.read()
+        return hashlib.sha256(whole).hexdigest()
 
 
 def name_of(deck):
@@ -267,7 +271,8 @@ def jobs():
     decks = [(kind, ranks, suits, 1) for kind in ROUNDS for ranks in RANKS for suits in SUITS]
     lossy = [deck for deck in LEDUC + RHODE if deck[0] == "leduc" or deck[3] == 1]
     small = [deck for deck in LEDUC + RHODE if deck[1] <= 5 and deck[3] <= 2]
-    work = [("classes_", classed, decks), ("", solved, KUHN + LEDUC + RHODE), ("solve_", own_solution, KUHN + small), ("isomorphic_", lost, lossy), ("play_", played, PLAYED)]
+    work = [("classes_", classed, decks), ("", solved, KUHN + LEDUC + RHODE), ("solve_", own_solution, KUHN + small)]
+    work += [("isomorphic_", lost, lossy), ("play_", played, PLAYED)]
     named = [(prefix + name_of(deck), make, deck) for prefix, make, decks in work for deck in decks]
     return sorted(named, key=lambda job: size(job[2]))
 

@@ -1,6 +1,5 @@
 """docs/ATLAS.md and docs/atlas/: the tables of the atlas, its CSV, its stored strategies and its pictures, from the records of the cache."""
 
-import csv
 import gzip
 import json
 import math
@@ -9,14 +8,13 @@ from dataclasses import dataclass
 from fractions import Fraction
 
 import atlas_pictures
-from atlas_claims import claims, grouped
+from atlas_claims import NAMES, claims, grouped
 from atlas_games import KUHN, LEDUC, NUMBERS, PLAYED, RANKS, RHODE, ROUNDS, SUITS, name_of
 from program import TOP
 from texts import decimal, listed, number, small, table
 
 FOLDER = os.path.join(TOP, "docs", "atlas")
 DIGITS, LONGEST = 12, 1500
-NAMES = {"kuhn": "Kuhn", "leduc": "Leduc", "rhode": "Rhode Island"}
 STORED = [("kuhn", 3, 1, 1), ("kuhn", 13, 4, 2)]
 STORED += [("leduc", *deck) for deck in [(3, 2, 1), (3, 2, 2), (3, 2, 3), (3, 2, 4), (3, 3, 1), (3, 3, 2), (3, 4, 2), (4, 2, 2), (5, 1, 2), (5, 2, 2), (5, 4, 2)]]
 STORED += [("leduc", *deck) for deck in [(6, 2, 2), (8, 2, 2), (10, 2, 2), (13, 1, 1), (13, 2, 1), (13, 2, 2), (13, 4, 1), (13, 4, 2), (13, 4, 4)]]
@@ -158,11 +156,13 @@ def classes_by_signals(cache, kind, suits, key):
     return {record["signals"][-1]: record[key][-1] for record in records if key in record}
 
 
+def title(kind, suits):
+    return "%s, %d suit%s" % (NAMES[kind], suits, "s" * (suits > 1))
+
+
 def write_pictures(cache, rows):
     panels = [("leduc", suits) for suits in (1, 2, 4)] + [("rhode", 4)]
-    title = lambda kind, suits: "%s, %d suit%s" % (NAMES[kind], suits, "s" * (suits > 1))  # noqa: E731
-    caps = lambda kind: (1, 2, 3, 4) if kind == "leduc" else (1, 2, 3)  # noqa: E731
-    atlas_pictures.values(FOLDER, [(title(*p), [("cap %d" % cap, by_ranks(rows, *p, cap)) for cap in caps(p[0]) if by_ranks(rows, *p, cap)]) for p in panels])
+    atlas_pictures.values(FOLDER, [(title(*p), [("cap %d" % cap, by_ranks(rows, *p, cap)) for cap in range(1, 5)]) for p in panels])
     lossy = [("leduc", 2, 2), ("leduc", 4, 2), ("rhode", 4, 1)]
     atlas_pictures.losses(FOLDER, [("%s, cap %d" % (title(*p[:2]), p[2]), lost_by_ranks(cache, *p)) for p in lossy])
     kinds = [("isomorphic", "by isomorphism"), ("classes", "lossless")]
@@ -190,7 +190,8 @@ def game_table(rows):
         record = row.record
         sequences = number(record["sequences"][0]) if len(set(record["sequences"])) == 1 else listed(record["sequences"])
         gaps = [small(row.gap1), small(row.gap2)]
-        cells.append([*deck, listed(record["classes"]), sequences, row.lower(), row.upper(), row.agreed(), *gaps, exact_text(row), " + ".join("%.1f" % s for s in record["seconds"])])
+        seconds = " + ".join("%.1f" % s for s in record["seconds"])
+        cells.append([*deck, listed(record["classes"]), sequences, row.lower(), row.upper(), row.agreed(), *gaps, exact_text(row), seconds])
     return table(head, cells)
 
 
@@ -240,7 +241,8 @@ def run_lines(cache):
         if run["run"] == "worked":
             what = "%d records made%s%s" % (run["records"], some, "" if run["whole"] else ", broken off")
         else:
-            what = "%d records%s confirmed, %d otherwise%s" % (run["records"] - run["wrong"], some, run["wrong"], "" if run["whole"] else ", broken off")
+            numbers = run["records"] - run["wrong"], some, run["wrong"]
+            what = "%d records%s confirmed, %d otherwise" % numbers + ("" if run["whole"] else ", broken off")
         took = "%d s" % run["seconds"] if run["seconds"] < 600 else "%.1f hours" % (run["seconds"] / 3600)
         lines.append("| %s | %s | %d | `%s` | %s |" % (run["when"], took, run["processes"], run["program"][:16], what))
     return ["| begun, UTC | took | processes | program's sha256 | what |", "| --- | --- | --- | --- | --- |", *lines]
@@ -263,14 +265,20 @@ def head_lines(rows, kuhn):
         "Each has plans of both players whose value and gaps the program computed exactly. The widest bracket is %s." % small(widest.gap1 + widest.gap2),
         "For %d games QSopt_ex, an exact solver, gives the value as a fraction too; each lies in its bracket. In %d games both gaps are 0, so the program alone proves the fraction." % (named, sum(row.is_exact() for row in both.values())),
         "",
+        "The value is what player 1, who acts first, gets on average a deal, in chips. The ante is 1 in Kuhn and Leduc and 5 in Rhode Island. A deck is named by ranks, suits and cap: "
+        "Leduc 3/2/2 has three ranks and two suits, and at most one bet and one raise a round.",
+        "",
         "**How a row is made.** Clp solves the linear program of the game in sequence form over the coarsest lossless classes. QSopt_ex begins at Clp's basis and solves it exactly. "
-        "The plans are rounded to whole numbers of total 2^36, or kept where a smaller total has them. `judge` computes value and gaps on raw cards, and `evaluate` confirms the file. "
-        "So no number of the bracket rests on a solver: the value lies between the plans' value less gap 2 and their value plus gap 1.",
+        "The plans are rounded to whole numbers of total 2^36, or kept where a total of 2^36 or less has them. `judge` computes value and gaps on raw cards, and `evaluate` confirms the file. "
+        "Where a game has too many pairs of raw signals for `judge`, `evaluate` alone does both. "
+        "So no number of the bracket rests on a solver: the value lies between the plans' value less gap 2 and their value plus gap 1. The exact fractions rest on QSopt_ex where a gap is not 0.",
         "",
-        "**How to check a row.** A [stored strategy](#stored-strategies) needs the program alone. Any row is made again by `results/atlas CACHE`, and all strategies of a run are judged again by `results/atlas CACHE --confirm`.",
+        "**How to check a row.** A [stored strategy](#stored-strategies) needs the program alone. `results/atlas CACHE` makes any row again, and `results/atlas CACHE --confirm` has the program judge all strategies of a run again. "
+        "`tools/recheck.py` computes value and gaps a second time, without the program.",
         "",
-        "**Columns.** Classes are the coarsest lossless ones, round by round. Sequences count the empty one; both players have as many. Bounds are rounded outwards. "
-        "\"agreed\" is the value with as many digits, 12 at most, as both bounds have when they are rounded. Gaps are rounded up. Seconds are processor seconds of Clp and of QSopt_ex.",
+        "**Columns.** Classes are the coarsest lossless ones, round by round. Sequences count the empty one; both players have as many. Bounds are rounded outwards and gaps up. "
+        "\"agreed\" is the value with as many digits, 12 at most, as both bounds have when they are rounded to the nearest. Exact values of more than 40 characters stand in the CSV alone. "
+        "Seconds are processor seconds of Clp and of QSopt_ex.",
         "",
         "**CSV.** [games.csv](atlas/games.csv) has every game with its numbers as fractions, what `solve` finds, and the checksum of its strategy; its bounds are decimals rounded outwards. "
         "[classes.csv](atlas/classes.csv) has the class counts of all decks of 2 to 13 ranks and 1 to 4 suits.",
@@ -339,7 +347,7 @@ def write(cache, judge):
     write_losses(cache)
     sizes = write_stored(cache, judge, {**rows, **kuhn})
     write_pictures(cache, rows)
-    lines = head_lines(rows, kuhn) + ["## What it shows", "", "A deck is named by ranks, suits and cap.", "", *claims(rows, cache), ""]
+    lines = head_lines(rows, kuhn) + ["## What it shows", "", *claims(rows, cache), ""]
     for kind in ("leduc", "rhode"):
         lines += ["## %s" % NAMES[kind], "", *game_table(of_kind(rows, kind)), ""]
     lines += lost_lines(cache) + picture_lines() + stored_lines({**rows, **kuhn}, sizes)
