@@ -1,2 +1,3 @@
 pub mod Decks
 pub mod Puts
+pub mod Kuhn

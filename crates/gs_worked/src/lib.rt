@@ -3,7 +3,7 @@
 //! The crate runs nothing: a function here is a law, and its contract names the values.
 #![tactic(auto)]
 
-ghost use Rattle.gs_worked.specs.{Decks.{OneRank, TwoSuits}, Puts.{PutsAreChips}};
+ghost use Rattle.gs_worked.specs.{Decks.{OneRank, TwoSuits}, Kuhn.{KuhnPlay, KuhnVerdict}, Puts.{PutsAreChips}};
 
 /// Kuhn poker with two suits: two hands of one rank are of one class, and hands of two ranks are not.
 pub fn two_suits()
@@ -18,4 +18,14 @@ pub fn one_rank()
 /// The put of each end is the ante and the chips of the moves on the way to it.
 pub fn puts_are_chips()
     ensures { PutsAreChips }
+{}
+
+/// Kuhn poker's plans after one turn of fictitious play.
+pub fn kuhn_play()
+    ensures { KuhnPlay }
+{}
+
+/// Kuhn poker after one turn of play: the value is 1/12, and the players could still gain 13/12 and 7/6.
+pub fn kuhn_verdict()
+    ensures { KuhnVerdict }
 {}
