@@ -1,4 +1,5 @@
-//! Worked values of the definitions: two decks whose classes are known by hand, as laws, and values of cards and of Kuhn's game, in `proofs/`.
+//! Worked values of the definitions, as laws: two decks whose classes are known by hand, Kuhn's game after one turn of play, and what ends put. More
+//! values of cards and of Kuhn's game stand in `proofs/`.
 //!
 //! The crate runs nothing: a function here is a law, and its contract names the values.
 #![tactic(auto)]
