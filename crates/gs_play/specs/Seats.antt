@@ -1,9 +1,9 @@
 -- What a player holds while the turns go on. Of private functions.
-use Rattle.std.specs.Prelude.{ℕ, ◌-◌, ◌≤◌, ◌≡◌, IsTrue, List, length}
+use Rattle.std.specs.Prelude.{ℕ, ◌-◌, ◌≤◌, ◌≡◌, IsTrue, false, List, length}
 use Rattle.gs_model.specs.Classes.{ClassLists}
 use Rattle.gs_model.specs.Frame.{Frame, point_count}
 use Rattle.gs_model.specs.Plans.{Plan as ModelPlan}
-use Rattle.gs_model.specs.Play.{IsFictitiousPlay}
+use Rattle.gs_model.specs.Play.{IsFictitiousPlay, IsFirstMoves}
 use Rattle.gs_seq.specs.Plans.{IsPlanOf, class_plan}
 use Rattle.gs_seq.specs.Slots.{slot_count}
 use Rattle.gs_best.specs.Puts.{ArePutBefore}
@@ -22,7 +22,14 @@ pub record HasRoom (f : Frame) (lists : ClassLists) (player : ℕ) (s : Seat) : 
   pub rows : HasRows f lists s.totals
   pub picks : start_of f lists (point_count f) ≤ length s.picks.items
 
--- and what ends pay the player against the other's plan y
+-- what a player holds before the first turn: the plan takes the first move everywhere, and nothing of it is answered
+pub record IsAtStart (f : Frame) (lists : ClassLists) (player : ℕ) (s : Seat) : Type 0 where
+  pub room : HasRoom f lists player s
+  pub plan : IsPlanOf f lists player s.plan
+  pub first : IsFirstMoves f lists player (class_plan f lists s.plan)
+  pub unanswered : s.is_answered ≡ false
+
+-- room, and what ends pay a player against the other's plan y
 pub record IsSeat (f : Frame) (lists : ClassLists) (player : ℕ) (y : ModelPlan) (s : Seat) : Type 0 where
   pub room : HasRoom f lists player s
   pub paid : AreEndSums f lists player y s.totals.ends.items

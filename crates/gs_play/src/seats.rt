@@ -1,14 +1,14 @@
 //! What each player holds while the turns go on.
 
 ghost use Rattle.std.specs.Prelude.{◌≡◌, ◌↔◌, IsTrue, false, ◌+◌, ◌<◌, ◌≤◌, ◌^◌, IfOk, length};
-ghost use Rattle.gs_model.specs.{Frame.{other_player, point_count}, Play.{IsFirstMoves}};
+ghost use Rattle.gs_model.specs.Frame.{other_player, point_count};
 ghost use Rattle.gs_seq.specs.{Abstracts.{frame_of, lists_of}, Plans.{IsPlanOf, class_plan}, Slots.{plan_of, slot_count}};
 ghost use Rattle.gs_best.specs.{Puts.{ArePutBefore}, Tables.{AreInMoves, start_of}};
 ghost use Rattle.gs_totals.specs.{ClassTotals.{AreBestTotals}, PlanSums.{AreAlike, plus_times}};
 ghost use Rattle.gs_totals.specs.Places.{AreEndLines, AreEndSums, ArePointLines, AreSmallPoints, AreSmallRows};
 ghost use Rattle.gs_totals.specs.Room.{HasRows, HasScratch};
 ghost use Rattle.gs_totals.specs.Roles.{ArePaid, IsOthers, frame_in, lists_in, moves_in, plan_in, totals_in};
-ghost use Rattle.gs_play.specs.{Seats.{HasAnswered, HasRises, HasRoom, IsSeat}, Staying.{AnswerStays, ChoicesStay}};
+ghost use Rattle.gs_play.specs.{Seats.{HasAnswered, HasRises, HasRoom, IsAtStart, IsSeat}, Staying.{AnswerStays, ChoicesStay}};
 
 use crate::adding::add_times;
 use gs_best::round_total;
@@ -37,10 +37,7 @@ pub(crate) struct Seat {
 pub(crate) fn seat_of(alloc: Global, form: &Abstract, player: u8) -> Result<Seat, AllocError>
     requires some { 0 < player }
     requires two { player ≤ 2 }
-    ensures room { IfOk result (HasRoom (frame_of form.now) (lists_of form.now) player) }
-    ensures plan { IfOk result (λ s. IsPlanOf (frame_of form.now) (lists_of form.now) player s.plan) }
-    ensures first { IfOk result (λ s. IsFirstMoves (frame_of form.now) (lists_of form.now) player (class_plan (frame_of form.now) (lists_of form.now) s.plan)) }
-    ensures open { IfOk result (λ s. s.is_answered ≡ false) }
+    ensures { IfOk result (IsAtStart (frame_of form.now) (lists_of form.now) player) }
 {
     let plan = form.first_plan(alloc, player)?;
     let answer = form.first_plan(alloc, player)?;

@@ -1,4 +1,4 @@
-use Rattle.std.proofs.Common.{◌≡◌, ℕ, ◌+◌, ◌*◌, ◌<◌, List, length, slice_index, sym, ap, subst, arith}
+use Rattle.std.proofs.Common.{◌≡◌, ℕ, ◌+◌, ◌*◌, ◌<◌, List, length, slice_index, sym, ap, subst, arith, rules}
 use Rattle.std.proofs.Math.Nat.{mul-le-mul_left}
 use Rattle.std.specs.Vec.{with_items}
 use Rattle.std.proofs.lemmas.List.{with_items_is}
@@ -48,3 +48,6 @@ returns-clause-sum c =
     subst (λ n. AreAlike f lists c.args.player (plan_of f lists (sum.total + n) (with_items sum.weights new).items) (plus_times (plan_of f lists sum.total sum.weights.items) times (plan_of f lists more.total more.weights.items))) (sym t)
     (subst (λ (zs : List ℕ). AreAlike f lists c.args.player (plan_of f lists (sum.total + times) zs) (plus_times (plan_of f lists sum.total sum.weights.items) times (plan_of f lists more.total more.weights.items))) (sym same)
     (added_alike f (form_in_range c.args.form.now) lists k c.args.player w sum.total more.total times sum.weights.items more.weights.items new c.requires.one c.requires.sum.plan.long added))
+
+pub returns-clause-total : goal.returns-clause-total
+returns-clause-total c = search rules
