@@ -18,3 +18,4 @@ mod Dealing
 mod OneDuel
 pub mod Answering
 pub mod RawSequences
+mod Rules

@@ -2,3 +2,4 @@ pub mod Lawful
 pub mod Confirming
 pub mod Answers
 pub mod RawGames
+pub mod Rules
