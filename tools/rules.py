@@ -61,12 +61,14 @@ def read_rules(lines):
 
 def look_over(rules, game):
     """Refuses a rule or a row that no point and hand fits."""
+    hands = [set(texts) for texts in game.texts]
+    by_line = {point.line: [point] for point in game.points}
     for rule in rules:
         row = min(rule.rows.values())
         player, line, hand = rule.patterns
-        points = [point for point in game.points if line.fullmatch(point.line)]
+        points = by_line.get(rule.key[1], []) if rule.is_exact else [point for point in game.points if line.fullmatch(point.line)]
         mine = [point for point in points if player.fullmatch(str(point.player))]
-        met = [point for point in mine if any(map(hand.fullmatch, game.texts[point.round]))]
+        met = [point for point in mine if rule.key[2] in hands[point.round] or any(map(hand.fullmatch, hands[point.round]))]
         if not points:
             raise Refusal("row %d: nobody acts at the line %s" % (row, rule.key[1]))
         if not mine:
