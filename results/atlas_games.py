@@ -28,7 +28,7 @@ TURNS = sorted({n * 10**k for n in (1, 2, 3, 5, 7) for k in range(6)} | {10**6})
 WIDEST = Fraction(1, 10**9)
 NUMBERS = ["value", "gap1", "gap2"]
 ROUNDS = {"kuhn": 1, "leduc": 2, "rhode": 3}
-SOLVE_SECONDS = 60
+SOLVE_SECONDS, TRIES = 60, 12
 
 
 class Refused(Exception):
@@ -122,11 +122,11 @@ def is_plan(form, player, weights):
     return min(weights) >= 0 and all(sum(factor * weights[at] for at, factor in row.items()) == (number == 0) for number, row in enumerate(rows))
 
 
-def plans_of(form, found):
+def plans_of(form, found, total=LARGEST_TOTAL):
     """Returns both players' weights behind their totals. An exact plan stays as it is where a total of 2^36 or less has it; else it is rounded
-    to total 2^36, from its first 80 binary digits."""
+    to the total given, from its first 80 binary digits."""
     short = ({name: Fraction(round(x * 2**80), 2**80) for name, x in numbers.items()} for numbers in (found.columns, found.prices))
-    plans = form.rounded_plans(*short, LARGEST_TOTAL)
+    plans = form.rounded_plans(*short, total)
     for player, (names, numbers) in enumerate((("x%d", found.columns), ("y%d", found.prices)), 1):
         weights = [abs(numbers.get(names % slot, Fraction(0))) for slot in range(len(form.slots[player]) + 1)]
         least = least_total(weights)
@@ -174,6 +174,18 @@ def numbers_of(text):
     return [Fraction(file[key]) for key in NUMBERS]
 
 
+def narrow(judge, form, found):
+    """Returns the strategy file of an optimum, rounded to total 2^36; where its bracket is too wide, the best of several totals just below."""
+    best = None
+    for total in range(LARGEST_TOTAL, LARGEST_TOTAL - TRIES, -1):
+        text = judged(judge, form, plans_of(form, found, total))
+        width = sum(numbers_of(text)[1:])
+        best = (width, text) if best is None or width < best[0] else best
+        if width < WIDEST:
+            break
+    return best[1]
+
+
 def kept(cache, name, text):
     """Keeps a strategy file; returns what its record says of it."""
     cache.keep_strategy(name, text)
@@ -211,7 +223,7 @@ def solved(judge, deck, cache, seconds):
         record["exact"] = str(-exact.aim / form.weight)
         record["solvers"].append(solvers.exact_name())
         record["seconds"].append(round(exact.seconds, 2))
-    text = judged(judge, form, plans_of(form, near if isinstance(exact, str) else exact))
+    text = narrow(judge, form, near if isinstance(exact, str) else exact)
     record.update(kept(cache, name_of(deck), text))
     fault = fault_of(judge, deck, record, text)
     return {**record, "failed": fault} if fault else record
