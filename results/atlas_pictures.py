@@ -1,10 +1,9 @@
 """The pictures of the atlas, as SVG by gnuplot, each with its data beside it as CSV."""
 
-import csv
 import os
 import subprocess
 
-from texts import decimal
+from texts import decimal, write_csv
 
 HEAD = """set terminal svg size %d,%d font "sans,13" background "white"
 set datafile separator ","
@@ -12,13 +11,6 @@ set grid
 set style data linespoints
 set pointsize 0.5
 """
-
-
-def write_rows(path, head, rows):
-    with open(path, "w", encoding="ascii", newline="") as file:
-        out = csv.writer(file, lineterminator="\n")
-        out.writerow(head)
-        out.writerows(rows)
 
 
 def with_data(panels):
@@ -44,7 +36,7 @@ def table_of(folder, name, first, columns):
     """Writes NAME.csv: a column of numbers, and columns of which each is a title and a number or nothing for each of them."""
     keys = sorted({key for _, found in columns for key in found})
     rows = [[key, *(shown(found[key]) if key in found else "" for _, found in columns)] for key in keys]
-    write_rows(os.path.join(folder, name + ".csv"), [first, *(title for title, _ in columns)], rows)
+    write_csv(os.path.join(folder, name + ".csv"), [first, *(title for title, _ in columns)], rows)
 
 
 def lines(name, first, columns):
@@ -86,7 +78,7 @@ def classes(folder, columns):
 def turns(folder, games):
     """Draws both gaps together by turns of play; `games` are titles with value and gaps by turns."""
     rows = [[title, n, *numbers, decimal(sum(numbers[1:]), 12)] for title, found in games for n, numbers in found.items()]
-    write_rows(os.path.join(folder, "gaps_by_turns.csv"), ["game", "turns", "value", "gap1", "gap2", "both_gaps"], rows)
+    write_csv(os.path.join(folder, "gaps_by_turns.csv"), ["game", "turns", "value", "gap1", "gap2", "both_gaps"], rows)
     script = 'set logscale xy\nset format x "%.0f"\nset format y "%g"\nset xlabel "turns of play"\nset ylabel "gap 1 + gap 2, chips"\nset key bottom left\n'
     parts = ("\"< grep '^%s,' gaps_by_turns.csv\" using 2:6 title \"%s\"" % (title, title) for title, _ in games)
     draw(folder, "gaps_by_turns", (800, 520), script + "plot " + ", ".join(parts) + "\n")

@@ -2,7 +2,6 @@
 
 import gzip
 import json
-import math
 import os
 from dataclasses import dataclass
 from fractions import Fraction
@@ -11,7 +10,7 @@ import atlas_pictures
 from atlas_claims import NAMES, claims, grouped
 from atlas_games import KUHN, LEDUC, NUMBERS, PLAYED, RANKS, RHODE, ROUNDS, SUITS, name_of
 from program import TOP
-from texts import decimal, listed, number, small, table
+from texts import decimal, listed, number, outwards, small, table, write_csv
 
 FOLDER = os.path.join(TOP, "docs", "atlas")
 DIGITS, LONGEST = 12, 1500
@@ -32,10 +31,10 @@ class Row:
     gap2: Fraction
 
     def lower(self, digits=DIGITS):
-        return decimal(Fraction(math.floor((self.value - self.gap2) * 10**digits), 10**digits), digits)
+        return outwards(self.value - self.gap2, digits)[0]
 
     def upper(self, digits=DIGITS):
-        return decimal(Fraction(math.ceil((self.value + self.gap1) * 10**digits), 10**digits), digits)
+        return outwards(self.value + self.gap1, digits)[1]
 
     def agreed(self):
         """Returns the value with as many digits, 12 at most, as both bounds have when they are rounded to the nearest."""
@@ -91,22 +90,9 @@ def csv_row(cache, deck, row, record):
     return [*deck, *sizes, *(record[key] for key in NUMBERS), row.lower(), row.upper(), row.agreed(), exact, by, found, *kept]
 
 
-def write_csv(cache, decks, rows):
+def write_games(cache, decks, rows):
     whole = [csv_row(cache, deck, rows.get(deck), cache.record(name_of(deck)) or {"failed": "not tried"}) for deck in decks]
-    atlas_pictures.write_rows(os.path.join(FOLDER, "games.csv"), HEAD, whole)
-
-
-def write_classes(cache):
-    """Writes the class counts of all decks."""
-    head = ["kind", "ranks", "suits", "deals", "signals", "isomorphic_classes", "lossless_classes", "note"]
-    whole = []
-    for kind in ROUNDS:
-        for ranks in RANKS:
-            for suits in SUITS:
-                record = cache.record("classes_" + name_of((kind, ranks, suits, 1))) or {"failed": "not tried"}
-                sizes = [spaced(record.get(key, [])) for key in ("signals", "isomorphic", "classes")]
-                whole.append([kind, ranks, suits, record.get("deals", ""), *sizes, record.get("refused") or record.get("failed") or ""])
-    atlas_pictures.write_rows(os.path.join(FOLDER, "classes.csv"), head, whole)
+    write_csv(os.path.join(FOLDER, "games.csv"), HEAD, whole)
 
 
 def write_losses(cache):
@@ -116,7 +102,7 @@ def write_losses(cache):
         record = cache.record("isomorphic_" + name_of(deck)) or {}
         if "gap1" in record:
             whole.append([*deck, *(record[key] for key in NUMBERS), record["sha256"]])
-    atlas_pictures.write_rows(os.path.join(FOLDER, "isomorphism.csv"), ["kind", "ranks", "suits", "cap", *NUMBERS, "sha256"], whole)
+    write_csv(os.path.join(FOLDER, "isomorphism.csv"), ["kind", "ranks", "suits", "cap", *NUMBERS, "sha256"], whole)
 
 
 # ---- stored strategies
@@ -256,6 +242,7 @@ def head_lines(rows, kuhn):
     both = {**rows, **kuhn}
     widest = max(both.values(), key=lambda row: row.gap1 + row.gap2)
     named = sum("exact" in row.record for row in both.values())
+    proved = {deck: row for deck, row in both.items() if row.is_exact()}
     return [
         "# Atlas",
         "",
@@ -263,7 +250,8 @@ def head_lines(rows, kuhn):
         "",
         "The atlas has %d games: %d Leduc decks, %d Rhode Island decks and %d Kuhn decks, as `./gameshrink make` prints them." % (len(both), len(of_kind(rows, "leduc")), len(of_kind(rows, "rhode")), len(kuhn)),
         "Each has plans of both players whose value and gaps the program computed exactly. The widest bracket is %s." % small(widest.gap1 + widest.gap2),
-        "For %d games QSopt_ex, an exact solver, gives the value as a fraction too; each lies in its bracket. In %d games both gaps are 0, so the program alone proves the fraction." % (named, sum(row.is_exact() for row in both.values())),
+        "For %d games QSopt_ex, an exact solver, gives the value as a fraction too; each lies in its bracket." % named,
+        "In %d games both gaps are 0, so the program alone proves the fraction; among them are %d of Kuhn's %d." % (len(proved), len(of_kind(proved, "kuhn")), len(kuhn)),
         "",
         "The value is what player 1, who acts first, gets on average a deal, in chips. The ante is 1 in Kuhn and Leduc and 5 in Rhode Island. A deck is named by ranks, suits and cap: "
         "Leduc 3/2/2 has three ranks and two suits, and at most one bet and one raise a round.",
@@ -281,7 +269,7 @@ def head_lines(rows, kuhn):
         "Seconds are processor seconds of Clp and of QSopt_ex.",
         "",
         "**CSV.** [games.csv](atlas/games.csv) has every game with its numbers as fractions, what `solve` finds, and the checksum of its strategy; its bounds are decimals rounded outwards. "
-        "[classes.csv](atlas/classes.csv) has the class counts of all decks of 2 to 13 ranks and 1 to 4 suits.",
+        "[isomorphism.csv](atlas/isomorphism.csv) has what the isomorphism classes lose. The class counts of all decks stand in [results/csv/classes.csv](../results/csv/classes.csv).",
         "",
     ]
 
@@ -342,8 +330,7 @@ def write(cache, judge):
     os.makedirs(FOLDER, exist_ok=True)
     rows, others = rows_of(cache, LEDUC + RHODE)
     kuhn, left = rows_of(cache, KUHN)
-    write_csv(cache, KUHN + LEDUC + RHODE, {**rows, **kuhn})
-    write_classes(cache)
+    write_games(cache, KUHN + LEDUC + RHODE, {**rows, **kuhn})
     write_losses(cache)
     sizes = write_stored(cache, judge, {**rows, **kuhn})
     write_pictures(cache, rows)
