@@ -223,7 +223,7 @@ def run_lines(cache):
     """Returns what the runs did, when and how long."""
     lines = []
     for run in runs_of(cache):
-        some = " of the records `%s*`" % run["only"] if run["only"] else ""
+        some = " of `--only %s`" % run["only"] if run["only"] else ""
         if run["run"] == "worked":
             what = "%d records made%s%s" % (run["records"], some, "" if run["whole"] else ", broken off")
         else:
