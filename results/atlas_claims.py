@@ -42,6 +42,9 @@ def favoured(rows):
     yield "Player 2, who acts second, is favoured in %d of %d games: their upper bound is below 0." % (len(below), len(rows)), "all rows"
     yield "Player 1 is favoured in %s." % (grouped(above) or "none"), "all rows: the lower bound is above 0 in %s" % (len(above) or "none")
     yield "%d games are even: value and both gaps are exactly 0." % len(even), grouped(even)
+    left = [deck for deck in rows if deck not in even + below + above]
+    if left:
+        yield "In %d game%s the bracket has 0 in it and more." % (len(left), "s" * (len(left) > 1)), grouped(left)
 
 
 def of(rows, kind, test):
