@@ -550,7 +550,7 @@ def kinds_of(file):
     game = file["game"]
     trees = [it["tree"] for it in game["rounds"]]
     return [name for name, is_so in (
-        (f"of {len(trees)} rounds", True), ("with copies", any(it > "1" for it in game["copies"])), ("with bonuses", any(it > 1 for it in game.get("bonus", []))),
+        (f"of {len(trees)} round{'s' * (len(trees) > 1)}", True), ("with copies", any(it > "1" for it in game["copies"])), ("with bonuses", any(it > 1 for it in game.get("bonus", []))),
         ("with early ends", any("!" in it for it in trees[:-1])), ("of single signals", all(max(it) == len(it) for it in file["classes"]))) if is_so]
 
 

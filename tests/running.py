@@ -41,6 +41,10 @@ LINES = {
 }
 
 
+# seconds between two looks at a run that has not ended
+TICK = 10
+
+
 class Ended(NamedTuple):
     """How a run ended: a status below 0 is the signal that ended it."""
 
@@ -103,14 +107,18 @@ class Runner:
         return Ended(status, self.taken(1), self.taken(2), used.ru_utime + used.ru_stime, used.ru_maxrss)
 
     def wait(self, pid):
-        self.late = False
+        """Returns the status and the use of a run. The time is counted in ticks, so that a pause of this process itself counts as one."""
+        self.late, left = False, self.waited // TICK
 
-        def end(_number, _frame):
-            self.late = True
-            os.kill(pid, signal.SIGKILL)
+        def tick(_number, _frame):
+            nonlocal left
+            left -= 1
+            if left <= 0:
+                self.late = True
+                os.kill(pid, signal.SIGKILL)
 
-        signal.signal(signal.SIGALRM, end)
-        signal.setitimer(signal.ITIMER_REAL, self.waited)
+        signal.signal(signal.SIGALRM, tick)
+        signal.setitimer(signal.ITIMER_REAL, TICK, TICK)
         _, status, used = os.wait4(pid, 0)
         signal.setitimer(signal.ITIMER_REAL, 0)
         return os.waitstatus_to_exitcode(status), used
