@@ -1,4 +1,4 @@
--- What has been read where a tree's text is cut, and what may come next.
+-- Prefixes of a tree's text: what has been read up to a cut, and what is expected next.
 use Rattle.std.specs.Prelude.{ℕ, ◌+◌, ◌-◌, ◌≡◌, ◌<◌, ◌≤◌, true, false, List, [], ◌∷◌, ◌++◌, length}
 use Rattle.gs_model.specs.Betting.{Bet, Moves, none, move}
 use Rattle.gs_bet.specs.MoveLists.{count, has_move, has_letter}
@@ -11,7 +11,7 @@ pub record Open : Type 0 where
   pub letter : ℕ
   pub chips : ℕ
 
--- the acts that stand round the place are listed from the innermost
+-- where a tree's text is cut, by what is expected next. The open acts around the place are listed from the innermost
 pub data Cut : Type 0 where
   -- a tree is expected
   at_tree : List Open → Cut
@@ -31,7 +31,7 @@ abbrev pub mark : ℕ → Moves → ℕ
 mark before none = before
 mark before (move letter chips next ms) = 44
 
--- an act up to its next letter
+-- the text of an act up to its next letter
 abbrev pub act_front : ℕ → Moves → List ℕ
 act_front p ms = (48 + p) ∷ (moves_text 91 ms ++ mark 91 ms ∷ [])
 
@@ -40,7 +40,7 @@ abbrev pub open_text : List Open → List ℕ
 open_text [] = []
 open_text (o ∷ outer) = open_text outer ++ (act_front o.player o.moves ++ (o.letter ∷ (chips_text o.chips ++ 58 ∷ [])))
 
--- what has been read at a cut
+-- the text up to a cut
 abbrev pub cut_text : Cut → List ℕ
 cut_text (at_tree outer) = open_text outer
 cut_text (at_bracket p outer) = open_text outer ++ (48 + p) ∷ []
@@ -49,25 +49,26 @@ cut_text (at_chips o outer) = open_text outer ++ (act_front o.player o.moves ++ 
 cut_text (at_next p ms outer) = open_text outer ++ ((48 + p) ∷ moves_text 91 ms)
 cut_text (whole t) = tree_text t
 
--- an act with these moves so far
+-- an act with these moves so far can stand inside the open acts `outer`: its player is 1 or 2, fewer than 16 acts are open, and its moves are sound
 pub record IsAct (p : ℕ) (ms : Moves) (outer : List Open) : Type 0 where
   pub player : is_player p ≡ true
   pub depth : length outer < 16
   pub moves : are_sound (15 - length outer) ms ≡ true
 
--- what holds of an open act: its letter is one that its moves do not have, its chips are at most 4096
+-- an open act can stand inside the open acts `outer`. Its letter is from a to z and none of its moves has it; its chips are at most 4096
 pub record IsOpen (o : Open) (outer : List Open) : Type 0 where
   pub act : IsAct o.player o.moves outer
   pub letter : is_letter o.letter ≡ true
   pub fresh : has_letter o.moves o.letter ≡ false
   pub chips : o.chips ≤ 4096
 
--- each open act is one, inside those after it
+-- each open act can stand inside those listed after it
 abbrev pub AreOpen : List Open → Type 0
 AreOpen [] = Unit {0}
 AreOpen (o ∷ outer) = IsOpen o outer × AreOpen outer
 
--- what holds at a cut that is reached from the start
+-- a cut that reading can reach: its acts can stand inside each other as they do. A letter is expected behind fewer than 26 moves, and `,` or `]` behind some
+-- move; a whole tree has a text
 abbrev pub IsCut : Cut → Type 0
 IsCut (at_tree outer) = AreOpen outer
 IsCut (at_bracket p outer) = IsAct p none outer × AreOpen outer

@@ -11,13 +11,13 @@ use Rattle.gs_bet.specs.MoveLists.{has_letter}
 use Rattle.gs_bet.specs.Grammar.{IsLongest, is_letter}
 use Rattle.gs_bet.specs.Cuts.{Cut, at_tree, at_letter, cut_text, IsCut}
 
--- what is wrong with a byte that cannot stand at a place, or with the end of the text there
+-- what is wrong at a cut with a byte that cannot come next, or with the end of the text
 abbrev pub mistake_at : Cut → Option ℕ → Mistake
 mistake_at (at_letter player moves outer) (Some b) = if is_letter b && has_letter moves b then RepeatedLetter else Syntax
 mistake_at (at_tree outer) (Some b) = if (b == 49 || b == 50) && length outer == 16 then TooDeep else Syntax
 mistake_at _ _ = Syntax
 
--- the longest prefix that begins a tree's text, and what stands behind it
+-- `at` is the length of the longest prefix that begins a tree's text, and m is what is wrong there
 pub record IsMistake (text : List ℕ) (at : ℕ) (m : Mistake) : Type 0 where
   pub longest : IsLongest text at
   pub place : Cut
@@ -25,20 +25,20 @@ pub record IsMistake (text : List ℕ) (at : ℕ) (m : Mistake) : Type 0 where
   pub reached : cut_text place ≡ take at text
   pub mistake : m ≡ mistake_at place (slice_get text at)
 
--- a fault names the place and the mistake there, unless memory ran out
+-- a fault names what is wrong behind the longest prefix that begins a tree's text, and its place; running out of memory may be returned for any text
 abbrev pub IsFaultOf : List ℕ → TreeFault → Type 0
 IsFaultOf text (faults.RepeatedLetter at) = IsMistake text at RepeatedLetter
 IsFaultOf text (faults.TooDeep at) = IsMistake text at TooDeep
 IsFaultOf text (faults.Syntax at) = IsMistake text at Syntax
 IsFaultOf text faults.Memory = Unit {0}
 
--- the fault for a mistake and its place
+-- the fault of a mistake and its place
 abbrev pub fault_of : Mistake → ℕ → TreeFault
 fault_of RepeatedLetter at = faults.RepeatedLetter at
 fault_of TooDeep at = faults.TooDeep at
 fault_of Syntax at = faults.Syntax at
 
--- the tree, unless memory ran out
+-- what was read is the tree t, unless memory ran out
 abbrev pub ReadsAs : Result BetTree TreeFault → Bet → Type 0
 ReadsAs (Ok tree) t = plain tree.tree ≡ t
 ReadsAs (Err faults.Memory) t = Unit {0}

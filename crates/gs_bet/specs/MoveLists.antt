@@ -1,4 +1,4 @@
--- Words on the moves of a choice.
+-- The moves of a choice, as a list.
 use Rattle.std.specs.Prelude.{ℕ, suc, Bool, true, false, ◌||◌, ◌==◌}
 use Rattle.gs_model.specs.Betting.{Bet, Moves, none, move}
 
@@ -12,12 +12,12 @@ abbrev pub has_move : Moves → Bool
 has_move none = false
 has_move (move letter chips next moves) = true
 
--- some move has this letter
+-- whether some move has this letter
 abbrev pub has_letter : Moves → ℕ → Bool
 has_letter none b = false
 has_letter (move letter chips next moves) b = letter == b || has_letter moves b
 
--- one more move at the end
+-- the moves with one more at the end
 abbrev pub push_move : Moves → ℕ → ℕ → Bet → Moves
 push_move none l c t = move l c t none
 push_move (move letter chips next moves) l c t = move letter chips next (push_move moves l c t)

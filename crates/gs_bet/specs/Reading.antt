@@ -1,5 +1,4 @@
--- Reading a tree's text from the left, an act within an act: the value and the bytes after it, or the
--- first mistake and the bytes from it on.
+-- Reading a tree's text from the left. A reader gives the value and the bytes after it, or the first mistake and the bytes from it on.
 use Rattle.std.specs.Prelude.{ℕ, zero, suc, ◌+◌, ◌-◌, ◌*◌, ◌≡◌, Bool, true, false, ◌&&◌, ◌||◌, ◌==◌, nat_lt, nat_le, if◌then◌else◌, List, [], ◌∷◌, length, Result, Ok, Err}
 use Rattle.gs_bet.specs.declared.fault.Mistake.{Mistake}
 use Rattle.gs_bet.specs.declared.fault.Mistake.TheVariants.{RepeatedLetter, TooDeep, Syntax}
@@ -13,48 +12,48 @@ use Rattle.gs_bet.specs.Grammar.{is_letter}
 abbrev pub Read : Type 0 → Type 0
 Read A = Result (A × List ℕ) (Mistake × List ℕ)
 
--- what is read next, of the bytes that are left, where there was no mistake so far
+-- reads on from the bytes that are left; a mistake ends the reading
 infixl 10 ◌>>=◌
 abbrev pub ◌>>=◌ : {A B : Type 0} → Read A → (A × List ℕ → Read B) → Read B
 (Ok x) >>= f = f x
 (Err e) >>= f = Err e
 
--- What a function returned, seen by view, is what reading gives, unless memory ran out.
+-- a stop of the program is the mistake that reading gives, with as many bytes left, unless memory ran out
 abbrev pub Fails : {Y : Type 0} → Stop → Read Y → Type 0
 Fails stops.Memory read = Unit {0}
 Fails (stops.At m left) read = (rest : List ℕ) × (read ≡ Err (m, rest)) × (length rest ≡ left)
 
--- what a function returned is what reading gives, unless memory ran out
+-- what a function returned, seen by `view`, is what reading gives, unless memory ran out
 abbrev pub Gives : {X Y : Type 0} → (X → Y × List ℕ) → Result X Stop → Read Y → Type 0
 Gives view (Ok x) read = read ≡ Ok (view x)
 Gives view (Err e) read = Fails e read
 
--- the byte that has to stand in front
+-- reads the byte b
 unfoldable pub expect_at : ℕ → List ℕ → Read (Unit {0})
 expect_at b [] = Err (Syntax, [])
 expect_at b (c ∷ bytes) = if c == b then Ok (tt, bytes) else Err (Syntax, c ∷ bytes)
 
--- a letter that the moves do not have
+-- reads a letter that none of the moves has
 unfoldable pub letter_at : Moves → List ℕ → Read ℕ
 letter_at moves [] = Err (Syntax, [])
 letter_at moves (b ∷ bytes) =
     if is_letter b then (if has_letter moves b then Err (RepeatedLetter, b ∷ bytes) else Ok (b, bytes)) else Err (Syntax, b ∷ bytes)
 
--- the number that the digits so far and one more make is from 1 to 4096
+-- whether a byte is a digit with which the number so far goes on to a number from 1 to 4096
 abbrev pub goes_on : ℕ → ℕ → Bool
 goes_on n b = (nat_le 48 b && nat_le b 57) && (nat_lt 0 (n * 10 + (b - 48)) && nat_le (n * 10 + (b - 48)) 4096)
 
--- the digits that go on with a number
+-- reads the digits with which the number n goes on
 unfoldable pub chips_at : ℕ → List ℕ → ℕ × List ℕ
 chips_at n [] = (n, [])
 chips_at n (b ∷ bytes) = if goes_on n b then chips_at (n * 10 + (b - 48)) bytes else (n, b ∷ bytes)
 
--- the player of an act, where `left` further acts may open
+-- reads the player of an act; at most `left` acts may still open, this one included
 unfoldable pub player_at : ℕ → List ℕ → Read ℕ
 player_at left [] = Err (Syntax, [])
 player_at left (b ∷ bytes) = if b == 49 || b == 50 then (if left == 0 then Err (TooDeep, b ∷ bytes) else Ok (b - 48, bytes)) else Err (Syntax, b ∷ bytes)
 
--- a move, behind the moves before it
+-- reads a move and adds it to the moves before it
 unfoldable pub move_at : (List ℕ → Read Bet) → Moves → List ℕ → Read Moves
 move_at tree moves bytes = do
   letter ← letter_at moves bytes
@@ -63,14 +62,14 @@ move_at tree moves bytes = do
   next ← tree colon.1
   Ok (push_move moves letter.0 chips.0 next.0, next.1)
 
--- whether another move follows these
+-- reads `,` or `]`: whether another move follows; a comma is allowed behind fewer than 26 moves
 unfoldable pub more_at : ℕ → List ℕ → Read Bool
 more_at moves [] = Err (Syntax, [])
 more_at moves (b ∷ bytes) =
     if b == 93 then Ok (false, bytes)
     else (if b == 44 && nat_lt moves 26 then Ok (true, bytes) else Err (Syntax, b ∷ bytes))
 
--- the moves up to `]`, at most `left` of them
+-- reads moves up to `]`, at most as many as the number says, and adds them to the moves before them
 unfoldable pub moves_at : (List ℕ → Read Bet) → ℕ → Moves → List ℕ → Read Moves
 moves_at tree zero moves bytes = Err (Syntax, bytes)
 moves_at tree (suc room) moves bytes = do
@@ -78,14 +77,14 @@ moves_at tree (suc room) moves bytes = do
   more ← more_at (count next.0) next.1
   if more.0 then moves_at tree room next.0 more.1 else Ok (next.0, more.1)
 
--- a tree behind a move
+-- reads the tree of a move: `=`, `!` or an act
 unfoldable pub inner_at : (List ℕ → Read Bet) → List ℕ → Read Bet
 inner_at deeper [] = deeper []
 inner_at deeper (b ∷ bytes) =
     if b == 61 then Ok (even, bytes)
     else (if b == 33 then Ok (fold, bytes) else deeper (b ∷ bytes))
 
--- an act, where `left` further acts may open; `deeper` reads those within it
+-- reads an act; at most `left` acts may still open, this one included. `deeper` reads the acts inside it
 unfoldable pub act_with : ℕ → (List ℕ → Read Bet) → List ℕ → Read Bet
 act_with left deeper bytes = do
   player ← player_at left bytes
@@ -93,21 +92,21 @@ act_with left deeper bytes = do
   moves ← moves_at (inner_at deeper) 26 none bracket.1
   Ok (act player.0 moves.0, moves.1)
 
--- an act, where `left` further acts may open
+-- reads an act; at most `left` acts may still open, this one included
 unfoldable pub act_at : ℕ → List ℕ → Read Bet
 act_at zero bytes = act_with 0 (λ rest. Err (Syntax, rest)) bytes
 act_at (suc left) bytes = act_with (suc left) (act_at left) bytes
 
--- the whole tree: an even end, or an act
+-- reads a whole tree: an even leaf, or an act
 unfoldable pub outer_at : List ℕ → Read Bet
 outer_at [] = act_at 16 []
 outer_at (b ∷ bytes) = if b == 61 then Ok (even, bytes) else act_at 16 (b ∷ bytes)
 
--- nothing is left behind the tree
+-- refuses bytes that are left behind the tree
 abbrev pub at_end : Bet × List ℕ → Read Bet
 at_end (t, []) = Ok (t, [])
 at_end (t, b ∷ bytes) = Err (Syntax, b ∷ bytes)
 
--- all of the bytes
+-- reads a tree that all bytes are the text of
 unfoldable pub all_of : List ℕ → Read Bet
 all_of bytes = outer_at bytes >>= at_end

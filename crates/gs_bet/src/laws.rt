@@ -1,15 +1,15 @@
-//! Laws of trees' texts.
+//! Laws on the texts of betting trees.
 
 ghost use Rattle.std.specs.Prelude.{◌≡◌, ℕ, List, IsTrue};
 ghost use Rattle.gs_model.specs.Betting.{Bet, HasPlayers};
 ghost use Rattle.gs_bet.specs.{Grammar.{is_tree, tree_text, BeginsTree}, Cuts.{Cut, IsCut, cut_text}};
 
-/// Each text is the text of one tree.
+/// No two trees have the same text.
 pub fn one_tree()
     ensures { (t u : Bet) → IsTrue (is_tree t) → IsTrue (is_tree u) → tree_text t ≡ tree_text u → t ≡ u }
 {}
 
-/// What begins a tree's text is the text of one cut, and each cut's text begins a tree's text.
+/// Each prefix of a tree's text is the text of exactly one cut, and the text of each cut is such a prefix.
 pub fn one_cut()
     ensures one { (s u : Cut) → IsCut s → IsCut u → cut_text s ≡ cut_text u → s ≡ u }
     ensures some { (bytes : List ℕ) → BeginsTree bytes → (s : Cut) × IsCut s × (cut_text s ≡ bytes) }

@@ -1,4 +1,4 @@
-//! Betting trees and their one text.
+//! Betting trees, and the one text of each.
 #![tactic(auto)]
 
 mod fault;

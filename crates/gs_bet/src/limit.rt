@@ -1,4 +1,4 @@
-//! Limit betting.
+//! Betting trees of limit betting.
 
 ghost use Rattle.std.specs.Prelude.{◌≡◌, ◌≤◌, IfOk, OnOk};
 ghost use Rattle.gs_model.specs.Betting.{act};
@@ -7,14 +7,14 @@ ghost use Rattle.gs_bet.specs.{MoveLists.{push_move}, TreeView.{plain, plain_mov
 use crate::shape::{Act, BetTree, Move, Tree};
 use std::alloc::{AllocError, Global};
 
-/// A choice between these moves.
+/// Returns a player's choice among these moves.
 fn choice(player: u8, moves: Vec<Move>) -> Tree
     ensures { plain result ≡ act player (plain_moves moves.items) }
 {
     Tree::Act(Act { player, moves })
 }
 
-/// One move more.
+/// Adds a move at the end of the moves. Fails only if memory runs out.
 fn add(moves: &mut Vec<Move>, letter: u8, chips: u16, next: Tree) -> Result<(), AllocError>
     ensures { OnOk result (plain_moves moves.new.items ≡ push_move (plain_moves moves.old.items) letter chips (plain next)) }
 {
@@ -26,7 +26,7 @@ fn add(moves: &mut Vec<Move>, letter: u8, chips: u16, next: Tree) -> Result<(), 
     Ok(())
 }
 
-/// A player against a bet, by how many raises are left.
+/// Returns the choice of a player who faces a bet of `bet` chips, with `left` raises left.
 fn against_bet(alloc: Global, bet: u16, left: u8, player: u8) -> Result<Tree, AllocError>
     requires bet { bet ≤ 2048 }
     requires player { player ≤ 3 }
@@ -42,7 +42,7 @@ fn against_bet(alloc: Global, bet: u16, left: u8, player: u8) -> Result<Tree, Al
     Ok(choice(player, moves))
 }
 
-/// The second player after a check.
+/// Returns the choice of player 2 after a check.
 fn after_check(alloc: Global, bet: u16, cap: u8) -> Result<Tree, AllocError>
     requires bet { bet ≤ 2048 }
     ensures { IfOk result (λ t. plain t ≡ behind_check bet cap) }
@@ -70,7 +70,8 @@ fn first_choice(alloc: Global, bet: u16, cap: u8) -> Result<Tree, AllocError>
     Ok(choice(1, moves))
 }
 
-/// Limit betting: each bet puts `bet` chips, a raise twice as many, and a round has at most `cap` bets and raises. It fails only where memory runs out.
+/// Returns the betting tree of a round of limit betting. A bet puts `bet` chips, a raise twice as many, and a round has at most `cap` bets and raises. Fails
+/// only if memory runs out.
 pub fn limit_tree(alloc: Global, bet: u16, cap: u8) -> Result<BetTree, AllocError>
     requires some { 1 ≤ bet }
     requires bet { bet ≤ 2048 }

@@ -1,4 +1,4 @@
-//! Reading a tree's text.
+//! Reads the text of a betting tree.
 
 ghost use Rattle.std.specs.Prelude.{◌≡◌, ◌≤◌, ◌<◌, ◌-◌, IfOk, IfErr, IsTrue, []};
 ghost use Rattle.gs_bet.specs.{Grammar.{is_tree, tree_text}, Faults.{IsFaultOf, ReadsAs, fault_of}, MoveLists.{has_letter, push_move}};
@@ -164,7 +164,7 @@ fn outer_of(alloc: Global, bytes: &[u8]) -> Result<(Tree, &[u8]), Stop>
     }
 }
 
-/// A mistake as a fault.
+/// Returns the fault of a mistake and its place.
 fn fault_at(mistake: Mistake, at: usize) -> TreeFault
     ensures { result ≡ fault_of mistake at }
 {
@@ -187,13 +187,13 @@ fn whole_of(alloc: Global, bytes: &[u8]) -> Result<Tree, Stop>
     Ok(tree)
 }
 
-/// The tree whose text this is; else what stands behind the longest prefix that begins a tree's text, or that memory ran out.
+/// Reads the betting tree with this text. Fails with what follows the longest prefix that begins a tree's text, or if memory runs out.
 pub fn parse_tree(alloc: Global, text: &str) -> Result<BetTree, TreeFault>
     // What is read has this text.
     ensures found { IfOk result (λ t. text.now ≡ tree_text (plain t.tree)) }
     // A tree's text is read, unless memory runs out.
     ensures only { (t : Bet) → IsTrue (is_tree t) → text.now ≡ tree_text t → ReadsAs result t }
-    // Which fault a text has.
+    // A fault names what follows the longest prefix that begins a tree's text.
     ensures fault { IfErr result (λ f. IsFaultOf text.now f) }
 {
     let bytes = text.as_bytes();

@@ -1,4 +1,4 @@
--- Which refusal three texts meet as a deck, in order. Source: this project's game files.
+-- Why three texts make no deck: the first refusal that applies. Source: this project's game files.
 use Rattle.std.specs.Prelude.{ℕ, ◌*◌, ◌==◌, ◌||◌, ◌&&◌, not, List, length, nat_lt, Option, Some, None, if◌then◌else◌}
 use Rattle.std.specs.List.{list_all}
 use Rattle.std.specs.Char.{is_ascii_alphanumeric, is_ascii_digit}
@@ -6,8 +6,8 @@ use Rattle.gs_card.specs.Decks.{repeats}
 use Rattle.gs_card.specs.declared.faults.DeckFault.{DeckFault}
 use Rattle.gs_card.specs.declared.faults.DeckFault.TheVariants.{NoCards, BadLetter, RepeatedLetter, TooManyKinds, BadCopies}
 
--- the first refusal that the texts of the ranks, the suits and the copies meet: no ranks or no suits; a byte that is no ASCII letter or digit; a
--- letter that stands twice in the ranks or twice in the suits; more than 52 kinds; copies that are neither empty nor one digit for each kind
+-- the first refusal that applies to the texts of the ranks, the suits and the copies: no ranks or no suits; a byte of these two that is no ASCII letter or
+-- digit; a letter that occurs twice in the ranks or twice in the suits; more than 52 kinds; copies that are neither empty nor one digit for each kind
 abbrev pub fault_of : List ℕ → List ℕ → List ℕ → Option DeckFault
 fault_of ranks suits copies =
     if (length ranks == 0) || (length suits == 0) then Some NoCards

@@ -5,7 +5,7 @@ use Rattle.std.specs.List.{list_any}
 use Rattle.std.specs.Char.{is_ascii_alphanumeric}
 use Rattle.gs_model.specs.Outcome.{rank_of, suit_of}
 
--- what a deck is seen as: the letters of the ranks and of the suits, and the copies of each kind
+-- a deck as contracts see it: the letters of the ranks and of the suits, and the number of copies of each kind
 pub record DeckValue : Type 0 where
   pub ranks : List ℕ
   pub suits : List ℕ
@@ -15,13 +15,13 @@ pub record DeckValue : Type 0 where
 abbrev pub kinds : DeckValue → ℕ
 kinds d = length d.ranks * length d.suits
 
--- some member of a list stands there twice
+-- whether some member of a list occurs in it twice
 abbrev pub repeats : List ℕ → Bool
 repeats [] = false
 repeats (x ∷ xs) = list_any (λ y. y == x) xs || repeats xs
 
--- what every deck is: 1 to 52 kinds; letters that are ASCII letters or digits and differ within the ranks and within the suits; one count from
--- 0 to 9 for each kind
+-- what every deck is: 1 to 52 kinds; letters that are ASCII letters or digits and differ within the ranks and within the suits; for each kind a count from 0
+-- to 9
 pub record IsDeck (d : DeckValue) : Type 0 where
   pub some : 0 < kinds d
   pub few : kinds d ≤ 52
@@ -32,12 +32,12 @@ pub record IsDeck (d : DeckValue) : Type 0 where
   pub counted : length d.counts ≡ kinds d
   pub copies : All (λ n. n ≤ 9) d.counts
 
--- the counts that a text of digits gives, one digit for each kind; without it there is one copy of each kind
+-- the number of copies of each kind, from a text with one digit for each kind; the empty text stands for one copy of each kind
 abbrev pub counts_of : ℕ → List ℕ → List ℕ
 counts_of kinds [] = replicate kinds 1
 counts_of kinds (c ∷ cs) = map (λ digit. digit - 48) (c ∷ cs)
 
--- the deck of its three texts
+-- the deck that three texts give: ranks, suits and copies
 abbrev pub deck_of : List ℕ → List ℕ → List ℕ → DeckValue
 deck_of ranks suits copies = record { ranks = ranks; suits = suits; counts = counts_of (length ranks * length suits) copies }
 
@@ -46,7 +46,7 @@ abbrev pub card_text : DeckValue → ℕ → List ℕ
 card_text d card =
     slice_index d.ranks (rank_of (length d.suits) card) ∷ slice_index d.suits (suit_of (length d.suits) card) ∷ []
 
--- a text is the text of this kind of card of the deck
+-- the text is that of this kind of card of the deck
 pub record IsTextOf (d : DeckValue) (text : List ℕ) (card : ℕ) : Type 0 where
   pub of_deck : card < kinds d
   pub letters : text ≡ card_text d card

@@ -2,7 +2,7 @@
 use Rattle.std.specs.Prelude.{ℕ, ◌*◌, ◌≡◌, ◌<◌, List, length, slice_index}
 use Rattle.gs_model.specs.Outcome.{rank_of, suit_of}
 
--- a number is that of the kind whose rank and suit have these letters
+-- `number` is the number of the kind whose rank and suit have these letters
 pub record HasLetters (ranks suits : List ℕ) (rank suit number : ℕ) : Type 0 where
   pub of_deck : number < length ranks * length suits
   pub rank_is : slice_index ranks (rank_of (length suits) number) ≡ rank

@@ -1,10 +1,10 @@
-//! Kinds of cards, one after another.
+//! A kind of card, and kinds of cards one after another.
 
 ghost use Rattle.std.specs.{Prelude.{◌≡◌}, Iterator.{YieldsFirst, item_count}};
 
 use std::marker::Model;
 
-/// A kind of card, by its number.
+/// A kind of card: its number, from 0.
 #[derive(Clone, Copy, PartialEq, Eq, PartialOrd, Ord, Hash, Debug)]
 pub struct Card(u8);
 
@@ -19,14 +19,14 @@ impl Model for Card {
 }
 
 impl Card {
-    /// The card whose kind has this number.
+    /// Returns the card whose kind has this number.
     pub fn new(number: u8) -> Card
         ensures { result ≡ number }
     {
         Card(number)
     }
 
-    /// The number of the card's kind.
+    /// Returns the number of the card's kind.
     pub fn number(self) -> u8
         ensures { result ≡ self }
     {
@@ -34,7 +34,7 @@ impl Card {
     }
 }
 
-/// Cards one after another, each with the number after that of the one before.
+/// An iterator over cards with consecutive numbers.
 #[derive(Clone, Drop, Debug)]
 pub struct Cards {
     pub(crate) next: u8,

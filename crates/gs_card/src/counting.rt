@@ -1,4 +1,4 @@
-//! Ways of taking cards of some kinds.
+//! How often a card occurs, and the ways to take a group of cards.
 
 ghost use Rattle.std.specs.Prelude.{◌≡◌, ◌≤◌, ◌<◌, ◌==◌, All, count_by, length};
 ghost use Rattle.gs_model.specs.Cards.{ways};
@@ -6,7 +6,7 @@ ghost use Rattle.gs_model.specs.Cards.{ways};
 use crate::cards::Card;
 use crate::groups::Group;
 
-/// How often the card stands among the cards.
+/// Returns how often the card occurs among the cards.
 pub fn times(cards: &[Card], card: Card) -> u64
     ensures value { result ≡ count_by (λ other. other == card) cards.now }
     ensures bound { result ≤ length cards.now }
@@ -17,7 +17,8 @@ pub fn times(cards: &[Card], card: Card) -> u64
         .count() as u64
 }
 
-/// The number of ways to take the group from the physical copies that are left: 0 where it cannot be taken.
+/// Returns the number of ways to take the group from the physical copies that are left, 0 where it cannot be taken. `left` has the number of copies of each
+/// kind, at most 9; the group has at most 3 cards.
 pub fn ways(left: &[u8], group: &Group) -> u64
     requires in_range { All (λ card. card < length left.now) group.now }
     requires few_cards { length group.now ≤ 3 }

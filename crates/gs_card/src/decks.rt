@@ -31,7 +31,7 @@ impl Model for Deck {
     ghost invariant = { λ d. IsDeck (record { ranks = d.ranks.items; suits = d.suits.items; counts = d.counts.items }) };
 }
 
-/// Whether some letter stands twice. It stops at the first that does, so it looks at no more than 63 letters and digits.
+/// Returns whether some letter occurs twice. It stops at the first repeated one, so it reads no more than 63 letters and digits.
 fn has_repeat(letters: &[u8]) -> bool
     ensures { result ≡ repeats letters.now }
 {
@@ -43,14 +43,14 @@ fn has_repeat(letters: &[u8]) -> bool
     false
 }
 
-/// The first place where a letter stands.
+/// Returns the first place of the letter, none where it does not occur.
 fn place_of(letters: &[u8], letter: u8) -> Option<usize>
     ensures { result ≡ position (λ other. other == letter) letters.now }
 {
     letters.iter().position(|other| *other == letter)
 }
 
-/// The number of the kind with these letters.
+/// Returns the number of the kind with these letters, none where no kind has them.
 fn number_of(ranks: &[u8], suits: &[u8], rank: u8, suit: u8) -> Option<u8>
     requires few { length ranks.now * length suits.now ≤ 52 }
     requires ranks_differ { repeats ranks.now ≡ false }
@@ -63,28 +63,28 @@ fn number_of(ranks: &[u8], suits: &[u8], rank: u8, suit: u8) -> Option<u8>
     Some((row * suits.len() + column) as u8)
 }
 
-/// Whether the letters are ASCII letters or digits.
+/// Returns whether all bytes are ASCII letters or digits.
 fn are_letters(letters: &[u8]) -> bool
     ensures { result ≡ list_all is_ascii_alphanumeric letters.now }
 {
     letters.iter().all(|letter| letter.is_ascii_alphanumeric())
 }
 
-/// Whether all are digits.
+/// Returns whether all bytes are digits.
 fn are_digits(digits: &[u8]) -> bool
     ensures { result ≡ list_all is_ascii_digit digits.now }
 {
     digits.iter().all(|digit| digit.is_ascii_digit())
 }
 
-/// Whether the copies are none, or one digit for each kind.
+/// Returns whether the text of the copies is empty or has one digit for each kind.
 fn are_copies(kinds: usize, copies: &[u8]) -> bool
     ensures { result ≡ ((length copies.now == 0) || ((length copies.now == kinds) && list_all is_ascii_digit copies.now)) }
 {
     copies.is_empty() || copies.len() == kinds && are_digits(copies)
 }
 
-/// More kinds than a deck may have.
+/// Returns whether there are more than 52 kinds, which is too many for a deck.
 fn are_too_many(ranks: usize, suits: usize) -> bool
     requires some_ranks { 0 < ranks }
     requires some_suits { 0 < suits }
@@ -93,7 +93,7 @@ fn are_too_many(ranks: usize, suits: usize) -> bool
     ranks > 52 || suits > 52 || ranks * suits > 52
 }
 
-/// Why these texts are no deck.
+/// Returns why these texts make no deck, none where they make one.
 fn fault(ranks: &[u8], suits: &[u8], copies: &[u8]) -> Option<DeckFault>
     ensures { result ≡ fault_of ranks.now suits.now copies.now }
 {
@@ -112,7 +112,7 @@ fn fault(ranks: &[u8], suits: &[u8], copies: &[u8]) -> Option<DeckFault>
     }
 }
 
-/// The copies of each kind.
+/// Returns the number of copies of each kind: 1 where the text of the copies is empty, else its digits. Fails only if memory runs out.
 fn counts(alloc: Global, kinds: usize, copies: &[u8]) -> Result<Vec<u8>, AllocError>
     requires { list_all is_ascii_digit copies.now ≡ true }
     ensures { IfOk result (λ v. v.items ≡ counts_of kinds copies.now) }
@@ -129,8 +129,10 @@ fn counts(alloc: Global, kinds: usize, copies: &[u8]) -> Result<Vec<u8>, AllocEr
 }
 
 impl Deck {
-    /// The deck of these ranks, lowest first, these suits and these copies, of which there is a digit for each kind. Empty copies stand for one
-    /// copy of each kind.
+    /// Makes the deck of these ranks, lowest first, these suits and these copies. `copies` has a digit for each kind; empty, it stands for one copy of each
+    /// kind.
+    ///
+    /// Fails with the first `DeckFault` that applies, or if memory runs out.
     pub fn new(alloc: Global, ranks: &str, suits: &str, copies: &str) -> Result<Deck, DeckFault>
         ensures refused { IfSome (fault_of ranks.now suits.now copies.now) (λ f. result ≡ Err f) }
         ensures made { IfNone (fault_of ranks.now suits.now copies.now) (MatchResult result (λ deck. deck ≡ deck_of ranks.now suits.now copies.now) (λ f. f
@@ -153,7 +155,7 @@ impl Deck {
         })
     }
 
-    /// A deck of the same cards.
+    /// Returns a deck of the same cards. Fails only if memory runs out.
     pub fn copy(&self, alloc: Global) -> Result<Deck, AllocError>
         ensures { IfOk result (λ deck. deck ≡ self.now) }
     {
@@ -164,7 +166,7 @@ impl Deck {
         })
     }
 
-    /// The letters of the ranks, the lowest rank first.
+    /// Returns the letters of the ranks, the lowest rank first.
     pub fn ranks(&self) -> &[u8]
         ensures letters { result.now ≡ self.now.ranks }
         ensures deck { IsDeck self.now }
@@ -172,7 +174,7 @@ impl Deck {
         self.ranks.as_slice()
     }
 
-    /// The letters of the suits.
+    /// Returns the letters of the suits.
     pub fn suits(&self) -> &[u8]
         ensures letters { result.now ≡ self.now.suits }
         ensures deck { IsDeck self.now }
@@ -180,7 +182,7 @@ impl Deck {
         self.suits.as_slice()
     }
 
-    /// The number of copies of each kind.
+    /// Returns the number of copies of each kind.
     pub fn counts(&self) -> &[u8]
         ensures counts { result.now ≡ self.now.counts }
         ensures deck { IsDeck self.now }
@@ -188,7 +190,7 @@ impl Deck {
         self.counts.as_slice()
     }
 
-    /// How many kinds of cards there are.
+    /// Returns the number of kinds of cards.
     pub fn kinds(&self) -> u8
         ensures number { result ≡ kinds self.now }
         ensures deck { IsDeck self.now }
@@ -196,7 +198,7 @@ impl Deck {
         self.counts.len() as u8
     }
 
-    /// How many copies of the card there are.
+    /// Returns the number of copies of the card.
     pub fn count(&self, card: Card) -> u8
         requires { card < kinds self.now }
         ensures { result ≡ slice_index self.now.counts card }
@@ -204,7 +206,7 @@ impl Deck {
         self.counts[card.number() as usize]
     }
 
-    /// The card's rank, from 0 for the lowest.
+    /// Returns the card's rank, from 0 for the lowest.
     pub fn rank(&self, card: Card) -> u8
         requires { card < kinds self.now }
         ensures rank { result ≡ rank_of (length self.now.suits) card }
@@ -213,7 +215,7 @@ impl Deck {
         card.number() / self.suits.len() as u8
     }
 
-    /// The card's suit, from 0 for the first.
+    /// Returns the card's suit, from 0 for the first.
     pub fn suit(&self, card: Card) -> u8
         requires { card < kinds self.now }
         ensures suit { result ≡ suit_of (length self.now.suits) card }
@@ -222,7 +224,7 @@ impl Deck {
         card.number() % self.suits.len() as u8
     }
 
-    /// The letter of the card's rank and the letter of its suit.
+    /// Returns the letter of the card's rank and the letter of its suit.
     pub fn card_text(&self, card: Card) -> [u8; 2]
         requires { card < kinds self.now }
         ensures { result ≡ card_text self.now card }
@@ -232,7 +234,7 @@ impl Deck {
         [rank_letter, suit_letter]
     }
 
-    /// The card of this text: none where it is no kind's text.
+    /// Returns the card with this text, a letter for the rank and a letter for the suit; none where no kind has this text.
     pub fn card_of(&self, text: &str) -> Option<Card>
         ensures found { IfSome result (IsTextOf self.now text.now) }
         ensures all { (card : ℕ) → IsTextOf self.now text.now card → result ≡ Some card }
@@ -244,7 +246,7 @@ impl Deck {
         Some(Card::new(number))
     }
 
-    /// All cards of the deck, in order.
+    /// Returns all cards of the deck, in order.
     pub fn cards(&self) -> Cards
         ensures { result ≡ range_with_len 0 (kinds self.now) }
     {
@@ -254,7 +256,8 @@ impl Deck {
         }
     }
 
-    /// All groups of `size` cards that `left`, the number of copies of each kind, allows, in order. `size` is small: there are many groups.
+    /// Returns all groups of `size` cards that `left` allows, in lexicographic order. `left` has the number of copies of each kind. Keep `size` small: there
+    /// are many groups. Fails only if memory runs out.
     pub fn groups(&self, alloc: Global, left: &[u8], size: u8) -> Result<Vec<Group>, AllocError>
         requires { length left.now ≡ kinds self.now }
         ensures all { IfOk result (λ found. found.items ≡ groups left.now size) }

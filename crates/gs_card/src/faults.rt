@@ -1,21 +1,21 @@
-//! Why three texts are no deck.
+//! Why three texts make no deck.
 
 use std::alloc::AllocError;
 
-/// Why three texts are no deck. The first that applies is answered.
+/// Why three texts make no deck. The first reason that applies is returned.
 #[derive(Clone, Copy, PartialEq, Eq, Debug)]
 pub enum DeckFault {
     /// There are no ranks, or no suits.
     NoCards,
     /// A character of the ranks or suits is no ASCII letter or digit.
     BadLetter,
-    /// A letter stands twice in the ranks, or twice in the suits.
+    /// A letter occurs twice in the ranks, or twice in the suits.
     RepeatedLetter,
     /// There are more than 52 kinds.
     TooManyKinds,
     /// The copies are neither empty nor exactly one digit for each kind.
     BadCopies,
-    /// No memory was left.
+    /// Memory ran out.
     Memory,
 }
 

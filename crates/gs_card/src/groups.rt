@@ -1,4 +1,4 @@
-//! Groups of cards of a size.
+//! Groups of cards, and all groups of a size.
 
 ghost use Rattle.std.specs.{Prelude.{◌≡◌, ◌≤◌, ◌++◌, All, IfOk, OnOk, length, map, vec_len}, List.Sorted.{IsNonDecreasing}};
 ghost use Rattle.gs_model.specs.Cards.{groups, groups_above};
@@ -7,7 +7,7 @@ use crate::cards::Card;
 use std::alloc::{AllocError, Global};
 use std::marker::Model;
 
-/// A group of cards, in ascending order. A card stands in it as often as the group has copies of it.
+/// A group of cards, in ascending order. A card occurs in it as often as the group has copies of it.
 #[derive(Drop, Debug)]
 pub struct Group {
     cards: Vec<Card>,
@@ -24,7 +24,7 @@ impl Model for Group {
 }
 
 impl Group {
-    /// The group of some cards in ascending order.
+    /// Returns the group of these cards, which are in ascending order. Fails only if memory runs out.
     pub fn of(alloc: Global, cards: &[Card]) -> Result<Group, AllocError>
         requires { IsNonDecreasing cards.now }
         ensures { IfOk result (λ group. group ≡ cards.now) }
@@ -33,7 +33,7 @@ impl Group {
         Ok(Group { cards })
     }
 
-    /// The cards, in ascending order.
+    /// Returns the cards, in ascending order.
     pub fn cards(&self) -> &[Card]
         ensures cards { result.now ≡ self.now }
         ensures ascending { IsNonDecreasing self.now }
@@ -77,7 +77,7 @@ fn push_groups(
     Ok(())
 }
 
-/// All groups of `size` cards that `left` allows, in order.
+/// Returns all groups of `size` cards that `left` allows, in lexicographic order. `left` has the number of copies of each kind, 52 kinds at most.
 pub(crate) fn all_groups(alloc: Global, left: &[u8], size: u8) -> Result<Vec<Group>, AllocError>
     requires { length left.now ≤ 52 }
     ensures { IfOk result (λ found. found.items ≡ groups left.now size) }

@@ -1,5 +1,5 @@
-//! Cards, groups of cards and decks: the kinds of cards that a game is played with, how many copies of each there are, all groups of a size and
-//! the ways of taking one.
+//! Cards, groups of cards and decks: the kinds of cards that a game is played with, the number of copies of each, all groups of a size and the ways to take
+//! one.
 //!
 //! A card is the number of its kind. Kinds are numbered from 0, rank by rank and within a rank by suit.
 #![tactic(auto)]
@@ -20,12 +20,12 @@ pub use faults::DeckFault;
 pub use groups::Group;
 pub use rankings::Ranking;
 
-/// Exactly the groups of the size that the copies allow are listed.
+/// The list of groups has exactly the groups of the size that the copies allow.
 pub fn groups_are_all()
     ensures { GroupsAreAll }
 {}
 
-/// The list of groups ascends strictly, so each group stands in it once.
+/// The list of groups ascends strictly, so each group occurs in it once.
 pub fn groups_ascend()
     ensures { GroupsAscend }
 {}

@@ -13,8 +13,8 @@ pub enum Ranking {
 }
 
 impl Ranking {
-    /// How many categories of hands there are: one by the own card; by a pair without and with it; by three cards high card, pair, flush, straight,
-    /// three of a kind and straight flush.
+    /// Returns the number of categories of hands. By the own card there is one. By a pair there are two: without and with a pair. By three cards there are
+    /// six: high card, pair, flush, straight, three of a kind and straight flush.
     pub fn categories(self) -> u8
         ensures { result ≡ categories (ranking_of self) }
     {
