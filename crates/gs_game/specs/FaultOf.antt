@@ -4,7 +4,7 @@ use Rattle.gs_game.specs.declared.faults.GameFault.{GameFault}
 use Rattle.gs_game.specs.declared.faults.GameFault.TheVariants as faults
 use Rattle.gs_game.specs.Refusals.{Refusal, rounds, no_private, ranking_cards, not_enough_cards, no_even, uneven, put_too_large, too_many_lines, too_heavy, too_many_signals, too_many_deals}
 
--- the fault is this refusal, with its numbers; running out of memory may be answered at any point
+-- the fault is this refusal, with its numbers; running out of memory may be returned at any point
 abbrev pub IsFaultOf : Option Refusal → GameFault → Type 0
 IsFaultOf r (faults.Rounds count) = r ≡ Some (rounds count)
 IsFaultOf r faults.NoPrivate = r ≡ Some no_private

@@ -1,4 +1,4 @@
--- The game that a description states: the definitions speak of this record.
+-- The game that a description states, as the record that the definitions speak of.
 use Rattle.std.specs.Prelude.{◌≤◌, map, length, List}
 use Rattle.gs_bet.specs.TreeView.{plain}
 use Rattle.gs_card.specs.Rankings.{ranking_of}
@@ -26,7 +26,7 @@ game_of g = record {
 abbrev pub plain_trees : List Round → List Bet
 plain_trees rounds = map (λ (r : Round). plain r.tree.tree) rounds
 
--- a round gives no more cards than a game file may ask for
+-- a round gives at most 2 private and 3 public cards, as many as a game file may ask for
 pub record HasFewCards (r : Round) : Type 0 where
   pub private : r.private ≤ 2
   pub public : r.public ≤ 3

@@ -1,4 +1,4 @@
--- How many ways there are to go on after some rounds.
+-- The ways to deal the rest of a game after some rounds.
 use Rattle.std.specs.Prelude.{ℕ, ◌+◌, ◌-◌, ◌*◌, ◌<◌, ◌≤◌, ◌≡◌, List, [], ◌∷◌, ◌++◌, None, map, take, drop, sum}
 use Rattle.gs_bet.specs.Limit.{limit_bet}
 use Rattle.gs_model.specs.Classes.{ClassLists, list_of}
@@ -8,21 +8,21 @@ use Rattle.gs_model.specs.Lossless.{weight_against}
 use Rattle.gs_game.specs.Refusals.{first_refusal}
 use Rattle.gs_game.specs.Sequences.{deal_sizes, draws, seen_sizes}
 
--- one player's own cards over some rounds
+-- the number of one player's own cards over some rounds
 abbrev pub own_cards_of : List Round → ℕ
 own_cards_of [] = 0
 own_cards_of (r ∷ rs) = r.private + own_cards_of rs
 
--- the cards that a player sees over some rounds: the own and the public ones
+-- the number of cards that a player sees over some rounds: the own and the public ones
 abbrev pub cards_shown : List Round → ℕ
 cards_shown [] = 0
 cards_shown (r ∷ rs) = r.private + r.public + cards_shown rs
 
--- the ways to deal the groups of the rounds after some, to both players, from the cards that the first rounds leave
+-- the ways to deal the groups of all rounds after a round to both players, from the cards that the rounds up to it leave
 abbrev pub ways_on : Game → ℕ → ℕ
 ways_on g round = draws (sum g.copies - cards_shown (take round g.rounds) - own_cards_of (take round g.rounds)) (deal_sizes (drop round g.rounds))
 
--- a game that deals the first rounds of another and then a round of no cards, from the same cards; how it is bet and how hands are ranked does not matter
+-- h deals the first rounds of g, from the same cards, and then a round of no cards; its betting and its ranking do not matter
 pub record StopsAfter (g : Game) (round : ℕ) (h : Game) : Type 0 where
   pub copies : h.copies ≡ g.copies
   pub sizes : seen_sizes h.rounds ≡ seen_sizes (take round g.rounds) ++ 0 ∷ 0 ∷ []

@@ -1,4 +1,4 @@
--- The limits that a valid game keeps, on which the crates above rest.
+-- The limits that a valid game keeps; the crates above rely on them.
 use Rattle.std.specs.Prelude.{ℕ, ◌+◌, ◌<◌, ◌≤◌, ◌≡◌, true, length, All}
 use Rattle.gs_model.specs.Deals.{deals}
 use Rattle.gs_model.specs.Frame.{frame_of, total_weight}
@@ -7,7 +7,7 @@ use Rattle.gs_model.specs.Outcome.{IsBonus}
 use Rattle.gs_model.specs.Signals.{signals}
 use Rattle.gs_game.specs.Refusals.{own_cards, public_cards, ranks}
 
--- a valid game has 1 to 4 rounds, and its numbers of signals and deals, and the weight of all deals, are within the limits
+-- a valid game has 1 to 4 rounds, at most 200,000 raw signals in each, at most 8,000,000 deals, and a weight of all deals of at most 67,108,864
 pub record IsWithinLimits (g : Game) : Type 0 where
   pub some_round : 0 < round_count g
   pub few_rounds : round_count g ≤ 4
@@ -15,7 +15,8 @@ pub record IsWithinLimits (g : Game) : Type 0 where
   pub deals_in : length (deals g) ≤ 8000000
   pub weight_in : total_weight (frame_of g) ≤ 67108864
 
--- what the signals and hands of a game rest on: small groups, hands that the ranking can rank, a bonus for each category
+-- what the signals and hands of a game rely on: at most 2 private and 3 public cards in each round, hands that the ranking can rank, and a bonus for each
+-- category
 pub record IsDealable (g : Game) : Type 0 where
   pub small : All (λ (r : Round). (r.private ≤ 2) × (r.public ≤ 3)) g.rounds
   pub ranked : ranks g.ranking (own_cards g.rounds) (own_cards g.rounds + public_cards g.rounds) ≡ true

@@ -3,7 +3,7 @@ use Rattle.std.specs.Prelude.{ℕ, ◌+◌, ◌*◌, ◌^◌, ◌≤◌, ◌≡�
 use Rattle.gs_model.specs.Betting.{Bet, Moves, act, fold, even, none, move}
 use Rattle.gs_bet.specs.Grammar.{is_sound, are_sound}
 
--- the first where it is there, else the second
+-- the first value if there is one, else the second
 abbrev pub first_of : {X : Type 0} → Option X → Option X → Option X
 first_of (Some x) other = Some x
 first_of None other = other
@@ -12,7 +12,7 @@ first_of None other = other
 abbrev pub one_after : ℕ → ℕ → ℕ → ℕ
 one_after player chips one = if player == 1 then one + chips else one
 
--- what player 2 has put after it
+-- what player 2 has put after a move of a player
 abbrev pub two_after : ℕ → ℕ → ℕ → ℕ
 two_after player chips two = if player == 1 then two else two + chips
 
@@ -29,56 +29,56 @@ abbrev mutual
   any_even (move letter chips next moves) = has_even next || any_even moves
 
 abbrev mutual
-  -- the letters to the first even leaf, in tree order, where the players have put different amounts; the letters, and what each has put, begin
-  -- as given
+  -- the letters to the first even leaf, in tree order, where the players have put different amounts. `path` holds the letters so far, and `one` and `two`
+  -- what each player has put so far
   pub uneven_path : List ℕ → ℕ → ℕ → Bet → Option (List ℕ)
   uneven_path path one two (act player moves) = uneven_move path one two player moves
   uneven_path path one two fold = None
   uneven_path path one two even = if one == two then None else Some path
 
-  -- the first such path below the moves of a choice, from the first move on
+  -- the letters to the first such leaf below the moves of a choice
   pub uneven_move : List ℕ → ℕ → ℕ → ℕ → Moves → Option (List ℕ)
   uneven_move path one two player none = None
   uneven_move path one two player (move letter chips next moves) =
       first_of (uneven_path (path ++ letter ∷ []) (one_after player chips one) (two_after player chips two) next) (uneven_move path one two player moves)
 
 abbrev mutual
-  -- the most that one player has put at any end, by what both have put before a tree; `go_on` gives that of what follows an even leaf
+  -- the most that one player has put at any end. `one` and `two` are what each has put before the tree; `go_on` gives the most behind an even leaf
   pub most_put : (ℕ → ℕ → ℕ) → ℕ → ℕ → Bet → ℕ
   most_put go_on one two (act player moves) = most_moved go_on one two player moves
   most_put go_on one two fold = max one two
   most_put go_on one two even = go_on one two
 
-  -- the most over the moves of a choice
+  -- the most that one player has put at any end below the moves of a choice
   pub most_moved : (ℕ → ℕ → ℕ) → ℕ → ℕ → ℕ → Moves → ℕ
   most_moved go_on one two player none = 0
   most_moved go_on one two player (move letter chips next moves) =
       max (most_put go_on (one_after player chips one) (two_after player chips two) next) (most_moved go_on one two player moves)
 
--- the same over the rounds that are left; after the last one comes the showdown
+-- the most that one player has put at any end of the rounds that are left; after the last round comes the showdown
 abbrev pub most_in : List Bet → ℕ → ℕ → ℕ
 most_in [] one two = max one two
 most_in (t ∷ ts) one two = most_put (most_in ts) one two t
 
--- the most that is put after an even leaf, over what was put before it, by the player who has put more
+-- what the player who has put more has put, and `above` more
 abbrev pub put_above : ℕ → ℕ → ℕ → ℕ
 put_above above one two = max one two + above
 
--- the acts within each other in a tree, at 4,096 chips each, leave each player at 2^24 or below, by what was put before it
+-- a tree leaves each player at 2^24 chips or below: what was put before it, and 4,096 chips for each level of acts
 pub record Fits (one two : ℕ) (t : Bet) : Type 0 where
   pub left : ℕ
   pub sound : is_sound left t ≡ true
   pub room_one : one + left * 4096 ≤ 2 ^ 24
   pub room_two : two + left * 4096 ≤ 2 ^ 24
 
--- the trees that moves lead to leave such room, with one act more for the move itself
+-- the trees that the moves lead to leave this room, with one more level of acts for the move itself
 pub record MovesFit (one two : ℕ) (ms : Moves) : Type 0 where
   pub left : ℕ
   pub sound : are_sound left ms ≡ true
   pub room_one : one + (left + 1) * 4096 ≤ 2 ^ 24
   pub room_two : two + (left + 1) * 4096 ≤ 2 ^ 24
 
--- what a search along a path answers: where it found, the path stands in its list; else its list is as before
+-- the result of a search along a path: if the path is found, the list holds it; else the list is as before
 abbrev pub Searched : List ℕ → List ℕ → Bool → Option (List ℕ) → Type 0
 Searched old new true sought = sought ≡ Some new
 Searched old new false sought = (sought ≡ None) × (new ≡ old)

@@ -1,4 +1,4 @@
--- Points and ends of the program, as the walk of the betting trees has them.
+-- Steps, points and ends of the program, as the definitions see them.
 use Rattle.std.specs.Prelude.{ℕ, List, map, Option, option_map, ◌==◌, if◌then◌else◌}
 use Rattle.gs_model.specs.Positions.{Step, Target, at_point, at_end, Arrow, Point, EndKind, End}
 use Rattle.gs_model.specs.Positions as model
@@ -24,18 +24,18 @@ target_of (targets.End z) = at_end z
 abbrev pub arrow_of : StoredArrow → Arrow
 arrow_of a = record { letter = a.letter; to = target_of a.to }
 
--- a point with its own player's last step alone
+-- a point with the last step of its own player alone
 pub record OwnPoint : Type 0 where
   pub player : ℕ
   pub round : ℕ
   pub own : Option Step
   pub moves : List Arrow
 
--- what a player knows of the own last step at a point of the walk
+-- a point of the walk, with the last step of its own player alone
 abbrev pub own_point : Point → OwnPoint
 own_point p = record { player = p.player; round = p.round; own = if p.player == 1 then p.one else p.two; moves = p.moves }
 
--- a point of the program, as such a point
+-- a point of the program, as the definitions see it
 abbrev pub point_of : StoredPoint → OwnPoint
 point_of p = record { player = p.player; round = p.round; own = option_map step_of p.own; moves = map arrow_of p.moves.items }
 

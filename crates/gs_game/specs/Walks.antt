@@ -11,7 +11,7 @@ use Rattle.gs_game.specs.declared.positions.Point.{Point as StoredPoint}
 use Rattle.gs_game.specs.declared.positions.End.{End as StoredEnd}
 use Rattle.gs_game.specs.declared.positions.Target.{Target as StoredTarget}
 
--- a place of the program, by how many points and ends are numbered
+-- a place of the program, as the definitions see it; `points` and `ends` say how many are numbered so far
 abbrev pub place_of : StoredPlace → ℕ → ℕ → Place
 place_of p points ends =
     record {
@@ -25,13 +25,13 @@ place_of p points ends =
       last = p.last;
     }
 
--- the points and ends so far have grown by what a walk from a place makes, and `to` is its root
+-- the points and ends so far have grown by what a walk from the place `start` gives, and `to` is its root
 pub record Grows (points new_points : List StoredPoint) (ends new_ends : List StoredEnd) (to : StoredTarget) (start : Place) (w : Walked) : Type 0 where
   pub points_are : map point_of new_points ≡ map point_of points ++ map own_point w.points
   pub ends_are : map end_of new_ends ≡ map end_of ends ++ w.ends
   pub root_is : target_of to ≡ root start w.points
 
--- the numbers of a walk of a tree, and then of some rounds, are small
+-- the numbers stay small in a walk of a tree, and then of some rounds
 pub record IsWalkable (rest : List Bet) (t : Bet) (p : Place) : Type 0 where
   pub left : ℕ
   pub sound : is_sound left t ≡ true
@@ -40,7 +40,7 @@ pub record IsWalkable (rest : List Bet) (t : Bet) (p : Place) : Type 0 where
   pub points : p.point + points_of (points_in rest) t < 2 ^ 32
   pub ends : p.end + ends_of (ends_in rest) t < 2 ^ 32
 
--- the numbers of a walk of the moves of a point, from one of them on, and then of some rounds, are small
+-- the numbers stay small in a walk of the moves of a point, from one of them on, and then of some rounds
 pub record AreWalkable (rest : List Bet) (player : ℕ) (ms : Moves) (p : Place) : Type 0 where
   pub left : ℕ
   pub sound : are_sound left ms ≡ true
@@ -49,7 +49,7 @@ pub record AreWalkable (rest : List Bet) (player : ℕ) (ms : Moves) (p : Place)
   pub points : p.point + move_points (points_in rest) ms < 2 ^ 32
   pub ends : p.end + move_ends (ends_in rest) ms < 2 ^ 32
 
--- the numbers of a walk of the rounds that are left are small
+-- the numbers stay small in a walk of the rounds that are left
 pub record RoundsWalkable (rounds : List Bet) (p : Place) : Type 0 where
   pub round : p.round + length rounds ≤ 4
   pub put : most_in rounds p.put_one p.put_two ≤ 4096

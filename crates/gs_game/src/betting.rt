@@ -1,4 +1,4 @@
-//! The refusals on a game's betting.
+//! Checks a game's betting.
 
 ghost use Rattle.std.specs.Prelude.{◌≡◌, ◌≤◌, ◌<◌, ◌+◌, ◌-◌, ◌*◌, ◌^◌, ℕ, None, MatchResult, length, min};
 ghost use Rattle.gs_bet.specs.TreeView.{plain};
@@ -12,7 +12,7 @@ use crate::money::{Put, find_uneven, has_even, most_above};
 use gs_bet::Tree;
 use std::alloc::Global;
 
-/// Whether each of these trees but the last has an even leaf. The first of them is of the round of this number.
+/// Checks that each of these trees but the last has an even leaf. Fails with the first round that has none. The first tree is that of round `number`.
 fn check_evens(rounds: &[Round], number: u8) -> Result<(), GameFault>
     requires { number + length rounds.now ≤ 5 }
     ensures { MatchResult result (λ _. no_even_from number (plain_trees rounds.now) ≡ None) (IsFaultOf (no_even_from number (plain_trees rounds.now))) }
@@ -28,7 +28,7 @@ fn check_evens(rounds: &[Round], number: u8) -> Result<(), GameFault>
     }
 }
 
-/// Whether the players have put the same at each even leaf of these trees. The first of them is of the round of this number.
+/// Checks that the players have put the same at each even leaf of these trees. Fails with the first uneven leaf. The first tree is that of round `number`.
 fn check_uneven(alloc: Global, rounds: &[Round], number: u8) -> Result<(), GameFault>
     requires { number + length rounds.now ≤ 5 }
     ensures { MatchResult result (λ _. uneven_from number (plain_trees rounds.now) ≡ None) (IsFaultOf (uneven_from number (plain_trees rounds.now))) }
@@ -48,7 +48,7 @@ fn check_uneven(alloc: Global, rounds: &[Round], number: u8) -> Result<(), GameF
     }
 }
 
-/// The most that one player puts in these rounds.
+/// Returns the most that one player puts in these rounds, in chips.
 fn most_put(rounds: &[Round]) -> u32
     requires few { length rounds.now ≤ 4 }
     requires even { uneven_from 1 (plain_trees rounds.now) ≡ None }
@@ -61,7 +61,7 @@ fn most_put(rounds: &[Round]) -> u32
     }
 }
 
-/// The ends below a tree, by how many follow an even leaf, as far as 128 bits hold their number.
+/// Returns the number of ends below a tree, 2^128 - 1 if there are more. Behind each even leaf there are `more`.
 fn count_ends(tree: &Tree, more: u128) -> u128
     ensures { result ≡ min (ends_of more (plain tree.now)) (2 ^ 128 - 1) }
 {
@@ -78,7 +78,7 @@ fn count_ends(tree: &Tree, more: u128) -> u128
     }
 }
 
-/// The ends of these rounds, as far as 128 bits hold their number.
+/// Returns the number of ends of these rounds, 2^128 - 1 if there are more.
 fn count_lines(rounds: &[Round]) -> u128
     ensures { result ≡ min (ends_in (plain_trees rounds.now)) (2 ^ 128 - 1) }
 {
@@ -88,7 +88,7 @@ fn count_lines(rounds: &[Round]) -> u128
     }
 }
 
-/// The greatest bonus.
+/// Returns the greatest bonus, 0 if there is none.
 fn greatest_bonus(bonus: &[u8]) -> u8
     ensures { result ≡ greatest bonus.now }
 {
@@ -99,7 +99,7 @@ fn greatest_bonus(bonus: &[u8]) -> u8
     most
 }
 
-/// Whether what one player puts, times the greatest bonus, is small enough.
+/// Checks that the most that one player puts, ante included, times the greatest bonus, is at most 4,096 chips.
 #[tactic(auto, unfolding(crate::specs::Refusals::put_refusal))]
 fn check_put(game: &Game) -> Result<(), GameFault>
     requires few { length game.now.rounds.items ≤ 4 }
@@ -116,7 +116,7 @@ fn check_put(game: &Game) -> Result<(), GameFault>
     Ok(())
 }
 
-/// Whether the ends are few enough.
+/// Checks that there are at most 8,192 ends.
 #[tactic(auto, unfolding(crate::specs::Refusals::lines_refusal))]
 fn check_lines(game: &Game) -> Result<(), GameFault>
     ensures { MatchResult result (λ _. lines_refusal (game_of game.now) ≡ None) (IsFaultOf (lines_refusal (game_of game.now))) }
@@ -128,7 +128,7 @@ fn check_lines(game: &Game) -> Result<(), GameFault>
     Ok(())
 }
 
-/// Whether the game's betting is as it has to be.
+/// Checks a game's betting. Fails with the first refusal that applies to it: even leaves, equal money, the most put, the number of ends.
 #[tactic(auto, unfolding(crate::specs::Refusals::betting_refusal, crate::specs::Refusals::even_refusal, crate::specs::Refusals::uneven_refusal))]
 pub fn check_betting(alloc: Global, game: &Game) -> Result<(), GameFault>
     requires few { length game.now.rounds.items ≤ 4 }

@@ -1,4 +1,4 @@
-//! The refusals on a game's cards.
+//! Checks a game's rounds and cards.
 
 ghost use Rattle.std.specs.Prelude.{◌≡◌, ◌≤◌, ◌*◌, ◌↔◌, EachIndex, IsTrue, None, MatchResult, All, length, slice_index, sum, sum_by};
 ghost use Rattle.gs_card.specs.Rankings.{ranking_of};
@@ -8,7 +8,7 @@ use crate::faults::GameFault;
 use crate::game::{Game, Round};
 use gs_card::Ranking;
 
-/// One player's own cards over all rounds, and the public ones.
+/// Returns the number of one player's own cards over all rounds, and that of the public cards.
 fn cards_over(rounds: &[Round]) -> (u8, u8)
     requires few { length rounds.now ≤ 4 }
     requires cards { All HasFewCards rounds.now }
@@ -25,7 +25,7 @@ fn cards_over(rounds: &[Round]) -> (u8, u8)
     (own, public)
 }
 
-/// All copies of all kinds.
+/// Returns the number of all copies of all kinds.
 pub fn all_copies(counts: &[u8]) -> u32
     requires { length counts.now ≤ 52 }
     ensures { result ≡ sum counts.now }
@@ -37,14 +37,14 @@ pub fn all_copies(counts: &[u8]) -> u32
     all
 }
 
-/// Whether no kind has more than one copy.
+/// Returns whether no kind has more than one copy.
 pub fn are_single(copies: &[u8]) -> bool
     ensures { IsTrue result ↔ EachIndex copies.now (λ card. slice_index copies.now card ≤ 1) }
 {
     copies.iter().all(|count| *count <= 1)
 }
 
-/// Whether the ranking can rank hands, by the number of own cards and of all cards.
+/// Returns whether the ranking can rank hands, by the number of own cards and of all cards.
 fn ranks(ranking: Ranking, own: u8, all: u8) -> bool
     ensures { result ≡ ranks (ranking_of ranking) own all }
 {
@@ -54,7 +54,8 @@ fn ranks(ranking: Ranking, own: u8, all: u8) -> bool
     }
 }
 
-/// Whether the game's cards are as they have to be.
+/// Checks a game's rounds and cards. Fails with the first refusal that applies to them: the number of rounds, the private card of round 1, the ranking, the
+/// copies.
 #[tactic(auto, unfolding(crate::specs::Refusals::card_refusal, crate::specs::Refusals::rounds_refusal, crate::specs::Refusals::private_refusal, crate::specs::Refusals::ranking_refusal, crate::specs::Refusals::copies_refusal))]
 pub fn check_cards(game: &Game) -> Result<(), GameFault>
     requires { All HasFewCards game.now.rounds.items }

@@ -1,4 +1,4 @@
-//! The test of a game.
+//! Checks that a game keeps every rule.
 
 ghost use Rattle.std.specs.Prelude.{◌≡◌, ◌≤◌, All, None, IfOk, IfErr};
 ghost use Rattle.gs_card.specs.Rankings.{ranking_of};
@@ -16,7 +16,7 @@ use crate::walk::{Walk, walk_from};
 use std::alloc::Global;
 
 impl Game {
-    /// The game, if it keeps every rule; else the first refusal that applies.
+    /// Returns the game as a valid game if it keeps every rule. Fails with the first refusal that applies, or if memory runs out.
     pub fn check(self, alloc: Global) -> Result<ValidGame, GameFault>
         requires some_ante { 1 ≤ self.ante }
         requires ante { self.ante ≤ 4096 }

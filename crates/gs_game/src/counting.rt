@@ -1,24 +1,25 @@
-//! Counting sequences of groups of cards.
+//! Counts sequences of groups of cards.
 
 ghost use Rattle.std.specs.Prelude.{◌≡◌, ◌≤◌, ◌<◌, ◌↔◌, EachIndex, IsTrue, count_by, min, length, nat_lt, slice_index, sum_by};
 ghost use Rattle.gs_model.specs.Cards.{groups_above, groups_with, left_after};
 ghost use Rattle.gs_game.specs.Sequences.{count_sequences};
 
-/// How many kinds have copies left.
+/// Returns the number of kinds that have copies left.
 fn kinds_left(left: &[u8]) -> u64
     ensures { result ≡ count_by (λ copies. nat_lt 0 copies) left.now }
 {
     left.iter().filter(|copies| **copies > 0).count() as u64
 }
 
-/// Whether groups of these sizes have no cards.
+/// Returns whether groups of these sizes have no cards.
 fn take_nothing(sizes: &[u8]) -> bool
     ensures { IsTrue result ↔ EachIndex sizes.now (λ k. slice_index sizes.now k ≡ 0) }
 {
     sizes.iter().all(|size| *size == 0)
 }
 
-/// How many sequences there are of a group of `size` cards of the kinds from `least` on and groups of the later sizes, as far as `cap`.
+/// Returns the number of sequences of a group and then groups of the later sizes, `cap` if there are more. The group has `size` cards of the kinds from
+/// `least` on.
 #[cycle(counter)]
 fn count_from(left: &mut [u8], least: usize, size: u8, later: &[u8], cap: u64) -> u64
     requires { least ≤ length left.old }
@@ -44,7 +45,7 @@ fn count_from(left: &mut [u8], least: usize, size: u8, later: &[u8], cap: u64) -
     total
 }
 
-/// The same where the first card of the group is given, and `size` others follow.
+/// Returns the number of sequences of a group and then groups of the later sizes, `cap` if there are more. The group has this first card and `size` others.
 #[cycle(counter)]
 fn count_with(left: &mut [u8], card: usize, size: u8, later: &[u8], cap: u64) -> u64
     requires { card < length left.old }
@@ -60,7 +61,7 @@ fn count_with(left: &mut [u8], card: usize, size: u8, later: &[u8], cap: u64) ->
     count
 }
 
-/// How many sequences of groups of these sizes there are, as far as `cap`.
+/// Returns the number of sequences of groups of these sizes, `cap` if there are more. `left` is changed to count, and then restored.
 pub fn count_sequences(left: &mut [u8], sizes: &[u8], cap: u64) -> u64
     ensures count { result ≡ min (count_sequences left.old sizes.now) cap }
     ensures kept { left.new ≡ left.old }

@@ -1,4 +1,4 @@
-//! The refusals on a game's signals and deals.
+//! Checks the weight of a game's deals, and the numbers of its signals and deals.
 
 ghost use Rattle.std.specs.Prelude.{◌≡◌, ◌≤◌, ◌<◌, ◌+◌, ◌*◌, None, IfOk, OnOk, MatchResult, All, length, map, min, sum, ◌++◌};
 ghost use Rattle.gs_model.specs.{Cards.{choose}, Deals.{deals}, Frame.{frame_of, total_weight}};
@@ -12,7 +12,7 @@ use crate::faults::GameFault;
 use crate::game::{Game, Round};
 use std::alloc::{AllocError, Global};
 
-/// The ways to choose `size` of `n` things, in no order.
+/// Returns the number of ways to choose `size` of `n` things, in no order.
 fn choose(n: u32, size: u8) -> u128
     requires few { n ≤ 468 }
     requires size { size ≤ 3 }
@@ -27,7 +27,7 @@ fn choose(n: u32, size: u8) -> u128
     }
 }
 
-/// The ways to draw groups of these sizes, one after another, from `copies` cards.
+/// Returns the number of ways to draw groups of these sizes, one after another, from `copies` cards.
 fn draws(copies: u32, sizes: &[u8]) -> u128
     requires few { copies ≤ 468 }
     requires small { All (λ size. size ≤ 3) sizes.now }
@@ -42,7 +42,7 @@ fn draws(copies: u32, sizes: &[u8]) -> u128
     }
 }
 
-/// Writes the sizes of the groups that a player sees.
+/// Adds the sizes of the groups that a player sees, round by round.
 fn push_seen(sizes: &mut Vec<u8>, rounds: &[Round]) -> Result<(), AllocError>
     ensures { OnOk result (sizes.new.items ≡ sizes.old.items ++ seen_sizes (map round_of rounds.now)) }
 {
@@ -53,7 +53,7 @@ fn push_seen(sizes: &mut Vec<u8>, rounds: &[Round]) -> Result<(), AllocError>
     Ok(())
 }
 
-/// Writes the sizes of a player's own groups.
+/// Adds the sizes of a player's own groups, round by round.
 fn push_private(sizes: &mut Vec<u8>, rounds: &[Round]) -> Result<(), AllocError>
     ensures { OnOk result (sizes.new.items ≡ sizes.old.items ++ privates (map round_of rounds.now)) }
 {
@@ -63,7 +63,7 @@ fn push_private(sizes: &mut Vec<u8>, rounds: &[Round]) -> Result<(), AllocError>
     Ok(())
 }
 
-/// The sizes of the groups of a deal.
+/// Returns the sizes of the groups of a deal: all that player 1 sees, then player 2's own groups.
 fn sizes_of(alloc: Global, rounds: &[Round]) -> Result<Vec<u8>, AllocError>
     ensures { IfOk result (λ v. v.items ≡ deal_sizes (map round_of rounds.now)) }
 {
@@ -73,7 +73,7 @@ fn sizes_of(alloc: Global, rounds: &[Round]) -> Result<Vec<u8>, AllocError>
     Ok(sizes)
 }
 
-/// Whether each of these rounds has few enough raw signals.
+/// Checks that no round has more than 200,000 raw signals. Fails with the first round that has more. `left` is changed to count, and then restored.
 #[tactic(auto, unfolding(crate::specs::Refusals::signals_refusal))]
 fn check_signals(game: &Game, left: &mut [u8], sizes: &[u8]) -> Result<(), GameFault>
     requires few { length game.now.rounds.items ≤ 4 }
@@ -93,8 +93,8 @@ fn check_signals(game: &Game, left: &mut [u8], sizes: &[u8]) -> Result<(), GameF
     Ok(())
 }
 
-/// How many sequences there are of groups of these sizes, as far as 8,000,001, from the ways to draw them: where no kind has more than one
-/// copy, each sequence is drawn in one way.
+/// Returns the number of sequences of groups of these sizes, 8,000,001 if there are more. `ways` is the number of ways to draw them: where no kind has more
+/// than one copy, each sequence is drawn in one way.
 fn count_deals(left: &mut [u8], sizes: &[u8], ways: u64) -> u64
     requires { ways ≡ draws (sum left.old) sizes.now }
     ensures count { result ≡ min (count_sequences left.old sizes.now) 8000001 }
@@ -107,7 +107,7 @@ fn count_deals(left: &mut [u8], sizes: &[u8], ways: u64) -> u64
     }
 }
 
-/// The number of deals, where there are few enough raw signals and deals. `weight` is the weight of all deals.
+/// Returns the number of deals. Fails if some round has too many raw signals, or if there are too many deals. `weight` is the weight of all deals.
 fn check_counts(game: &Game, left: &mut [u8], sizes: &[u8], weight: u64) -> Result<u32, GameFault>
     requires few { length game.now.rounds.items ≤ 4 }
     requires left { left.old ≡ game.now.deck.counts }
@@ -124,14 +124,15 @@ fn check_counts(game: &Game, left: &mut [u8], sizes: &[u8], weight: u64) -> Resu
     Ok(count as u32)
 }
 
-/// The deals of a game: how many there are, and their weight.
+/// The number of a game's deals and the sum of their weights.
 #[derive(Clone, Copy, Debug, PartialEq, Eq)]
 pub struct DealTotals {
     pub count: u32,
     pub weight: u64,
 }
 
-/// The number and the weight of all deals, where the signals and deals are few enough.
+/// Returns the number and the weight of all deals. Fails with the first refusal that applies to them: their weight, the raw signals of a round, their
+/// number.
 pub fn check_deals(alloc: Global, game: &Game) -> Result<DealTotals, GameFault>
     requires cards { All HasFewCards game.now.rounds.items }
     requires checked { card_refusal (game_of game.now) ≡ None }

@@ -5,28 +5,28 @@ ghost use Rattle.gs_game.specs.declared.faults.GameFault.TheVariants.{Memory};
 
 use std::alloc::AllocError;
 
-/// Why a game is refused. The first that applies is answered, in this order.
+/// Why a game is refused. The first reason that applies is returned, in this order.
 #[derive(Debug, Drop)]
 pub enum GameFault {
-    /// The rounds are not 1 to 4.
+    /// There is no round, or there are more than 4; `count` is their number.
     Rounds { count: u64 },
-    /// Round 1 has no private card.
+    /// Round 1 gives no private card.
     NoPrivate,
-    /// The ranking wants another number of cards: one player's own cards, and these with the public ones.
+    /// The ranking cannot rank this number of cards. `own` counts one player's own cards, `all` these and the public cards.
     RankingCards { own: u8, all: u8 },
-    /// Both players' cards and the public ones are more than all copies.
+    /// Both players' cards and the public cards, `need` in all, are more than the `have` copies of the deck.
     NotEnoughCards { need: u32, have: u32 },
-    /// The first round before the last whose tree has no even leaf.
+    /// A round before the last has no even leaf; `round` is the first such round.
     NoEven { round: u8 },
-    /// The first even leaf, by round and in tree order, where the players have put different amounts in the round; `path` is its letters.
+    /// At an even leaf the players have put different amounts in the round. `round` and the letters `path` lead to the first such leaf, in tree order.
     Uneven { round: u8, path: Vec<u8> },
-    /// The most that one player has put at any end, ante included, times the greatest bonus, is over 4,096.
+    /// The most that one player has put at any end, ante included, times the greatest bonus, is over 4,096; `chips` is this product.
     PutTooLarge { chips: u32 },
-    /// The ends are over 8,192: their number, or 2^128 - 1 where it is more.
+    /// There are more than 8,192 ends; `count` is their number, 2^128 - 1 if there are more.
     TooManyLines { count: u128 },
-    /// The weight of all deals is over 67,108,864.
+    /// All deals together weigh more than 67,108,864; `weight` is their weight.
     TooHeavy { weight: u128 },
-    /// The first round with more than 200,000 raw signals.
+    /// A round has more than 200,000 raw signals; `round` is the first such round.
     TooManySignals { round: u8 },
     /// There are more than 8,000,000 deals.
     TooManyDeals,

@@ -13,7 +13,8 @@ pub struct Round {
 
 /// A game as its author states it, valid or not.
 ///
-/// `bonus` says for each category of the ranking, the lowest first, how many times the put a hand of it wins at the showdown; all 1 is the usual game.
+/// `bonus` has a number for each category of the ranking, the lowest first: at the showdown a winning hand of the category wins that many times the put. All
+/// 1 is the usual game.
 #[derive(Drop)]
 pub struct Game {
     pub deck: Deck,

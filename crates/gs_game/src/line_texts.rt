@@ -1,4 +1,4 @@
-//! Writing the text of a line.
+//! Writes the text of a line.
 
 ghost use Rattle.std.specs.{Prelude.{◌≡◌, ℕ, Some, MatchOption, OnOk, true}, String.{string_bytes}};
 ghost use Rattle.gs_bet.specs.{Grammar.{are_sound, is_sound}, TreeView.{plain, plain_moves}, declared.shape.Act.{out-Act}};
@@ -13,7 +13,7 @@ use crate::valid::ValidGame;
 use gs_bet::{Act, Tree};
 use std::alloc::{AllocError, Global};
 
-/// A position by its number behind others; none if it is among these.
+/// Returns a position by its number behind the first `others`; none if it is among these.
 fn past(at: Target, others: Numbers) -> Option<Target>
     ensures { MatchOption result (IsAmong others.points others.ends (target_of at))
         (λ further. IsPast others.points others.ends (target_of at) (target_of further)) }
@@ -34,7 +34,7 @@ fn past(at: Target, others: Numbers) -> Option<Target>
     }
 }
 
-/// Writes what leads to a position of some rounds.
+/// Writes the text that leads to a position of some rounds.
 #[cycle(writer)]
 fn push_from(out: &mut String, rounds: &[Round], at: Target) -> Result<(), AllocError>
     requires room { RoundsFollow (plain_trees rounds.now) 0 0 }
@@ -50,7 +50,7 @@ fn push_from(out: &mut String, rounds: &[Round], at: Target) -> Result<(), Alloc
     }
 }
 
-/// Writes what leads to a position of a tree or behind it.
+/// Writes the text that leads to a position of a tree or behind it.
 #[cycle(writer)]
 fn push_below(
     out: &mut String,
@@ -77,7 +77,7 @@ fn push_below(
     }
 }
 
-/// Writes what leads from a choice to a position behind it.
+/// Writes the text that leads from a choice to a position behind it.
 #[cycle(writer)]
 fn push_act(
     out: &mut String,
@@ -111,7 +111,7 @@ impl ValidGame {
     ghost use Rattle.gs_model.specs.Frame.{trees_of};
     ghost use Rattle.gs_game.specs.{Games.{game_of}, Lines.{lines}, Valid.{walk_of}};
 
-    /// The text of the line to a point or end.
+    /// Returns the text of the line to a point or end. Fails only if memory runs out.
     pub fn line_text(&self, alloc: Global, at: Target) -> Result<String, AllocError>
         requires { IsAmong (length (walk_of (game_of self.now.game)).points) (length (walk_of (game_of self.now.game)).ends) (target_of at) }
         ensures { IfOk result (λ text. text_at (lines (trees_of (game_of self.now.game))) (target_of at) ≡ Some (string_bytes text)) }

@@ -1,4 +1,4 @@
-//! The texts of lines.
+//! Finds the position that the text of a line names.
 
 ghost use Rattle.std.specs.Prelude.{◌≡◌, ◌<◌, ◌+◌, ◌^◌, [], None, option_map};
 ghost use Rattle.gs_bet.specs.{TreeView.{plain, plain_moves}, declared.shape.Act.{out-Act}};
@@ -11,14 +11,14 @@ use crate::positions::Target;
 use crate::valid::ValidGame;
 use gs_bet::{Act, Tree};
 
-/// How many points and ends there are, or stand before a place.
+/// A number of points and a number of ends.
 #[derive(Clone, Copy)]
 pub struct Numbers {
     pub points: u32,
     pub ends: u32,
 }
 
-/// The points and ends of a tree and below it, by how many follow an even leaf.
+/// Returns the number of points of a tree and below it, and the number of its ends. Behind each even leaf there are `more`.
 pub fn numbers_below(tree: &Tree, more: Numbers) -> Numbers
     requires points { points_of more.points (plain tree.now) < 2 ^ 32 }
     requires ends { ends_of more.ends (plain tree.now) < 2 ^ 32 }
@@ -40,7 +40,7 @@ pub fn numbers_below(tree: &Tree, more: Numbers) -> Numbers
     }
 }
 
-/// The points and ends of the rounds that are left.
+/// Returns the number of points and the number of ends of the rounds that are left.
 pub fn numbers_in(rounds: &[Round]) -> Numbers
     requires evens { no_even_from 1 (plain_trees rounds.now) ≡ None }
     requires points { points_in (plain_trees rounds.now) < 2 ^ 32 }
@@ -54,7 +54,7 @@ pub fn numbers_in(rounds: &[Round]) -> Numbers
     }
 }
 
-/// The position that a text names in some rounds, whose points and ends are numbered from `before` on.
+/// Returns the position that a text names in some rounds. Their points and ends are numbered from `before` on.
 #[cycle(follower)]
 fn follow_from(rounds: &[Round], before: Numbers, text: &[u8]) -> Option<Target>
     requires { RoundsFollow (plain_trees rounds.now) before.points before.ends }
@@ -71,7 +71,7 @@ fn follow_from(rounds: &[Round], before: Numbers, text: &[u8]) -> Option<Target>
     }
 }
 
-/// The end that stands here, if the text is over.
+/// Returns the end at this place if the text is over, else none.
 fn end_here(before: Numbers, text: &[u8]) -> Option<Target>
     ensures { option_map target_of result ≡ follow_from [] before.points before.ends text.now }
 {
@@ -81,7 +81,7 @@ fn end_here(before: Numbers, text: &[u8]) -> Option<Target>
     }
 }
 
-/// The same in a tree, behind whose even leaves the rounds that are left follow.
+/// Returns the position that a text names in a tree. Behind its even leaves come the rounds `rest`, with `more` points and ends.
 #[cycle(follower)]
 fn follow_below(
     tree: &Tree,
@@ -112,7 +112,7 @@ fn follow_below(
     }
 }
 
-/// The same behind a choice, by the move of this letter.
+/// Returns the position that a text names behind a choice, by the move with this letter.
 #[cycle(follower)]
 fn follow_act(
     act: &Act,
@@ -145,7 +145,7 @@ impl ValidGame {
     ghost use Rattle.gs_model.specs.{Frame.{trees_of}, Positions.{Target as Position}};
     ghost use Rattle.gs_game.specs.{Games.{game_of}, Lines.{lines, text_at}};
 
-    /// The point or end whose line has this text: none where it is no line's text.
+    /// Returns the point or end whose line has this text, none where no line has it.
     pub fn line_of(&self, text: &str) -> Option<Target>
         ensures found { IfSome result (λ at. text_at (lines (trees_of (game_of self.now.game))) (target_of at) ≡ Some text.now) }
         ensures only { (at : Position) → text_at (lines (trees_of (game_of self.now.game))) at ≡ Some text.now → option_map target_of result ≡ Some at }

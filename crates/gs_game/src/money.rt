@@ -7,7 +7,7 @@ ghost use Rattle.gs_game.specs.Money.{Fits, Searched, has_even, most_put, one_af
 use gs_bet::Tree;
 use std::alloc::AllocError;
 
-/// What each player has put.
+/// What each player has put, in chips.
 #[derive(Clone, Copy)]
 pub struct Put {
     pub one: u32,
@@ -15,7 +15,7 @@ pub struct Put {
 }
 
 impl Put {
-    /// What they have put after a move of a player.
+    /// Returns what both have put after a player's move.
     pub fn after(self, player: u8, chips: u16) -> Put
         requires one { self.one ≤ 2 ^ 24 }
         requires two { self.two ≤ 2 ^ 24 }
@@ -37,7 +37,7 @@ impl Put {
     }
 }
 
-/// Whether some path ends the round evenly.
+/// Returns whether some path ends the round evenly.
 pub fn has_even(tree: &Tree) -> bool
     ensures { result ≡ has_even (plain tree.now) }
 {
@@ -55,7 +55,8 @@ pub fn has_even(tree: &Tree) -> bool
     }
 }
 
-/// Looks for the first even leaf where the players have put different amounts, and puts the letters that lead there behind `path`.
+/// Looks for the first even leaf, in tree order, where the players have put different amounts. Returns whether there is one, and adds the letters that lead
+/// there to `path`.
 pub fn find_uneven(tree: &Tree, put: Put, path: &mut Vec<u8>) -> Result<bool, AllocError>
     requires { Fits put.one put.two (plain tree.now) }
     ensures { IfOk result (λ found. Searched path.old.items path.new.items found (uneven_path path.old.items put.one put.two (plain tree.now))) }
@@ -76,7 +77,7 @@ pub fn find_uneven(tree: &Tree, put: Put, path: &mut Vec<u8>) -> Result<bool, Al
     }
 }
 
-/// The most that one player has put at a leaf of the tree, by what more is put after an even leaf.
+/// Returns the most that one player has put at a leaf of the tree, where `above` more is put after an even leaf.
 pub fn most_above(tree: &Tree, put: Put, above: u32) -> u32
     requires fits { Fits put.one put.two (plain tree.now) }
     requires above { above ≤ 2 ^ 28 }

@@ -6,7 +6,7 @@ ghost use Rattle.gs_game.specs.{Money.{one_after, two_after}, Seen.{end_of, step
 
 use crate::positions::{End, EndKind, Step};
 
-/// The round, what both players have put, their last steps, and who moved last.
+/// A place of a walk: the round, what both players have put, their last steps, and who moved last.
 #[derive(Clone, Copy)]
 pub struct Place {
     pub round: u8,
@@ -18,7 +18,7 @@ pub struct Place {
 }
 
 impl Place {
-    /// Before the first round: both have put the ante.
+    /// Returns the place before the first round: both players have put the ante.
     pub fn start(ante: u16) -> Place
         ensures { place_of result 0 0 ≡ walk_start ante }
     {
@@ -32,7 +32,7 @@ impl Place {
         }
     }
 
-    /// The same place in the next round.
+    /// Returns this place in the next round.
     pub fn next_round(self) -> Place
         requires { self.round < 255 }
         ensures { result ≡ record self { round = self.round + 1 } }
@@ -43,14 +43,14 @@ impl Place {
         }
     }
 
-    /// A player's last step.
+    /// Returns a player's last step.
     pub fn own(self, player: u8) -> Option<Step>
         ensures { option_map step_of result ≡ (if player == 1 then option_map step_of self.one else option_map step_of self.two) }
     {
         if player == 1 { self.one } else { self.two }
     }
 
-    /// The place after a move of a player: the player's step and chips.
+    /// Returns the place after a player's move, with the player's chips and new last step.
     pub fn after(self, player: u8, step: Step, chips: u16) -> Place
         requires one { one_after player chips self.put_one < 2 ^ 16 }
         requires two { two_after player chips self.put_two < 2 ^ 16 }
@@ -73,7 +73,7 @@ impl Place {
         }
     }
 
-    /// The end at a fold: the player who made the last move has folded.
+    /// Returns the end at a fold: the player who made the last move has folded.
     pub fn folded(self) -> End
         ensures { (points ends : ℕ) → end_of result ≡ fold_end (place_of self points ends) }
     {
@@ -91,7 +91,7 @@ impl Place {
         }
     }
 
-    /// The end at a showdown.
+    /// Returns the end at a showdown.
     pub fn shown(self) -> End
         ensures { (points ends : ℕ) → end_of result ≡ show_end (place_of self points ends) }
     {

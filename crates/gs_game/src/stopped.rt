@@ -11,7 +11,7 @@ use gs_bet::limit_tree;
 use gs_card::Ranking;
 use std::alloc::{AllocError, Global};
 
-/// Adds a round of these cards. Nobody bets in it.
+/// Adds a round that deals these numbers of cards, without betting.
 fn push_round(
     alloc: Global,
     rounds: &mut Vec<Round>,
@@ -34,7 +34,7 @@ fn push_round(
     Ok(())
 }
 
-/// Rounds that deal as these do, and then one that deals no cards.
+/// Returns rounds that deal as these do, without betting, and then one that deals no cards.
 fn stopped_rounds(alloc: Global, rounds: &[Round]) -> Result<Vec<Round>, AllocError>
     requires { All HasFewCards rounds.now }
     ensures rounds { IfOk result (λ v. map round_of v.items ≡ map (λ (r : RoundRules). unbet r.private r.public) (map round_of rounds.now)
@@ -55,12 +55,14 @@ impl ValidGame {
     ghost use Rattle.gs_game.specs.{Games.{game_of}, GoingOn.{StopsAfter, stopped_game}, Refusals.{first_refusal}};
     ghost use Rattle.gs_model.specs.Game.{round_count};
 
-    /// The game that stops after a round: its deals are the pairs of signals of that round. Hands are ranked by the own card there. None where
-    /// a rule refuses that game: where the rounds up to it deal more than one own card, or none, and where a round more is one too many.
+    /// Returns the game that stops after a round: its deals are the pairs of signals of that round. Hands are ranked by the own card there.
+    ///
+    /// Returns none where a rule refuses that game: where the rounds up to it deal no own card or more than one, and where one more round is too many. Fails
+    /// only if memory runs out.
     pub fn stopped(&self, alloc: Global, round: u8) -> Result<Option<ValidGame>, AllocError>
         requires { round ≤ round_count (game_of self.now.game) }
         ensures stops { IfOk result (λ o. IfSome o (λ v. StopsAfter (game_of self.now.game) round (game_of v.game))) }
-        // It is given exactly where no rule refuses it.
+        // It is returned exactly where no rule refuses it.
         ensures whenever { IfOk result (λ o. MatchOption o (first_refusal (stopped_game (game_of self.now.game) round) ≢ None) (λ v. game_of v.game
             ≡ stopped_game (game_of self.now.game) round)) }
     {

@@ -7,7 +7,7 @@ ghost use Rattle.gs_game.specs.{Games.{game_of}, Limits.{IsDealable, IsWithinLim
 use crate::game::Game;
 use crate::positions::{End, Point, Target};
 
-/// A game that keeps every rule, with its betting positions and the weight of all deals.
+/// A game that keeps every rule, with its betting positions, the number of its deals and their weight.
 #[derive(Drop)]
 pub struct ValidGame {
     pub(crate) game: Game,
@@ -30,42 +30,42 @@ impl ValidGame {
     ghost use Rattle.gs_model.specs.Walk.{root, walk_start};
     ghost use Rattle.gs_game.specs.{Seen.{end_of, own_point, point_of, target_of}, Valid.{walk_of}};
 
-    /// The game's description.
+    /// Returns the game's description.
     pub fn game(&self) -> &Game
         ensures { result.now ≡ self.now.game }
     {
         &self.game
     }
 
-    /// The points, by number.
+    /// Returns the points, by number.
     pub fn points(&self) -> &[Point]
         ensures { map point_of result.now ≡ map own_point (walk_of (game_of self.now.game)).points }
     {
         &self.points
     }
 
-    /// The ends, by number.
+    /// Returns the ends, by number.
     pub fn ends(&self) -> &[End]
         ensures { map end_of result.now ≡ (walk_of (game_of self.now.game)).ends }
     {
         &self.ends
     }
 
-    /// Where play starts.
+    /// Returns the position where play starts.
     pub fn start(&self) -> Target
         ensures { target_of result ≡ root (walk_start self.now.game.ante) (walk_of (game_of self.now.game)).points }
     {
         self.start
     }
 
-    /// How many deals there are.
+    /// Returns the number of deals.
     pub fn deal_count(&self) -> u32
         ensures { result ≡ length (deals_of (game_of self.now.game)) }
     {
         self.deals
     }
 
-    /// The weight of all deals.
+    /// Returns the sum of the weights of all deals.
     pub fn weight(&self) -> u64
         ensures { result ≡ total_weight (frame_of (game_of self.now.game)) }
     {

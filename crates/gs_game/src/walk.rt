@@ -18,7 +18,7 @@ pub struct Walk {
     pub ends: Vec<End>,
 }
 
-/// One end more.
+/// Adds an end, and returns its position.
 fn push_end(walk: &mut Walk, end: End) -> Result<Target, AllocError>
     requires { length walk.old.ends.items < 2 ^ 32 }
     ensures points { walk.new.points ≡ walk.old.points }
@@ -29,7 +29,7 @@ fn push_end(walk: &mut Walk, end: End) -> Result<Target, AllocError>
     Ok(Target::End(number))
 }
 
-/// Walks the rounds that are left.
+/// Walks the rounds that are left, and returns the position where they begin.
 #[cycle(walker)]
 pub fn walk_from(
     alloc: Global,
@@ -48,7 +48,7 @@ pub fn walk_from(
     }
 }
 
-/// Walks a tree, and behind its even leaves the rounds that are left.
+/// Walks a tree, and behind its even leaves the rounds that are left. Returns the position where the tree begins.
 #[cycle(walker)]
 fn walk_below(
     alloc: Global,
@@ -69,7 +69,7 @@ fn walk_below(
     }
 }
 
-/// Walks a choice: its point, and what its moves lead to.
+/// Walks a choice: its point, and what its moves lead to. Returns the point.
 #[cycle(walker)]
 fn walk_act(
     alloc: Global,

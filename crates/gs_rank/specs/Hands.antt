@@ -16,6 +16,6 @@ pub record IsHand (d : DeckValue) (r : Ranking) (own public : List ℕ) : Type 0
   pub public_of_deck : All (λ card. card < kinds d) public
   pub sized : IsSized r (length own) (length public)
 
--- a number whose category is one of the ranking's, as that of each hand's strength is
+-- a number whose category is one of the ranking's; the strength of every hand is such a number
 abbrev pub IsStrength : Ranking → ℕ → Type 0
 IsStrength r strength = category r strength < categories r

@@ -1,4 +1,4 @@
--- What three cards are, by their ranks and suits, whatever their order. Source: the rules of Rhode Island hold'em (Gilpin and Sandholm 2007).
+-- The category of three cards, by their ranks and suits, in any order. Source: the rules of Rhode Island hold'em (Gilpin and Sandholm 2007).
 use Rattle.std.specs.Prelude.{ℕ, ◌+◌, ◌<◌, ◌≤◌, ◌≡◌, ◌⊎◌}
 use Rattle.gs_model.specs.Game.{Three}
 use Rattle.gs_model.specs.Outcome.{rank_of, suit_of, three_strength, category}
@@ -31,20 +31,20 @@ number Straight = 3
 number ThreeOfAKind = 4
 number StraightFlush = 5
 
--- two cards of one rank
+-- two of the cards have one rank
 abbrev pub IsPair : ℕ → Cards → Type 0
 IsPair suits h = (rank_of suits h.first ≡ rank_of suits h.second) ⊎ (rank_of suits h.second ≡ rank_of suits h.third)
     ⊎ (rank_of suits h.first ≡ rank_of suits h.third)
 
--- three cards of one suit
+-- the three cards have one suit
 abbrev pub IsFlush : ℕ → Cards → Type 0
 IsFlush suits h = (suit_of suits h.first ≡ suit_of suits h.second) × (suit_of suits h.second ≡ suit_of suits h.third)
 
--- three consecutive ranks
+-- the three cards have consecutive ranks
 abbrev pub IsStraight : ℕ → Cards → Type 0
 IsStraight suits h = (low : ℕ) × HasRank suits h low × HasRank suits h (low + 1) × HasRank suits h (low + 2)
 
--- three cards of one rank
+-- the three cards have one rank
 abbrev pub IsThreeOfAKind : ℕ → Cards → Type 0
 IsThreeOfAKind suits h = (rank_of suits h.first ≡ rank_of suits h.second) × (rank_of suits h.second ≡ rank_of suits h.third)
 
@@ -57,7 +57,7 @@ Applies suits h Straight = IsStraight suits h
 Applies suits h ThreeOfAKind = IsThreeOfAKind suits h
 Applies suits h StraightFlush = IsStraight suits h × IsFlush suits h
 
--- a number is that of the greatest category that applies
+-- n is the number of the greatest category that applies
 pub record IsGreatest (suits : ℕ) (h : Cards) (n : ℕ) : Type 0 where
   pub applies : (c : Category) → number c ≡ n → Applies suits h c
   pub greatest : (c : Category) → Applies suits h c → number c ≤ n

@@ -7,8 +7,8 @@ ghost use Rattle.gs_rank.specs.Hands.{IsStrength};
 
 use gs_card::Ranking;
 
-/// The category of a strength, from 0 for the lowest: by the own card there is one; by a pair it is 1 where some public card has the own card's
-/// rank; by three cards it is high card, pair, flush, straight, three of a kind or straight flush, in this order.
+/// Returns the category of a strength, from 0 for the lowest. By the own card there is one. By a pair it is 1 where some public card has the own card's
+/// rank, else 0. By three cards it is, in this order: high card, pair, flush, straight, three of a kind, straight flush.
 pub fn category(ranking: Ranking, strength: u32) -> u8
     requires { IsStrength (ranking_of ranking) strength }
     ensures { result ≡ category (ranking_of ranking) strength }
@@ -20,8 +20,8 @@ pub fn category(ranking: Ranking, strength: u32) -> u8
     }
 }
 
-/// The outcome of the strength `a` against `b`: the bonus of its category where it is more, 0 where they are equal, and minus the bonus of the
-/// other's category where it is less. There is a bonus for each category, from 1 to 9.
+/// Returns the outcome of the strength `a` against `b`: the bonus of `a`'s category where `a` is greater, 0 where they are equal, and minus the bonus of
+/// `b`'s category where `b` is greater. `bonus` has a number from 1 to 9 for each category.
 pub fn outcome(bonus: &[u8], ranking: Ranking, a: u32, b: u32) -> i8
     requires bonuses { IsBonus (ranking_of ranking) bonus.now }
     requires first { IsStrength (ranking_of ranking) a }

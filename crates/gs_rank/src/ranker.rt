@@ -7,7 +7,7 @@ ghost use Rattle.gs_model.specs.Outcome.{rank_of, suit_of};
 use gs_card::{Card, Deck};
 use std::alloc::{AllocError, Global};
 
-/// The rank of each kind.
+/// Returns the rank of each kind. Fails only if memory runs out.
 fn ranks_of(alloc: Global, deck: &Deck) -> Result<Vec<u8>, AllocError>
     ensures ranks { IfOk result (λ v. v.items ≡ map (rank_of (length deck.now.suits)) (range_with_len 0 (kinds deck.now))) }
     ensures low { IfOk result (λ v. All (λ rank. rank < 64) v.items) }
@@ -20,7 +20,7 @@ fn ranks_of(alloc: Global, deck: &Deck) -> Result<Vec<u8>, AllocError>
     Ok(ranks)
 }
 
-/// The suit of each kind.
+/// Returns the suit of each kind. Fails only if memory runs out.
 fn suits_of(alloc: Global, deck: &Deck) -> Result<Vec<u8>, AllocError>
     ensures { IfOk result (λ v. v.items ≡ map (suit_of (length deck.now.suits)) (range_with_len 0 (kinds deck.now))) }
 {
@@ -32,7 +32,7 @@ fn suits_of(alloc: Global, deck: &Deck) -> Result<Vec<u8>, AllocError>
     Ok(suits)
 }
 
-/// A deck with the rank and the suit of each kind of its cards, so that many hands are ranked without a division.
+/// A deck with the rank and the suit of each kind of its cards, so that many hands can be ranked without a division.
 #[derive(Drop)]
 pub struct Ranker<'d> {
     pub deck: &'d Deck,
@@ -46,7 +46,7 @@ pub struct Ranker<'d> {
 impl<'d> Ranker<'d> {
     ghost use Rattle.std.specs.Prelude.{◌≡◌, ◌<◌, IfOk, length};
 
-    /// The ranker of a deck.
+    /// Returns the ranker of a deck. Fails only if memory runs out.
     pub fn of(alloc: Global, deck: &'d Deck) -> Result<Ranker<'d>, AllocError>
         ensures { IfOk result (λ ranker. ranker.deck.now ≡ deck.entry.now) }
     {
@@ -55,7 +55,7 @@ impl<'d> Ranker<'d> {
         Ok(Ranker { deck, ranks, suits })
     }
 
-    // The card's rank.
+    // Returns the card's rank.
     pub(crate) fn rank(&self, card: Card) -> u8
         requires { card < kinds self.now.deck.now }
         ensures rank { result ≡ rank_of (length self.now.deck.now.suits) card }
@@ -64,7 +64,7 @@ impl<'d> Ranker<'d> {
         self.ranks[usize::from(card.number())]
     }
 
-    // The card's suit.
+    // Returns the card's suit.
     pub(crate) fn suit(&self, card: Card) -> u8
         requires { card < kinds self.now.deck.now }
         ensures { result ≡ suit_of (length self.now.deck.now.suits) card }

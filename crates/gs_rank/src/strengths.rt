@@ -8,10 +8,11 @@ ghost use Rattle.gs_rank.specs.Hands.{IsHand, IsStrength};
 use crate::ranker::Ranker;
 use gs_card::{Card, Ranking};
 
-/// The place of the category in a strength; the three places after it hold ranks, each below 64.
+/// What one category counts in a strength, 64^3: below it stand three ranks, each below 64.
 const CATEGORY: u32 = 262144;
 
-/// The strength of three ranks, the highest first: the category, then the ranks that decide within it.
+/// Returns the strength of three ranks, the highest first: the category, then the ranks that decide within it. `flush` says whether all cards are of one
+/// suit.
 fn three_ranks(high: u32, middle: u32, low: u32, flush: bool) -> u32
     requires high_fits { high < 64 }
     requires middle_fits { middle < 64 }
@@ -37,7 +38,7 @@ fn three_ranks(high: u32, middle: u32, low: u32, flush: bool) -> u32
     }
 }
 
-/// The strength of three cards, in any order.
+/// Returns the strength of three cards, in any order.
 fn three_strength(ranker: &Ranker, a: Card, b: Card, c: Card) -> u32
     requires a_of_deck { a < kinds ranker.now.deck.now }
     requires b_of_deck { b < kinds ranker.now.deck.now }
@@ -54,7 +55,7 @@ fn three_strength(ranker: &Ranker, a: Card, b: Card, c: Card) -> u32
     three_ranks(high, x + y + z - high - low, low, flush)
 }
 
-/// The strength of an own card with public cards: its rank, and 64 more where some public card has the same rank.
+/// Returns the strength of an own card with public cards: its rank, and 64 more where some public card has the same rank.
 fn pair_strength(ranker: &Ranker, own: Card, public: &[Card]) -> u32
     requires own_of_deck { own < kinds ranker.now.deck.now }
     requires public_of_deck { All (λ card. card < kinds ranker.now.deck.now) public.now }
@@ -71,7 +72,7 @@ fn pair_strength(ranker: &Ranker, own: Card, public: &[Card]) -> u32
     strength
 }
 
-/// The card at a place of the own cards followed by the public ones.
+/// Returns the card at a place of the own cards followed by the public cards.
 fn card_at(own: &[Card], public: &[Card], place: usize) -> Card
     requires { place < length own.now + length public.now }
     ensures { result ≡ slice_index (own.now ++ public.now) place }
@@ -83,8 +84,9 @@ fn card_at(own: &[Card], public: &[Card], place: usize) -> Card
     }
 }
 
-/// The strength of a hand of own and public cards: more wins. By the own card it is the card's rank; by a pair 64 more where some public card has
-/// that rank; by three cards it is `category * 262144` and then the ranks that decide, the first times 4096 and the second times 64.
+/// Returns the strength of a hand of own and public cards: the greater strength wins. By the own card it is the card's rank. By a pair it is 64 more where
+/// some public card has that rank. By three cards it is `category * 262144` plus the ranks that decide: the first times 4096, the second times 64, the third
+/// times 1.
 pub fn strength(ranker: &Ranker, ranking: Ranking, own: &[Card], public: &[Card]) -> u32
     requires { IsHand ranker.now.deck.now (ranking_of ranking) own.now public.now }
     ensures value { result ≡ strength (length ranker.now.deck.now.suits) (ranking_of ranking) own.now public.now }
