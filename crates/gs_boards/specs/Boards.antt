@@ -12,25 +12,26 @@ use Rattle.gs_boards.specs.declared.pays.Pays.{Pays}
 use Rattle.gs_boards.specs.declared.pays.Pays.TheVariants.{Fixed, Showdown}
 use Rattle.gs_boards.specs.declared.place.Place.{Place}
 
--- what a player wins in a deal, by the own outcome
+-- what a player wins in a deal, in chips, by the own outcome
 abbrev pub paid : Pays → ℤ → ℤ
 paid (Fixed stake) outcome = stake
 paid (Showdown chips) outcome = pos chips *ℤ outcome
 
--- what a last-round signal is paid in its deals: over them the number of the other's signal times the weight times what the deal pays by the outcome
+-- what a last-round signal is paid in its deals: the sum, over these, of the number of the other's signal times the weight times what the deal pays at its
+-- outcome
 abbrev pub deal_sum : Game → List ℕ → (ℤ → ℤ) → ℕ → ℤ
 deal_sum g numbers pays signal =
     sum_z (λ (d : Deal). pos (slice_index numbers d.two) *ℤ (pos d.weight *ℤ pays d.outcome)) (filter (λ (d : Deal). d.one == signal) (deals g))
 
 -- ---- of private functions
 
--- the first last-round signal that shows the same public cards as another
+-- `first` is the first last-round signal that shows the same public cards as `signal`
 pub record IsFirstOn (g : Game) (signal first : ℕ) : Type 0 where
   pub within : first < last_count g
   pub same : shows_same g signal first ≡ true
   pub none_before : (k : ℕ) → k < first → shows_same g signal k ≡ false
 
--- the place of a last-round signal
+-- the place of a last-round signal: its board, its strength, and the bonus of its category
 pub record IsPlace (g : Game) (p : Place) : Type 0 where
   pub within : p.signal < last_count g
   pub board : IsFirstOn g p.signal p.board

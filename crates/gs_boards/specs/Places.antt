@@ -1,13 +1,13 @@
--- The order of places.
+-- The order of places: by board, and on one board by strength.
 use Rattle.std.specs.Prelude.{ℕ, ◌≡◌, ◌+◌, ◌*◌, ◌^◌, ◌<◌, ◌≤◌, List, length, slice_index_or}
 use Rattle.gs_boards.specs.declared.place.Place.{Place}
 
--- a place comes at or before another: its board does, and on one board it is not the stronger
+-- the place p comes no later than q: its board is no later, and on one board p is not the stronger one
 pub record IsNoLater (p q : Place) : Type 0 where
   pub board : p.board ≤ q.board
   pub strength : p.board ≡ q.board → p.strength ≤ q.strength
 
--- places are in the order of boards and strengths
+-- places are ordered by board, and on one board by strength
 abbrev pub AreInOrder : List Place → Type 0
 AreInOrder places = (i j : ℕ) (d : Place) → i ≤ j → j < length places → IsNoLater (slice_index_or places i d) (slice_index_or places j d)
 

@@ -11,24 +11,24 @@ use Rattle.gs_boards.specs.declared.running.Running.{Running}
 abbrev pub outcome_at : Place → Place → ℤ
 outcome_at p q = if nat_lt q.strength p.strength then pos p.win else if nat_lt p.strength q.strength then neg_ℤ (pos q.win) else pos 0
 
--- what a place is paid in the deals with those of some places that are on its board: their numbers times what it wins there
+-- what a place is paid by those of some places that are on its board: the sum of their numbers times what it wins against them
 abbrev pub paid_by : Pays → List ℕ → Place → List Place → ℤ
 paid_by pays numbers p qs = sum_z (λ q. if q.board == p.board then pos (slice_index numbers q.signal) *ℤ paid pays (outcome_at p q) else pos 0) qs
 
--- the worths of those of some places that are on a board
+-- the sum of the worths of some places, over those on a board
 abbrev pub board_sum : (Place → ℕ) → ℕ → List Place → ℕ
 board_sum worth board qs = sum_by (λ q. if q.board == board then worth q else 0) qs
 
--- and of these of those at a strength
+-- the sum of the worths of some places, over those on a board with a strength
 abbrev pub level_sum : (Place → ℕ) → ℕ → ℕ → List Place → ℕ
 level_sum worth board strength qs = sum_by (λ q. if (q.board == board) && (q.strength == strength) then worth q else 0) qs
 
--- a walk has passed some places
+-- the sums of a walk that has passed some places
 pub record HasPassed (worth : Place → ℕ) (qs : List Place) (r : Running) : Type 0 where
   pub on_board : r.on_board ≡ board_sum worth r.board qs
   pub on_level : r.on_level ≡ level_sum worth r.board r.strength qs
 
--- a walk comes to a place
+-- the sums when a walk comes to a place: a new board or a new strength begins with 0
 abbrev pub arrived : Running → Place → Running
 arrived r p = record {
   board = p.board;
@@ -37,29 +37,29 @@ arrived r p = record {
   on_level = if (p.board == r.board) && (p.strength == r.strength) then r.on_level else 0;
 }
 
--- a walk passes the place that it is at
+-- the sums when a walk has passed the place that it is at
 abbrev pub passed_by : Running → ℕ → Running
 passed_by r worth = record { board = r.board; strength = r.strength; on_board = r.on_board + worth; on_level = r.on_level + worth }
 
--- what a place counts for the places before it: its number
+-- what a place counts for the places behind it: its number
 abbrev pub number_at : List ℕ → Place → ℕ
 number_at numbers q = slice_index numbers q.signal
 
--- what a place counts for the places behind it, by its number: at a showdown times what it wins
+-- what a place counts for the places before it, from its number: at a showdown the number times what the place wins
 abbrev pub worth_of : Pays → Place → ℕ → ℕ
 worth_of (Fixed stake) q number = number
 worth_of (Showdown chips) q number = number * q.win
 
--- the same, by the number of its signal
+-- what a place counts for the places before it, from the numbers of the signals
 abbrev pub worth_at : Pays → List ℕ → Place → ℕ
 worth_at pays numbers q = worth_of pays q (number_at numbers q)
 
--- what a place is paid by the weaker places of its board, and at a fold by all places before it
+-- what a place is paid by what was passed before it: at a showdown by the weaker places of its board, at a fold by all of them
 abbrev pub won_by : Pays → Place → Running → ℤ
 won_by (Fixed stake) p r = stake *ℤ pos r.on_board
 won_by (Showdown chips) p r = pos (chips * p.win * (r.on_board - r.on_level))
 
--- what a place is paid by the stronger places of its board, and at a fold by all places behind it
+-- what a place is paid by what was passed behind it: at a showdown by the stronger places of its board, at a fold by all of them
 abbrev pub lost_by : Pays → Running → ℤ
 lost_by (Fixed stake) r = stake *ℤ pos r.on_board
 lost_by (Showdown chips) r = neg_ℤ (pos (chips * (r.on_board - r.on_level)))

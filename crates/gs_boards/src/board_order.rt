@@ -10,8 +10,9 @@ use crate::walks::{climb, descend};
 use gs_tree::Signals;
 use std::alloc::{AllocError, Global};
 
-/// The last-round signals of a game in which any two different signals that show the same public cards are as likely: board by board, and on each
-/// board by strength. What each of them is paid in its deals is then a sum that runs along its board, and no deal is looked at.
+/// The last-round signals of a game in which any two different signals with the same public cards are equally likely. They are in the order of boards (the
+/// public cards), and on each board in the order of strength. What a signal is paid in its deals is then a running sum along its board, and no deal is
+/// looked at.
 #[derive(Drop)]
 pub struct BoardOrder<'s> {
     signals: &'s Signals<'s>,
@@ -24,7 +25,8 @@ impl<'s> BoardOrder<'s> {
     ghost use Rattle.std.specs.Prelude.{◌≤◌, ℕ, MatchOption, get_or, pos};
     ghost use Rattle.gs_boards.specs.Boards.{deal_sum, paid};
 
-    /// The order of the signals, if each kind of cards has one copy at most and each player is dealt one private card.
+    /// Returns the order of the signals if no kind of card has more than one copy and each player is dealt one private card, else none. Fails only if memory
+    /// runs out.
     pub fn of(alloc: Global, signals: &'s Signals<'s>) -> Result<Option<BoardOrder<'s>>, AllocError>
         ensures { IfOk result (λ o. MatchOption o (IsPlain (rules_of signals.entry.now)
             → last_count (rules_of signals.entry.now) ≡ 0) (λ b. b.signals.now ≡ signals.entry.now)) }
@@ -37,8 +39,8 @@ impl<'s> BoardOrder<'s> {
         Ok(Some(BoardOrder { signals, places }))
     }
 
-    /// What each last-round signal is paid in its deals, by the other player's numbers at the signals beside it: the number times the weight
-    /// times what the deal pays. It takes no memory, and looks twice at each signal.
+    /// Writes to `sums` what each last-round signal is paid in its deals: over these, the other player's number at their signal, times the weight, times
+    /// what the deal pays. It takes no memory, and looks twice at each signal.
     pub fn deal_sums(&self, pays: Pays, numbers: &[u64], sums: &mut [i128])
         requires numbers { last_count (rules_of self.now.signals.now) ≤ length numbers.now }
         requires sums { length sums.old ≡ last_count (rules_of self.now.signals.now) }

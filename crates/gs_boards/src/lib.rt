@@ -1,4 +1,4 @@
-//! What each last-round signal is paid at an end, board by board in the order of strength.
+//! What each last-round signal is paid at an end, summed board by board in the order of strength.
 #![tactic(auto)]
 
 mod board_order;

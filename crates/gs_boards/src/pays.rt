@@ -16,7 +16,7 @@ pub enum Pays {
 }
 
 impl Pays {
-    // What a place counts for the places behind it, by its number: at a showdown what it wins.
+    // Returns what a place counts for the places before it, from its number: at a showdown the number times what the place wins.
     pub(crate) fn worth(self, place: Place, number: u64) -> u128
         ensures value { result ≡ worth_of self place number }
         ensures small { result < 2 ^ 72 }
@@ -27,7 +27,7 @@ impl Pays {
         }
     }
 
-    // What a place is paid by what was passed before it: at a showdown it wins of the weaker places.
+    // Returns what a place is paid by what was passed before it. At a showdown it wins against the weaker places.
     pub(crate) fn won(self, place: Place, before: Running) -> i128
         requires few { before.on_board < 2 ^ 82 }
         requires within { before.on_level ≤ before.on_board }
@@ -43,7 +43,7 @@ impl Pays {
         }
     }
 
-    // What a place is paid by what was passed behind it: at a showdown it loses to the stronger places.
+    // Returns what a place is paid by what was passed behind it. At a showdown it loses to the stronger places.
     pub(crate) fn lost(self, behind: Running) -> i128
         requires few { behind.on_board < 2 ^ 90 }
         requires within { behind.on_level ≤ behind.on_board }

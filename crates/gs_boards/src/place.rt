@@ -1,4 +1,4 @@
-//! Last-round signals on their boards.
+//! The places of last-round signals, ordered by board and strength.
 
 ghost use Rattle.std.specs.{Prelude.{◌≡◌, ◌<◌, ◌^◌, All, IfOk, map}, List.{range_with_len}, List.Sorted.{IsPermutation}};
 ghost use Rattle.gs_tree.specs.{Trees.{rules_of}, Walk.{last_count}};
@@ -11,7 +11,7 @@ use std::alloc::{AllocError, Global};
 /// What a board counts for in the rank of a place: more than any strength.
 const BOARD: u64 = 0x1_0000_0000;
 
-/// A signal of the last round. Places are ordered by board, and on a board by strength.
+/// The place of a last-round signal. Places are ordered by board, and on a board by strength.
 #[derive(Clone, Copy, Debug, PartialEq, Eq)]
 pub(crate) struct Place {
     // the first signal that shows the same public cards
@@ -27,7 +27,7 @@ impl Place {
     ghost use Rattle.std.specs.Prelude.{◌≡◌};
     ghost use Rattle.gs_boards.specs.Places.{rank_of};
 
-    // Its board and its strength as one number: places are compared at once.
+    // Returns the board and the strength as one number, so that places are compared in one step.
     fn rank(self) -> u64
         ensures { result ≡ rank_of self }
     {
@@ -35,7 +35,7 @@ impl Place {
     }
 }
 
-/// The place of a signal of the last round.
+/// Returns the place of a last-round signal.
 fn place_of(signals: &Signals, signal: u32) -> Place
     requires { signal < last_count (rules_of signals.now) }
     ensures place { IsPlace (rules_of signals.now) result }
@@ -53,7 +53,7 @@ fn place_of(signals: &Signals, signal: u32) -> Place
     }
 }
 
-/// The places of all signals of the last round, signal by signal.
+/// Returns the places of all last-round signals, in the order of the signals. Fails only if memory runs out.
 pub(crate) fn places_of(alloc: Global, signals: &Signals) -> Result<Vec<Place>, AllocError>
     ensures each { IfOk result (λ v. All (IsPlace (rules_of signals.now)) v.items) }
     ensures small { IfOk result (λ v. All (λ p. p.strength < 2 ^ 32) v.items) }
@@ -67,7 +67,7 @@ pub(crate) fn places_of(alloc: Global, signals: &Signals) -> Result<Vec<Place>, 
     Ok(places)
 }
 
-/// Puts places in the order of boards, and those of one board in that of strengths.
+/// Sorts places by board, and on one board by strength.
 pub(crate) fn sort_places(places: &mut Vec<Place>)
     requires small { All (λ p. p.strength < 2 ^ 32) places.old.items }
     ensures moved { IsPermutation places.old.items places.new.items }

@@ -5,7 +5,7 @@ ghost use Rattle.gs_boards.specs.Runs.{arrived, passed_by};
 
 use crate::place::Place;
 
-/// What a walk over the places has passed on the board that it is on, and of that what has the strength that it is at.
+/// The sums of a walk over the places: what it has passed on the board that it is on, and what of this has the strength that it is at.
 #[derive(Clone, Copy, Debug)]
 pub(crate) struct Running {
     pub(crate) board: u32,
@@ -15,7 +15,7 @@ pub(crate) struct Running {
 }
 
 impl Running {
-    // The start of a walk: nothing is passed.
+    // Returns the sums at the start of a walk: nothing is passed.
     pub(crate) fn new() -> Running
         ensures { result ≡ record { board = 0; strength = 0; on_board = 0; on_level = 0 } }
     {
@@ -27,7 +27,7 @@ impl Running {
         }
     }
 
-    // The walk comes to a place: a new board or a new strength begins with nothing.
+    // Returns the sums when the walk comes to a place: a new board or a new strength begins with 0.
     pub(crate) fn at(self, place: Place) -> Running
         ensures { result ≡ arrived self place }
     {
@@ -49,7 +49,7 @@ impl Running {
         self
     }
 
-    // The walk passes the place that it is at.
+    // Returns the sums when the walk has passed the place that it is at.
     pub(crate) fn past(self, worth: u128) -> Running
         requires fits { self.on_board + worth < 2 ^ 128 }
         requires within { self.on_level ≤ self.on_board }

@@ -1,4 +1,4 @@
-//! Walks over the places of the boards, up and down.
+//! Walks over the places of the boards, from the first to the last and back.
 
 ghost use Rattle.std.specs.Prelude.{◌≡◌, ◌+◌, ◌<◌, ◌≤◌, ◌^◌, ◌+ℤ◌, ℕ, All, drop, get_or, length, pos, slice_index_or, take, unsigned_abs};
 ghost use Rattle.gs_boards.specs.{Places.{AreApart, AreInOrder}, Runs.{paid_by}, declared.place.Place.{Place as Placed}};
@@ -7,7 +7,7 @@ use crate::pays::Pays;
 use crate::place::Place;
 use crate::running::Running;
 
-/// What each place is paid by those before it.
+/// Writes to `sums` what each place is paid by the places before it.
 pub(crate) fn climb(places: &[Place], pays: Pays, numbers: &[u64], sums: &mut [i128])
     requires order { AreInOrder places.now }
     requires apart { AreApart places.now }
@@ -28,7 +28,7 @@ pub(crate) fn climb(places: &[Place], pays: Pays, numbers: &[u64], sums: &mut [i
     }
 }
 
-/// Adds what each place is paid by those behind it.
+/// Adds to `sums` what each place is paid by the places behind it.
 pub(crate) fn descend(places: &[Place], pays: Pays, numbers: &[u64], sums: &mut [i128])
     requires order { AreInOrder places.now }
     requires apart { AreApart places.now }

@@ -3,7 +3,8 @@ use Rattle.std.specs.Prelude.{ℕ, ◌≡◌, ◌<◌, ◌+◌, ◌*◌, true, f
 use Rattle.gs_model.specs.Game.{Game}
 use Rattle.gs_tree.specs.Walk.{last_count, shows_same}
 
--- for each last-round signal the first one that shows the same public cards, and the next one, or the number of all if no other follows
+-- for each last-round signal the first signal that shows the same public cards, and the next one. If no other follows, the next one is the number of all
+-- signals or more
 pub record AreBoards (g : Game) (firsts nexts : List ℕ) : Type 0 where
   pub firsts_long : length firsts ≡ last_count g
   pub nexts_long : length nexts ≡ last_count g
@@ -14,21 +15,21 @@ pub record AreBoards (g : Game) (firsts nexts : List ℕ) : Type 0 where
   pub next_same : (i : ℕ) → i < last_count g → slice_index nexts i < last_count g → shows_same g i (slice_index nexts i) ≡ true
   pub none_between : (i k : ℕ) → i < last_count g → i < k → k < slice_index nexts i → k < last_count g → shows_same g i k ≡ false
 
--- the first signal like the next one, from the last one before it that is like it
+-- the first signal with the public cards of `signal`: that of the last one before it with these cards, or else itself
 abbrev pub first_beside : Option ℕ → ℕ → List ℕ → ℕ
 first_beside None signal firsts = signal
 first_beside (Some last) signal firsts = slice_index firsts last
 
--- the last one before it gets the next one as its next
+-- the last signal before `signal` with the same public cards, if there is one, gets `signal` as its next
 abbrev pub linked : Option ℕ → ℕ → List ℕ → List ℕ
 linked None signal nexts = nexts
 linked (Some last) signal nexts = slice_set nexts last signal
 
--- the number of a list of cards, whose digits stand behind those of another number
+-- the number of a list of cards: its digits, to base `kinds`, follow those of `code`
 abbrev pub code_behind : ℕ → ℕ → List ℕ → ℕ
 code_behind kinds code [] = code
 code_behind kinds code (card ∷ cards) = code_behind kinds (code * kinds + card) cards
 
--- what an entry of a table of signals names: none where it is no less than their number
+-- the signal that an entry of a table names, none where the entry is not below `count`
 abbrev pub seen_last : ℕ → ℕ → Option ℕ
 seen_last count entry = if nat_lt entry count then Some entry else None

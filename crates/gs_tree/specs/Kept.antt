@@ -1,11 +1,11 @@
--- What is kept of the last-round signals to weigh deals: the way to each, and its own and public cards, one signal behind the other. It is made
--- round by round.
+-- What is kept of the last-round signals to weigh deals: the ways to each, and its own and public cards, one signal after the other. It is made round by
+-- round.
 use Rattle.std.specs.Prelude.{ℕ, ◌≡◌, ◌<◌, List, length, map, flat_map}
 use Rattle.gs_model.specs.Deals.{path_weight}
 use Rattle.gs_model.specs.Game.{Game}
 use Rattle.gs_model.specs.Signals.{own_cards, public_cards, signal_at, signals}
 
--- the ways to take what each signal of a round shows, all own and all public cards, and how many of both each signal has
+-- for each signal of a round the ways to take what it shows, its own cards and its public cards; each signal has `own` own and `public` public cards
 pub record AreHands (g : Game) (round : ℕ) (paths owns publics : List ℕ) (own public : ℕ) : Type 0 where
   pub weighed : paths ≡ map (path_weight g.copies) (signals g round)
   pub owned : owns ≡ flat_map own_cards (signals g round)

@@ -8,6 +8,6 @@ last_seen [] = record { own = []; public = [] }
 last_seen (p ∷ []) = p
 last_seen (p ∷ q ∷ s) = last_seen (q ∷ s)
 
--- a group shown beside own cards
+-- an own group and a public group, shown together
 abbrev pub showing : List ℕ → List ℕ → Seen
 showing own public = record { own = own; public = public }

@@ -11,7 +11,7 @@ use Rattle.gs_tree.specs.declared.layer.Side.TheVariants.{Own, Public}
 abbrev pub cards_of : FewCards → List ℕ
 cards_of f = take f.len f.cards
 
--- what a player sees in one round
+-- what the last round of a signal shows, as the definitions see it
 abbrev pub seen_of : Shown → Seen
 seen_of s = record { own = cards_of s.own; public = cards_of s.public }
 

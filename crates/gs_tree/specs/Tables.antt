@@ -8,17 +8,18 @@ use Rattle.gs_tree.specs.Layers.{last_seen}
 use Rattle.gs_tree.specs.Shown.{seen_of}
 use Rattle.gs_tree.specs.declared.layer.Layer.{Layer}
 
--- what the signals of a layer show last
+-- what the last rounds of a layer's signals show
 abbrev pub shown_in : Layer → List Seen
 shown_in l = map seen_of l.shown.items
 
--- the tables of a layer are those of the signals of the round after `round`
+-- a layer belongs to the round after `round`: for each signal of that round what its last round shows and the weight of its edge. For each signal of
+-- `round`, and for one past the last, it has the place of the first child
 pub record IsLayer (g : Game) (round : ℕ) (l : Layer) : Type 0 where
   pub shown : shown_in l ≡ map last_seen (signals g (suc round))
   pub edges : l.edges ≡ map (last_edge g.copies) (signals g (suc round))
   pub firsts : l.firsts.items ≡ map (first_child g round) (range_with_len 0 (length (signals g round) + 1))
 
--- tables of all signals of the first rounds, with the parents of each
+-- the tables of the first rounds: for each round the parent of each signal, and the layer
 pub record AreTables (g : Game) (parents_of : List (Vec ℕ)) (layers : List Layer) : Type 0 where
   pub as_many : length parents_of ≡ length layers
   pub owned : (round : ℕ) (d : Vec ℕ) → round < length layers → (slice_index_or parents_of round d).items ≡ parents g (suc round)

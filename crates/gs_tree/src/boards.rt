@@ -12,7 +12,7 @@ use gs_game::Game;
 use std::alloc::{AllocError, Global};
 use std::collections::HashMap;
 
-/// For each signal of the last round others that show the same public cards.
+/// For each last-round signal the first and the next signal that show the same public cards.
 #[derive(Drop)]
 pub(crate) struct Boards {
     // the first one
@@ -21,14 +21,14 @@ pub(crate) struct Boards {
     pub(crate) nexts: Vec<u32>,
 }
 
-/// The numbers of cards.
+/// Returns the numbers of cards.
 fn numbers_of(alloc: Global, cards: &[Card]) -> Result<Vec<u8>, AllocError>
     ensures { IfOk result (λ v. v.items ≡ cards.now) }
 {
     cards.iter().map(|card| card.number()).collect(alloc)
 }
 
-/// The public cards that a signal of the last round shows.
+/// Returns the public cards that a last-round signal shows.
 fn board_of(alloc: Global, game: &Game, hands: &Hands, signal: u32) -> Result<Vec<u8>, AllocError>
     requires hands { AreHands (game_of game.now) (round_count (game_of game.now)) hands.now.paths hands.now.owns.items hands.now.publics.items hands.now.own
         hands.now.public }
@@ -40,14 +40,14 @@ fn board_of(alloc: Global, game: &Game, hands: &Hands, signal: u32) -> Result<Ve
     Ok(board)
 }
 
-/// The signal that a table names, where it names one of the first `count`.
+/// Returns the signal that an entry of a table names, none where the entry is not below `count`.
 fn seen_last(count: u32, entry: u32) -> Option<u32>
     ensures { result ≡ seen_last count entry }
 {
     if entry < count { Some(entry) } else { None }
 }
 
-/// How many lists of this many cards there are.
+/// Returns how many lists of this many cards there are.
 fn code_count(kinds: usize, cards: usize) -> usize
     requires few_kinds { kinds ≤ 52 }
     requires few_cards { cards ≤ 3 }
@@ -60,14 +60,14 @@ fn code_count(kinds: usize, cards: usize) -> usize
     count
 }
 
-/// A table of last signals before any was seen: all entries name none.
+/// Returns a table of last signals that names none: each entry is `count`.
 fn none_seen(alloc: Global, count: u32, places: usize) -> Result<Vec<u32>, AllocError>
     ensures { IfOk result (λ v. v.items ≡ replicate places count) }
 {
     vec![in alloc; count; places]
 }
 
-/// The number of a list of cards among all lists that are as long.
+/// Returns the number of a list of cards among all lists of the same length.
 fn code(kinds: usize, cards: &[Card]) -> usize
     requires few_kinds { kinds ≤ 52 }
     requires few_cards { length cards.now ≤ 3 }
@@ -81,7 +81,7 @@ fn code(kinds: usize, cards: &[Card]) -> usize
     code
 }
 
-/// The number of the public cards that a signal of the last round shows.
+/// Returns the number of the public cards that a last-round signal shows.
 fn board_code(game: &Game, hands: &Hands, signal: u32) -> usize
     requires hands { AreHands (game_of game.now) (round_count (game_of game.now)) hands.now.paths hands.now.owns.items hands.now.publics.items hands.now.own
         hands.now.public }
@@ -93,7 +93,7 @@ fn board_code(game: &Game, hands: &Hands, signal: u32) -> usize
     code(kinds, part(&hands.publics, hands.public, signal))
 }
 
-/// No signals linked yet, with a place for each.
+/// Returns boards without links, with a place for each signal.
 fn none_linked(alloc: Global, count: u32) -> Result<Boards, AllocError>
     ensures firsts { IfOk result (λ b. b.firsts.items ≡ replicate count count) }
     ensures nexts { IfOk result (λ b. b.nexts.items ≡ replicate count count) }
@@ -122,7 +122,7 @@ fn link(boards: &mut Boards, before: Option<u32>, signal: u32)
     boards.firsts[signal as usize] = first;
 }
 
-/// The signals of the last round beside each other, where each shows at most three public cards: a table has a place for each list of as many.
+/// Links the last-round signals that show the same public cards, at most three. A table has a place for each list of that many cards.
 fn link_by_table(alloc: Global, game: &Game, hands: &Hands) -> Result<Boards, AllocError>
     requires hands { AreHands (game_of game.now) (round_count (game_of game.now)) hands.now.paths hands.now.owns.items hands.now.publics.items hands.now.own
         hands.now.public }
@@ -144,7 +144,7 @@ fn link_by_table(alloc: Global, game: &Game, hands: &Hands) -> Result<Boards, Al
     Ok(boards)
 }
 
-/// The signals of the last round beside each other, by a map of the boards.
+/// Links the last-round signals that show the same public cards, by a map from boards to the last signal on each.
 fn link_by_map(alloc: Global, game: &Game, hands: &Hands) -> Result<Boards, AllocError>
     requires hands { AreHands (game_of game.now) (round_count (game_of game.now)) hands.now.paths hands.now.owns.items hands.now.publics.items hands.now.own
         hands.now.public }
@@ -162,7 +162,7 @@ fn link_by_map(alloc: Global, game: &Game, hands: &Hands) -> Result<Boards, Allo
     Ok(boards)
 }
 
-/// The signals of the last round beside each other.
+/// Links the last-round signals that show the same public cards. Fails only if memory runs out.
 pub(crate) fn link_boards(alloc: Global, game: &Game, hands: &Hands) -> Result<Boards, AllocError>
     requires hands { AreHands (game_of game.now) (round_count (game_of game.now)) hands.now.paths hands.now.owns.items hands.now.publics.items hands.now.own
         hands.now.public }

@@ -2,14 +2,14 @@
 
 use std::marker::Model;
 
-/// A deal, by both players' last-round signals. It is determined by the two.
+/// A deal: a last-round signal for each player. These two determine its weight and its outcome.
 #[derive(Clone, Copy, Debug, PartialEq, Eq)]
 pub struct Deal {
     /// Player 1's signal of the last round, by its place.
     pub one: u32,
     /// Player 2's signal of the last round, by its place.
     pub two: u32,
-    /// The ways of drawing it from the physical cards.
+    /// The number of ways to draw it from the physical cards.
     pub weight: u64,
     /// Player 1's outcome: from 1 to 9 for a win, 0 at equal hands, from -9 to -1 for a loss.
     pub outcome: i8,

@@ -1,4 +1,4 @@
-//! The deals of a game, one after another.
+//! An iterator over the deals of a game.
 
 ghost use Rattle.std.specs.Iterator.{YieldsFirst, item_count};
 
@@ -6,10 +6,10 @@ use crate::deal::Deal;
 use crate::signals::Signals;
 use std::marker::Model;
 
-/// The deals that are still to be given, by player 1's signal and then by player 2's.
+/// The deals that are still to come, in the order of player 1's signal and then of player 2's.
 ///
-/// No list of deals is kept: each is made when it is asked for, and none takes memory. Only pairs of signals that show the same public cards
-/// are looked at.
+/// No list of deals is kept: each deal is made when it is asked for, and none takes memory. Only pairs of signals that show the same public cards are looked
+/// at.
 #[derive(Drop)]
 pub struct Deals<'s> {
     signals: &'s Signals<'s>,
@@ -38,7 +38,7 @@ impl<'s> Deals<'s> {
     ghost use Rattle.std.specs.Prelude.{◌≡◌, ◌*◌, ◌≤◌};
     ghost use Rattle.gs_tree.specs.{Trees.{rules_of}, Walk.{deals_between, last_count}};
 
-    // The deals in which player 1 has one of the signals from one on, up to another.
+    // Returns the deals in which player 1 has one of the signals from `from` up to, but not including, `end`.
     pub(crate) fn rows(signals: &'s Signals<'s>, from: u32, end: u32) -> Deals<'s>
         requires { end ≤ last_count (rules_of signals.now) }
         ensures { result ≡ deals_between (rules_of signals.entry.now) (from * last_count (rules_of signals.entry.now))

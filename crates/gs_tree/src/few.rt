@@ -4,7 +4,7 @@ ghost use Rattle.std.specs.Prelude.{◌≡◌, ◌≤◌, length};
 
 use gs_card::{Card, Group};
 
-/// At most three cards, in the order of a group.
+/// At most three cards, in ascending order, kept in place.
 #[derive(Clone, Copy, Debug)]
 pub(crate) struct FewCards {
     pub(crate) cards: [Card; 3],
@@ -16,7 +16,7 @@ impl FewCards {
     ghost use Rattle.std.specs.Prelude.{◌≡◌, ◌≤◌, ◌∷◌, [], length};
     ghost use Rattle.gs_tree.specs.Shown.{cards_of};
 
-    /// The cards of a small group.
+    /// Returns the cards of a small group.
     pub(crate) fn of(group: &Group) -> FewCards
         requires { length group.now ≤ 3 }
         ensures { cards_of result ≡ group.now }
@@ -30,7 +30,7 @@ impl FewCards {
         }
     }
 
-    /// One card.
+    /// Returns a single card as a group.
     pub(crate) fn one(card: Card) -> FewCards
         ensures { cards_of result ≡ card ∷ [] }
     {
@@ -40,7 +40,7 @@ impl FewCards {
         }
     }
 
-    /// The cards.
+    /// Returns the cards.
     pub(crate) fn cards(&self) -> &[Card]
         ensures { result.now ≡ cards_of self.now }
     {

@@ -1,4 +1,4 @@
-//! What is kept of the last round's signals to weigh deals: their ways and their cards.
+//! What is kept of the last-round signals to weigh deals: the ways to each, and their cards.
 
 ghost use Rattle.std.specs.Prelude.{◌≡◌, ◌≤◌, ◌<◌, ◌+◌, ◌*◌, ◌++◌, ◌∷◌, ℕ, [], suc, All, IfOk, OnOk, drop, flat_map, length, map, slice_index, take};
 ghost use Rattle.gs_game.specs.{Games.{game_of, round_of}, Limits.{IsDealable, IsWithinLimits}};
@@ -12,8 +12,8 @@ use gs_card::Card;
 use gs_game::{Game, Round};
 use std::alloc::{AllocError, Global};
 
-/// The cards of a round's signals, and the ways to take all that each shows. The cards of each stand behind those of the one before:
-/// all signals have as many.
+/// The cards of a round's signals, and the ways to take all that each signal shows. The cards of the signals follow one another, and all signals have
+/// equally many.
 #[derive(Drop)]
 pub(crate) struct Hands {
     pub(crate) paths: Ways,
@@ -24,7 +24,7 @@ pub(crate) struct Hands {
     pub(crate) public: usize,
 }
 
-/// The one way to take nothing, for the empty signal before round 1.
+/// Returns the one way to take nothing, for the empty signal before round 1.
 fn first_path(alloc: Global) -> Result<Ways, AllocError>
     ensures { IfOk result (λ w. w ≡ 1 ∷ []) }
 {
@@ -33,7 +33,7 @@ fn first_path(alloc: Global) -> Result<Ways, AllocError>
     Ok(paths)
 }
 
-/// For each signal of a round the ways to take all that it shows, from those for the round before it.
+/// Returns for each signal of a round the ways to take all that it shows, from the ways of the round before it.
 fn next_paths(
     alloc: Global,
     game: &Game,
@@ -64,7 +64,7 @@ fn next_paths(
     Ok(paths)
 }
 
-/// One of the equal parts of some cards, by its place.
+/// Returns one of the equal parts of some cards, by its place.
 pub(crate) fn part(cards: &[Card], each: usize, place: u32) -> &[Card]
     requires { place * each + each ≤ length cards.now }
     ensures { result.now ≡ take each (drop (place * each) cards.now) }
@@ -73,7 +73,7 @@ pub(crate) fn part(cards: &[Card], each: usize, place: u32) -> &[Card]
     &cards[start..start + each]
 }
 
-/// Adds cards behind others, one by one: they are few.
+/// Adds a few cards at the end of others, one by one.
 #[inline(always)]
 fn push_each(cards: &mut Vec<Card>, more: &[Card]) -> Result<(), AllocError>
     ensures { OnOk result (cards.new.items ≡ cards.old.items ++ more.now) }
@@ -84,7 +84,7 @@ fn push_each(cards: &mut Vec<Card>, more: &[Card]) -> Result<(), AllocError>
     Ok(())
 }
 
-/// The card of each parent, where each signal of the round before has one.
+/// Returns the card of each signal's parent, where each signal of the round before has one card.
 fn parent_cards(alloc: Global, parents: &[u32], before: &[Card]) -> Result<Vec<Card>, AllocError>
     requires { All (λ parent. parent < length before.now) parents.now }
     ensures { IfOk result (λ v. v.items ≡ map (slice_index before.now) parents.now) }
@@ -96,7 +96,7 @@ fn parent_cards(alloc: Global, parents: &[u32], before: &[Card]) -> Result<Vec<C
     Ok(cards)
 }
 
-/// How many cards a round shows on one side.
+/// Returns the number of cards that a round shows on one side.
 fn cards_shown(round: &Round, side: Side) -> usize
     ensures { result ≡ shown_by side (round_of round.now) }
 {
@@ -106,7 +106,7 @@ fn cards_shown(round: &Round, side: Side) -> usize
     }
 }
 
-/// The cards of the signals of the round after the first `round` rounds on one side, where each has its parent's one card and shows one more.
+/// Returns the cards on one side of the signals of round `round + 1`, where each has the one card of its parent and shows one more.
 fn paired_cards(
     alloc: Global,
     game: &Game,
@@ -133,8 +133,8 @@ fn paired_cards(
     Ok(cards)
 }
 
-/// The cards that the signals of the round after the first `round` rounds have on one side, from those of the round before it: each has those
-/// of its parent, and those that its last round shows.
+/// Returns the cards on one side of the signals of round `round + 1`, from those of the round before. Each signal has its parent's cards and those that its
+/// last round shows.
 fn next_cards(
     alloc: Global,
     game: &Game,
@@ -171,7 +171,7 @@ fn next_cards(
     Ok(cards)
 }
 
-/// The hands of the signals of the round after the first `round` rounds, from the hands of the round before it.
+/// Returns the hands of the signals of round `round + 1`, from the hands of the round before.
 fn next_hands(
     alloc: Global,
     game: &Game,
@@ -218,7 +218,7 @@ fn next_hands(
     })
 }
 
-/// The hands of the last round's signals, made round by round from the empty hand.
+/// Returns the hands of the last-round signals, made round by round from the empty hand. Fails only if memory runs out.
 pub(crate) fn gather(alloc: Global, game: &Game, tables: &Tables) -> Result<Hands, AllocError>
     requires tables { AreTables (game_of game.now) tables.now.parents.items tables.now.layers.items }
     requires all { length tables.now.layers.items ≡ round_count (game_of game.now) }

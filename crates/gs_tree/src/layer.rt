@@ -12,7 +12,7 @@ use gs_card::{Card, Deck, Group, ways};
 use gs_game::Round;
 use std::alloc::{AllocError, Global};
 
-/// The groups that the last round of a signal shows.
+/// The own group and the public group that the last round of a signal shows.
 #[derive(Clone, Copy, Debug)]
 pub(crate) struct Shown {
     pub(crate) own: FewCards,
@@ -30,7 +30,7 @@ impl Shown {
     ghost use Rattle.std.specs.Prelude.{◌≡◌};
     ghost use Rattle.gs_tree.specs.Shown.{seen_of, seen_on};
 
-    /// The cards on one side.
+    /// Returns the cards on one side.
     #[inline(always)]
     pub(crate) fn on(&self, side: Side) -> &[Card]
         ensures { result.now ≡ seen_on side (seen_of self.now) }
@@ -42,7 +42,7 @@ impl Shown {
     }
 }
 
-/// The ways of taking a small group from the copies that are left.
+/// Returns the number of ways to take a small group from the copies that are left.
 fn few_ways(left: &[u8], group: &Group) -> u64
     requires in_range { All (λ card. card < length left.now) group.now }
     requires few_cards { length group.now ≤ 3 }
@@ -53,7 +53,7 @@ fn few_ways(left: &[u8], group: &Group) -> u64
     ways(left, group)
 }
 
-/// Takes one copy of a kind.
+/// Takes one copy of a kind, if one is left.
 fn take_copy(rest: &mut Vec<u8>, kind: usize)
     ensures { rest.new.items ≡ slice_set rest.old.items kind (slice_index rest.old.items kind - 1) }
 {
@@ -62,7 +62,7 @@ fn take_copy(rest: &mut Vec<u8>, kind: usize)
     }
 }
 
-/// The copies left once cards are taken.
+/// Returns the copies left once cards are taken. Fails only if memory runs out.
 pub(crate) fn left_without(
     alloc: Global,
     left: &[u8],
@@ -80,7 +80,7 @@ pub(crate) fn left_without(
     Ok(rest)
 }
 
-/// What the signals of one round add to their parents, in order: the groups that they show, and the ways of taking these.
+/// What the signals of one round add to their parents, in order: the groups that they show, and the number of ways to take these.
 #[derive(Drop, Debug)]
 pub(crate) struct Layer {
     pub(crate) shown: Vec<Shown>,
@@ -89,7 +89,7 @@ pub(crate) struct Layer {
     pub(crate) firsts: Vec<u32>,
 }
 
-/// Adds what a signal shows that has these own cards and a public card of this kind, where the rest allows it.
+/// Adds what the signal with these own cards and a public card of this kind shows, if a copy of the kind is left.
 fn push_card(
     rest: &[u8],
     kind: usize,
@@ -118,7 +118,7 @@ fn push_card(
     Ok(())
 }
 
-/// Adds what signals show that have these own cards and one public card, in order.
+/// Adds what the signals with these own cards and one public card show, in order.
 fn push_cards(
     rest: &[u8],
     own: &FewCards,
@@ -139,7 +139,7 @@ fn push_cards(
     Ok(())
 }
 
-/// Adds what signals show that have these own cards: the public groups that the rest allows, in order.
+/// Adds what the signals with these own cards show: with them each public group that the copies left allow, in order.
 fn push_publics(
     alloc: Global,
     deck: &Deck,
@@ -173,7 +173,7 @@ fn push_publics(
     Ok(())
 }
 
-/// Adds what a signal's children show: the own groups that the copies left allow, and with each the public groups that it leaves, in order.
+/// Adds what a signal's children show, in order: each own group that the copies left allow, and with it each public group that the rest allows.
 pub(crate) fn push_showings(
     alloc: Global,
     deck: &Deck,

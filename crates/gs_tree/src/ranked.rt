@@ -12,7 +12,7 @@ use gs_game::{Game, are_single};
 use gs_rank::{Ranker, strength};
 use std::alloc::{AllocError, Global};
 
-/// Whether no kind of cards has more than one copy, and each player is dealt one private card.
+/// Returns whether no kind of card has more than one copy and each player is dealt one private card.
 pub(crate) fn is_plain(game: &Game, hands: &Hands) -> bool
     requires { AreHands (game_of game.now) (round_count (game_of game.now)) hands.now.paths hands.now.owns.items hands.now.publics.items hands.now.own
         hands.now.public }
@@ -23,7 +23,7 @@ pub(crate) fn is_plain(game: &Game, hands: &Hands) -> bool
     hands.own == 1 && are_single(copies)
 }
 
-/// The strength of the hand that a last-round signal holds.
+/// Returns the strength of the hand that a last-round signal holds.
 fn strength_of(ranker: &Ranker, game: &Game, hands: &Hands, signal: u32) -> u32
     requires deck { ranker.now.deck.now ≡ game.now.deck }
     requires hands { AreHands (game_of game.now) (round_count (game_of game.now)) hands.now.paths hands.now.owns.items hands.now.publics.items hands.now.own
@@ -40,7 +40,7 @@ fn strength_of(ranker: &Ranker, game: &Game, hands: &Hands, signal: u32) -> u32
     strength(ranker, game.ranking, own, public)
 }
 
-/// The strengths of the hands of all last-round signals.
+/// Returns the strengths of the hands of all last-round signals. Fails only if memory runs out.
 pub(crate) fn strengths(alloc: Global, game: &Game, hands: &Hands) -> Result<Vec<u32>, AllocError>
     requires hands { AreHands (game_of game.now) (round_count (game_of game.now)) hands.now.paths hands.now.owns.items hands.now.publics.items hands.now.own
         hands.now.public }

@@ -1,4 +1,5 @@
-//! Reading the texts of signals: what follows a text's beginning. Nothing takes memory.
+//! Reads the texts of signals, without taking memory. Each function returns what follows a part at the beginning of a text, none where the text begins
+//! otherwise.
 
 ghost use Rattle.std.specs.{Prelude.{◌≡◌, ◌<◌, ◌≤◌, ◌∷◌, [], All, length}, Bool.{Decides}};
 ghost use Rattle.gs_card.specs.Decks.{card_text, kinds};
@@ -11,7 +12,7 @@ use crate::tables::Tables;
 use gs_card::{Card, Deck};
 use gs_game::Game;
 
-/// What follows a byte in a text that begins with it.
+/// Returns what follows a byte at the beginning of a text.
 fn after_byte(text: &[u8], byte: u8) -> Option<&[u8]>
     ensures { IsRest text.now (byte ∷ []) result }
 {
@@ -21,7 +22,7 @@ fn after_byte(text: &[u8], byte: u8) -> Option<&[u8]>
     }
 }
 
-/// What follows a card in a text that begins with it.
+/// Returns what follows the text of a card at the beginning of a text.
 fn after_card<'t>(text: &'t [u8], deck: &Deck, card: Card) -> Option<&'t [u8]>
     requires { card < kinds deck.now }
     ensures { IsRest text.now (card_text deck.now card) result }
@@ -33,7 +34,7 @@ fn after_card<'t>(text: &'t [u8], deck: &Deck, card: Card) -> Option<&'t [u8]>
     after_byte(rest, suit)
 }
 
-/// What follows a group in a text that begins with it.
+/// Returns what follows the text of a group at the beginning of a text.
 fn after_group<'t>(text: &'t [u8], deck: &Deck, cards: &[Card]) -> Option<&'t [u8]>
     requires { All (λ card. card < kinds deck.now) cards.now }
     ensures { IsRest text.now (group_text deck.now cards.now) result }
@@ -47,7 +48,7 @@ fn after_group<'t>(text: &'t [u8], deck: &Deck, cards: &[Card]) -> Option<&'t [u
     }
 }
 
-/// What follows all that is seen in one round in a text that begins with it.
+/// Returns what follows the text of all that is seen in one round at the beginning of a text.
 fn after_seen<'t>(text: &'t [u8], deck: &Deck, shown: &Shown) -> Option<&'t [u8]>
     requires own { All (λ card. card < kinds deck.now) (cards_of shown.now.own) }
     requires public { All (λ card. card < kinds deck.now) (cards_of shown.now.public) }
@@ -62,7 +63,7 @@ fn after_seen<'t>(text: &'t [u8], deck: &Deck, shown: &Shown) -> Option<&'t [u8]
     after_group(rest, deck, public)
 }
 
-/// What follows a signal in a text that begins with it.
+/// Returns what follows the text of a signal at the beginning of a text.
 fn after_signal<'t>(
     text: &'t [u8],
     game: &Game,
@@ -88,7 +89,7 @@ fn after_signal<'t>(
     after_seen(rest, &game.deck, shown)
 }
 
-/// Whether a text is a signal's text.
+/// Returns whether a text is the text of a signal.
 pub(crate) fn is_text_of(
     text: &[u8],
     game: &Game,

@@ -20,7 +20,8 @@ use gs_game::ValidGame;
 use gs_rank::outcome;
 use std::alloc::{AllocError, Global};
 
-/// What the deal of two signals that show the same public cards weighs, where any two different ones are as likely.
+/// Returns the weight of the deal of two signals that show the same public cards, where any two different ones are equally likely: 0 for a signal with
+/// itself, else 1.
 fn pair_weight(one: u32, two: u32) -> u64
     ensures { result ≡ if two == one then 0 else 1 }
 {
@@ -29,8 +30,8 @@ fn pair_weight(one: u32, two: u32) -> u64
 
 /// The raw signals of a game.
 ///
-/// A raw signal of round `j` is what one player sees up to that round: the own groups and the public groups of rounds 1 to `j`. Rounds count
-/// from 1. The signals of a round are named by their places, from 0, in the order of what they show, round by round and the own group first.
+/// A raw signal of round `j` is what one player sees up to that round: the own groups and the public groups of rounds 1 to `j`. Rounds count from 1. The
+/// signals of a round are named by their places, from 0. They are in lexicographic order of what they show, round by round and the own group first.
 #[derive(Drop)]
 pub struct Signals<'g> {
     game: &'g ValidGame,
@@ -39,7 +40,7 @@ pub struct Signals<'g> {
     strengths: Vec<u32>,
     boards: Boards,
     hands: Hands,
-    // whether any two signals that show the same public cards are as likely
+    // whether any two different signals that show the same public cards are equally likely
     plain: bool,
     ghost listed: { AreTables (game_of game.now.game) tables.parents.items tables.layers.items },
     ghost ranked: { strengths.items ≡ map (signal_strength (game_of game.now.game)) (signals (game_of game.now.game) (round_count (game_of game.now.game))) },
@@ -62,7 +63,7 @@ impl<'g> Signals<'g> {
     ghost use Rattle.gs_tree.specs.Texts.{signal_text};
     ghost use Rattle.gs_card.specs.Decks.{IsDeck};
 
-    /// The signals of a valid game.
+    /// Returns the signals of a valid game. Fails only if memory runs out.
     pub fn of(alloc: Global, game: &'g ValidGame) -> Result<Signals<'g>, AllocError>
         ensures { IfOk result (λ s. s.game.now ≡ game.entry.now) }
     {
@@ -81,7 +82,7 @@ impl<'g> Signals<'g> {
         })
     }
 
-    // The deck of the game.
+    // Returns the deck of the game.
     fn deck(&self) -> &'g Deck
         ensures deck { result.now ≡ deck_of self.now }
         ensures valid { IsDeck (deck_of self.now) }
@@ -92,14 +93,14 @@ impl<'g> Signals<'g> {
         deck
     }
 
-    /// The game whose signals they are.
+    /// Returns the game whose signals these are.
     pub fn game(&self) -> &'g ValidGame
         ensures { result.now ≡ self.now.game.now }
     {
         self.game
     }
 
-    /// How many rounds the game has.
+    /// Returns the number of rounds of the game, 1 to 4.
     pub fn rounds(&self) -> u8
         ensures value { result ≡ round_count (rules_of self.now) }
         ensures some { 0 < result }
@@ -108,7 +109,7 @@ impl<'g> Signals<'g> {
         self.tables.layers.len() as u8
     }
 
-    /// How many raw signals a round has: at most 200,000.
+    /// Returns the number of raw signals of a round, at most 200,000.
     pub fn count(&self, round: u8) -> u32
         requires some { 0 < round }
         requires in_range { round ≤ round_count (rules_of self.now) }
@@ -118,14 +119,14 @@ impl<'g> Signals<'g> {
         self.tables.layers[usize::from(round) - 1].shown.len() as u32
     }
 
-    /// For each round the parent of each signal, by its place in the round before; round 1 holds zeros.
+    /// Returns for each round the parent of each signal, as a place in the round before; in round 1 these are zeros.
     pub fn parents(&self) -> &[Vec<u32>]
         ensures { map (λ v. v.items) result.now ≡ map (parents_in (rules_of self.now)) (range_with_len 1 (round_count (rules_of self.now))) }
     {
         &self.tables.parents
     }
 
-    /// The parent of each signal of a round, by its place in the round before; zeros in round 1.
+    /// Returns the parent of each signal of a round, as a place in the round before; in round 1 these are zeros.
     pub fn parents_in(&self, round: u8) -> &[u32]
         requires some { 0 < round }
         requires last { round ≤ round_count (rules_of self.now) }
@@ -134,7 +135,7 @@ impl<'g> Signals<'g> {
         &self.tables.parents[usize::from(round) - 1]
     }
 
-    /// The children of a signal of a round before the last: the place of the first one in the next round, and one past the last.
+    /// Returns the children of a signal of a round before the last: the place of the first one in the next round, and one past the last.
     pub fn children(&self, round: u8, signal: u32) -> (u32, u32)
         requires some { 0 < round }
         requires before_last { round < round_count (rules_of self.now) }
@@ -146,7 +147,7 @@ impl<'g> Signals<'g> {
         (firsts[signal as usize], firsts[signal as usize + 1])
     }
 
-    /// The ways of taking a signal's last own and public groups from the copies that its parent leaves.
+    /// Returns the number of ways to take a signal's last own and public groups from the copies that its parent leaves.
     pub fn edge(&self, round: u8, signal: u32) -> u64
         requires some { 0 < round }
         requires last { round ≤ round_count (rules_of self.now) }
@@ -158,7 +159,7 @@ impl<'g> Signals<'g> {
             .of(signal as usize)
     }
 
-    /// Whether the edge to each signal of a round weighs 1.
+    /// Returns whether the edge to each signal of a round weighs 1.
     pub fn are_light(&self, round: u8) -> bool
         requires some { 0 < round }
         requires last { round ≤ round_count (rules_of self.now) }
@@ -168,7 +169,7 @@ impl<'g> Signals<'g> {
         self.tables.layers[usize::from(round) - 1].edges.are_ones()
     }
 
-    /// The ways to take all that a last-round signal shows: the product of the edge weights on the way to it.
+    /// Returns the number of ways to take all that a last-round signal shows: the product of the edge weights on the way to it.
     pub fn path_weight(&self, signal: u32) -> u64
         requires { signal < length (signals (rules_of self.now) (round_count (rules_of self.now))) }
         ensures value { result ≡ path_weight (rules_of self.now).copies (signal_at (rules_of self.now) (round_count (rules_of self.now)) signal) }
@@ -177,7 +178,7 @@ impl<'g> Signals<'g> {
         self.hands.paths.of(signal as usize)
     }
 
-    /// The strength of the hand that a last-round signal holds: more wins.
+    /// Returns the strength of the hand that a last-round signal holds: the greater strength wins.
     pub fn strength(&self, signal: u32) -> u32
         requires { signal < length (signals (rules_of self.now) (round_count (rules_of self.now))) }
         ensures value { result ≡ signal_strength (rules_of self.now) (signal_at (rules_of self.now) (round_count (rules_of self.now)) signal) }
@@ -186,29 +187,30 @@ impl<'g> Signals<'g> {
         self.strengths[signal as usize]
     }
 
-    /// The strengths of the hands of all last-round signals.
+    /// Returns the strengths of the hands of all last-round signals.
     pub fn strengths(&self) -> &[u32]
         ensures { result.now ≡ map (signal_strength (rules_of self.now)) (signals (rules_of self.now) (round_count (rules_of self.now))) }
     {
         &self.strengths
     }
 
-    /// For each signal of the last round the first one that shows the same public cards, and the next one that does, or the number of all
-    /// signals if no other follows.
+    /// Returns, for each last-round signal, the first signal that shows the same public cards, and the next one. If no other follows, the next one is the
+    /// number of all signals.
     pub fn boards(&self) -> (&[u32], &[u32])
         ensures { AreBoards (rules_of self.now) result.0.now result.1.now }
     {
         (&self.boards.firsts, &self.boards.nexts)
     }
 
-    /// Whether no kind of cards has more than one copy, and each player is dealt one private card.
+    /// Returns whether no kind of card has more than one copy and each player is dealt one private card.
     pub fn is_plain(&self) -> bool
         ensures { MatchBool result (IsPlain (rules_of self.now)) (IsPlain (rules_of self.now) → last_count (rules_of self.now) ≡ 0) }
     {
         is_plain(self.game.game(), &self.hands)
     }
 
-    /// The text of a signal: a part for each round, joined by `/`, the own cards and then `+` and the public cards.
+    /// Returns the text of a signal: a part for each round, joined by `/`. A part has the own cards and then, if there are any, `+` and the public cards.
+    /// Fails only if memory runs out.
     pub fn text(&self, alloc: Global, round: u8, signal: u32) -> Result<String, AllocError>
         requires some { 0 < round }
         requires last { round ≤ round_count (rules_of self.now) }
@@ -221,7 +223,8 @@ impl<'g> Signals<'g> {
         Ok(text)
     }
 
-    /// Writes the text of a signal of a round after the first behind a text, by its parent's text: that, `/` and what the signal shows last.
+    /// Adds the text of a signal of round 2 or later to `text`: `parent`, the text of its parent, then `/` and what the signal shows last. Fails only if
+    /// memory runs out.
     pub fn push_text_below(
         &self,
         text: &mut String,
@@ -244,7 +247,7 @@ impl<'g> Signals<'g> {
         push_seen(text, deck, shown)
     }
 
-    /// The signal of a round whose text this is, if there is one. It takes no memory.
+    /// Returns the signal of a round with this text, none where no signal has it. It takes no memory, and may read all signals of the round.
     pub fn index_of(&self, round: u8, text: &str) -> Option<u32>
         requires some { 0 < round }
         requires last { round ≤ round_count (rules_of self.now) }
@@ -264,7 +267,7 @@ impl<'g> Signals<'g> {
         None
     }
 
-    /// How many raw signals the last round has: at most 200,000.
+    /// Returns the number of raw signals of the last round, at most 200,000.
     pub(crate) fn last_count(&self) -> u32
         ensures value { result ≡ last_count (rules_of self.now) }
         ensures few { result ≤ 200000 }
@@ -272,7 +275,7 @@ impl<'g> Signals<'g> {
         self.count(self.rounds())
     }
 
-    // The deal of two signals of the last round that show the same public cards; it weighs 0 where no deal has both.
+    // Returns the deal of two last-round signals that show the same public cards; it weighs 0 where it is impossible.
     pub(crate) fn deal(&self, one: u32, two: u32) -> Deal
         requires one_in { one < last_count (rules_of self.now) }
         requires two_in { two < last_count (rules_of self.now) }
@@ -295,7 +298,7 @@ impl<'g> Signals<'g> {
         }
     }
 
-    // The own cards of a signal of the last round.
+    // Returns the own cards of a last-round signal.
     fn own(&self, signal: u32) -> &[Card]
         requires { signal < last_count (rules_of self.now) }
         ensures { result.now ≡ own_cards (signal_at (rules_of self.now) (round_count (rules_of self.now)) signal) }
@@ -303,7 +306,7 @@ impl<'g> Signals<'g> {
         part(&self.hands.owns, self.hands.own, signal)
     }
 
-    // The public cards of a signal of the last round.
+    // Returns the public cards of a last-round signal.
     fn public(&self, signal: u32) -> &[Card]
         requires { signal < last_count (rules_of self.now) }
         ensures { result.now ≡ public_cards (signal_at (rules_of self.now) (round_count (rules_of self.now)) signal) }
@@ -311,7 +314,7 @@ impl<'g> Signals<'g> {
         part(&self.hands.publics, self.hands.public, signal)
     }
 
-    // The ways of taking the own groups of a signal of the last round from the copies that another one leaves.
+    // Returns the number of ways to take the own groups of the last-round signal `two` from the copies that `one` leaves.
     fn own_ways(&self, one: u32, two: u32) -> u64
         requires one_in { one < last_count (rules_of self.now) }
         requires two_in { two < last_count (rules_of self.now) }
@@ -332,7 +335,7 @@ impl<'g> Signals<'g> {
         ways
     }
 
-    // The ways to deal these two signals of the last round.
+    // Returns the number of ways to deal these two last-round signals.
     fn weight(&self, one: u32, two: u32) -> u64
         requires one_in { one < last_count (rules_of self.now) }
         requires two_in { two < last_count (rules_of self.now) }
@@ -345,7 +348,7 @@ impl<'g> Signals<'g> {
         self.path_weight(one) * self.own_ways(one, two)
     }
 
-    // The first signal of the last round that shows the same public cards; 0 behind the last one.
+    // Returns the first last-round signal that shows the same public cards; 0 for a number past the last signal.
     pub(crate) fn first_beside(&self, one: u32) -> u32
         ensures { IsRowStart (rules_of self.now) one result }
     {
@@ -356,7 +359,7 @@ impl<'g> Signals<'g> {
         }
     }
 
-    // The pair after one of two signals that show the same public cards: the next one that does, row by row.
+    // Returns the next pair of signals that show the same public cards, row by row.
     pub(crate) fn next_pair(&self, one: u32, two: u32) -> (u32, u32)
         requires one_in { one < last_count (rules_of self.now) }
         requires two_in { two < last_count (rules_of self.now) }
@@ -371,14 +374,14 @@ impl<'g> Signals<'g> {
         }
     }
 
-    /// All deals, by player 1's signal and then by player 2's, each once.
+    /// Returns all deals, each once, in the order of player 1's signal and then of player 2's.
     pub fn deals(&self) -> Deals<'_>
         ensures { result ≡ deals (rules_of self.now) }
     {
         Deals::rows(self, 0, self.last_count())
     }
 
-    /// The deals in which player 1 has this signal of the last round, by player 2's signal.
+    /// Returns the deals in which player 1 has this last-round signal, in the order of player 2's signal.
     pub fn deals_of(&self, signal: u32) -> Deals<'_>
         requires { signal < last_count (rules_of self.now) }
         ensures { result ≡ filter (λ (d : Dealt). d.one == signal) (deals (rules_of self.now)) }

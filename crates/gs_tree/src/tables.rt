@@ -21,7 +21,7 @@ pub(crate) struct Grown {
     pub(crate) layer: Layer,
 }
 
-/// No signals yet, with room for those of a round.
+/// Returns an empty table of signals, with room for those of a round.
 fn none_grown(alloc: Global, room: usize, parents: usize) -> Result<Grown, AllocError>
     ensures parents { IfOk result (λ grown. grown.parents.items ≡ []) }
     ensures shown { IfOk result (λ grown. grown.layer.shown.items ≡ []) }
@@ -38,7 +38,7 @@ fn none_grown(alloc: Global, room: usize, parents: usize) -> Result<Grown, Alloc
     })
 }
 
-/// How many signals a round that shows one card may have, by the number of signals before it, and 200,000 at most.
+/// Returns how many signals a round that shows one card may have, 200,000 at most. `count` is the number of signals before it.
 fn room_for(count: u32, kinds: u8) -> usize {
     let all = u64::from(count) * u64::from(kinds);
     all.min(200_000) as usize
@@ -52,7 +52,7 @@ pub(crate) struct Tables {
 }
 
 impl Tables {
-    /// The tables of all signals of a game.
+    /// Returns the tables of all signals of a game. Fails only if memory runs out.
     pub(crate) fn of(alloc: Global, game: &Game) -> Result<Tables, AllocError>
         requires limits { IsWithinLimits (game_of game.now) }
         requires dealable { IsDealable (game_of game.now) }
@@ -73,7 +73,7 @@ impl Tables {
         Ok(tables)
     }
 
-    /// The copies left once all that a signal shows is taken. Round 0 has the empty signal.
+    /// Returns the copies left once all cards of a signal are taken. Round 0 has the empty signal.
     fn copies_left(
         &self,
         alloc: Global,
@@ -98,7 +98,7 @@ impl Tables {
         left_without(alloc, &left, shown.public.cards())
     }
 
-    /// The signals of the round after the first `round` rounds, from their tables.
+    /// Returns the signals of the round after those in the tables; `count` is the number of signals of the last one.
     fn grow(
         &self,
         alloc: Global,
@@ -128,7 +128,7 @@ impl Tables {
         Ok(grown)
     }
 
-    /// Writes a signal behind a text: a part for each round, joined by `/`.
+    /// Adds the text of a signal to `text`: a part for each round, joined by `/`.
     pub(crate) fn push_signal(
         &self,
         text: &mut String,
@@ -156,7 +156,7 @@ impl Tables {
     }
 }
 
-/// A product shared among the orders of a card that came so often before.
+/// Returns the product divided by `again + 1`: the order of equal cards in a group does not count.
 fn shared(product: u64, again: u64) -> u64
     requires few { again ≤ 3 }
     ensures { result ≡ product / (again + 1) }
@@ -168,7 +168,7 @@ fn shared(product: u64, again: u64) -> u64
     }
 }
 
-/// The ways of taking an own group from the copies that another player's own cards, the public cards and earlier own cards leave.
+/// Returns the number of ways to take an own group from the copies that the other player's own cards, the public cards and earlier own cards leave.
 pub(crate) fn ways_beside(
     deck: &Deck,
     held: &[Card],

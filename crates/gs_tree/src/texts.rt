@@ -1,4 +1,4 @@
-//! The texts of cards.
+//! Writes the texts of cards, groups and signals.
 
 ghost use Rattle.std.specs.Prelude.{◌≡◌, ◌<◌, ◌++◌, All, OnOk, string_bytes};
 ghost use Rattle.gs_card.specs.Decks.{card_text, kinds};
@@ -8,7 +8,7 @@ use crate::layer::Shown;
 use gs_card::{Card, Deck};
 use std::alloc::AllocError;
 
-/// Writes a card behind a text.
+/// Adds the text of a card to `text`.
 pub(crate) fn push_card(text: &mut String, deck: &Deck, card: Card) -> Result<(), AllocError>
     requires { card < kinds deck.now }
     ensures { OnOk result (string_bytes text.new ≡ string_bytes text.old ++ card_text deck.now card) }
@@ -21,7 +21,7 @@ pub(crate) fn push_card(text: &mut String, deck: &Deck, card: Card) -> Result<()
     Ok(())
 }
 
-/// Writes a group behind a text.
+/// Adds the texts of a group's cards to `text`.
 fn push_group(text: &mut String, deck: &Deck, cards: &[Card]) -> Result<(), AllocError>
     requires { All (λ card. card < kinds deck.now) cards.now }
     ensures { OnOk result (string_bytes text.new ≡ string_bytes text.old ++ group_text deck.now cards.now) }
@@ -32,7 +32,7 @@ fn push_group(text: &mut String, deck: &Deck, cards: &[Card]) -> Result<(), Allo
     Ok(())
 }
 
-/// Writes what a player sees in one round behind a text.
+/// Adds what a player sees in one round to `text`: the own cards and then, if there are any, `+` and the public cards.
 pub(crate) fn push_seen(text: &mut String, deck: &Deck, shown: &Shown) -> Result<(), AllocError>
     requires own { All (λ card. card < kinds deck.now) (cards_of shown.now.own) }
     requires public { All (λ card. card < kinds deck.now) (cards_of shown.now.public) }

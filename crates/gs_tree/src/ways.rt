@@ -5,14 +5,14 @@ ghost use Rattle.std.specs.Prelude.{◌≡◌, ◌↔◌, EachIndex, IsTrue, sli
 use std::alloc::{AllocError, Global};
 use std::marker::Model;
 
-/// Whether each of some numbers is 1.
+/// Returns whether each of some numbers is 1.
 fn are_ones(numbers: &[u64]) -> bool
     ensures { IsTrue result ↔ EachIndex numbers.now (λ i. slice_index numbers.now i ≡ 1) }
 {
     numbers.iter().all(|number| *number == 1)
 }
 
-/// Numbers, one behind another. As long as each is 1 they are counted and not kept, so that a deck of single cards keeps none.
+/// A list of numbers. As long as each is 1 they are counted and not stored, so a deck of single cards stores none.
 #[derive(Drop, Debug)]
 pub(crate) struct Ways {
     // how many come first that are 1
@@ -32,7 +32,7 @@ impl Model for Ways {
 impl Ways {
     ghost use Rattle.std.specs.Prelude.{◌≡◌, ◌<◌, ◌++◌, ◌∷◌, ◌↔◌, [], EachIndex, IfSome, IsTrue, OnOk, length, replicate, slice_index};
 
-    /// No numbers yet.
+    /// Returns the empty list.
     pub(crate) fn new(alloc: Global) -> Ways
         ensures { result ≡ [] }
     {
@@ -42,7 +42,7 @@ impl Ways {
         }
     }
 
-    /// This many ones.
+    /// Returns a list of ones, by their number.
     pub(crate) fn all_ones(alloc: Global, count: u32) -> Ways
         ensures { result ≡ replicate count 1 }
     {
@@ -52,7 +52,7 @@ impl Ways {
         }
     }
 
-    /// How many numbers there are, where each is 1.
+    /// Returns the length of the list where all its numbers are 1 and none is stored, else none.
     pub(crate) fn ones(&self) -> Option<u32>
         ensures { IfSome result (λ count. self.now ≡ replicate count 1) }
     {
@@ -63,21 +63,21 @@ impl Ways {
         }
     }
 
-    /// Whether each number is 1.
+    /// Returns whether each number is 1.
     pub(crate) fn are_ones(&self) -> bool
         ensures { IsTrue result ↔ EachIndex self.now (λ i. slice_index self.now i ≡ 1) }
     {
         are_ones(&self.rest)
     }
 
-    /// How many numbers there are.
+    /// Returns the length of the list.
     pub(crate) fn len(&self) -> usize
         ensures { result ≡ length self.now }
     {
         self.ones as usize + self.rest.len()
     }
 
-    /// The number of a signal.
+    /// Returns the number of a signal.
     pub(crate) fn of(&self, signal: usize) -> u64
         requires { signal < length self.now }
         ensures { result ≡ slice_index self.now signal }
@@ -90,7 +90,7 @@ impl Ways {
         }
     }
 
-    /// Adds the number of the next signal.
+    /// Adds the number of the next signal. Fails only if memory runs out.
     pub(crate) fn push(&mut self, ways: u64) -> Result<(), AllocError>
         ensures { OnOk result (self.new ≡ self.old ++ ways ∷ []) }
     {
