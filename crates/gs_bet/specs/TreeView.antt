@@ -12,7 +12,7 @@ pub record PlainMove : Type 0 where
   pub chips : ℕ
   pub next : Bet
 
--- moves from a list of them
+-- the moves of a list
 abbrev pub moves_of : List PlainMove → Moves
 moves_of [] = none
 moves_of (m ∷ ms) = move m.letter m.chips m.next (moves_of ms)
@@ -39,7 +39,7 @@ plain = fold-Tree Bet Bet PlainMove tree_step act_step move_step
 abbrev pub plain_act : Choice → Bet
 plain_act = fold-Act Bet Bet PlainMove tree_step act_step move_step
 
--- moves of the program
+-- moves of the program, as the definitions see them
 abbrev pub plain_moves : List Move → Moves
 plain_moves [] = none
 plain_moves (m ∷ ms) = move m.letter m.chips (plain m.next) (plain_moves ms)

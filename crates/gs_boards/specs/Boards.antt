@@ -17,8 +17,7 @@ abbrev pub paid : Pays → ℤ → ℤ
 paid (Fixed stake) outcome = stake
 paid (Showdown chips) outcome = pos chips *ℤ outcome
 
--- what a last-round signal is paid in its deals: the sum, over these, of the number of the other's signal times the weight times what the deal pays at its
--- outcome
+-- what a last-round signal is paid in its deals. It is the sum of the number of the other's signal times the weight times what the deal pays at its outcome
 abbrev pub deal_sum : Game → List ℕ → (ℤ → ℤ) → ℕ → ℤ
 deal_sum g numbers pays signal =
     sum_z (λ (d : Deal). pos (slice_index numbers d.two) *ℤ (pos d.weight *ℤ pays d.outcome)) (filter (λ (d : Deal). d.one == signal) (deals g))

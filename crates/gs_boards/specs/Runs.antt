@@ -15,11 +15,11 @@ outcome_at p q = if nat_lt q.strength p.strength then pos p.win else if nat_lt p
 abbrev pub paid_by : Pays → List ℕ → Place → List Place → ℤ
 paid_by pays numbers p qs = sum_z (λ q. if q.board == p.board then pos (slice_index numbers q.signal) *ℤ paid pays (outcome_at p q) else pos 0) qs
 
--- the sum of the worths of some places, over those on a board
+-- among some places, the sum of the worths of those on a board
 abbrev pub board_sum : (Place → ℕ) → ℕ → List Place → ℕ
 board_sum worth board qs = sum_by (λ q. if q.board == board then worth q else 0) qs
 
--- the sum of the worths of some places, over those on a board with a strength
+-- among some places, the sum of the worths of those on a board with a strength
 abbrev pub level_sum : (Place → ℕ) → ℕ → ℕ → List Place → ℕ
 level_sum worth board strength qs = sum_by (λ q. if (q.board == board) && (q.strength == strength) then worth q else 0) qs
 

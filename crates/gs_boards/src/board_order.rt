@@ -25,8 +25,7 @@ impl<'s> BoardOrder<'s> {
     ghost use Rattle.std.specs.Prelude.{◌≤◌, ℕ, MatchOption, get_or, pos};
     ghost use Rattle.gs_boards.specs.Boards.{deal_sum, paid};
 
-    /// Returns the order of the signals if no kind of card has more than one copy and each player is dealt one private card, else none. Fails only if memory
-    /// runs out.
+    /// Returns the order of the signals, none unless every card is single and each player is dealt one private card. Fails only if memory runs out.
     pub fn of(alloc: Global, signals: &'s Signals<'s>) -> Result<Option<BoardOrder<'s>>, AllocError>
         ensures { IfOk result (λ o. MatchOption o (IsPlain (rules_of signals.entry.now)
             → last_count (rules_of signals.entry.now) ≡ 0) (λ b. b.signals.now ≡ signals.entry.now)) }
@@ -39,8 +38,8 @@ impl<'s> BoardOrder<'s> {
         Ok(Some(BoardOrder { signals, places }))
     }
 
-    /// Writes to `sums` what each last-round signal is paid in its deals: over these, the other player's number at their signal, times the weight, times
-    /// what the deal pays. It takes no memory, and looks twice at each signal.
+    /// Writes to `sums` what each last-round signal is paid in its deals. A deal counts the other player's number at their signal, times its weight, times
+    /// what it pays. The call takes no memory, and looks twice at each signal.
     pub fn deal_sums(&self, pays: Pays, numbers: &[u64], sums: &mut [i128])
         requires numbers { last_count (rules_of self.now.signals.now) ≤ length numbers.now }
         requires sums { length sums.old ≡ last_count (rules_of self.now.signals.now) }

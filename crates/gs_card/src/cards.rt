@@ -4,7 +4,7 @@ ghost use Rattle.std.specs.{Prelude.{◌≡◌}, Iterator.{YieldsFirst, item_cou
 
 use std::marker::Model;
 
-/// A kind of card: its number, from 0.
+/// A kind of card, by its number from 0.
 #[derive(Clone, Copy, PartialEq, Eq, PartialOrd, Ord, Hash, Debug)]
 pub struct Card(u8);
 

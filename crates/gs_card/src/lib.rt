@@ -1,5 +1,4 @@
-//! Cards, groups of cards and decks: the kinds of cards that a game is played with, the number of copies of each, all groups of a size and the ways to take
-//! one.
+//! Cards, groups of cards and decks: the kinds of cards of a game, the number of copies of each, all groups of a size and the ways to take one.
 //!
 //! A card is the number of its kind. Kinds are numbered from 0, rank by rank and within a rank by suit.
 #![tactic(auto)]

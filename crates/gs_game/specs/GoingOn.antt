@@ -46,7 +46,7 @@ stopped_game g round = record {
 abbrev pub SomeGoOn : Type 0
 SomeGoOn = (g : Game) (round : ℕ) → first_refusal g ≡ None → 0 < ways_on g round
 
--- what a signal of a round weighs against a class is what it weighs where the game stops after that round, times the ways to go on
+-- what a signal of a round weighs against a class is its weight where the game stops after that round, times the ways to go on
 abbrev pub RoundsGoOn : Type 0
 RoundsGoOn =
     (g h : Game) (round : ℕ) (lists others : ClassLists) → 0 < round → round ≤ round_count g → StopsAfter g round h

@@ -7,7 +7,7 @@ use Rattle.gs_model.specs.Outcome.{IsBonus}
 use Rattle.gs_model.specs.Signals.{signals}
 use Rattle.gs_game.specs.Refusals.{own_cards, public_cards, ranks}
 
--- a valid game has 1 to 4 rounds, at most 200,000 raw signals in each, at most 8,000,000 deals, and a weight of all deals of at most 67,108,864
+-- a valid game has 1 to 4 rounds, at most 200,000 raw signals in each, and at most 8,000,000 deals; these weigh at most 67,108,864 in all
 pub record IsWithinLimits (g : Game) : Type 0 where
   pub some_round : 0 < round_count g
   pub few_rounds : round_count g ≤ 4

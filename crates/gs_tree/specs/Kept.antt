@@ -1,5 +1,5 @@
--- What is kept of the last-round signals to weigh deals: the ways to each, and its own and public cards, one signal after the other. It is made round by
--- round.
+-- What is kept of the last-round signals to weigh deals: the ways to take what each shows, and its own and public cards, one signal after the other. It is
+-- made round by round.
 use Rattle.std.specs.Prelude.{ℕ, ◌≡◌, ◌<◌, List, length, map, flat_map}
 use Rattle.gs_model.specs.Deals.{path_weight}
 use Rattle.gs_model.specs.Game.{Game}

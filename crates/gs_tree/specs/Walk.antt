@@ -1,4 +1,4 @@
--- The walk over the deals of a game: pairs of last-round signals in order, without those that no deal has.
+-- The walk over the deals of a game: pairs of last-round signals in order. Pairs that no deal has are passed over.
 use Rattle.std.specs.Prelude.{ℕ, ◌≡◌, ◌<◌, ◌≤◌, ◌+◌, ◌-◌, ◌*◌, ◌/◌, ◌%◌, Bool, true, List, filter, map, length, nat_lt}
 use Rattle.std.specs.List.{range_with_len}
 use Rattle.gs_model.specs.Deals.{Deal, deal_of, same_public}

@@ -133,7 +133,7 @@ fn link_by_table(alloc: Global, game: &Game, hands: &Hands) -> Result<Boards, Al
     let count = hands.paths.len() as u32;
     let kinds = usize::from(game.deck.kinds());
     let mut boards = none_linked(alloc, count)?;
-    // the last signal before the next one that shows these cards, or the number of all signals if no other follows
+    // for each list of cards the last signal so far that shows it, or the number of all signals if none does
     let mut last = none_seen(alloc, count, code_count(kinds, hands.public))?;
     for signal in 0..count {
         let code = board_code(game, hands, signal);

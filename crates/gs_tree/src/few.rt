@@ -30,7 +30,7 @@ impl FewCards {
         }
     }
 
-    /// Returns a single card as a group.
+    /// Returns a group of one card.
     pub(crate) fn one(card: Card) -> FewCards
         ensures { cards_of result ≡ card ∷ [] }
     {

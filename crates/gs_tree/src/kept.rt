@@ -1,4 +1,4 @@
-//! What is kept of the last-round signals to weigh deals: the ways to each, and their cards.
+//! What is kept of the last-round signals to weigh deals: the ways to take what each shows, and their cards.
 
 ghost use Rattle.std.specs.Prelude.{◌≡◌, ◌≤◌, ◌<◌, ◌+◌, ◌*◌, ◌++◌, ◌∷◌, ℕ, [], suc, All, IfOk, OnOk, drop, flat_map, length, map, slice_index, take};
 ghost use Rattle.gs_game.specs.{Games.{game_of, round_of}, Limits.{IsDealable, IsWithinLimits}};
@@ -106,7 +106,7 @@ fn cards_shown(round: &Round, side: Side) -> usize
     }
 }
 
-/// Returns the cards on one side of the signals of round `round + 1`, where each has the one card of its parent and shows one more.
+/// Returns the cards on one side of the signals of round `round + 1`. Each signal has the one card of its parent and shows one more.
 fn paired_cards(
     alloc: Global,
     game: &Game,

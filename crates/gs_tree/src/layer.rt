@@ -85,7 +85,7 @@ pub(crate) fn left_without(
 pub(crate) struct Layer {
     pub(crate) shown: Vec<Shown>,
     pub(crate) edges: Ways,
-    // for each signal of the round before the place of its first child, and at the end the number of all
+    // for each signal of the round before, the place of its first child; at the end the number of all signals
     pub(crate) firsts: Vec<u32>,
 }
 

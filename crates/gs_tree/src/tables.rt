@@ -168,7 +168,7 @@ fn shared(product: u64, again: u64) -> u64
     }
 }
 
-/// Returns the number of ways to take an own group from the copies that the other player's own cards, the public cards and earlier own cards leave.
+/// Returns the number of ways to take an own group. The other player's own cards, the public cards and earlier own cards have been taken before.
 pub(crate) fn ways_beside(
     deck: &Deck,
     held: &[Card],
