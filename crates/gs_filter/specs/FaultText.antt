@@ -4,7 +4,7 @@ use Rattle.std.specs.Fmt.{decimal}
 use Rattle.gs_filter.specs.declared.fault.ClassFault.{ClassFault}
 use Rattle.gs_filter.specs.declared.fault.ClassFault.TheVariants.{Length, NotFirstSeen, ParentsApart, Memory}
 
--- what a fault prints
+-- the text of a fault
 abbrev pub fault_text : ClassFault → List ℕ
 fault_text (Length round) = codes "length in round " ++ decimal round
 fault_text (NotFirstSeen round at) = codes "number in round " ++ decimal round ++ codes " at " ++ decimal at

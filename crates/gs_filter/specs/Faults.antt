@@ -1,4 +1,4 @@
--- The rules that class lists are held to, in their order, and the first place that breaks one.
+-- The rules for class lists, in the order in which they are checked, and the first place that breaks a rule.
 use Rattle.std.specs.Prelude.{ℕ, ◌-◌, ◌<◌, ◌≤◌, ◌≡◌, ◌==◌, ◌⊎◌, List, length, get_or}
 use Rattle.std.specs.List.{position_or_len}
 use Rattle.gs_model.specs.Numbering.{IsNumbered}
@@ -9,18 +9,18 @@ use Rattle.gs_filter.specs.declared.fault.ClassFault.TheVariants.{Length, NotFir
 
 -- ---- lengths
 
--- both sides have a list for the round, of one length
+-- both sides have a list for the round, and the two lists have the same length
 pub record AgreeIn (parents : List (List ℕ)) (lists : ClassLists) (round : ℕ) : Type 0 where
   pub with_parents : round ≤ length parents
   pub with_classes : round ≤ length lists
   pub lengths : length (list_of lists round) ≡ length (list_of parents round)
 
--- as many lists as rounds, each as long as its round has signals
+-- there is one list for each round, with one number for each signal of that round
 pub record Agree (parents : List (List ℕ)) (lists : ClassLists) : Type 0 where
   pub rounds : length lists ≡ length parents
   pub lengths : (round : ℕ) → 0 < round → round ≤ length parents → length (list_of lists round) ≡ length (list_of parents round)
 
--- the first round that some side has and in which they do not agree
+-- the first round in which the two sides do not agree; at least one side has it
 pub record IsFirstLength (parents : List (List ℕ)) (lists : ClassLists) (round : ℕ) : Type 0 where
   pub some : 0 < round
   pub with_one : (round ≤ length parents) ⊎ (round ≤ length lists)
@@ -50,27 +50,27 @@ class_above parents above s = get_or above (get_or parents s 0) 0
 abbrev pub first_beside : List ℕ → ℕ → ℕ
 first_beside list s = position_or_len (λ x. x == get_or list s 0) list
 
--- a signal's parent is of the class of the parent of its class's first member
+-- the parent of a signal and the parent of the first member of its class are in one class
 abbrev pub StaysTogether : List ℕ → List ℕ → List ℕ → ℕ → Type 0
 StaysTogether parents above list s = class_above parents above (first_beside list s) ≡ class_above parents above s
 
--- every signal's is
+-- `StaysTogether` holds for every signal of the list
 abbrev pub AreTogether : List ℕ → List ℕ → List ℕ → Type 0
 AreTogether parents above list = (s : ℕ) → s < length list → StaysTogether parents above list s
 
--- `b` is the first signal whose parent's class differs from that of the first member `a` of its class
+-- `b` is the first signal that does not stay together, and `a` is the first member of the class of `b`: their parents are in different classes
 pub record AreFirstApartIn (parents above list : List ℕ) (a b : ℕ) : Type 0 where
   pub within : b < length list
   pub first : a ≡ first_beside list b
   pub before : (s : ℕ) → s < b → StaysTogether parents above list s
   pub here : ¬ StaysTogether parents above list b
 
--- so in every round from the second
+-- `AreTogether` holds in every round from the second on
 abbrev pub AllTogether : List (List ℕ) → ClassLists → Type 0
 AllTogether parents lists = (round : ℕ) → 1 < round → round ≤ length lists
     → AreTogether (list_of parents round) (list_of lists (round - 1)) (list_of lists round)
 
--- the first two, by round
+-- the first such `a` and `b`, in the first round that has any
 pub record AreFirstApart (parents : List (List ℕ)) (lists : ClassLists) (round a b : ℕ) : Type 0 where
   pub some : 1 < round
   pub top : round ≤ length lists
@@ -79,21 +79,21 @@ pub record AreFirstApart (parents : List (List ℕ)) (lists : ClassLists) (round
 
 -- ---- faults
 
--- a fault is the first in the order of the rules: lengths, then numbers, then parents
+-- a fault names the first broken rule, in the order lengths, numbers, parents; `Memory` may be reported for any lists
 abbrev pub IsFaultOf : List (List ℕ) → ClassLists → ClassFault → Type 0
 IsFaultOf parents lists (Length round) = IsFirstLength parents lists round
 IsFaultOf parents lists (NotFirstSeen round at) = Agree parents lists × IsFirstUnseen lists round at
 IsFaultOf parents lists (ParentsApart round a b) = Agree parents lists × AllNumbered lists × AreFirstApart parents lists round a b
 IsFaultOf parents lists Memory = Unit {0}
 
--- what can be found while the numbers are read
+-- the faults that reading the numbers can find: the first invalid number, or out of memory
 abbrev pub IsUnseen : ClassLists → ClassFault → Type 0
 IsUnseen lists (NotFirstSeen round at) = IsFirstUnseen lists round at
 IsUnseen lists Memory = Unit {0}
 IsUnseen lists (Length round) = ⊥
 IsUnseen lists (ParentsApart round a b) = ⊥
 
--- what can be found while the parents are compared
+-- the fault that comparing the parents can find: two members of one class with parents in different classes
 abbrev pub IsApart : List (List ℕ) → ClassLists → ClassFault → Type 0
 IsApart parents lists (ParentsApart round a b) = AreFirstApart parents lists round a b
 IsApart parents lists (NotFirstSeen round at) = ⊥

@@ -19,17 +19,17 @@ pub record AreParents (parents : List (List ℕ)) : Type 0 where
   pub in_range : (round s : ℕ) → 1 < round → round ≤ length parents → s < length (list_of parents round)
       → get_or (list_of parents round) s 0 < length (list_of parents (round - 1))
 
--- what holds of every value: the parents are parents, and the lists are classes over them
+-- what holds for every filter: its parents are valid, and its lists are classes over them
 pub record IsSound (f : Filter) : Type 0 where
   pub forest : AreParents f.parents
   pub classes : IsClasses f.parents f.lists
 
--- the class of the parents of a class's members: all members have parents of that class
+-- every member of `class` has a parent in the class `above` of the round before
 abbrev pub IsParentClass : Filter → ℕ → ℕ → ℕ → Type 0
 IsParentClass f round class above =
     (s : ℕ) → s < length (list_of f.lists round) → class_of f.lists round s ≡ class
     → class_of f.lists (round - 1) (get_or (list_of f.parents round) s 0) ≡ above
 
--- each signal a class of its own
+-- every signal is a class of its own
 abbrev pub single_classes : List (List ℕ) → ClassLists
 single_classes parents = map (λ l. range_with_len 1 (length l)) parents

@@ -5,7 +5,7 @@ use Rattle.gs_filter.specs.Faults.{IsFaultOf}
 use Rattle.gs_filter.specs.declared.fault.ClassFault.{ClassFault}
 use Rattle.gs_filter.specs.declared.fault.ClassFault.TheVariants.{Memory}
 
--- lists that are classes have no fault: the rules exclude every fault but running out of memory
+-- lists that are classes have no fault other than `Memory`
 abbrev pub ClassesHaveNoFault : Type 0
 ClassesHaveNoFault = (parents : List (List ℕ)) (lists : ClassLists) (why : ClassFault) → IsClasses parents lists → (why ≢ Memory)
     → ¬ IsFaultOf parents lists why

@@ -6,11 +6,11 @@ use Rattle.gs_filter.specs.declared.tally.Tally.{Tally}
 use Rattle.gs_filter.specs.declared.tally.Stop.{Stop}
 use Rattle.gs_filter.specs.declared.tally.Stop.TheVariants.{Unseen, Memory}
 
--- how many places a class has, and the first of them
+-- the size of a class, and its first member
 abbrev pub tally_of : List ℕ → ℕ → Tally
 tally_of list class = record { size = count_by (λ x. x == class) list; first = position_or_len (λ x. x == class) list }
 
--- these of each class, in order
+-- the tally of each class, in the order of the class numbers
 abbrev pub tallies_of : List ℕ → List Tally
 tallies_of list = map (tally_of list) (range_with_len 1 (greatest list))
 
@@ -18,18 +18,18 @@ tallies_of list = map (tally_of list) (range_with_len 1 (greatest list))
 abbrev pub IsNextNumber : List ℕ → ℕ → Type 0
 IsNextNumber list at = (0 < get_or list at 0) × (get_or list at 0 ≤ 1 + greatest (take at list))
 
--- the first place whose number does not count on
+-- the first place whose number is 0, or more than one above the greatest before it
 pub record IsFirstUnseenIn (list : List ℕ) (at : ℕ) : Type 0 where
   pub within : at < length list
   pub before : (k : ℕ) → k < at → IsNextNumber list k
   pub here : ¬ IsNextNumber list at
 
--- the first place whose number is not in order, unless memory ran out
+-- why tallying a list stopped: the first place with an invalid number, or out of memory
 abbrev pub IsStopOf : List ℕ → Stop → Type 0
 IsStopOf list (Unseen at) = IsFirstUnseenIn list at
 IsStopOf list Memory = Unit {0}
 
--- the lists of one round and of the round above, ready to compare the parents' classes
+-- what comparing the parents' classes needs: the parents and classes of one round, the classes `above` of the round before, and the tallies
 pub record AreReady (parents above list : List ℕ) (tallies : List Tally) : Type 0 where
   pub long : length parents ≡ length list
   pub short : length list < 2 ^ 32

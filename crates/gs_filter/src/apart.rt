@@ -1,4 +1,4 @@
-//! The search for members of one class whose parents are of two.
+//! The search for members of one class whose parents are in different classes.
 
 ghost use Rattle.std.specs.Prelude.{◌≡◌, map, MatchOption};
 ghost use Rattle.gs_model.specs.Rows.{rows};
@@ -9,7 +9,7 @@ use crate::fault::ClassFault;
 use crate::rows::of_round;
 use crate::tally::Tally;
 
-/// The first place whose parent's class is not that of the parent of its class's first member, with that member first.
+/// Returns the first pair of signals of one class whose parents are in different classes: the first member of the class, then the other signal.
 fn first_apart_in(
     parents: &[u32],
     above: &[u32],
@@ -29,7 +29,7 @@ fn first_apart_in(
     None
 }
 
-/// The first two members of one class whose parents are of two classes.
+/// Returns the first two members of one class whose parents are in different classes, in the first round that has such members.
 pub(crate) fn first_apart(
     parents: &[Vec<u32>],
     lists: &[Vec<u32>],

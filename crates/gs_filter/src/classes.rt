@@ -1,4 +1,4 @@
-//! Classes of signals.
+//! Classes of signals as an information filter.
 
 ghost use Rattle.std.specs.Prelude.{◌≡◌, ◌-◌, ◌<◌, ◌≤◌, length, IfOk, IfErr};
 ghost use Rattle.gs_model.specs.{Rows.{rows}, Classes.{list_of, class_of, class_count, class_size, first_member, IsClass, IsClasses}};
@@ -11,10 +11,10 @@ use crate::tally::{Tally, tally_lists};
 use std::alloc::{AllocError, Global};
 use std::marker::Model;
 
-/// An information filter: for each round the class of each signal, numbered from 1 by first member, where members of one class have parents of one class.
+/// An information filter: for each round the class of each signal. Members of one class have parents of one class.
 /// At a betting point a class is what the literature calls an information set after abstraction, or a bucket.
 ///
-/// It keeps a copy of the parents that it was made with. Rounds and classes count from 1, signals from 0.
+/// The filter keeps its own copy of the parents. Rounds count from 1, signals from 0, and classes from 1 in order of their first members.
 #[derive(Debug, Drop)]
 pub struct Classes {
     parents: Vec<Vec<u32>>,
@@ -42,7 +42,7 @@ impl Model for Classes {
 impl Classes {
     ghost use Rattle.gs_filter.specs.{Faults.{IsFaultOf}, Tallies.{tally_of}};
 
-    /// Classes with these lists over these parents, or the first rule that the lists break.
+    /// Makes classes from these lists over these parents. Errors: the first rule that the lists break, or `Memory` if memory runs out.
     pub fn new(
         alloc: Global,
         parents: &[Vec<u32>],
@@ -68,7 +68,7 @@ impl Classes {
         })
     }
 
-    /// Classes that are known to be classes, with no search for a fault.
+    /// Makes classes from lists that are known to be classes over these parents, without checking them again.
     pub fn of_filter(
         alloc: Global,
         parents: &[Vec<u32>],
@@ -90,7 +90,7 @@ impl Classes {
         }
     }
 
-    /// Each signal a class of its own.
+    /// Returns the classes in which every signal is a class of its own.
     pub fn identity(alloc: Global, parents: &[Vec<u32>]) -> Result<Classes, AllocError>
         requires { AreParents (rows parents.now) }
         ensures parents { IfOk result (λ c. c.parents ≡ rows parents.now) }
@@ -100,7 +100,7 @@ impl Classes {
         Classes::of_filter(alloc, parents, lists)
     }
 
-    /// How many rounds there are.
+    /// Returns the number of rounds.
     pub fn rounds(&self) -> u8
         ensures value { result ≡ length self.now.lists }
         ensures sound { IsSound self.now }
@@ -108,7 +108,7 @@ impl Classes {
         self.lists.len() as u8
     }
 
-    /// How many signals a round has.
+    /// Returns the number of signals of a round.
     pub fn signals(&self, round: u8) -> u32
         requires some { 0 < round }
         requires top { round ≤ length self.now.lists }
@@ -117,7 +117,7 @@ impl Classes {
         of_round(&self.lists, u32::from(round)).len() as u32
     }
 
-    /// The class of a signal.
+    /// Returns the class of a signal.
     pub fn class_of(&self, round: u8, signal: u32) -> u32
         requires some { 0 < round }
         requires top { round ≤ length self.now.lists }
@@ -128,7 +128,7 @@ impl Classes {
         of_round(&self.lists, u32::from(round))[signal as usize]
     }
 
-    /// How many classes a round has.
+    /// Returns the number of classes of a round.
     pub fn classes(&self, round: u8) -> u32
         requires some { 0 < round }
         requires top { round ≤ length self.now.lists }
@@ -137,7 +137,7 @@ impl Classes {
         self.tallies[round as usize - 1].len() as u32
     }
 
-    /// How many members a class has.
+    /// Returns the number of members of a class.
     pub fn size(&self, round: u8, class: u32) -> u32
         requires some { 0 < round }
         requires top { round ≤ length self.now.lists }
@@ -147,7 +147,7 @@ impl Classes {
         self.tally_at(round, class).size
     }
 
-    /// The first member of a class.
+    /// Returns the first member of a class.
     pub fn first(&self, round: u8, class: u32) -> u32
         requires some { 0 < round }
         requires top { round ≤ length self.now.lists }
@@ -159,7 +159,7 @@ impl Classes {
         self.tally_at(round, class).first
     }
 
-    /// The class, in the round before, of the parents of a class.
+    /// Returns the class of the round before that has the parents of all members of a class.
     pub fn parent_class(&self, round: u8, class: u32) -> u32
         requires some { 1 < round }
         requires top { round ≤ length self.now.lists }
@@ -172,7 +172,7 @@ impl Classes {
         self.class_of(round - 1, parent)
     }
 
-    /// The size and the first member of a class.
+    /// Returns the size and the first member of a class.
     fn tally_at(&self, round: u8, class: u32) -> Tally
         requires some { 0 < round }
         requires top { round ≤ length self.now.lists }
@@ -183,7 +183,7 @@ impl Classes {
         self.tallies[round as usize - 1][class as usize - 1]
     }
 
-    /// For each round the class of each signal.
+    /// Returns for each round the class of each signal.
     pub fn lists(&self) -> &[Vec<u32>]
         ensures value { rows result.now ≡ self.now.lists }
         ensures sound { IsSound self.now }
@@ -191,7 +191,7 @@ impl Classes {
         &self.lists
     }
 
-    /// For each round the parent of each signal, as it was given.
+    /// Returns for each round the parent of each signal, as given to the constructor.
     pub fn parents(&self) -> &[Vec<u32>]
         ensures value { rows result.now ≡ self.now.parents }
         ensures sound { IsSound self.now }

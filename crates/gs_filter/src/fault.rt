@@ -1,4 +1,4 @@
-//! Why lists of numbers are no classes.
+//! The faults of class lists.
 
 ghost use Rattle.std.specs.Prelude.{◌≡◌};
 ghost use Rattle.gs_filter.specs.declared.fault.ClassFault.TheVariants.{Memory};
@@ -10,13 +10,13 @@ use std::fmt;
 /// The first rule that class lists break. Rounds count from 1, places in a list from 0.
 #[derive(Clone, Copy, Debug, PartialEq, Eq, Hash)]
 pub enum ClassFault {
-    /// One side lacks this round, or its list is longer or shorter than the round's parents.
+    /// One side lacks this round, or the round's class list and parent list differ in length.
     Length { round: u32 },
     /// The number at `at` is 0, or more than one above the greatest before it.
     NotFirstSeen { round: u32, at: u32 },
-    /// The parents of `b` and of `a`, the first member of its class, are of two classes.
+    /// `a` is the first member of the class of `b`, and their parents are in different classes.
     ParentsApart { round: u32, a: u32, b: u32 },
-    /// Memory ran out.
+    /// Out of memory.
     Memory,
 }
 

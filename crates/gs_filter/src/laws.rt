@@ -2,7 +2,7 @@
 
 ghost use Rattle.gs_filter.specs.Laws.{ClassesHaveNoFault};
 
-/// Lists that are classes break no rule: they have no fault but that memory may run out.
+/// Proves that lists that are classes have no fault other than running out of memory.
 pub fn classes_have_no_fault()
     ensures { ClassesHaveNoFault }
 {}

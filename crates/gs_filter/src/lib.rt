@@ -1,4 +1,4 @@
-//! Classes of signals as an information filter: class numbers by first member, where members of one class have parents of one class.
+//! Classes of signals as an information filter: members of one class have parents of one class. Classes are numbered in order of their first members.
 #![tactic(auto)]
 
 mod apart;

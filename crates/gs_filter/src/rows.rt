@@ -6,7 +6,7 @@ ghost use Rattle.gs_filter.specs.{Faults.{Agree, IsFirstLength}, Filter.{ArePare
 
 use std::alloc::{AllocError, Global};
 
-/// The list of a round.
+/// Returns the list of a round.
 pub(crate) fn of_round(lists: &[Vec<u32>], round: u32) -> &[u32]
     requires some { 0 < round }
     requires top { round ≤ length lists.now }
@@ -15,7 +15,7 @@ pub(crate) fn of_round(lists: &[Vec<u32>], round: u32) -> &[u32]
     &lists[round as usize - 1]
 }
 
-/// A copy.
+/// Returns a copy of the lists.
 pub(crate) fn copy_of(alloc: Global, lists: &[Vec<u32>]) -> Result<Vec<Vec<u32>>, AllocError>
     ensures { IfOk result (λ copy. rows copy.items ≡ rows lists.now) }
 {
@@ -26,7 +26,7 @@ pub(crate) fn copy_of(alloc: Global, lists: &[Vec<u32>]) -> Result<Vec<Vec<u32>>
     Ok(copy)
 }
 
-/// For each list the numbers from 1 up to its length.
+/// Returns for each list the numbers from 1 to its length.
 pub(crate) fn counted(alloc: Global, lists: &[Vec<u32>]) -> Result<Vec<Vec<u32>>, AllocError>
     requires { AreParents (rows lists.now) }
     ensures { IfOk result (λ numbers. rows numbers.items ≡ single_classes (rows lists.now)) }
@@ -38,7 +38,7 @@ pub(crate) fn counted(alloc: Global, lists: &[Vec<u32>]) -> Result<Vec<Vec<u32>>
     Ok(numbers)
 }
 
-/// The numbers from 1 up to `last`.
+/// Returns the numbers from 1 to `last`.
 fn count_to(alloc: Global, last: u32) -> Result<Vec<u32>, AllocError>
     ensures { IfOk result (λ numbers. numbers.items ≡ range_with_len 1 last) }
 {
@@ -49,7 +49,7 @@ fn count_to(alloc: Global, last: u32) -> Result<Vec<u32>, AllocError>
     Ok(numbers)
 }
 
-/// The first round in which the two sides do not agree.
+/// Returns the first round that one side lacks or whose two lists differ in length.
 pub(crate) fn first_length(parents: &[Vec<u32>], lists: &[Vec<u32>]) -> Option<u32>
     requires { length parents.now ≤ 4 }
     ensures { MatchOption result (Agree (rows parents.now) (rows lists.now)) (IsFirstLength (rows parents.now) (rows lists.now)) }

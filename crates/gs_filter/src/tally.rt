@@ -8,17 +8,17 @@ use crate::fault::ClassFault;
 use crate::rows::of_round;
 use std::alloc::{AllocFailed, Global};
 
-/// A class: how many members it has, and the first of them.
+/// The size and the first member of a class.
 #[derive(Clone, Copy, Debug)]
 pub(crate) struct Tally {
     pub(crate) size: u32,
     pub(crate) first: u32,
 }
 
-/// Why a list has no tallies.
+/// Why a list could not be tallied.
 #[derive(Clone, Copy, Debug)]
 pub(crate) enum Stop {
-    /// The number at this place does not count on.
+    /// The number at this place is 0, or more than one above the greatest before it.
     Unseen(u32),
     Memory,
 }
@@ -34,7 +34,7 @@ impl<T: Drop> From<AllocFailed<T>> for Stop {
     }
 }
 
-/// The tallies of a list, or the first place whose number does not count on.
+/// Returns the tally of each class of a list. Errors: the first place whose number is invalid, or `Memory` if memory runs out.
 pub(crate) fn tally_list(alloc: Global, list: &[u32]) -> Result<Vec<Tally>, Stop>
     requires { length list.now < 2 ^ 32 }
     ensures tallied { IfOk result (λ tallies. tallies.items ≡ tallies_of list.now) }
@@ -60,7 +60,7 @@ pub(crate) fn tally_list(alloc: Global, list: &[u32]) -> Result<Vec<Tally>, Stop
     Ok(tallies)
 }
 
-/// The tallies of each list, or the first place of the first round whose number does not count on.
+/// Returns the tallies of each list. Errors: the first invalid number, by round and place, or `Memory` if memory runs out.
 pub(crate) fn tally_lists(alloc: Global, lists: &[Vec<u32>]) -> Result<Vec<Vec<Tally>>, ClassFault>
     requires few { length lists.now ≤ 4 }
     requires short { AreShort (rows lists.now) }

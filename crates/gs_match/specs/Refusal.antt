@@ -4,13 +4,13 @@ use Rattle.gs_model.specs.Matching.{Edges, IsHall, IsPerfect}
 use Rattle.gs_match.specs.declared.graph.NoMatch.{NoMatch}
 use Rattle.gs_match.specs.declared.graph.NoMatch.TheVariants.{Sides, Hall, Memory}
 
--- the sides differ, and these are they; or they do not, and the set has too few neighbours
+-- the sides have different sizes, `left` and `right`; or they have the same size, and `set` is a Hall violator. `Memory` may be reported for any graph
 abbrev pub IsRefusalOf : Edges → NoMatch → Type 0
 IsRefusalOf g (Sides left right) = (left ≡ g.left) × (right ≡ g.right) × (left ≢ right)
 IsRefusalOf g (Hall set) = (g.left ≡ g.right) × IsHall g set.items
 IsRefusalOf g Memory = Unit {0}
 
--- where a set has too few neighbours no perfect matching exists
+-- if a Hall violator is reported, no perfect matching exists
 abbrev pub NoneExists : Edges → NoMatch → Type 0
 NoneExists g (Hall set) = (to : List ℕ) → IsPerfect g to → ⊥
 NoneExists g (Sides left right) = Unit {0}

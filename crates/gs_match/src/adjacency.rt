@@ -1,4 +1,4 @@
-//! Adjacency lists.
+//! Adjacency lists of a bipartite graph.
 
 ghost use Rattle.std.specs.Prelude.{◌≡◌, ℕ, ◌<◌, IfOk, [], length};
 ghost use Rattle.gs_model.specs.Rows.{rows};
@@ -7,7 +7,7 @@ ghost use Rattle.gs_match.specs.Adjacency.{AreEdgesInRange, AreNeighbours, row_o
 use crate::graph::Graph;
 use std::alloc::{AllocError, Global};
 
-/// This many empty lists.
+/// Returns `count` empty lists.
 fn empty_lists(alloc: Global, count: u32) -> Result<Vec<Vec<u32>>, AllocError>
     ensures long { IfOk result (λ lists. length lists.items ≡ count) }
     ensures empty { IfOk result (λ lists. (k : ℕ) → row_of (rows lists.items) k ≡ []) }
@@ -19,7 +19,7 @@ fn empty_lists(alloc: Global, count: u32) -> Result<Vec<Vec<u32>>, AllocError>
     Ok(lists)
 }
 
-/// For each left node its neighbours.
+/// Returns for each left node the list of its neighbours.
 pub(crate) fn adjacency(alloc: Global, graph: &Graph) -> Result<Vec<Vec<u32>>, AllocError>
     requires { AreEdgesInRange graph.now }
     ensures { IfOk result (λ lists. AreNeighbours graph.now (rows lists.items)) }

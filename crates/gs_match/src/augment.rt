@@ -1,4 +1,4 @@
-//! One more left node for a matching.
+//! Adding a left node to a matching.
 
 ghost use Rattle.std.specs.Prelude.{◌+◌, ◌<◌, MatchOption, IfOk, length};
 ghost use Rattle.gs_model.specs.Rows.{rows};
@@ -7,7 +7,8 @@ ghost use Rattle.gs_match.specs.{Adjacency.{AreRowsIn}, Search.{IsMatching, HasC
 use crate::search::{Found, Visit, search};
 use std::alloc::{AllocError, Global};
 
-/// Gives a left node a right node, and new ones to those that held the right nodes on the way. If it cannot be done, answers the visits of the search.
+/// Adds the left node `root` to a matching of the left nodes below it, and moves the left nodes on the augmenting path to other right nodes.
+/// Returns `None` on success. If no augmenting path exists, returns the visits of the search and changes nothing.
 pub(crate) fn augment(
     alloc: Global,
     adjacent: &[Vec<u32>],

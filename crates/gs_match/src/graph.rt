@@ -1,4 +1,4 @@
-//! Graphs, matchings, and why a graph has no perfect matching.
+//! Bipartite graphs, matchings, and why a graph has no perfect matching.
 
 ghost use Rattle.std.specs.Prelude.{◌≡◌};
 ghost use Rattle.gs_match.specs.declared.graph.NoMatch.TheVariants.{Memory};
@@ -43,10 +43,10 @@ pub enum NoMatch {
     /// One side has more nodes than the other.
     #[error("{left} left nodes and {right} right nodes")]
     Sides { left: u32, right: u32 },
-    /// These left nodes, in ascending order, have fewer neighbours than they are.
+    /// A Hall violator: these left nodes, in ascending order, have fewer neighbours than members.
     #[error("too few neighbours of left nodes {set:?}")]
     Hall { set: Vec<u32> },
-    /// Memory ran out.
+    /// Out of memory.
     #[error("out of memory")]
     Memory,
 }

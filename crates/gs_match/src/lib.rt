@@ -1,4 +1,4 @@
-//! Perfect matchings of bipartite graphs, by augmenting paths, or a set of left nodes with too few neighbours.
+//! Perfect matchings of bipartite graphs, found by augmenting paths. If there is none, a Hall violator: left nodes with fewer neighbours than members.
 #![tactic(auto)]
 
 mod adjacency;

@@ -1,4 +1,4 @@
-//! Perfect matchings.
+//! Perfect matchings of bipartite graphs.
 
 ghost use Rattle.std.specs.Prelude.{◌≡◌, ◌<◌, ◌^◌, ℕ, Some, map, IfOk, IfErr, IsPermutation, length, get_or};
 ghost use Rattle.std.specs.List.Sorted.{IsNonDecreasing};
@@ -11,7 +11,7 @@ use crate::graph::{Graph, Match, NoMatch};
 use crate::search::Visit;
 use std::alloc::{AllocError, Global};
 
-/// The right node of each left node, from the left node of each right node.
+/// Returns the right node of each left node, given the left node of each right node.
 fn by_left(alloc: Global, holders: &[Option<u32>]) -> Result<Vec<u32>, AllocError>
     requires short { length holders.now < 2 ^ 32 }
     requires within { (b a : ℕ) → holder holders.now b ≡ Some a → a < length holders.now }
@@ -28,7 +28,7 @@ fn by_left(alloc: Global, holders: &[Option<u32>]) -> Result<Vec<u32>, AllocErro
     Ok(to)
 }
 
-/// The visited left nodes in ascending order.
+/// Returns the visited left nodes in ascending order.
 fn visited(alloc: Global, visits: &[Visit]) -> Result<Vec<u32>, AllocError>
     ensures same { IfOk result (λ set. IsPermutation (lefts visits.now) set.items) }
     ensures sorted { IfOk result (λ set. IsNonDecreasing set.items) }
@@ -38,7 +38,10 @@ fn visited(alloc: Global, visits: &[Visit]) -> Result<Vec<u32>, AllocError>
     Ok(set)
 }
 
-/// A perfect matching, or why the graph has none: by augmenting paths from each left node in turn.
+/// Returns a perfect matching, found by augmenting paths from each left node in turn.
+/// Errors: `Sides` if the two sides differ in size, `Hall` with left nodes that have too few neighbours, `Memory` if memory runs out.
+///
+/// Source: the augmenting paths of Kuhn (1955) and Hall (1935).
 pub fn perfect(alloc: Global, graph: &Graph) -> Result<Match, NoMatch>
     requires { AreEdgesInRange graph.now }
     ensures equal { IfOk result (λ _. graph.now.left ≡ graph.now.right) }

@@ -6,8 +6,8 @@ ghost use Rattle.gs_match.specs.{Adjacency.{AreRowsIn}, Search.{visit, IsMatchin
 
 use std::alloc::{AllocError, Global};
 
-/// A left node on the way, the right node that it is matched with, and the place of the visit whose left node has an edge to that one.
-/// The first visit has no right node.
+/// A left node of the search, the right node it is matched with, and the place of the visit whose left node has an edge to that right node.
+/// The first visit has no right node; its `right` and `from` are 0.
 #[derive(Clone, Copy, Debug)]
 pub(crate) struct Visit {
     pub(crate) left: u32,
@@ -18,19 +18,20 @@ pub(crate) struct Visit {
 /// What a search found.
 #[derive(Debug, Drop)]
 pub(crate) enum Found {
-    /// A right node that nobody holds, beside the visit at this place.
+    /// A free right node, a neighbour of the left node of the visit at this place.
     Free {
         visits: Vec<Visit>,
         place: usize,
         right: u32,
     },
-    /// All neighbours of the visited left nodes are held by visited left nodes.
+    /// All neighbours of the visited left nodes are matched with visited left nodes.
     Closed {
         visits: Vec<Visit>,
     },
 }
 
-/// Visits the holders of the neighbours of a visit's left node that were not reached before, up to a neighbour that nobody holds.
+/// Goes through the neighbours of a visit's left node: marks each new one as reached and visits the left node matched with it.
+/// Stops at the first free neighbour and returns it; returns `None` if there is no free one.
 fn visit_row(
     adjacent: &[Vec<u32>],
     holders: &[Option<u32>],
@@ -68,7 +69,7 @@ fn visit_row(
     Ok(None)
 }
 
-/// Searches breadth first for an augmenting path from a left node.
+/// Searches breadth first for an augmenting path from the left node `root`.
 pub(crate) fn search(
     alloc: Global,
     adjacent: &[Vec<u32>],

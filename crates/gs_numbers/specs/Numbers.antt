@@ -1,10 +1,10 @@
--- Numbers in order of first occurrence, and the keys that they lead to.
+-- Numbers in order of first occurrence, and the keys that they stand for.
 use Rattle.std.specs.Prelude.{ℕ, ◌-◌, ◌<◌, ◌≡◌, Bool, true, List, Some, Vec, get_or, length, slice_get}
 use Rattle.std.specs.declared.alloc.Global.{Global}
 use lib.Pointwise.{pointwise}
 use Rattle.gs_model.specs.Numbering.{IsClassesOf}
 
--- whether two lists have the same parts, in order
+-- whether two lists have equal parts in the same order
 abbrev pub same_parts : {X : Type 0} → (X → X → Bool) → Vec X Global → Vec X Global → Bool
 same_parts eq a b = pointwise eq a.items b.items
 
@@ -12,25 +12,25 @@ same_parts eq a b = pointwise eq a.items b.items
 abbrev pub StayIn : {K : Type 0} → List K → List K → Type 0
 StayIn {K} old new = (i : ℕ) (k : K) → slice_get old i ≡ Some k → slice_get new i ≡ Some k
 
--- the key with a number has the parts of a list
+-- the key with number `n` equals the list `parts`, part by part
 pub record IsNumberOf {X : Type 0} (eq : X → X → Bool) (keys : List (Vec X Global)) (parts : List X) (n : ℕ) : Type 0 where
   pub some : 0 < n
   pub key : Vec X Global
   pub stands : slice_get keys (n - 1) ≡ Some key
   pub same : pointwise eq parts key.items ≡ true
 
--- the key with a number is one of the item i
+-- the key with number `n` is a key of item `i`
 pub record HasKey {X : Type 0} (sign : ℕ → List X → Type 0) (keys : List (Vec X Global)) (i n : ℕ) : Type 0 where
   pub some : 0 < n
   pub key : Vec X Global
   pub stands : slice_get keys (n - 1) ≡ Some key
   pub signs : sign i key.items
 
--- the numbers of the first items lead to their keys
+-- each number stands for a key of its item
 abbrev pub LeadToKeys : {X : Type 0} → (ℕ → List X → Type 0) → List (Vec X Global) → List ℕ → Type 0
 LeadToKeys sign keys numbers = (i : ℕ) → i < length numbers → HasKey sign keys i (get_or numbers i 0)
 
--- some item has a key and a class
+-- some item has the key `k` and the class `class`
 pub record HasClassOf {K : Type 0} (key : ℕ → K) (classes : List ℕ) (k : K) (class : ℕ) : Type 0 where
   pub item : ℕ
   pub within : item < length classes

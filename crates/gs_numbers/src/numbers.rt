@@ -1,4 +1,4 @@
-//! The numbers of keys and of lists.
+//! Numbers for keys and for lists, in order of first occurrence.
 
 ghost use Rattle.std.specs.Prelude.{◌≡◌, ◌+◌, ◌-◌, ◌<◌, ◌≤◌, ◌^◌, IfOk, OnOk, Some, slice_get, true};
 ghost use lib.Pointwise.{pointwise};
@@ -10,7 +10,7 @@ use indexmap::IndexSet;
 use std::alloc::{AllocError, Global};
 use std::hash::Hash;
 
-/// The number of a key: one above its place among the keys that were seen, in order of first occurrence.
+/// Returns the number of a key: 1 plus its place among the distinct keys so far, in order of first occurrence. Adds a new key to `keys`.
 pub fn number_of<K: Eq + Hash + Drop>(keys: &mut IndexSet<K>, key: K) -> Result<u32, AllocError>
     requires { index_set_len keys.old + 1 < 2 ^ 32 }
     ensures grown { OnOk result (keys.new.keys ≡ insert_key K.eq keys.old.keys key) }
@@ -23,7 +23,8 @@ pub fn number_of<K: Eq + Hash + Drop>(keys: &mut IndexSet<K>, key: K) -> Result<
     Ok(index as u32 + 1)
 }
 
-/// The number of a list, in order of first occurrence too. A copy of a new list is kept; at a known one nothing changes.
+/// Returns the number of a list: 1 plus its place among the distinct lists so far, in order of first occurrence.
+/// Adds a copy of a new list to `lists`, and leaves `lists` as it is for a known one.
 pub fn number_of_list<P: Copy + Eq + Hash + Drop>(
     alloc: Global,
     lists: &mut IndexSet<Vec<P>>,
