@@ -10,7 +10,7 @@ use Rattle.gs_tree.specs.Walk.{last_count, shows_same}
 use Rattle.gs_alike.specs.declared.board.Board.{Board}
 use Rattle.gs_alike.specs.declared.board.Seat.{Seat}
 
--- the last-round signals that show the public cards of the one at a place
+-- the last-round signals with the same public cards as signal `i`
 abbrev pub signals_on : Game → ℕ → List ℕ
 signals_on g i = filter (shows_same g i) (range_with_len 0 (last_count g))
 
@@ -18,11 +18,11 @@ signals_on g i = filter (shows_same g i) (range_with_len 0 (last_count g))
 abbrev pub strengths_of : Game → List ℕ
 strengths_of g = map (signal_strength g) (signals g (round_count g))
 
--- the strengths on the board of a last-round signal
+-- the strengths of the last-round signals with the same public cards as signal `i`
 abbrev pub strengths_on : Game → ℕ → List ℕ
 strengths_on g i = map (slice_index (strengths_of g)) (signals_on g i)
 
--- how many of some numbers are smaller than one
+-- how many of the numbers `xs` are smaller than `a`
 abbrev pub smaller : ℕ → List ℕ → ℕ
 smaller a xs = count_by (λ x. nat_lt x a) xs
 
@@ -34,15 +34,15 @@ signals_in seats = map (λ (s : Seat). s.signal) seats
 abbrev pub levels_in : List Seat → List ℕ
 levels_in seats = map (λ (s : Seat). s.level) seats
 
--- a seat whose level is its rank: how many of some seats have a smaller level
+-- a seat with its rank as its level: how many of the seats `seats` have a smaller level
 abbrev pub ranked_in : List Seat → Seat → Seat
 ranked_in seats s = record { level = smaller s.level (levels_in seats); signal = s.signal }
 
--- some seats whose levels are their ranks
+-- the seats, with their ranks as their levels
 abbrev pub ranked : List Seat → List Seat
 ranked seats = map (ranked_in seats) seats
 
--- the level of a last-round signal: its strength, or how many on its board are weaker
+-- the level of a last-round signal: its strength or, by rank, how many signals with the same public cards are weaker
 abbrev pub level_of : Game → Bool → ℕ → ℕ
 level_of g by_rank i = cond by_rank (smaller (slice_index (strengths_of g) i) (strengths_on g i)) (slice_index (strengths_of g) i)
 
@@ -54,11 +54,11 @@ seat_of g i = record { level = slice_index (strengths_of g) i; signal = i }
 abbrev pub PaysOnce : Game → Type 0
 PaysOnce g = (i : ℕ) → i < last_count g → slice_index g.bonus (category g.ranking (signal_strength g (signal_at g (round_count g) i))) ≡ 1
 
--- two lists have each number as often
+-- two lists have each number equally often
 abbrev pub HaveSame : List ℕ → List ℕ → Type 0
 HaveSame xs ys = (v : ℕ) → count_by (λ x. nat_eq x v) xs ≡ count_by (λ x. nat_eq x v) ys
 
--- last-round signals, all that show the public cards of any one of them, with their levels
+-- all last-round signals of a plain game with the same public cards as any one of them, with their levels; by rank only if each bonus is 1
 pub record IsBoard (g : Game) (by_rank : Bool) (board : Board) : Type 0 where
   pub plain : IsPlain g
   pub once : by_rank ≡ true → PaysOnce g

@@ -1,4 +1,4 @@
--- Kinds of boards: those with the same hands.
+-- Kinds of boards: boards of one kind have the same hands.
 use Rattle.std.specs.Prelude.{ℕ, ◌≡◌, ◌<◌, ◌+◌, ◌*◌, ◌++◌, ◌∷◌, [], Bool, List, Some, get_or, length, nat_eq, slice_index}
 use Rattle.std.specs.Global.{Vec}
 use Rattle.std.specs.HashMap.{HashMap, get}
@@ -16,7 +16,7 @@ pub record AreHands (board : Board) (keys hands : List ℕ) : Type 0 where
   pub each : (i : ℕ) → i < length board.seats.items → slice_index hands i
       ≡ slice_index (levels_in board.seats.items) i * 4294967296 + slice_index keys (slice_index (signals_in board.seats.items) i)
 
--- the kind at a place has some hands, in some order
+-- the kind at the place `kind` has the hands `hands`, in some order
 pub record IsKindOf (kinds : List Kind) (kind : ℕ) (hands : List ℕ) : Type 0 where
   pub within : kind < length kinds
   pub same : (d : Kind) → IsPermutation (get_or kinds kind d).hands.items hands
@@ -25,18 +25,18 @@ pub record IsKindOf (kinds : List Kind) (kind : ℕ) (hands : List ℕ) : Type 0
 abbrev pub row_eq : Vec ℕ → Vec ℕ → Bool
 row_eq row other = pointwise nat_eq row.items other.items
 
--- the kinds that are kept for rows have the hands of the row
+-- each kind that is kept for a row has the hands of that row
 abbrev pub KeepsKinds : List Kind → HashMap (Vec ℕ) ℕ (BuildHasherDefault FoldHasher) → Type 0
 KeepsKinds kinds seen = (row : Vec ℕ) (kind : ℕ) → get row_eq seen row ≡ Some kind → IsKindOf kinds kind row.items
 
--- one more kind, with the hands of the board at a place
+-- `more` is `kinds` and one more kind, with a board's place and hands
 pub record HasMore (kinds more : List Kind) (board : ℕ) (hands : List ℕ) : Type 0 where
   pub last : Kind
   pub joined : more ≡ kinds ++ last ∷ []
   pub board_is : last.board ≡ board
   pub hands_are : last.hands.items ≡ hands
 
--- a signal of a board is marked by one of another board that has the same hand
+-- the mark of a signal of one board is a signal of another board with the same hand
 pub record IsMark (signals hands others other_hands : List ℕ) (signal mark : ℕ) : Type 0 where
   pub one : ℕ
   pub two : ℕ

@@ -1,4 +1,4 @@
-//! Boards: the signals of the last round that show the same public cards.
+//! Boards: the last-round signals that show the same public cards.
 
 ghost use Rattle.std.specs.{Prelude.{◌≡◌, ◌<◌, ◌^◌, true, IfOk, length, map}, List.{All}, List.Sorted.{IsNonDecreasingBy, IsPermutation}};
 ghost use Rattle.gs_tree.specs.{Plain.{IsPlain}, Trees.{rules_of}, Walk.{last_count}};
@@ -7,7 +7,7 @@ ghost use Rattle.gs_alike.specs.Boards.{IsBoard, PaysOnce, ranked, seat_of, sign
 use gs_tree::Signals;
 use std::alloc::{AllocError, Global};
 
-/// A signal of the last round and its level, at first how strong its hand is. On a board the levels of two signals tell their outcome.
+/// A last-round signal and its level: the strength of its hand, or its rank on its board. The levels of two signals of a board decide their outcome.
 #[derive(Clone, Copy)]
 pub(crate) struct Seat {
     pub(crate) level: u32,
@@ -20,7 +20,7 @@ pub(crate) struct Board {
     pub(crate) seats: Vec<Seat>,
 }
 
-/// The signals on the board of one, with their strengths.
+/// Returns the signals on the board of `first`, with their strengths as levels.
 fn seats_beside(alloc: Global, signals: &Signals, first: u32) -> Result<Vec<Seat>, AllocError>
     requires { first < last_count (rules_of signals.now) }
     ensures { IfOk result (λ v. v.items ≡ map (seat_of (rules_of signals.now)) (signals_on (rules_of signals.now) first)) }
@@ -40,7 +40,7 @@ fn seats_beside(alloc: Global, signals: &Signals, first: u32) -> Result<Vec<Seat
     Ok(seats)
 }
 
-/// The weakest seat first.
+/// Sorts the seats by level, the weakest first.
 fn sort_by_level(seats: &mut Vec<Seat>)
     ensures moved { IsPermutation seats.old.items seats.new.items }
     ensures ascending { IsNonDecreasingBy (λ seat. seat.level) seats.new.items }
@@ -48,7 +48,7 @@ fn sort_by_level(seats: &mut Vec<Seat>)
     seats.sort_unstable_by_key(|seat| seat.level);
 }
 
-/// Writes for the level of each seat its rank, which is how many of the seats are weaker.
+/// Replaces the level of each seat by its rank: how many of the seats are weaker.
 fn rank(seats: &mut Vec<Seat>)
     requires few { length seats.old.items < 2 ^ 32 }
     requires ascending { IsNonDecreasingBy (λ seat. seat.level) seats.old.items }
@@ -69,7 +69,8 @@ fn rank(seats: &mut Vec<Seat>)
     }
 }
 
-/// The board of a signal. Where each bonus is 1 the levels are ranks, so that boards of the same order are alike whatever their cards.
+/// Returns the board of a signal. With `by_rank`, for games in which each bonus is 1, the levels are ranks.
+/// Boards with the same order of ranks are then alike, whatever their cards.
 fn board_of(
     alloc: Global,
     signals: &Signals,
@@ -89,7 +90,7 @@ fn board_of(
     Ok(Board { seats })
 }
 
-/// All boards.
+/// Returns all boards, in the order of their first signals.
 pub(crate) fn boards_of(
     alloc: Global,
     signals: &Signals,

@@ -1,14 +1,14 @@
-//! The first items with their marks.
+//! The first item with each mark.
 
 ghost use Rattle.std.specs.Prelude.{◌≡◌, ◌<◌, ◌≤◌, ◌^◌, ◌⊎◌, IfOk, length, slice_index, slice_set};
 ghost use Rattle.gs_alike.specs.Firsts.{AreFirsts};
 
 use std::alloc::{AllocError, Global};
 
-/// The place of no item, and so the mark of an item that has none.
+/// The mark of an item that has none. No item has this place.
 pub(crate) const NONE: u32 = u32::MAX;
 
-/// The item that is kept for a mark, where there is an earlier one; else this one, which is kept from then on.
+/// Returns the item that is kept for a mark if it is earlier than `item`. Otherwise returns `item`, and keeps it if the mark is the place of an item.
 fn first_of(kept: &mut [u32], item: u32, mark: u32) -> u32
     ensures before { result ≤ item }
     ensures earlier { result < item → (mark < length kept.old) × (slice_index kept.old mark ≡ result) }
@@ -26,7 +26,7 @@ fn first_of(kept: &mut [u32], item: u32, mark: u32) -> u32
     item
 }
 
-/// For each item the first one with its mark, and itself where it has none.
+/// Returns for each item the first one with its mark, or the item itself if its mark is not the place of an item.
 pub(crate) fn first_items(alloc: Global, mut marks: Vec<u32>) -> Result<Vec<u32>, AllocError>
     requires { length marks.items < 2 ^ 32 }
     ensures { IfOk result (λ v. AreFirsts marks.items v.items) }

@@ -1,4 +1,4 @@
-//! Kinds of boards: those with the same hands. A hand is a number, equal where the levels and the keys are.
+//! Kinds of boards: boards of one kind have the same hands. A hand is a number that stands for a level and a key.
 
 ghost use Rattle.std.specs.{Prelude.{◌≡◌, ◌<◌, ◌⊎◌, IfOk, OnOk, length}, List.{All}};
 ghost use Rattle.gs_alike.specs.Hands.{AreHands, HasMore, IsKindOf, KeepsKinds};
@@ -7,17 +7,17 @@ use crate::board::Board;
 use std::alloc::{AllocError, Global};
 use std::collections::HashMap;
 
-/// The first board of a kind, by its place, and the hands on it.
+/// A kind of boards: the place of its first board, and the hands on that board.
 #[derive(Drop)]
 pub(crate) struct Kind {
     pub(crate) board: usize,
     pub(crate) hands: Vec<u64>,
 }
 
-/// How many keys there can be. A hand is the level of a signal times this, and its key.
+/// The number of possible keys, 2^32. A hand is the level of a signal times this, plus its key.
 pub(crate) const KEYS: u64 = 4294967296;
 
-/// The kinds so far, for the hands of each, in ascending order, its place, and the hands that were looked for last, in that order.
+/// The kinds so far. `seen` has the place of each kind by its hands in ascending order, and `row` has the hands looked up last, in ascending order.
 #[derive(Drop)]
 pub(crate) struct Kinds {
     pub(crate) list: Vec<Kind>,
@@ -25,7 +25,7 @@ pub(crate) struct Kinds {
     pub(crate) row: Vec<u64>,
 }
 
-/// The hands of all signals of a board, in place of those of another one.
+/// Replaces the content of `hands` by the hands of all signals of a board.
 pub(crate) fn list_hands(
     hands: &mut Vec<u64>,
     board: &Board,
@@ -41,7 +41,7 @@ pub(crate) fn list_hands(
     Ok(())
 }
 
-/// The kind with the hands of the board at a place, each as often; a new kind if no known one has them.
+/// Returns the place of the kind that has these hands, in any order. If there is none, adds a kind with these hands and the place `board`.
 pub(crate) fn kind_of(
     alloc: Global,
     kinds: &mut Kinds,

@@ -1,4 +1,4 @@
-//! A mark for each signal of the last round: one that sees the same deals.
+//! Marks of last-round signals: the mark of a signal is a signal that sees the same deals.
 
 ghost use Rattle.std.specs.{Prelude.{◌≡◌, ◌<◌, ◌⊎◌, ℕ, IfSome, length, slice_index}, List.{All}};
 ghost use Rattle.gs_alike.specs.{Boards.{signals_in}, Hands.{IsMark}};
@@ -6,8 +6,8 @@ ghost use Rattle.gs_alike.specs.{Boards.{signals_in}, Hands.{IsMark}};
 use crate::board::Seat;
 use crate::kinds::KEYS;
 
-/// Where the hands of one board are looked for on another: the last level, its first place, and where the last hand was found. On both boards the levels
-/// ascend in the same way.
+/// The state of a search for the hands of one board on another: the latest level, its first place, and where the latest hand was found.
+/// On both boards the levels ascend in the same way.
 #[derive(Drop)]
 struct Search {
     level: u64,
@@ -15,7 +15,7 @@ struct Search {
     found: usize,
 }
 
-/// The place of a hand among others, at a place or behind it.
+/// Returns the first place of a hand, from the place `from` on.
 fn place_of(hands: &[u64], from: usize, hand: u64) -> Option<usize>
     ensures { IfSome result (λ place. (place < length hands.now) × (slice_index hands.now place ≡ hand)) }
 {
@@ -27,7 +27,8 @@ fn place_of(hands: &[u64], from: usize, hand: u64) -> Option<usize>
     None
 }
 
-/// The place among others of the hand at a place: where the last one was found, if it is the same, or else from the first place of its level on.
+/// Returns a place of the hand `hand` among `others`. Looks first where the latest hand was found, then from the first place of the level on.
+/// `place` is the place of the hand on its own board.
 fn find(search: &mut Search, others: &[u64], place: usize, hand: u64) -> Option<usize>
     ensures { IfSome result (λ other. (other < length others.now) × (slice_index others.now other ≡ hand)) }
 {
@@ -44,7 +45,7 @@ fn find(search: &mut Search, others: &[u64], place: usize, hand: u64) -> Option<
     found
 }
 
-/// Marks the signals of a board by signals of another one with the same hands.
+/// Marks signals of a board with signals of another board that have the same hands.
 pub(crate) fn mark_board(
     marks: &mut [u32],
     seats: &[Seat],

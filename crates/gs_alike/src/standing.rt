@@ -1,4 +1,4 @@
-//! A signal for each signal of the last round that stands for it.
+//! Stand-ins: for each last-round signal one that sees the same deals.
 
 ghost use Rattle.std.specs.{Prelude.{◌≡◌, ◌<◌, EachIndex, IfOk, IsTrue, length, slice_index}, List.{All}};
 ghost use Rattle.gs_tree.specs.{Trees.{rules_of}, Walk.{last_count}};
@@ -12,8 +12,8 @@ use gs_tree::Signals;
 use std::alloc::{AllocError, Global};
 use std::collections::HashMap;
 
-/// The boards of the last round, with the signals that they are of. They are not looked at where some kind of cards has more than one copy, or the
-/// players are dealt more than one private card.
+/// The signals of a game and the boards of its last round.
+/// The list of boards is empty if some kind of card has more than one copy, or if the players are not dealt exactly one private card.
 #[derive(Drop)]
 pub struct Boards<'a> {
     signals: &'a Signals<'a>,
@@ -22,7 +22,7 @@ pub struct Boards<'a> {
     ghost each: { All (IsBoard (rules_of signals.now) by_rank) list.items },
 }
 
-/// Whether each bonus is 1.
+/// Returns whether each bonus is 1.
 fn are_ones(bonus: &[u8]) -> bool
     ensures { IsTrue result → EachIndex bonus.now (λ category. slice_index bonus.now category ≡ 1) }
 {
@@ -30,7 +30,7 @@ fn are_ones(bonus: &[u8]) -> bool
 }
 
 impl<'a> Boards<'a> {
-    /// The boards of the last round.
+    /// Returns the boards of the last round.
     pub fn of(alloc: Global, signals: &'a Signals<'a>) -> Result<Boards<'a>, AllocError>
         ensures { IfOk result (λ boards. boards.signals.now ≡ signals.entry.now) }
     {
@@ -47,7 +47,7 @@ impl<'a> Boards<'a> {
         })
     }
 
-    // For each signal of the last round one that is like it, on the first board with the same hands, or no mark.
+    // Returns for each last-round signal a signal alike to it, on the first board with the same hands, or no mark.
     fn marks(&self, alloc: Global, keys: &[u32]) -> Result<Vec<u32>, AllocError>
         requires { length keys.now ≡ last_count (rules_of self.now.signals.now) }
         ensures { IfOk result (λ v. AreMarks (rules_of self.now.signals.now) keys.now v.items) }
@@ -70,8 +70,8 @@ impl<'a> Boards<'a> {
         Ok(marks)
     }
 
-    /// For each signal of the last round one that is like it and not behind it: of the same key, as hard to come by, and with the same deals
-    /// by the opponent's key, outcome and weight.
+    /// Returns for each last-round signal a stand-in, at the same or an earlier place. `keys` has a key for each last-round signal.
+    /// A signal and its stand-in have the same key, the same number of ways to them, and the same deals by the opponent's key, outcome and weight.
     pub fn stand_ins(&self, alloc: Global, keys: &[u32]) -> Result<Vec<u32>, AllocError>
         requires { length keys.now ≡ last_count (rules_of self.now.signals.now) }
         ensures { IfOk result (λ v. AreStandIns (rules_of self.now.signals.now) keys.now v.items) }
@@ -81,7 +81,7 @@ impl<'a> Boards<'a> {
     }
 }
 
-/// For each signal of the last round one that is like it, as the boards of the last round give it.
+/// Returns for each last-round signal a stand-in, as `Boards::stand_ins` does, with boards made for this one call.
 pub fn stand_ins(alloc: Global, signals: &Signals, keys: &[u32]) -> Result<Vec<u32>, AllocError>
     requires { length keys.now ≡ last_count (rules_of signals.now) }
     ensures { IfOk result (λ v. AreStandIns (rules_of signals.now) keys.now v.items) }

@@ -1,4 +1,4 @@
-//! The numbers of signals before the last round, by their children's.
+//! Numbers of the signals before the last round, made from the numbers of their children.
 
 ghost use Rattle.std.specs.{Cow.{cow_slice_items}, Prelude.{ℕ, ◌≡◌, ◌<◌, ◌≤◌, ◌+◌, IfOk, List, OnOk, [], length, map}, List.{range_with_len}};
 ghost use Rattle.gs_model.specs.{Game.{round_count}, Signals.{child_count, first_child, signals as signals_in}};
@@ -13,7 +13,7 @@ use indexmap::IndexSet;
 use std::alloc::{AllocError, Global};
 use std::borrow::CowSlice;
 
-/// The children of a signal, by their places. `below` has the numbers of the next round.
+/// Returns the children of a signal in the order of their places. `below` has the numbers of the next round's signals.
 pub(crate) fn children_under(
     alloc: Global,
     signals: &Signals,
@@ -39,8 +39,8 @@ pub(crate) fn children_under(
     Ok(children)
 }
 
-/// For each signal of a round a mark: equal exactly where both the edges to the signals and their numbers are. Where each edge weighs 1, the
-/// numbers are the marks.
+/// Returns a mark for each signal of a round: equal exactly where both the edges to the signals and the numbers are equal.
+/// If each edge has weight 1, the numbers are the marks.
 fn edge_marks<'a>(
     alloc: Global,
     signals: &Signals,
@@ -69,7 +69,7 @@ fn edge_marks<'a>(
     Ok(CowSlice::Owned(marks))
 }
 
-/// Puts the marks of a signal's children, in ascending order, into a list in place of what it held. `marks` has those of the next round.
+/// Replaces the content of `signature` by the marks of a signal's children in ascending order. `marks` has the marks of the next round's signals.
 fn sign_children(
     signature: &mut Vec<u32>,
     signals: &Signals,
@@ -90,7 +90,7 @@ fn sign_children(
     Ok(())
 }
 
-/// For each signal of a round before the last a number, by the marks of the signals of the next round. `seen` is empty.
+/// Returns a number for each signal of a round before the last, from the marks of the next round's signals. `seen` must be empty.
 fn number_each(
     alloc: Global,
     seen: &mut IndexSet<Vec<u32>>,
@@ -115,7 +115,7 @@ fn number_each(
     Ok(numbers)
 }
 
-/// For each signal of a round before the last a number, by those marks alone.
+/// Returns a number for each signal of a round before the last, from the marks of the next round's signals.
 fn numbers_by_marks(
     alloc: Global,
     signals: &Signals,
@@ -132,7 +132,8 @@ fn numbers_by_marks(
     number_each(alloc, &mut seen, &mut signature, signals, round, marks)
 }
 
-/// For each signal of a round before the last a number: equal exactly where the signals are isomorphic. `below` has the numbers of the next round.
+/// Returns a number for each signal of a round before the last: equal exactly where the signals are isomorphic.
+/// `below` has the numbers of the next round's signals.
 pub(crate) fn child_numbers(
     alloc: Global,
     signals: &Signals,

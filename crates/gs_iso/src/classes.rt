@@ -10,7 +10,7 @@ use indexmap::IndexSet;
 use std::alloc::{AllocError, Global};
 use std::mem;
 
-/// Notes an item as the last one with a number, and gives the one that was; the item itself where numbers so great are not kept.
+/// Records the latest item for a number and returns the previous one. Returns the item itself if `last` has no place for the number.
 fn noted(last: &mut [u32], number: u32, item: u32) -> u32 {
     match last.get_mut(number as usize) {
         Some(place) => mem::replace(place, item),
@@ -18,7 +18,7 @@ fn noted(last: &mut [u32], number: u32, item: u32) -> u32 {
     }
 }
 
-/// The signals of a round as items: the classes of the round before, and the parent and the number of each item.
+/// The signals of a round as items: the classes of the round before, and for each item its parent and its number.
 #[derive(Clone, Copy)]
 pub(crate) struct RoundItems<'a> {
     pub above: &'a [u32],
@@ -29,7 +29,7 @@ pub(crate) struct RoundItems<'a> {
 }
 
 impl RoundItems<'_> {
-    /// What tells an item apart.
+    /// Returns the key that decides the class of an item.
     fn key(self, item: usize) -> ClassKey
         requires { item < length self.numbers.now }
         ensures { result ≡ class_key self.entry.above.now self.entry.parents.now self.entry.numbers.now item }
@@ -40,7 +40,7 @@ impl RoundItems<'_> {
         }
     }
 
-    /// The class of an item, where it has one and has this key.
+    /// Returns the class of an item if it already has one and its key is `key`.
     fn class_again(self, classes: &[u32], item: u32, key: ClassKey) -> Option<u32>
         requires { length classes.now ≤ length self.numbers.now }
         ensures { IfSome result (HasClassOf (class_key self.entry.above.now self.entry.parents.now self.entry.numbers.now) classes.now key) }
@@ -53,7 +53,7 @@ impl RoundItems<'_> {
     }
 }
 
-/// The classes of a round, item by item. `last` has for each number the last item so far with it; `seen` is empty.
+/// Returns the classes of a round, item by item. `last` has room for the latest item of each number, and `seen` must be empty.
 fn classes_each(
     alloc: Global,
     items: RoundItems<'_>,
@@ -79,8 +79,8 @@ fn classes_each(
     Ok(classes)
 }
 
-/// The classes of a round, numbered from 1 by first member: two signals are of one class where their parents are, in the round before, and
-/// their numbers are equal.
+/// Returns the classes of a round, numbered from 1 by first member.
+/// Two signals are in one class if their parents are in one class of the round before and their numbers are equal.
 pub(crate) fn round_classes(alloc: Global, items: RoundItems<'_>) -> Result<Vec<u32>, AllocError>
     requires { length items.numbers.now + 1 < 2 ^ 32 }
     ensures long { IfOk result (λ v. length v.items ≡ length items.entry.numbers.now) }

@@ -1,4 +1,4 @@
-//! Matchings of equal parts.
+//! Perfect matchings of equal parts of two lists.
 
 ghost use Rattle.std.specs.Prelude.{◌+◌, ◌<◌, ◌^◌, IfOk, OnOk, length};
 ghost use Rattle.gs_iso.specs.Pairings.{AreEqualEdges, IsEqualGraph, IsPairingAnswer};
@@ -6,7 +6,7 @@ ghost use Rattle.gs_iso.specs.Pairings.{AreEqualEdges, IsEqualGraph, IsPairingAn
 use gs_match::{Graph, Match, NoMatch, perfect};
 use std::alloc::{AllocError, Global};
 
-/// Joins one place of the first parts to all places of equal ones among the second.
+/// Adds the edges from the place `left` of `ones` to all places of `twos` with an equal part.
 fn join_equals<P: Eq>(
     edges: &mut Vec<(u32, u32)>,
     ones: &[P],
@@ -27,7 +27,7 @@ fn join_equals<P: Eq>(
     Ok(())
 }
 
-/// The graph whose edges join the places of equal parts.
+/// Returns the bipartite graph whose edges join the places of equal parts.
 fn equal_graph<P: Eq>(alloc: Global, ones: &[P], twos: &[P]) -> Result<Graph, AllocError>
     requires few_ones { length ones.now < 2 ^ 32 }
     requires few_twos { length twos.now < 2 ^ 32 }
@@ -44,7 +44,7 @@ fn equal_graph<P: Eq>(alloc: Global, ones: &[P], twos: &[P]) -> Result<Graph, Al
     })
 }
 
-/// For each of the first parts, in order, the place of a different one of the second, equal to it.
+/// Returns for each part of `ones`, in order, the place of a different, equal part of `twos`. Returns `None` if there is no such matching of all parts.
 pub(crate) fn match_equals<P: Eq>(
     alloc: Global,
     ones: &[P],

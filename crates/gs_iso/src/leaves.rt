@@ -1,4 +1,4 @@
-//! The signatures of last-round signals.
+//! Leaves, signatures and numbers of last-round signals.
 
 ghost use Rattle.std.specs.Prelude.{◌≡◌, ◌<◌, ◌^◌, All, IfOk, OnOk, map, unsigned_abs};
 ghost use Rattle.gs_model.specs.{Game.{round_count}, Signals.{signal_at}, ViewTree.{leaves}};
@@ -12,13 +12,13 @@ use gs_tree::{Deal, Deals, Signals};
 use indexmap::IndexSet;
 use std::alloc::{AllocError, Global};
 
-/// What a lost leaf's mark is higher by: more than any outcome's size.
+/// What is added to the mark of a lost leaf: more than the size of any outcome.
 const LOST: u64 = 256;
 
-/// How far apart the marks of leaves are for one way more.
+/// What one more way adds to the mark of a leaf.
 const A_WAY: u64 = 512;
 
-/// The leaves that some deals of one signal are: their ways are the deals' weights over the ways to the signal.
+/// Returns the deals of one signal as leaves. The ways of a leaf are the deal's weight divided by `path`, the number of ways to the signal.
 fn leaves_of(alloc: Global, deals: Deals<'_>, path: u64) -> Result<Vec<Leaf>, AllocError>
     requires { 0 < path }
     ensures { IfOk result (λ v. v.items ≡ map (leaf_of path) deals.entry) }
@@ -31,7 +31,7 @@ fn leaves_of(alloc: Global, deals: Deals<'_>, path: u64) -> Result<Vec<Leaf>, Al
         .collect(alloc)
 }
 
-/// The leaves under a signal of the last round, in the order of its deals.
+/// Returns the leaves under a last-round signal, in the order of its deals.
 pub(crate) fn leaves_under(
     alloc: Global,
     signals: &Signals,
@@ -43,7 +43,7 @@ pub(crate) fn leaves_under(
     leaves_of(alloc, signals.deals_of(signal), signals.path_weight(signal))
 }
 
-/// The mark of the leaf that a deal is, by the ways to the signal that it is dealt to: one number for its ways and its outcome.
+/// Returns the mark of a deal as a leaf: one number for its ways and its outcome. `path` is the number of ways to the deal's signal.
 fn mark_of(deal: Deal, path: u64) -> u64
     requires some { 0 < path }
     requires few { deal.weight < 2 ^ 32 }
@@ -54,7 +54,7 @@ fn mark_of(deal: Deal, path: u64) -> u64
     deal.weight / path * A_WAY + side + u64::from(deal.outcome.unsigned_abs())
 }
 
-/// Puts the marks of the leaves under a signal of the last round, in the order of its deals, into a list in place of what it held.
+/// Replaces the content of `marks` by the marks of the leaves under a last-round signal, in the order of its deals.
 fn mark_leaves(marks: &mut Vec<u64>, signals: &Signals, signal: u32) -> Result<(), AllocError>
     requires { signal < last_count (rules_of signals.now) }
     ensures marks { OnOk result (marks.new.items ≡ map leaf_mark
@@ -70,7 +70,7 @@ fn mark_leaves(marks: &mut Vec<u64>, signals: &Signals, signal: u32) -> Result<(
     Ok(())
 }
 
-/// Puts the marks of the leaves under a signal of the last round, in ascending order, into a list in place of what it held.
+/// Replaces the content of `signature` by the marks of the leaves under a last-round signal, in ascending order.
 fn sign_leaves(signature: &mut Vec<u64>, signals: &Signals, signal: u32) -> Result<(), AllocError>
     requires { signal < last_count (rules_of signals.now) }
     ensures { OnOk result (IsLeafSignature (rules_of signals.now) signal signature.new.items) }
@@ -80,8 +80,8 @@ fn sign_leaves(signature: &mut Vec<u64>, signals: &Signals, signal: u32) -> Resu
     Ok(())
 }
 
-/// For each signal of the last round a number: equal exactly where the signals are isomorphic. The leaves of a signal are looked at only where no
-/// earlier one sees the same deals. The numbers take the places of the stand-ins, signal by signal.
+/// Returns a number for each last-round signal: equal exactly where the signals are isomorphic.
+/// Reads the leaves of a signal only if it has no earlier stand-in. The numbers overwrite the list of stand-ins, signal by signal.
 pub(crate) fn leaf_numbers(alloc: Global, signals: &Signals) -> Result<Vec<u32>, AllocError>
     ensures { IfOk result (λ v. IsNumbering (rules_of signals.now) (round_count (rules_of signals.now)) v.items) }
 {

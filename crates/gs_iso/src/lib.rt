@@ -1,4 +1,4 @@
-//! The classes of ordered game isomorphism.
+//! The signal classes of ordered game isomorphism, as the algorithm GameShrink finds them.
 #![tactic(auto)]
 
 mod children;

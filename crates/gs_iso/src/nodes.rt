@@ -1,8 +1,8 @@
-//! The parts of a node: its leaves or children, and what tells the classes of a round apart.
+//! The parts of a node: its leaves or children, and the key that decides a signal's class.
 
 use std::marker::Model;
 
-/// A leaf under a last-round signal: the ways of taking the opponent's groups, and the viewer's outcome.
+/// A leaf under a last-round signal: the number of ways to take the opponent's groups, and the outcome for the signal's player.
 #[derive(Clone, Copy, Debug, PartialEq, Eq)]
 pub(crate) struct Leaf {
     pub ways: u64,
@@ -19,7 +19,7 @@ impl Model for Leaf {
     ghost inverse = { λ p. record { ways = p.0; outcome = p.1 } };
 }
 
-/// A child of a signal: the weight of its edge, and its number.
+/// A child of a signal: the weight of the edge to it, and its number.
 #[derive(Clone, Copy, Debug, PartialEq, Eq, Hash)]
 pub(crate) struct Child {
     pub edge: u64,
@@ -36,7 +36,7 @@ impl Model for Child {
     ghost inverse = { λ p. record { edge = p.0; number = p.1 } };
 }
 
-/// What tells the classes of a round apart: the class of the signal's parent, and the signal's number.
+/// The key that decides a signal's class: the class of its parent, and its number.
 #[derive(Clone, Copy, Debug, PartialEq, Eq, Hash)]
 pub(crate) struct ClassKey {
     pub above: u32,

@@ -13,7 +13,7 @@ use gs_match::Match;
 use gs_tree::Signals;
 use std::alloc::{AllocError, Global};
 
-/// The pairing of two signals of the last round, by their leaves.
+/// Returns the pairing of two last-round signals, by their leaves; `None` if they are not isomorphic.
 fn leaf_pairing(
     alloc: Global,
     signals: &Signals,
@@ -30,7 +30,8 @@ fn leaf_pairing(
     match_equals(alloc, &ones, &twos)
 }
 
-/// The pairing of two signals of a round before the last, by their children. `below` has the numbers of the next round.
+/// Returns the pairing of two signals of a round before the last, by their children; `None` if they are not isomorphic.
+/// `below` has the numbers of the next round's signals.
 fn child_pairing(
     alloc: Global,
     signals: &Signals,
@@ -51,9 +52,9 @@ fn child_pairing(
     match_equals(alloc, &ones, &twos)
 }
 
-/// Why two signals of a round are isomorphic: for each child of `a`, in order, the place among the children of `b` of a different one, of equal
-/// edge weight and isomorphic. In the last round the children are the leaves, in the order of the signal's deals. None where the two signals are
-/// not isomorphic.
+/// Returns a pairing that shows that two signals of a round are isomorphic, or `None` if they are not.
+/// For each child of `a`, in order, the pairing names a different child of `b`, by its place among the children of `b`.
+/// Paired children have equal edge weights and are isomorphic. In the last round the children are the leaves, in the order of the signal's deals.
 ///
 /// Source: Gilpin and Sandholm, Lossless abstraction of imperfect information games, 2007.
 pub fn pairing(

@@ -1,4 +1,4 @@
-//! The signal classes of a game.
+//! The signal classes of a game, by ordered game isomorphism.
 
 ghost use Rattle.std.specs.{Prelude.{◌≡◌, ◌<◌, IfOk, map}, List.{range_with_len}};
 ghost use Rattle.gs_model.specs.{Rows.{rows}, Game.{round_count}, SignalClasses.{IsSignalClasses}, Signals.{parents}};
@@ -12,7 +12,7 @@ use gs_filter::Classes;
 use gs_tree::Signals;
 use std::alloc::{AllocError, Global};
 
-/// For each round, the last one first, a number for each signal: equal exactly where signals are isomorphic.
+/// Returns for each round, the last one first, a number for each signal. Numbers of a round are equal exactly where the signals are isomorphic.
 pub(crate) fn node_numbers(alloc: Global, signals: &Signals) -> Result<Vec<Vec<u32>>, AllocError>
     ensures { IfOk result (λ v. AreNumberings (rules_of signals.now) (rows v.items)) }
 {
@@ -27,7 +27,7 @@ pub(crate) fn node_numbers(alloc: Global, signals: &Signals) -> Result<Vec<Vec<u
     Ok(numbers)
 }
 
-/// The classes of the round before, of lists for the first rounds: before round 1 there is the root, of class 1.
+/// Returns the last of some class lists. If there is none, returns the list of the root alone, which has class 1.
 fn last_classes<'a>(lists: &'a [Vec<u32>]) -> &'a [u32]
     ensures { result.now ≡ classes_above (rows lists.now) }
 {
@@ -37,7 +37,7 @@ fn last_classes<'a>(lists: &'a [Vec<u32>]) -> &'a [u32]
     }
 }
 
-/// For each round the class of each signal. `numbers` has the numbers of the signals, the last round first.
+/// Returns for each round the class of each signal. `numbers` has the numbers of the signals, the last round first.
 fn class_lists(
     alloc: Global,
     signals: &Signals,
@@ -60,8 +60,9 @@ fn class_lists(
     Ok(lists)
 }
 
-/// The classes of recursive ordered game isomorphism: two signals of a round are of one class where they are isomorphic and, from round 2 on,
-/// their parents are of one class. Classes are numbered from 1 by first member. This is the grouping of the algorithm GameShrink.
+/// Returns the classes of recursive ordered game isomorphism, which are the grouping of the algorithm GameShrink.
+/// Two signals of a round are in one class if they are isomorphic and, from round 2 on, their parents are in one class.
+/// Classes are numbered from 1 by first member.
 ///
 /// Source: Gilpin and Sandholm, Lossless abstraction of imperfect information games, 2007.
 pub fn shrink(alloc: Global, signals: &Signals) -> Result<Classes, AllocError>
