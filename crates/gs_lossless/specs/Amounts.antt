@@ -13,14 +13,14 @@ use Rattle.gs_lossless.specs.declared.sides.Side.{Side}
 use Rattle.gs_lossless.specs.declared.sides.Side.TheVariants.{Deals, Children}
 use Rattle.gs_lossless.specs.Sums.{Rises, sum_at}
 
--- by class and outcome: the weight of a signal's deals, by the outcome in the last round alone, or how many children it has. Where no outcome counts, all
--- stands at 0
+-- what counts for a signal at a class and an outcome: the weight of its deals, or the number of its children.
+-- Only the deals of the last round are told apart by outcome; every other amount stands at outcome 0
 abbrev pub amount : Frame → ClassLists → Side → ℕ → ℕ → ℕ → ℤ → ℕ
 amount f lists Deals round s c o =
     if round == last_round f then weight_with f lists s c o else (if int_eq (pos 0) o then weight_against f lists round s c else 0)
 amount f lists Children round s c o = if int_eq (pos 0) o then children_in f lists round s c else 0
 
--- two signals agree on one side
+-- two signals have equal amounts on one side, for every class and outcome
 abbrev pub Agree : Frame → ClassLists → Side → ℕ → ℕ → ℕ → Type 0
 Agree f lists side round s t = (c : ℕ) (o : ℤ) → amount f lists side round s c o ≡ amount f lists side round t c o
 
@@ -28,49 +28,49 @@ Agree f lists side round s t = (c : ℕ) (o : ℤ) → amount f lists side round
 abbrev pub AgreesWithFirst : Frame → ClassLists → Side → ℕ → ℕ → Type 0
 AgreesWithFirst f lists side round s = Agree f lists side round (first_member lists round (class_of lists round s)) s
 
--- each signal of a round has one that stands for it on one side: of its class, not behind it, and one that it agrees with
+-- `firsts` gives each signal of a round a stand-in on one side: of its class, at the same or an earlier place, and with equal amounts
 pub record AreSideFirsts (f : Frame) (lists : ClassLists) (side : Side) (round : ℕ) (firsts : List ℕ) : Type 0 where
   pub long : length firsts ≡ signal_count f round
   pub before : (s : ℕ) → s < length firsts → get_or firsts s 0 ≤ s
   pub class : (s : ℕ) → s < length firsts → class_of lists round (get_or firsts s 0) ≡ class_of lists round s
   pub agree : (s : ℕ) → s < length firsts → Agree f lists side round (get_or firsts s 0) s
 
--- the sums of a signal on one side
+-- the amounts of a signal on one side, as sums in ascending order of class and outcome
 pub record AreAmounts (f : Frame) (lists : ClassLists) (side : Side) (round s : ℕ) (sums : List Part) : Type 0 where
   pub rises : Rises sums
   pub sum : (c : ℕ) (o : ℤ) → sum_at sums c o ≡ amount f lists side round s c o
 
--- the round has this side: children stand before the last round
+-- the round has this side: every round has deals, and every round before the last has children
 abbrev pub HasSide : Frame → Side → ℕ → Type 0
 HasSide f Deals round = (0 < round) × (round ≤ last_round f)
 HasSide f Children round = (0 < round) × (round < last_round f)
 
--- the classes by which a side counts: those of the next round's signals, or of the last round's by their ancestors in the round
+-- the classes by which a side counts: for children those of the next round's signals, for deals those of the last-round signals' ancestors in the round
 abbrev pub keys_of : Frame → ClassLists → Side → ℕ → List ℕ
 keys_of f lists Deals round = map (λ x. class_of lists round (at_round f round x)) (signals_in f (last_round f))
 keys_of f lists Children round = list_of lists (round + 1)
 
--- how many signals a side counts
+-- how many signals a side counts: those of the last round for deals, of the next round for children
 abbrev pub key_count : Game → Side → ℕ → ℕ
 key_count g Deals round = length (signals g (round_count g))
 key_count g Children round = length (signals g (round + 1))
 
--- the signals of the round `at` that descend from a signal of a round are those of a run of places
+-- the descendants in round `at` of the signal `s` of `round` stand at exactly the places from `first` up to but not including `end`
 pub record IsRunIn (f : Frame) (at round s first end : ℕ) : Type 0 where
   pub ordered : first ≤ end
   pub within : end ≤ signal_count f at
   pub inside : (x : ℕ) → x < signal_count f at → ancestor f at round x ≡ s → (first ≤ x) × (x < end)
   pub back : (x : ℕ) → first ≤ x → x < end → ancestor f at round x ≡ s
 
--- the same in the last round
+-- the descendants of a signal in the last round stand at exactly the places from `first` up to but not including `end`
 abbrev pub IsRun : Frame → ℕ → ℕ → ℕ → ℕ → Type 0
 IsRun f round s first end = IsRunIn f (last_round f) round s first end
 
--- a deal as a part: its weight counts for the key of player 2's signal, and for its outcome or for none
+-- a deal as a part: its weight counts at the key of player 2's signal and, with `by_outcome`, at its outcome; otherwise at outcome 0
 abbrev pub deal_part : List ℕ → Bool → Deal → Part
 deal_part keys by_outcome d = record { class = get_or keys d.two 0; outcome = if by_outcome then d.outcome else pos 0; weight = d.weight }
 
--- a signal of the next round as a part: it counts once for its class
+-- a signal of the next round as a part: it counts once, at its class and outcome 0
 abbrev pub child_part : List ℕ → ℕ → Part
 child_part keys x = record { class = get_or keys x 0; outcome = pos 0; weight = 1 }
 

@@ -11,12 +11,12 @@ use Rattle.gs_lossless.specs.declared.sides.Side.{Side}
 abbrev pub AgreeBelow : Frame → ClassLists → Side → ℕ → ℕ → Type 0
 AgreeBelow f lists side round end = (s : ℕ) → s < end → AgreesWithFirst f lists side round s
 
--- the first signal before `end` that does not, or none
+-- the first signal before `end` that does not agree with the first member of its class; `None` if all agree
 abbrev pub IsFirstApart : Frame → ClassLists → Side → ℕ → ℕ → Option ℕ → Type 0
 IsFirstApart f lists side round end None = AgreeBelow f lists side round end
 IsFirstApart f lists side round end (Some s) = (s < end) × AgreeBelow f lists side round s × (AgreesWithFirst f lists side round s → ⊥)
 
--- signals that are listed, if any are, stand for those of the round on the side
+-- if `firsts` is not empty, it gives each signal of the round a stand-in on this side
 abbrev pub StandFor : Frame → ClassLists → Side → ℕ → List ℕ → Type 0
 StandFor f lists side round firsts = 0 < length firsts → AreSideFirsts f lists side round firsts
 
@@ -24,7 +24,7 @@ StandFor f lists side round firsts = 0 < length firsts → AreSideFirsts f lists
 abbrev pub AreAloneBelow : ClassLists → ℕ → ℕ → Type 0
 AreAloneBelow lists round end = (s : ℕ) → s < end → class_size lists round (class_of lists round s) ≡ 1
 
--- of classes with more than one member whose first member stands before a signal, the sums of that member are kept
+-- for each class with more than one member, `kept` has the sums of the first member if that member comes before `signal`
 abbrev pub StoredBelow : Frame → ClassLists → Side → ℕ → ℕ → List (Vec Part Global) → Type 0
 StoredBelow f lists side round signal kept =
     (k : ℕ) (d : Vec Part Global) → 0 < k → k ≤ class_count lists round → first_member lists round k < signal → class_size lists round k ≢ 1

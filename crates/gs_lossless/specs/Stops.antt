@@ -1,4 +1,4 @@
--- What a stop of a check says of the classes, and its text.
+-- What a failed check says about the classes, and its text.
 use Rattle.std.specs.Prelude.{ℕ, ◌<◌, ◌++◌, List, Option, Some, None, codes}
 use Rattle.std.specs.Fmt.{decimal}
 use Rattle.gs_model.specs.Classes.{ClassLists, class_of, first_member}
@@ -9,12 +9,12 @@ use Rattle.gs_lossless.specs.declared.sides.Side.TheVariants.{Children}
 use Rattle.gs_lossless.specs.declared.stop.CheckStop.{CheckStop}
 use Rattle.gs_lossless.specs.declared.stop.CheckStop.TheVariants.{Unlike, Memory}
 
--- the stop names the first unlike pair; running out of memory says nothing
+-- the stop names the first unlike pair; `Memory` says nothing about the classes
 abbrev pub IsUnlikeIn : Frame → ClassLists → CheckStop → Type 0
 IsUnlikeIn f lists (Unlike round first second) = IsFirstUnlike f lists round first second
 IsUnlikeIn f lists Memory = Unit {0}
 
--- the stop is not that memory ran out
+-- the stop names an unlike pair: it is not `Memory`
 abbrev pub IsUnlike : CheckStop → Type 0
 IsUnlike (Unlike round first second) = Unit {0}
 IsUnlike Memory = ⊥
@@ -23,18 +23,18 @@ IsUnlike Memory = ⊥
 abbrev pub AreAlikeBelow : Frame → ClassLists → ℕ → ℕ → Type 0
 AreAlikeBelow f lists round end = (s : ℕ) → s < end → Alike f lists round (first_member lists round (class_of lists round s)) s
 
--- the first signal of a round that is not like the first member of its class, or none
+-- the first signal of a round that is not like the first member of its class; `None` if all are alike
 abbrev pub MatchUnlike : Frame → ClassLists → ℕ → Option ℕ → Type 0
 MatchUnlike f lists round None = AreAlikeBelow f lists round (signal_count f round)
 MatchUnlike f lists round (Some s) = (s < signal_count f round) × AreAlikeBelow f lists round s
     × (Alike f lists round (first_member lists round (class_of lists round s)) s → ⊥)
 
--- what a stop prints
+-- the text of a stop
 abbrev pub stop_text : CheckStop → List ℕ
 stop_text (Unlike round first second) = codes "unlike in round " ++ decimal round ++ codes " at " ++ decimal first ++ codes " and " ++ decimal second
 stop_text Memory = codes "out of memory"
 
--- the first signal of a round before `end` that has not the children of the first member of its class, or none
+-- the first signal before `end` whose children differ from those of the first member of its class; `None` if there is none or in the last round
 abbrev pub IsChildrenApart : Frame → ClassLists → ℕ → ℕ → Option ℕ → Type 0
 IsChildrenApart f lists round end None = round < last_round f → AgreeBelow f lists Children round end
 IsChildrenApart f lists round end (Some s) = (round < last_round f) × IsFirstApart f lists Children round end (Some s)

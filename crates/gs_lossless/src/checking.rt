@@ -15,8 +15,8 @@ use gs_filter::Classes;
 use gs_tree::Signals;
 use std::alloc::{AllocError, Global};
 
-/// Signals with lossless classes: members of one class have parents of one class, the same weight of deals against each class of the opponent, in
-/// the last round for each outcome too, and the same number of children in each class.
+/// Signals with lossless classes. Members of one class have parents of one class and the same number of children in each class.
+/// They also have the same weight of deals against each class of the opponent; in the last round, the same weight for each outcome too.
 #[derive(Clone, Copy)]
 pub struct Lossless<'a> {
     signals: &'a Signals<'a>,
@@ -26,7 +26,7 @@ pub struct Lossless<'a> {
 }
 
 impl<'a> Lossless<'a> {
-    /// Classes that are known to be lossless, with their signals: nothing is compared.
+    /// Returns signals with classes that are known to be lossless, without a check.
     pub fn known(signals: &'a Signals<'a>, classes: &'a Classes) -> Lossless<'a>
         requires parents { classes.now.parents ≡ (frame_of (rules_of signals.now)).parents }
         requires lossless { IsLossless (frame_of (rules_of signals.now)) classes.now.lists }
@@ -36,7 +36,7 @@ impl<'a> Lossless<'a> {
         Lossless { signals, classes }
     }
 
-    /// The signals.
+    /// Returns the signals.
     pub fn signals(&self) -> &'a Signals<'a>
         ensures held { result.now ≡ self.now.signals.now }
         ensures lossless { IsLossless (frame_of (rules_of self.now.signals.now)) self.now.classes.now.lists }
@@ -44,7 +44,7 @@ impl<'a> Lossless<'a> {
         self.signals
     }
 
-    /// The classes.
+    /// Returns the classes.
     pub fn classes(&self) -> &'a Classes
         ensures held { result.now ≡ self.now.classes.now }
         ensures parents { result.now.parents ≡ (frame_of (rules_of self.now.signals.now)).parents }
@@ -54,7 +54,7 @@ impl<'a> Lossless<'a> {
     }
 }
 
-/// Whether the last round's sums and the children of all rounds agree within classes: then the classes are lossless.
+/// Returns whether members of each class agree in the sums of the last round and in the children of all rounds. If so, the classes are lossless.
 fn settles(alloc: Global, grouped: &Grouped<'_>) -> Result<bool, AllocError>
     ensures { IfOk result (λ b. IsTrue b → IsLossless (frame_of (rules_of grouped.now.signals.now)) grouped.now.classes.now.lists) }
 {
@@ -71,7 +71,7 @@ fn settles(alloc: Global, grouped: &Grouped<'_>) -> Result<bool, AllocError>
     Ok(first_apart(alloc, grouped, Side::Deals, last, end)?.is_none())
 }
 
-/// The first signal of a round that is not like the first member of its class. The last round has no children.
+/// Returns the first signal of a round that is not like the first member of its class. The last round has no children.
 fn unlike_in(alloc: Global, grouped: &Grouped<'_>, round: u8) -> Result<Option<u32>, AllocError>
     requires some { 0 < round }
     requires top { round ≤ last_round (frame_of (rules_of grouped.now.signals.now)) }
@@ -86,7 +86,7 @@ fn unlike_in(alloc: Global, grouped: &Grouped<'_>, round: u8) -> Result<Option<u
     Ok(before.or(apart))
 }
 
-/// The first unlike pair; none if the classes are lossless.
+/// Checks, round by round, that the classes are lossless. Errors: the first unlike pair, or `Memory` if memory runs out.
 fn first_unlike(alloc: Global, grouped: &Grouped<'_>) -> Result<(), CheckStop>
     ensures lossless { IfOk result (λ _. IsLossless (frame_of (rules_of grouped.now.signals.now)) grouped.now.classes.now.lists) }
     ensures unlike { IfErr result (IsUnlikeIn (frame_of (rules_of grouped.now.signals.now)) grouped.now.classes.now.lists) }
@@ -109,9 +109,10 @@ fn first_unlike(alloc: Global, grouped: &Grouped<'_>) -> Result<(), CheckStop>
     Ok(())
 }
 
-/// Lossless classes, or the first unlike pair. Classes of one signal each are never refused.
+/// Checks that classes are lossless, and returns them with their signals. Classes of one signal each always pass.
+/// Errors: the first unlike pair, or `Memory` if memory runs out.
 ///
-/// The sums of the last round and the counts of children settle losslessness, so the rounds before are looked at only to name the pair.
+/// The sums of the last round and the counts of children decide losslessness. The deals of earlier rounds are compared only to name the pair.
 pub fn check<'a>(
     alloc: Global,
     signals: &'a Signals<'a>,

@@ -1,4 +1,4 @@
-//! Signals with classes of them.
+//! Signals with their classes.
 
 ghost use Rattle.std.specs.Prelude.{◌≡◌};
 ghost use Rattle.gs_model.specs.Frame.{frame_of};

@@ -1,4 +1,4 @@
-//! The classes by which sums are taken.
+//! Keys: the classes by which the two sides count.
 
 ghost use Rattle.std.specs.Prelude.{◌≡◌, IfOk};
 ghost use Rattle.gs_model.specs.Frame.{frame_of};
@@ -12,7 +12,8 @@ use gs_filter::Classes;
 use gs_tree::Signals;
 use std::alloc::{AllocError, Global};
 
-/// For each signal of the last round the class of its ancestor in a round; or for each signal of the next round its class.
+/// Returns the classes by which a side counts in a round.
+/// `Side::Deals`: for each last-round signal the class of its ancestor in the round. `Side::Children`: for each signal of the next round its class.
 pub fn side_keys(
     alloc: Global,
     signals: &Signals,
@@ -30,7 +31,7 @@ pub fn side_keys(
     }
 }
 
-/// For each signal of the last round the class of its ancestor in a round.
+/// Returns for each last-round signal the class of its ancestor in a round.
 fn ancestor_classes(alloc: Global, grouped: &Grouped<'_>, round: u8) -> Result<Vec<u32>, AllocError>
     requires { HasSide (frame_of (rules_of grouped.now.signals.now)) Side.Deals round }
     ensures { IfOk result (λ v. v.items ≡ keys_of (frame_of (rules_of grouped.now.signals.now)) grouped.now.classes.now.lists Side.Deals round) }

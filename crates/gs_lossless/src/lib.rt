@@ -1,4 +1,4 @@
-//! Whether classes of signals lose nothing: members of one class see the same weights of deals and have the same children, class by class.
+//! The check whether classes of signals are lossless: members of one class see the same weights of deals and have the same children, class by class.
 #![tactic(auto)]
 
 mod checking;

@@ -1,11 +1,11 @@
-//! Weights by class and outcome, added up.
+//! Sums of weights by class and outcome.
 
 ghost use Rattle.std.specs.Prelude.{◌≡◌, ◌↔◌, ◌+◌, ◌<◌, ◌^◌, All, IfOk, OnOk, IsTrue, sum_by};
 ghost use Rattle.gs_lossless.specs.Sums.{AreSumsOf, put_last};
 
 use std::alloc::{AllocError, Global};
 
-/// A weight that counts for a class and an outcome.
+/// A weight that counts at a class and an outcome.
 #[derive(Clone, Copy, Debug, PartialEq, Eq, PartialOrd, Ord, Hash)]
 pub struct Part {
     pub class: u32,
@@ -13,7 +13,7 @@ pub struct Part {
     pub weight: u32,
 }
 
-/// Adds a part to sums whose keys are none above its own: the last sum takes it, or it begins a new one.
+/// Adds a part to sums with no greater class and outcome: to the last sum if it has the same class and outcome, otherwise as a new sum.
 fn add(sums: &mut Vec<Part>, part: Part) -> Result<(), AllocError>
     requires { sum_by (λ p. p.weight) sums.old.items + part.weight < 2 ^ 32 }
     ensures { OnOk result (sums.new.items ≡ put_last part sums.old.items) }
@@ -30,7 +30,7 @@ fn add(sums: &mut Vec<Part>, part: Part) -> Result<(), AllocError>
     Ok(())
 }
 
-/// The sums of the weights of some parts, for each class and outcome that some part has, in ascending order.
+/// Returns the total weight at each class and outcome that some part has, in ascending order.
 pub(crate) fn sums_of(alloc: Global, mut parts: Vec<Part>) -> Result<Vec<Part>, AllocError>
     requires some { All (λ p. 0 < p.weight) parts.items }
     requires fits { sum_by (λ p. p.weight) parts.items < 2 ^ 32 }
@@ -44,7 +44,7 @@ pub(crate) fn sums_of(alloc: Global, mut parts: Vec<Part>) -> Result<Vec<Part>, 
     Ok(sums)
 }
 
-/// Whether two lists of sums are the same.
+/// Returns whether two lists of sums are equal.
 pub(crate) fn are_same(sums: &[Part], others: &[Part]) -> bool
     ensures { IsTrue result ↔ (sums.now ≡ others.now) }
 {

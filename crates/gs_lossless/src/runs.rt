@@ -1,4 +1,4 @@
-//! The signals of a later round that descend from a signal: a run of places.
+//! Ancestors and descendants of signals. The descendants of a signal in a round stand at a run of places.
 
 ghost use Rattle.std.specs.Prelude.{◌≡◌, ◌+◌, ◌<◌, ◌≤◌, length};
 ghost use Rattle.gs_model.specs.{Frame.{at_round, frame_of}, Game.{round_count}, Signals.{first_child, signals as signals_in}};
@@ -7,14 +7,14 @@ ghost use Rattle.gs_lossless.specs.Amounts.{IsRun, IsRunIn};
 
 use gs_tree::Signals;
 
-/// A run of signals of a round, by their places: from the first one up to the end, which is not one of them.
+/// A run of signals of a round: the places from `first` up to but not including `end`.
 #[derive(Clone, Copy, Debug)]
 pub struct Run {
     pub first: u32,
     pub end: u32,
 }
 
-/// The ancestor in a round of a signal of the last round.
+/// Returns the ancestor in a round of a last-round signal.
 pub fn ancestor(signals: &Signals, round: u8, signal: u32) -> u32
     requires some { 0 < round }
     requires last { round ≤ round_count (rules_of signals.now) }
@@ -31,7 +31,7 @@ pub fn ancestor(signals: &Signals, round: u8, signal: u32) -> u32
     place
 }
 
-/// The place of the first signal of the next round whose parent is not before this place.
+/// Returns the place of the first signal of the next round whose parent is at this place or later.
 fn first_below(signals: &Signals, round: u8, place: u32) -> u32
     requires some { 0 < round }
     requires before_last { round < round_count (rules_of signals.now) }
@@ -45,7 +45,7 @@ fn first_below(signals: &Signals, round: u8, place: u32) -> u32
     }
 }
 
-/// The signals of a round that descend from a signal of an earlier round, or from itself in its own.
+/// Returns the descendants of a signal in the round `to`. In its own round a signal is its only descendant.
 pub fn descendants_in(signals: &Signals, round: u8, signal: u32, to: u8) -> Run
     requires some { 0 < round }
     requires onward { round ≤ to }
@@ -62,7 +62,7 @@ pub fn descendants_in(signals: &Signals, round: u8, signal: u32, to: u8) -> Run
     Run { first, end }
 }
 
-/// The last-round signals that descend from a signal.
+/// Returns the last-round signals that descend from a signal.
 pub fn descendants(signals: &Signals, round: u8, signal: u32) -> Run
     requires some { 0 < round }
     requires last { round ≤ round_count (rules_of signals.now) }

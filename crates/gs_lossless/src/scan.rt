@@ -14,7 +14,7 @@ use crate::standing::{has_earlier, stand_ins_at};
 use gs_filter::Classes;
 use std::alloc::{AllocError, Global};
 
-/// Whether each class of a round has one member.
+/// Returns whether each class of a round has one member.
 fn are_alone(classes: &Classes, round: u8) -> bool
     requires some { 0 < round }
     requires top { round ≤ length classes.now.lists }
@@ -28,9 +28,9 @@ fn are_alone(classes: &Classes, round: u8) -> bool
     true
 }
 
-/// The first signal of a round, of those before `end`, that differs on one side from the first member of its class. The sums of a first member are
-/// kept where the class has more members. None are made where each class has one member, and behind the first signals none of a signal that an earlier one
-/// stands for.
+/// Returns the first signal before `end` that differs on one side from the first member of its class.
+/// Keeps the sums of the first member of each class with more than one member. Makes no sums if each class of the round has one member,
+/// and none of a signal that has an earlier stand-in once stand-ins are listed.
 pub(crate) fn first_apart(
     alloc: Global,
     grouped: &Grouped<'_>,

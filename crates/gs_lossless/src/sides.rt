@@ -1,4 +1,4 @@
-//! What is compared of a signal: the sums of its deals, or of its children.
+//! The two sides on which signals are compared: the sums of their deals, and those of their children.
 
 ghost use Rattle.std.specs.{Prelude.{◌≡◌, ◌-◌, ◌++◌, ◌<◌, ◌≤◌, ◌^◌, All, IfOk, OnOk, length, map}, List.{range_with_len}};
 ghost use Rattle.gs_model.specs.{Classes.{ClassLists}, Deals.{Deal as Dealt, deals as all_deals}, Frame.{frame_of}};
@@ -11,19 +11,19 @@ use crate::runs::{Run, descendants};
 use gs_tree::{Deal, Deals, Signals};
 use std::alloc::{AllocError, Global};
 
-/// How many parts there is room for at first: most last-round signals have no more deals.
+/// The number of parts to reserve room for: most last-round signals have no more deals.
 const FEW: usize = 64;
 
-/// One of the two things that members of a class agree in.
+/// One of the two things in which the members of a lossless class agree.
 #[derive(Clone, Copy, Debug, PartialEq, Eq)]
 pub enum Side {
-    /// The weights of a signal's deals by the opponent's class, and in the last round by the outcome too.
+    /// The weight of a signal's deals against each class of the opponent, in the last round for each outcome too.
     Deals,
-    /// How many children a signal has in each class.
+    /// The number of a signal's children in each class.
     Children,
 }
 
-/// A deal's weight, for the class of player 2's signal, and for the outcome or for none.
+/// Returns a deal as a part: its weight, at the key of player 2's signal and at its outcome, or at outcome 0 without `by_outcome`.
 fn part_of(keys: &[u32], by_outcome: bool, deal: Deal) -> Part
     requires in_range { deal.two < length keys.now }
     requires few { deal.weight < 2 ^ 32 }
@@ -36,7 +36,7 @@ fn part_of(keys: &[u32], by_outcome: bool, deal: Deal) -> Part
     }
 }
 
-/// Adds the parts of some deals.
+/// Adds the parts of some deals to `parts`.
 fn push_parts(
     parts: &mut Vec<Part>,
     deals: Deals<'_>,
@@ -53,7 +53,7 @@ fn push_parts(
     Ok(())
 }
 
-/// The parts of the deals of a run of last-round signals.
+/// Returns the parts of the deals of a run of last-round signals.
 fn run_parts(
     alloc: Global,
     signals: &Signals,
@@ -73,7 +73,7 @@ fn run_parts(
     Ok(parts)
 }
 
-/// A run of children as parts, each for its class.
+/// Returns a run of children as parts: each counts once, at its class.
 fn child_parts(alloc: Global, keys: &[u32], run: Run) -> Result<Vec<Part>, AllocError>
     requires ordered { run.first ≤ run.end }
     requires within { run.end ≤ length keys.now }
@@ -90,8 +90,8 @@ fn child_parts(alloc: Global, keys: &[u32], run: Run) -> Result<Vec<Part>, Alloc
     Ok(parts)
 }
 
-/// The sums of a signal on one side, in ascending order, by class and then by outcome. `keys` are those of the side. Signals that agree on the side
-/// have one list of sums, and no others have.
+/// Returns the sums of a signal on one side, in ascending order of class and then outcome. `keys` are those of the side, from `side_keys`.
+/// Two signals have equal lists of sums exactly if they agree on the side.
 pub fn side_sums(
     alloc: Global,
     signals: &Signals,

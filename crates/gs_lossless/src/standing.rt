@@ -1,4 +1,4 @@
-//! Signals that an earlier one stands for: it is of their class and has their sums.
+//! Stand-ins: earlier signals with the same class and the same sums.
 
 ghost use Rattle.std.specs.Prelude.{◌≡◌, ◌<◌, IfOk, IsTrue, get_or, length};
 ghost use Rattle.gs_model.specs.{Classes.{ClassLists}, Frame.{frame_of}, Game.{round_count}};
@@ -10,12 +10,12 @@ use gs_alike::stand_ins;
 use gs_tree::Signals;
 use std::alloc::{AllocError, Global};
 
-/// How many signals are looked at before stand-ins are asked for: where a signal differs from the first member of its class early in the last round,
-/// listing them would take longer than what they save.
+/// How many signals are compared before stand-ins are listed.
+/// If a signal differs from the first member of its class early in the last round, listing them would take longer than what they save.
 const SOON: u32 = 4096;
 
-/// The stand-ins that are listed when a signal is reached. In the last round they are made at one signal, for each signal of the round one that stands for
-/// it, not behind it: it sees the same deals. Until then, and in a round before the last, they stay what they were.
+/// Returns the stand-ins to use from a signal on. At one signal of the last round, lists for each signal of the round a stand-in that sees the same deals.
+/// At every other signal, and in every other round, returns `listed` unchanged.
 pub(crate) fn stand_ins_at(
     alloc: Global,
     signals: &Signals,
@@ -37,7 +37,7 @@ pub(crate) fn stand_ins_at(
     }
 }
 
-/// Whether an earlier signal is listed for one.
+/// Returns whether an earlier signal is listed as the stand-in of a signal.
 pub(crate) fn has_earlier(firsts: &[u32], signal: u32) -> bool
     ensures { IsTrue result → (signal < length firsts.now) × (get_or firsts.now signal 0 < signal) }
 {

@@ -1,4 +1,4 @@
-//! Why classes are not known to be lossless.
+//! Why a check for lossless classes fails.
 
 ghost use Rattle.std.specs.Prelude.{◌≡◌};
 ghost use Rattle.gs_lossless.specs.declared.stop.CheckStop.TheVariants.{Memory};
@@ -7,12 +7,12 @@ use std::alloc::AllocError;
 use std::error::Error;
 use std::fmt;
 
-/// Why a check of classes gave no lossless classes.
+/// Why a check did not find classes to be lossless.
 #[derive(Clone, Copy, Debug, PartialEq, Eq, Hash)]
 pub enum CheckStop {
-    /// The first signal, by round and then place, that is not like the first member of its class: `second`, and that member, `first`.
+    /// `second` is the first signal, by round and then place, that is not like the first member of its class, and `first` is that member.
     Unlike { round: u8, first: u32, second: u32 },
-    /// Memory ran out.
+    /// Out of memory.
     Memory,
 }
 

@@ -1,6 +1,6 @@
-//! The first signal of a round before the last whose deals weigh otherwise than those of the first member of its class.
+//! The first signal of a round whose deals weigh differently from those of the first member of its class.
 //!
-//! After a round all pairs of signals go on in as many ways, so the deals of the game that stops there are compared in place of all deals.
+//! After a round all pairs of signals continue in equally many ways. So the deals of the game that stops there are compared in place of all deals.
 
 ghost use Rattle.std.specs.Prelude.{◌≡◌, ◌<◌, ◌≤◌, IfOk, IfSome, MatchOption, length};
 ghost use Rattle.gs_model.specs.{Rows.{rows}, Classes.{IsClasses, list_of}, Frame.{frame_of, signal_count}};
@@ -15,7 +15,7 @@ use gs_filter::{ClassFault, Classes};
 use gs_tree::Signals;
 use std::alloc::{AllocError, Global};
 
-/// The class lists of the first rounds, and the last of them once more: after it nothing more is seen.
+/// Returns the class lists of the first rounds, with the last of them repeated: nothing more is seen after it.
 fn stopped_lists(alloc: Global, classes: &Classes, round: u8) -> Result<Vec<Vec<u32>>, AllocError>
     requires some { 0 < round }
     requires top { round ≤ length classes.now.lists }
@@ -30,7 +30,8 @@ fn stopped_lists(alloc: Global, classes: &Classes, round: u8) -> Result<Vec<Vec<
     Ok(stopped)
 }
 
-/// The same classes where the game stops after a round, whose signals are given; none where they are none there.
+/// Returns the classes of the game that stops after a round, with the same classes in that round. `stopped` has the signals of that game.
+/// Returns `None` if the lists are not classes of that game.
 pub fn stopped_classes(
     alloc: Global,
     stopped: &Signals,
@@ -41,7 +42,7 @@ pub fn stopped_classes(
     requires top { round ≤ length classes.now.lists }
     ensures parents { IfOk result (λ o. IfSome o (λ c. c.parents ≡ (frame_of (rules_of stopped.now)).parents)) }
     ensures same { IfOk result (λ o. IfSome o (λ c. list_of c.lists round ≡ list_of classes.now.lists round)) }
-    // They are given exactly where they are classes there.
+    // They are returned exactly if they are classes of the stopped game.
     ensures whenever { IfOk result (λ o. MatchOption o (IsClasses (frame_of (rules_of stopped.now)).parents (lists_after classes.now.lists round) → ⊥)
         (λ c. c.lists ≡ lists_after classes.now.lists round)) }
 {
@@ -55,7 +56,7 @@ pub fn stopped_classes(
     }
 }
 
-/// The first signal of a round whose deals weigh otherwise than those of the first member of its class.
+/// Returns the first signal of a round whose deals weigh differently from those of the first member of its class.
 pub(crate) fn first_deals_apart(
     alloc: Global,
     grouped: &Grouped<'_>,
