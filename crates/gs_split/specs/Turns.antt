@@ -1,4 +1,4 @@
--- What a turn of the refinement looks at, round by round.
+-- What a turn of the refinement compares, round by round.
 use Rattle.std.specs.Prelude.{ℕ, ◌-◌, ◌<◌, ◌≤◌, ◌≡◌, ◌↔◌, ◌==◌, ◌&&◌, ℤ, Bool, true, false, List, [], ◌∷◌, get_or, length}
 use Rattle.std.specs.Ordering.{int_eq}
 use Rattle.gs_model.specs.Classes.{ClassLists, InOneClass, class_count, class_of, first_member, list_of}
@@ -11,16 +11,16 @@ use Rattle.gs_lossless.specs.declared.sides.Side.{Side}
 
 -- ---- sums
 
--- the class of a signal is settled, by a list with an entry for each class
+-- the class of a signal is settled; `settled` has an entry for each class
 abbrev pub IsSettled : ClassLists → ℕ → List Bool → ℕ → Type 0
 IsSettled lists round settled s = get_or settled (class_of lists round s - 1) false ≡ true
 
--- in settled classes the first member stands for each member
+-- for each member of a settled class, `firsts` has the first member of the class
 pub record AreSettled (lists : ClassLists) (round : ℕ) (firsts : List ℕ) (settled : List Bool) : Type 0 where
   pub long : length settled ≡ class_count lists round
   pub first : (s : ℕ) → s < length firsts → IsSettled lists round settled s → get_or firsts s 0 ≡ first_member lists round (class_of lists round s)
 
--- the sums of a signal on one side, none where its class is settled
+-- the sums of a signal on one side, or no sums if its class is settled
 pub record AreClassSums (f : Frame) (lists : ClassLists) (side : Side) (round : ℕ) (settled : List Bool) (s : ℕ) (sums : List Part) : Type 0 where
   pub none : IsSettled lists round settled s → sums ≡ []
   pub made : (IsSettled lists round settled s → ⊥) → AreAmounts f lists side round s sums
@@ -31,7 +31,7 @@ pub record AreSideNumbers (f : Frame) (lists : ClassLists) (side : Side) (round 
   pub same : (i j : ℕ) → i < length numbers → j < length numbers → class_of lists round i ≡ class_of lists round j
       → (get_or numbers i 0 ≡ get_or numbers j 0) ↔ Agree f lists side round i j
 
--- two signals have the same sums in the last round, and the same children before it
+-- two signals have, in the last round, the same weights by class and outcome and, before it, the same number of children in each class
 pub record HaveSameSums (f : Frame) (lists : ClassLists) (round s t : ℕ) : Type 0 where
   pub sums : round ≡ last_round f → (c : ℕ) (o : ℤ) → weight_with f lists s c o ≡ weight_with f lists t c o
   pub children : round < last_round f → (c : ℕ) → children_in f lists round s c ≡ children_in f lists round t c
@@ -54,7 +54,7 @@ part_eq p q = (p.class == q.class) && (int_eq p.outcome q.outcome && (p.weight =
 
 -- ---- keys
 
--- what tells the signals of a round apart: the old class, the new class of the parent, and the number of the sums
+-- the key that decides a signal's new class: its old class, the new class of its parent, and the number of its sums
 abbrev pub turn_key : List ℕ → List ℕ → List ℕ → List ℕ → ℕ → ℕ × ℕ × ℕ
 turn_key before above parents numbers i = (get_or before i 0, get_or above (get_or parents i 0) 0, get_or numbers i 0)
 
@@ -64,23 +64,23 @@ key_eq x y = (x.0 == y.0) && ((x.1 == y.1) && (x.2 == y.2))
 
 -- ---- rounds
 
--- the classes above the next round: those of the last of some rounds; before round 1 one signal, of class 1
+-- the last of some class lists; if there is none, the list of one signal, which has class 1
 abbrev pub classes_above : List (List ℕ) → List ℕ
 classes_above lists = get_or lists (length lists - 1) (1 ∷ [])
 
--- two signals of a round stay together where they have one old class, one new class of the parent and one number; `above` has the new classes of the
--- round before
+-- two signals of a round stay together: they have the same old class, the same number and, from round 2 on, the same new class of the parent.
+-- `above` has the new classes of the round before
 pub record StayInRound (f : Frame) (old : ClassLists) (above numbers : List ℕ) (round s t : ℕ) : Type 0 where
   pub before : class_of old round s ≡ class_of old round t
   pub parents : 1 < round → get_or above (get_or (parents_of f round) s 0) 0 ≡ get_or above (get_or (parents_of f round) t 0) 0
   pub number : get_or numbers s 0 ≡ get_or numbers t 0
 
--- the new classes of a round: those of the signals that stay together, numbered by first member
+-- the new classes of a round, numbered by first member: two signals are in one class exactly if they stay together
 pub record IsRoundParted (f : Frame) (old : ClassLists) (above numbers : List ℕ) (round : ℕ) (list : List ℕ) : Type 0 where
   pub long : length list ≡ signal_count f round
   pub classes : IsClassesOf (StayInRound f old above numbers round) list
 
--- the new classes of all rounds, by a number for each signal of each round
+-- the new classes of all rounds, made with a number for each signal of each round
 pub record AreParted (f : Frame) (old numbers new : ClassLists) : Type 0 where
   pub rounds : length new ≡ last_round f
   pub each : (round : ℕ) → 0 < round → round ≤ last_round f → IsRoundParted f old (list_of new (round - 1)) (list_of numbers round) round (list_of new round)

@@ -1,4 +1,4 @@
-//! The coarsest lossless classes: those that every lossless refinement of given classes refines.
+//! The coarsest lossless refinement of given classes: every lossless refinement of the given classes refines it.
 #![tactic(auto)]
 
 mod parting;

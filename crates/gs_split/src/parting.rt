@@ -1,4 +1,4 @@
-//! Classes parted by numbers of their members.
+//! Splitting classes by numbers of their members.
 
 ghost use Rattle.std.specs.Prelude.{◌≡◌, ◌-◌, ◌<◌, ◌≤◌, IfOk, length};
 ghost use Rattle.gs_model.specs.{Rows.{rows}, Frame.{frame_of, last_round, signal_count}};
@@ -10,7 +10,7 @@ use gs_filter::Classes;
 use gs_lossless::Grouped;
 use std::alloc::{AllocError, Global};
 
-/// The classes of the last of some rounds; before round 1 one signal, of class 1.
+/// Returns the last of some class lists. If there is none, returns the list of one signal, which has class 1.
 fn last_classes(lists: &[Vec<u32>]) -> &[u32]
     ensures { result.now ≡ classes_above (rows lists.entry.now) }
 {
@@ -20,7 +20,7 @@ fn last_classes(lists: &[Vec<u32>]) -> &[u32]
     }
 }
 
-/// The new classes of a round, by a number for each signal. `above` has the new classes of the round before.
+/// Returns the new classes of a round, from a number for each signal. `above` has the new classes of the round before.
 fn round_parted(
     alloc: Global,
     grouped: &Grouped<'_>,
@@ -47,7 +47,7 @@ fn round_parted(
     round_classes(alloc, &keys)
 }
 
-/// The new classes of all rounds, by a number for each signal of each round.
+/// Returns the new classes of all rounds, from a number for each signal of each round.
 fn parted_lists(
     alloc: Global,
     grouped: &Grouped<'_>,
@@ -66,7 +66,7 @@ fn parted_lists(
     Ok(lists)
 }
 
-/// Signals of one class stay together where their parents do and their numbers are equal.
+/// Splits the classes of all rounds: two signals of one class stay together if their parents do and their numbers are equal.
 pub(crate) fn parted(
     alloc: Global,
     grouped: &Grouped<'_>,

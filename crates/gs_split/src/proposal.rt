@@ -1,4 +1,4 @@
-//! A proposal for the exact turns: classes parted by mixed sums, which part no more than a turn.
+//! A proposal for the exact turns: classes split by hashed sums, which never split what a lossless refinement keeps together.
 
 ghost use Rattle.std.specs.{Prelude.{◌≡◌, ◌+◌, ◌*◌, ◌/◌, ◌<◌, ◌^◌, ℕ, pos, [], All, IfOk, IfSome, get_or, length, map}, Int.{int_rem_euclid}};
 ghost use Rattle.gs_model.specs.{Rows.{rows}, Frame.{frame_of, last_round}};
@@ -14,10 +14,10 @@ use std::alloc::{AllocError, Global};
 /// An odd factor with no pattern in its bits.
 const SPREAD: u64 = 11_400_714_819_323_198_485;
 
-/// Two to the power of half of the bits of a mixed number.
+/// 2^32: two to the power of half the bits of a hash.
 const HALF: u64 = 0x1_0000_0000;
 
-/// A number that hangs on another alone, spread over 64 bits.
+/// Returns a hash of a number, spread over 64 bits.
 #[tactic(auto, unfolding(crate::specs::Proposal::mixed))]
 fn mixed(number: u64) -> u64
     ensures { result ≡ mixed_of number }
@@ -26,7 +26,7 @@ fn mixed(number: u64) -> u64
     (spread ^ (spread / HALF)).wrapping_mul(SPREAD)
 }
 
-/// The mixed numbers of classes.
+/// Returns the hashes of class numbers.
 fn mixed_classes(alloc: Global, classes: &[u32]) -> Result<Vec<u64>, AllocError>
     ensures { IfOk result (λ v. v.items ≡ map mixed_of classes.now) }
 {
@@ -37,7 +37,7 @@ fn mixed_classes(alloc: Global, classes: &[u32]) -> Result<Vec<u64>, AllocError>
     Ok(numbers)
 }
 
-/// A sum at a place, modulo 2 ^ 32.
+/// Returns the sum at a place, modulo 2^32.
 fn folded(sums: &[i128], at: usize) -> u32
     requires { at < length sums.now }
     ensures { pos result ≡ int_rem_euclid (get_or sums.now at (pos 0)) (pos (2 ^ 32)) }
@@ -45,7 +45,7 @@ fn folded(sums: &[i128], at: usize) -> u32
     sums[at].rem_euclid(i128::from(HALF)) as u32
 }
 
-/// Sums modulo 2 ^ 32.
+/// Returns sums modulo 2^32.
 fn folded_sums(alloc: Global, sums: &[i128]) -> Result<Vec<u32>, AllocError>
     ensures long { IfOk result (λ v. length v.items ≡ length sums.now) }
     ensures each { IfOk result (λ v. (s : ℕ) → s < length sums.now → pos (get_or v.items s 0) ≡ int_rem_euclid (get_or sums.now s (pos 0)) (pos (2 ^ 32))) }
@@ -57,7 +57,7 @@ fn folded_sums(alloc: Global, sums: &[i128]) -> Result<Vec<u32>, AllocError>
     Ok(numbers)
 }
 
-/// The mixed sums of the last-round signals, by two walks along the boards.
+/// Returns the numbers of the last-round signals from the classes of the opponent's signals, by two walks along the boards.
 fn deal_numbers(
     alloc: Global,
     order: &BoardOrder<'_>,
@@ -74,14 +74,14 @@ fn deal_numbers(
     folded_sums(alloc, &sums)
 }
 
-/// What a child of a class counts for its parent.
+/// Returns what a child with this class and this number adds to its parent's number.
 fn child_term_of(class: u32, number: u32) -> u32
     ensures { result ≡ mixed_of (class + number * 2 ^ 32) / 2 ^ 32 }
 {
     (mixed(u64::from(class) + u64::from(number) * HALF) / HALF) as u32
 }
 
-/// For each signal of a round the terms of its children, modulo 2 ^ 32. The children have parents, classes and numbers.
+/// Returns for each of `count` signals the sum of the terms of its children, modulo 2^32. The lists have the parent, class and number of each child.
 #[tactic(auto, using(crate::proofs::Proposed::child_none))]
 fn child_numbers(
     alloc: Global,
@@ -105,7 +105,7 @@ fn child_numbers(
     Ok(sums)
 }
 
-/// Fair numbers of the last round, by the order of its signals.
+/// Returns fair numbers of the last round, from the order of its signals on boards.
 fn order_numbers(
     alloc: Global,
     grouped: &Grouped<'_>,
@@ -122,7 +122,7 @@ fn order_numbers(
     deal_numbers(alloc, order, list)
 }
 
-/// Fair numbers of the last round, where no kind of cards has more than one copy and each player is dealt one private card.
+/// Returns fair numbers of the last round. Returns `None` unless every kind of card has at most one copy and each player gets one private card.
 fn last_numbers(alloc: Global, grouped: &Grouped<'_>) -> Result<Option<Vec<u32>>, AllocError>
     ensures { let f = frame_of (rules_of grouped.now.signals.now) in
         IfOk result (λ o. IfSome o (λ v. AreFair f grouped.now.classes.now.lists (last_round f) v.items)) }
@@ -134,7 +134,7 @@ fn last_numbers(alloc: Global, grouped: &Grouped<'_>) -> Result<Option<Vec<u32>>
     Ok(Some(numbers))
 }
 
-/// Fair numbers of a round, by those of the next round.
+/// Returns fair numbers of a round, from those of the next round.
 fn fair_numbers(
     alloc: Global,
     grouped: &Grouped<'_>,
@@ -152,7 +152,7 @@ fn fair_numbers(
     child_numbers(alloc, grouped.signals.count(round), parents, list, below)
 }
 
-/// The first of some lists.
+/// Returns the first list.
 fn first_list(lists: &[Vec<u32>]) -> &[u32]
     requires { 0 < length lists.now }
     ensures { result.now ≡ get_or (rows lists.entry.now) 0 [] }
@@ -160,7 +160,7 @@ fn first_list(lists: &[Vec<u32>]) -> &[u32]
     &lists[0]
 }
 
-/// Fair numbers of all rounds, from the last one up.
+/// Returns fair numbers of all rounds, made from the last round up.
 fn all_numbers(
     alloc: Global,
     grouped: &Grouped<'_>,
@@ -180,8 +180,8 @@ fn all_numbers(
     Ok(numbers)
 }
 
-/// Classes between the given ones and their coarsest lossless refinement, where the boards can be walked along: the last round is parted by mixed
-/// sums, and the rounds before it by those of the children.
+/// Returns classes between the given ones and their coarsest lossless refinement, or `None` if the boards cannot be walked along.
+/// The last round is split by hashed sums over its deals, and each earlier round by hashed sums over the children.
 pub(crate) fn proposal(alloc: Global, from: &Grouped<'_>) -> Result<Option<Classes>, AllocError>
     ensures parents { IfOk result (λ o. IfSome o (λ c. c.parents ≡ (frame_of (rules_of from.now.signals.now)).parents)) }
     ensures proposal { IfOk result (λ o. IfSome o (λ c. IsProposal (frame_of (rules_of from.now.signals.now)) from.now.classes.now.lists c.lists)) }

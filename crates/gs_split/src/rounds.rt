@@ -10,10 +10,10 @@ use std::alloc::{AllocError, Global};
 use std::marker::Model;
 use std::mem;
 
-/// How many places of items are kept to look at before a key is looked up.
+/// The number of earlier items that are kept, to try before a key is looked up.
 const KEPT: usize = 4096;
 
-/// What a turn tells the signals of a round apart by: the old class, the new class of the parent, and the number of the sums.
+/// The key that decides a signal's new class: its old class, the new class of its parent, and the number of its sums.
 #[derive(Clone, Copy, Debug, PartialEq, Eq, Hash)]
 pub(crate) struct TurnKey {
     pub before: u32,
@@ -31,7 +31,7 @@ impl Model for TurnKey {
     ghost inverse = { λ p. record { before = p.0; above = p.1; number = p.2 } };
 }
 
-/// What a turn looks at in a round, signal by signal: its old class, its parent and the number of its sums; and the new classes of the round before.
+/// What a turn compares in a round: for each signal its old class, its parent and the number of its sums; and the new classes of the round before.
 #[derive(Clone, Copy)]
 pub(crate) struct TurnKeys<'a> {
     pub before: &'a [u32],
@@ -43,7 +43,7 @@ pub(crate) struct TurnKeys<'a> {
     ghost in_range: { All (λ p. p < length above.now) parents.now },
 }
 
-/// What a turn tells a signal apart by.
+/// Returns the key that decides a signal's new class.
 fn key_at(keys: &TurnKeys<'_>, at: usize) -> TurnKey
     requires { at < length keys.now.numbers.now }
     ensures { result ≡ turn_key keys.now.before.now keys.now.above.now keys.now.parents.now keys.now.numbers.now at }
@@ -55,7 +55,7 @@ fn key_at(keys: &TurnKeys<'_>, at: usize) -> TurnKey
     }
 }
 
-/// Notes an item at a place that its key chooses, and gives the item that was there.
+/// Records an item at a place that its key chooses, and returns the item recorded there before.
 fn noted(last: &mut [u32], key: TurnKey, item: u32) -> u32 {
     let mixed = key.before.wrapping_mul(31) ^ key.above.wrapping_mul(1021) ^ key.number;
     match last.get_mut(mixed as usize % KEPT) {
@@ -64,7 +64,7 @@ fn noted(last: &mut [u32], key: TurnKey, item: u32) -> u32 {
     }
 }
 
-/// The class of an item, where it has one and has this key.
+/// Returns the class of an item if it already has one and its key is `key`.
 fn class_again(keys: &TurnKeys<'_>, classes: &[u32], item: u32, key: TurnKey) -> Option<u32>
     requires { length classes.now ≤ length keys.now.numbers.now }
     ensures { IfSome result (HasClassOf (turn_key keys.now.before.now keys.now.above.now keys.now.parents.now keys.now.numbers.now) classes.now key) }
@@ -76,7 +76,7 @@ fn class_again(keys: &TurnKeys<'_>, classes: &[u32], item: u32, key: TurnKey) ->
     Some(classes[place])
 }
 
-/// The new classes of a round, numbered from 1 by first member.
+/// Returns the new classes of a round, numbered from 1 by first member: signals with equal keys are in one class.
 pub(crate) fn round_classes(alloc: Global, keys: &TurnKeys<'_>) -> Result<Vec<u32>, AllocError>
     requires { length keys.now.numbers.now + 1 < 2 ^ 32 }
     ensures long { IfOk result (λ v. length v.items ≡ length keys.now.numbers.now) }

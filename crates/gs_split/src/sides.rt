@@ -1,4 +1,4 @@
-//! What a turn looks at on one side: the sums of the last round, or the children before it.
+//! What a turn compares: the sums of deals in the last round, and the children before it.
 
 ghost use Rattle.std.specs.Prelude.{◌≡◌, ◌<◌, ◌≤◌, ℕ, IfOk, List, length};
 ghost use Rattle.gs_model.specs.{Classes.{ClassLists, list_of}, Frame.{frame_of, last_round}};
@@ -14,8 +14,8 @@ use gs_tree::Signals;
 use indexmap::IndexSet;
 use std::alloc::{AllocError, Global};
 
-/// For each signal of a round one that stands for it on one side and is not behind it: in the last round one that sees the same deals, before it the
-/// signal itself.
+/// Returns for each signal of a round a stand-in on one side, at the same or an earlier place.
+/// In the last round the stand-in sees the same deals; before it, the stand-in is the signal itself.
 fn side_firsts(
     alloc: Global,
     signals: &Signals,
@@ -41,7 +41,7 @@ fn side_firsts(
     Ok(firsts)
 }
 
-/// For each class of a round whether its first member stands for all of its members.
+/// Returns for each class of a round whether its first member is the stand-in of all its members.
 fn settled_classes(
     alloc: Global,
     classes: &Classes,
@@ -63,7 +63,7 @@ fn settled_classes(
     Ok(settled)
 }
 
-/// What a turn looks at in a round: in the last one the deals, before it the children.
+/// Returns the side that a turn compares in a round: the deals in the last round, the children before it.
 fn side_at(signals: &Signals, round: u8) -> Side
     requires some { 0 < round }
     requires top { round ≤ last_round (frame_of (rules_of signals.now)) }
@@ -78,8 +78,9 @@ fn side_at(signals: &Signals, round: u8) -> Side
     }
 }
 
-/// For each signal of a round a number: within a class equal exactly where the signals have, in the last round, the same sums, and before it the same
-/// children. Sums are made only of signals that none before them stands for, and none in a class that a turn cannot part.
+/// Returns a number for each signal of a round. Within a class, numbers are equal exactly where the signals have the same sums of deals,
+/// in the last round, or the same children, before it.
+/// Makes sums only of signals without an earlier stand-in, and only in classes that the turn can split.
 pub(crate) fn side_numbers(
     alloc: Global,
     boards: &Boards<'_>,

@@ -1,4 +1,4 @@
-//! Turns until nothing is parted.
+//! Refinement by turns, until a turn splits no class.
 
 ghost use Rattle.std.specs.Prelude.{◌≡◌, ◌<◌, ◌^◌, IfOk, sum_by};
 ghost use Rattle.gs_model.specs.{Classes.{IsClasses}, Frame.{frame_of}, Numbering.{greatest}, Refinement.{IsCoarsestLossless}};
@@ -13,7 +13,7 @@ use gs_lossless::Grouped;
 use gs_tree::Signals;
 use std::alloc::{AllocError, Global};
 
-/// How many classes all rounds have together.
+/// Returns the number of classes of all rounds together.
 fn class_total(classes: &Classes) -> u64
     ensures value { result ≡ sum_by greatest classes.now.lists }
     ensures few { result < 2 ^ 40 }
@@ -26,7 +26,7 @@ fn class_total(classes: &Classes) -> u64
     total
 }
 
-/// Exact turns from given classes until nothing is parted.
+/// Makes exact turns from given classes until a turn splits no class, and returns the classes then reached.
 fn settled(alloc: Global, signals: &Signals, from: &Classes) -> Result<Classes, AllocError>
     requires { from.now.parents ≡ (frame_of (rules_of signals.now)).parents }
     ensures coarsest { IfOk result (λ c. IsCoarsestLossless (frame_of (rules_of signals.now)) from.now.lists c.lists) }
@@ -45,11 +45,11 @@ fn settled(alloc: Global, signals: &Signals, from: &Classes) -> Result<Classes, 
     Ok(classes)
 }
 
-/// The coarsest lossless classes that refine given ones: every lossless refinement of the given classes refines them. They are numbered from 1 by
-/// first member.
+/// Returns the coarsest lossless refinement of given classes: every lossless refinement of the given classes refines it.
+/// Classes are numbered from 1 by first member.
 ///
-/// A proposal goes before the exact turns, where there is one. Each turn parts members of a class whose parents were parted, or that differ against the
-/// classes so far; it ends where a turn parts none.
+/// Starts from the proposal, if there is one, and then makes exact turns until a turn splits no class.
+/// Each turn splits members of a class whose parents were split, or whose sums against the classes so far differ.
 ///
 /// Source: partition refinement.
 pub fn split(alloc: Global, signals: &Signals, from: &Classes) -> Result<Classes, AllocError>

@@ -1,4 +1,4 @@
-//! Rounds that the turn before has settled: where the classes that sums are taken by have stayed the same, members of a class have the same sums.
+//! Rounds that the latest turn has settled. Members of a class have the same sums if the turn did not change the classes by which sums are taken.
 
 ghost use Rattle.std.specs.Prelude.{◌≡◌, ◌≤◌, ◌<◌, ◌↔◌, IfOk, IsTrue, length};
 ghost use Rattle.gs_model.specs.{Classes.{list_of}, Frame.{frame_of}, RefinementTurn.{IsTurn}};
@@ -9,14 +9,14 @@ use gs_filter::Classes;
 use gs_tree::Signals;
 use std::alloc::{AllocError, Global};
 
-/// Whether two lists of classes are the same.
+/// Returns whether two lists of classes are equal.
 fn are_same(ones: &[u32], others: &[u32]) -> bool
     ensures { IsTrue result ↔ (ones.now ≡ others.now) }
 {
     ones == others
 }
 
-/// Whether the classes of a round have stayed the same.
+/// Returns whether the classes of a round are unchanged.
 fn stays(before: &Classes, classes: &Classes, round: u8) -> bool
     requires some { 0 < round }
     requires before { round ≤ length before.now.lists }
@@ -27,8 +27,8 @@ fn stays(before: &Classes, classes: &Classes, round: u8) -> bool
     are_same(&before.lists()[place], &classes.lists()[place])
 }
 
-/// For each round whether a turn has parted all that sums can part: whether the classes by which it took the sums have stayed, those of the next
-/// round, and for the last round its own.
+/// Returns for each round whether the latest turn split all that sums can split: whether the classes by which it took the sums are unchanged.
+/// These are the classes of the next round and, for the last round, its own.
 pub(crate) fn known_rounds(
     alloc: Global,
     signals: &Signals,

@@ -13,8 +13,8 @@ use gs_lossless::Grouped;
 use gs_tree::Signals;
 use std::alloc::{AllocError, Global};
 
-/// For each signal of a round a number: within a class equal exactly where the signals have, in the last round, the same sums, and before it the same
-/// children. Where those are known to be the same, all numbers are.
+/// Returns a number for each signal of a round. Within a class, numbers are equal exactly where the signals have the same sums of deals,
+/// in the last round, or the same children, before it. If `known`, these are the same throughout each class, and all numbers are 0.
 fn round_numbers(
     alloc: Global,
     boards: &Boards<'_>,
@@ -36,7 +36,7 @@ fn round_numbers(
     }
 }
 
-/// The numbers of all rounds.
+/// Returns for each round the numbers of its signals.
 fn exact_numbers(
     alloc: Global,
     boards: &Boards<'_>,
@@ -56,8 +56,9 @@ fn exact_numbers(
     Ok(numbers)
 }
 
-/// One turn: signals of one class stay together where their parents do and, against the old classes, their sums in the last round and the counts of
-/// their children are the same. `known` marks rounds where members of a class are known to have the same.
+/// Makes one turn and returns the new classes. Two signals of one class stay together if their parents do and, against the old classes,
+/// their sums in the last round or, before it, their counts of children are the same.
+/// `known` marks rounds in which members of each class are known to agree in these.
 pub(crate) fn turn(
     alloc: Global,
     signals: &Signals,
