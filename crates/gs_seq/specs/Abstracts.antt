@@ -1,13 +1,13 @@
--- What a game in sequence form is the sequence form of.
+-- The game and the classes of a game in sequence form.
 use Rattle.gs_model.specs.Classes.{ClassLists}
 use Rattle.gs_model.specs.Frame.{Frame}
 use Rattle.gs_seq.specs.Games.{frame_in}
 use Rattle.gs_seq.specs.declared.form.Abstract.{Abstract}
 
--- the frame of its game
+-- the frame of the game
 abbrev pub frame_of : Abstract → Frame
 frame_of a = frame_in a.lossless.now.signals.now.game.now
 
--- its classes
+-- the class lists
 abbrev pub lists_of : Abstract → ClassLists
 lists_of a = a.lossless.now.classes.now.lists

@@ -1,4 +1,4 @@
--- Pairs of classes that some deal has, and how many of them stand at the ends.
+-- Pairs of classes that meet in some deal, and how many of them the ends have.
 use Rattle.std.specs.Prelude.{ℕ, ◌-◌, ◌<◌, ◌≤◌, ◌≡◌, ◌==◌, ◌&&◌, Bool, true, false, List, length, get_or, ℤ, pos, if◌then◌else◌, sum_by, count_by}
 use Rattle.std.specs.List.{list_any}
 use Rattle.gs_model.specs.Classes.{ClassLists, class_of, classes_in}
@@ -8,20 +8,20 @@ use Rattle.gs_model.specs.Pairs.{pair_sum}
 use Rattle.gs_model.specs.Positions.{End}
 use Rattle.gs_seq.specs.declared.pair.Pair.{Pair}
 
--- whether in some deal player 1's signal of a round is of class c and player 2's of class e
+-- whether in some deal player 1's signal of the round is in class `c` and player 2's is in class `e`
 abbrev pub meets : Frame → ClassLists → ℕ → ℕ → ℕ → Bool
 meets f lists round c e = list_any (λ (d : Deal). (class_of lists round (at_round f round d.one) == c)
     && (class_of lists round (at_round f round d.two) == e)) f.deals
 
--- how many pairs of classes of a round some deal has
+-- how many pairs of classes of a round meet in some deal
 abbrev pub pair_count : Frame → ClassLists → ℕ → ℕ
 pair_count f lists round = sum_by (λ c. count_by (λ e. meets f lists round c e) (classes_in lists round)) (classes_in lists round)
 
--- these of each end's round, added up over all ends
+-- the number of cells: over all ends, the pairs of classes of the end's round that meet in some deal, added up
 abbrev pub cell_count : Frame → ClassLists → ℕ
 cell_count f lists = sum_by (λ (z : End). pair_count f lists z.round) f.ends
 
--- for each round how many pairs of its classes some deal has
+-- for each round how many pairs of its classes meet in some deal
 pub record AreCounts (f : Frame) (lists : ClassLists) (counts : List ℕ) : Type 0 where
   pub long : length counts ≡ last_round f
   pub count : (round : ℕ) → 0 < round → round ≤ last_round f → get_or counts (round - 1) 0 ≡ pair_count f lists round
@@ -30,7 +30,7 @@ pub record AreCounts (f : Frame) (lists : ClassLists) (counts : List ℕ) : Type
 abbrev pub pair_weight : Frame → ClassLists → ℕ → ℕ → ℕ → ℤ
 pair_weight f lists round c e = pair_sum f lists lists round (λ o. pos 1) c e
 
--- in the last round their weights times player 1's outcomes, added up; 0 before it, where no outcome is known
+-- the signed weight of a pair of classes: in the last round, the sum over its deals of weight times player 1's outcome; before it, 0
 abbrev pub pair_signed : Frame → ClassLists → ℕ → ℕ → ℕ → ℤ
 pair_signed f lists round c e = if round == last_round f then pair_sum f lists lists round (λ o. o) c e else pos 0
 

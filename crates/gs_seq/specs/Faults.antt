@@ -1,4 +1,4 @@
--- Why a total and weights are no plan of a player.
+-- Why a total and weights do not form a plan of a player.
 use Rattle.std.specs.Prelude.{ℕ, ◌^◌, ◌<◌, ◌≤◌, ◌≡◌, ◌≢◌, ◌⊎◌, List, length, sum_by}
 use Rattle.gs_model.specs.Classes.{ClassLists, first_member, IsClass}
 use Rattle.gs_model.specs.Frame.{Frame, point_count, player_at, round_of, choices_at, last_step}
@@ -8,21 +8,21 @@ use Rattle.gs_seq.specs.Slots.{slot_count, plan_of}
 use Rattle.gs_seq.specs.declared.fault.PlanFault.{PlanFault}
 use Rattle.gs_seq.specs.declared.fault.PlanFault.TheVariants.{Length, Total, Flow}
 
--- at a point and a class the numbers of the choices add up to what comes there
+-- at a point and a class the numbers of the choices add up to the number of the player's last step before it, or to the total if there is no such step
 abbrev pub FlowsAt : Frame → ClassLists → ℕ → Plan → ℕ → ℕ → Type 0
 FlowsAt f lists player x q c =
     let round = round_of f (at_point q) in
     sum_by (λ m. x.number q c m) (choices_at f q) ≡ number_before f (lift f lists x) (last_step f player (at_point q)) round (first_member lists round c)
 
--- so at all classes of the player's points before a point
+-- the numbers add up at all classes of the player's points before the point `q`
 abbrev pub FlowsBefore : Frame → ClassLists → ℕ → Plan → ℕ → Type 0
 FlowsBefore f lists player x q = (p c : ℕ) → p < q → player_at f p ≡ player → IsClass lists (round_of f (at_point p)) c → FlowsAt f lists player x p c
 
--- and at the classes of a point before a class
+-- the numbers add up at the classes of the point `q` before the class `c`
 abbrev pub FlowsBelow : Frame → ClassLists → ℕ → Plan → ℕ → ℕ → Type 0
 FlowsBelow f lists player x q c = (k : ℕ) → 0 < k → k < c → FlowsAt f lists player x q k
 
--- the first place, by point and class, where they do not
+-- the first place, by point and class, where the numbers do not add up
 pub record IsFirstLeak (f : Frame) (lists : ClassLists) (player : ℕ) (x : Plan) (q c : ℕ) : Type 0 where
   pub point_in : q < point_count f
   pub own : player_at f q ≡ player
@@ -31,7 +31,7 @@ pub record IsFirstLeak (f : Frame) (lists : ClassLists) (player : ℕ) (x : Plan
   pub classes : FlowsBelow f lists player x q c
   pub here : FlowsAt f lists player x q c → ⊥
 
--- a fault is the first in order: another length, then a total that is 0 or over 2^36, then a place where a sum is wrong
+-- a fault names the first broken rule: a wrong number of weights, then a total that is 0 or over 2^36, then the first place where the numbers do not add up
 abbrev pub IsFaultOf : Frame → ClassLists → ℕ → ℕ → List ℕ → PlanFault → Type 0
 IsFaultOf f lists player total weights (Length want) = (want ≡ slot_count f lists player) × (length weights ≢ want)
 IsFaultOf f lists player total weights Total = (length weights ≡ slot_count f lists player) × ((total ≡ 0) ⊎ (2 ^ 36 < total))

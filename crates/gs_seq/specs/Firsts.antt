@@ -1,4 +1,4 @@
--- Weights of the plan that takes the first move everywhere, as far as they stand, and what comes to a class.
+-- Weights of the plan that takes the first move everywhere, while they are being written, and the weight that comes to a class.
 use Rattle.std.specs.Prelude.{ℕ, ◌≡◌, ◌<◌, ◌≤◌, List, slice_index}
 use Rattle.gs_model.specs.Classes.{ClassLists, IsClass, first_member}
 use Rattle.gs_model.specs.Frame.{Frame, last_step, move_count, player_at, round_of}
@@ -6,27 +6,27 @@ use Rattle.gs_model.specs.Plans.{lift, number_before}
 use Rattle.gs_model.specs.Positions.{at_point}
 use Rattle.gs_seq.specs.Slots.{plan_of, slot_of}
 
--- at a class of a point all that comes there is on the first move
+-- at a class of a point the first move has all the weight that comes there, and the other moves have 0
 pub record IsFirstAt (f : Frame) (lists : ClassLists) (player : ℕ) (weights : List ℕ) (q c : ℕ) : Type 0 where
   pub came : let round = round_of f (at_point q) in
       slice_index weights (slot_of f lists q c 0) ≡ number_before f (lift f lists (plan_of f lists 1 weights)) (last_step f player (at_point q)) round
       (first_member lists round c)
   pub others : (m : ℕ) → 0 < m → m < move_count f q → slice_index weights (slot_of f lists q c m) ≡ 0
 
--- so at all classes of the player's points before a point
+-- the first move has all the weight at all classes of the player's points before the point `q`
 abbrev pub AreFirstBefore : Frame → ClassLists → ℕ → List ℕ → ℕ → Type 0
 AreFirstBefore f lists player weights q = (p c : ℕ) → p < q → player_at f p ≡ player → IsClass lists (round_of f (at_point p)) c
     → IsFirstAt f lists player weights p c
 
--- two lists agree before a place
+-- two lists agree before the place `n`
 abbrev pub Agree : ℕ → List ℕ → List ℕ → Type 0
 Agree n xs ys = (k : ℕ) → k < n → slice_index ys k ≡ slice_index xs k
 
--- from a place on all weights are 0
+-- from the place `n` on all weights are 0
 abbrev pub IsClear : ℕ → List ℕ → Type 0
 IsClear n xs = (k : ℕ) → n ≤ k → slice_index xs k ≡ 0
 
--- what comes to a class of a point by a total and weights
+-- the weight that comes to a class of a point: the number of the player's last step before it, or the total if there is no such step
 abbrev pub IsComing : Frame → ClassLists → ℕ → List ℕ → ℕ → ℕ → ℕ → Type 0
 IsComing f lists total weights q c came =
     let round = round_of f (at_point q) in

@@ -6,7 +6,7 @@ use Rattle.gs_seq.specs.Faults.{IsFaultOf}
 use Rattle.gs_seq.specs.Slots.{IsPlan}
 use Rattle.gs_seq.specs.declared.fault.PlanFault.{PlanFault}
 
--- a total and weights that are a plan have no fault: the rules exclude every fault
+-- a total and weights that form a plan have no fault
 abbrev pub PlansHaveNoFault : Type 0
 PlansHaveNoFault = (f : Frame) (lists : ClassLists) (player total : ℕ) (weights : List ℕ) (why : PlanFault)
     → IsPlan f lists player total weights → ¬ IsFaultOf f lists player total weights why

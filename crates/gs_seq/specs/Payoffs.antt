@@ -8,8 +8,8 @@ use Rattle.gs_model.specs.Positions.{End, EndKind, Folded1, Folded2, Show, at_en
 use Rattle.gs_model.specs.Sums.{sum_z}
 use Rattle.gs_seq.specs.declared.pair.Pair.{Pair}
 
--- what an end pays a player at an own class, in deals times the other's numbers: over the other's classes his number at the end times what the
--- end pays in the deals of both classes
+-- what an end pays a player at the player's class `c` against a plan of the other player:
+-- the sum, over the other's classes, of the plan's number at the end times what the end pays in the deals of both classes
 abbrev pub end_sum : Frame → ClassLists → ℕ → Plan → ℕ → ℕ → ℤ
 end_sum f lists player y z c =
     let round = round_of f (at_end z) in
@@ -19,21 +19,21 @@ end_sum f lists player y z c =
 abbrev pub end_classes : Frame → ClassLists → ℕ → ℕ
 end_classes f lists z = class_count lists (round_of f (at_end z))
 
--- a list has a player's number at an end for each class of its round
+-- the list has a player's number at an end for each class of the end's round
 abbrev pub AreNumbersAt : Frame → ClassLists → ℕ → Plan → ℕ → List ℕ → Type 0
 AreNumbersAt f lists player y z numbers = (e : ℕ) → IsClass lists (round_of f (at_end z)) e → slice_index numbers (e - 1) ≡ class_number f lists player y z e
 
 -- ---- of private functions
 
--- what two plans pay player 1 at an end: over player 1's classes, the number there times that sum
+-- what two plans pay player 1 at an end: the sum over player 1's classes of the number at the end times `end_sum`
 abbrev pub payoff_at : Frame → ClassLists → Plan → Plan → ℕ → ℤ
 payoff_at f lists x y z = sum_z (λ c. pos (class_number f lists 1 x z c) *ℤ end_sum f lists 1 y z c) (classes_in lists (round_of f (at_end z)))
 
--- the chips that a fold pays a player: who folds loses what they have put, and the other wins that
+-- the chips that a fold pays a player: the player who folds loses the chips `put`, and the other wins them
 abbrev pub stake : ℕ → ℕ → ℕ → ℤ
 stake player folder put = if player == folder then neg_ℤ (pos put) else pos put
 
--- what an end pays a player in the deals of a pair: at a fold by their weight, at a showdown by their signed weight
+-- what an end pays a player in the deals of a pair: at a fold the stake times the weight, at a showdown the chips put in times the signed weight
 abbrev pub pair_pays : ℕ → End → Pair → ℤ
 pair_pays player z p = pays z.kind
   where
@@ -42,11 +42,11 @@ pair_pays player z p = pays z.kind
     pays Folded2 = stake player 2 z.put *ℤ pos p.weight
     pays Show = pos z.put *ℤ p.signed
 
--- none of the first n numbers of a list is over the greatest total of a plan
+-- each of the first n numbers of a list is at most 2^36, the greatest total of a plan
 abbrev pub AreFew : ℕ → List ℕ → Type 0
 AreFew n numbers = (k : ℕ) → k < n → slice_index numbers k ≤ 2 ^ 36
 
--- what an end pays a player at an own class by the other's numbers there, one for each class
+-- what an end pays a player at the player's class `c`, from a list of the other player's numbers at the end, one for each class
 abbrev pub number_sum : Frame → ClassLists → ℕ → List ℕ → ℕ → ℕ → ℤ
 number_sum f lists player numbers z c =
     let round = round_of f (at_end z) in

@@ -10,16 +10,16 @@ use Rattle.gs_lossless.specs.declared.parts.Part.{Part}
 use Rattle.gs_seq.specs.Cells.{pair_weight, pair_signed}
 use Rattle.gs_seq.specs.declared.pair.Pair.{Pair}
 
--- classes ascend, and no pair is without weight
+-- player 2's classes ascend, and each pair has a weight above 0
 pub record Rises (row : List Pair) : Type 0 where
   pub ascends : (i j : ℕ) (d : Pair) → i < j → j < length row → (get_or row i d).two < (get_or row j d).two
   pub some : (i : ℕ) (d : Pair) → i < length row → 0 < (get_or row i d).weight
 
--- the weight that a row holds for a class
+-- the weight of player 2's class `e` in a row
 abbrev pub weight_in : List Pair → ℕ → ℕ
 weight_in row e = sum_by (λ p. if p.two == e then p.weight else 0) row
 
--- the signed weight that it holds for it
+-- the signed weight of player 2's class `e` in a row
 abbrev pub signed_in : List Pair → ℕ → ℤ
 signed_in row e = sum_z (λ (p : Pair). if p.two == e then p.signed else pos 0) row
 
@@ -38,7 +38,7 @@ pub record AreRowsIn (f : Frame) (lists : ClassLists) (round : ℕ) (rows : List
 abbrev pub IsSingleIn : ClassLists → ℕ → Type 0
 IsSingleIn lists round = (s : ℕ) → s < length (list_of lists round) → class_of lists round s ≡ s + 1
 
--- the rows of all rounds, or of all but the last one where each of its signals is a class of its own
+-- the rows of all rounds; the last round may be left out if each of its signals is a class of its own
 pub record AreRows (f : Frame) (lists : ClassLists) (rows : List (Vec (Vec Pair Global) Global)) : Type 0 where
   pub most : length rows ≤ last_round f
   pub fewest : last_round f ≤ length rows + 1
@@ -51,52 +51,52 @@ pairs_of rows = sum_by (λ row. vec_len row) rows
 
 -- ---- rows from the sums of one member, in ascending order
 
--- what a part of one member is for all members of its class
+-- the pair that a part of one member makes for its class, with the weight of all members
 abbrev pub pair_of : ℕ → Part → Pair
 pair_of members p = record { two = p.class; weight = members * p.weight; signed = pos (members * p.weight) *ℤ p.outcome }
 
--- two pairs of one class as one
+-- two pairs with one class as one pair, with both weights added
 abbrev pub together : Pair → Pair → Pair
 together p q = record { two = p.two; weight = p.weight + q.weight; signed = p.signed +ℤ q.signed }
 
--- a pair before a row: joined to the first one where both are of one class
+-- puts a pair before a row, or joins it to the first pair if both have the same class
 abbrev pub join : Pair → List Pair → List Pair
 join p [] = p ∷ []
 join p (q ∷ qs) = if q.two == p.two then together q p ∷ qs else p ∷ q ∷ qs
 
--- the row of some parts in ascending order
+-- the row that parts in ascending order make
 abbrev pub gathered : ℕ → List Part → List Pair
 gathered members [] = []
 gathered members (p ∷ ps) = join (pair_of members p) (gathered members ps)
 
--- signed weights are no larger than outcomes of 8 bits make them
+-- the signed weight is at most 128 times the weight in size
 abbrev pub IsModerate : Pair → Type 0
 IsModerate p = unsigned_abs p.signed ≤ 128 * p.weight
 
 -- ---- rows from those of the next round
 
--- the class of a round that a class of the next round descends from
+-- the class of a round from which class `k` of the next round descends
 abbrev pub class_up : Filter → ℕ → ℕ → ℕ
 class_up c round k = class_of c.lists round (get_or (list_of c.parents (round + 1)) (first_member c.lists (round + 1) k) 0)
 
--- of the first n classes of the next round those that descend from a class
+-- the classes, among the first n of the next round, that descend from a class
 abbrev pub below_class : Filter → ℕ → ℕ → ℕ → List ℕ
 below_class c round class n = filter (λ k. class_up c round k == class) (range_with_len 1 n)
 
--- these for each class of a round
+-- for each class of a round, the classes among the first n of the next round that descend from it
 pub record AreBelow (c : Filter) (round n : ℕ) (below : List (Vec ℕ Global)) : Type 0 where
   pub long : length below ≡ class_count c.lists round
   pub each : (class : ℕ) (d : Vec ℕ Global) → IsClass c.lists round class → (get_or below (class - 1) d).items ≡ below_class c round class n
 
--- a pair of the next round as a part: its weight counts for the class that its class descends from, and for no outcome
+-- a pair of the next round as a part: its weight counts at the class from which player 2's class descends, and at outcome 0
 abbrev pub part_up : Filter → ℕ → Pair → Part
 part_up c round p = record { class = class_up c round p.two; outcome = pos 0; weight = p.weight }
 
--- the row of a class among those of a round
+-- the row of class `k`, among the rows of a round
 abbrev pub row_at : List (Vec Pair Global) → ℕ → List Pair
 row_at rows k = get_or (map (λ row. row.items) rows) (k - 1) []
 
--- a class of the next round has a row, of classes of that round
+-- class `k` of the next round has a row, and the row names classes of that round
 pub record HasPairsBelow (c : Filter) (round : ℕ) (rows : List (Vec Pair Global)) (k : ℕ) : Type 0 where
   pub some : 0 < k
   pub top : k ≤ length rows

@@ -7,7 +7,7 @@ use Rattle.gs_model.specs.Frame.{Frame, point_count, player_at, move_count, roun
 use Rattle.gs_model.specs.Plans.{Plan, IsClassPlan}
 use Rattle.gs_model.specs.Positions.{at_point}
 
--- how many slots a player has at a point: one for each class of its round and each move, none where the other player chooses
+-- how many slots a player has at a point: one for each class of its round and each move, or 0 if the other player chooses there
 abbrev pub slots_at : Frame → ClassLists → ℕ → ℕ → ℕ
 slots_at f lists player q = if player_at f q == player then class_count lists (round_of f (at_point q)) * move_count f q else 0
 
@@ -27,11 +27,11 @@ sequence_count f lists player = slot_count f lists player + 1
 abbrev pub slot_of : Frame → ClassLists → ℕ → ℕ → ℕ → ℕ
 slot_of f lists q c m = slots_before f lists (player_at f q) q + ((c - 1) * move_count f q + m)
 
--- the plan that a total and weights in slot order are
+-- a total and weights in slot order, as a plan
 abbrev pub plan_of : Frame → ClassLists → ℕ → List ℕ → Plan
 plan_of f lists total weights = record { total = total; number = λ q c m. slice_index weights (slot_of f lists q c m) }
 
--- a total and weights are a plan of a player: a weight for each slot, and a plan over classes
+-- a total and weights form a plan of a player: there is one weight for each slot, and they are a plan over classes
 pub record IsPlan (f : Frame) (lists : ClassLists) (player total : ℕ) (weights : List ℕ) : Type 0 where
   pub long : length weights ≡ slot_count f lists player
   pub plan : IsClassPlan f lists player (plan_of f lists total weights)

@@ -1,4 +1,4 @@
-//! The rows of rounds before the last, by the games that stop after them: after a round all pairs of signals go on in as many ways.
+//! The rows of rounds before the last, from the games that stop after them: after a round all pairs of signals continue in equally many ways.
 
 ghost use Rattle.std.specs.{Prelude.{◌≡◌, ◌+◌, ◌-◌, ◌<◌, ℕ, IfOk, get_or, length, Vec}, declared.alloc.Global.{Global}};
 ghost use Rattle.gs_game.specs.GoingOn.{StopsAfter, ways_on as ways_after};
@@ -32,14 +32,14 @@ struct StoppedRound<'a> {
     ghost same: { list_of seen.now.lists round ≡ list_of classes.now.lists round },
 }
 
-/// The ways to go on after a round: what all deals weigh, over what those of the game that stops there weigh.
+/// Returns the number of ways to continue after a round: the weight of all deals divided by the weight of the deals of the game that stops there.
 fn ways_on(at: &StoppedRound<'_>) -> u64
     ensures { result ≡ ways_after (rules_of at.now.signals.now) at.now.round }
 {
     at.signals.game().weight() / at.stopped.game().weight()
 }
 
-/// The row of a class of a round before the last, by the deals of its first member where the game stops after the round.
+/// Returns the row of a class of a round before the last, from the deals of its first member in the game that stops after the round.
 fn row_by(
     alloc: Global,
     at: &StoppedRound<'_>,
@@ -63,7 +63,7 @@ fn row_by(
     )
 }
 
-/// The rows of a round before the last, by the game that stops after it.
+/// Returns the rows of a round before the last, from the game that stops after it.
 fn rows_by(alloc: Global, at: &StoppedRound<'_>) -> Result<Vec<Vec<Pair>>, AllocError>
     ensures { IfOk result (λ v. AreRowsIn (frame_in at.now.signals.now.game.now) at.now.classes.now.lists at.now.round v.items) }
 {
@@ -79,7 +79,7 @@ fn rows_by(alloc: Global, at: &StoppedRound<'_>) -> Result<Vec<Vec<Pair>>, Alloc
     Ok(rows)
 }
 
-/// The rows of a round before the last. Where the rounds up to it deal a player more than one own card, all deals are walked.
+/// Returns the rows of a round before the last. Walks all deals if the rounds up to it deal a player more than one own card.
 fn rows_at(
     alloc: Global,
     signals: &Signals,
@@ -109,7 +109,7 @@ fn rows_at(
     rows_in(alloc, signals, classes, round)
 }
 
-/// The rows of all rounds before the last.
+/// Returns the rows of all rounds before the last.
 pub(crate) fn rows_before(
     alloc: Global,
     lossless: &Lossless,

@@ -1,4 +1,4 @@
-//! The rows of a round from those of the next round: what the classes below two classes weigh together.
+//! The rows of a round, made from those of the next round: the weight of two classes is the total weight of the classes that descend from them.
 
 ghost use Rattle.std.specs.Prelude.{◌≡◌, ◌+◌, ◌<◌, ◌++◌, All, IfOk, OnOk, flat_map, length, map};
 ghost use Rattle.gs_model.specs.{Classes.{IsClass, class_count}, Frame.{last_round}};
@@ -10,7 +10,7 @@ use gs_filter::Classes;
 use gs_lossless::{Lossless, Part, empty_lists};
 use std::alloc::{AllocError, Global};
 
-/// For each class of a round the classes of the next round that descend from it, in ascending order.
+/// Returns for each class of a round the classes of the next round that descend from it, in ascending order.
 fn classes_below(alloc: Global, classes: &Classes, round: u8) -> Result<Vec<Vec<u32>>, AllocError>
     requires some { 0 < round }
     requires before_last { round < length classes.now.lists }
@@ -26,7 +26,7 @@ fn classes_below(alloc: Global, classes: &Classes, round: u8) -> Result<Vec<Vec<
     Ok(below)
 }
 
-/// A pair of the next round as a part: its weight counts for the class that player 2's class descends from.
+/// Returns a pair of the next round as a part: its weight counts at the class from which player 2's class descends.
 fn part_above(classes: &Classes, round: u8, pair: Pair) -> Part
     requires some { 0 < round }
     requires before_last { round < length classes.now.lists }
@@ -41,7 +41,7 @@ fn part_above(classes: &Classes, round: u8, pair: Pair) -> Part
     }
 }
 
-/// Puts the pairs of a row of the next round as parts behind others.
+/// Adds the pairs of a row of the next round to `parts`.
 fn push_above(
     classes: &Classes,
     round: u8,
@@ -59,7 +59,7 @@ fn push_above(
     Ok(())
 }
 
-/// The pairs of some classes of the next round as parts.
+/// Returns the pairs of some classes of the next round as parts.
 fn parts_above(
     alloc: Global,
     classes: &Classes,
@@ -79,7 +79,7 @@ fn parts_above(
     Ok(parts)
 }
 
-/// The row of a class of a round, by the classes below it and the rows of the next round.
+/// Returns the row of a class of a round, from the classes below it and the rows of the next round.
 fn row_above(
     alloc: Global,
     lossless: &Lossless,
@@ -102,7 +102,7 @@ fn row_above(
     row_of(alloc, &parts, 1)
 }
 
-/// The rows of all classes of a round, by the rows of the next round.
+/// Returns the rows of all classes of a round, from the rows of the next round.
 pub(crate) fn rows_above(
     alloc: Global,
     lossless: &Lossless,

@@ -14,7 +14,7 @@ use gs_filter::Classes;
 use gs_game::ValidGame;
 use std::alloc::{AllocError, Global};
 
-/// Puts all that comes to each class of a player's point on the first move.
+/// Gives the first move, at each class of a player's point, all the weight that comes there.
 fn put_first(
     game: &ValidGame,
     classes: &Classes,
@@ -46,7 +46,7 @@ fn put_first(
     }
 }
 
-/// The `count` weights of the plan of total 1 that takes the first move everywhere.
+/// Returns the `count` weights of the plan with total 1 that takes the first move everywhere.
 fn first_weights(
     alloc: Global,
     game: &ValidGame,
@@ -75,7 +75,7 @@ impl<'a> Abstract<'a> {
     ghost use Rattle.gs_model.specs.Play.{IsFirstMoves};
     ghost use Rattle.gs_seq.specs.{Abstracts.{frame_of, lists_of}, Firsts.{IsComing}, Plans.{IsPlanOf, class_plan}};
 
-    /// A player's plan of total 1 that takes the first move everywhere.
+    /// Returns a player's plan with total 1 that takes the first move everywhere.
     pub fn first_plan(&self, alloc: Global, player: u8) -> Result<Plan, AllocError>
         requires some { 0 < player }
         requires two { player ≤ 2 }
@@ -98,8 +98,8 @@ impl<'a> Abstract<'a> {
         })
     }
 
-    /// What comes to a class of a point by a total and the weights of the slots before the point: the weight of the player's last step, at the class
-    /// above, or the total if the player made none.
+    /// Returns the weight that comes to a class of a point: the weight of the player's last step before the point, at the class above.
+    /// If the player made no step, it is the total. Reads only weights of slots before the point.
     pub fn coming(&self, total: u64, weights: &[u64], point: u32, class: u32) -> u64
         requires point { point < point_count (frame_of self.now) }
         requires class { IsClass (lists_of self.now) (round_of (frame_of self.now) (at_point point)) class }

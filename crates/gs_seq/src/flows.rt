@@ -1,4 +1,5 @@
-//! Whether weights are a plan: at each point and class the weights of the moves add up to what comes there.
+//! The check whether weights form a plan: at each point and class the weights of the moves add up to the weight that comes there.
+//! That weight is the one of the player's last step before the point, at the class above, or the total if there is no such step.
 
 ghost use Rattle.std.specs.Prelude.{ℕ, ◌≡◌, ◌+◌, ◌*◌, ◌<◌, ◌≤◌, ◌^◌, MatchOption, drop, length, sum, take};
 ghost use Rattle.gs_model.specs.Classes.{IsClass, first_member};
@@ -22,12 +23,12 @@ pub struct StepSource {
     pub(crate) round: u8,
     /// The slot of that point's first class and first move.
     pub(crate) first: u64,
-    /// How many moves the point has.
+    /// The number of moves of that point.
     pub(crate) moves: u64,
     pub(crate) choice: u8,
 }
 
-/// The class that a class descends from in an earlier round, or itself in its own.
+/// Returns the class of an earlier round from which a class descends; in its own round, the class itself.
 pub fn class_above(classes: &Classes, round: u8, to: u8, class: u32) -> u32
     requires some { 0 < to }
     requires earlier { to ≤ round }
@@ -47,7 +48,7 @@ pub fn class_above(classes: &Classes, round: u8, to: u8, class: u32) -> u32
     above
 }
 
-/// The last step of a point's player before it; `first` is the slot of the point's first class and first move.
+/// Returns the last step before a point of the player who chooses there. `first` is the slot of the point's first class and first move.
 pub(crate) fn source_of(
     game: &ValidGame,
     classes: &Classes,
@@ -71,7 +72,7 @@ pub(crate) fn source_of(
     })
 }
 
-/// The weight of a step at the class that a class descends from.
+/// Returns the weight of a step, at the class of the step's round from which a class descends.
 pub(crate) fn weight_above(
     classes: &Classes,
     weights: &[u64],
@@ -92,7 +93,7 @@ pub(crate) fn weight_above(
     weights[slot as usize]
 }
 
-/// What comes to a class of a point: the weight of the player's last step, at the class above, or the total.
+/// Returns the weight that comes to a class of a point: the weight of the player's last step, at the class above, or the total if there is none.
 pub(crate) fn coming(
     game: &ValidGame,
     classes: &Classes,
@@ -122,7 +123,7 @@ pub(crate) fn coming(
     }
 }
 
-/// The sum of some weights.
+/// Returns the sum of some weights.
 pub(crate) fn total_of(weights: &[u64]) -> u128
     requires { length weights.now < 2 ^ 63 }
     ensures { result ≡ sum weights.now }
@@ -134,7 +135,7 @@ pub(crate) fn total_of(weights: &[u64]) -> u128
     total
 }
 
-/// The sum of some weights side by side.
+/// Returns the sum of `count` weights from the place `first` on.
 fn total_from(weights: &[u64], first: usize, count: usize) -> u128
     requires { first + count ≤ length weights.now }
     ensures { result ≡ sum (take count (drop first weights.now)) }
@@ -142,7 +143,7 @@ fn total_from(weights: &[u64], first: usize, count: usize) -> u128
     total_of(&weights[first..first + count])
 }
 
-/// The first class of a player's point where the weights of the moves do not add up to what comes there.
+/// Returns the first class of a player's point where the weights of the moves do not add up to the weight that comes there.
 fn first_leak_at(
     game: &ValidGame,
     classes: &Classes,
@@ -173,7 +174,7 @@ fn first_leak_at(
     None
 }
 
-/// The first place, by point and class, where the weights of the moves do not add up to what comes there.
+/// Returns the first place, by point and class, where the weights of the moves do not add up to the weight that comes there.
 fn first_leak(
     game: &ValidGame,
     classes: &Classes,
@@ -198,7 +199,7 @@ fn first_leak(
     None
 }
 
-/// The first reason why a total and weights are no plan of a player; none if they are one.
+/// Returns the first reason why a total and weights do not form a plan of a player, or `None` if they do.
 pub fn plan_fault(
     game: &ValidGame,
     classes: &Classes,

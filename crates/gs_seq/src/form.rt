@@ -23,14 +23,14 @@ use gs_game::ValidGame;
 use gs_lossless::Lossless;
 use std::alloc::{AllocError, Global};
 
-/// The most sequences of a player, and the most cells, of a game that is solved or played.
+/// The usual limits: the most sequences of a player and the most cells of a game that is solved or played.
 const USUAL: Limits = Limits {
     sequences: 262_144,
     cells: 4_194_304,
 };
 
-/// A game with lossless classes in sequence form: the slots of both players' plans, and the sums over deals by pairs of classes. A point with a class of
-/// its round is an information set after abstraction.
+/// A game with lossless classes in sequence form: the slots of both players' plans, and the sums over deals by pairs of classes.
+/// A point with a class of its round is an information set after abstraction.
 #[derive(Drop)]
 pub struct Abstract<'a> {
     lossless: &'a Lossless<'a>,
@@ -39,9 +39,9 @@ pub struct Abstract<'a> {
     // how many slots players 1 and 2 have
     one: u32,
     two: u32,
-    // for each round and class of player 1 its pairs; none of the last round where they are made of deals
+    // for each round and class of player 1 its pairs; the last round is left out if its pairs are made from deals
     rows: Vec<Vec<Vec<Pair>>>,
-    // the signals of the last round along their boards, where the pairs of its classes are made of deals
+    // the signals of the last round along their boards, if the pairs of its classes are made from deals
     order: Option<BoardOrder<'a>>,
     ghost few: { HasSequencesWithin (2 ^ 30) (frame_in lossless.now.signals.now.game.now) lossless.now.classes.now.lists },
     ghost placed: { AreOffsets (frame_in lossless.now.signals.now.game.now) lossless.now.classes.now.lists offsets.items },
@@ -52,7 +52,7 @@ pub struct Abstract<'a> {
     ghost single: { (b : Along) → order ≡ Some b → IsSingleIn lossless.now.classes.now.lists (last_round (frame_in lossless.now.signals.now.game.now)) },
 }
 
-/// The signals of the last round along their boards, where only the first `listed` rounds have rows.
+/// Returns the signals of the last round along their boards, if the last round has no rows. `listed` is the number of rounds with rows.
 fn order_of<'a>(
     alloc: Global,
     lossless: &'a Lossless<'a>,
@@ -79,7 +79,8 @@ impl<'a> Abstract<'a> {
     ghost use Rattle.gs_seq.specs.{Slots.{IsPlan, sequence_count, slot_of}, Stops.{IsSmall, IsStopAt, IsStopOf, IsWithin}};
     ghost use Rattle.gs_tree.specs.Trees.{rules_of};
 
-    /// The sequence form of a game with lossless classes, or the first limit that it passes.
+    /// Returns the sequence form of a game with lossless classes, within the usual limits.
+    /// Errors: the first limit that the game exceeds, or `Memory` if memory runs out.
     pub fn of(alloc: Global, lossless: &'a Lossless<'a>) -> Result<Abstract<'a>, SeqStop>
         ensures held { IfOk result (λ a. a.lossless.now ≡ lossless.entry.now) }
         ensures small { IfOk result (λ a. IsSmall (frame_of a) (lists_of a)) }
@@ -88,7 +89,8 @@ impl<'a> Abstract<'a> {
         Abstract::within(alloc, lossless, USUAL)
     }
 
-    /// The sequence form of a game with lossless classes, or the first of these limits that it passes.
+    /// Returns the sequence form of a game with lossless classes, within the limits `most`.
+    /// Errors: the first limit that the game exceeds, or `Memory` if memory runs out.
     pub fn within(
         alloc: Global,
         lossless: &'a Lossless<'a>,
@@ -120,14 +122,14 @@ impl<'a> Abstract<'a> {
         })
     }
 
-    /// The game's signals with their lossless classes.
+    /// Returns the game's signals with their lossless classes.
     pub fn lossless(&self) -> &'a Lossless<'a>
         ensures { result.now ≡ self.now.lossless.now }
     {
         self.lossless
     }
 
-    /// The game.
+    /// Returns the game.
     pub(crate) fn game(&self) -> &'a ValidGame
         ensures held { frame_in result.now ≡ frame_of self.now }
         ensures classes { IsClasses (frame_of self.now).parents (lists_of self.now) }
@@ -137,7 +139,7 @@ impl<'a> Abstract<'a> {
         self.lossless.signals().game()
     }
 
-    /// The classes.
+    /// Returns the classes.
     pub(crate) fn classes(&self) -> &'a Classes
         ensures lists { result.now.lists ≡ lists_of self.now }
         ensures parents { result.now.parents ≡ (frame_of self.now).parents }
@@ -145,14 +147,14 @@ impl<'a> Abstract<'a> {
         self.lossless.classes()
     }
 
-    /// How many ends the game has.
+    /// Returns the number of ends of the game.
     pub(crate) fn end_total(&self) -> u32
         ensures { result ≡ end_count (frame_of self.now) }
     {
         self.game().ends().len() as u32
     }
 
-    /// How many sequences a player has, the empty one counted.
+    /// Returns the number of sequences of a player, with the empty one counted.
     pub fn sequences(&self, player: u8) -> u32
         requires some { 0 < player }
         requires two { player ≤ 2 }
@@ -165,7 +167,7 @@ impl<'a> Abstract<'a> {
         }
     }
 
-    /// The place, in the weights of the player who chooses at a point, of a move at a class.
+    /// Returns the slot of a move at a point and a class: its place in the weights of the player who chooses there.
     pub fn slot(&self, point: u32, class: u32, choice: u8) -> u32
         requires point { point < point_count (frame_of self.now) }
         requires class { IsClass (lists_of self.now) (round_of (frame_of self.now) (at_point point)) class }
@@ -179,7 +181,7 @@ impl<'a> Abstract<'a> {
         self.offsets[point as usize] + (class - 1) * moves + u32::from(choice)
     }
 
-    /// The pairs of a class of player 1 in a round, one for each class of player 2 that some deal has beside it, in ascending order.
+    /// Returns the pairs of a class of player 1 in a round: one for each class of player 2 that it meets in some deal, in ascending order.
     pub fn pairs(&self, round: u8, one: u32) -> Pairs<'_>
         requires some { 0 < round }
         requires top { round ≤ last_round (frame_of self.now) }
@@ -194,8 +196,8 @@ impl<'a> Abstract<'a> {
         Pairs::made(self.lossless.signals().deals_of(one - 1))
     }
 
-    /// The pair of a class of player 1 with the least class of player 2 above `after` that some deal has beside it: none where there is no such
-    /// class.
+    /// Returns the pair of a class of player 1 with the least class of player 2 above `after` that it meets in some deal.
+    /// Returns `None` if there is no such class.
     pub fn pair_after(&self, round: u8, one: u32, after: u32) -> Option<Pair>
         requires some { 0 < round }
         requires top { round ≤ last_round (frame_of self.now) }
@@ -206,7 +208,7 @@ impl<'a> Abstract<'a> {
         first_after(self.pairs(round, one), after)
     }
 
-    /// The signals of a round along their boards, where each of them is a class of its own and the pairs of these are made of deals.
+    /// Returns the signals of a round along their boards, if it is the last round and its pairs are made from deals.
     pub(crate) fn order_in(&self, round: u8) -> Option<&BoardOrder<'a>>
         ensures signals { IfSome result (λ order. HasSumsOf (rules_of order.now.signals.now) (rules_of self.now.lossless.now.signals.now)) }
         ensures last { IfSome result (λ order. round ≡ last_round (frame_of self.now)) }
@@ -218,15 +220,15 @@ impl<'a> Abstract<'a> {
         }
     }
 
-    /// For each point the slot of its first class and first move.
+    /// Returns for each point the slot of its first class and first move.
     pub(crate) fn offsets(&self) -> &[u32]
         ensures { AreOffsets (frame_of self.now) (lists_of self.now) result.now }
     {
         &self.offsets
     }
 
-    /// A plan's number at an end and a class of its round: the weight of its player's last step before the end, at the class above, or the total
-    /// if the player made none.
+    /// Returns a plan's number at an end and a class of the end's round: the weight of the player's last step before the end, at the class above.
+    /// If the player made no step, the number is the total.
     pub fn number_at_end(&self, plan: &Plan, end: u32, class: u32) -> u64
         requires some { 0 < plan.now.player }
         requires two { plan.now.player ≤ 2 }
@@ -242,7 +244,7 @@ impl<'a> Abstract<'a> {
         number_by(game, self.classes(), plan, source, end, class)
     }
 
-    /// A total and weights in slot order as a plan of a player, or the first reason why they are none.
+    /// Makes a plan of a player from a total and weights in slot order. Errors: the first reason why they do not form a plan.
     pub fn plan(&self, player: u8, total: u64, weights: Vec<u64>) -> Result<Plan, PlanFault>
         requires some { 0 < player }
         requires two { player ≤ 2 }

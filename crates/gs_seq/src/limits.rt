@@ -1,10 +1,10 @@
-//! How large a game in sequence form may be.
+//! Limits on the size of a game in sequence form.
 
-/// How large a game in sequence form may be.
+/// Limits on the size of a game in sequence form.
 #[derive(Clone, Copy, Debug, PartialEq, Eq)]
 pub struct Limits {
-    /// The most sequences that a player may have, the empty one counted.
+    /// The most sequences that a player may have, with the empty one counted.
     pub sequences: u32,
-    /// The most cells: pairs of classes that some deal has, added up over all ends.
+    /// The most cells: over all ends, the pairs of classes of the end's round that meet in some deal, added up.
     pub cells: u64,
 }

@@ -1,4 +1,4 @@
-//! The numbers of plans at ends, and sums of signed numbers.
+//! The numbers of plans at ends, and products and sums of signed numbers.
 
 ghost use Rattle.std.specs.Prelude.{◌≡◌, ◌+◌, ◌-◌, ◌*◌, ◌<◌, ◌≤◌, ◌^◌, length, option_map, pos, slice_index, unsigned_abs, ◌+ℤ◌, ◌*ℤ◌};
 ghost use Rattle.gs_game.specs.Seen.{step_of};
@@ -12,7 +12,7 @@ use crate::slots::slots_between;
 use gs_filter::Classes;
 use gs_game::{Step, ValidGame};
 
-/// What is kept of a step.
+/// Returns what the program keeps of a step.
 fn source_from(game: &ValidGame, offsets: &[u32], step: Step) -> StepSource
     requires point { step.point < point_count (frame_in game.now) }
     requires long { length offsets.now ≡ point_count (frame_in game.now) }
@@ -30,7 +30,7 @@ fn source_from(game: &ValidGame, offsets: &[u32], step: Step) -> StepSource
     }
 }
 
-/// The last step before a point of the player who chooses there.
+/// Returns the last step before a point of the player who chooses there.
 pub(crate) fn point_source(game: &ValidGame, offsets: &[u32], point: u32) -> Option<StepSource>
     requires point { point < point_count (frame_in game.now) }
     requires long { length offsets.now ≡ point_count (frame_in game.now) }
@@ -41,7 +41,7 @@ pub(crate) fn point_source(game: &ValidGame, offsets: &[u32], point: u32) -> Opt
     Some(source_from(game, offsets, step))
 }
 
-/// A player's last step before an end.
+/// Returns a player's last step before an end.
 pub fn end_step(game: &ValidGame, player: u8, end: u32) -> Option<Step>
     requires { end < end_count (frame_in game.now) }
     ensures { option_map step_of result ≡ last_step (frame_in game.now) player (at_end end) }
@@ -50,7 +50,7 @@ pub fn end_step(game: &ValidGame, player: u8, end: u32) -> Option<Step>
     if player == 1 { end.one } else { end.two }
 }
 
-/// What is kept of a player's last step before an end.
+/// Returns what the program keeps of a player's last step before an end.
 pub(crate) fn end_source(
     game: &ValidGame,
     offsets: &[u32],
@@ -67,7 +67,7 @@ pub(crate) fn end_source(
     Some(source_from(game, offsets, step))
 }
 
-/// What is kept of a player's last step before an end, with no list of offsets: the slots before it are counted.
+/// Returns what the program keeps of a player's last step before an end. Needs no list of offsets: it counts the slots before the step.
 pub fn source_at_end(
     game: &ValidGame,
     classes: &Classes,
@@ -90,7 +90,8 @@ pub fn source_at_end(
     })
 }
 
-/// A plan's number at a class of an end's round: the weight of its player's last step at the class above, or the total if the player made none.
+/// Returns a plan's number at an end and a class of the end's round: the weight of the player's last step, at the class above.
+/// If the player made no step, the number is the total. `source` is the player's last step before the end.
 pub fn number_by(
     game: &ValidGame,
     classes: &Classes,
@@ -121,7 +122,7 @@ pub fn number_by(
     }
 }
 
-/// A whole number times a signed one.
+/// Returns a whole number times a signed one.
 pub fn scaled(number: u64, worth: i128) -> i128
     requires { number * unsigned_abs worth < 2 ^ 127 }
     ensures { result ≡ pos number *ℤ worth }
@@ -129,7 +130,7 @@ pub fn scaled(number: u64, worth: i128) -> i128
     i128::from(number) * worth
 }
 
-/// The sum of two signed numbers.
+/// Returns the sum of two signed numbers.
 pub fn plus(first: i128, second: i128) -> i128
     requires { unsigned_abs (first +ℤ second) < 2 ^ 127 }
     ensures { result ≡ first +ℤ second }

@@ -1,12 +1,12 @@
-//! Pairs of classes that some deal has.
+//! Pairs of classes that meet in some deal.
 
-/// A class of player 1, which is known from where the pair stands, with a class of player 2 that some deal has beside it.
+/// A class of player 1 and a class of player 2 that meet in some deal. Player 1's class is known from where the pair stands.
 #[derive(Clone, Copy, Debug, PartialEq, Eq)]
 pub struct Pair {
     /// Player 2's class.
     pub two: u32,
-    /// The weight of the deals that have both classes: at most that of all deals, 2^26.
+    /// The weight of the deals with both classes, at most 2^26.
     pub weight: u32,
-    /// In the last round the sum of weight times player 1's outcome over these deals, and 0 before it.
+    /// In the last round the sum of weight times player 1's outcome over these deals; in earlier rounds 0.
     pub signed: i64,
 }

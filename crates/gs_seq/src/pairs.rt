@@ -1,4 +1,4 @@
-//! The pairs of a class, one after another.
+//! An iterator over the pairs of a class.
 
 ghost use Rattle.std.specs.{Iterator.{YieldsFirst, item_count}, Prelude.{◌≡◌, ◌≤◌, All, MatchOption}};
 ghost use Rattle.gs_seq.specs.Singles.{IsFirstAfter, IsSlight, deal_pair};
@@ -8,14 +8,14 @@ use crate::rows::weighed_outcome;
 use gs_tree::{Deal, Deals};
 use std::marker::Model;
 
-/// The pairs of a class that are still to be given.
+/// An iterator over the pairs of a class: its value is the pairs still to come.
 ///
-/// Those of a class of one signal need not be listed: each is made of a deal when it is asked for. None takes memory.
+/// The pairs of a class with one signal need not be listed: each is made from a deal when it is asked for. The iterator allocates no memory.
 #[derive(Drop)]
 pub struct Pairs<'s> {
-    // those that are listed
+    // the listed pairs still to come
     listed: &'s [Pair],
-    // the deals of those that are made, behind them
+    // the deals from which the pairs behind the listed ones are made
     deals: Option<Deals<'s>>,
 }
 
@@ -30,7 +30,7 @@ impl<'s> Model for Pairs<'s> {
     ghost invariant = { λ p. All IsSlight (deals_left p.deals) };
 }
 
-/// The pair of the classes of a deal's signals, where each signal is a class of its own.
+/// Returns the pair of the classes of a deal's signals, when each signal is a class of its own.
 fn pair_of(deal: Deal) -> Pair
     requires { IsSlight deal }
     ensures { result ≡ deal_pair deal }
@@ -47,7 +47,7 @@ impl<'s> Pairs<'s> {
     ghost use Rattle.std.specs.Prelude.{◌≡◌, All, map};
     ghost use Rattle.gs_seq.specs.Singles.{IsSlight, deal_pair};
 
-    // Pairs that are listed.
+    // Returns the pairs of a list.
     pub(crate) fn listed(listed: &'s [Pair]) -> Pairs<'s>
         ensures { result ≡ listed.entry.now }
     {
@@ -57,7 +57,7 @@ impl<'s> Pairs<'s> {
         }
     }
 
-    // The pairs of the classes of these deals' signals, where each signal is a class of its own.
+    // Returns the pairs of the classes of these deals' signals, when each signal is a class of its own.
     pub(crate) fn made(deals: Deals<'s>) -> Pairs<'s>
         requires { All IsSlight deals }
         ensures { result ≡ map deal_pair deals.entry }
@@ -90,7 +90,7 @@ impl<'s> Iterator for Pairs<'s> {
     }
 }
 
-/// The first of some pairs whose class is above another.
+/// Returns the first pair whose class is above `after`.
 pub(crate) fn first_after(pairs: Pairs<'_>, after: u32) -> Option<Pair>
     ensures { MatchOption result (All (λ p. p.two ≤ after) pairs.entry) (IsFirstAfter pairs.entry after) }
 {

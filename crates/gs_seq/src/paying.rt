@@ -1,4 +1,4 @@
-//! What an end pays all classes of its round, by the other player's numbers there.
+//! What an end pays all classes of its round, from the other player's numbers there.
 
 ghost use Rattle.std.specs.Prelude.{◌≡◌, ◌-◌, ◌<◌, ◌≤◌, ◌*ℤ◌, length, pos, slice_index};
 ghost use Rattle.gs_boards.specs.Boards.{paid};
@@ -13,7 +13,7 @@ use crate::plan::Plan;
 use gs_boards::{BoardOrder, Pays};
 use gs_game::{End, EndKind};
 
-/// The number of a class in a list by classes.
+/// Returns the number of a class in a list with a number for each class.
 fn number_of(numbers: &[u64], class: u32) -> u64
     requires some { 0 < class }
     requires within { class ≤ length numbers.now }
@@ -22,7 +22,7 @@ fn number_of(numbers: &[u64], class: u32) -> u64
     numbers[class as usize - 1]
 }
 
-/// What an end pays a player in a deal, by the player's outcome.
+/// Returns what an end pays a player in a deal, as a function of the player's outcome.
 fn pays_at(player: u8, end: End) -> Pays
     ensures { (d : Dealt) → pos d.weight *ℤ paid result d.outcome ≡ pair_pays player (end_of end) (deal_pair d) }
 {
@@ -42,7 +42,7 @@ impl<'a> Abstract<'a> {
     ghost use Rattle.gs_seq.specs.{Plans.{IsPlanOf, class_plan}, Rows.{IsRow, IsSingleIn}, Singles.{HasSumsOf}};
     ghost use Rattle.gs_tree.specs.Trees.{rules_of};
 
-    /// An end of the game, with its round.
+    /// Returns an end of the game, with its round.
     pub fn end_in(&self, end: u32) -> End
         requires { end < end_count (frame_of self.now) }
         ensures value { end_of result ≡ end_at (frame_of self.now) end }
@@ -53,7 +53,7 @@ impl<'a> Abstract<'a> {
         self.game().ends()[end as usize]
     }
 
-    /// How many classes the round of an end has.
+    /// Returns the number of classes of an end's round.
     pub(crate) fn class_total(&self, end: u32) -> u32
         requires { end < end_count (frame_of self.now) }
         ensures { result ≡ end_classes (frame_of self.now) (lists_of self.now) end }
@@ -63,8 +63,8 @@ impl<'a> Abstract<'a> {
         self.classes().classes(self.end_in(end).round)
     }
 
-    /// What an end pays a player at each own class against a plan of the other player, class by class from a place of a list on, as `end_sum`; the
-    /// rest of the list is as it was. The other's numbers there are written anew.
+    /// Writes into `sums`, from the place `start` on, what an end pays a player at each own class against a plan of the other player, as `end_sum`.
+    /// Leaves the rest of `sums` as it is. Overwrites `numbers` with the other player's numbers at the end.
     pub fn end_sums(
         &self,
         player: u8,
@@ -96,7 +96,7 @@ impl<'a> Abstract<'a> {
         }
     }
 
-    /// What an end of the last round pays a player at each own class, as `pay_all`, where each signal is a class of its own: by sums along the boards.
+    /// Writes into `sums` what `pay_all` writes, for an end of the last round where each signal is a class of its own. Sums along the boards.
     fn pay_along(
         &self,
         order: &BoardOrder<'_>,
@@ -127,7 +127,7 @@ impl<'a> Abstract<'a> {
         order.deal_sums(pays, numbers, &mut sums[start..stop]);
     }
 
-    /// A plan's numbers at an end, class by class.
+    /// Writes into `numbers` a plan's numbers at an end, class by class.
     fn read_numbers(&self, plan: &Plan, end: u32, numbers: &mut [u64])
         requires some { 0 < plan.now.player }
         requires two { plan.now.player ≤ 2 }
@@ -143,7 +143,8 @@ impl<'a> Abstract<'a> {
         }
     }
 
-    /// What an end pays a player at each own class, from a place of a list on, by the other's numbers there; the rest of the list is as it was.
+    /// Writes into `sums`, from the place `start` on, what an end pays a player at each own class, from the other player's numbers there.
+    /// Leaves the rest of `sums` as it is.
     fn pay_all(&self, player: u8, end: u32, numbers: &[u64], start: usize, sums: &mut [i128])
         requires some { 0 < player }
         requires two { player ≤ 2 }
@@ -162,7 +163,7 @@ impl<'a> Abstract<'a> {
         }
     }
 
-    /// What an end pays a player at an own class by the other's numbers there.
+    /// Returns what an end pays a player at an own class, from the other player's numbers there.
     fn paid(&self, player: u8, end: u32, class: u32, numbers: &[u64]) -> i128
         requires some { 0 < player }
         requires two { player ≤ 2 }
@@ -176,7 +177,7 @@ impl<'a> Abstract<'a> {
         self.row_paid(player, end, class, numbers, row)
     }
 
-    /// The same over the pairs of the class.
+    /// Returns what an end pays a player at an own class, from the other player's numbers there and the pairs `row` of the class.
     fn row_paid(&self, player: u8, end: u32, class: u32, numbers: &[u64], row: Pairs<'_>) -> i128
         requires some { 0 < player }
         requires two { player ≤ 2 }

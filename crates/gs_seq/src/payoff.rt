@@ -12,7 +12,7 @@ use crate::pairs::Pairs;
 use crate::plan::Plan;
 use gs_game::{End, EndKind};
 
-/// What an end pays a player in the deals of a pair.
+/// Returns what an end pays a player in the deals of a pair.
 pub(crate) fn pays(player: u8, end: End, pair: Pair) -> i128
     requires few { pair.weight ≤ 67108864 }
     requires moderate { unsigned_abs pair.signed ≤ 9 * pair.weight }
@@ -28,7 +28,7 @@ pub(crate) fn pays(player: u8, end: End, pair: Pair) -> i128
     stake * i128::from(pair.weight)
 }
 
-/// A sum with what an end pays a player in the deals of a pair, times a number.
+/// Returns `sum` plus `number` times what an end pays a player in the deals of a pair.
 pub(crate) fn add_pays(sum: i128, number: u64, player: u8, end: End, pair: Pair) -> i128
     requires few { pair.weight ≤ 67108864 }
     requires moderate { unsigned_abs pair.signed ≤ 9 * pair.weight }
@@ -44,8 +44,8 @@ impl<'a> Abstract<'a> {
     ghost use Rattle.gs_seq.specs.{Abstracts.{frame_of, lists_of}, Payoffs.{end_classes, end_sum, payoff_at}, Plans.{IsPlanOf, class_plan, lifted}};
     ghost use Rattle.gs_seq.specs.{Rows.{IsRow}, Sources.{MatchSource}};
 
-    /// What an end pays a player at an own class against a plan of the other player, over the classes beside it: the plan's number times what the
-    /// end pays in the deals of both classes.
+    /// Returns what an end pays a player at the player's class against a plan of the other player.
+    /// It is the sum, over the other's classes, of the plan's number at the end times what the end pays in the deals of both classes.
     pub fn end_sum(&self, player: u8, other: &Plan, end: u32, class: u32) -> i128
         requires some { 0 < player }
         requires two { player ≤ 2 }
@@ -59,7 +59,7 @@ impl<'a> Abstract<'a> {
         self.row_worth(player, other, source, end, class, row)
     }
 
-    /// The same over the pairs of the class, by the other player's last step before the end.
+    /// Returns `end_sum` from the pairs `row` of the class. `source` is the other player's last step before the end.
     fn row_worth(
         &self,
         player: u8,
@@ -88,9 +88,9 @@ impl<'a> Abstract<'a> {
         sum
     }
 
-    /// What a plan of player 1 and a plan of player 2 pay player 1, in chips times the weight of all deals and both totals.
+    /// Returns what a plan of player 1 and a plan of player 2 pay player 1, in chips times the weight of all deals times both totals.
     ///
-    /// It takes no memory.
+    /// Allocates no memory.
     pub fn payoff(&self, x: &Plan, y: &Plan) -> i128
         requires x { IsPlanOf (frame_of self.now) (lists_of self.now) 1 x.now }
         requires y { IsPlanOf (frame_of self.now) (lists_of self.now) 2 y.now }
@@ -106,7 +106,7 @@ impl<'a> Abstract<'a> {
         sum
     }
 
-    /// What two plans pay at an end, over the classes of player 1.
+    /// Returns what two plans pay player 1 at an end, class by class of player 1.
     fn payoff_at(&self, x: &Plan, y: &Plan, end: u32) -> i128
         requires x { IsPlanOf (frame_of self.now) (lists_of self.now) 1 x.now }
         requires y { IsPlanOf (frame_of self.now) (lists_of self.now) 2 y.now }
@@ -124,7 +124,8 @@ impl<'a> Abstract<'a> {
         sum
     }
 
-    /// The same with room to read what ends pay: a number for each class of any end.
+    /// Returns the same as `payoff`, but reads what an end pays for all classes at once.
+    /// `sums` and `numbers` are room for that: each has at least one entry for each class of any end's round.
     pub fn payoff_in(&self, x: &Plan, y: &Plan, sums: &mut [i128], numbers: &mut [u64]) -> i128
         requires x { IsPlanOf (frame_of self.now) (lists_of self.now) 1 x.now }
         requires y { IsPlanOf (frame_of self.now) (lists_of self.now) 2 y.now }
@@ -141,7 +142,7 @@ impl<'a> Abstract<'a> {
         sum
     }
 
-    /// What two plans pay at an end, read for all classes of player 1 at once.
+    /// Returns what two plans pay player 1 at an end, read for all classes of player 1 at once.
     fn payoff_read(
         &self,
         x: &Plan,

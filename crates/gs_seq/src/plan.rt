@@ -1,10 +1,10 @@
-//! Plans of a player.
+//! Plans: realization plans over classes.
 
-/// A plan of a player over classes, in whole numbers.
+/// A plan of a player over classes, in whole numbers. In the literature: a realization plan.
 ///
-/// The weights stand in slot order: the player's points in order, for each point the classes of its round, for each class the moves. The weights
-/// of the moves at a point and a class add up to the weight of the player's own move before, at the class that this class descends from, or to
-/// the total where there is none. In the literature: a realization plan.
+/// The weights stand in slot order: the player's points in order, for each point the classes of its round, for each class the moves.
+/// The weights of the moves at a point and a class add up to the weight of the player's last move before, at the class from which this class descends.
+/// If the player made no move before, they add up to the total.
 #[derive(Debug, Drop)]
 pub struct Plan {
     pub player: u8,

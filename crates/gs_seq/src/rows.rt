@@ -1,4 +1,4 @@
-//! The pairs of classes that some deal has, row by row: a row for each class of player 1 in each round.
+//! The pairs of classes that meet in some deal, in rows: a row for each class of player 1 in each round.
 
 ghost use Rattle.std.specs.Prelude.{◌≡◌, ◌+◌, ◌*◌, ◌<◌, ◌≤◌, ◌^◌, IfOk, OnOk, All, map, pos, reverse, sum_by, unsigned_abs, ◌+ℤ◌, ◌*ℤ◌};
 ghost use Rattle.gs_model.specs.{Classes.{IsClass}, Frame.{last_round}, Lossless.{IsLossless}};
@@ -17,14 +17,14 @@ use gs_lossless::{Lossless, Part, Side, side_keys, side_sums};
 use gs_tree::Signals;
 use std::alloc::{AllocError, Global};
 
-/// A weight times an outcome.
+/// Returns a weight times an outcome.
 fn product(weight: u32, outcome: i8) -> i64
     ensures { result ≡ pos weight *ℤ outcome }
 {
     i64::from(weight) * i64::from(outcome)
 }
 
-/// A weight times an outcome, with how large that can be.
+/// Returns a weight times an outcome, and bounds its size.
 pub(crate) fn weighed_outcome(weight: u32, outcome: i8) -> i64
     ensures value { result ≡ pos weight *ℤ outcome }
     ensures size { unsigned_abs result ≤ 128 * weight }
@@ -32,7 +32,7 @@ pub(crate) fn weighed_outcome(weight: u32, outcome: i8) -> i64
     product(weight, outcome)
 }
 
-/// The sum of two numbers of moderate size.
+/// Returns the sum of two numbers that are too small to overflow.
 fn plus(first: i64, second: i64) -> i64
     requires { unsigned_abs first + unsigned_abs second < 2 ^ 62 }
     ensures value { result ≡ first +ℤ second }
@@ -41,7 +41,7 @@ fn plus(first: i64, second: i64) -> i64
     first + second
 }
 
-/// What a part of one member of a class is for all members.
+/// Returns the pair that a part of one member makes for its class, with the weight of all members.
 fn pair_from(part: Part, members: u64) -> Pair
     requires { members * part.weight < 2 ^ 32 }
     ensures value { result ≡ pair_of members part }
@@ -55,7 +55,7 @@ fn pair_from(part: Part, members: u64) -> Pair
     }
 }
 
-/// Two pairs of one class as one.
+/// Returns two pairs with one class as one pair, with both weights added.
 fn joined(pair: Pair, more: Pair) -> Pair
     requires few { pair.weight + more.weight < 2 ^ 32 }
     requires pair { IsModerate pair }
@@ -70,7 +70,7 @@ fn joined(pair: Pair, more: Pair) -> Pair
     }
 }
 
-/// Adds a pair to a row: the last pair takes it where both are of one class, or it stands behind it.
+/// Adds a pair to a row: joins it to the last pair if both have the same class, otherwise puts it behind.
 fn add(row: &mut Vec<Pair>, pair: Pair) -> Result<(), AllocError>
     requires few { sum_by (λ p. p.weight) row.old.items + pair.weight < 2 ^ 32 }
     requires moderate { All IsModerate row.old.items }
@@ -90,7 +90,7 @@ fn add(row: &mut Vec<Pair>, pair: Pair) -> Result<(), AllocError>
     Ok(())
 }
 
-/// The row of a class, by the number of its members and the parts of one of them in ascending order.
+/// Returns the row of a class, from the number of its members and the parts of one member in ascending order.
 pub(crate) fn row_of(alloc: Global, sums: &[Part], members: u64) -> Result<Vec<Pair>, AllocError>
     requires { members * sum_by (λ p. p.weight) sums.now < 2 ^ 32 }
     ensures { IfOk result (λ v. v.items ≡ gathered members sums.now) }
@@ -102,7 +102,7 @@ pub(crate) fn row_of(alloc: Global, sums: &[Part], members: u64) -> Result<Vec<P
     Ok(row)
 }
 
-/// The row of a class in a round: all members see what the first one sees.
+/// Returns the row of a class in a round, from the sums of its first member: all members have the same sums.
 fn class_row(
     alloc: Global,
     signals: &Signals,
@@ -126,7 +126,7 @@ fn class_row(
     row_of(alloc, &sums, u64::from(classes.size(round, class)))
 }
 
-/// The rows of all classes of a round.
+/// Returns the rows of all classes of a round.
 pub(crate) fn rows_in(
     alloc: Global,
     signals: &Signals,
@@ -149,7 +149,7 @@ pub(crate) fn rows_in(
     Ok(rows)
 }
 
-/// The rows of all rounds, listed: those of the last one by its deals, the others by those of the round behind each.
+/// Returns the rows of all rounds. Makes those of the last round from its deals, and those of each earlier round from the rows of the next.
 fn rows_listed(alloc: Global, lossless: &Lossless) -> Result<Vec<Vec<Vec<Pair>>>, AllocError>
     ensures { IfOk result (λ v. AreRows (frame_in lossless.now.signals.now.game.now) lossless.now.classes.now.lists v.items) }
 {
@@ -164,7 +164,7 @@ fn rows_listed(alloc: Global, lossless: &Lossless) -> Result<Vec<Vec<Vec<Pair>>>
     Ok(rows)
 }
 
-/// The rows of all rounds, but for the last one where its pairs are made of deals.
+/// Returns the rows of all rounds, or of all but the last round if its pairs are made from deals.
 pub(crate) fn rows_of(alloc: Global, lossless: &Lossless) -> Result<Vec<Vec<Vec<Pair>>>, AllocError>
     ensures { IfOk result (λ v. AreRows (frame_in lossless.now.signals.now.game.now) lossless.now.classes.now.lists v.items) }
 {
@@ -175,7 +175,7 @@ pub(crate) fn rows_of(alloc: Global, lossless: &Lossless) -> Result<Vec<Vec<Vec<
     rows_listed(alloc, lossless)
 }
 
-/// How many pairs some rows have.
+/// Returns the number of pairs in some rows.
 fn pairs_in(rows: &[Vec<Pair>]) -> u64
     requires { pairs_of rows.now < 2 ^ 64 }
     ensures { result ≡ pairs_of rows.now }
@@ -187,7 +187,7 @@ fn pairs_in(rows: &[Vec<Pair>]) -> u64
     count
 }
 
-/// How many pairs the listed rows of each round have.
+/// Returns the number of pairs in the listed rows of each round.
 fn listed_counts(alloc: Global, rows: &[Vec<Vec<Pair>>]) -> Result<Vec<u64>, AllocError>
     requires { All (λ v. pairs_of v.items < 2 ^ 64) rows.now }
     ensures { IfOk result (λ n. n.items ≡ map (λ v. pairs_of v.items) rows.now) }
@@ -199,7 +199,7 @@ fn listed_counts(alloc: Global, rows: &[Vec<Vec<Pair>>]) -> Result<Vec<u64>, All
     Ok(counts)
 }
 
-/// How many pairs each round has. Those that are made are as many as deals.
+/// Returns the number of pairs of each round. Where pairs are made from deals, there are as many pairs as deals.
 fn pair_counts(
     alloc: Global,
     game: &ValidGame,
@@ -218,7 +218,7 @@ fn pair_counts(
     Ok(counts)
 }
 
-/// The pairs of each end's round, added up over all ends.
+/// Returns the number of cells: the pairs of each end's round, added up over all ends.
 pub(crate) fn cells(
     alloc: Global,
     game: &ValidGame,
@@ -238,7 +238,7 @@ pub(crate) fn cells(
     Ok(count)
 }
 
-/// The pairs of classes of each end's round that some deal has, added up over all ends.
+/// Returns the number of cells: over all ends, the pairs of classes of the end's round that meet in some deal, added up.
 pub fn cell_total(alloc: Global, signals: &Signals, classes: &Classes) -> Result<u64, AllocError>
     requires parents { classes.now.parents ≡ (frame_in signals.now.game.now).parents }
     requires lossless { IsLossless (frame_in signals.now.game.now) classes.now.lists }

@@ -1,4 +1,4 @@
-//! The slots of a player: one for each own point, class of its round, and move.
+//! The slots of a player: one for each own point, class of the point's round, and move.
 
 ghost use Rattle.std.specs.Prelude.{◌≡◌, ◌+◌, ◌<◌, ◌≤◌, ◌^◌, IfOk, OnOk, IfErr};
 ghost use Rattle.gs_model.specs.Frame.{point_count};
@@ -10,14 +10,14 @@ use gs_filter::Classes;
 use gs_game::ValidGame;
 use std::alloc::{AllocError, Global};
 
-/// How many points a game has.
+/// Returns the number of points of a game.
 pub(crate) fn point_total(game: &ValidGame) -> u32
     ensures { result ≡ point_count (frame_in game.now) }
 {
     game.points().len() as u32
 }
 
-/// How many slots a player has at a point: one for each class of its round and each move, none where the other player chooses.
+/// Returns the number of slots of a player at a point: one for each class of its round and each move, or 0 if the other player chooses there.
 pub(crate) fn slots_at(game: &ValidGame, classes: &Classes, player: u8, point: u32) -> u64
     requires parents { classes.now.parents ≡ (frame_in game.now).parents }
     requires in_range { point < point_count (frame_in game.now) }
@@ -33,7 +33,7 @@ pub(crate) fn slots_at(game: &ValidGame, classes: &Classes, player: u8, point: u
     }
 }
 
-/// How many slots a player has at the points from one on, up to another.
+/// Returns the number of slots of a player at the points from `from` up to but not including `to`.
 pub(crate) fn slots_between(
     game: &ValidGame,
     classes: &Classes,
@@ -54,7 +54,7 @@ pub(crate) fn slots_between(
     slots
 }
 
-/// How many slots a player has.
+/// Returns the number of slots of a player.
 pub(crate) fn slot_count(game: &ValidGame, classes: &Classes, player: u8) -> u64
     requires parents { classes.now.parents ≡ (frame_in game.now).parents }
     ensures value { result ≡ slots_in (frame_in game.now) classes.now.lists player }
@@ -64,7 +64,7 @@ pub(crate) fn slot_count(game: &ValidGame, classes: &Classes, player: u8) -> u64
     slots_between(game, classes, player, 0, point_total(game))
 }
 
-/// How many slots players 1 and 2 have, or the first player with more than `most` sequences.
+/// Returns the numbers of slots of players 1 and 2. Fails with the first player that has more than `most` sequences.
 pub(crate) fn few_slots(
     game: &ValidGame,
     classes: &Classes,
@@ -81,7 +81,7 @@ pub(crate) fn few_slots(
     Ok((one, two))
 }
 
-/// How many slots a player has, if the sequences are at most `most`.
+/// Returns the number of slots of a player. Fails if the player has more than `most` sequences.
 fn few_slots_of(game: &ValidGame, classes: &Classes, player: u8, most: u32) -> Result<u32, SeqStop>
     requires { classes.now.parents ≡ (frame_in game.now).parents }
     ensures value { IfOk result (λ n. n ≡ slots_in (frame_in game.now) classes.now.lists player) }
@@ -95,7 +95,7 @@ fn few_slots_of(game: &ValidGame, classes: &Classes, player: u8, most: u32) -> R
     Ok(count as u32 - 1)
 }
 
-/// For each point the slot of its first class and its first move.
+/// Returns for each point the slot of its first class and its first move.
 pub(crate) fn offsets_of(
     alloc: Global,
     game: &ValidGame,

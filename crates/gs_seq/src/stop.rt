@@ -5,14 +5,14 @@ ghost use Rattle.gs_seq.specs.declared.stop.SeqStop.TheVariants.{Memory};
 
 use std::alloc::AllocError;
 
-/// Why a game with its classes has no sequence form here.
+/// Why a game with its classes has no sequence form within the limits.
 #[derive(Clone, Copy, Debug, PartialEq, Eq)]
 pub enum SeqStop {
-    /// The first player with more sequences than may be, the empty one counted, and how many they are.
+    /// The first player with too many sequences, and the number of that player's sequences, with the empty one counted.
     TooManySequences { player: u8, count: u64 },
-    /// The pairs of classes that some deal has, added up over all ends, are more than may be: `count`.
+    /// There are too many cells: `count`.
     TooManyCells { count: u64 },
-    /// Memory ran out.
+    /// Out of memory.
     Memory,
 }
 
