@@ -6,7 +6,7 @@ use Rattle.gs_model.specs.Frame.{Frame, round_of}
 use Rattle.gs_model.specs.Plans.{Plan}
 use Rattle.gs_model.specs.Positions.{at_end}
 
--- what an end is worth to each class of its round, seen from its first member
+-- `row` has for each class of the end's round what the end is worth to the class's first member
 abbrev pub IsEndRow : Frame → ClassLists → ℕ → Plan → ℕ → List ℤ → Type 0
 IsEndRow f lists player y z row = (c : ℕ) → IsClass lists (round_of f (at_end z)) c
     → get_or row (c - 1) (pos 0) ≡ end_worth f player y z (first_member lists (round_of f (at_end z)) c)

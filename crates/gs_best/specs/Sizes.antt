@@ -1,4 +1,4 @@
--- How much room best answers take.
+-- The room that best answers need.
 use Rattle.std.specs.Prelude.{ℕ, ◌*◌, ◌<◌, ◌≤◌, ◌==◌, List, length, map, get_or, sum_by, count_by}
 use Rattle.std.specs.List.{range_with_len}
 use Rattle.gs_model.specs.Classes.{ClassLists, class_count}
@@ -16,11 +16,11 @@ points_in f round = count_by (λ q. round_of f (at_point q) == round) (range_wit
 abbrev pub sizes_of : Frame → ClassLists → List (ℕ × ℕ)
 sizes_of f lists = map (λ round. (points_in f round, class_count lists round)) (range_with_len 1 (last_round f))
 
--- a number for each class of any round
+-- no round has more than `wide` classes
 abbrev pub IsWide : Frame → ClassLists → ℕ → Type 0
 IsWide f lists wide = (round : ℕ) → 0 < round → round ≤ last_round f → class_count lists round ≤ wide
 
--- each of the rows to work on has a length that meets the test
+-- the length of each scratch row meets the test
 pub record AreOfLength (is_long : ℕ → Type 0) (s : Scratch) : Type 0 where
   pub numbers : is_long (length s.numbers.items)
   pub ends : is_long (length s.ends.items)
@@ -28,40 +28,40 @@ pub record AreOfLength (is_long : ℕ → Type 0) (s : Scratch) : Type 0 where
   pub best : is_long (length s.best.items)
   pub moves : is_long (length s.moves.items)
 
--- the rows to work on are long enough
+-- each scratch row has an entry for each class of any round
 abbrev pub HasRoom : Frame → ClassLists → Scratch → Type 0
 HasRoom f lists = AreOfLength (IsWide f lists)
 
--- there is room for this many points and this many values
+-- the table has room for `points` points and `entries` values
 pub record Holds (points entries : ℕ) (t : Table) : Type 0 where
   pub starts : points ≤ length t.starts.items
   pub values : entries ≤ length t.values.items
   pub picks : entries ≤ length t.picks.items
 
--- there is a value and a move for each point and class
+-- the table has room for each point's start, and for a value and a move at each point and class
 abbrev pub HoldsAll : Frame → ClassLists → Table → Type 0
 HoldsAll f lists = Holds (point_count f) (start_of f lists (point_count f))
 
--- and each point's values start where they should
+-- the table has room for all values, and it has the place where each point's values start
 pub record IsLaidOut (f : Frame) (lists : ClassLists) (t : Table) : Type 0 where
   pub holds : HoldsAll f lists t
   pub places : AreStarts f lists t.starts.items
 
 -- ---- room by sizes
 
--- for how many points and how many values there is room in rounds of these sizes
+-- how many points rounds of these sizes have
 abbrev pub point_room : List (ℕ × ℕ) → ℕ
 point_room sizes = sum_by (λ (n : ℕ × ℕ). n.0) sizes
 
--- for how many values there is room in rounds of these sizes
+-- how many values rounds of these sizes have: in each round one for each point and class
 abbrev pub value_room : List (ℕ × ℕ) → ℕ
 value_room sizes = sum_by (λ (n : ℕ × ℕ). n.0 * n.1) sizes
 
--- a number for each class of rounds of these sizes
+-- no round of these sizes has more than `wide` classes
 abbrev pub IsWideFor : List (ℕ × ℕ) → ℕ → Type 0
 IsWideFor sizes wide = (i : ℕ) (d : ℕ × ℕ) → i < length sizes → (get_or sizes i d).1 ≤ wide
 
--- lists and rows are long enough for rounds of these sizes
+-- the table and the scratch rows have room for rounds of these sizes
 pub record IsRoomy (sizes : List (ℕ × ℕ)) (t : Table) (s : Scratch) : Type 0 where
   pub table : Holds (point_room sizes) (value_room sizes) t
   pub rows : AreOfLength (IsWideFor sizes) s

@@ -13,29 +13,30 @@ use Rattle.gs_best.specs.Rows.{Worths}
 abbrev pub classes_at : Frame → ClassLists → ℕ → ℕ
 classes_at f lists q = class_count lists (round_of f (at_point q))
 
--- the place of a point's first class
+-- the place of a point's first class in the list
 abbrev pub start_of : Frame → ClassLists → ℕ → ℕ
 start_of f lists q = sum_by (classes_at f lists) (range_with_len 0 q)
 
--- the values of a list at points; at an end what it is worth to the class's first member
+-- the values at points, read from a list; at an end, what it is worth to the class's first member
 abbrev pub table_of : Frame → ClassLists → ℕ → Plan → List ℤ → Values
 table_of f lists player y values (at_point q) c = get_or values (start_of f lists q + (c - 1)) (pos 0)
 table_of f lists player y values (at_end z) c = end_worth f player y z (first_member lists (round_of f (at_end z)) c)
 
--- the moves of a list
+-- the moves at points, read from a list
 abbrev pub moves_of : Frame → ClassLists → List ℕ → ℕ → ℕ → ℕ
 moves_of f lists picks q c = slice_index picks (start_of f lists q + (c - 1))
 
--- for each point the place of its first class
+-- `starts` has for each point the place of its first class
 abbrev pub AreStarts : Frame → ClassLists → List ℕ → Type 0
 AreStarts f lists starts = (q : ℕ) → q < point_count f → slice_index starts q ≡ start_of f lists q
 
--- each class of a player's points has a move of its point
+-- at each class of a player's points `move` names a move of the point
 abbrev pub AreInMoves : Frame → ClassLists → ℕ → (ℕ → ℕ → ℕ) → Type 0
 AreInMoves f lists player move = (q c : ℕ) → q < point_count f → player_at f q ≡ player → IsClass lists (round_of f (at_point q)) c
     → move q c < move_count f q
 
--- at the points from one on each own class has what its move is worth, and the other's points add up
+-- at the points from `from` on, the value at a class is the worth of its move `move` if the player chooses there.
+-- At the other player's points it is the sum of the worths of all moves
 pub record IsFollowedBy (f : Frame) (lists : ClassLists) (player : ℕ) (v : Values) (worth : Worths) (move : ℕ → ℕ → ℕ) (from : ℕ) : Type 0 where
   pub in_range : (q c : ℕ) → from ≤ q → q < point_count f → player_at f q ≡ player → IsClass lists (round_of f (at_point q)) c → move q c < move_count f q
   pub reached : (q c : ℕ) → from ≤ q → q < point_count f → player_at f q ≡ player → IsClass lists (round_of f (at_point q)) c
@@ -43,14 +44,14 @@ pub record IsFollowedBy (f : Frame) (lists : ClassLists) (player : ℕ) (v : Val
   pub at_others : (q c : ℕ) → from ≤ q → q < point_count f → player_at f q ≢ player → IsClass lists (round_of f (at_point q)) c
       → v (at_point q) c ≡ sum_z (λ m. worth q m c) (choices_at f q)
 
--- and that move is the first of greatest worth
+-- at the player's points from `from` on, no move is worth more than the value, and every move before `move` is worth less
 pub record AreFirstBy (f : Frame) (lists : ClassLists) (player : ℕ) (v : Values) (worth : Worths) (move : ℕ → ℕ → ℕ) (from : ℕ) : Type 0 where
   pub none_more : (q m c : ℕ) → from ≤ q → q < point_count f → player_at f q ≡ player → m < move_count f q → IsClass lists (round_of f (at_point q)) c
       → worth q m c ≤ℤ v (at_point q) c
   pub none_before : (q m c : ℕ) → from ≤ q → q < point_count f → player_at f q ≡ player → IsClass lists (round_of f (at_point q)) c → m < move q c
       → worth q m c <ℤ v (at_point q) c
 
--- best values and first best moves at the points from one on
+-- best values and first best moves at the points from `from` on
 pub record IsBestFrom (f : Frame) (lists : ClassLists) (player : ℕ) (v : Values) (move : ℕ → ℕ → ℕ) (from : ℕ) : Type 0 where
   pub in_range : (q c : ℕ) → from ≤ q → q < point_count f → player_at f q ≡ player → IsClass lists (round_of f (at_point q)) c → move q c < move_count f q
   pub reached : (q c : ℕ) → from ≤ q → q < point_count f → player_at f q ≡ player → IsClass lists (round_of f (at_point q)) c

@@ -1,4 +1,4 @@
-//! Best answers.
+//! Best answers, in the literature best responses.
 
 ghost use Rattle.std.specs.Prelude.{◌-◌, ◌<◌, ◌≤◌, IfOk};
 ghost use Rattle.gs_model.specs.{BestAnswers.{IsFirstBestPlan}, Frame.{other_player}};
@@ -13,8 +13,8 @@ use crate::putting::put_all;
 use gs_seq::{Abstract, Plan};
 use std::alloc::{AllocError, Global};
 
-/// The first best answer of a player to the other's plan: total 1, and at each point and class all that comes there on the first move of greatest
-/// worth. In the literature: a best response.
+/// Returns a player's first best answer to the other's plan, in the literature a best response. Its total is 1.
+/// At each point and class the first move of greatest worth has all the weight that comes there.
 pub fn best(alloc: Global, form: &Abstract, player: u8, other: &Plan) -> Result<Plan, AllocError>
     requires some { 0 < player }
     requires two { player ≤ 2 }
@@ -38,8 +38,8 @@ pub fn best(alloc: Global, form: &Abstract, player: u8, other: &Plan) -> Result<
     put_all(alloc, &side, &table)
 }
 
-/// For each point of a player in order and each class of the point's round the first move of greatest worth against the other's plan, also where the
-/// player's own moves never come there.
+/// Returns the first move of greatest worth against the other's plan, for each own point in order and each class of the point's round.
+/// The list includes points and classes that the player's own moves never reach.
 pub fn choices(
     alloc: Global,
     form: &Abstract,

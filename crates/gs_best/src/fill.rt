@@ -1,4 +1,4 @@
-//! Best values at all points, by induction backwards.
+//! Best values at all points, by backward induction.
 
 ghost use Rattle.std.specs.Prelude.{◌+◌, ◌<◌, ◌≤◌, IfOk, length, pos};
 ghost use Rattle.gs_model.specs.Frame.{point_count};
@@ -12,7 +12,7 @@ use crate::room::{Scratch, Table, place_points};
 use crate::work::room_for;
 use std::alloc::{AllocError, Global};
 
-/// Copies the first values of a row into a list, from a place on.
+/// Copies the first `count` values of a row into a list, from the place `start` on.
 pub fn copy_values(row: &[i128], start: usize, count: usize, values: &mut [i128])
     requires row { count ≤ length row.now }
     requires room { start + count ≤ length values.old }
@@ -23,7 +23,7 @@ pub fn copy_values(row: &[i128], start: usize, count: usize, values: &mut [i128]
     }
 }
 
-/// Copies the first moves of a row into a list, from a place on.
+/// Copies the first `count` moves of a row into a list, from the place `start` on.
 pub fn copy_moves(row: &[u8], start: usize, count: usize, moves: &mut [u8])
     requires row { count ≤ length row.now }
     requires room { start + count ≤ length moves.old }
@@ -34,7 +34,7 @@ pub fn copy_moves(row: &[u8], start: usize, count: usize, moves: &mut [u8])
     }
 }
 
-/// The best values of a point, where those of all later points are known.
+/// Writes the best values of a point into the table. The best values of all later points must be known.
 fn fill_point(side: &Deviator<'_>, point: u32, table: &mut Table, scratch: &mut Scratch)
     requires point { point < point_count (frame_of side.now.form.now) }
     requires laid_out { IsLaidOut (frame_of side.now.form.now) (lists_of side.now.form.now) table.old }
@@ -57,7 +57,7 @@ fn fill_point(side: &Deviator<'_>, point: u32, table: &mut Table, scratch: &mut 
     copy_moves(&scratch.moves, start, count, &mut table.picks);
 }
 
-/// Best values of all points, the last point first.
+/// Writes the best values of all points into the table, the last point first.
 pub(crate) fn fill(side: &Deviator<'_>, table: &mut Table, scratch: &mut Scratch)
     requires holds { HoldsAll (frame_of side.now.form.now) (lists_of side.now.form.now) table.old }
     requires room { HasRoom (frame_of side.now.form.now) (lists_of side.now.form.now) scratch.old }
@@ -73,7 +73,7 @@ pub(crate) fn fill(side: &Deviator<'_>, table: &mut Table, scratch: &mut Scratch
     }
 }
 
-/// The table of a player's best values and first best moves against the other's plan.
+/// Returns the table of a player's best values and first best moves against the other's plan.
 pub(crate) fn filled(alloc: Global, side: &Deviator<'_>) -> Result<Table, AllocError>
     ensures { let f = frame_of side.now.form.now in let lists = lists_of side.now.form.now in
         IfOk result (IsFilled f lists side.now.player (lifted f lists side.now.other.now)) }

@@ -18,7 +18,7 @@ use gs_game::Target;
 use gs_lossless::Run;
 use gs_seq::{Abstract, Plan};
 
-/// The sum, over all signals of a round, of the value at each one's class.
+/// Returns the sum, over all signals of a round, of the values of their classes.
 fn round_sum(form: &Abstract, round: u8, values: &[i128], start: usize) -> i128
     requires some { 0 < round }
     requires top { round ≤ last_round (frame_of form.now) }
@@ -33,7 +33,8 @@ fn round_sum(form: &Abstract, round: u8, values: &[i128], start: usize) -> i128
     run_sum(form, round, all, values, start)
 }
 
-/// What a player's best raw plan of total 1 gains, where the player's best values are known: their sum at the start, over all raw signals of its round.
+/// Returns what a player's best raw plan of total 1 gains, from the table of the player's best values.
+/// It is the sum of the values at the start, over all raw signals of the start's round.
 fn start_total(side: &Deviator<'_>, table: &Table, scratch: &mut Scratch) -> i128
     requires filled { let f = frame_of side.now.form.now in let lists = lists_of side.now.form.now in
         IsFilled f lists side.now.player (lifted f lists side.now.other.now) table.now }
@@ -57,7 +58,7 @@ fn start_total(side: &Deviator<'_>, table: &Table, scratch: &mut Scratch) -> i12
     }
 }
 
-/// What a player's best raw plan of total 1 gains.
+/// Returns what a player's best raw plan of total 1 gains.
 fn best_total(side: &Deviator<'_>, table: &mut Table, scratch: &mut Scratch) -> i128
     requires holds { HoldsAll (frame_of side.now.form.now) (lists_of side.now.form.now) table.old }
     requires room { HasRoom (frame_of side.now.form.now) (lists_of side.now.form.now) scratch.old }
@@ -71,7 +72,7 @@ fn best_total(side: &Deviator<'_>, table: &mut Table, scratch: &mut Scratch) -> 
     start_total(side, table, scratch)
 }
 
-/// What two plans pay player 1, in chips times the weight of all deals and both totals.
+/// Returns what two plans pay player 1, in chips times the weight of all deals times both totals.
 fn plans_pay(form: &Abstract, one: &Plan, two: &Plan, scratch: &mut Scratch) -> i128
     requires one { IsPlanOf (frame_of form.now) (lists_of form.now) 1 one.now }
     requires two { IsPlanOf (frame_of form.now) (lists_of form.now) 2 two.now }
@@ -83,8 +84,9 @@ fn plans_pay(form: &Abstract, one: &Plan, two: &Plan, scratch: &mut Scratch) -> 
     form.payoff_in(one, two, &mut scratch.ends, &mut scratch.numbers)
 }
 
-/// The verdict on a plan of player 1 and one of player 2: what they pay player 1, and what each player could still gain by any raw plan, over the
-/// weight of all deals and both totals. It takes no memory. A gap is one side of exploitability; both together are called NashConv.
+/// Returns the verdict on a plan of player 1 and one of player 2: what they pay player 1, and what each player could still gain with any raw plan.
+/// The numbers are in chips: divided by the weight of all deals and by both totals. Allocates no memory.
+/// A gap is one side of exploitability; both gaps together are called NashConv.
 pub fn verdict(form: &Abstract, one: &Plan, two: &Plan, work: &mut Work) -> Verdict
     requires one { IsPlanOf (frame_of form.now) (lists_of form.now) 1 one.now }
     requires two { IsPlanOf (frame_of form.now) (lists_of form.now) 2 two.now }

@@ -1,4 +1,4 @@
-//! The best moves of a player, listed.
+//! The list of a player's best moves.
 
 ghost use Rattle.std.specs.Prelude.{◌≡◌, ◌+◌, ◌≤◌, ◌++◌, IfOk, drop, length, take};
 ghost use Rattle.gs_seq.specs.{Abstracts.{frame_of, lists_of}, Plans.{lifted}};
@@ -9,7 +9,7 @@ use crate::form::{chooser, class_total, point_total, round_at};
 use crate::room::Table;
 use std::alloc::{AllocError, Global};
 
-/// The next moves of a list, from a place on.
+/// Adds to `moves` the `count` picks from the place `start` on.
 fn push_row(moves: &mut Vec<u8>, picks: &[u8], start: usize, count: usize) -> Result<(), AllocError>
     requires { start + count ≤ length picks.now }
     ensures { IfOk result (λ _. moves.new.items ≡ moves.old.items ++ take count (drop start picks.now)) }
@@ -17,7 +17,7 @@ fn push_row(moves: &mut Vec<u8>, picks: &[u8], start: usize, count: usize) -> Re
     moves.extend_from_slice(&picks[start..start + count])
 }
 
-/// For each own point and class of its round the best move.
+/// Returns the first best move for each own point and class of its round.
 pub(crate) fn own_moves(
     alloc: Global,
     side: &Deviator<'_>,

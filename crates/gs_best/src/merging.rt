@@ -1,4 +1,4 @@
-//! The value of a point, from what its moves are worth.
+//! The values of a point, from the worths of its moves.
 
 ghost use Rattle.std.specs.Prelude.{◌≡◌, ◌==◌, ◌+◌, ◌<◌, ◌≤◌, ◌^◌, ◌+ℤ◌, ℕ, pos, length, get_or, slice_index, unsigned_abs, if◌then◌else◌};
 ghost use Rattle.gs_model.specs.{BestAnswers.{class_worth}, Frame.{point_count}};
@@ -12,14 +12,14 @@ use crate::room::{Scratch, Table};
 use crate::rows::read_worths;
 use gs_seq::plus;
 
-/// Whether a worth takes the place of the best so far: it is the first move's, or greater.
+/// Returns whether a worth replaces the best so far: it is the first move's, or greater.
 fn is_raised(choice: u8, best: i128, worth: i128) -> bool
     ensures { result ≡ raises choice best worth }
 {
     choice == 0 || best < worth
 }
 
-/// A sum with one more worth; the first move's worth begins it.
+/// Returns a sum plus one more worth. The first move's worth begins the sum.
 fn added(choice: u8, sum: i128, worth: i128) -> i128
     requires { 0 < choice → unsigned_abs (sum +ℤ worth) < 2 ^ 127 }
     ensures { result ≡ (if choice == 0 then worth else (sum +ℤ worth)) }
@@ -27,7 +27,7 @@ fn added(choice: u8, sum: i128, worth: i128) -> i128
     if choice == 0 { worth } else { plus(sum, worth) }
 }
 
-/// Raises each of the first bests to its worth, where this is the first move or the worth is greater.
+/// Replaces, for each of the first `count` classes, the best and its move by the worth and `choice`, if this is the first move or the worth is greater.
 pub fn raise(worths: &[i128], choice: u8, count: usize, best: &mut [i128], moves: &mut [u8])
     requires worths { count ≤ length worths.now }
     requires best { count ≤ length best.old }
@@ -44,7 +44,7 @@ pub fn raise(worths: &[i128], choice: u8, count: usize, best: &mut [i128], moves
     }
 }
 
-/// Adds to each of the first sums its worth; the first move's worth begins them.
+/// Adds, for each of the first `count` classes, the worth to the sum. The first move's worths begin the sums.
 pub fn add(worths: &[i128], choice: u8, count: usize, sums: &mut [i128])
     requires worths { count ≤ length worths.now }
     requires sums { count ≤ length sums.old }
@@ -57,7 +57,7 @@ pub fn add(worths: &[i128], choice: u8, count: usize, sums: &mut [i128])
     }
 }
 
-/// The values of a point, and where the player chooses the first best moves, for each class of the point's round.
+/// Writes into `scratch` the values of a point for each class of its round and, if the player chooses there, the first best moves.
 pub(crate) fn merge_moves(side: &Deviator<'_>, point: u32, table: &Table, scratch: &mut Scratch)
     requires point { point < point_count (frame_of side.now.form.now) }
     requires laid_out { IsLaidOut (frame_of side.now.form.now) (lists_of side.now.form.now) table.now }

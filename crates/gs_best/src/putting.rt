@@ -1,4 +1,4 @@
-//! The plan that puts all on given moves, and on the best ones.
+//! The plan that puts all weight on given moves, and the one that puts all weight on the best moves.
 
 ghost use Rattle.std.specs.Prelude.{◌≡◌, ◌+◌, ◌<◌, ◌≤◌, ℕ, IfOk, length};
 ghost use Rattle.gs_model.specs.{BestAnswers.{IsFirstBestPlan}, Classes.{IsClass}, Frame.{player_at, point_count, round_of}, Positions.{at_point}};
@@ -12,7 +12,7 @@ use crate::room::Table;
 use gs_seq::{Abstract, Plan};
 use std::alloc::{AllocError, Global};
 
-/// Puts all that comes to each class of an own point on its move.
+/// Gives the chosen move, at each class of an own point, all the weight that comes there.
 fn put_point(
     form: &Abstract,
     player: u8,
@@ -47,8 +47,8 @@ fn put_point(
     }
 }
 
-/// Writes, over weights that are all 0, those of the plan of total 1 that puts all on the moves of a player; where the moves of each point start is
-/// listed.
+/// Writes the weights of the plan with total 1 that puts all weight on given moves of a player. The weights must all be 0 before.
+/// `picks` has the moves by point and class, and `starts` has for each point the place of its first class.
 pub fn put_moves(form: &Abstract, player: u8, starts: &[u32], picks: &[u8], weights: &mut [u64])
     requires some { 0 < player }
     requires two { player ≤ 2 }
@@ -69,7 +69,7 @@ pub fn put_moves(form: &Abstract, player: u8, starts: &[u32], picks: &[u8], weig
     }
 }
 
-/// The weights of the plan of total 1 that puts all on the best moves.
+/// Returns the weights of the plan with total 1 that puts all weight on the best moves.
 fn best_weights(alloc: Global, side: &Deviator<'_>, table: &Table) -> Result<Vec<u64>, AllocError>
     requires filled { let f = frame_of side.now.form.now in let lists = lists_of side.now.form.now in
         IsFilled f lists side.now.player (lifted f lists side.now.other.now) table.now }
@@ -90,7 +90,7 @@ fn best_weights(alloc: Global, side: &Deviator<'_>, table: &Table) -> Result<Vec
     Ok(weights)
 }
 
-/// The plan of total 1 that puts all on the best moves.
+/// Returns the plan with total 1 that puts all weight on the best moves.
 pub(crate) fn put_all(alloc: Global, side: &Deviator<'_>, table: &Table) -> Result<Plan, AllocError>
     requires filled { let f = frame_of side.now.form.now in let lists = lists_of side.now.form.now in
         IsFilled f lists side.now.player (lifted f lists side.now.other.now) table.now }

@@ -1,4 +1,4 @@
-//! Room for the values of best answers.
+//! Tables and scratch rows for the values of best answers.
 
 ghost use Rattle.std.specs.Prelude.{◌≡◌, ◌≤◌, ℕ, length, slice_index};
 ghost use Rattle.gs_model.specs.Frame.{point_count};
@@ -8,7 +8,7 @@ ghost use Rattle.gs_best.specs.Tables.{AreStarts};
 use crate::form::{class_total, point_total, round_at};
 use gs_seq::Abstract;
 
-/// For each point and class of its round a value, and at a deviator's own points the first best move.
+/// A value for each point and class of its round, and at a deviator's own points the first best move.
 ///
 /// A point's values stand side by side, one for each class, from the point's start on.
 #[derive(Drop)]
@@ -18,7 +18,7 @@ pub(crate) struct Table {
     pub(crate) picks: Vec<u8>,
 }
 
-/// Rows of a number for each class, to work on.
+/// Scratch rows, with one entry for each class.
 #[derive(Drop)]
 pub(crate) struct Scratch {
     // the other player's numbers at an end
@@ -27,13 +27,13 @@ pub(crate) struct Scratch {
     pub(crate) ends: Vec<i128>,
     // what a move is worth
     pub(crate) worths: Vec<i128>,
-    // the value of a point by the moves so far
+    // the value of a point from the moves so far
     pub(crate) best: Vec<i128>,
-    // and the first best one of them
+    // the first best of the moves so far
     pub(crate) moves: Vec<u8>,
 }
 
-/// Writes where the values of each point start.
+/// Writes for each point the place where its values start.
 pub fn place_points(form: &Abstract, starts: &mut [u32])
     requires { point_count (frame_of form.now) ≤ length starts.old }
     ensures starts { AreStarts (frame_of form.now) (lists_of form.now) starts.new }

@@ -3,6 +3,6 @@ use Rattle.std.specs.Prelude.{ℕ, ◌<◌, List}
 use Rattle.std.specs.List.{All}
 use Rattle.gs_frac.specs.declared.value.Fraction.{Fraction}
 
--- each letter is a byte of ASCII, so that it is a text as it stands
+-- each letter is an ASCII byte
 abbrev pub HasLetters : List (ℕ × Fraction) → Type 0
 HasLetters pairs = All (λ (p : ℕ × Fraction). p.0 < 128) pairs

@@ -5,7 +5,7 @@ use Rattle.gs_model.specs.Frame.{Frame, choices_at, point}
 use Rattle.gs_model.specs.Plans.{Plan, IsShare}
 use Rattle.gs_model.specs.Positions.{Arrow}
 
--- a fraction is the share of a move
+-- the fraction `share` is the share of move `m` at a point and a raw signal
 pub record IsShareOf (f : Frame) (x : Plan) (q s m : ℕ) (share : Fraction) : Type 0 where
   pub above : ℕ
   pub below : ℕ
@@ -20,6 +20,6 @@ pub record IsMixture (f : Frame) (x : Plan) (q s : ℕ) (pairs : List (ℕ × Fr
 
 -- ---- of private functions
 
--- the numbers of all moves at a point and a signal, added up
+-- the sum of the numbers of all moves at a point and a signal
 abbrev pub total_number : Frame → Plan → ℕ → ℕ → ℕ
 total_number f x q s = sum_by (λ c. x.number q s c) (choices_at f q)

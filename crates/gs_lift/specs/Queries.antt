@@ -29,12 +29,12 @@ pub record NamesOwnPoint (g : ValidGame) (player : ℕ) (line : List ℕ) (q : �
   pub named : NamesPoint g line q
   pub own : player_at (frame_in g) q ≡ player
 
--- a text is that of a raw signal of a round
+-- a text is the text of raw signal `i` of a round
 pub record NamesSignal (s : Signals) (round : ℕ) (text : List ℕ) (i : ℕ) : Type 0 where
   pub in_range : i < signal_count (frame_in s.game.now) round
   pub named : text ≡ signal_text (deck_of s) (signal_at (rules_of s) round i)
 
--- a text is that of a raw signal of some round
+-- a text is the text of a raw signal of some round
 abbrev pub NamesSomeSignal : Signals → List ℕ → Type 0
 NamesSomeSignal s text = (round : ℕ) × (0 < round) × (round ≤ last_round (frame_in s.game.now)) × (i : ℕ) × NamesSignal s round text i
 
@@ -43,8 +43,8 @@ pub record IsSpot (s : Signals) (player : ℕ) (line text : List ℕ) (spot : Sp
   pub point : NamesOwnPoint s.game.now player line spot.point
   pub signal : NamesSignal s (round_of (frame_in s.game.now) (at_point spot.point)) text spot.signal
 
--- the first rule that a line and a text break: the line is that of no point; the point is not the player's; the text is that of no raw signal; it
--- is that of a raw signal, and of none of the point's round
+-- the first rule that a line and a text break: no point has the line; the point is not the player's; no raw signal has the text;
+-- a raw signal has the text, but none of the point's round does
 abbrev pub IsFaultOf : Signals → ℕ → List ℕ → List ℕ → QueryFault → Type 0
 IsFaultOf s player line text Line = (q : ℕ) → NamesPoint s.game.now line q → ⊥
 IsFaultOf s player line text Player = (q : ℕ) × NamesPoint s.game.now line q × (player_at (frame_in s.game.now) q ≢ player)
@@ -55,7 +55,7 @@ IsFaultOf s player line text Round =
 
 -- ---- of private functions
 
--- why a line is not that of a point of a player
+-- why a line names no point of a player
 abbrev pub IsPointFault : ValidGame → ℕ → List ℕ → QueryFault → Type 0
 IsPointFault g player line Line = (q : ℕ) → NamesPoint g line q → ⊥
 IsPointFault g player line Player = (q : ℕ) × NamesPoint g line q × (player_at (frame_in g) q ≢ player)

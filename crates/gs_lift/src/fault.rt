@@ -1,20 +1,20 @@
-//! Why two texts name no spot of a player.
+//! Why a line and a signal's text name no spot of a player.
 
 use thiserror::Error;
 
 /// The first rule that a line and a signal's text break.
 #[derive(Clone, Copy, Debug, PartialEq, Eq, Error)]
 pub enum QueryFault {
-    /// The line is that of no point.
+    /// No point has this line.
     #[error("line")]
     Line,
     /// The point is the other player's.
     #[error("player")]
     Player,
-    /// The text is that of no raw signal, of whatever round.
+    /// No raw signal of any round has this text.
     #[error("signal")]
     Signal,
-    /// The text is that of a raw signal, and of none of the point's round.
+    /// A raw signal has this text, but none of the point's round does.
     #[error("round")]
     Round,
 }

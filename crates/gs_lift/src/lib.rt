@@ -1,4 +1,4 @@
-//! Raw hands: the spot that a line and a raw signal name, and what a plan over classes, a realization plan in whole numbers, does there.
+//! Raw hands: the spot that a line and a raw signal name, and the mixture of a plan over classes there. Plans are realization plans in whole numbers.
 #![tactic(auto)]
 
 mod fault;

@@ -1,4 +1,4 @@
-//! Mixtures.
+//! Mixtures: behaviour strategies at one information set.
 
 ghost use Rattle.std.specs.Prelude.{◌≡◌, ◌<◌, ◌≤◌, length, vec_capacity};
 ghost use Rattle.gs_model.specs.{Frame.{player_at, point_count, round_of, signal_count}, Positions.{at_point}};
@@ -12,10 +12,10 @@ use gs_seq::{Abstract, Plan};
 use std::alloc::{AllocError, Global};
 use std::marker::Model;
 
-/// The most moves that a point has: one for each letter.
+/// The most moves that a point can have: one for each letter.
 const MOST_MOVES: usize = 26;
 
-/// Moves by their letters, each with its share: a behaviour strategy at one information set. It has room for as many moves as a point may have.
+/// Moves by their letters, each with its share: a behaviour strategy at one information set. A mixture has room for 26 moves, the most of any point.
 #[derive(Debug, Drop)]
 pub struct Mixture {
     pairs: Vec<(u8, Fraction)>,
@@ -37,7 +37,7 @@ impl Mixture {
     ghost use Rattle.gs_lift.specs.Letters.{HasLetters};
     ghost use Rattle.std.specs.Prelude.{◌≡◌, ◌<◌, [], ◌∷◌, ◌++◌, length, IfOk};
 
-    /// A mixture of no moves, with room for 26.
+    /// Returns a mixture without moves, with room for 26.
     pub fn new(alloc: Global) -> Result<Mixture, AllocError>
         ensures { IfOk result (λ m. m ≡ []) }
     {
@@ -46,7 +46,7 @@ impl Mixture {
         })
     }
 
-    /// The moves in order.
+    /// Returns the moves in order, each with its share.
     pub fn pairs(&self) -> &[(u8, Fraction)]
         ensures value { result.now ≡ self.now }
         ensures letters { HasLetters self.now }
@@ -54,14 +54,14 @@ impl Mixture {
         &self.pairs
     }
 
-    /// Takes all moves away.
+    /// Removes all moves.
     fn clear(&mut self)
         ensures { self.new ≡ [] }
     {
         self.pairs.clear();
     }
 
-    /// One move more, for which there is room.
+    /// Adds a move. There must be room for it.
     fn push(&mut self, letter: u8, share: Fraction)
         requires room { length self.old < 26 }
         requires letter { letter < 128 }
@@ -74,8 +74,9 @@ impl Mixture {
     }
 }
 
-/// Sets `out` to the mixture of a plan at a spot of its player: for each move of the point, in order, the weight of the signal's class over the
-/// weights of all moves there, or the first move alone where all weigh 0.
+/// Sets `out` to the mixture of a plan at a spot of its player: the moves of the point in order, each with its share.
+/// The share is the move's weight at the signal's class over the sum of the weights of all moves there.
+/// If all these weights are 0, the first move has share 1 and the others 0.
 pub fn mix(a: &Abstract, plan: &Plan, spot: Spot, out: &mut Mixture)
     requires plan { IsPlanOf (frame_of a.now) (lists_of a.now) plan.now.player plan.now }
     requires point { spot.point < point_count (frame_of a.now) }

@@ -1,4 +1,4 @@
-//! The spot that two texts name.
+//! The spot that a line and a signal's text name.
 
 ghost use Rattle.std.specs.Prelude.{◌<◌, ◌≤◌, ◌↔◌, ℕ, IsTrue, MatchOption, MatchResult};
 ghost use Rattle.gs_lift.specs.Queries.{IsFaultOf, IsPointFault, IsSpot, NamesOwnPoint, NamesPoint, NamesSomeSignal, signals_of};
@@ -9,8 +9,8 @@ use gs_game::{Target, ValidGame};
 use gs_seq::Abstract;
 use gs_tree::Signals;
 
-/// The spot of a player that the line of a point and the text of a raw signal name, or the first rule that the texts break, in the order of
-/// `QueryFault`.
+/// Returns the spot of a player that the line of a point and the text of a raw signal name.
+/// Errors: the first rule that the texts break, in the order of `QueryFault`.
 pub fn locate(a: &Abstract, player: u8, line: &str, signal: &str) -> Result<Spot, QueryFault>
     requires some { 0 < player }
     requires two { player ≤ 2 }
@@ -30,7 +30,7 @@ pub fn locate(a: &Abstract, player: u8, line: &str, signal: &str) -> Result<Spot
     }
 }
 
-/// The point of a player that a line names.
+/// Returns the point of a player that a line names. Errors: `Line` if no point has the line, `Player` if the point is the other player's.
 fn own_point(game: &ValidGame, player: u8, line: &str) -> Result<u32, QueryFault>
     ensures { MatchResult result (NamesOwnPoint game.now player line.now) (IsPointFault game.now player line.now) }
 {
@@ -44,7 +44,7 @@ fn own_point(game: &ValidGame, player: u8, line: &str) -> Result<u32, QueryFault
     }
 }
 
-/// The point that a line names.
+/// Returns the point that a line names.
 fn point_named(game: &ValidGame, line: &str) -> Option<u32>
     ensures { MatchOption result ((q : ℕ) → NamesPoint game.now line.now q → ⊥) (NamesPoint game.now line.now) }
 {
@@ -54,7 +54,7 @@ fn point_named(game: &ValidGame, line: &str) -> Option<u32>
     }
 }
 
-/// Whether a text is that of a raw signal of some round.
+/// Returns whether a text is the text of a raw signal of some round.
 fn is_signal(signals: &Signals, text: &str) -> bool
     ensures { IsTrue result ↔ NamesSomeSignal signals.now text.now }
 {

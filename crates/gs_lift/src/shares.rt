@@ -1,4 +1,4 @@
-//! What a plan over classes says at a raw signal: the weights of its moves, and their shares.
+//! The weights and the shares of moves at a raw signal, by a plan over classes.
 
 ghost use Rattle.std.specs.Prelude.{◌≡◌, ◌<◌, ◌^◌};
 ghost use Rattle.gs_model.specs.{Classes.{IsClass, class_of}, Frame.{move_count, player_at, point_count, round_of, signal_count}};
@@ -10,7 +10,7 @@ use crate::spot::Spot;
 use gs_frac::Fraction;
 use gs_seq::{Abstract, Plan};
 
-/// The class, in a point's round, of a raw signal.
+/// Returns the class of a raw signal of a point's round.
 fn class_at(a: &Abstract, point: u32, signal: u32) -> u32
     requires point { point < point_count (frame_of a.now) }
     requires signal { signal < signal_count (frame_of a.now) (round_of (frame_of a.now) (at_point point)) }
@@ -25,7 +25,7 @@ fn class_at(a: &Abstract, point: u32, signal: u32) -> u32
     classes.class_of(round, signal)
 }
 
-/// The weight of a move at a raw signal, in the raw plan that a plan over classes stands for: that of the signal's class.
+/// Returns the weight of a move at a raw signal, in the raw plan that a plan over classes stands for: the weight at the signal's class.
 pub fn weight(a: &Abstract, plan: &Plan, point: u32, signal: u32, choice: u8) -> u64
     requires plan { IsPlanOf (frame_of a.now) (lists_of a.now) plan.now.player plan.now }
     requires point { point < point_count (frame_of a.now) }
@@ -38,7 +38,7 @@ pub fn weight(a: &Abstract, plan: &Plan, point: u32, signal: u32, choice: u8) ->
     plan.weights[a.slot(point, class, choice) as usize]
 }
 
-/// The weights of all moves at a spot, added up.
+/// Returns the sum of the weights of all moves at a spot.
 pub(crate) fn total_weight(a: &Abstract, plan: &Plan, spot: Spot) -> u128
     requires plan { IsPlanOf (frame_of a.now) (lists_of a.now) plan.now.player plan.now }
     requires point { spot.point < point_count (frame_of a.now) }
@@ -57,7 +57,8 @@ pub(crate) fn total_weight(a: &Abstract, plan: &Plan, spot: Spot) -> u128
     total
 }
 
-/// The share that a move has in the weights of all moves at a spot, which add up to `total`.
+/// Returns the share of a move at a spot: its weight over `total`, the sum of the weights of all moves there.
+/// If the sum is 0, the first move has share 1 and the others 0.
 pub(crate) fn share(a: &Abstract, plan: &Plan, spot: Spot, choice: u8, total: u128) -> Fraction
     requires plan { IsPlanOf (frame_of a.now) (lists_of a.now) plan.now.player plan.now }
     requires point { spot.point < point_count (frame_of a.now) }

@@ -1,6 +1,6 @@
-//! Spots.
+//! Spots: information sets of the raw game.
 
-/// A point, and a raw signal of its round: what the player who chooses there knows.
+/// A point and a raw signal of its round: all that the player who chooses there knows, an information set of the raw game.
 #[derive(Clone, Copy, Debug, PartialEq, Eq, Hash)]
 pub struct Spot {
     pub point: u32,
