@@ -20,7 +20,7 @@ pub record AreAlike (g : Game) (keys : List ℕ) (one two : ℕ) : Type 0 where
   pub path : path_weight g.copies (signal_at g (round_count g) one) ≡ path_weight g.copies (signal_at g (round_count g) two)
   pub deals : IsPermutation (seen g keys one) (seen g keys two)
 
--- `firsts` gives each last-round signal a stand-in: a signal alike to it, at the same or an earlier place
+-- `firsts` gives each last-round signal a stand-in at the same or an earlier place; the two signals are alike
 pub record AreStandIns (g : Game) (keys firsts : List ℕ) : Type 0 where
   pub long : length firsts ≡ last_count g
   pub before : (i : ℕ) → i < last_count g → slice_index firsts i ≤ i

@@ -58,7 +58,8 @@ PaysOnce g = (i : ℕ) → i < last_count g → slice_index g.bonus (category g.
 abbrev pub HaveSame : List ℕ → List ℕ → Type 0
 HaveSame xs ys = (v : ℕ) → count_by (λ x. nat_eq x v) xs ≡ count_by (λ x. nat_eq x v) ys
 
--- all last-round signals of a plain game with the same public cards as any one of them, with their levels; by rank only if each bonus is 1
+-- a board of a plain game: all last-round signals with the same public cards as any one of them, with their levels.
+-- Levels are by rank only if each bonus is 1
 pub record IsBoard (g : Game) (by_rank : Bool) (board : Board) : Type 0 where
   pub plain : IsPlain g
   pub once : by_rank ≡ true → PaysOnce g

@@ -13,7 +13,7 @@ use std::alloc::{AllocError, Global};
 use std::collections::HashMap;
 
 /// The signals of a game and the boards of its last round.
-/// The list of boards is empty if some kind of card has more than one copy, or if the players are not dealt exactly one private card.
+/// The list of boards is empty if some kind of card has several copies, or if players are not dealt exactly one private card.
 #[derive(Drop)]
 pub struct Boards<'a> {
     signals: &'a Signals<'a>,
@@ -47,7 +47,7 @@ impl<'a> Boards<'a> {
         })
     }
 
-    // Returns for each last-round signal a signal alike to it, on the first board with the same hands, or no mark.
+    // Returns for each last-round signal a mark: a signal with the same hand on the first board with the same hands, or no mark.
     fn marks(&self, alloc: Global, keys: &[u32]) -> Result<Vec<u32>, AllocError>
         requires { length keys.now ≡ last_count (rules_of self.now.signals.now) }
         ensures { IfOk result (λ v. AreMarks (rules_of self.now.signals.now) keys.now v.items) }
@@ -71,7 +71,7 @@ impl<'a> Boards<'a> {
     }
 
     /// Returns for each last-round signal a stand-in, at the same or an earlier place. `keys` has a key for each last-round signal.
-    /// A signal and its stand-in have the same key, the same number of ways to them, and the same deals by the opponent's key, outcome and weight.
+    /// A signal and its stand-in have the same key and the same number of ways to them. Their deals agree in the opponent's key, outcome and weight.
     pub fn stand_ins(&self, alloc: Global, keys: &[u32]) -> Result<Vec<u32>, AllocError>
         requires { length keys.now ≡ last_count (rules_of self.now.signals.now) }
         ensures { IfOk result (λ v. AreStandIns (rules_of self.now.signals.now) keys.now v.items) }

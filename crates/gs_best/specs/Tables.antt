@@ -35,8 +35,8 @@ abbrev pub AreInMoves : Frame → ClassLists → ℕ → (ℕ → ℕ → ℕ) �
 AreInMoves f lists player move = (q c : ℕ) → q < point_count f → player_at f q ≡ player → IsClass lists (round_of f (at_point q)) c
     → move q c < move_count f q
 
--- at the points from `from` on, the value at a class is the worth of its move `move` if the player chooses there.
--- At the other player's points it is the sum of the worths of all moves
+-- at the player's points from `from` on, `move` names a move of the point for each class, and the value is that move's worth.
+-- At the other player's points from `from` on, the value is the sum of the worths of all moves
 pub record IsFollowedBy (f : Frame) (lists : ClassLists) (player : ℕ) (v : Values) (worth : Worths) (move : ℕ → ℕ → ℕ) (from : ℕ) : Type 0 where
   pub in_range : (q c : ℕ) → from ≤ q → q < point_count f → player_at f q ≡ player → IsClass lists (round_of f (at_point q)) c → move q c < move_count f q
   pub reached : (q c : ℕ) → from ≤ q → q < point_count f → player_at f q ≡ player → IsClass lists (round_of f (at_point q)) c

@@ -27,7 +27,8 @@ fn added(choice: u8, sum: i128, worth: i128) -> i128
     if choice == 0 { worth } else { plus(sum, worth) }
 }
 
-/// Replaces, for each of the first `count` classes, the best and its move by the worth and `choice`, if this is the first move or the worth is greater.
+/// For each of the first `count` classes, replaces the best and its move by the worth and `choice` if the worth is greater.
+/// The first move's worths always replace the best.
 pub fn raise(worths: &[i128], choice: u8, count: usize, best: &mut [i128], moves: &mut [u8])
     requires worths { count ≤ length worths.now }
     requires best { count ≤ length best.old }

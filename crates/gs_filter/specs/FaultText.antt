@@ -1,4 +1,4 @@
--- What a fault prints.
+-- The texts of faults.
 use Rattle.std.specs.Prelude.{ℕ, List, ◌++◌, codes}
 use Rattle.std.specs.Fmt.{decimal}
 use Rattle.gs_filter.specs.declared.fault.ClassFault.{ClassFault}

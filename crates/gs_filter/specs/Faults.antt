@@ -9,7 +9,7 @@ use Rattle.gs_filter.specs.declared.fault.ClassFault.TheVariants.{Length, NotFir
 
 -- ---- lengths
 
--- both sides have a list for the round, and the two lists have the same length
+-- `parents` and `lists` both have the round, and their lists for it have the same length
 pub record AgreeIn (parents : List (List ℕ)) (lists : ClassLists) (round : ℕ) : Type 0 where
   pub with_parents : round ≤ length parents
   pub with_classes : round ≤ length lists
@@ -20,7 +20,7 @@ pub record Agree (parents : List (List ℕ)) (lists : ClassLists) : Type 0 where
   pub rounds : length lists ≡ length parents
   pub lengths : (round : ℕ) → 0 < round → round ≤ length parents → length (list_of lists round) ≡ length (list_of parents round)
 
--- the first round in which the two sides do not agree; at least one side has it
+-- the first round in which `parents` and `lists` do not agree; at least one of them has it
 pub record IsFirstLength (parents : List (List ℕ)) (lists : ClassLists) (round : ℕ) : Type 0 where
   pub some : 0 < round
   pub with_one : (round ≤ length parents) ⊎ (round ≤ length lists)
@@ -58,7 +58,7 @@ StaysTogether parents above list s = class_above parents above (first_beside lis
 abbrev pub AreTogether : List ℕ → List ℕ → List ℕ → Type 0
 AreTogether parents above list = (s : ℕ) → s < length list → StaysTogether parents above list s
 
--- `b` is the first signal that does not stay together, and `a` is the first member of the class of `b`: their parents are in different classes
+-- `b` is the first signal whose parent is in a different class than the parent of `a`, the first member of the class of `b`
 pub record AreFirstApartIn (parents above list : List ℕ) (a b : ℕ) : Type 0 where
   pub within : b < length list
   pub first : a ≡ first_beside list b
@@ -70,7 +70,7 @@ abbrev pub AllTogether : List (List ℕ) → ClassLists → Type 0
 AllTogether parents lists = (round : ℕ) → 1 < round → round ≤ length lists
     → AreTogether (list_of parents round) (list_of lists (round - 1)) (list_of lists round)
 
--- the first such `a` and `b`, in the first round that has any
+-- `a` and `b` as in `AreFirstApartIn`, in the first round that has such signals
 pub record AreFirstApart (parents : List (List ℕ)) (lists : ClassLists) (round a b : ℕ) : Type 0 where
   pub some : 1 < round
   pub top : round ≤ length lists

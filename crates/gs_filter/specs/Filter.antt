@@ -1,4 +1,4 @@
--- An information filter, with the parents that it stands on. Source: information filters (Gilpin and Sandholm 2007).
+-- An information filter: classes of signals, with the signals' parents. Source: information filters (Gilpin and Sandholm 2007).
 use Rattle.std.specs.Prelude.{ℕ, ◌-◌, ◌^◌, ◌<◌, ◌≤◌, ◌≡◌, List, length, get_or, map}
 use Rattle.std.specs.List.{range_with_len}
 use Rattle.gs_model.specs.Classes.{ClassLists, list_of, class_of, IsClasses}

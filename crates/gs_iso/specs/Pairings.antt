@@ -21,7 +21,7 @@ IsPairingFor g [] s t to = IsPairingOf (λ (a : ℕ × ℤ) (b : ℕ × ℤ). a 
 IsPairingFor g (r ∷ rs) s t to = IsPairingOf (λ (a : ℕ × Signal) (b : ℕ × Signal). (a.0 ≡ b.0)
     × IsomorphicFor g rs a.1 b.1) (children g r s) (children g r t) to
 
--- the answer to a search for such a pairing: `None` if the two signals are not isomorphic; otherwise they are, and it is a pairing
+-- the answer to a search for such a pairing: with `None` the two signals are not isomorphic; otherwise they are, and `to` is a pairing
 abbrev pub IsPairedFor : Game → List Round → Signal → Signal → Option (List ℕ) → Type 0
 IsPairedFor g rest s t None = IsomorphicFor g rest s t → ⊥
 IsPairedFor g rest s t (Some to) = IsomorphicFor g rest s t × IsPairingFor g rest s t to

@@ -29,8 +29,8 @@ fn are_alone(classes: &Classes, round: u8) -> bool
 }
 
 /// Returns the first signal before `end` that differs on one side from the first member of its class.
-/// Keeps the sums of the first member of each class with more than one member. Makes no sums if each class of the round has one member,
-/// and none of a signal that has an earlier stand-in once stand-ins are listed.
+/// Keeps the sums of the first member of each class with more than one member. Makes no sums if each class of the round has one member.
+/// Once stand-ins are listed, makes no sums of a signal with an earlier stand-in.
 pub(crate) fn first_apart(
     alloc: Global,
     grouped: &Grouped<'_>,

@@ -10,8 +10,8 @@ use gs_alike::stand_ins;
 use gs_tree::Signals;
 use std::alloc::{AllocError, Global};
 
-/// How many signals are compared before stand-ins are listed.
-/// If a signal differs from the first member of its class early in the last round, listing them would take longer than what they save.
+/// The number of signals that are compared before stand-ins are listed.
+/// If a signal early in the last round differs from the first member of its class, listing stand-ins would take more time than it saves.
 const SOON: u32 = 4096;
 
 /// Returns the stand-ins to use from a signal on. At one signal of the last round, lists for each signal of the round a stand-in that sees the same deals.

@@ -59,7 +59,7 @@ pub record Extends (visits : List Visit) (reached : List Bool) (more : List Visi
 abbrev pub AreExplored : List (List ℕ) → List Visit → List Bool → ℕ → Type 0
 AreExplored adjacent visits reached n = (k b : ℕ) → k < n → Near adjacent (visit visits k).left b → is_reached reached b ≡ true
 
--- a free neighbour of the visit's left node; or none is given, and all neighbours of that left node are reached
+-- `Some b` is a free neighbour of the visit's left node; with `None`, all neighbours of that left node are reached
 abbrev pub IsRowEnd : List (List ℕ) → List (Option ℕ) → List Visit → List Bool → ℕ → Option ℕ → Type 0
 IsRowEnd adjacent holders visits reached place None = (b : ℕ) → Near adjacent (visit visits place).left b → is_reached reached b ≡ true
 IsRowEnd adjacent holders visits reached place (Some b) = (holder holders b ≡ None) × (b < length holders) × Near adjacent (visit visits place).left b

@@ -7,7 +7,7 @@ ghost use Rattle.gs_match.specs.{Adjacency.{AreRowsIn}, Search.{IsMatching, HasC
 use crate::search::{Found, Visit, search};
 use std::alloc::{AllocError, Global};
 
-/// Adds the left node `root` to a matching of the left nodes below it, and moves the left nodes on the augmenting path to other right nodes.
+/// Adds the left node `root` to a matching of the left nodes below it. Moves the left nodes on the augmenting path to other right nodes.
 /// Returns `None` on success. If no augmenting path exists, returns the visits of the search and changes nothing.
 pub(crate) fn augment(
     alloc: Global,

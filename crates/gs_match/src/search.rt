@@ -6,7 +6,7 @@ ghost use Rattle.gs_match.specs.{Adjacency.{AreRowsIn}, Search.{visit, IsMatchin
 
 use std::alloc::{AllocError, Global};
 
-/// A left node of the search, the right node it is matched with, and the place of the visit whose left node has an edge to that right node.
+/// A left node of the search, and the right node it is matched with. `from` is the place of a visit whose left node has an edge to that right node.
 /// The first visit has no right node; its `right` and `from` are 0.
 #[derive(Clone, Copy, Debug)]
 pub(crate) struct Visit {

@@ -1,4 +1,4 @@
--- The pairs of classes from the other player's side.
+-- The pairs of classes, seen from the other player's side.
 use Rattle.std.specs.Prelude.{ℕ, ◌≡◌, neg_ℤ}
 use Rattle.gs_model.specs.Classes.{ClassLists}
 use Rattle.gs_model.specs.Frame.{frame_of}

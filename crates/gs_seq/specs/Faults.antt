@@ -8,7 +8,8 @@ use Rattle.gs_seq.specs.Slots.{slot_count, plan_of}
 use Rattle.gs_seq.specs.declared.fault.PlanFault.{PlanFault}
 use Rattle.gs_seq.specs.declared.fault.PlanFault.TheVariants.{Length, Total, Flow}
 
--- at a point and a class the numbers of the choices add up to the number of the player's last step before it, or to the total if there is no such step
+-- at a point and a class the numbers of the choices add up to the number of the player's last step before the point.
+-- If there is no such step, they add up to the total
 abbrev pub FlowsAt : Frame → ClassLists → ℕ → Plan → ℕ → ℕ → Type 0
 FlowsAt f lists player x q c =
     let round = round_of f (at_point q) in

@@ -46,7 +46,7 @@ pair_pays player z p = pays z.kind
 abbrev pub AreFew : ℕ → List ℕ → Type 0
 AreFew n numbers = (k : ℕ) → k < n → slice_index numbers k ≤ 2 ^ 36
 
--- what an end pays a player at the player's class `c`, from a list of the other player's numbers at the end, one for each class
+-- what an end pays a player at the player's class `c`, from a list of the other player's numbers there, one for each class
 abbrev pub number_sum : Frame → ClassLists → ℕ → List ℕ → ℕ → ℕ → ℤ
 number_sum f lists player numbers z c =
     let round = round_of f (at_end z) in

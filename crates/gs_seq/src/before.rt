@@ -39,7 +39,7 @@ fn ways_on(at: &StoppedRound<'_>) -> u64
     at.signals.game().weight() / at.stopped.game().weight()
 }
 
-/// Returns the row of a class of a round before the last, from the deals of its first member in the game that stops after the round.
+/// Returns the row of a class of a round before the last. Reads the deals of the first member in the game that stops after the round.
 fn row_by(
     alloc: Global,
     at: &StoppedRound<'_>,

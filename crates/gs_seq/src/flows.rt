@@ -1,5 +1,5 @@
 //! The check whether weights form a plan: at each point and class the weights of the moves add up to the weight that comes there.
-//! That weight is the one of the player's last step before the point, at the class above, or the total if there is no such step.
+//! That weight is the weight of the player's last step before the point, at the class above. If there is no such step, it is the total.
 
 ghost use Rattle.std.specs.Prelude.{ℕ, ◌≡◌, ◌+◌, ◌*◌, ◌<◌, ◌≤◌, ◌^◌, MatchOption, drop, length, sum, take};
 ghost use Rattle.gs_model.specs.Classes.{IsClass, first_member};

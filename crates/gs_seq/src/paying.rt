@@ -63,7 +63,7 @@ impl<'a> Abstract<'a> {
         self.classes().classes(self.end_in(end).round)
     }
 
-    /// Writes into `sums`, from the place `start` on, what an end pays a player at each own class against a plan of the other player, as `end_sum`.
+    /// Writes `end_sum` at each own class into `sums`, from the place `start` on: what an end pays a player against a plan of the other player.
     /// Leaves the rest of `sums` as it is. Overwrites `numbers` with the other player's numbers at the end.
     pub fn end_sums(
         &self,

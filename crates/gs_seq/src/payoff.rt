@@ -45,7 +45,7 @@ impl<'a> Abstract<'a> {
     ghost use Rattle.gs_seq.specs.{Rows.{IsRow}, Sources.{MatchSource}};
 
     /// Returns what an end pays a player at the player's class against a plan of the other player.
-    /// It is the sum, over the other's classes, of the plan's number at the end times what the end pays in the deals of both classes.
+    /// This is the sum, over the other's classes, of the plan's number times what the end pays in the deals of both classes.
     pub fn end_sum(&self, player: u8, other: &Plan, end: u32, class: u32) -> i128
         requires some { 0 < player }
         requires two { player ≤ 2 }
@@ -88,7 +88,7 @@ impl<'a> Abstract<'a> {
         sum
     }
 
-    /// Returns what a plan of player 1 and a plan of player 2 pay player 1, in chips times the weight of all deals times both totals.
+    /// Returns what the plans `x` of player 1 and `y` of player 2 pay player 1. The unit is chips times the weight of all deals times both totals.
     ///
     /// Allocates no memory.
     pub fn payoff(&self, x: &Plan, y: &Plan) -> i128
@@ -124,8 +124,8 @@ impl<'a> Abstract<'a> {
         sum
     }
 
-    /// Returns the same as `payoff`, but reads what an end pays for all classes at once.
-    /// `sums` and `numbers` are room for that: each has at least one entry for each class of any end's round.
+    /// Returns what the plans `x` of player 1 and `y` of player 2 pay player 1, in the unit of `payoff`. Reads what an end pays for all classes at once.
+    /// `sums` and `numbers` are scratch room for that: each has at least one entry for each class of any end's round.
     pub fn payoff_in(&self, x: &Plan, y: &Plan, sums: &mut [i128], numbers: &mut [u64]) -> i128
         requires x { IsPlanOf (frame_of self.now) (lists_of self.now) 1 x.now }
         requires y { IsPlanOf (frame_of self.now) (lists_of self.now) 2 y.now }

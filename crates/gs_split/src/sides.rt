@@ -78,8 +78,8 @@ fn side_at(signals: &Signals, round: u8) -> Side
     }
 }
 
-/// Returns a number for each signal of a round. Within a class, numbers are equal exactly where the signals have the same sums of deals,
-/// in the last round, or the same children, before it.
+/// Returns a number for each signal of a round. Within a class, numbers are equal exactly where the signals have the same sums.
+/// These are the sums of deals in the last round, and the counts of children by class before it.
 /// Makes sums only of signals without an earlier stand-in, and only in classes that the turn can split.
 pub(crate) fn side_numbers(
     alloc: Global,

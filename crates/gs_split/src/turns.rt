@@ -13,8 +13,9 @@ use gs_lossless::Grouped;
 use gs_tree::Signals;
 use std::alloc::{AllocError, Global};
 
-/// Returns a number for each signal of a round. Within a class, numbers are equal exactly where the signals have the same sums of deals,
-/// in the last round, or the same children, before it. If `known`, these are the same throughout each class, and all numbers are 0.
+/// Returns a number for each signal of a round. Within a class, numbers are equal exactly where the signals have the same sums.
+/// These are the sums of deals in the last round, and the counts of children by class before it.
+/// With `known`, all members of each class are known to have the same sums, and all numbers are 0.
 fn round_numbers(
     alloc: Global,
     boards: &Boards<'_>,
@@ -56,9 +57,9 @@ fn exact_numbers(
     Ok(numbers)
 }
 
-/// Makes one turn and returns the new classes. Two signals of one class stay together if their parents do and, against the old classes,
-/// their sums in the last round or, before it, their counts of children are the same.
-/// `known` marks rounds in which members of each class are known to agree in these.
+/// Makes one turn and returns the new classes. Two signals of one class stay together if their parents do and if they have the same sums.
+/// The sums are taken against the old classes: sums of deals in the last round, and counts of children by class before it.
+/// `known` marks the rounds in which members of each class are known to have the same sums.
 pub(crate) fn turn(
     alloc: Global,
     signals: &Signals,
