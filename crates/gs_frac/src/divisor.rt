@@ -3,7 +3,7 @@
 ghost use Rattle.std.specs.{Prelude.{◌≡◌, ◌<◌, ◌≤◌, ◌^◌, MatchResult}, Int.{IsGcd}};
 ghost use Rattle.gs_frac.specs.Gcd.{gcd_of, IsLcm};
 
-/// The greatest common divisor, 0 for two zeros, by Euclid's method.
+/// Returns the greatest common divisor by Euclid's method; it is 0 for two zeros.
 pub fn gcd(a: u128, b: u128) -> u128
     ensures divides { IsGcd a b result }
     ensures value { result ≡ gcd_of a b }
@@ -16,7 +16,7 @@ pub fn gcd(a: u128, b: u128) -> u128
     x
 }
 
-/// The least common multiple, as an error where it is over the limit.
+/// Returns the least common multiple: as `Ok` up to the limit, as `Err` above it.
 pub fn lcm_within(a: u128, b: u128, limit: u128) -> Result<u128, u128>
     requires a_some { 0 < a }
     requires a_fits { a < 2 ^ 64 }

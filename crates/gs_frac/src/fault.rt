@@ -1,4 +1,4 @@
-//! Why a text is no fraction's.
+//! Why a text is not a fraction.
 
 use std::error::Error;
 use std::fmt;
@@ -6,11 +6,11 @@ use std::fmt;
 /// The first rule that a text breaks.
 #[derive(Clone, Copy, Debug, PartialEq, Eq, Hash)]
 pub enum FracFault {
-    /// It is not an optional `-`, digits, `/` and digits, without leading zeros; or it begins with `-0`.
+    /// The text is not an optional `-`, digits, `/` and digits, without leading zeros; or it begins with `-0`.
     NotFraction,
     /// A part is 2^127 or more.
     TooWide,
-    /// A number above 1 divides both parts, or the lower part is 0.
+    /// A number above 1 divides both parts, or the denominator is 0.
     NotReduced,
 }
 

@@ -7,7 +7,7 @@ use crate::value::Fraction;
 use std::alloc::AllocError;
 use std::fmt::Write;
 
-/// Adds words and a fraction as a line.
+/// Adds a line of the words, a space and the fraction to `text`. The error is out of memory.
 pub fn push_line(text: &mut String, words: &str, number: &Fraction) -> Result<(), AllocError>
     ensures { OnOk result (string_bytes text.new ≡ string_bytes text.old ++ number_line words.now (number.now.num, number.now.den)) }
 {

@@ -1,10 +1,11 @@
--- One whole-number pivot: what becomes of the rows when row r gets column c.
+-- One pivot in whole numbers: what the rows become when row r is listed with column c.
 use Rattle.std.specs.Prelude.{◌≡◌, ◌≢◌, ℕ, suc, ◌+◌, ◌<◌, ◌≤◌, ◌⊎◌, ℤ, pos, ◌+ℤ◌, ◌-ℤ◌, ◌*ℤ◌, neg_ℤ, ◌<ℤ◌}
 use Rattle.gs_rows.specs.declared.Program.{Program}
 use Rattle.gs_rows.specs.Rows.{IsPrimitive}
 
--- Row r stays, turned where its number in column c was below 0. Each other row becomes the pivot times it less its own number in column c times row r,
--- divided by a common divisor so that no other is left; the aim's row likewise, whose last number takes the sum.
+-- Row r stays or is negated, so that its number in column c, the pivot, is above 0. Each other row becomes the pivot times the row, less the row's
+-- number in column c times row r. The aim's row becomes the same, but its last number adds that product and its multiple is only multiplied by the pivot.
+-- Each result is divided by a common divisor so that it is primitive.
 pub record IsEliminated (p : Program) (rows : ℕ → ℕ → ℤ) (aim : ℕ → ℤ) (r c : ℕ) (new : ℕ → ℕ → ℤ) (new_aim : ℕ → ℤ) : Type 0 where
   pub own : pos 0 <ℤ new r c
   pub self : ((j : ℕ) → j ≤ p.cols → new r j ≡ rows r j) ⊎ ((j : ℕ) → j ≤ p.cols → new r j ≡ neg_ℤ (rows r j))

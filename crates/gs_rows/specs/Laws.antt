@@ -11,11 +11,11 @@ RowsAreDetermined = (p : Program) (l : Listing) (rows others : ℕ → ℕ → �
     → IsRowsOf p l others other
     → ((i j : ℕ) → i < p.rows → j ≤ p.cols → rows i j ≡ others i j) × ((j : ℕ) → j ≤ p.cols + 1 → aim j ≡ other j)
 
--- a list whose pairs can be taken in turn is a list of different rows and columns, and regular
+-- if the pairs of a list can be taken in turn, the list has different rows and different columns and is regular
 abbrev pub TakenInTurnIsRegular : Type 0
 TakenInTurnIsRegular = (p : Program) (l : Listing) → IsTakenInTurn p l → IsPairList p l × IsRegularList p l
 
--- and it has rows
+-- a list whose pairs can be taken in turn has rows
 abbrev pub TakenInTurnHasRows : Type 0
 TakenInTurnHasRows = (p : Program) (l : Listing) → IsTakenInTurn p l → (rows : ℕ → ℕ → ℤ) × (aim : ℕ → ℤ) × IsRowsOf p l rows aim
 
@@ -25,7 +25,7 @@ PivotKeepsRegular = (p : Program) (l : Listing) (rows : ℕ → ℕ → ℤ) (ai
     → IsRowsOf p l rows aim → IsPivot p l rows aim next e c
     → IsPairList p next × IsRegularList p next
 
--- the aim's last number is its multiple times the aim's value where the unlisted columns are 0
+-- the last number of the aim's row is its multiple times the aim's value at a solution whose unlisted columns are 0
 abbrev pub LastNumberIsValue : Type 0
 LastNumberIsValue = (p : Program) (l : Listing) (rows : ℕ → ℕ → ℤ) (aim : ℕ → ℤ) (d : ℤ) (v : ℕ → ℤ) → IsPairList p l → IsRowsOf p l rows aim
     → IsSolution p d v → ((j : ℕ) → j < p.cols → ¬ ColListed l j → v j ≡ pos 0)
@@ -36,7 +36,7 @@ abbrev pub StopsAreOne : Type 0
 StopsAreOne = (p : Program) (o : Listing) (limit : ℕ) (stop other : PathStop) → IsOpening p o → PathStops p o limit stop → PathStops p o limit other
     → stop ≡ other
 
--- two steps of a path, from the end of the opening on, never list the same columns
+-- no two steps of a path, from the end of the opening on, list the same columns
 abbrev pub BasesDiffer : Type 0
 BasesDiffer = (p : Program) (o : Listing) (t : ℕ) (s : States) → IsOpening p o → IsPath p o t s → (k h : ℕ) → length o ≤ k → k < h → h ≤ t
     → ¬ ((j : ℕ) → ColListed (s.lists k) j ↔ ColListed (s.lists h) j)

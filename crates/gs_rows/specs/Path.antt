@@ -1,23 +1,24 @@
--- Bland's rule (Bland 1977, "New finite pivoting rules for the simplex method"): the entering column of least index, and of equal ratios the leaving
--- column of least index. The steps and what stops them; the rows at each step are those of the step's list.
+-- The steps of a path, and what stops it. The rows at each step are those of the step's list.
+-- Bland's rule (Bland 1977, "New finite pivoting rules for the simplex method"): the column of least index enters, and among equal ratios the column
+-- of least index leaves.
 use Rattle.std.specs.Prelude.{◌≡◌, ℕ, suc, ◌+◌, ◌<◌, ◌≤◌, ◌⊎◌, length, take, slice_index_or, slice_set, ℤ, pos, ◌*ℤ◌, ◌≤ℤ◌, ◌<ℤ◌}
 use Rattle.gs_rows.specs.declared.Program.{Program}
 use Rattle.gs_rows.specs.Rows.{IsNarrow}
 use Rattle.gs_rows.specs.Program.{Listing, IsListed, ColListed, IsFree, IsRowsOf}
 
--- column e enters: the unlisted one of least index with a number above 0 in the aim's row
+-- column e enters: it is the unlisted column of least index with a number above 0 in the aim's row
 pub record Enters (p : Program) (l : Listing) (aim : ℕ → ℤ) (e : ℕ) : Type 0 where
   pub column : e < p.cols
   pub unlisted : ¬ ColListed l e
   pub rises : pos 0 <ℤ aim e
   pub least : (j : ℕ) → j < e → ¬ ColListed l j → aim j ≤ℤ pos 0
 
--- no unlisted column has a number above 0 in the row of the aim
+-- no unlisted column has a number above 0 in the aim's row
 abbrev pub NoneEnters : Program → Listing → (ℕ → ℤ) → Type 0
 NoneEnters p l aim = (j : ℕ) → j < p.cols → ¬ ColListed l j → aim j ≤ℤ pos 0
 
--- row r leaves, which is listed with column c: of the rows whose listed column is not free and which have a number above 0 in column e, the one of
--- least ratio of right side to that number, and of equal ratios the one whose listed column has the least index
+-- Row r, listed with column c, leaves when column e enters. A row may leave if its listed column is not free and it has a number above 0 in column e.
+-- Row r has the least ratio of right side to that number; among equal ratios its listed column has the least index.
 pub record Leaves (p : Program) (l : Listing) (rows : ℕ → ℕ → ℤ) (e r c : ℕ) : Type 0 where
   pub listed : IsListed l r c
   pub not_free : ¬ IsFree p c
@@ -25,7 +26,7 @@ pub record Leaves (p : Program) (l : Listing) (rows : ℕ → ℕ → ℤ) (e r 
   pub ratio : (i j : ℕ) → IsListed l i j → ¬ IsFree p j → pos 0 <ℤ rows i e → (rows r p.cols *ℤ rows i e) ≤ℤ (rows i p.cols *ℤ rows r e)
   pub tie : (i j : ℕ) → IsListed l i j → ¬ IsFree p j → pos 0 <ℤ rows i e → rows r p.cols *ℤ rows i e ≡ rows i p.cols *ℤ rows r e → c ≤ j
 
--- no row bounds the entering column
+-- no row bounds the entering column e: a listed row with a number above 0 there has a free column
 abbrev pub NoneLeaves : Program → Listing → (ℕ → ℕ → ℤ) → ℕ → Type 0
 NoneLeaves p l rows e = (i j : ℕ) → IsListed l i j → ¬ IsFree p j → rows i e ≤ℤ pos 0
 
@@ -35,11 +36,11 @@ pub record IsPivot (p : Program) (l : Listing) (rows : ℕ → ℕ → ℤ) (aim
   pub place : (q : ℕ) × (r : ℕ) × (q < length l) × (slice_index_or l q (0, 0) ≡ (r + 1, leaving + 1)) × (Leaves p l rows entering r leaving)
       × (next ≡ slice_set l q (r + 1, entering + 1))
 
--- every number of a step's rows, the aim's row and its multiple among them, is below 2^62 in size
+-- every number of the rows and of the aim's row, with its multiple, is below 2^62 in size
 abbrev pub AllNarrow : Program → (ℕ → ℕ → ℤ) → (ℕ → ℤ) → Type 0
 AllNarrow p rows aim = ((i j : ℕ) → i < p.rows → j ≤ p.cols → IsNarrow (rows i j)) × ((j : ℕ) → j ≤ p.cols + 1 → IsNarrow (aim j))
 
--- the first number that is not, by row and then column, stands in row i and column j and is z; the aim's row is row `rows`
+-- z, in row i and column j, is the first number of 2^62 or more in size, by row and then by column; the aim's row is row `rows`
 pub record IsFirstWide (p : Program) (rows : ℕ → ℕ → ℤ) (aim : ℕ → ℤ) (i j : ℕ) (z : ℤ) : Type 0 where
   pub row : i ≤ p.rows
   pub here : ((i < p.rows) × (j ≤ p.cols) × (rows i j ≡ z)) ⊎ ((i ≡ p.rows) × (j ≤ p.cols + 1) × (aim j ≡ z))
@@ -55,7 +56,7 @@ pub record States : Type 0 where
   pub entering : ℕ → ℕ
   pub leaving : ℕ → ℕ
 
--- t steps: the pairs of the opening one after the other, and then pivots; no step but the last may have a wide number
+-- t steps: first the pairs of the opening one by one, and then pivots; only the last step may have a wide number
 pub record IsPath (p : Program) (opening : Listing) (t : ℕ) (s : States) : Type 0 where
   pub opens : (k : ℕ) → k ≤ t → k ≤ length opening → s.lists k ≡ take k opening
   pub pivots : (k : ℕ) → length opening ≤ k → k < t → IsPivot p (s.lists k) (s.rows k) (s.aim k) (s.lists (suc k)) (s.entering k) (s.leaving k)
@@ -76,7 +77,7 @@ pub data PathStop : Type 0 where
   pivots : PathStop
   unbounded : (col : ℕ) → PathStop
 
--- the path stops so after t steps
+-- after t steps the path stops in this way
 abbrev pub Stops : Program → Listing → ℕ → ℕ → States → PathStop → Type 0
 Stops p o limit t s (ends n l) = (IsWhole p o limit t s) × (NoneEnters p (s.lists t) (s.aim t)) × (t ≡ length o + n) × (l ≡ s.lists t)
 Stops p o limit t s (wide step row col z) = (IsPath p o t s) × (0 < t) × (t ≤ length o + limit) × (step ≡ t)
@@ -86,6 +87,6 @@ Stops p o limit t s pivots = (IsWhole p o limit t s) × (t ≡ length o + limit)
 Stops p o limit t s (unbounded col) = (IsWhole p o limit t s) × ((e : ℕ) × (col ≡ e + 1) × (Enters p (s.lists t) (s.aim t) e)
     × (NoneLeaves p (s.lists t) (s.rows t) e))
 
--- the path of the program from the opening stops so
+-- the path of the program from the opening stops in this way
 pub record PathStops (p : Program) (opening : Listing) (limit : ℕ) (stop : PathStop) : Type 0 where
   pub stops : (t : ℕ) × (s : States) × Stops p opening limit t s stop

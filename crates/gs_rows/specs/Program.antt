@@ -46,13 +46,13 @@ RowListed l i = (j : ℕ) × IsListed l i j
 abbrev pub ColListed : Listing → ℕ → Type 0
 ColListed l j = (i : ℕ) × IsListed l i j
 
--- different rows and different columns of the program
+-- each pair names a row and a column of the program, and no row and no column comes twice
 pub record IsPairList (p : Program) (l : Listing) : Type 0 where
   pub named : (k : ℕ) → k < length l → (i : ℕ) × (j : ℕ) × (slice_index_or l k (0, 0) ≡ (i + 1, j + 1)) × (i < p.rows) × (j < p.cols)
   pub rows_differ : (k h : ℕ) → k < length l → h < length l → (slice_index_or l k (0, 0)).0 ≡ (slice_index_or l h (0, 0)).0 → k ≡ h
   pub columns_differ : (k h : ℕ) → k < length l → h < length l → (slice_index_or l k (0, 0)).1 ≡ (slice_index_or l h (0, 0)).1 → k ≡ h
 
--- the rows of a list: row i is that of program row i, listed or not
+-- the rows of a list, each of them primitive: row i belongs to program row i, listed or not
 pub record IsRowsOf (p : Program) (l : Listing) (rows : ℕ → ℕ → ℤ) (aim : ℕ → ℤ) : Type 0 where
   pub listed : (i j : ℕ) → IsListed l i j → (scale : ℤ) × (multiplier : ℕ → ℤ)
       × IsListedRow p.rows p.cols (number p) (RowListed l) (ColListed l) j scale multiplier (rows i)
@@ -79,17 +79,17 @@ pub record CanTake (p : Program) (l : Listing) (r c : ℕ) : Type 0 where
 abbrev pub IsTakenInTurn : Program → Listing → Type 0
 IsTakenInTurn p l = (k : ℕ) → k < length l → (r : ℕ) × (c : ℕ) × (slice_index_or l k (0, 0) ≡ (r + 1, c + 1)) × CanTake p (take k l) r c
 
--- the columns v over d satisfy the program's rows
+-- the values v over d satisfy the program's rows
 pub record IsSolution (p : Program) (d : ℤ) (v : ℕ → ℤ) : Type 0 where
   pub positive : pos 0 <ℤ d
   pub solves : (i : ℕ) → i < p.rows → sum_to p.cols (λ j. number p i j *ℤ v j) ≡ d *ℤ number p i p.cols
 
--- and no column that is not free is below 0
+-- a feasible solution: a column that is not free is at least 0
 pub record IsFeasible (p : Program) (d : ℤ) (v : ℕ → ℤ) : Type 0 where
   pub solution : IsSolution p d v
   pub nonnegative : (j : ℕ) → j < p.cols → ¬ IsFree p j → pos 0 ≤ℤ v j
 
--- an opening: it names each row once, its pairs can be taken in turn, it names each free column, and its solution, in which the other columns are 0, is feasible
+-- An opening names each row once and each free column, and its pairs can be taken in turn. Its solution, in which the unlisted columns are 0, is feasible.
 pub record IsOpening (p : Program) (l : Listing) : Type 0 where
   pub long : length l ≡ p.rows
   pub each_row : (i : ℕ) → i < p.rows → RowListed l i

@@ -1,5 +1,5 @@
--- Whole-number rows that stand for a list of basic pairs, after Edmonds' elimination that keeps numbers whole:
--- each is told by multipliers of the program's rows, and by no way to compute it.
+-- Whole-number rows that stand for a list of basic pairs, after Edmonds' elimination that keeps numbers whole.
+-- A row is defined by multipliers of the program's rows, not by a way to compute it.
 --
 -- Rows, columns and program rows count from 0. A row is a function of the column, and column `cols` is its right side.
 use Rattle.std.specs.Prelude.{◌≡◌, ◌≢◌, ℕ, suc, ◌<◌, ◌≤◌, ◌^◌, ◌⊎◌, ℤ, pos, ◌-ℤ◌, ◌*ℤ◌, ◌<ℤ◌, unsigned_abs}
@@ -26,8 +26,8 @@ pub record IsListedRow (count cols : ℕ) (number : ℕ → ℕ → ℤ) (RowIn 
   pub zeros : (j : ℕ) → ColIn j → j ≢ own_column → row j ≡ pos 0
 
 -- The aim's row has a number for each column, the last number in column `cols` and the multiple in the column after it. It states that
--- the multiple times the aim is the last number plus the sum of number times column: the multiple times the aim, less the row's numbers,
--- with the last number for its right side, is a combination of listed program rows. Every listed column has 0 in it.
+-- the multiple times the aim is the last number plus the sum of each number times its column. For this, the multiple times the aim, less
+-- the row's numbers, with the last number for its right side, is a combination of listed program rows. The row is 0 in every listed column.
 -- So the last number is the multiple times the aim's value where the unlisted columns are 0: the law `the_last_number_is_the_value` says so.
 pub record IsAimRow (count cols : ℕ) (number : ℕ → ℕ → ℤ) (RowIn ColIn : ℕ → Type 0) (aim : ℕ → ℤ) (scale : ℤ) (multiplier row : ℕ → ℤ) : Type 0 where
   pub multiple : pos 0 <ℤ row (suc cols)
@@ -37,7 +37,7 @@ pub record IsAimRow (count cols : ℕ) (number : ℕ → ℕ → ℤ) (RowIn Col
   pub others : (i : ℕ) → i < count → ¬ RowIn i → multiplier i ≡ pos 0
   pub zeros : (j : ℕ) → ColIn j → row j ≡ pos 0
 
--- up to this place all numbers are 0, or no number but 1 divides them all
+-- all numbers up to place `last` are 0, or no number but 1 divides them all
 pub record IsPrimitive (last : ℕ) (row : ℕ → ℤ) : Type 0 where
   pub form : ((j : ℕ) → j ≤ last → row j ≡ pos 0) ⊎ ((d : ℕ) → ((j : ℕ) → j ≤ last → d ∣ unsigned_abs (row j)) → d ≡ 1)
 
@@ -46,6 +46,6 @@ pub record IsRegular (count : ℕ) (number : ℕ → ℕ → ℤ) (RowIn ColIn :
   pub only : (z : ℕ → ℤ) → ((i : ℕ) → i < count → ¬ RowIn i → z i ≡ pos 0) → ((j : ℕ) → ColIn j → sum_to count (λ i. z i *ℤ number i j) ≡ pos 0) → (i : ℕ)
       → i < count → z i ≡ pos 0
 
--- of size below 2^62
+-- z is below 2^62 in size
 abbrev pub IsNarrow : ℤ → Type 0
 IsNarrow z = unsigned_abs z < 2 ^ 62

@@ -1,25 +1,25 @@
 //! Linear programs in whole numbers, the rows of a list of basic pairs, and the path of Bland's rule, with their laws.
 //!
-//! `specs/` has the definitions: a row is told by multipliers of the program's rows, so no definition speaks of pivots.
-//! Apart from the type `Program` the crate runs nothing: a function here is a law, and its contract names it.
+//! `specs/` has the definitions. Multipliers of the program's rows define a row; no pivot is part of that definition.
+//! Apart from the type `Program` the crate has no code to run: each function is a law, and its contract names the law.
 //! Sources: Bland 1977, "New finite pivoting rules for the simplex method"; Edmonds 1967 for elimination in whole numbers.
 #![tactic(auto)]
 
 ghost use Rattle.gs_rows.specs.Laws.{RowsAreDetermined, TakenInTurnIsRegular, TakenInTurnHasRows, PivotKeepsRegular, LastNumberIsValue, StopsAreOne};
 ghost use Rattle.gs_rows.specs.Laws.{BasesDiffer};
 
-/// A linear program in whole numbers: the aim, or objective, is maximised, the rows hold as equations, and a column that is not free is at least 0.
+/// A linear program in whole numbers. The aim, or objective, is maximised, the rows hold as equations, and a column that is not free is at least 0.
 #[derive(Debug, Drop)]
 pub struct Program {
-    /// How many rows.
+    /// The number of rows.
     pub rows: u32,
-    /// How many columns.
+    /// The number of columns.
     pub cols: u32,
-    /// For each column whether it may be below 0.
+    /// For each column, whether it may be below 0.
     pub free: Vec<bool>,
-    /// For each row its `cols` numbers and then its right side.
+    /// For each row, its `cols` numbers and then its right side.
     pub numbers: Vec<Vec<i64>>,
-    /// For each column its number in the aim.
+    /// For each column, its number in the aim.
     pub aim: Vec<i64>,
 }
 
@@ -28,7 +28,7 @@ pub fn rows_are_determined()
     ensures { RowsAreDetermined }
 {}
 
-/// A list whose pairs can be taken in turn is regular.
+/// A list whose pairs can be taken in turn has different rows and different columns, and is regular.
 pub fn taken_in_turn_is_regular()
     ensures { TakenInTurnIsRegular }
 {}
@@ -43,7 +43,7 @@ pub fn a_pivot_keeps_regular()
     ensures { PivotKeepsRegular }
 {}
 
-/// The aim's last number is its multiple times the aim's value where the unlisted columns are 0.
+/// The last number of the aim's row is its multiple times the aim's value at a solution whose unlisted columns are 0.
 pub fn the_last_number_is_the_value()
     ensures { LastNumberIsValue }
 {}
@@ -53,7 +53,7 @@ pub fn stops_are_one()
     ensures { StopsAreOne }
 {}
 
-/// No basis comes twice: Bland's rule never turns in a circle.
+/// No basis comes twice, so Bland's rule never cycles.
 pub fn bases_differ()
     ensures { BasesDiffer }
 {}
