@@ -13,7 +13,7 @@ use Rattle.gs_simplex.specs.declared.answer.Stop.TheVariants.{TableTooLarge, Wid
 abbrev pub IsSmall : Program → Type 0
 IsSmall p = (p.rows + 1) * (p.cols + 1) ≤ 1048576
 
--- each stop stands for what the path meets first
+-- What a stop says: the table is above the limit, or it is within the limit and the path stops in this way. `Memory` says nothing.
 abbrev pub IsStop : Program → Listing → ℕ → Stop → Type 0
 IsStop p o limit (TableTooLarge count) = (count ≡ (p.rows + 1) * (p.cols + 1)) × (1048576 < count)
 IsStop p o limit (Wide step row col number) = IsSmall p × PathStops p o limit (wide step row col number)
@@ -22,14 +22,14 @@ IsStop p o limit (Unbounded col) = IsSmall p × PathStops p o limit (unbounded c
 IsStop p o limit Memory = Unit {0}
 
 -- The values and prices at a list with these rows. A listed column's value is its row's right side over its row's number in the column, and an
--- unlisted column's is 0. A price is minus the column's number in the aim's row over the multiple, which is 0 where the column is listed.
+-- unlisted column's is 0. A price is minus the column's number in the aim's row, over the multiple; so the price of a listed column is 0.
 pub record IsBestAt (p : Program) (l : Listing) (rows : ℕ → ℕ → ℤ) (aim : ℕ → ℤ) (value price : List Fraction) : Type 0 where
   pub rows_of : IsRowsOf p l rows aim
   pub listed : (i j : ℕ) → IsListed l i j → HoldsAt (λ f. f.num *ℤ rows i j ≡ rows i p.cols *ℤ f.den) value j
   pub unlisted : (j : ℕ) → j < p.cols → ¬ ColListed l j → HoldsAt (λ f. f.num ≡ pos 0) value j
   pub prices : (j : ℕ) → j < p.cols → HoldsAt (λ f. f.num *ℤ aim (p.cols + 1) ≡ neg_ℤ (aim j) *ℤ f.den) price j
 
--- the path ends so, and the last list has these values and prices
+-- the path ends at the list of b after this number of pivots, and b has the values and prices at that list
 pub record IsBest (p : Program) (o : Listing) (limit : ℕ) (b : Best) : Type 0 where
   pub small : IsSmall p
   pub stops : PathStops p o limit (ends b.pivots b.basis.items)
@@ -37,7 +37,7 @@ pub record IsBest (p : Program) (o : Listing) (limit : ℕ) (b : Best) : Type 0 
   pub prices : length b.price.items ≡ p.cols
   pub last : (rows : ℕ → ℕ → ℤ) × (aim : ℕ → ℤ) × IsBestAt p b.basis.items rows aim b.value.items b.price.items
 
--- the values and prices at a list
+-- b has this list and this number of pivots, and the values and prices at the list
 pub record IsBestTable (p : Program) (l : Listing) (pivots : ℕ) (b : Best) : Type 0 where
   pub pivots_are : b.pivots ≡ pivots
   pub basis_is : b.basis.items ≡ l

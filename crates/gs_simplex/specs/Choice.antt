@@ -6,12 +6,12 @@ use Rattle.gs_rows.specs.Program.{Listing, IsFree}
 use Rattle.gs_rows.specs.Path.{Leaves, NoneLeaves}
 use Rattle.gs_simplex.specs.declared.choice.Ratio.{Ratio}
 
--- the first of the `count` numbers that is above 0
+-- the place of the first of `count` numbers that is above 0, or none if no number is
 abbrev pub IsEntering : (ℕ → ℤ) → ℕ → Option ℕ → Type 0
 IsEntering aim count None = (j : ℕ) → j < count → aim j ≤ℤ pos 0
 IsEntering aim count (Some e) = (e < count) × (pos 0 <ℤ aim e) × ((j : ℕ) → j < e → aim j ≤ℤ pos 0)
 
--- a's ratio is less, or equal with a column of lower index
+-- the ratio of a is less than that of b, or equal with a column of lower index
 abbrev pub Before : Ratio → Ratio → Type 0
 Before a b = ((a.side *ℤ b.over) <ℤ (b.side *ℤ a.over)) ⊎ ((a.side *ℤ b.over ≡ b.side *ℤ a.over) × (a.column < b.column))
 
@@ -36,28 +36,28 @@ pub record IsRatio (p : Program) (l : Listing) (rows : ℕ → ℕ → ℤ) (e k
 pub record IsNoRatio (p : Program) (l : Listing) (rows : ℕ → ℕ → ℤ) (e k : ℕ) : Type 0 where
   pub pair : (r : ℕ) × (c : ℕ) × (slice_index_or l k (0, 0) ≡ (r + 1, c + 1)) × (IsFree p c ⊎ rows r e ≤ℤ pos 0)
 
--- a ratio is that of the row at place k, or there is none and the row may not leave
+-- the ratio of the row at place k, or none if that row may not leave
 abbrev pub IsRatioAt : Program → Listing → (ℕ → ℕ → ℤ) → ℕ → ℕ → Option Ratio → Type 0
 IsRatioAt p l rows e k None = IsNoRatio p l rows e k
 IsRatioAt p l rows e k (Some a) = IsRatio p l rows e k a
 
--- of two the one that leaves before
+-- of two rows the one that leaves first; if only one may leave, that one
 abbrev pub IsBetter : Option Ratio → Option Ratio → Option Ratio → Type 0
 IsBetter None next found = found ≡ next
 IsBetter (Some b) None found = found ≡ Some b
 IsBetter (Some b) (Some n) found = ((found ≡ Some n) × Before n b) ⊎ ((found ≡ Some b) × NotAfter b n)
 
--- the one that leaves before all others among the first `count` places
+-- a is the ratio that leaves first among the first `count` places
 pub record IsLeast (p : Program) (l : Listing) (rows : ℕ → ℕ → ℤ) (e count : ℕ) (a : Ratio) : Type 0 where
   pub here : (k : ℕ) × (k < count) × IsRatio p l rows e k a
   pub others : (k : ℕ) → k < count → (IsNoRatio p l rows e k) ⊎ ((b : Ratio) × (IsRatio p l rows e k b) × NotAfter a b)
 
--- the least ratio among the first places, or that none of them may leave
+-- the ratio that leaves first among the first `count` places, or none if no row there may leave
 abbrev pub IsLeastSoFar : Program → Listing → (ℕ → ℕ → ℤ) → ℕ → ℕ → Option Ratio → Type 0
 IsLeastSoFar p l rows e count None = (k : ℕ) → k < count → IsNoRatio p l rows e k
 IsLeastSoFar p l rows e count (Some a) = IsLeast p l rows e count a
 
--- the place of the row that leaves
+-- the place of the row that leaves, or none if no row bounds the entering column
 abbrev pub IsLeaving : Program → Listing → (ℕ → ℕ → ℤ) → ℕ → Option ℕ → Type 0
 IsLeaving p l rows e None = NoneLeaves p l rows e
 IsLeaving p l rows e (Some q) = (r : ℕ) × (c : ℕ) × (q < length l) × (slice_index_or l q (0, 0) ≡ (r + 1, c + 1)) × Leaves p l rows e r c

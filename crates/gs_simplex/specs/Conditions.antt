@@ -1,4 +1,4 @@
--- What the tests find out of a program and an opening before they call `run`.
+-- What the tests check of a program and an opening before they call `run`.
 use Rattle.std.specs.Prelude.{◌≡◌, ◌≢◌, ℕ, ◌+◌, ◌<◌, List, length, take, slice_index_or, ℤ, pos, ◌≤ℤ◌}
 use Rattle.gs_rows.specs.declared.Program.{Program}
 use Rattle.gs_rows.specs.Program.{Listing, IsListed, IsFree, CanTake}
@@ -10,7 +10,7 @@ pub record IsWideRow (width : ℕ) (row : List ℤ) : Type 0 where
   pub long : length row ≡ width
   pub narrow : AllNarrow row
 
--- no pair before has the row or the column of the pair at this step
+-- no earlier pair has the row or the column of the pair at this step
 abbrev pub IsNewPair : Listing → ℕ → Type 0
 IsNewPair o step = (k : ℕ) → k < step → ((slice_index_or o k (0, 0)).0 ≢ (slice_index_or o step (0, 0)).0)
     × ((slice_index_or o k (0, 0)).1 ≢ (slice_index_or o step (0, 0)).1)
@@ -25,6 +25,6 @@ pub record IsTaken (p : Program) (o : Listing) (t : ℕ) (xs : List ℤ) : Type 
   pub table : IsTable p xs
   pub rows : IsTableOf p (take t o) xs
 
--- no right side of a row whose listed column is not free is below 0
+-- each row whose listed column is not free has a right side of at least 0
 abbrev pub HasFeasibleSides : Program → Listing → (ℕ → ℕ → ℤ) → Type 0
 HasFeasibleSides p l rows = (i j : ℕ) → IsListed l i j → ¬ IsFree p j → pos 0 ≤ℤ rows i p.cols

@@ -11,7 +11,7 @@ pub record HasPlaces (p : Program) (v : Live) : Type 0 where
   pub owns : vec_len v.owns ≡ p.rows + 1
   pub filled : vec_len v.filled ≡ p.cols + 2
 
--- a column is listed with no row, or with row r, from 0
+-- the column is unlisted, where `row` is 0, or listed with row r; `row` counts from 1 and r from 0
 abbrev pub IsLiveRow : ℕ → ℕ → Type 0
 IsLiveRow r row = (row ≡ 0) ⊎ (row ≡ r + 1)
 
@@ -28,7 +28,7 @@ pub record ArePlacesBelow (rows : List ℕ) (r : ℕ) (places : List ℕ) (found
   pub live : (k : ℕ) → 0 < k → k < found → IsLiveRow r (slice_index rows (slice_index places k))
   pub all : (j : ℕ) → j < count → IsOutside places found j → IsLiveRow r (slice_index rows j) → ⊥
 
--- and then the right side
+-- the columns that are looked at, in order, and then the right side
 pub record ArePlaces (cols : ℕ) (rows : List ℕ) (r : ℕ) (places : List ℕ) (found : ℕ) : Type 0 where
   pub some : 1 < found
   pub few : found ≤ cols + 2
@@ -38,12 +38,12 @@ pub record ArePlaces (cols : ℕ) (rows : List ℕ) (r : ℕ) (places : List ℕ
   pub all : (j : ℕ) → j < cols → IsOutside places found j → IsLiveRow r (slice_index rows j) → ⊥
   pub side : IsOutside places found cols → ⊥
 
--- the columns of the first `count` pairs' rows
+-- `owns` has the column of each row of the first `count` pairs; the other numbers are those of `old`
 pub record AreOwns (l : Listing) (old owns : List ℕ) (count : ℕ) : Type 0 where
   pub listed : (k i j : ℕ) → k < count → slice_index_or l k (0, 0) ≡ (i + 1, j + 1) → slice_index owns i ≡ j
   pub unlisted : (i : ℕ) → ((k : ℕ) → k < count → (slice_index_or l k (0, 0)).0 ≡ i + 1 → ⊥) → slice_index owns i ≡ slice_index old i
 
--- the columns to look at when row r is taken after the list l, and each row's own column, which is the further place where the row is not listed
+-- The columns to look at when row r is taken after the list l, and each row's own column. The own column of an unlisted row is the further place.
 pub record IsFound (p : Program) (l : Listing) (r : ℕ) (places owns : List ℕ) (found : ℕ) : Type 0 where
   pub some : 1 < found
   pub few : found ≤ length places
@@ -62,7 +62,8 @@ pub record IsSupport (places : List ℕ) (found width : ℕ) (row lead : ℕ →
   pub differ : (k h : ℕ) → k < found → h < found → slice_index places k ≡ slice_index places h → k ≡ h
   pub outside : (j : ℕ) → j < width → ((k : ℕ) → k < found → slice_index places k ≢ j) → (row j ≡ pos 0) × (lead j ≡ pos 0)
 
--- the same for each of `count` rows but r, once its own column stands at place 0
+-- For each of `count` rows but r: outside its own column and the places from 1 on, the row is 0. The lead is 0 outside the places from 1 on.
+-- No place from 1 on has an own column, and the places are different columns.
 pub record IsLive (places owns : List ℕ) (found count r width : ℕ) (rows : ℕ → ℕ → ℤ) (lead : ℕ → ℤ) : Type 0 where
   pub some : 0 < found
   pub few : found ≤ length places
@@ -81,7 +82,7 @@ pub record IsChange (places : List ℕ) (found width : ℕ) (row lead : ℕ → 
   pub differ : (k h : ℕ) → k < found → h < found → slice_index places k ≡ slice_index places h → k ≡ h
   pub outside : (j : ℕ) → j < width → ((k : ℕ) → k < found → slice_index places k ≢ j) → own *ℤ row j -ℤ far *ℤ lead j ≡ row j
 
--- the columns below `below` in which the row is not 0, in order
+-- columns below `below` in rising order; in each other column below `below` the row is 0
 pub record AreFilled (row : ℕ → ℤ) (filled : List ℕ) (count below : ℕ) : Type 0 where
   pub few : count ≤ below
   pub under : (k : ℕ) → k < count → slice_index filled k < below

@@ -24,7 +24,7 @@ IsAtMost width row most = (j : ℕ) → j < width → unsigned_abs (row j) ≤ m
 abbrev pub AllAtMost : List ℤ → ℕ → Type 0
 AllAtMost xs most = IsAtMost (length xs) (at xs) most
 
--- the greatest number that divides the first `count` numbers, 0 where all are 0
+-- the greatest number that divides the first `count` numbers, or 0 if all are 0
 pub record IsDivisor (count : ℕ) (f : ℕ → ℤ) (d : ℕ) : Type 0 where
   pub divides : (j : ℕ) → j < count → d ∣ unsigned_abs (f j)
   pub greatest : (e : ℕ) → ((j : ℕ) → j < count → e ∣ unsigned_abs (f j)) → e ∣ d
@@ -33,12 +33,12 @@ pub record IsDivisor (count : ℕ) (f : ℕ → ℤ) (d : ℕ) : Type 0 where
 pub record IsShared (own far a b : ℤ) : Type 0 where
   pub by : (g : ℤ) × (pos 0 <ℤ g) × (own ≡ g *ℤ a) × (far ≡ g *ℤ b)
 
--- the first `count` numbers of `row` times `by` are those of `mixed`, and they are narrow
+-- the first `count` numbers of `row` are narrow and, times `by`, are those of `mixed`
 pub record IsQuotient (by : ℕ) (mixed row : List ℤ) (count : ℕ) : Type 0 where
   pub each : (j : ℕ) → j < count → at mixed j ≡ pos by *ℤ at row j
   pub narrow : (j : ℕ) → j < count → IsNarrow (at row j)
 
--- the quotient at place j is z and not narrow, and those before it are
+-- z, at place j, is the first quotient that is not narrow
 pub record IsWideQuotient (by : ℕ) (mixed : List ℤ) (j : ℕ) (z : ℤ) : Type 0 where
   pub inside : j < length mixed
   pub here : at mixed j ≡ pos by *ℤ z
@@ -55,7 +55,8 @@ pub record IsDivided (width : ℕ) (old new : ℕ → ℤ) : Type 0 where
   pub multiple : IsMultiple width old new
   pub primitive : IsPrimitive (width - 1) new
 
--- the old row cleared by the lead, so that it has 0 in column c: the lead's number there times the old row, less the old row's number there times the lead
+-- The old row cleared by the lead: the lead's number in column c times the old row, less the old row's number in column c times the lead.
+-- So it has 0 in column c.
 abbrev pub cleared_by : (ℕ → ℤ) → ℕ → (ℕ → ℤ) → ℕ → ℤ
 cleared_by lead c old j = lead c *ℤ old j -ℤ old c *ℤ lead j
 
@@ -74,7 +75,7 @@ pub record IsReducedTo (lead : ℕ → ℤ) (c width : ℕ) (old : ℕ → ℤ) 
   pub wide : ¬ IsNarrow z
   pub row : (new : ℕ → ℤ) × (IsReduced lead c width old new) × (new j ≡ z) × ((k : ℕ) → k < j → IsNarrow (new k))
 
--- the number in row i and column j of rows of this width that stand one after the other
+-- the number in row i and column j, where rows of this width stand one after the other
 abbrev pub cell : List ℤ → ℕ → ℕ → ℕ → ℤ
 cell xs width i j = at xs (i * width + j)
 

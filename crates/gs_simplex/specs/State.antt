@@ -12,7 +12,7 @@ use Rattle.gs_simplex.specs.Table.{table_aim, IsTable, IsKept, IsTableOf, HasTop
 use Rattle.gs_simplex.specs.declared.table.Table.{Table}
 use Rattle.gs_simplex.specs.Live.{HasPlaces}
 
--- the room beside the table is as wide as its rows
+-- the lists beside the table have the lengths that the program needs
 pub record HasRoom (p : Program) (t : Table) : Type 0 where
   pub lead : vec_len t.lead ≡ p.cols + 2
   pub mixed : vec_len t.mixed ≡ p.cols + 2
@@ -28,14 +28,14 @@ pub record IsRaw (p : Program) (xs : List ℤ) : Type 0 where
   pub last : cell xs (p.cols + 2) p.rows p.cols ≡ pos 0
   pub multiple : cell xs (p.cols + 2) p.rows (p.cols + 1) ≡ pos 1
 
--- the rows of the empty list
+-- the table holds positive multiples of the rows of the empty list, with room and bounds beside it
 pub record IsStart (p : Program) (t : Table) : Type 0 where
   pub room : HasRoom p t
   pub table : IsTable p t.numbers.items
   pub rows : IsTableOf p [] t.numbers.items
   pub tops : HasTops p t.numbers.items t.tops.items
 
--- t steps of the path from the opening lead to this list, and the table holds positive multiples of its rows
+-- t steps of the path from the opening lead to this list, and the table holds positive multiples of the list's rows
 pub record IsSoFar (p : Program) (opening : Listing) (t : ℕ) (basis : Listing) (xs : List ℤ) : Type 0 where
   pub states : (s : States) × (IsPath p opening t s) × (s.lists t ≡ basis) × IsKept p (s.rows t) (s.aim t) xs
 
@@ -53,11 +53,11 @@ IsChoice p l rows aim Ends = NoneEnters p l aim
 IsChoice p l rows aim (Unbounded e) = (Enters p l aim e) × NoneLeaves p l rows e
 IsChoice p l rows aim (Leaves q e) = (Enters p l aim e) × IsLeaving p l rows e (Some q)
 
--- the row at place q of the list was listed with column e
+-- the list and the table after a pivot that lists the row at place q with column e
 pub record IsPivoted (p : Program) (l next : Listing) (old new : List ℤ) (q e : ℕ) : Type 0 where
   pub pair : (r : ℕ) × (c : ℕ) × (slice_index_or l q (0, 0) ≡ (r + 1, c + 1)) × (next ≡ slice_set l q (r + 1, e + 1)) × IsTableAfter p old new r e
 
--- and then the first number that is not narrow is z, in row i and column j of the table
+-- after the pivot that lists the row at place q with column e, z is the first number that is not narrow, in row i and column j of the table
 pub record IsWidePivot (p : Program) (l : Listing) (old : List ℤ) (q e i j : ℕ) (z : ℤ) : Type 0 where
   pub pair : (r : ℕ) × (c : ℕ) × (slice_index_or l q (0, 0) ≡ (r + 1, c + 1)) × IsWideAfter p old r e i j z
 
@@ -71,7 +71,7 @@ pub record IsEnd (p : Program) (opening : Listing) (limit n : ℕ) (basis : List
 abbrev pub IsTurnAt : Program → Listing → ℕ → Turn → Type 0
 IsTurnAt p o t turn = (s : States) × (IsPath p o (t + 1) s) × (turn.enter ≡ s.entering t + 1) × (turn.leave ≡ s.leaving t + 1)
 
--- the state after n pivots and one more, this one
+-- the state after n pivots and then this one
 pub record IsTurned (p : Program) (opening : Listing) (limit n : ℕ) (turn : Turn) (basis : Listing) (held : Table) : Type 0 where
   pub state : IsState p opening (length opening + (n + 1)) basis held
   pub within : n < limit

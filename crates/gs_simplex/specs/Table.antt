@@ -9,11 +9,11 @@ use Rattle.gs_rows.specs.Path.{IsFirstWide}
 use Rattle.gs_rows.specs.Program.{Listing, IsRowsOf}
 use Rattle.gs_simplex.specs.Numbers.{cell, AllNarrow, AreTops, IsMultiple}
 
--- the numbers of the program rows' rows
+-- the number in row i and column j of the table
 abbrev pub table_rows : Program → List ℤ → ℕ → ℕ → ℤ
 table_rows p xs i j = cell xs (p.cols + 2) i j
 
--- and those of the aim's row
+-- the number in column j of the aim's row, whose last number the table holds negated
 abbrev pub table_aim : Program → List ℤ → ℕ → ℤ
 table_aim p xs j = if nat_eq j p.cols then neg_ℤ (cell xs (p.cols + 2) p.rows j) else cell xs (p.cols + 2) p.rows j
 
@@ -36,7 +36,7 @@ pub record IsTableOf (p : Program) (l : Listing) (xs : List ℤ) : Type 0 where
 abbrev pub HasTops : Program → List ℤ → List ℕ → Type 0
 HasTops p xs tops = AreTops (p.rows + 1) (p.cols + 2) xs tops
 
--- the table after a pivot: whatever rows it held multiples of, it holds multiples of the rows that the pivot makes of them
+-- The table after a pivot. If it held multiples of some rows, row r primitive, then it holds multiples of the rows that the pivot makes of them.
 pub record IsTableAfter (p : Program) (old new : List ℤ) (r c : ℕ) : Type 0 where
   pub table : IsTable p new
   pub after : (rows : ℕ → ℕ → ℤ) (aim : ℕ → ℤ) → IsPrimitive p.cols (rows r) → IsKept p rows aim old

@@ -1,4 +1,4 @@
--- How a path was reached: its pivots, its bases, and the aim's value at both ends.
+-- The trace of a path: its pivots, its bases, and the aim's value at both ends.
 use Rattle.std.specs.Prelude.{◌≡◌, ℕ, ◌+◌, ◌<◌, ◌≤◌, ◌^◌, Result, Ok, Err, List, length, slice_index, ℤ, ◌*ℤ◌, Contains, Vec}
 use Rattle.std.specs.List.{HoldsAt}
 use Rattle.std.specs.declared.alloc.Global.{Global}
@@ -15,23 +15,23 @@ use Rattle.gs_simplex.specs.declared.table.Table.{Table}
 use Rattle.gs_simplex.specs.State.{IsState, IsTurnAt}
 use Rattle.gs_simplex.specs.Answer.{IsSmall, IsStop}
 
--- the columns of the list, counted from 1, in order of number
+-- the listed columns, counted from 1, in rising order
 pub record IsBasis (l : Listing) (columns : List ℕ) : Type 0 where
   pub rises : (k h : ℕ) → k < h → h < length columns → slice_index columns k < slice_index columns h
   pub listed : (k : ℕ) → k < length columns → (j : ℕ) × (slice_index columns k ≡ j + 1) × ColListed l j
   pub all : (j : ℕ) → ColListed l j → Contains columns (j + 1)
 
--- those of the columns below `count`
+-- the listed columns among the first `count`, counted from 1, in rising order
 pub record IsBasisBelow (l : Listing) (count : ℕ) (columns : List ℕ) : Type 0 where
   pub rises : (k h : ℕ) → k < h → h < length columns → slice_index columns k < slice_index columns h
   pub listed : (k : ℕ) → k < length columns → (j : ℕ) × (slice_index columns k ≡ j + 1) × (j < count) × ColListed l j
   pub all : (j : ℕ) → j < count → ColListed l j → Contains columns (j + 1)
 
--- the aim's value by its row: the last number over the multiple
+-- the aim's value as the aim's row gives it: the last number over the multiple
 abbrev pub IsAimValue : Program → (ℕ → ℤ) → Fraction → Type 0
 IsAimValue p aim f = f.num *ℤ aim (p.cols + 1) ≡ aim p.cols *ℤ f.den
 
--- the column that enters after t steps, and the one that leaves
+-- the pivot after t steps: the column that enters and the column that leaves
 abbrev pub IsTurnOf : States → ℕ → Turn → Type 0
 IsTurnOf s t turn = (turn.enter ≡ s.entering t + 1) × (turn.leave ≡ s.leaving t + 1)
 
@@ -44,7 +44,7 @@ pub record IsTraceOf (p : Program) (o : Listing) (n : ℕ) (s : States) (t : Pat
   pub start : IsAimValue p (s.aim (length o)) t.start
   pub aim : IsAimValue p (s.aim (length o + n)) t.aim
 
--- the path ends, t is its trace, and no two bases are equal
+-- the path ends, t is its trace, and no two of its bases are equal
 pub record IsTrace (p : Program) (o : Listing) (limit : ℕ) (t : PathTrace) : Type 0 where
   pub small : IsSmall p
   pub path : (n : ℕ) × (l : Listing) × (s : States) × (Stops p o limit (length o + n) s (ends n l)) × IsTraceOf p o n s t
@@ -60,24 +60,24 @@ IsTraceAnswer p o limit (Err s) = IsStop p o limit s
 abbrev pub IsBasisAt : Program → Listing → ℕ → List ℕ → Type 0
 IsBasisAt p o t columns = (s : States) × (IsPath p o t s) × IsBasis (s.lists t) columns
 
--- the pivots so far, n of them, and the bases
+-- the first n pivots, and the n + 1 bases before and after them
 pub record IsNoted (p : Program) (o : Listing) (n : ℕ) (made : List Turn) (found : List (Vec ℕ Global)) : Type 0 where
   pub turns_long : length made ≡ n
   pub turns : (k : ℕ) → k < n → HoldsAt (IsTurnAt p o (length o + k)) made k
   pub bases_long : length found ≡ n + 1
   pub bases : (k : ℕ) → k < n + 1 → HoldsAt (λ b. IsBasisAt p o (length o + k) b.items) found k
 
--- the log holds these
+-- the log holds the first n pivots and their bases
 abbrev pub IsLog : Program → Listing → ℕ → Log → Type 0
 IsLog p o n log = IsNoted p o n log.turns.items log.bases.items
 
--- the list and the rows after the opening
+-- the list and the table after the opening
 pub record IsBegun (p : Program) (o : Listing) (at : Position) : Type 0 where
   pub small : IsSmall p
   pub same : at.basis.items ≡ o
   pub state : IsState p o (length o) o at.table
 
--- a path can be followed from the end of the opening, which this list and these rows are at
+-- The path can be followed from the end of the opening: this list is the opening, and this table is the state there.
 pub record CanFollow (p : Program) (o : Listing) (limit : ℕ) (basis : Listing) (held : Table) : Type 0 where
   pub few_rows : p.rows < 2 ^ 31
   pub few_cols : p.cols < 2 ^ 31

@@ -4,22 +4,22 @@ use Rattle.gs_rows.specs.declared.Program.{Program}
 use Rattle.gs_rows.specs.Program.{Listing, IsListed, ColListed}
 use Rattle.gs_frac.specs.declared.value.Fraction.{Fraction}
 
--- for each column the row that it is listed with, from 1, or 0
+-- for each column the row that it is listed with, counted from 1, or 0 if it is unlisted
 pub record IsRowIndex (p : Program) (l : Listing) (rows : List ℕ) : Type 0 where
   pub long : length rows ≡ p.cols
   pub listed : (i j : ℕ) → IsListed l i j → slice_index rows j ≡ i + 1
   pub unlisted : (j : ℕ) → ¬ ColListed l j → slice_index rows j ≡ 0
 
--- the same for the first `count` pairs of the list
+-- `rows` has the row of each column of the first `count` pairs, counted from 1; the other numbers are those of `old`
 pub record IsMarked (l : Listing) (old rows : List ℕ) (count : ℕ) : Type 0 where
   pub listed : (k i j : ℕ) → k < count → slice_index_or l k (0, 0) ≡ (i + 1, j + 1) → slice_index rows j ≡ i + 1
   pub unlisted : (j : ℕ) → ((k : ℕ) → k < count → (slice_index_or l k (0, 0)).1 ≡ j + 1 → ⊥) → slice_index rows j ≡ slice_index old j
 
--- a row from 1 with a number above 0 in column j, or 0
+-- `row` is 0, or a row counted from 1 that has a number above 0 in column j
 pub record CanValue (p : Program) (rows : ℕ → ℕ → ℤ) (row j : ℕ) : Type 0 where
   pub inside : (i : ℕ) → row ≡ i + 1 → (i < p.rows) × (pos 0 <ℤ rows i j)
 
--- f is the value of column j, which is listed with this row from 1, or unlisted where that is 0
+-- f is the value of column j; `row` is the row that the column is listed with, counted from 1, or 0 if it is unlisted
 pub record IsValue (p : Program) (rows : ℕ → ℕ → ℤ) (row j : ℕ) (f : Fraction) : Type 0 where
   pub listed : (i : ℕ) → row ≡ i + 1 → f.num *ℤ rows i j ≡ rows i p.cols *ℤ f.den
   pub unlisted : row ≡ 0 → f.num ≡ pos 0

@@ -5,16 +5,16 @@ ghost use Rattle.std.specs.Prelude.{◌≡◌};
 use gs_frac::Fraction;
 use std::alloc::AllocError;
 
-/// The last basis of the path.
+/// The last basis of the path, with the values and prices there.
 #[derive(Debug, Drop)]
 pub struct Best {
-    /// How many pivots were made after the opening.
+    /// The number of pivots after the opening.
     pub pivots: u32,
     /// The pairs of rows and columns of the last list, in the opening's order of rows, both counted from 1.
     pub basis: Vec<(u32, u32)>,
-    /// The value of each column where the unlisted columns are 0.
+    /// For each column, its value when the unlisted columns are 0.
     pub value: Vec<Fraction>,
-    /// For each column how much the aim falls per unit of it when the rows hold and the other unlisted columns stay.
+    /// For each column, how much the aim falls per unit of it when the rows hold and the other unlisted columns stay: its reduced cost.
     pub price: Vec<Fraction>,
 }
 
@@ -38,7 +38,7 @@ pub struct PathTrace {
     pub aim: Fraction,
 }
 
-/// Why there is no best basis.
+/// Why the path did not reach its end.
 #[derive(Debug, PartialEq, Eq, Drop)]
 pub enum Stop {
     /// The table has `(rows + 1) * (cols + 1)` numbers, more than 1,048,576.
@@ -55,7 +55,7 @@ pub enum Stop {
     },
     /// The path has more pivots than the limit.
     Pivots,
-    /// The entering column, which no row bounds.
+    /// No row bounds the entering column `col`.
     Unbounded {
         col: u32,
     },

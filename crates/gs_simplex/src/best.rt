@@ -12,7 +12,7 @@ use gs_frac::Fraction;
 use gs_rows::Program;
 use std::alloc::{AllocError, Global};
 
-// Writes for each listed column the number of its row, from 1.
+// Writes the number of its row, from 1, for each listed column.
 pub(crate) fn mark_rows(p: &Program, basis: &[(u32, u32)], rows: &mut [u32])
     requires small_rows { p.now.rows < 2 ^ 31 }
     requires pairs { IsPairList p.now basis.now }
@@ -26,7 +26,7 @@ pub(crate) fn mark_rows(p: &Program, basis: &[(u32, u32)], rows: &mut [u32])
     }
 }
 
-// Returns for each column the number of the row that it is listed with, from 1, or 0.
+// Returns for each column the row that it is listed with, counted from 1, or 0 if it is unlisted.
 pub(crate) fn listed_rows(
     alloc: Global,
     p: &Program,
@@ -41,7 +41,7 @@ pub(crate) fn listed_rows(
     Ok(rows)
 }
 
-// Returns the value of column `j`. It is listed with row `row`, from 1, or unlisted where that is 0.
+// Returns the value of column `j`. `row` is the row that it is listed with, counted from 1, or 0 if it is unlisted.
 fn value_at(p: &Program, numbers: &[i64], row: u32, j: usize) -> Fraction
     requires table { IsTable p.now numbers.now }
     requires column { j < p.now.cols }

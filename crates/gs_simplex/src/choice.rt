@@ -9,7 +9,7 @@ ghost use Rattle.gs_simplex.specs.Choice.{IsEntering, Before, NotAfter, IsNarrow
 
 use gs_rows::Program;
 
-/// A row that may leave: its place in the list, its listed column from 0, its right side and its number in the entering column.
+/// A row that may leave: its place in the list, its listed column, counted from 0, its right side, and its number in the entering column.
 #[derive(Clone, Copy)]
 pub(crate) struct Ratio {
     pub(crate) place: usize,
@@ -18,7 +18,7 @@ pub(crate) struct Ratio {
     pub(crate) over: i64,
 }
 
-// The first column, from 0, whose number is above 0.
+// Returns the first column, counted from 0, whose number is above 0.
 pub(crate) fn entering(aim: &[i64]) -> Option<usize>
     requires { AllNarrow aim.now }
     ensures { IsEntering (at aim.now) (length aim.now) result }
@@ -31,7 +31,7 @@ pub(crate) fn entering(aim: &[i64]) -> Option<usize>
     None
 }
 
-// The product of two narrow numbers.
+// Returns the product of two narrow numbers.
 fn product(x: i64, y: i64) -> i128
     requires narrow { IsNarrow x }
     requires narrow_other { IsNarrow y }
@@ -41,7 +41,7 @@ fn product(x: i64, y: i64) -> i128
     i128::from(x) * i128::from(y)
 }
 
-// Whether the ratio of `a` is below that of `b`, or equal to it with a column of lower index.
+// Returns whether the ratio of `a` is below that of `b`, or equal to it with a column of lower index.
 fn is_before(a: &Ratio, b: &Ratio) -> bool
     requires narrow_side { IsNarrow a.now.side }
     requires narrow_over { IsNarrow a.now.over }
@@ -54,7 +54,7 @@ fn is_before(a: &Ratio, b: &Ratio) -> bool
     left < right || (left == right && a.column < b.column)
 }
 
-// The number in row `i` and column `j` of the table.
+// Returns the number in row `i` and column `j` of the table.
 pub(crate) fn number_at(p: &Program, numbers: &[i64], i: usize, j: usize) -> i64
     requires table { IsTable p.now numbers.now }
     requires row { i < p.now.rows + 1 }
@@ -65,7 +65,7 @@ pub(crate) fn number_at(p: &Program, numbers: &[i64], i: usize, j: usize) -> i64
     numbers[i * (p.cols as usize + 2) + j]
 }
 
-// Whether column `j` may be below 0.
+// Returns whether column `j` may be below 0.
 pub(crate) fn is_free(p: &Program, j: usize) -> bool
     requires shaped { IsShaped p.now }
     requires column { j < p.now.cols }
@@ -74,7 +74,7 @@ pub(crate) fn is_free(p: &Program, j: usize) -> bool
     p.free[j]
 }
 
-// The row and the column at a place of the list, both from 0.
+// Returns the row and the column at a place of the list, both counted from 0.
 pub(crate) fn pair_at(p: &Program, basis: &[(u32, u32)], place: usize) -> (usize, usize)
     requires pairs { IsPairList p.now basis.now }
     requires inside { place < length basis.now }
@@ -86,7 +86,7 @@ pub(crate) fn pair_at(p: &Program, basis: &[(u32, u32)], place: usize) -> (usize
     (row as usize - 1, column as usize - 1)
 }
 
-// The ratio of the row at a place of the list when column `e` enters, where that row may leave.
+// Returns the ratio of the row at a place of the list when column `e` enters, if that row may leave.
 fn ratio_at(
     p: &Program,
     numbers: &[i64],
@@ -118,7 +118,7 @@ fn ratio_at(
     })
 }
 
-// Of two rows the one that leaves before the other.
+// Returns the one of two rows that leaves first.
 fn better(best: Option<Ratio>, next: Option<Ratio>) -> Option<Ratio>
     requires best { ForSome best IsNarrowRatio }
     requires next { ForSome next IsNarrowRatio }
@@ -131,7 +131,7 @@ fn better(best: Option<Ratio>, next: Option<Ratio>) -> Option<Ratio>
     }
 }
 
-// The place in the list of the row that leaves when column `e` enters.
+// Returns the place in the list of the row that leaves when column `e` enters.
 pub(crate) fn leaving(p: &Program, numbers: &[i64], basis: &[(u32, u32)], e: usize) -> Option<usize>
     requires shaped { IsShaped p.now }
     requires table { IsTable p.now numbers.now }

@@ -1,8 +1,8 @@
-//! Exact quotients without division. A quotient is guessed by an inverse modulo 2^64, and counts only where its product with the divisor is the number.
+//! Exact quotients without division. An inverse modulo 2^64 gives a guess, which counts only if its product with the divisor is the number.
 
 ghost use Rattle.std.specs.{Prelude.{◌≡◌, ◌*ℤ◌}, Int.{IsGcd}, Option.{ForSome}};
 
-/// A divisor with what guesses quotients by it.
+/// A divisor, with the shift and the inverse that guess quotients by it.
 #[derive(Clone, Copy)]
 pub(crate) struct Divisor {
     pub(crate) number: i64,
@@ -10,7 +10,7 @@ pub(crate) struct Divisor {
     inverse: i64,
 }
 
-// An odd number's inverse modulo 2^64, by Newton's method. It serves guesses alone.
+// Returns an odd number's inverse modulo 2^64, by Newton's method. It serves guesses alone.
 fn inverse(odd: i64) -> i64 {
     let mut x = odd.wrapping_mul(3) ^ 2;
     for _ in 0..4 {
@@ -20,7 +20,7 @@ fn inverse(odd: i64) -> i64 {
 }
 
 impl Divisor {
-    // This number as a divisor.
+    // Returns this number as a divisor.
     pub(crate) fn of(number: i64) -> Divisor
         ensures { result.number ≡ number }
     {
@@ -32,7 +32,7 @@ impl Divisor {
         }
     }
 
-    // The quotient of `number`, where the guess is one.
+    // Returns the quotient of `number`, if the guess is exact.
     pub(crate) fn quotient(&self, number: i64) -> Option<i64>
         ensures { ForSome result (λ q. number ≡ self.now.number *ℤ q) }
     {
@@ -45,7 +45,7 @@ impl Divisor {
     }
 }
 
-// The greatest common divisor, 0 for two zeros, by Euclid's method.
+// Returns the greatest common divisor by Euclid's method; it is 0 for two zeros.
 pub(crate) fn short_gcd(a: u64, b: u64) -> u64
     ensures { IsGcd a b result }
 {

@@ -2,17 +2,17 @@
 
 ghost use Rattle.gs_simplex.specs.Laws.{EndIsFeasible, PricesHaveMultipliers, AimHasNoBound};
 
-/// At the end of the path the values satisfy the program's rows, no value of a column that is not free is negative, and no price is negative.
+/// At the end of the path the values satisfy the program's rows, a column that is not free is at least 0, and no price is negative.
 pub fn the_end_is_feasible()
     ensures { EndIsFeasible }
 {}
 
-/// One multiplier for each program row gives every price and the aim's value.
+/// Multipliers, one for each program row, give every price and the aim's value.
 pub fn prices_have_multipliers()
     ensures { PricesHaveMultipliers }
 {}
 
-/// Where the path is unbounded, so is the program: its feasible solutions have an aim above every whole number.
+/// If the path is unbounded, so is the program: its feasible solutions have an aim above every whole number.
 pub fn the_aim_has_no_bound()
     ensures { AimHasNoBound }
 {}

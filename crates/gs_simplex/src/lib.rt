@@ -1,9 +1,9 @@
 //! The simplex method on whole-number rows, by Bland's rule.
 //!
-//! [`run`] follows the path of a program from an opening: it lists the opening's pairs one after the other and then makes pivots. Each step's rows are
-//! whole numbers without a common divisor; the crate `gs_rows` says which rows they are, and that no basis comes twice. The simplex table here holds a
+//! [`run`] follows the path of a program from an opening: it lists the opening's pairs one by one and then makes pivots. Each step's rows are
+//! whole numbers without a common divisor. The crate `gs_rows` defines these rows and proves that no basis comes twice. The simplex table here holds a
 //! positive multiple of each row, since signs and ratios do not change by it.
-//! What is called aim, price and opening here is called objective, reduced cost and starting basis in the literature.
+//! Aim, price and opening are called objective, reduced cost and starting basis in the literature.
 //! Sources: Bland 1977, "New finite pivoting rules for the simplex method"; Edmonds 1967 for elimination in whole numbers.
 #![tactic(auto)]
 
@@ -30,13 +30,13 @@ use path::{Position, begin, follow};
 use std::alloc::Global;
 use tracing::{Log, aim_value};
 
-/// The most numbers of a table, `(rows + 1) * (cols + 1)`.
+/// The most numbers that a table may have, counted as `(rows + 1) * (cols + 1)`.
 pub const MOST_NUMBERS: u64 = 1_048_576;
 
 /// Returns the last basis of the path with its values and prices, or what stopped the path first.
 ///
 /// The opening lists pairs of a row and a column, both counted from 1. `limit` is the most pivots after the opening.
-/// A table of more than [`MOST_NUMBERS`] numbers is refused before any step. Of the other stops the one that the path meets first is returned.
+/// A table of more than [`MOST_NUMBERS`] numbers is refused before any step. Otherwise the error is the first stop that the path meets, or out of memory.
 pub fn run(alloc: Global, p: &Program, opening: &[(u32, u32)], limit: u32) -> Result<Best, Stop>
     requires small_rows { p.now.rows < 2 ^ 31 }
     requires small_cols { p.now.cols < 2 ^ 31 }
@@ -53,7 +53,7 @@ pub fn run(alloc: Global, p: &Program, opening: &[(u32, u32)], limit: u32) -> Re
     Ok(best(alloc, p, &table.numbers, basis, pivots)?)
 }
 
-/// Returns the path's pivots and bases, with the aim's value after the opening and at the end, or what stopped the path first, as [`run`] does.
+/// Returns the path's pivots and bases, with the aim's value after the opening and at the end, or what stopped the path first. It stops as [`run`] does.
 pub fn trace(
     alloc: Global,
     p: &Program,
@@ -73,7 +73,7 @@ pub fn trace(
     } = begin(alloc, p, opening)?;
     let start = aim_value(p, &table.numbers);
     let mut log = Log::start(alloc, p, opening, &basis)?;
-    // how many there were, the log tells
+    // the log has their number
     let _pivots = log.follow(alloc, p, opening, limit, &mut basis, &mut table)?;
     let aim = aim_value(p, &table.numbers);
     let Log { turns, bases } = log;

@@ -1,4 +1,4 @@
-//! Which columns a pivot has to look at: those that are not listed, that of the row which is taken, the right side, and each row's own column.
+//! The columns that a pivot looks at: the unlisted ones, the one listed with the row that is taken, the right side, and each row's own column.
 
 ghost use Rattle.std.specs.Prelude.{◌≡◌, ℕ, ◌+◌, ◌<◌, ◌≤◌, ◌^◌, ◌↔◌, IsTrue, IfOk, length, slice_index};
 ghost use Rattle.gs_rows.specs.Program.{IsPairList, IsListed, RowListed, ColListed};
@@ -9,20 +9,20 @@ use crate::choice::pair_at;
 use gs_rows::Program;
 use std::alloc::{AllocError, Global};
 
-/// Room to find the columns of a pivot in.
+/// Scratch lists for the columns of a pivot.
 #[derive(Drop)]
 pub(crate) struct Live {
-    /// For each column the row that it is listed with, from 1, or 0.
+    /// For each column, the row that it is listed with, counted from 1, or 0 if it is unlisted.
     pub(crate) rows: Vec<u32>,
     /// A place for a row's own column, and then the other columns.
     pub(crate) places: Vec<u32>,
-    /// For each row its own column.
+    /// For each row, its own column.
     pub(crate) owns: Vec<u32>,
-    /// The columns in which the row at hand is not 0: one that is divided at the start, or the one that is taken.
+    /// The columns in which a row is not 0. It is the row that is divided at the start, or the row that is taken.
     pub(crate) filled: Vec<u32>,
 }
 
-// Sets each number to this one.
+// Sets each number to `to`.
 fn set_all(numbers: &mut [u32], to: u32)
     ensures { (k : ℕ) → k < length numbers.old → slice_index numbers.new k ≡ to }
 {
@@ -31,7 +31,7 @@ fn set_all(numbers: &mut [u32], to: u32)
     }
 }
 
-// Notes the column of each listed row.
+// Records the column of each listed row.
 fn mark_owns(p: &Program, basis: &[(u32, u32)], owns: &mut [u32])
     requires small_cols { p.now.cols < 2 ^ 31 }
     requires pairs { IsPairList p.now basis.now }
@@ -45,7 +45,7 @@ fn mark_owns(p: &Program, basis: &[(u32, u32)], owns: &mut [u32])
     }
 }
 
-// Notes for each column the row that it is listed with, from 1, or 0.
+// Records for each column the row that it is listed with, counted from 1, or 0 if it is unlisted.
 fn note_rows(p: &Program, basis: &[(u32, u32)], rows: &mut [u32])
     requires small_rows { p.now.rows < 2 ^ 31 }
     requires pairs { IsPairList p.now basis.now }
@@ -57,7 +57,7 @@ fn note_rows(p: &Program, basis: &[(u32, u32)], rows: &mut [u32])
     mark_rows(p, basis, rows);
 }
 
-// Notes for each row its own column, which is the further place where it is not listed.
+// Records each row's own column; for an unlisted row it is the further place.
 fn note_owns(p: &Program, basis: &[(u32, u32)], owns: &mut [u32])
     requires small_cols { p.now.cols < 2 ^ 31 }
     requires pairs { IsPairList p.now basis.now }
@@ -69,7 +69,7 @@ fn note_owns(p: &Program, basis: &[(u32, u32)], owns: &mut [u32])
     mark_owns(p, basis, owns);
 }
 
-// Whether a column that is listed with this row, from 1, or with none, is looked at when row `r` is taken.
+// Returns whether a pivot that takes row `r` looks at a column: one that is unlisted, with `row` 0, or listed with row `r`, with `row` counted from 1.
 fn is_live(row: u32, r: usize) -> bool
     requires { r < 2 ^ 31 }
     ensures { IsTrue result ↔ IsLiveRow r row }
@@ -77,7 +77,7 @@ fn is_live(row: u32, r: usize) -> bool
     row == 0 || row as usize == r + 1
 }
 
-// Lists the columns from place 1 on, the right side last, and answers the place behind them.
+// Lists the columns to look at from place 1 on, and the right side last. Returns the place after the last.
 fn find_places(cols: usize, rows: &[u32], r: usize, places: &mut [u32]) -> usize
     requires small_row { r < 2 ^ 31 }
     requires small_cols { cols < 2 ^ 31 }
@@ -96,7 +96,7 @@ fn find_places(cols: usize, rows: &[u32], r: usize, places: &mut [u32]) -> usize
     found + 1
 }
 
-// Lists the columns in which a row is not 0, and answers how many.
+// Lists the columns in which a row is not 0, and returns their number.
 pub(crate) fn fill(row: &[i64], filled: &mut [u32]) -> usize
     requires small { length row.now < 2 ^ 32 }
     requires narrow { AllNarrow row.now }
@@ -115,7 +115,7 @@ pub(crate) fn fill(row: &[i64], filled: &mut [u32]) -> usize
 }
 
 impl Live {
-    // Room for this program.
+    // Returns scratch lists for this program.
     pub(crate) fn room(alloc: Global, p: &Program) -> Result<Live, AllocError>
         requires small_rows { p.now.rows < 2 ^ 31 }
         requires small_cols { p.now.cols < 2 ^ 31 }
@@ -133,7 +133,7 @@ impl Live {
         })
     }
 
-    // Finds the columns for a pivot that takes row `r`, and answers the place behind the last.
+    // Finds the columns for a pivot that takes row `r`. Returns the place after the last.
     pub(crate) fn find(&mut self, p: &Program, basis: &[(u32, u32)], r: usize) -> usize
         requires small_rows { p.now.rows < 2 ^ 31 }
         requires small_cols { p.now.cols < 2 ^ 31 }

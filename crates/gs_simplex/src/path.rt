@@ -1,4 +1,4 @@
-//! The path: first the pairs of the opening, one after the other, and then the pivots by Bland's rule.
+//! The path: first the pairs of the opening, one by one, and then the pivots by Bland's rule.
 
 ghost use Rattle.std.specs.Prelude.{◌≡◌, ◌≢◌, IfNone, MatchOption, MatchResult, ℕ, ◌+◌, ◌*◌, ◌<◌, ◌≤◌, ◌^◌, pos, length, slice_index_or};
 ghost use Rattle.std.specs.Prelude.{unsigned_abs, Some};
@@ -19,9 +19,9 @@ use std::alloc::Global;
 pub(crate) enum Choice {
     /// No column enters.
     Ends,
-    /// This column enters, and no row leaves.
+    /// This column enters, and no row bounds it.
     Unbounded(usize),
-    /// The row at this place of the list leaves, and the column enters.
+    /// The row at this place of the list leaves, and this column enters.
     Leaves(usize, usize),
 }
 
@@ -69,7 +69,7 @@ pub(crate) struct Position {
     pub(crate) table: Table,
 }
 
-// Lists the pairs of the opening one after the other, or returns the stop at the first number that is not narrow.
+// Lists the pairs of the opening one by one, or returns the stop at the first number that is not narrow.
 pub(crate) fn open(p: &Program, opening: &[(u32, u32)], table: &mut Table) -> Result<(), Stop>
     requires small_rows { p.now.rows < 2 ^ 31 }
     requires small_cols { p.now.cols < 2 ^ 31 }
@@ -88,7 +88,7 @@ pub(crate) fn open(p: &Program, opening: &[(u32, u32)], table: &mut Table) -> Re
     Ok(())
 }
 
-// Returns the position after the opening, or why there is none: the table is too large, a number is not narrow, or memory ran out.
+// Returns the position after the opening. The error is a table that is too large, a number that is not narrow, or out of memory.
 pub(crate) fn begin(alloc: Global, p: &Program, opening: &[(u32, u32)]) -> Result<Position, Stop>
     requires small_rows { p.now.rows < 2 ^ 31 }
     requires small_cols { p.now.cols < 2 ^ 31 }
@@ -106,7 +106,7 @@ pub(crate) fn begin(alloc: Global, p: &Program, opening: &[(u32, u32)]) -> Resul
     Ok(Position { basis, table })
 }
 
-// Makes one pivot: the row at a place of the list leaves its column for `column`. Returns the first number that is then not narrow.
+// Makes one pivot: the row at a place of the list leaves its column for `column`. Returns the first number that is not narrow after it.
 fn pivot(
     p: &Program,
     basis: &mut [(u32, u32)],
@@ -138,7 +138,7 @@ fn pivot(
     None
 }
 
-// Makes the next pivot after `made` pivots and returns it, or `None` where the path has ended, or what stops the path.
+// Makes the next pivot after `made` pivots and returns it, or `None` if the path has ended. The error is what stops the path.
 pub(crate) fn step(
     p: &Program,
     opening: &[(u32, u32)],
@@ -181,7 +181,7 @@ pub(crate) fn step(
     }
 }
 
-// Makes pivots until the path ends, at most `limit`, and returns how many, or what stopped the path.
+// Makes pivots until the path ends, at most `limit`, and returns their number, or what stopped the path.
 pub(crate) fn follow(
     p: &Program,
     opening: &[(u32, u32)],

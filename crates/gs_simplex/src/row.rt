@@ -26,8 +26,8 @@ pub(crate) struct WideNumber {
     pub(crate) number: i128,
 }
 
-/// The pivot row as the other rows meet it. It clears `column`, and its numbers are at most `most` in size. They are 0 outside the first `count` places of
-/// `filled`. Rows and columns count from 0.
+/// The pivot row, which clears `column` in the other rows. Its numbers are at most `most` in size, and 0 outside the first `count` places of `filled`.
+/// Rows and columns count from 0.
 #[derive(Clone, Copy)]
 pub(crate) struct Lead<'a> {
     pub(crate) row: usize,
@@ -351,8 +351,8 @@ pub(crate) fn divide_row(row: &mut [i64], places: &[u32], found: usize) -> u64
     1
 }
 
-// Divides a row by its greatest common divisor where a number of it is `LONG` or more in size, and returns a bound on its numbers. Before that the divisor
-// costs more than it saves. The numbers are at most `top` in size, and 0 outside the first `found` places.
+// Divides a row by its greatest common divisor if a number of it is `LONG` or more in size, and returns a bound on its numbers. For smaller numbers
+// the division costs more than it saves. The numbers are at most `top` in size, and 0 outside the first `found` places.
 fn lessen(row: &mut [i64], places: &[u32], found: usize, top: u64) -> u64
     requires some { 0 < length row.old }
     requires narrow { AllNarrow row.old }
@@ -387,8 +387,8 @@ fn multipliers(own: i64, far: i64) -> (i64, i64)
 }
 
 // Clears the lead's column of `row`: the lead's number there times the row, less the row's number there times the lead, over a common divisor. Returns a
-// bound on the new numbers. Where a number is not narrow even after division by the greatest common divisor, returns the first one instead, and the row is
-// half done. The row's numbers are at most `top` in size. Row and lead are 0 outside the first `found` places.
+// bound on the new numbers. If a number is not narrow even after division by the greatest common divisor, the error is the first such number, and the row
+// is partly changed. The row's numbers are at most `top` in size. Row and lead are 0 outside the first `found` places.
 pub(crate) fn reduce_row(
     lead: &Lead<'_>,
     row: &mut [i64],

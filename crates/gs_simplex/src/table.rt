@@ -39,7 +39,7 @@ fn turn_row(row: &mut [i64], c: usize)
     }
 }
 
-// Makes a row the pivot row: turns the sign of its number in column `c` positive, divides it by its greatest common divisor, and copies it to `lead`.
+// Makes a row the pivot row: negates it if its number in column `c` is negative, divides it by its greatest common divisor, and copies it to `lead`.
 // Lists in `filled` the places where the row is not 0, and returns their number.
 fn take_row(row: &mut [i64], c: usize, lead: &mut [i64], filled: &mut [u32]) -> usize
     requires long { length row.old ≡ length lead.old }
@@ -170,7 +170,7 @@ pub(crate) struct Table {
 impl Table {
     ghost use Rattle.gs_simplex.specs.State.{HasRoom};
 
-    // Makes the pivot that lists row `r` with column `c` after the list `basis`. Returns the first number, by row and column, that is then not narrow.
+    // Makes the pivot that lists row `r` with column `c` after the list `basis`. Returns the first number, by row and column, that is not narrow after it.
     pub(crate) fn list(
         &mut self,
         p: &Program,

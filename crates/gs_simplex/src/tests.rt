@@ -46,7 +46,7 @@ fn is_shaped(p: &Program) -> bool
         && all_rows(&p.numbers, p.cols as usize + 1)
 }
 
-// Whether the pair at `step` has a row and a column that no pair before it has.
+// Returns whether no earlier pair has the row or the column of the pair at `step`.
 fn is_new(opening: &[(u32, u32)], step: usize) -> bool
     requires { step < length opening.now }
     ensures { IsTrue result → IsNewPair opening.now step }
@@ -170,7 +170,7 @@ fn has_feasible_sides(p: &Program, numbers: &[i64], opening: &[(u32, u32)]) -> b
     true
 }
 
-// Whether `run` may be called.
+// Returns whether `run` may be called.
 fn meets(alloc: Global, p: &Program, opening: &[(u32, u32)]) -> Result<bool, AllocError>
     requires small_rows { p.now.rows < 2 ^ 31 }
     requires small_cols { p.now.cols < 2 ^ 31 }
@@ -211,7 +211,7 @@ struct Opened {
     opening: Vec<(u32, u32)>,
 }
 
-// The numbers of a text with a space between two.
+// Reads the numbers of a text, separated by spaces.
 fn numbers_in(alloc: Global, text: &str) -> Result<Vec<i64>, AllocError> {
     let mut all = Vec::new(alloc);
     for word in text.split(' ') {
@@ -222,7 +222,7 @@ fn numbers_in(alloc: Global, text: &str) -> Result<Vec<i64>, AllocError> {
     Ok(all)
 }
 
-// The pairs of a text, one number after the other.
+// Reads the pairs of a text, each as two numbers.
 fn pairs_in(alloc: Global, text: &str) -> Result<Vec<(u32, u32)>, Fail> {
     let mut pairs = Vec::new(alloc);
     for pair in numbers_in(alloc, text)?.chunks_exact(2) {
@@ -233,7 +233,7 @@ fn pairs_in(alloc: Global, text: &str) -> Result<Vec<(u32, u32)>, Fail> {
     Ok(pairs)
 }
 
-// The program of its free columns, its numbers row by row and its aim.
+// Returns the program with these free columns, numbers row by row and aim.
 fn program_of(
     alloc: Global,
     free: &[i64],
@@ -259,7 +259,7 @@ fn program_of(
     })
 }
 
-// The program and the opening of a text.
+// Reads a program and its opening from a text.
 fn read_opened(alloc: Global, text: &str) -> Result<Opened, Fail> {
     let parts: Vec<&str> = text.split('|').collect(alloc)?;
     if parts.len() != 4 {
@@ -306,10 +306,10 @@ fn text_of(alloc: Global, answer: &Result<Best, Stop>) -> Result<String, AllocEr
     Ok(text)
 }
 
-// What is said of a program with an opening from which `run` may not be called.
+// The answer where a program and its opening do not meet the conditions of `run`.
 const NO_OPENING: &str = "no opening";
 
-// What `run` answers.
+// Returns the answer of `run` as text.
 fn answer(
     alloc: Global,
     p: &Program,
@@ -324,7 +324,7 @@ fn answer(
     String::from_str(alloc, NO_OPENING)
 }
 
-// A path as text: the aim's value, the pivots, the bases, and the aim's value at the end.
+// Returns a path as text: the aim's value, the pivots, the bases, and the aim's value at the end.
 fn path_text(alloc: Global, p: &PathTrace) -> Result<String, AllocError> {
     let mut text = String::new(alloc);
     let start = &p.start;
@@ -346,7 +346,7 @@ fn path_text(alloc: Global, p: &PathTrace) -> Result<String, AllocError> {
     Ok(text)
 }
 
-// What `trace` answers, and whether it is a path.
+// Returns whether `trace` answers with a path, and its answer as text.
 fn shown(
     alloc: Global,
     p: &Program,
@@ -364,7 +364,7 @@ fn shown(
     Ok((false, String::from_str(alloc, NO_OPENING)?))
 }
 
-// What `run` and `trace` answer to the program of a text, and whether the second is a path.
+// Returns the answers of `run` and `trace` to the program of a text, and whether the second is a path.
 fn both(alloc: Global, text: &str, limit: u32) -> Result<(String, bool, String), Fail> {
     let Opened { program, opening } = read_opened(alloc, text)?;
     let found = answer(alloc, &program, &opening, limit)?;
@@ -399,16 +399,16 @@ fn replace_column(basis: &mut [(u32, u32)], leaving: u32, entering: u32) {
     }
 }
 
-// After how many pivots of the worked path the list's pairs can be taken in the list's order.
+// The numbers of pivots of the worked path after which the list's pairs can be taken in the list's order.
 static IN_TURN: [u32; 6] = [0, 1, 2, 3, 4, 5];
 
-// What a text says behind its first word.
+// Returns what a text has after its first word.
 fn behind_first(text: &str) -> Option<&str> {
     text.split_once(' ').map(|parts| parts.1)
 }
 
-// From each such basis the rest of the path follows: one pivot fewer each time, the same last basis, values and prices, and with a
-// lower limit no end. From the others `run` may not be called.
+// Returns whether the rest of the path follows from such a basis: one pivot fewer each time, the same last basis, values and prices, and no end with a
+// lower limit. From the other bases `run` may not be called.
 fn follows(
     alloc: Global,
     p: &Program,

@@ -1,4 +1,4 @@
-//! What is noted of a path: its pivots, its bases, and the aim's value.
+//! The log of a path: its pivots, its bases, and the aim's value.
 
 ghost use Rattle.std.specs.Prelude.{MatchResult, IfOk, OnOk, ℕ, ◌+◌, ◌<◌, ◌^◌, ℤ, pos, ◌<ℤ◌, List, length};
 ghost use Rattle.gs_rows.specs.Program.{IsPairList};
@@ -21,7 +21,7 @@ pub(crate) struct Log {
     pub(crate) bases: Vec<Vec<u32>>,
 }
 
-// The aim's value, the other columns being 0.
+// Returns the aim's value when the unlisted columns are 0.
 pub(crate) fn aim_value(p: &Program, numbers: &[i64]) -> Fraction
     requires table { IsTable p.now numbers.now }
     requires multiple { pos 0 <ℤ table_aim p.now numbers.now (p.now.cols + 1) }
@@ -32,7 +32,7 @@ pub(crate) fn aim_value(p: &Program, numbers: &[i64]) -> Fraction
     Fraction::new(-i128::from(last), i128::from(multiple))
 }
 
-// The columns that are listed with some row, counted from 1, in order of number.
+// Returns the columns that are listed with some row, counted from 1, in rising order.
 fn columns_of(
     alloc: Global,
     p: &Program,
@@ -54,7 +54,7 @@ fn columns_of(
     Ok(columns)
 }
 
-// The columns of a list, counted from 1, in order of number.
+// Returns the columns of a list, counted from 1, in rising order.
 fn listed_columns(alloc: Global, p: &Program, basis: &[(u32, u32)]) -> Result<Vec<u32>, AllocError>
     requires small_rows { p.now.rows < 2 ^ 31 }
     requires small_cols { p.now.cols < 2 ^ 31 }
@@ -66,7 +66,7 @@ fn listed_columns(alloc: Global, p: &Program, basis: &[(u32, u32)]) -> Result<Ve
 }
 
 impl Log {
-    // The basis of the opening.
+    // Returns a log that has the basis of the opening and no pivot.
     pub(crate) fn start(
         alloc: Global,
         p: &Program,
@@ -88,7 +88,7 @@ impl Log {
         })
     }
 
-    // Notes one more pivot and the basis after it.
+    // Adds one more pivot and the basis after it.
     fn note(
         &mut self,
         alloc: Global,
@@ -112,7 +112,7 @@ impl Log {
         Ok(())
     }
 
-    // Makes pivots until the path stops, at most `limit`, notes each, and answers how many.
+    // Makes pivots until the path ends, at most `limit`, and logs each. Returns their number, or what stopped the path.
     pub(crate) fn follow(
         &mut self,
         alloc: Global,

@@ -1,6 +1,7 @@
 // Small programs with the answers of an independent implementation that solves each step's rows from the program; and Kuhn's game.
 
-/// A program with its opening as a text: the free columns, the numbers row by row, the aim and the opening's pairs; the most pivots; and what is said.
+/// A case: its name, a program with its opening as a text, the most pivots and the answer.
+/// The text has the free columns, the numbers row by row, the aim and the opening's pairs.
 pub(super) type Case = (&'static str, &'static str, u32, &'static str);
 
 pub(super) const CASES: &[Case] = &[
@@ -177,7 +178,7 @@ pub(super) const KUHN_PATH: &[(u32, u32)] = &[
     (3, 5),
 ];
 
-/// How the paths of programs are reached: the aim's value after the opening, the pivots, the bases, and the aim's value at the end.
+/// Paths of programs: the aim's value after the opening, the pivots, the bases, and the aim's value at the end.
 pub(super) const TRACES: &[Case] = &[
     (
         "the game of one rank and two suits",
