@@ -1,4 +1,4 @@
-//! What the raw signals of round 1 are worth, from sums by pairs of raw signals: each end is read once, in its own round.
+//! The values of the raw signals of round 1, from sums by pairs of raw signals: each end is read once, in its own round.
 
 ghost use Rattle.std.specs.Prelude.{◌≡◌, ◌-◌, ◌*◌, ◌<◌, ◌≤◌, ◌^◌, IfOk, unsigned_abs};
 ghost use Rattle.gs_filter.specs.Filter.{single_classes};
@@ -24,7 +24,7 @@ pub(crate) struct Spread<'a> {
     pub ghost two_plan: { IsPlanOf (frame_of form.now) (lists_of form.now) 2 two.now },
 }
 
-/// What the deals of a signal of an end's round pay player 1 there.
+/// Returns what the deals of a signal of an end's round pay player 1 there.
 fn signal_gain(side: &Spread<'_>, end: u32, signal: u32) -> i128
     requires end { end < end_count (frame_of side.now.form.now) }
     requires signal { signal < signal_count (frame_of side.now.form.now) (round_of (frame_of side.now.form.now) (at_end end)) }
@@ -41,7 +41,7 @@ fn signal_gain(side: &Spread<'_>, end: u32, signal: u32) -> i128
     scaled(number, end_value(&deviator, end, signal + 1))
 }
 
-/// What the deals of a run of signals of an end's round pay player 1 there.
+/// Returns what the deals of a run of signals of an end's round pay player 1 there.
 fn signals_gain(side: &Spread<'_>, end: u32, run: Run) -> i128
     requires end { end < end_count (frame_of side.now.form.now) }
     requires ordered { run.first ≤ run.end }
@@ -57,7 +57,7 @@ fn signals_gain(side: &Spread<'_>, end: u32, run: Run) -> i128
     sum
 }
 
-/// What the deals of a raw signal of round 1 pay player 1 at an end.
+/// Returns what the deals of a raw signal of round 1 pay player 1 at an end.
 fn end_gain(side: &Spread<'_>, end: u32, signal: u32) -> i128
     requires end { end < end_count (frame_of side.now.form.now) }
     requires signal { signal < signal_count (frame_of side.now.form.now) 1 }
@@ -69,7 +69,7 @@ fn end_gain(side: &Spread<'_>, end: u32, signal: u32) -> i128
     signals_gain(side, end, run)
 }
 
-/// What the deals of a raw signal of round 1 pay player 1.
+/// Returns what the deals of a raw signal of round 1 pay player 1.
 fn all_gain(side: &Spread<'_>, signal: u32) -> i128
     requires { signal < signal_count (frame_of side.now.form.now) 1 }
     ensures value { let f = frame_of side.now.form.now in let lists = lists_of side.now.form.now in
@@ -83,7 +83,7 @@ fn all_gain(side: &Spread<'_>, signal: u32) -> i128
     sum
 }
 
-/// What a raw signal of round 1 is worth to player 1.
+/// Returns what a raw signal of round 1 is worth to player 1.
 fn worth(side: &Spread<'_>, signal: u32) -> Fraction
     requires { signal < signal_count (frame_of side.now.form.now) 1 }
     ensures { let f = frame_of side.now.form.now in let lists = lists_of side.now.form.now in
@@ -96,7 +96,7 @@ fn worth(side: &Spread<'_>, signal: u32) -> Fraction
     paid_over(paid, weight, side.one.total, side.two.total)
 }
 
-/// What each raw signal of round 1 is worth to player 1, in order.
+/// Returns what each raw signal of round 1 is worth to player 1, in order.
 pub(crate) fn worths(alloc: Global, side: &Spread<'_>) -> Result<Vec<Fraction>, AllocError>
     ensures { let f = frame_of side.now.form.now in let lists = lists_of side.now.form.now in
         IfOk result (λ v. AreHandValuesOf f lists side.now.one.now lists side.now.two.now v.items) }
