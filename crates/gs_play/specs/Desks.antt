@@ -1,4 +1,4 @@
--- Room to take turns on. Of private functions.
+-- Room to take turns in. For private functions.
 use Rattle.gs_model.specs.Classes.{ClassLists}
 use Rattle.gs_model.specs.Frame.{Frame}
 use Rattle.gs_seq.specs.Plans.{class_plan}
@@ -7,14 +7,14 @@ use Rattle.gs_totals.specs.Room.{HasRows, HasScratch, IsPlaced}
 use Rattle.gs_play.specs.declared.seats.Seat.{Seat}
 use Rattle.gs_play.specs.declared.turns.Desk.{Desk}
 
--- places and rooms are those of a game
+-- the places and rooms of a desk are those of a game
 pub record IsDesk (f : Frame) (lists : ClassLists) (d : Desk) : Type 0 where
   pub placed : IsPlaced f lists d.places
   pub one : HasRows f lists d.steps_one
   pub two : HasRows f lists d.steps_two
   pub scratch : HasScratch f lists d.scratch
 
--- what each player's answer pays the other each turn
+-- `steps_one` has what ends pay player 1 against player 2's answer, and `steps_two` what they pay player 2 against player 1's answer
 pub record AreSteps (f : Frame) (lists : ClassLists) (one two : Seat) (d : Desk) : Type 0 where
   pub to_one : AreEndSums f lists 1 (class_plan f lists two.answer) d.steps_one.ends.items
   pub to_two : AreEndSums f lists 2 (class_plan f lists one.answer) d.steps_two.ends.items

@@ -1,4 +1,4 @@
-//! What each player holds while the turns go on.
+//! What each player holds from turn to turn.
 
 ghost use Rattle.std.specs.Prelude.{◌≡◌, ◌↔◌, IsTrue, false, ◌+◌, ◌<◌, ◌≤◌, ◌^◌, IfOk, length};
 ghost use Rattle.gs_model.specs.Frame.{other_player, point_count};
@@ -20,20 +20,20 @@ use gs_totals::{
 use std::alloc::{AllocError, Global};
 use std::mem::swap;
 
-/// A player's plan so far and best answer, and what these rest on: the class totals against the other's plan, and the moves that they choose.
+/// A player's plan so far and best answer. The answer rests on the class totals against the other's plan and the moves that they choose.
 #[derive(Drop)]
 pub(crate) struct Seat {
     pub(crate) plan: Plan,
     pub(crate) answer: Plan,
-    // the weights of the answer before, and room for the next one
+    // the weights of the former answer, and room for the next one
     pub(crate) next: Vec<u64>,
     pub(crate) totals: Totals,
     pub(crate) picks: Vec<u8>,
-    // whether all this is known already against the other's plan as it stands
+    // whether totals, moves and answer are those against the other's present plan
     pub(crate) is_answered: bool,
 }
 
-/// A player with the plan that takes the first move everywhere.
+/// Returns a player whose plan takes the first move everywhere.
 pub(crate) fn seat_of(alloc: Global, form: &Abstract, player: u8) -> Result<Seat, AllocError>
     requires some { 0 < player }
     requires two { player ≤ 2 }
@@ -54,7 +54,7 @@ pub(crate) fn seat_of(alloc: Global, form: &Abstract, player: u8) -> Result<Seat
     })
 }
 
-/// Reads what ends pay a player against a plan of the other's.
+/// Sets the ends of `totals` to what they pay a player against a plan of the other's.
 pub(crate) fn read_pay(role: &Role<'_>, other: &Plan, totals: &mut Totals, scratch: &mut Scratch)
     requires other { IsOthers role.now other.now }
     requires rows { HasRows (frame_in role.now) (lists_in role.now) totals.old }
@@ -67,7 +67,7 @@ pub(crate) fn read_pay(role: &Role<'_>, other: &Plan, totals: &mut Totals, scrat
     read_ends(&ledger, totals, scratch);
 }
 
-/// Finds a player's best totals against the other's plan with the moves that they choose, and the weights of the plan that puts all on them.
+/// Finds a player's best totals against the other's plan with the moves that they choose, and the weights of the plan that puts all weight on them.
 fn find(
     role: &Role<'_>,
     totals: &mut Totals,
@@ -94,14 +94,14 @@ fn find(
     put_all(role.form, role.player, role.places, picks, weights);
 }
 
-/// Whether two lists of weights are the same.
+/// Returns whether two lists of weights are equal.
 fn is_same(first: &[u64], second: &[u64]) -> bool
     ensures { IsTrue result ↔ (first.now ≡ second.now) }
 {
     first == second
 }
 
-/// Finds a player's best answer to the other's plan, and says whether it is the same one as before.
+/// Finds a player's best answer to the other's plan. Returns whether it is the former answer.
 fn answer_anew(role: &Role<'_>, seat: &mut Seat, other: &Plan, scratch: &mut Scratch) -> bool
     requires seat { IsSeat (frame_in role.now) (lists_in role.now) role.now.player (plan_in role.now other.now) seat.old }
     requires other { IsOthers role.now other.now }
@@ -127,7 +127,7 @@ fn answer_anew(role: &Role<'_>, seat: &mut Seat, other: &Plan, scratch: &mut Scr
     is_same(&seat.next, &seat.answer.weights)
 }
 
-/// Finds a player's best answer to the other's plan where it is not known yet, and says whether it is the same one as before.
+/// Finds a player's best answer to the other's plan, unless it is known. Returns whether it is the former answer.
 pub(crate) fn answer(role: &Role<'_>, seat: &mut Seat, other: &Plan, scratch: &mut Scratch) -> bool
     requires seat { IsSeat (frame_in role.now) (lists_in role.now) role.now.player (plan_in role.now other.now) seat.old }
     requires known { let k = role.now in
@@ -147,7 +147,7 @@ pub(crate) fn answer(role: &Role<'_>, seat: &mut Seat, other: &Plan, scratch: &m
     answer_anew(role, seat, other, scratch)
 }
 
-/// Reads what the other's answer pays a player each turn, where it is not what the answer before paid.
+/// Sets what the other's answer pays a player each turn, unless it is the other's former answer.
 fn renew(role: &Role<'_>, same: bool, other: &Seat, steps: &mut Totals, scratch: &mut Scratch)
     requires more { IsOthers role.now other.now.answer }
     requires before { length other.now.next.items ≡ slot_count (frame_in role.now) (lists_in role.now) (other_player role.now.player) }
@@ -189,7 +189,7 @@ fn rise(role: &Role<'_>, seat: &Seat, more: &Plan, steps: &mut Totals, scratch: 
     follow(&ledger, steps, &seat.picks, scratch);
 }
 
-/// A number of turns, at most `times`, in which no choice of a player changes.
+/// Returns a number of turns, at most `times`, in which no choice of a player changes.
 fn lasts(
     role: &Role<'_>,
     seat: &Seat,
@@ -221,8 +221,8 @@ fn lasts(
     lasting(&course, scratch, times)
 }
 
-/// Finds what the other's answer, which may be the same one as before, adds to a player's totals each turn, and a number of turns, at most `times`, in
-/// which the player's own answer stays the first best one; of one turn alone it is known, and only
+/// Finds what the other's answer adds to a player's totals each turn; `same` tells whether it is the other's former answer. Returns a number of turns,
+/// at most `times`, in which the player's own answer stays the first best one. For one turn this is known, and only
 /// what ends pay is found.
 pub(crate) fn look_ahead(
     role: &Role<'_>,
@@ -264,8 +264,8 @@ pub(crate) fn look_ahead(
     lasts(role, seat, other, steps, scratch, times)
 }
 
-/// Adds a player's answer to the plan a number of times, and to the totals what the other's answer adds each time; where the choices last for more turns,
-/// the answer is known after them.
+/// Adds a player's answer to the plan `times` times, and to the totals what the other's answer adds each time. If the choices last for more turns,
+/// the next answer is known.
 pub(crate) fn move_on(role: &Role<'_>, seat: &mut Seat, steps: &Totals, times: u32, lasts: u32)
     requires room { HasRoom (frame_in role.now) (lists_in role.now) role.now.player seat.old }
     requires plan { IsPlanOf (frame_in role.now) (lists_in role.now) role.now.player seat.old.plan }

@@ -14,7 +14,7 @@ use Rattle.gs_totals.specs.declared.course.Course.{Course}
 abbrev pub totals_now : Course → Values
 totals_now k = totals_in k.role k.other.now k.totals.now.points.items
 
--- what a turn adds to them: the class totals against the plan that a turn adds
+-- what a turn adds to the class totals: those against the plan that a turn adds
 abbrev pub totals_added : Course → Values
 totals_added k = totals_in k.role k.more.now k.steps.now.points.items
 
@@ -22,14 +22,14 @@ totals_added k = totals_in k.role k.more.now k.steps.now.points.items
 abbrev pub moves_chosen : Course → ℕ → ℕ → ℕ
 moves_chosen k = moves_in k.role k.picks.now
 
--- in this many turns a move of a point overtakes no chosen one
+-- after fewer than `times` turns move m of point q has not overtaken the chosen move of any class
 abbrev pub StaysBehind : Course → ℕ → ℕ → ℕ → Type 0
 StaysBehind k q m times =
     (c : ℕ) → IsClass (lists_in k.role) (round_of (frame_in k.role) (at_point q)) c → moves_chosen k q c ≢ m
     → IsBehind (nat_lt m (moves_chosen k q c)) (totals_now k (at_point q) c) (total_worth (frame_in k.role) (lists_in k.role) (totals_now k) q m c)
     (totals_added k (at_point q) c) (total_worth (frame_in k.role) (lists_in k.role) (totals_added k) q m c) times
 
--- this many turns change no choice at a point
+-- after fewer than `times` turns no choice at point q has changed
 abbrev pub LastsAt : Course → ℕ → ℕ → Type 0
 LastsAt k q times =
     (c : ℕ) → IsClass (lists_in k.role) (round_of (frame_in k.role) (at_point q)) c
@@ -37,6 +37,6 @@ LastsAt k q times =
     (λ m. total_worth (frame_in k.role) (lists_in k.role) (totals_added k) q m c)
     (move_count (frame_in k.role) q) (moves_chosen k q c) times
 
--- this many turns change no choice of the player
+-- after fewer than `times` turns no choice of the player has changed
 abbrev pub Lasts : Course → ℕ → Type 0
 Lasts k times = AreBeforeChange (frame_in k.role) (lists_in k.role) k.role.player (totals_now k) (totals_added k) (moves_chosen k) times

@@ -1,4 +1,4 @@
--- A player's class totals as they are kept against a plan of the other's.
+-- A player's class totals against a plan of the other player, as they are kept in lists.
 use Rattle.std.specs.Prelude.{ℕ, ◌+◌, ◌-◌, ◌<◌, ◌≤◌, ◌≡◌, List, get_or, length, ℤ, pos}
 use Rattle.gs_model.specs.Classes.{IsClass}
 use Rattle.gs_model.specs.Frame.{point_count, round_of}
@@ -12,19 +12,19 @@ use Rattle.gs_totals.specs.declared.ledger.Ledger.{Ledger}
 use Rattle.gs_totals.specs.declared.places.Scratch.{Scratch}
 use Rattle.gs_totals.specs.declared.places.Totals.{Totals}
 
--- there is room for class totals and moves and to work on, and what ends pay is known
+-- there is room for class totals, moves and scratch rows, and the totals have what ends pay
 pub record IsReady (k : Ledger) (t : Totals) (picks : List ℕ) (s : Scratch) : Type 0 where
   pub rows : HasRows (frame_in k.role) (lists_in k.role) t
   pub paid : ArePaid k.role k.other.now t
   pub long : start_of (frame_in k.role) (lists_in k.role) (point_count (frame_in k.role)) ≤ length picks
   pub scratch : HasScratch (frame_in k.role) (lists_in k.role) s
 
--- at the points from one on class totals are best, with the first best moves
+-- from point `from` on, the class totals are best, and the moves are the first best ones
 abbrev pub AreBestIn : Ledger → Totals → List ℕ → ℕ → Type 0
 AreBestIn k t picks from = AreBestFrom (frame_in k.role) (lists_in k.role) k.role.player (totals_in k.role k.other.now t.points.items)
     (moves_in k.role picks) from
 
--- at the points from one on class totals follow moves
+-- from point `from` on, the class totals follow the moves
 abbrev pub AreFollowedIn : Ledger → Totals → List ℕ → ℕ → Type 0
 AreFollowedIn k t picks from = IsFollowedFrom (frame_in k.role) (lists_in k.role) k.role.player (totals_in k.role k.other.now t.points.items)
     (moves_in k.role picks) from
@@ -33,7 +33,7 @@ AreFollowedIn k t picks from = IsFollowedFrom (frame_in k.role) (lists_in k.role
 abbrev pub AreMoves : Ledger → List ℕ → Type 0
 AreMoves k picks = AreInMoves (frame_in k.role) (lists_in k.role) k.role.player (moves_in k.role picks)
 
--- a list has what an end pays the members of each class from a place on, and is elsewhere as it was
+-- from place `start` on, the new list has what an end pays the members of each class; elsewhere it is as the old list
 pub record IsPaidAt (k : Ledger) (z start : ℕ) (old new : List ℤ) : Type 0 where
   pub here : (c : ℕ) → IsClass (lists_in k.role) (round_of (frame_in k.role) (at_end z)) c
       → get_or new (start + (c - 1)) (pos 0) ≡ end_sum (frame_in k.role) (lists_in k.role) k.role.player (plan_in k.role k.other.now) z c

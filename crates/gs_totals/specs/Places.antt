@@ -1,4 +1,4 @@
--- Class totals kept in lists: rows of a number for each class, one for each end and one for each point, each behind the one before.
+-- Class totals kept in lists: a row for each end and a row for each point, one after the other. A row has a number for each class.
 use Rattle.std.specs.Prelude.{ℕ, ◌+◌, ◌-◌, ◌^◌, ◌<◌, ◌≡◌, List, get_or, slice_index, ℤ, pos, sum_by, unsigned_abs}
 use Rattle.std.specs.List.{range_with_len}
 use Rattle.gs_model.specs.BestAnswers.{Values}
@@ -15,7 +15,7 @@ use Rattle.gs_totals.specs.Jumps.{line}
 abbrev pub end_start : Frame → ClassLists → ℕ → ℕ
 end_start f lists z = sum_by (end_classes f lists) (range_with_len 0 z)
 
--- for each end the place of its first class
+-- `starts` has for each end the place of its first class
 abbrev pub AreEndStarts : Frame → ClassLists → List ℕ → Type 0
 AreEndStarts f lists starts = (z : ℕ) → z < end_count f → slice_index starts z ≡ end_start f lists z
 
@@ -24,20 +24,20 @@ abbrev pub AreEndSums : Frame → ClassLists → ℕ → Plan → List ℤ → T
 AreEndSums f lists player y sums = (z c : ℕ) → z < end_count f → IsClass lists (round_of f (at_end z)) c
     → get_or sums (end_start f lists z + (c - 1)) (pos 0) ≡ end_sum f lists player y z c
 
--- the class totals of a list at points; at an end what it pays
+-- class totals: at points those of a list, at ends what the end pays
 abbrev pub totals_of : Frame → ClassLists → ℕ → Plan → List ℤ → Values
 totals_of f lists player y values (at_point q) c = get_or values (start_of f lists q + (c - 1)) (pos 0)
 totals_of f lists player y values (at_end z) c = end_sum f lists player y z c
 
--- at the points from one on each own class follows its move, and the other's points add up
+-- from point `from` on, each own class has what its move is worth, and the other's points have the sums over their moves
 abbrev pub IsFollowedFrom : Frame → ClassLists → ℕ → Values → (ℕ → ℕ → ℕ) → ℕ → Type 0
 IsFollowedFrom f lists player v move from = IsFollowedBy f lists player v (total_worth f lists v) move from
 
--- and that move is the first of greatest worth
+-- from point `from` on, the move of each own class is the first of greatest worth
 abbrev pub AreFirstFrom : Frame → ClassLists → ℕ → Values → (ℕ → ℕ → ℕ) → ℕ → Type 0
 AreFirstFrom f lists player v move from = AreFirstBy f lists player v (total_worth f lists v) move from
 
--- both
+-- from point `from` on, v has the best class totals and `move` the first best moves
 pub record AreBestFrom (f : Frame) (lists : ClassLists) (player : ℕ) (v : Values) (move : ℕ → ℕ → ℕ) (from : ℕ) : Type 0 where
   pub followed : IsFollowedFrom f lists player v move from
   pub greatest : AreFirstFrom f lists player v move from
@@ -52,14 +52,14 @@ abbrev pub AreSmallPoints : Frame → ClassLists → List ℤ → Type 0
 AreSmallPoints f lists values = (q c : ℕ) → q < point_count f → IsClass lists (round_of f (at_point q)) c
     → unsigned_abs (get_or values (start_of f lists q + (c - 1)) (pos 0)) < 2 ^ 90
 
--- the numbers of all ends have those of a second list added a number of times
+-- at all ends the new numbers are the old ones plus `times` times the steps
 abbrev pub AreEndLines : Frame → ClassLists → List ℤ → List ℤ → ℕ → List ℤ → Type 0
 AreEndLines f lists old steps times new =
     (z c : ℕ) → z < end_count f → IsClass lists (round_of f (at_end z)) c
     → get_or new (end_start f lists z + (c - 1)) (pos 0) ≡ line (get_or old (end_start f lists z + (c - 1)) (pos 0))
     (get_or steps (end_start f lists z + (c - 1)) (pos 0)) times
 
--- the numbers of all points have those of a second list added a number of times
+-- at all points the new numbers are the old ones plus `times` times the steps
 abbrev pub ArePointLines : Frame → ClassLists → List ℤ → List ℤ → ℕ → List ℤ → Type 0
 ArePointLines f lists old steps times new =
     (q c : ℕ) → q < point_count f → IsClass lists (round_of f (at_point q)) c

@@ -1,15 +1,15 @@
--- Plans that are added up from turn to turn, and plans that are the same.
+-- Plans that are added up from turn to turn, and plans that are alike.
 use Rattle.std.specs.Prelude.{ℕ, ◌+◌, ◌*◌, ◌<◌, ◌≡◌}
 use Rattle.gs_model.specs.Classes.{ClassLists, IsClass}
 use Rattle.gs_model.specs.Frame.{Frame, move_count, player_at, point_count, round_of}
 use Rattle.gs_model.specs.Plans.{Plan}
 use Rattle.gs_model.specs.Positions.{at_point}
 
--- a plan with another one added a number of times
+-- plan x plus k times plan b
 abbrev pub plus_times : Plan → ℕ → Plan → Plan
 plus_times x k b = record { total = x.total + k * b.total; number = λ q c m. x.number q c m + k * b.number q c m }
 
--- two plans of a player are the same wherever the player chooses
+-- two plans have the same total, and the same numbers wherever the player chooses
 pub record AreAlike (f : Frame) (lists : ClassLists) (player : ℕ) (x y : Plan) : Type 0 where
   pub total : x.total ≡ y.total
   pub numbers : (q c m : ℕ) → q < point_count f → player_at f q ≡ player → IsClass lists (round_of f (at_point q)) c → m < move_count f q

@@ -1,4 +1,4 @@
--- Two lists of weights of a player before an end.
+-- Two plans of a player, and where they agree.
 use Rattle.std.specs.Prelude.{ℕ, ◌≡◌, List, slice_index}
 use Rattle.gs_model.specs.Classes.{ClassLists, IsClass}
 use Rattle.gs_model.specs.Frame.{Frame, round_of}
@@ -7,7 +7,7 @@ use Rattle.gs_model.specs.Plans.{Plan}
 use Rattle.gs_model.specs.Positions.{Step, at_end, at_point}
 use Rattle.gs_seq.specs.Slots.{slot_of}
 
--- they agree at a step: at each class of its point
+-- two lists of weights agree at a step, at each class of the step's point
 abbrev pub AgreeAt : Frame → ClassLists → Step → List ℕ → List ℕ → Type 0
 AgreeAt f lists u before now = (c : ℕ) → IsClass lists (round_of f (at_point u.point)) c
     → slice_index before (slot_of f lists u.point c u.choice) ≡ slice_index now (slot_of f lists u.point c u.choice)

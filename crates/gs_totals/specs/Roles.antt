@@ -20,22 +20,22 @@ frame_in k = frame_of k.form.now
 abbrev pub lists_in : Role → ClassLists
 lists_in k = lists_of k.form.now
 
--- a plan over its classes
+-- a plan over the classes of the game
 abbrev pub plan_in : Role → Plan → ModelPlan
 plan_in k p = class_plan (frame_of k.form.now) (lists_of k.form.now) p
 
--- the moves of a list
+-- the moves that a list has for each point and class
 abbrev pub moves_in : Role → List ℕ → ℕ → ℕ → ℕ
 moves_in k picks = moves_of (frame_in k) (lists_in k) picks
 
--- the player's class totals against a plan of the other's, as a list has them at points
+-- the player's class totals against a plan of the other's: at points those of a list
 abbrev pub totals_in : Role → Plan → List ℤ → Values
 totals_in k other values = totals_of (frame_in k) (lists_in k) k.player (plan_in k other) values
 
--- a plan is one of the other player's
+-- a plan of the other player
 abbrev pub IsOthers : Role → Plan → Type 0
 IsOthers k p = IsPlanOf (frame_in k) (lists_in k) (other_player k.player) p
 
--- class totals have what each end pays the player against a plan of the other's
+-- the totals have what each end pays the player against a plan of the other's
 abbrev pub ArePaid : Role → Plan → Totals → Type 0
 ArePaid k other t = AreEndSums (frame_in k) (lists_in k) k.player (plan_in k other) t.ends.items

@@ -9,19 +9,19 @@ use Rattle.gs_totals.specs.declared.places.Places.{Places}
 use Rattle.gs_totals.specs.declared.places.Scratch.{Scratch}
 use Rattle.gs_totals.specs.declared.places.Totals.{Totals}
 
--- each row starts where it should
+-- the places have the start of each end's row and of each point's row
 pub record IsPlaced (f : Frame) (lists : ClassLists) (p : Places) : Type 0 where
   pub many_ends : end_count f ≤ length p.ends.items
   pub many_points : point_count f ≤ length p.points.items
   pub ends : AreEndStarts f lists p.ends.items
   pub points : AreStarts f lists p.points.items
 
--- there is a number for each class of each end and each point
+-- there is room for a number for each class of each end and of each point
 pub record HasRows (f : Frame) (lists : ClassLists) (t : Totals) : Type 0 where
   pub ends : end_start f lists (end_count f) ≤ length t.ends.items
   pub points : start_of f lists (point_count f) ≤ length t.points.items
 
--- the rows to work on are long enough
+-- the scratch rows are long enough for the classes of any round
 pub record HasScratch (f : Frame) (lists : ClassLists) (s : Scratch) : Type 0 where
   pub numbers : IsWide f lists (length s.numbers.items)
   pub worths : IsWide f lists (length s.worths.items)

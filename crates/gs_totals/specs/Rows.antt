@@ -1,4 +1,4 @@
--- Rows of a number for each class of a round. Of private functions.
+-- Rows of a number for each class of a round. For private functions.
 use Rattle.std.specs.Prelude.{ℕ, ◌+◌, ◌≤◌, ◌≡◌, length}
 use Rattle.gs_model.specs.BestAnswers.{Values}
 use Rattle.gs_model.specs.Classes.{ClassLists, IsClass, class_count}
@@ -8,14 +8,14 @@ use Rattle.gs_best.specs.Rows.{AreModest}
 use Rattle.gs_totals.specs.Merged.{row_from}
 use Rattle.gs_totals.specs.declared.rows.Row.{Row}
 
--- a row of a round, or of a later one, stands in its list, and its numbers are modest
+-- a row of round `to` or a later one lies inside its list, and its numbers are modest
 pub record IsLaterRow (f : Frame) (lists : ClassLists) (to : ℕ) (r : Row) : Type 0 where
   pub later : to ≤ r.round
   pub top : r.round ≤ last_round f
   pub room : r.start + class_count lists r.round ≤ length r.values.now
   pub modest : AreModest r.values.now r.start (class_count lists r.round)
 
--- it has what a table holds at a position
+-- the row has what a table holds at a position
 pub record IsRowOf (f : Frame) (lists : ClassLists) (v : Values) (t : Target) (r : Row) : Type 0 where
   pub round_is : r.round ≡ round_of f t
   pub values_are : (c : ℕ) → IsClass lists (round_of f t) c → row_from r.values.now r.start c ≡ v t c

@@ -8,7 +8,7 @@ use crate::places::{Totals, end_room};
 use gs_best::value_total;
 use gs_seq::{Abstract, plus, scaled};
 
-/// A number to which a step is added a number of times.
+/// Returns a number plus `times` times a step.
 fn advanced(sum: i128, step: i128, times: u32) -> i128
     requires sum { unsigned_abs sum < 2 ^ 90 }
     requires step { unsigned_abs step < 2 ^ 90 }
@@ -18,7 +18,7 @@ fn advanced(sum: i128, step: i128, times: u32) -> i128
     plus(sum, scaled(u64::from(times), step))
 }
 
-/// Adds to the first numbers those of another list a number of times.
+/// Adds `times` times the first `count` steps to the first `count` numbers.
 fn advance_first(sums: &mut [i128], steps: &[i128], count: usize, times: u32)
     requires sums { count ≤ length sums.old }
     requires steps { count ≤ length steps.now }
@@ -32,8 +32,8 @@ fn advance_first(sums: &mut [i128], steps: &[i128], count: usize, times: u32)
     }
 }
 
-/// Adds to a player's class totals what each turn adds, a number of times: to what ends pay, and where the choices last for more turns to the totals of points
-/// as well.
+/// Adds `times` times what each turn adds to a player's class totals. What ends pay always advances; the totals of points advance only if the choices last
+/// for more turns, that is if `times` is below `lasts`.
 pub fn advance(form: &Abstract, totals: &mut Totals, steps: &Totals, times: u32, lasts: u32)
     requires rows { HasRows (frame_of form.now) (lists_of form.now) totals.old }
     requires step_rows { HasRows (frame_of form.now) (lists_of form.now) steps.now }

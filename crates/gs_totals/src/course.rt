@@ -1,4 +1,4 @@
-//! Where a player's class totals stand, and what each turn adds to them.
+//! A player's class totals, and what each turn adds to them.
 
 ghost use Rattle.std.specs.Prelude.{◌≤◌, length};
 ghost use Rattle.gs_model.specs.Frame.{point_count};
@@ -10,8 +10,8 @@ use crate::places::Totals;
 use crate::role::Role;
 use gs_seq::Plan;
 
-/// The best totals of a player against the other's plan with the moves that they choose, and what these moves gain against a plan that is added to the
-/// other's each turn.
+/// A player's best class totals against the other's plan, with the moves that they choose. `steps` has what these moves gain against `more`, the plan that
+/// each turn adds to the other's.
 #[derive(Clone, Copy)]
 pub struct Course<'a> {
     pub role: Role<'a>,

@@ -1,4 +1,4 @@
-//! What ends pay classes as wholes.
+//! What ends pay all members of a class together.
 
 ghost use Rattle.std.specs.Prelude.{◌≤◌, length};
 ghost use Rattle.gs_model.specs.Frame.{end_count};
@@ -10,7 +10,7 @@ use crate::paying::read_end;
 use crate::places::{Scratch, Totals};
 use gs_best::end_total;
 
-/// What all ends pay the members of each class together.
+/// Sets `sums` to what all ends pay the members of each class together.
 fn read_all(ledger: &Ledger<'_>, sums: &mut [i128], numbers: &mut [u64])
     requires wide { IsWide (frame_in ledger.now.role) (lists_in ledger.now.role) (length numbers.old) }
     requires room { end_start (frame_in ledger.now.role) (lists_in ledger.now.role) (end_count (frame_in ledger.now.role)) ≤ length sums.old }
@@ -22,7 +22,7 @@ fn read_all(ledger: &Ledger<'_>, sums: &mut [i128], numbers: &mut [u64])
     }
 }
 
-/// Reads what ends pay a player against the other's plan, class by class.
+/// Sets the ends of `totals` to what they pay a player against the other's plan, class by class.
 pub fn read_ends(ledger: &Ledger<'_>, totals: &mut Totals, scratch: &mut Scratch)
     requires scratch { HasScratch (frame_in ledger.now.role) (lists_in ledger.now.role) scratch.old }
     requires rows { HasRows (frame_in ledger.now.role) (lists_in ledger.now.role) totals.old }

@@ -1,4 +1,4 @@
-//! Class totals and first best moves at all points, by induction backwards.
+//! Class totals and first best moves at all points, by backward induction.
 
 ghost use Rattle.std.specs.Prelude.{◌≡◌, ◌+◌, ◌<◌};
 ghost use Rattle.gs_model.specs.Frame.{point_count};
@@ -10,7 +10,7 @@ use crate::places::{Scratch, Totals};
 use crate::point_row::PointRow;
 use gs_best::{copy_moves, copy_values, point_total};
 
-/// The class totals and first best moves of a point, where those of all later points are known.
+/// Sets the class totals and first best moves of a point, from the totals of all later points.
 fn fill_point(
     ledger: &Ledger<'_>,
     totals: &mut Totals,
@@ -36,7 +36,7 @@ fn fill_point(
     copy_values(&scratch.best, at.start, at.count, &mut totals.points);
 }
 
-/// The class totals and first best moves of all points, where it is known what ends pay: the last point first.
+/// Sets the class totals and first best moves of all points, the last point first. `totals` has what ends pay.
 pub fn fill(ledger: &Ledger<'_>, totals: &mut Totals, picks: &mut [u8], scratch: &mut Scratch)
     requires ready { IsReady ledger.now totals.old picks.old scratch.old }
     ensures ready { IsReady ledger.now totals.new picks.new scratch.new }

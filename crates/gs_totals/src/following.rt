@@ -1,4 +1,4 @@
-//! Class totals at all points where the moves of a player are given, by induction backwards.
+//! Class totals at all points for given moves of a player, by backward induction.
 
 ghost use Rattle.std.specs.Prelude.{◌≡◌, ◌+◌, ◌<◌};
 ghost use Rattle.gs_model.specs.Frame.{point_count};
@@ -11,7 +11,7 @@ use crate::places::{Scratch, Totals};
 use crate::point_row::PointRow;
 use gs_best::{copy_values, point_total};
 
-/// The class totals of a point by given moves, where those of all later points are known.
+/// Sets the class totals of a point for given moves, from the totals of all later points.
 fn follow_point(
     ledger: &Ledger<'_>,
     totals: &mut Totals,
@@ -32,7 +32,7 @@ fn follow_point(
     copy_values(&scratch.best, at.start, at.count, &mut totals.points);
 }
 
-/// The class totals of all points by given moves, where it is known what ends pay: the last point first.
+/// Sets the class totals of all points for given moves, the last point first. `totals` has what ends pay.
 pub fn follow(ledger: &Ledger<'_>, totals: &mut Totals, picks: &[u8], scratch: &mut Scratch)
     requires ready { IsReady ledger.now totals.old picks.now scratch.old }
     requires moves { AreMoves ledger.now picks.now }

@@ -1,5 +1,5 @@
 //! Class totals: what the members of a class gain together against a plan of the other player, by sums that are kept from plan to plan.
-//! In the literature: counterfactual values, summed over a class.
+//! In the literature they are counterfactual values, summed over a class.
 #![tactic(auto)]
 
 mod advancing;

@@ -10,7 +10,7 @@ use crate::point_row::PointRow;
 use crate::rows::read_worths;
 use gs_best::{add, chooser, move_total, raise};
 
-/// Takes the worth of a move for each of the first classes that have chosen it; their moves are listed from a place on.
+/// Copies to `row` the worth of a move for each of the first `count` classes that has chosen it. `picks` has the classes' moves from place `start` on.
 fn take(worths: &[i128], choice: u8, count: usize, picks: &[u8], start: usize, row: &mut [i128])
     requires worths { count ≤ length worths.now }
     requires picks { start + count ≤ length picks.now }
@@ -24,7 +24,7 @@ fn take(worths: &[i128], choice: u8, count: usize, picks: &[u8], start: usize, r
     }
 }
 
-/// The greatest worth of a move of a point, and the first move that has it, for each class of the point's round.
+/// Writes for each class of a point's round the greatest worth of a move, and the first move that has it.
 fn best_moves(at: &PointRow<'_, '_>, worths: &mut [i128], best: &mut [i128], moves: &mut [u8])
     requires worths { IsWide (frame_in at.now.ledger.role) (lists_in at.now.ledger.role) (length worths.old) }
     requires best { at.now.count ≤ length best.old }
@@ -38,7 +38,7 @@ fn best_moves(at: &PointRow<'_, '_>, worths: &mut [i128], best: &mut [i128], mov
     }
 }
 
-/// The sum of the worths of all moves of a point, for each class of the point's round.
+/// Writes for each class of a point's round the sum of the worths of all moves.
 fn sum_moves(at: &PointRow<'_, '_>, worths: &mut [i128], sums: &mut [i128])
     requires worths { IsWide (frame_in at.now.ledger.role) (lists_in at.now.ledger.role) (length worths.old) }
     requires sums { at.now.count ≤ length sums.old }
@@ -51,7 +51,7 @@ fn sum_moves(at: &PointRow<'_, '_>, worths: &mut [i128], sums: &mut [i128])
     }
 }
 
-/// The worth of the move that each class of a point has chosen.
+/// Writes the worth of the move that each class of a point has chosen.
 fn chosen_moves(at: &PointRow<'_, '_>, picks: &[u8], worths: &mut [i128], row: &mut [i128])
     requires picks { let k = at.now.ledger.role in start_of (frame_in k) (lists_in k) (point_count (frame_in k)) ≤ length picks.now }
     requires worths { IsWide (frame_in at.now.ledger.role) (lists_in at.now.ledger.role) (length worths.old) }
@@ -65,7 +65,7 @@ fn chosen_moves(at: &PointRow<'_, '_>, picks: &[u8], worths: &mut [i128], row: &
     }
 }
 
-/// The class totals of a point, and where the player chooses the first best moves.
+/// Writes the class totals of a point and, where the player chooses, the first best moves.
 pub(crate) fn merge_moves(
     at: &PointRow<'_, '_>,
     worths: &mut [i128],
@@ -85,7 +85,7 @@ pub(crate) fn merge_moves(
     }
 }
 
-/// The class totals of a point where the player's classes have chosen their moves.
+/// Writes the class totals of a point by the moves that the player's classes have chosen.
 pub(crate) fn follow_moves(
     at: &PointRow<'_, '_>,
     picks: &[u8],

@@ -8,7 +8,7 @@ ghost use Rattle.gs_totals.specs.{Ledgers.{IsPaidAt}, Roles.{frame_in, lists_in}
 
 use crate::ledger::Ledger;
 
-/// What an end pays the members of each class together, from a place of a list on, over numbers that are written anew.
+/// Writes what an end pays the members of each class together, from place `start` of `sums` on. `numbers` is a scratch row.
 pub(crate) fn read_end(
     ledger: &Ledger<'_>,
     end: u32,

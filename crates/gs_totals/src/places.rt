@@ -12,7 +12,7 @@ use gs_best::{
 use gs_seq::Abstract;
 use std::alloc::{AllocError, Global};
 
-/// Where the rows of ends and of points start: each row has a number for each class of the round, behind the row before.
+/// The places where the rows of ends and of points start. A row has a number for each class of its round, and follows the row before.
 #[derive(Drop)]
 pub struct Places {
     pub(crate) ends: Vec<u32>,
@@ -26,7 +26,7 @@ pub struct Totals {
     pub(crate) points: Vec<i128>,
 }
 
-/// Rows of a number for each class, to work on.
+/// Scratch rows, one entry per class.
 #[derive(Drop)]
 pub struct Scratch {
     // the other player's numbers at an end
@@ -35,11 +35,11 @@ pub struct Scratch {
     pub(crate) worths: Vec<i128>,
     // what a point is worth by the moves so far, or what a turn adds to a move's worth
     pub(crate) best: Vec<i128>,
-    // and the first best one of them
+    // the first move with that worth
     pub(crate) moves: Vec<u8>,
 }
 
-/// Writes where the row of each end starts.
+/// Writes the place where the row of each end starts.
 fn place_ends(form: &Abstract, starts: &mut [u32])
     requires { end_count (frame_of form.now) ≤ length starts.old }
     ensures { AreEndStarts (frame_of form.now) (lists_of form.now) starts.new }
@@ -53,7 +53,7 @@ fn place_ends(form: &Abstract, starts: &mut [u32])
     }
 }
 
-/// How many numbers the rows of all ends have.
+/// Returns the number of entries in the rows of all ends.
 pub(crate) fn end_room(form: &Abstract) -> u32
     ensures { result ≡ end_start (frame_of form.now) (lists_of form.now) (end_count (frame_of form.now)) }
 {
@@ -66,7 +66,7 @@ pub(crate) fn end_room(form: &Abstract) -> u32
 }
 
 impl Places {
-    /// Where the rows of a game start.
+    /// Returns the places where the rows of a game start.
     pub fn of(alloc: Global, form: &Abstract) -> Result<Places, AllocError>
         ensures { IfOk result (IsPlaced (frame_of form.now) (lists_of form.now)) }
     {
@@ -79,7 +79,7 @@ impl Places {
 }
 
 impl Totals {
-    /// Room for the class totals of a game.
+    /// Returns room for the class totals of a game.
     pub fn of(alloc: Global, form: &Abstract) -> Result<Totals, AllocError>
         ensures { IfOk result (HasRows (frame_of form.now) (lists_of form.now)) }
     {
@@ -89,7 +89,7 @@ impl Totals {
     }
 }
 
-/// A move for each number of the rows of points.
+/// Returns a list with a move for each entry of the rows of points.
 pub fn picks_for(alloc: Global, form: &Abstract) -> Result<Vec<u8>, AllocError>
     ensures { IfOk result (λ v. start_of (frame_of form.now) (lists_of form.now) (point_count (frame_of form.now)) ≤ length v.items) }
 {
@@ -98,7 +98,7 @@ pub fn picks_for(alloc: Global, form: &Abstract) -> Result<Vec<u8>, AllocError>
 }
 
 impl Scratch {
-    /// Rows for the classes of any round of a game.
+    /// Returns scratch rows that are long enough for the classes of any round of a game.
     pub fn of(alloc: Global, form: &Abstract) -> Result<Scratch, AllocError>
         ensures { IfOk result (HasScratch (frame_of form.now) (lists_of form.now)) }
     {

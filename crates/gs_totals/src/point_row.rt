@@ -29,7 +29,7 @@ pub(crate) struct PointRow<'a, 'b> {
 }
 
 impl<'a, 'b> PointRow<'a, 'b> {
-    /// A point of a player's class totals.
+    /// Returns a point with its row in a player's class totals.
     pub(crate) fn of(ledger: &Ledger<'a>, totals: &'b Totals, point: u32) -> PointRow<'a, 'b>
         requires inside { point < point_count (frame_in ledger.now.role) }
         requires rows { HasRows (frame_in ledger.now.role) (lists_in ledger.now.role) totals.now }

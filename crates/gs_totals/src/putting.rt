@@ -1,4 +1,4 @@
-//! The plan that puts all on given moves.
+//! The plan that puts all weight on given moves.
 
 ghost use Rattle.std.specs.Prelude.{◌≡◌, ◌<◌, ◌≤◌, length};
 ghost use Rattle.gs_model.specs.Frame.{point_count};
@@ -19,7 +19,7 @@ fn clear(weights: &mut [u64])
     }
 }
 
-/// Writes the weights of the plan of total 1 that puts all on the moves of a player.
+/// Writes the weights of the plan of total 1 that puts all weight on the given moves of a player.
 pub fn put_all(form: &Abstract, player: u8, places: &Places, picks: &[u8], weights: &mut [u64])
     requires some { 0 < player }
     requires two { player ≤ 2 }

@@ -1,4 +1,4 @@
-//! What ends pay against a plan, from what they pay against another one: only the ends where both differ are read anew.
+//! What ends pay against a plan, from what they pay against another one: only the ends where the plans differ are computed again.
 
 ghost use Rattle.std.specs.Prelude.{◌≡◌, ◌↔◌, ◌+◌, ◌-◌, ◌<◌, ◌≤◌, ℕ, IsTrue, length, pos, get_or};
 ghost use Rattle.gs_game.specs.Seen.{step_of};
@@ -16,7 +16,7 @@ use gs_best::{class_total, end_total, game, round_at, round_total};
 use gs_game::Step;
 use gs_seq::{Abstract, end_step};
 
-/// Whether two lists of a player's weights agree at an own step, at each class of its point.
+/// Returns whether two lists of a player's weights agree at an own step, at each class of its point.
 fn agree_at(form: &Abstract, step: Step, before: &[u64], now: &[u64]) -> bool
     requires point { step.point < point_count (frame_of form.now) }
     requires choice { step.choice < move_count (frame_of form.now) step.point }
@@ -37,7 +37,8 @@ fn agree_at(form: &Abstract, step: Step, before: &[u64], now: &[u64]) -> bool
     true
 }
 
-/// Whether the other player's plan has the same numbers at an end as with other weights, by the weights of that player's last step.
+/// Returns true only if the other player's plan has the same numbers at an end as with the weights `before`. It compares the weights of that player's last
+/// step.
 fn is_same_at(ledger: &Ledger<'_>, before: &[u64], end: u32) -> bool
     requires before { let k = ledger.now.role in length before.now ≡ slot_count (frame_in k) (lists_in k) (other_player k.player) }
     requires end { end < end_count (frame_in ledger.now.role) }
@@ -53,7 +54,7 @@ fn is_same_at(ledger: &Ledger<'_>, before: &[u64], end: u32) -> bool
     }
 }
 
-/// Reads what an end pays anew where the other player's plan differs there from what it was with other weights.
+/// Computes again what an end pays, if the other player's plan differs there from the one with the weights `before`.
 fn renew_end(
     ledger: &Ledger<'_>,
     before: &[u64],
@@ -77,7 +78,7 @@ fn renew_end(
     read_end(ledger, end, start, sums, numbers);
 }
 
-/// Reads what all ends pay anew where the other player's plan differs there from what it was with other weights.
+/// Computes again what ends pay, at all ends where the other player's plan differs from the one with the weights `before`.
 fn renew_all(ledger: &Ledger<'_>, before: &[u64], sums: &mut [i128], numbers: &mut [u64])
     requires before { let k = ledger.now.role in length before.now ≡ slot_count (frame_in k) (lists_in k) (other_player k.player) }
     requires wide { IsWide (frame_in ledger.now.role) (lists_in ledger.now.role) (length numbers.old) }
@@ -92,7 +93,7 @@ fn renew_all(ledger: &Ledger<'_>, before: &[u64], sums: &mut [i128], numbers: &m
     }
 }
 
-/// Reads what ends pay a player against the other's plan, where it is known what they pay with other weights.
+/// Changes what ends pay a player from the payoffs against the weights `before` to those against the other's plan.
 pub fn renew_ends(ledger: &Ledger<'_>, before: &[u64], totals: &mut Totals, scratch: &mut Scratch)
     requires before { let k = ledger.now.role in length before.now ≡ slot_count (frame_in k) (lists_in k) (other_player k.player) }
     requires scratch { HasScratch (frame_in ledger.now.role) (lists_in ledger.now.role) scratch.old }

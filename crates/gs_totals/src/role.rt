@@ -1,4 +1,4 @@
-//! Whose turns are taken, and where that player's class totals stand.
+//! A player, and where the player's class totals are.
 
 ghost use Rattle.std.specs.Prelude.{◌<◌, ◌≤◌};
 ghost use Rattle.gs_seq.specs.Abstracts.{frame_of, lists_of};
@@ -7,7 +7,7 @@ ghost use Rattle.gs_totals.specs.Room.{IsPlaced};
 use crate::places::Places;
 use gs_seq::Abstract;
 
-/// A player of a game, and where the rows of the class totals start.
+/// A player of a game, and the places where the rows of the class totals start.
 #[derive(Clone, Copy)]
 pub struct Role<'a> {
     pub form: &'a Abstract<'a>,

@@ -1,4 +1,4 @@
-//! What a move is worth to classes as wholes.
+//! What a move is worth to all members of a class together.
 
 ghost use Rattle.std.specs.Prelude.{◌≡◌, ◌<◌, ◌≤◌, ℕ, pos, length, get_or};
 ghost use Rattle.gs_model.specs.{Classes.{class_count}, Frame.{leads_to, move_count, round_of}, Positions.{at_point}};
@@ -12,7 +12,7 @@ use gs_best::{class_above, class_total, end_round, round_at, round_total, target
 use gs_game::Target;
 use gs_seq::{Abstract, plus};
 
-/// A number for each class of a round, in a list from a place on.
+/// A number for each class of a round, in a list from place `start` on.
 #[derive(Clone, Copy)]
 struct Row<'a> {
     round: u8,
@@ -20,7 +20,7 @@ struct Row<'a> {
     start: usize,
 }
 
-/// Sets the first numbers to 0.
+/// Sets the first `count` numbers to 0.
 fn clear(sums: &mut [i128], count: usize)
     requires { count ≤ length sums.old }
     ensures { (k : ℕ) → k < count → get_or sums.new k (pos 0) ≡ pos 0 }
@@ -30,7 +30,7 @@ fn clear(sums: &mut [i128], count: usize)
     }
 }
 
-/// Adds to a cleared row, for each class of a later round, the class's number at the class above it.
+/// Adds each number of a row of a later round to a cleared row of round `to`, at the class above.
 fn gather(form: &Abstract, row: Row<'_>, to: u8, sums: &mut [i128])
     requires some { 0 < to }
     requires row { IsLaterRow (frame_of form.now) (lists_of form.now) to row }
@@ -44,7 +44,7 @@ fn gather(form: &Abstract, row: Row<'_>, to: u8, sums: &mut [i128])
     }
 }
 
-/// For each class of a round what a row of a later round holds below it: gathered in another row, or where it is of the round itself as it stands.
+/// Returns for each class of round `to` the sum of a row over the classes below. `sums` is a scratch row; a row of round `to` itself is returned as it is.
 fn read_row<'a>(form: &Abstract, row: Row<'a>, to: u8, sums: &'a mut [i128]) -> &'a [i128]
     requires some { 0 < to }
     requires row { IsLaterRow (frame_of form.now) (lists_of form.now) to row }
@@ -63,7 +63,7 @@ fn read_row<'a>(form: &Abstract, row: Row<'a>, to: u8, sums: &'a mut [i128]) -> 
     sums
 }
 
-/// The row of class totals at the target of a move.
+/// Returns the row of class totals at the target of a move.
 fn target_row<'a>(at: &'a PointRow<'_, '_>, choice: u8) -> Row<'a>
     requires { choice < move_count (frame_in at.now.ledger.role) at.now.point }
     ensures later { let k = at.now.ledger.role in IsLaterRow (frame_in k) (lists_in k) (round_of (frame_in k) (at_point at.now.point)) result }
@@ -84,7 +84,7 @@ fn target_row<'a>(at: &'a PointRow<'_, '_>, choice: u8) -> Row<'a>
     }
 }
 
-/// What a move of a point is worth to each class of the point's round; the last row may be written anew.
+/// Returns what a move of a point is worth to each class of the point's round. `sums` is a scratch row.
 pub(crate) fn read_worths<'a>(
     at: &'a PointRow<'_, '_>,
     choice: u8,

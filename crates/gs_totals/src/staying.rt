@@ -14,7 +14,7 @@ use crate::point_row::PointRow;
 use crate::rows::read_worths;
 use gs_best::{chooser, move_total, point_total, round_total};
 
-/// The greatest number of turns, at most `times`, in which a gain each turn does not close a gap.
+/// Returns the greatest number of turns, at most `times`, in which a gain each turn does not close a gap.
 fn within_gap(before: bool, gap: u128, gain: u128, times: u32) -> u32
     requires gain { 0 < gain }
     requires gap { IsTrue before → 0 < gap }
@@ -36,7 +36,7 @@ fn within_gap(before: bool, gap: u128, gain: u128, times: u32) -> u32
     }
 }
 
-/// How far a number is above another.
+/// Returns how far a number is above another.
 fn above(greater: i128, less: i128) -> u128
     requires { unsigned_abs (greater -ℤ less) < 2 ^ 120 }
     ensures value { result ≡ unsigned_abs (greater -ℤ less) }
@@ -45,7 +45,7 @@ fn above(greater: i128, less: i128) -> u128
     (greater - less).unsigned_abs()
 }
 
-/// The greatest number of turns, at most `times`, in which a worth that rises does not overtake a value that rises.
+/// Returns the greatest number of turns, at most `times`, in which a worth that rises does not overtake a value that rises.
 fn behind(before: bool, value: i128, worth: i128, slope: i128, rise: i128, times: u32) -> u32
     requires ahead { IsNotAhead before value worth }
     requires gap { unsigned_abs (value -ℤ worth) < 2 ^ 120 }
@@ -64,7 +64,7 @@ fn behind(before: bool, value: i128, worth: i128, slope: i128, rise: i128, times
     }
 }
 
-/// The greatest number of turns, at most `times`, in which no class that has chosen another move of a point turns to this one.
+/// Returns the greatest number of turns, at most `times`, in which no class that has chosen another move of a point changes to this one.
 fn behind_all(
     choice: u8,
     picks: &[u8],
@@ -107,8 +107,8 @@ fn behind_all(
     left
 }
 
-/// The greatest number of turns, at most `times`, in which no class of an own point turns to a move: at once where one turn is asked for, since its
-/// choices are known. Both rows may be written anew.
+/// Returns the greatest number of turns, at most `times`, in which no class of an own point changes to a move. For one turn it answers at once, since the
+/// choices of that turn are known. `worths` and `rises` are scratch rows.
 fn lasting_move(
     course: &Course<'_>,
     point: u32,
@@ -157,7 +157,7 @@ fn lasting_move(
     )
 }
 
-/// The greatest number of turns, at most `times`, in which no choice at an own point changes.
+/// Returns the greatest number of turns, at most `times`, in which no choice at an own point changes.
 fn lasting_point(course: &Course<'_>, point: u32, scratch: &mut Scratch, times: u32) -> u32
     requires point { point < point_count (frame_in course.now.role) }
     requires own { player_at (frame_in course.now.role) point ≡ course.now.role.player }
@@ -182,7 +182,7 @@ fn lasting_point(course: &Course<'_>, point: u32, scratch: &mut Scratch, times: 
     left
 }
 
-/// The greatest number of turns, at most `times`, in which no choice of the player changes.
+/// Returns the greatest number of turns, at most `times`, in which no choice of the player changes.
 pub fn lasting(course: &Course<'_>, scratch: &mut Scratch, times: u32) -> u32
     requires { HasScratch (frame_in course.now.role) (lists_in course.now.role) scratch.old }
     ensures scratch { HasScratch (frame_in course.now.role) (lists_in course.now.role) scratch.new }
