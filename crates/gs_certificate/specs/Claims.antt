@@ -1,4 +1,4 @@
--- What holds of a player's numbers that are checked. Of private functions.
+-- A claim: a player's numbers that are checked. For private functions.
 use Rattle.std.specs.Prelude.{IfSome}
 use Rattle.gs_model.specs.BestAnswers.{Values}
 use Rattle.gs_model.specs.Classes.{ClassLists}
@@ -22,7 +22,7 @@ lists_in c = lists_of c.side.now.form.now
 abbrev pub table_in : Claim → Values
 table_in c = table_of (frame_in c) (lists_in c) c.side.now.player (lifted (frame_in c) (lists_in c) c.side.now.other.now) c.values.now
 
--- the numbers are as many as points and classes ask for, and small; what is kept is what ends pay
+-- there is a number for each point and class, each of them small; if sums of ends are kept, they are what ends pay
 pub record IsClaim (c : Claim) : Type 0 where
   pub numbers : AreNumbers (frame_in c) (lists_in c) c.values.now
   pub ends : IfSome c.ends (λ kept. ArePaid (frame_in c) (lists_in c) c.side.now.player (class_plan (frame_in c) (lists_in c) c.side.now.other.now) kept.now)

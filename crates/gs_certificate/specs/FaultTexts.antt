@@ -15,7 +15,7 @@ cert_fault_text (fault.Low player point class) = codes "player " ++ decimal play
     ++ decimal class
 cert_fault_text (fault.Bound player found) = codes "player " ++ decimal player ++ codes " bound found " ++ fraction_text found.num found.den
 
--- why bytes are no certificate's text
+-- why bytes are not the text of a certificate
 abbrev pub cert_text_fault_text : CertTextFault → List ℕ
 cert_text_fault_text text.NotJson = codes "not JSON"
 cert_text_fault_text text.Shape = codes "shape"

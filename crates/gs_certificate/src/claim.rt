@@ -1,9 +1,9 @@
-//! The numbers of a player that are checked.
+//! A player's numbers that are checked.
 
 use crate::tables::EndSums;
 use gs_best::Deviator;
 
-/// A player and the other's plan, a number for each point and class, and what ends pay the player where that is kept.
+/// A player and the other's plan, a number for each point and class, and what ends pay the player, if that is kept.
 #[derive(Clone, Copy)]
 pub(crate) struct Claim<'a> {
     pub(crate) side: &'a Deviator<'a>,

@@ -10,7 +10,7 @@ use gs_frac::{FracFault, Fraction};
 use std::alloc::{AllocError, Global};
 use std::fmt::Write;
 
-// A player's numbers, one of them too low.
+// Returns the text of the fault that a player's number is too low.
 fn low_text(alloc: Global, player: u8, point: u32, class: u32) -> Result<Vec<u8>, AllocError>
     ensures { IfOk result (λ v. v.items ≡ codes "player " ++ decimal player ++ codes " low at point " ++ decimal point ++ codes " class " ++ decimal class) }
 {
@@ -20,7 +20,7 @@ fn low_text(alloc: Global, player: u8, point: u32, class: u32) -> Result<Vec<u8>
     Ok(text.into_bytes())
 }
 
-// A player's bound that is not what the player's numbers give.
+// Returns the text of the fault that a player's bound is not what the player's numbers give.
 fn bound_text(alloc: Global, player: u8, found: Fraction) -> Result<Vec<u8>, AllocError>
     ensures { IfOk result (λ v. v.items ≡ codes "player " ++ decimal player ++ codes " bound found " ++ fraction_text found.num found.den) }
 {
@@ -31,7 +31,7 @@ fn bound_text(alloc: Global, player: u8, found: Fraction) -> Result<Vec<u8>, All
     Ok(text.into_bytes())
 }
 
-/// Why a certificate does not hold, without an end of line.
+/// Returns why a certificate does not hold, without an end of line. The error is out of memory.
 pub fn cert_fault_text(alloc: Global, fault: &CertFault) -> Result<Vec<u8>, AllocError>
     ensures { IfOk result (λ text. text.items ≡ text_of_fault fault.now) }
 {
@@ -48,7 +48,7 @@ pub fn cert_fault_text(alloc: Global, fault: &CertFault) -> Result<Vec<u8>, Allo
     }
 }
 
-// A player's text that is no whole number's.
+// Returns the text of the fault that a player's text is not that of a whole number.
 fn value_text(alloc: Global, player: u8, at: u64) -> Result<Vec<u8>, AllocError>
     ensures { IfOk result (λ v. v.items ≡ codes "value of player " ++ decimal player ++ codes " at " ++ decimal at) }
 {
@@ -57,7 +57,7 @@ fn value_text(alloc: Global, player: u8, at: u64) -> Result<Vec<u8>, AllocError>
     Ok(text.into_bytes())
 }
 
-// A player's bound that is no fraction's text.
+// Returns the text of the fault that a player's bound is not the text of a fraction.
 fn fraction_fault(alloc: Global, player: u8, fault: &FracFault) -> Result<Vec<u8>, AllocError>
     ensures { IfOk result (λ v. v.items ≡ codes "bound of player " ++ decimal player ++ codes " " ++ fraction_fault_text fault.now) }
 {
@@ -67,7 +67,7 @@ fn fraction_fault(alloc: Global, player: u8, fault: &FracFault) -> Result<Vec<u8
     Ok(text.into_bytes())
 }
 
-// What is wrong, and a number behind it.
+// Returns what is wrong, and a number after it.
 fn numbered(alloc: Global, wrong: &str, number: u64) -> Result<Vec<u8>, AllocError>
     ensures { IfOk result (λ v. v.items ≡ wrong.now ++ decimal number) }
 {
@@ -76,7 +76,7 @@ fn numbered(alloc: Global, wrong: &str, number: u64) -> Result<Vec<u8>, AllocErr
     Ok(text.into_bytes())
 }
 
-/// Why bytes are no certificate's text, without an end of line.
+/// Returns why bytes are not the text of a certificate, without an end of line. The error is out of memory.
 pub fn cert_text_fault_text(alloc: Global, fault: &CertTextFault) -> Result<Vec<u8>, AllocError>
     ensures { IfOk result (λ text. text.items ≡ text_of_text_fault fault.now) }
 {

@@ -1,4 +1,4 @@
-//! The points of the other player: a number is to be at least the sum of what all moves are worth.
+//! The points of the other player: a number must be at least the sum of what all moves are worth.
 
 ghost use Rattle.std.specs.Prelude.{◌≡◌, ◌≢◌, MatchOption};
 ghost use Rattle.gs_model.specs.{BestAnswers.{class_worth}, Classes.{IsClass}, Frame.{choices_at, move_count, player_at}, Sums.{sum_z}};
@@ -11,7 +11,7 @@ use crate::worths::{number_at, worth};
 use gs_best::{class_total, move_total, round_total};
 use gs_seq::plus;
 
-/// The sum of the worths of all moves.
+/// Returns the sum of the worths of all moves.
 fn moves_sum(claim: &Claim<'_>, spot: Spot, ways: &[Way], class: u32) -> i128
     requires claim { IsClaim claim.now }
     requires spot { IsSpot (frame_in claim.now) (lists_in claim.now) spot }
@@ -28,7 +28,7 @@ fn moves_sum(claim: &Claim<'_>, spot: Spot, ways: &[Way], class: u32) -> i128
     sum
 }
 
-/// The first class of a point of the other player where the number is too low.
+/// Returns the first class of a point of the other player where the number is too low.
 pub(crate) fn others_low_at(claim: &Claim<'_>, spot: Spot) -> Option<u32>
     requires claim { IsClaim claim.now }
     requires spot { IsSpot (frame_in claim.now) (lists_in claim.now) spot }

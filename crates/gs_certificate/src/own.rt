@@ -1,4 +1,4 @@
-//! The points of the player whose numbers are checked: a number is to be at least what each move is worth.
+//! The points of the player whose numbers are checked: a number must be at least what each move is worth.
 
 ghost use Rattle.std.specs.Prelude.{◌≡◌, ◌<◌, ◌≤◌, ◌≤ℤ◌, ◌<ℤ◌, ◌^◌, MatchOption, unsigned_abs};
 ghost use Rattle.gs_game.specs.Seen.{target_of};
@@ -17,7 +17,7 @@ use gs_best::{class_total, move_total, round_total};
 use gs_game::Target;
 use gs_seq::scaled;
 
-/// Whether a number is less than what an end is worth to a class of its round, from what all members gain together: nothing is divided.
+/// Returns whether a number is less than what an end is worth to a class of its round. It compares what all members gain together, so nothing is divided.
 fn is_below_end(claim: &Claim<'_>, number: i128, end: u32, round: u8, class: u32) -> bool
     requires claim { IsClaim claim.now }
     requires small { unsigned_abs number < 2 ^ 90 }
@@ -32,7 +32,7 @@ fn is_below_end(claim: &Claim<'_>, number: i128, end: u32, round: u8, class: u32
     scaled(u64::from(members), number) < together
 }
 
-/// Whether the number of a class of a point is less than what a move is worth. Of an end of the point's own round nothing is divided.
+/// Returns whether the number of a class of a point is less than what a move is worth. For an end of the point's own round nothing is divided.
 fn is_below(claim: &Claim<'_>, spot: Spot, way: Way, class: u32) -> bool
     requires claim { IsClaim claim.now }
     requires spot { IsSpot (frame_in claim.now) (lists_in claim.now) spot }
@@ -53,7 +53,7 @@ fn is_below(claim: &Claim<'_>, spot: Spot, way: Way, class: u32) -> bool
     number < worth(claim, spot, way, class)
 }
 
-/// The first class, among the first ones of a point, whose number is less than what a move is worth; their count if there is none.
+/// Returns the place of the first class, among the first `count` of a point, whose number is less than what a move is worth; `count` if no number is.
 fn first_below(claim: &Claim<'_>, spot: Spot, way: Way, count: u32) -> u32
     requires claim { IsClaim claim.now }
     requires spot { IsSpot (frame_in claim.now) (lists_in claim.now) spot }
@@ -70,7 +70,7 @@ fn first_below(claim: &Claim<'_>, spot: Spot, way: Way, count: u32) -> u32
     count
 }
 
-/// The first class of an own point where the number is too low.
+/// Returns the first class of an own point where the number is too low.
 pub(crate) fn own_low_at(claim: &Claim<'_>, spot: Spot) -> Option<u32>
     requires claim { IsClaim claim.now }
     requires spot { IsSpot (frame_in claim.now) (lists_in claim.now) spot }

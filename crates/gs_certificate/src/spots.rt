@@ -12,7 +12,7 @@ use crate::spot::{Spot, Way};
 use gs_best::{Deviator, end_round, move_total, round_at, target_at};
 use gs_game::Target;
 
-/// A point whose first number stands at a place.
+/// Returns a point whose first number is at place `start`.
 pub(crate) fn spot_at(side: &Deviator<'_>, point: u32, start: u32) -> Spot
     requires point { point < point_count (frame_of side.now.form.now) }
     requires start { start ≡ start_of (frame_of side.now.form.now) (lists_of side.now.form.now) point }
@@ -26,7 +26,7 @@ pub(crate) fn spot_at(side: &Deviator<'_>, point: u32, start: u32) -> Spot
     }
 }
 
-/// Where a move of a point leads.
+/// Returns where a move of a point leads.
 pub(crate) fn way_at(side: &Deviator<'_>, spot: Spot, choice: u8) -> Way
     requires spot { IsSpot (frame_of side.now.form.now) (lists_of side.now.form.now) spot }
     requires choice { choice < move_count (frame_of side.now.form.now) spot.point }
@@ -48,7 +48,7 @@ pub(crate) fn way_at(side: &Deviator<'_>, spot: Spot, choice: u8) -> Way
     }
 }
 
-/// Where each move of a point leads.
+/// Returns where each move of a point leads.
 #[inline(always)]
 pub(crate) fn ways_at(side: &Deviator<'_>, spot: Spot) -> [Way; 26]
     requires { IsSpot (frame_of side.now.form.now) (lists_of side.now.form.now) spot }

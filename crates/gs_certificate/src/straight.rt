@@ -1,6 +1,7 @@
-//! The one text of a certificate, read straight: no tree of values is made of it, and no second text to compare it with.
+//! The one text of a certificate, read straight: without a tree of values, and without a second text to compare it with.
 //!
-//! What is found is right. Bytes that are no certificate's text are left to the checks in their order, and so is the text of no numbers.
+//! A certificate that is found here is right. Bytes that are not the text of a certificate are left to the checks in their order, and so is the text of a
+//! certificate without numbers.
 
 ghost use Rattle.std.specs.{Prelude.{◌≡◌, ◌≢◌, ◌++◌, ◌<◌, ◌≤◌, ◌^◌, All, IfOk, IfSome, get_or, length, true, unsigned_abs}, Fmt.{signed_decimal}};
 ghost use Rattle.gs_frac.specs.Texts.{fraction_text, number_of};
@@ -28,7 +29,7 @@ impl<E: Into<AllocError> + Drop> From<E> for Stop {
     }
 }
 
-/// A player's part, and what stands behind it.
+/// A player's part, and the bytes after it.
 #[derive(Drop)]
 struct Side<'b> {
     bound: Fraction,
@@ -36,7 +37,7 @@ struct Side<'b> {
     rest: &'b [u8],
 }
 
-/// What stands behind a prefix that the bytes begin with.
+/// Returns the bytes after the prefix `front`. It is an error if the bytes do not begin with it.
 fn behind<'b>(bytes: &'b [u8], front: &[u8]) -> Result<&'b [u8], Stop>
     ensures { IfOk result (λ rest. bytes.now ≡ front.now ++ rest.now) }
 {
@@ -46,7 +47,7 @@ fn behind<'b>(bytes: &'b [u8], front: &[u8]) -> Result<&'b [u8], Stop>
     }
 }
 
-/// The bytes before the first quote, and those from it on.
+/// Returns the bytes before the first quote, and the bytes from the quote on.
 fn to_quote(bytes: &[u8]) -> Result<(&[u8], &[u8]), Stop>
     ensures { IfOk result (λ p. bytes.now ≡ p.0.now ++ p.1.now) }
 {
@@ -58,7 +59,7 @@ fn to_quote(bytes: &[u8]) -> Result<(&[u8], &[u8]), Stop>
     Err(Stop::Other)
 }
 
-/// What the digits that the bytes begin with represent and how many they are: up to the first other byte, or until they are 18.
+/// Returns the number that the first digits represent, and how many digits these are. It stops at the first other byte, or once the number is 10^17 or more.
 fn digits_in(bytes: &[u8]) -> (u64, usize)
     ensures { AreDigits bytes.now result.0 result.1 }
 {
@@ -72,7 +73,7 @@ fn digits_in(bytes: &[u8]) -> (u64, usize)
     (size, bytes.len())
 }
 
-/// Whether these digits are the text of a number: at least one, without leading zeros.
+/// Returns whether these digits are the text of a number: at least one, without leading zeros.
 fn is_plain(digits: &[u8], count: usize) -> bool
     requires { count ≤ length digits.now }
     ensures { result ≡ true → (0 < count) × (1 < count → get_or digits.now 0 0 ≢ 48) }
@@ -84,7 +85,7 @@ fn is_plain(digits: &[u8], count: usize) -> bool
     }
 }
 
-/// A whole number of few digits with a sign.
+/// Returns a whole number of at most 18 digits, from its sign and size.
 fn narrow_number(negative: bool, size: u64) -> i128
     requires { size < 10 ^ 18 }
     ensures { result ≡ number_of negative size }
@@ -96,7 +97,7 @@ fn narrow_number(negative: bool, size: u64) -> i128
     }
 }
 
-/// A number of few digits before the first quote, and what stands from the quote on.
+/// Returns a number of at most 18 digits before the first quote, and the bytes from the quote on.
 fn narrow_in(bytes: &[u8]) -> Option<(i128, &[u8])>
     ensures text { IfSome result (λ p. bytes.now ≡ signed_decimal p.0 ++ p.1.now) }
     ensures small { IfSome result (λ p. unsigned_abs p.0 < 2 ^ 90) }
@@ -116,7 +117,7 @@ fn narrow_in(bytes: &[u8]) -> Option<(i128, &[u8])>
     }
 }
 
-/// A number of any width before the first quote, and what stands from the quote on.
+/// Returns a number of any width before the first quote, and the bytes from the quote on.
 fn wide_in(bytes: &[u8]) -> Result<(i128, &[u8]), Stop>
     ensures text { IfOk result (λ p. bytes.now ≡ signed_decimal p.0 ++ p.1.now) }
     ensures small { IfOk result (λ p. unsigned_abs p.0 < 2 ^ 90) }
@@ -128,7 +129,7 @@ fn wide_in(bytes: &[u8]) -> Result<(i128, &[u8]), Stop>
     }
 }
 
-/// The number before the first quote, and what stands from the quote on.
+/// Returns the number before the first quote, and the bytes from the quote on.
 fn number_in(bytes: &[u8]) -> Result<(i128, &[u8]), Stop>
     ensures text { IfOk result (λ p. bytes.now ≡ signed_decimal p.0 ++ p.1.now) }
     ensures small { IfOk result (λ p. unsigned_abs p.0 < 2 ^ 90) }
@@ -139,7 +140,7 @@ fn number_in(bytes: &[u8]) -> Result<(i128, &[u8]), Stop>
     }
 }
 
-/// The numbers of an array behind its first quote, and what stands behind the array.
+/// Returns the numbers of an array, from the bytes after its first quote, and the bytes after the array.
 fn numbers_in<'b>(alloc: Global, bytes: &'b [u8]) -> Result<(Vec<i128>, &'b [u8]), Stop>
     ensures text { IfOk result (λ p. StandsFor bytes.now p.0.items p.1.now) }
     ensures small { IfOk result (λ p. All (λ z. unsigned_abs z < 2 ^ 90) p.0.items) }
@@ -158,7 +159,7 @@ fn numbers_in<'b>(alloc: Global, bytes: &'b [u8]) -> Result<(Vec<i128>, &'b [u8]
     Err(Stop::Other)
 }
 
-/// The bound before the first quote, and what stands from the quote on.
+/// Returns the bound before the first quote, and the bytes from the quote on.
 fn bound_in(bytes: &[u8]) -> Result<(Fraction, &[u8]), Stop>
     ensures { IfOk result (λ p. bytes.now ≡ fraction_text p.0.num p.0.den ++ p.1.now) }
 {
@@ -172,7 +173,7 @@ fn bound_in(bytes: &[u8]) -> Result<(Fraction, &[u8]), Stop>
     }
 }
 
-/// A player's part.
+/// Returns a player's part, and the bytes after it.
 fn side_in<'b>(alloc: Global, bytes: &'b [u8]) -> Result<Side<'b>, Stop>
     ensures text { IfOk result (λ s. bytes.now ≡ compact_text (side_data (record { bound = fraction_parts s.bound; values = s.values.items }))
         ++ s.rest.now) }
@@ -190,7 +191,7 @@ fn side_in<'b>(alloc: Global, bytes: &'b [u8]) -> Result<Side<'b>, Stop>
     })
 }
 
-/// The certificate whose text the bytes are.
+/// Returns the certificate whose text the bytes are.
 pub(crate) fn straight(alloc: Global, bytes: &[u8]) -> Result<Certificate, Stop>
     ensures text { IfOk result (λ c. bytes.now ≡ text_of (certificate_view c)) }
     ensures small { IfOk result AreSmall }

@@ -18,7 +18,7 @@ pub(crate) struct EndSums {
     pub(crate) sums: Vec<i128>,
 }
 
-/// What all ends pay a player, over a row for any round's classes and the other player's numbers there, which are written anew.
+/// Returns what all ends pay a player. `row` and `numbers` are scratch rows, long enough for the classes of any round.
 fn sums_in(
     alloc: Global,
     side: &Deviator<'_>,
@@ -45,7 +45,7 @@ fn sums_in(
     Ok(EndSums { starts, sums })
 }
 
-/// What all ends pay a player against the other's plan.
+/// Returns what all ends pay a player against the other's plan.
 pub(crate) fn sums_of(alloc: Global, side: &Deviator<'_>) -> Result<EndSums, AllocError>
     ensures { let f = frame_of side.now.form.now in let lists = lists_of side.now.form.now in
         IfOk result (ArePaid f lists side.now.player (class_plan f lists side.now.other.now)) }
@@ -56,7 +56,7 @@ pub(crate) fn sums_of(alloc: Global, side: &Deviator<'_>) -> Result<EndSums, All
     sums_in(alloc, side, &mut row, &mut numbers)
 }
 
-/// What an end pays the members of a class of its round together, as it is kept.
+/// Returns what an end pays the members of a class of its round together, from the kept sums.
 fn kept_at(side: &Deviator<'_>, ends: &EndSums, end: u32, class: u32) -> i128
     requires ends { let f = frame_of side.now.form.now in let lists = lists_of side.now.form.now in
         ArePaid f lists side.now.player (class_plan f lists side.now.other.now) ends.now }
@@ -68,7 +68,7 @@ fn kept_at(side: &Deviator<'_>, ends: &EndSums, end: u32, class: u32) -> i128
     ends.sums[ends.starts[end as usize] + class as usize - 1]
 }
 
-/// What an end pays the members of a class of its round together: read where it is kept, else added up.
+/// Returns what an end pays the members of a class of its round together: read if it is kept, else added up.
 pub(crate) fn paid_at(claim: &Claim<'_>, end: u32, class: u32) -> i128
     requires claim { IsClaim claim.now }
     requires end { end < end_count (frame_in claim.now) }
@@ -83,7 +83,7 @@ pub(crate) fn paid_at(claim: &Claim<'_>, end: u32, class: u32) -> i128
     }
 }
 
-/// What a plan of player 1 and one of player 2 pay player 1 at an end, by what that pays player 1's classes.
+/// Returns what plan `x` of player 1 and the other's plan pay player 1 at an end, by what the end pays player 1's classes.
 fn end_paid(first: &Deviator<'_>, x: &Plan, ends: &EndSums, end: u32) -> i128
     requires first { first.now.player ≡ 1 }
     requires x { IsPlanOf (frame_of first.now.form.now) (lists_of first.now.form.now) 1 x.now }
@@ -102,7 +102,7 @@ fn end_paid(first: &Deviator<'_>, x: &Plan, ends: &EndSums, end: u32) -> i128
     sum
 }
 
-/// What a plan of player 1 and the other's pay player 1, by what ends pay player 1's classes.
+/// Returns what plan `x` of player 1 and the other's plan pay player 1, by what ends pay player 1's classes.
 pub(crate) fn plans_pay(first: &Deviator<'_>, x: &Plan, ends: &EndSums) -> i128
     requires first { first.now.player ≡ 1 }
     requires x { IsPlanOf (frame_of first.now.form.now) (lists_of first.now.form.now) 1 x.now }
