@@ -53,7 +53,7 @@ fn is_below(claim: &Claim<'_>, spot: Spot, way: Way, class: u32) -> bool
     number < worth(claim, spot, way, class)
 }
 
-/// Returns the place of the first class, among the first `count` of a point, whose number is less than what a move is worth; `count` if no number is.
+/// Returns the place of the first class, among the first `count` of a point, whose number is less than what a move is worth. It is `count` if no number is.
 fn first_below(claim: &Claim<'_>, spot: Spot, way: Way, count: u32) -> u32
     requires claim { IsClaim claim.now }
     requires spot { IsSpot (frame_in claim.now) (lists_in claim.now) spot }

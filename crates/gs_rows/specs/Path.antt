@@ -1,6 +1,5 @@
--- The steps of a path, and what stops it. The rows at each step are those of the step's list.
--- Bland's rule (Bland 1977, "New finite pivoting rules for the simplex method"): the column of least index enters, and among equal ratios the column
--- of least index leaves.
+-- The steps of a path, and what stops it. The rows at each step are those of the step's list. Bland's rule (Bland 1977, "New finite pivoting rules for
+-- the simplex method") chooses the pivots. The column of least index enters, and among equal ratios the column of least index leaves.
 use Rattle.std.specs.Prelude.{◌≡◌, ℕ, suc, ◌+◌, ◌<◌, ◌≤◌, ◌⊎◌, length, take, slice_index_or, slice_set, ℤ, pos, ◌*ℤ◌, ◌≤ℤ◌, ◌<ℤ◌}
 use Rattle.gs_rows.specs.declared.Program.{Program}
 use Rattle.gs_rows.specs.Rows.{IsNarrow}
@@ -40,7 +39,7 @@ pub record IsPivot (p : Program) (l : Listing) (rows : ℕ → ℕ → ℤ) (aim
 abbrev pub AllNarrow : Program → (ℕ → ℕ → ℤ) → (ℕ → ℤ) → Type 0
 AllNarrow p rows aim = ((i j : ℕ) → i < p.rows → j ≤ p.cols → IsNarrow (rows i j)) × ((j : ℕ) → j ≤ p.cols + 1 → IsNarrow (aim j))
 
--- z, in row i and column j, is the first number of 2^62 or more in size, by row and then by column; the aim's row is row `rows`
+-- z, in row i and column j, is the first number of 2^62 or more in size, by row and then by column. The aim's row is row `rows`.
 pub record IsFirstWide (p : Program) (rows : ℕ → ℕ → ℤ) (aim : ℕ → ℤ) (i j : ℕ) (z : ℤ) : Type 0 where
   pub row : i ≤ p.rows
   pub here : ((i < p.rows) × (j ≤ p.cols) × (rows i j ≡ z)) ⊎ ((i ≡ p.rows) × (j ≤ p.cols + 1) × (aim j ≡ z))

@@ -66,7 +66,7 @@ pub record IsRowsOf (p : Program) (l : Listing) (rows : ℕ → ℕ → ℤ) (ai
 abbrev pub IsRegularList : Program → Listing → Type 0
 IsRegularList p l = IsRegular p.rows (number p) (RowListed l) (ColListed l)
 
--- the pair of row r and column c can be taken after the list: both are unlisted, and the row of r has a number other than 0 in c
+-- The pair of row r and column c can be taken after the list. Both are unlisted, and the row of r has a number other than 0 in c.
 pub record CanTake (p : Program) (l : Listing) (r c : ℕ) : Type 0 where
   pub row : r < p.rows
   pub column : c < p.cols

@@ -11,7 +11,7 @@ pub record IsCombination (count cols : ℕ) (number : ℕ → ℕ → ℤ) (scal
   pub positive : pos 0 <ℤ scale
   pub each : (j : ℕ) → j ≤ cols → scale *ℤ row j ≡ sum_to count (λ i. multiplier i *ℤ number i j)
 
--- the row of an unlisted program row: its own multiplier is above 0, those of the other unlisted rows are 0, and so is the row in each listed column
+-- The row of an unlisted program row. Its own multiplier is above 0, and those of the other unlisted rows are 0. It is 0 in each listed column.
 pub record IsUnlistedRow (count cols : ℕ) (number : ℕ → ℕ → ℤ) (RowIn ColIn : ℕ → Type 0) (own_row : ℕ) (scale : ℤ) (multiplier row : ℕ → ℤ) : Type 0 where
   pub combination : IsCombination count cols number scale multiplier row
   pub own : pos 0 <ℤ multiplier own_row

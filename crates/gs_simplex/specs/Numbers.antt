@@ -55,8 +55,8 @@ pub record IsDivided (width : ℕ) (old new : ℕ → ℤ) : Type 0 where
   pub multiple : IsMultiple width old new
   pub primitive : IsPrimitive (width - 1) new
 
--- The old row cleared by the lead: the lead's number in column c times the old row, less the old row's number in column c times the lead.
--- So it has 0 in column c.
+-- The old row cleared by the lead, so that it has 0 in column c. It is the lead's number in column c times the old row, less the old row's number in
+-- column c times the lead.
 abbrev pub cleared_by : (ℕ → ℤ) → ℕ → (ℕ → ℤ) → ℕ → ℤ
 cleared_by lead c old j = lead c *ℤ old j -ℤ old c *ℤ lead j
 
@@ -99,7 +99,7 @@ pub record IsCleared (old new : List ℤ) (count width r c : ℕ) (lead : ℕ �
   pub kept : (j : ℕ) → j < width → cell new width r j ≡ cell old width r j
   pub narrow : AllNarrow new
 
--- z, in row i and column j, is the first number of the reduced rows that is not narrow; the rows before row i need only be mixed
+-- z, in row i and column j, is the first number of the reduced rows that is not narrow. The rows before row i need only be mixed.
 pub record IsClearedTo (old : List ℤ) (count width r c : ℕ) (lead : ℕ → ℤ) (i j : ℕ) (z : ℤ) : Type 0 where
   pub inside : i < count
   pub apart : i ≢ r

@@ -57,7 +57,7 @@ IsChoice p l rows aim (Leaves q e) = (Enters p l aim e) × IsLeaving p l rows e 
 pub record IsPivoted (p : Program) (l next : Listing) (old new : List ℤ) (q e : ℕ) : Type 0 where
   pub pair : (r : ℕ) × (c : ℕ) × (slice_index_or l q (0, 0) ≡ (r + 1, c + 1)) × (next ≡ slice_set l q (r + 1, e + 1)) × IsTableAfter p old new r e
 
--- after the pivot that lists the row at place q with column e, z is the first number that is not narrow, in row i and column j of the table
+-- After the pivot that lists the row at place q with column e, z is the first number that is not narrow. It is in row i and column j of the table.
 pub record IsWidePivot (p : Program) (l : Listing) (old : List ℤ) (q e i j : ℕ) (z : ℤ) : Type 0 where
   pub pair : (r : ℕ) × (c : ℕ) × (slice_index_or l q (0, 0) ≡ (r + 1, c + 1)) × IsWideAfter p old r e i j z
 

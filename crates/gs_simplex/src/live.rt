@@ -69,7 +69,7 @@ fn note_owns(p: &Program, basis: &[(u32, u32)], owns: &mut [u32])
     mark_owns(p, basis, owns);
 }
 
-// Returns whether a pivot that takes row `r` looks at a column: one that is unlisted, with `row` 0, or listed with row `r`, with `row` counted from 1.
+// Returns whether a pivot that takes row `r` looks at a column. It does if the column is unlisted, with `row` 0, or listed with row `r`. `row` counts from 1.
 fn is_live(row: u32, r: usize) -> bool
     requires { r < 2 ^ 31 }
     ensures { IsTrue result ↔ IsLiveRow r row }

@@ -112,7 +112,7 @@ fn stays_narrow(own: i64, far: i64, row: u64, lead: u64) -> bool
     first + second < WIDE
 }
 
-// Returns a bound on `own` times a number of at most `row` in size, less `far` times one of at most `lead`, where the bound is below 2^62.
+// Returns a bound on `own` times a number of at most `row` in size, less `far` times one of at most `lead`. The bound is below 2^62.
 fn mixed_most(own: i64, far: i64, row: u64, lead: u64) -> u64
     requires { unsigned_abs own * row + unsigned_abs far * lead < 2 ^ 62 }
     ensures { result ≡ unsigned_abs own * row + unsigned_abs far * lead }

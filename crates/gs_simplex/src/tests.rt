@@ -407,8 +407,8 @@ fn behind_first(text: &str) -> Option<&str> {
     text.split_once(' ').map(|parts| parts.1)
 }
 
-// Returns whether the rest of the path follows from such a basis: one pivot fewer each time, the same last basis, values and prices, and no end with a
-// lower limit. From the other bases `run` may not be called.
+// Returns whether the rest of the path follows from such a basis: one pivot fewer each time, and the same last basis, values and prices. With a lower limit
+// there is no end. From the other bases `run` may not be called.
 fn follows(
     alloc: Global,
     p: &Program,
