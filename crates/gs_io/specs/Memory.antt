@@ -12,7 +12,7 @@ pub record Reading : Type 0 where
   pub calls : ℕ
   pub faults : ℕ
 
--- a sink: the bytes that were given, how many it takes in all, and the rest as in a source
+-- a sink: the bytes that it has taken, how many it takes in all, and the rest as in a source
 pub record Writing : Type 0 where
   pub given : List ℕ
   pub room : ℕ
@@ -21,7 +21,7 @@ pub record Writing : Type 0 where
   pub calls : ℕ
   pub faults : ℕ
 
--- the number of the next call, which stops at the last number of its type
+-- the number of the next call; it stops at 2^32 - 1
 abbrev pub next_call : ℕ → ℕ
 next_call calls = min (calls + 1) (2 ^ 32 - 1)
 
@@ -29,7 +29,7 @@ next_call calls = min (calls + 1) (2 ^ 32 - 1)
 abbrev pub is_listed : List ℕ → ℕ → Bool
 is_listed fails call = list_any (λ k. k == call) fails
 
--- what a read does: it fails if its number is listed, and otherwise gives the next bytes, as many as are left, have a place and fit a piece
+-- What a read does. It fails if its number is listed. Otherwise it gives the next bytes: all that are left, but no more than `places` and than a piece.
 abbrev pub TakesNext : Reading → ℕ → Reading → Result ℕ Failed → Type 0
 TakesNext old places new (Ok count) =
     (is_listed old.fails (next_call old.calls) ≡ false) × (count ≡ min (min (length old.left) places) old.piece)
@@ -38,11 +38,11 @@ TakesNext old places new (Err e) =
     (is_listed old.fails (next_call old.calls) ≡ true)
     × (new ≡ record old { calls = next_call old.calls; faults = raised old.faults })
 
--- whether a write fails: its number is listed, or all the room is taken
+-- whether a write fails: its number is listed, or the room is full
 abbrev pub refuses : Writing → Bool
 refuses old = is_listed old.fails (next_call old.calls) || nat_le old.room (length old.given)
 
--- what a write does: it fails or takes the first bytes, as many as there are, as have room, and as a piece has
+-- What a write does. It fails if `refuses` says so. Otherwise it takes the first bytes: all, but no more than there is room for and than a piece.
 abbrev pub GivesNext : Writing → List ℕ → Writing → Result ℕ Failed → Type 0
 GivesNext old bytes new (Ok count) =
     (refuses old ≡ false) × (count ≡ min (min (length bytes) (old.room - length old.given)) old.piece)

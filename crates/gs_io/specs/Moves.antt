@@ -1,4 +1,4 @@
--- What a read of everything and a write of everything do to the bytes that are told.
+-- What a read of all bytes and a write of all bytes do to a source and a sink.
 use Rattle.std.specs.Prelude.{◌≡◌, ℕ, ◌+◌, ◌<◌, ◌≤◌, List, length, take, Result, Ok, Err}
 use Rattle.std.specs.declared.option.Option.{Option}
 use Rattle.std.specs.Io.KnownBytes.{Consumes, Appends, IsAtEnd}
@@ -8,12 +8,12 @@ use Rattle.gs_io.specs.declared.ReadStop.TheVariants as stop
 use Rattle.gs_io.specs.declared.WriteStop.{WriteStop}
 use Rattle.gs_io.specs.declared.WriteStop.TheVariants as write_stop
 
--- some first bytes of what was left were taken, at most this many
+-- a prefix of the bytes that were left was taken, at most `most` bytes
 abbrev pub TookPrefix : ℕ → Option (List ℕ) → Option (List ℕ) → Type 0
 TookPrefix most old new = (bytes : List ℕ) × Consumes old new bytes × (length bytes ≤ most)
 
--- What a read of everything does, by its answer: `left` of the source goes from `old` to `new`,
--- and its count of faults from `before` to `now`. `items` are the bytes of the answer.
+-- What a read of all bytes does, for each result. `left` of the source goes from `old` to `new`,
+-- and its count of faults from `before` to `now`. `items` are the bytes of the result.
 --   Ok: these were all the bytes that were left, and no more than the limit; no read failed
 --   Fault: a read failed, after some bytes
 --   TooLong: there are more bytes than the limit; one more than the limit was taken, and no read failed
@@ -26,9 +26,9 @@ ReadsAll items limit old new before now (Err stop.TooLong) =
     ((bytes : List ℕ) × Consumes old new bytes × (length bytes ≡ limit + 1)) × (now ≡ before)
 ReadsAll items limit old new before now (Err stop.Memory) = TookPrefix (limit + 1) old new × (now ≡ before)
 
--- What a write of everything does, by its answer: `given` of the sink goes from `old` to `new`.
+-- What a write of all bytes does, for each result. `given` of the sink goes from `old` to `new`, and its count of faults from `before` to `now`.
 --   Ok: all the bytes went out, and no write failed
---   Fault: a write failed, after just the first `written` bytes, which are not all
+--   Fault: a write failed after exactly the first `written` bytes, which are not all
 abbrev pub WritesAll : List ℕ → Option (List ℕ) → Option (List ℕ) → ℕ → ℕ → {T : Type 0} → Result T WriteStop → Type 0
 WritesAll bytes old new before now (Ok v) = Appends old new bytes × (now ≡ before)
 WritesAll bytes old new before now (Err (write_stop.Fault written)) =

@@ -1,7 +1,7 @@
-//! Where bytes come from and where they go: a source and a sink, each with a count of its faults.
+//! Sources and sinks of bytes, each with a count of its faults.
 //!
-//! A call may answer a fault only where the count of the object that it was handed has risen, so a
-//! caller can always tell a fault of the outside from a body that gives up.
+//! A call may return a fault only if the count of its source or sink has risen. So a caller can
+//! tell a fault outside the program from a body that always returns an error.
 #![tactic(auto)]
 
 mod memory;
@@ -20,7 +20,7 @@ pub use whole::{read_all, write_all};
 #[derive(Clone, Copy, Debug, PartialEq, Eq)]
 pub struct Failed;
 
-// The failure of a call, once it is counted.
+// Adds one to the count and returns the failure.
 fn count_fault(faults: &mut u64) -> Failed
     ensures raised { faults.new ≡ raised faults.old }
     ensures cause { Rose faults.old faults.new }
@@ -29,33 +29,33 @@ fn count_fault(faults: &mut u64) -> Failed
     Failed
 }
 
-/// Why a read of everything stopped.
+/// The reason why a read of all bytes stopped.
 #[derive(Clone, Copy, Debug, PartialEq, Eq)]
 pub enum ReadStop {
     /// A read failed.
     Fault,
     /// There are more bytes than the limit.
     TooLong,
-    /// No memory was left for the bytes.
+    /// Memory for the bytes ran out.
     Memory,
 }
 
-/// Why a write of everything stopped.
+/// The reason why a write of all bytes stopped.
 #[derive(Clone, Copy, Debug, PartialEq, Eq)]
 pub enum WriteStop {
-    /// A write failed, after this many bytes.
+    /// A write failed after the first `written` bytes.
     Fault { written: usize },
 }
 
-/// Gives bytes, a piece at a time.
+/// A source of bytes, read one piece at a time.
 pub trait Source {
-    /// The bytes still to come, where the source tells them.
+    /// The bytes still to come, if the source tells them.
     ghost left: { Self → Option (List ℕ) };
 
-    /// How often it has failed, up to the last number of 64 bits.
+    /// The number of failures so far, at most 2^64 - 1.
     ghost faults: { Self → ℕ };
 
-    /// Puts the next bytes at the front of `into`, and says how many. It gives 0 only at the end.
+    /// Puts the next bytes at the front of `into`, and returns how many. It returns 0 only at the end.
     /// After a failure the bytes are still to come.
     fn take(&mut self, into: &mut [u8]) -> Result<usize, Failed>
         requires { 0 < length into.old }
@@ -64,15 +64,15 @@ pub trait Source {
         ensures cause { HasCause (faults self.old) (faults self.new) result };
 }
 
-/// Takes bytes, a piece at a time.
+/// A sink of bytes, written one piece at a time.
 pub trait Sink {
-    /// The bytes taken so far, where the sink tells them.
+    /// The bytes taken so far, if the sink tells them.
     ghost given: { Self → Option (List ℕ) };
 
-    /// How often it has failed, up to the last number of 64 bits.
+    /// The number of failures so far, at most 2^64 - 1.
     ghost faults: { Self → ℕ };
 
-    /// Takes at least one of the bytes, from the first on, and says how many.
+    /// Takes at least one of the bytes, from the first on, and returns how many.
     /// After a failure none of them was taken.
     fn give(&mut self, bytes: &[u8]) -> Result<usize, Failed>
         requires { 0 < length bytes.now }

@@ -1,4 +1,4 @@
-//! Sources and a sink in memory. Two of them fail where a list says so.
+//! Two sources and a sink in memory. `MemSource` and `MemSink` fail at the calls of a list.
 
 ghost use Rattle.std.specs.{Prelude.{◌≡◌, ◌≤◌, ◌<◌, ◌+◌, ◌-◌, length, take, drop, Some, IfOk, min, []}, Io.{ReadsAtMost}};
 ghost use Rattle.std.specs.Io.KnownBytes.{ReadConsumes, WriteAppends};
@@ -8,7 +8,7 @@ use crate::{Failed, Sink, Source, count_fault};
 use std::alloc::{AllocError, Global};
 use std::marker::Model;
 
-// Copies the first bytes: at most this many, and as many as there is room for.
+// Copies the first bytes to the front of `into`, as many as fit but at most `most`, and returns how many.
 fn copy_front(from: &[u8], into: &mut [u8], most: usize) -> usize
     ensures count { result ≡ min (min (length from.now) (length into.old)) most }
     ensures copied { take result into.new ≡ take result from.now }
@@ -19,7 +19,7 @@ fn copy_front(from: &[u8], into: &mut [u8], most: usize) -> usize
 }
 
 /// A source over bytes in memory, which gives at most `piece` bytes a call. The calls whose numbers
-/// stand in a list fail; calls are counted from 1, and no further than the last number of 32 bits.
+/// stand in a list fail. Calls are counted from 1, and up to 2^32 - 1.
 #[derive(Drop)]
 pub struct MemSource {
     bytes: Vec<u8>,
@@ -42,7 +42,7 @@ impl Model for MemSource {
 }
 
 impl MemSource {
-    /// A source over `bytes`. No call was made yet.
+    /// Returns a source over `bytes`, before its first call.
     pub fn new(bytes: Vec<u8>, piece: u32, fails: Vec<u32>) -> MemSource
         requires { 1 ≤ piece }
         ensures { result ≡ record { left = bytes.items; piece = piece; fails = fails.items; calls = 0; faults = 0 } }
@@ -80,7 +80,7 @@ impl Source for MemSource {
     }
 }
 
-/// A source over bytes in memory that never fails, and gives all that a call has a place for.
+/// A source over bytes in memory that never fails. A call gives as many bytes as fit.
 #[derive(Drop)]
 pub struct SureSource {
     bytes: Vec<u8>,
@@ -98,7 +98,7 @@ impl Model for SureSource {
 }
 
 impl SureSource {
-    /// A source over `bytes`.
+    /// Returns a source over `bytes`.
     pub fn new(bytes: Vec<u8>) -> SureSource
         ensures { result ≡ bytes.items }
     {
@@ -126,7 +126,7 @@ impl Source for SureSource {
 }
 
 /// A sink in memory, which takes at most `piece` bytes a call and `room` bytes in all. A call fails
-/// where its number stands in a list, or where all the room is taken; calls are counted as in a
+/// if its number stands in a list, or if the room is full. Calls are counted as in a
 /// [`MemSource`].
 #[derive(Drop)]
 pub struct MemSink {
@@ -150,7 +150,7 @@ impl Model for MemSink {
 }
 
 impl MemSink {
-    /// An empty sink, which takes its room at once. No call was made yet.
+    /// Returns an empty sink, before its first call. Its room is allocated at once.
     pub fn new(alloc: Global, room: u32, piece: u32, fails: Vec<u32>) -> Result<MemSink, AllocError>
         requires { 1 ≤ piece }
         ensures { IfOk result (λ s. s ≡ record { given = []; room = room; piece = piece; fails = fails.items; calls = 0; faults = 0 }) }
@@ -165,7 +165,7 @@ impl MemSink {
         })
     }
 
-    /// The bytes taken so far.
+    /// Returns the bytes taken so far.
     pub fn given(&self) -> &[u8]
         ensures { result.now ≡ self.now.given }
     {

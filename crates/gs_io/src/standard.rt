@@ -1,4 +1,4 @@
-//! The real ends of the program, over the readers and writers of std.
+//! Sources and sinks over the readers and writers of std.
 
 ghost use Rattle.std.specs.Prelude.{◌≡◌};
 
@@ -22,7 +22,7 @@ impl<T> Model for Counted<T> {
 }
 
 impl<T> Counted<T> {
-    /// An end over `inner`; no error is counted yet.
+    /// Returns a source or sink over `inner`, with a count of 0.
     pub fn new(inner: T) -> Counted<T>
         ensures { result ≡ (inner, 0) }
     {
@@ -31,7 +31,7 @@ impl<T> Counted<T> {
 }
 
 /// A source over any reader. It reads once for each call and counts the errors, an interrupted
-/// read among them. It tells the bytes that the reader tells: standard input tells none.
+/// read among them. It tells the bytes that the reader tells: stdin tells none.
 pub type StdSource<R> = Counted<R>;
 
 impl<R: Read> Source for Counted<R> {
@@ -49,7 +49,7 @@ impl<R: Read> Source for Counted<R> {
 
 /// A sink over any writer. It writes once for each call and counts the errors, an interrupted
 /// write and a write that takes no byte among them. It tells the bytes that the writer tells:
-/// standard output tells none.
+/// stdout tells none.
 pub type StdSink<W> = Counted<W>;
 
 impl<W: Write> Sink for Counted<W> {

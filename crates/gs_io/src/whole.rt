@@ -1,4 +1,4 @@
-//! Reading everything, and writing everything.
+//! Reading all bytes of a source, and writing all bytes to a sink.
 
 ghost use Rattle.std.specs.Prelude.{◌<◌, ◌^◌};
 ghost use Rattle.gs_io.specs.Moves.{ReadsAll, WritesAll};
@@ -6,13 +6,15 @@ ghost use Rattle.gs_io.specs.Moves.{ReadsAll, WritesAll};
 use crate::{ReadStop, Sink, Source, WriteStop};
 use std::alloc::Global;
 
-// how many bytes one read asks for
+// The most bytes that one read asks for.
 const PIECE: usize = 8192;
 
-/// All the bytes that are left, at most `limit` of them.
+/// Returns all bytes that are left in the source, at most `limit`.
 ///
-/// At `Fault` and at `TooLong` the source has given a prefix of its bytes, which is dropped: at
-/// `TooLong` just one byte more than the limit, whatever is left behind it.
+/// # Errors
+///
+/// `Fault` if a read fails, `TooLong` if more than `limit` bytes are left, `Memory` if memory runs out. The bytes
+/// read so far are dropped. At `TooLong` these are exactly one more than the limit.
 pub fn read_all<S: Source>(alloc: Global, source: &mut S, limit: u64) -> Result<Vec<u8>, ReadStop>
     requires { limit < 2 ^ 32 }
     ensures { ReadsAll (λ v. v.items) limit (S.left source.old) (S.left source.new) (S.faults source.old) (S.faults source.new) result }
@@ -36,7 +38,11 @@ pub fn read_all<S: Source>(alloc: Global, source: &mut S, limit: u64) -> Result<
     Err(ReadStop::TooLong)
 }
 
-/// Gives all the bytes. At `Fault` just the first `written` of them went out.
+/// Writes all bytes to the sink.
+///
+/// # Errors
+///
+/// `Fault` if a write fails. The sink has then taken exactly the first `written` bytes.
 pub fn write_all<K: Sink>(sink: &mut K, bytes: &[u8]) -> Result<(), WriteStop>
     ensures { WritesAll bytes.now (K.given sink.old) (K.given sink.new) (K.faults sink.old) (K.faults sink.new) result }
 {

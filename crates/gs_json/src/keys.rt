@@ -6,7 +6,7 @@ ghost use Rattle.gs_json.specs.Shapes.{keys_in};
 
 use serde_json::Value;
 
-/// How many keys an object has; 0 for a value that is no object.
+/// Returns the number of keys of an object, and 0 for any other value.
 pub fn key_count(value: &Value) -> usize
     ensures { result ≡ keys_in (view value.now) }
 {

@@ -1,9 +1,9 @@
-//! Two files one behind the other, the first of them one line.
+//! Two files one after the other, the first of them one line.
 
 ghost use Rattle.std.specs.Prelude.{◌≡◌};
 ghost use Rattle.gs_json.specs.FirstLine.{first_line as first_line_of};
 
-/// The bytes up to the first line feed with it, and those behind it; where there is no line feed, all bytes and none.
+/// Returns the bytes up to and with the first line feed, and the bytes after it. Without a line feed these are all bytes and none.
 pub fn first_line(bytes: &[u8]) -> (&[u8], &[u8])
     ensures { (result.0.now, result.1.now) ≡ first_line_of bytes.now }
 {

@@ -1,4 +1,4 @@
--- What a task says of an input is one reply.
+-- A task has only one reply to an input.
 use Rattle.std.specs.Prelude.{◌≡◌, ℕ, List, Ok}
 use Rattle.gs_answer.specs.Asking.{Asks}
 use Rattle.gs_file.specs.declared.version.Version.{Version}
@@ -9,7 +9,7 @@ use Rattle.gs_strategy.specs.Texts.{strategy_text}
 use Rattle.gs_strategy.specs.Values.{Strategy}
 use Rattle.gs_words.specs.Tasks.{Task}
 
--- bytes are read as one strategy, or have one first fault
+-- bytes have only one reading: a strategy or a first fault
 abbrev pub ReadingsAreOne : Type 0
 ReadingsAreOne = (bytes : List ℕ) (one two : ReadResult) → Reads bytes one → Reads bytes two → one ≡ two
 
@@ -17,6 +17,6 @@ ReadingsAreOne = (bytes : List ℕ) (one two : ReadResult) → Reads bytes one �
 abbrev pub TextsAreRead : Type 0
 TextsAreRead = (version : Version) (s : Strategy) → IsStrategy version s → Reads (strategy_text version s) (Ok s)
 
--- a task says one reply of an input
+-- a task has only one reply to an input
 abbrev pub AnswersAreOne : Type 0
 AnswersAreOne = (task : Task) (bytes : List ℕ) (one two : Reply) → Asks task bytes one → Asks task bytes two → one ≡ two

@@ -1,4 +1,4 @@
--- What is known of a game and of a strategy that are accepted: the game is playable and has deals, and the strategy's plans stand for raw plans of it.
+-- What is known of accepted games and strategies: the game is playable and has deals, and the strategy's plans stand for raw plans of the game.
 use Rattle.std.specs.Prelude.{◌≡◌, ◌<◌, ℕ, List, Ok}
 use Rattle.gs_file.specs.JsonLaws.{IsTold}
 use Rattle.gs_file.specs.Reading.{FileGame, read_at, rules_of}
@@ -16,13 +16,14 @@ use Rattle.gs_strategy.specs.Laws.{IsStrategy}
 use Rattle.gs_strategy.specs.Texts.{strategy_text}
 use Rattle.gs_strategy.specs.Values.{Strategy, frame_in}
 
--- the game can be played, as the laws of games ask, and has deals: their weights are not all 0
+-- the game is playable, as the laws of games ask, and the total weight of its deals is above 0
 pub record IsDealt (g : FileGame) : Type 0 where
   pub playable : IsPlayable (rules_of g)
   pub deals : 0 < total_weight (frame_in g)
 
--- Player 1's plan of one strategy and player 2's plan of another stand for raw plans of these players in one game: totals above 0, and at each point of
--- the player and each raw signal the numbers of the moves add up to the number of the last step before. And the game has deals.
+-- Player 1's plan of one strategy and player 2's plan of another stand for raw plans of these players in one game. Totals are above 0. At each point of
+-- the player and each raw signal the numbers of the moves add up to the number of the player's last move before, or to the total where there is none.
+-- And the game has deals.
 pub record AreRawPlans (one two : Strategy) : Type 0 where
   pub first : IsRawPlan (frame_in one.game) 1 (raw_plan one one.one)
   pub second : IsRawPlan (frame_in one.game) 2 (raw_plan two two.two)
@@ -44,7 +45,7 @@ AcceptedAreDealt = (bytes : List ℕ) (g : FileGame) → read_at bytes ≡ Ok g 
 
 -- ---- strategies
 
--- what bytes are read as is a strategy, and they are its text in some version
+-- if bytes are read as `s`, then `s` is a strategy and the bytes are its text in some version
 abbrev pub ReadAreStrategies : Type 0
 ReadAreStrategies = (bytes : List ℕ) (s : Strategy) → Reads bytes (Ok s) → (version : Version) × IsStrategy version s × (bytes ≡ strategy_text version s)
 
@@ -56,12 +57,12 @@ StrategiesAreRaw = (v w : Version) (one two : Strategy) → IsStrategy v one →
 abbrev pub ReadAreRaw : Type 0
 ReadAreRaw = (first second : List ℕ) (one two : Strategy) → Reads first (Ok one) → Reads second (Ok two) → one.game ≡ two.game → AreRawPlans one two
 
--- the strategy whose text is printed of a game that a file states is a strategy that version 2 can write
+-- a strategy whose text is printed for a game that a file states can be written in version 2
 abbrev pub PrintedAreStrategies : Type 0
 PrintedAreStrategies = (bytes : List ℕ) (g : FileGame) (lists : ClassLists) (one two : Plan) (text : List ℕ) → read_at bytes ≡ Ok g
     → (t : IsTextOf g lists one two text) → IsStrategy Two t.strategy
 
--- the plans of a strategy whose text is printed of a game that a file states stand for raw plans
+-- the plans of a strategy whose text is printed for a game that a file states stand for raw plans
 abbrev pub PrintedAreRaw : Type 0
 PrintedAreRaw = (bytes : List ℕ) (g : FileGame) (lists : ClassLists) (one two : Plan) (text : List ℕ) → read_at bytes ≡ Ok g
     → (t : IsTextOf g lists one two text) → AreRawPlans t.strategy t.strategy

@@ -1,4 +1,4 @@
--- How many sequences there are over single signals, and that each hand is dealt.
+-- Bounds on the number of sequences over single signals; and each hand is dealt.
 use Rattle.std.specs.Prelude.{ℕ, ◌+◌, ◌*◌, ◌<◌, ◌≤◌}
 use Rattle.gs_file.specs.JsonLaws.{IsTold}
 use Rattle.gs_file.specs.Reading.{FileGame}
@@ -14,7 +14,7 @@ use Rattle.gs_strategy.specs.Values.{frame_in}
 abbrev pub HandsWeighSome : Type 0
 HandsWeighSome = (version : Version) (g : FileGame) (s : ℕ) → IsTold version g → s < signal_count (frame_in g) 1 → 0 < hand_weight (frame_in g) s
 
--- over single signals a player has at most 64 sequences to a raw cell, and the empty one
+-- over single signals a player has at most 64 sequences per raw cell, and the empty one
 abbrev pub RawSequencesAreFew : Type 0
 RawSequencesAreFew = (version : Version) (g : FileGame) (player : ℕ) → IsTold version g
     → sequence_count (frame_in g) (single_classes (frame_in g).parents) player ≤ 1 + 64 * raw_cell_count (frame_in g)

@@ -1,4 +1,4 @@
--- The eleven rules of a game, with no order and no refusals.
+-- The eleven rules of a game, without an order and without refusals.
 use Rattle.std.specs.Prelude.{◌≡◌, ℕ, ◌+◌, ◌*◌, ◌<◌, ◌≤◌, List, [], ◌∷◌, None, true, length, sum}
 use Rattle.gs_game.specs.Money.{has_even, most_in, one_after, two_after}
 use Rattle.gs_game.specs.Refusals.{first_refusal, own_cards, public_cards, ranks}
@@ -11,13 +11,13 @@ use Rattle.gs_model.specs.Signals.{signals}
 use Rattle.gs_model.specs.Walk.{walk}
 
 abbrev mutual
-  -- the players have put the same at each even leaf of a tree, where they have put these amounts before it
+  -- at each even leaf of the tree both players have put in the same amount, if they put in these two amounts before the tree
   pub IsLevel : ℕ → ℕ → Bet → Type 0
   IsLevel one two (act player moves) = AreLevel one two player moves
   IsLevel one two fold = Unit {0}
   IsLevel one two even = one ≡ two
 
-  -- the same of the moves of a choice
+  -- the tree after each move of a choice is level, counting the chips of that move
   pub AreLevel : ℕ → ℕ → ℕ → Moves → Type 0
   AreLevel one two player none = Unit {0}
   AreLevel one two player (move letter chips next moves) =
@@ -29,14 +29,14 @@ GoOn [] = Unit {0}
 GoOn (t ∷ []) = Unit {0}
 GoOn (t ∷ u ∷ ts) = (has_even t ≡ true) × GoOn (u ∷ ts)
 
--- each tree is level, with nothing put before it
+-- each tree is level, if both players put in nothing before it
 abbrev pub EachLevel : List Bet → Type 0
 EachLevel [] = Unit {0}
 EachLevel (t ∷ ts) = IsLevel 0 0 t × EachLevel ts
 
 -- the game keeps the rules
 pub record KeepsRules (g : Game) : Type 0 where
-  -- on cards: 1 to 4 rounds; a private card in round 1; hands that the ranking ranks; and as many cards as are dealt
+  -- on cards: 1 to 4 rounds; a private card in round 1; hands that the ranking ranks; and at least as many cards as are dealt
   pub rounds : (1 ≤ round_count g) × (round_count g ≤ 4)
   pub private : 0 < (round_at g 1).private
   pub ranking : ranks g.ranking (own_cards g.rounds) (own_cards g.rounds + public_cards g.rounds) ≡ true
@@ -51,6 +51,6 @@ pub record KeepsRules (g : Game) : Type 0 where
   pub signals : (round : ℕ) → 1 ≤ round → round ≤ round_count g → length (signals g round) ≤ 200000
   pub deals : length (deals g) ≤ 8000000
 
--- no refusal applies to a game exactly where it keeps the rules
+-- no refusal applies to a game if and only if it keeps the rules
 abbrev pub RulesAreRefusals : Type 0
 RulesAreRefusals = (g : Game) → (first_refusal g ≡ None → KeepsRules g) × (KeepsRules g → first_refusal g ≡ None)

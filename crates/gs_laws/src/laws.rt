@@ -21,7 +21,7 @@ pub fn accepted_are_dealt()
     ensures { AcceptedAreDealt }
 {}
 
-/// What a strategy file is read as is a strategy, and the bytes are its text.
+/// If bytes are read as a strategy, they are its text in some version.
 pub fn read_are_strategies()
     ensures { ReadAreStrategies }
 {}
@@ -36,42 +36,42 @@ pub fn read_are_raw()
     ensures { ReadAreRaw }
 {}
 
-/// The strategy whose text is printed of an accepted game is a strategy.
+/// A strategy whose text is printed for an accepted game can be written in version 2.
 pub fn printed_are_strategies()
     ensures { PrintedAreStrategies }
 {}
 
-/// The plans of a strategy that is printed of an accepted game stand for raw plans.
+/// The plans of a strategy that is printed for an accepted game stand for raw plans.
 pub fn printed_are_raw()
     ensures { PrintedAreRaw }
 {}
 
-/// Two raw plans have one verdict in reduced fractions.
+/// Two raw plans have only one verdict in reduced fractions.
 pub fn verdicts_are_one()
     ensures { VerdictsAreOne }
 {}
 
-/// A raw signal of round 1 has one value in reduced fractions.
+/// A raw signal of round 1 has only one value in reduced fractions.
 pub fn hands_are_one()
     ensures { HandsAreOne }
 {}
 
-/// No check of `evaluate` fails at a confirmed strategy.
+/// A confirmed strategy passes each check of `evaluate`.
 pub fn confirmed_have_no_trouble()
     ensures { ConfirmedHaveNoTrouble }
 {}
 
-/// Of a confirmed strategy's text `evaluate` says its three numbers.
+/// For the text of a confirmed strategy `evaluate` prints its three numbers.
 pub fn confirmed_are_evaluated()
     ensures { ConfirmedAreEvaluated }
 {}
 
-/// Of what `solve` and `play` print `evaluate` says the three numbers.
+/// For what `solve` and `play` print `evaluate` prints the three numbers.
 pub fn printed_are_evaluated()
     ensures { PrintedAreEvaluated }
 {}
 
-/// Bytes are read as one strategy, or have one first fault.
+/// Bytes have only one reading: a strategy or a first fault.
 pub fn readings_are_one()
     ensures { ReadingsAreOne }
 {}
@@ -81,7 +81,7 @@ pub fn texts_are_read()
     ensures { TextsAreRead }
 {}
 
-/// A task says one reply of an input.
+/// A task has only one reply to an input.
 pub fn answers_are_one()
     ensures { AnswersAreOne }
 {}
@@ -91,7 +91,7 @@ pub fn hands_weigh_some()
     ensures { HandsWeighSome }
 {}
 
-/// Over single signals a player has at most 64 sequences to a raw cell, and the empty one.
+/// Over single signals a player has at most 64 sequences per raw cell, and the empty one.
 pub fn raw_sequences_are_few()
     ensures { RawSequencesAreFew }
 {}
@@ -101,7 +101,7 @@ pub fn raw_games_are_within()
     ensures { RawGamesAreWithin }
 {}
 
-/// No refusal applies to a game exactly where it keeps the eleven rules.
+/// No refusal applies to a game if and only if it keeps the eleven rules.
 pub fn rules_are_refusals()
     ensures { RulesAreRefusals }
 {}

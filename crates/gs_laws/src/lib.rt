@@ -1,4 +1,4 @@
-//! Laws over what the commands say: what is accepted is lawful, verdicts and answers are one, and what is printed is confirmed. It runs nothing.
+//! Laws about what the commands say: what is accepted keeps the rules, verdicts and replies are unique, and what is printed is confirmed. No code runs.
 #![tactic(auto)]
 
 mod laws;

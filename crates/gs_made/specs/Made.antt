@@ -5,7 +5,7 @@ use Rattle.gs_made.specs.declared.kind.Kind.{Kind}
 use Rattle.gs_made.specs.declared.kind.Kind.TheVariants.{Kuhn, Leduc, Rhode}
 use Rattle.gs_made.specs.declared.kind.Round.{Round}
 
--- the last n of a text
+-- the last n characters of a text
 abbrev pub last : ℕ → List ℕ → List ℕ
 last n text = drop (length text - n) text
 
@@ -31,18 +31,18 @@ rounds_of Rhode = (1, 0, 10) ∷ (0, 1, 20) ∷ (0, 1, 20) ∷ []
 abbrev pub round_view : Round → ℕ × ℕ × ℕ
 round_view r = (r.private, r.public, r.bet)
 
--- the lines of a round, behind an empty line
+-- the lines of a round, after an empty line
 unfoldable pub round_text : ℕ → ℕ × ℕ × ℕ → List ℕ
 round_text cap r = codes "\n[[round]]\nprivate = " ++ decimal r.0 ++ codes "\npublic = " ++ decimal r.1 ++ codes "\nbet = " ++ decimal r.2 ++ codes "\ncap = "
     ++ decimal cap ++ codes "\n"
 
--- the lines before the rounds, of the ranks, the suits, the ranking and the ante
+-- the lines before the rounds, with the ranks, the suits, the ranking and the ante
 unfoldable pub head_text : (ranks suits ranking : List ℕ) → ℕ → List ℕ
 head_text ranks suits ranking ante =
     codes "version = 1\nranks = \"" ++ ranks ++ codes "\"\nsuits = \"" ++ suits ++ codes "\"\nranking = \"" ++ ranking ++ codes "\"\nante = " ++ decimal ante
     ++ codes "\n"
 
--- the whole game file: the highest ranks, the first suits
+-- the whole game file, with the `ranks` highest ranks and the first `suits` suits
 abbrev pub made_game : Kind → ℕ → ℕ → ℕ → List ℕ
 made_game kind ranks suits cap =
     head_text (last ranks (codes "23456789TJQKA")) (take suits (codes "shdc")) (ranking_of kind) (ante_of kind)

@@ -1,4 +1,4 @@
-//! Well-known games, each with what its file states.
+//! Well-known games, and what the file of each states.
 
 ghost use Rattle.std.specs.Prelude.{◌≡◌, map};
 ghost use Rattle.gs_made.specs.Made.{ante_of, ranking_of, round_view, rounds_of};
@@ -8,13 +8,13 @@ ghost use Rattle.gs_made.specs.Made.{ante_of, ranking_of, round_view, rounds_of}
 pub enum Kind {
     /// Kuhn poker: one card each, one round of bets, the higher rank wins.
     Kuhn,
-    /// Leduc hold'em: one card each, then one card for both, and a pair with it wins.
+    /// Leduc hold'em: one card each, then one public card, and a pair with it wins.
     Leduc,
-    /// Rhode Island hold'em: one card each, then twice one card for both, and the best hand of three cards wins.
+    /// Rhode Island hold'em: one card each, then two public cards one after the other, and the best hand of three cards wins.
     Rhode,
 }
 
-/// What a round deals to each player and to both, and the chips of its bet.
+/// A round: its private cards for each player, its public cards, and its bet in chips.
 #[derive(Clone, Copy)]
 pub(crate) struct Round {
     pub(crate) private: u8,
@@ -60,7 +60,7 @@ static RHODE: [Round; 3] = [
 ];
 
 impl Kind {
-    /// The word for how hands are ranked.
+    /// Returns the word for the ranking of hands.
     pub(crate) fn ranking(self) -> &'static str
         ensures { result.now ≡ ranking_of self }
     {
@@ -71,7 +71,7 @@ impl Kind {
         }
     }
 
-    /// What each player puts before the cards.
+    /// Returns the ante of each player, in chips.
     pub(crate) fn ante(self) -> u8
         ensures { result ≡ ante_of self }
     {
@@ -81,7 +81,7 @@ impl Kind {
         }
     }
 
-    /// The rounds in order.
+    /// Returns the rounds in order.
     pub(crate) fn rounds(self) -> &'static [Round]
         ensures { map round_view result.now ≡ rounds_of self }
     {

@@ -1,4 +1,4 @@
-//! The game files of well-known games, as a program prints them that makes one.
+//! The game files of well-known games, as `make` prints them.
 #![tactic(auto)]
 
 mod kind;

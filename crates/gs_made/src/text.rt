@@ -11,7 +11,7 @@ const RANKS: &str = "23456789TJQKA";
 
 const SUITS: &str = "shdc";
 
-// The highest ranks.
+// Returns the `count` highest ranks.
 fn last_ranks(count: u8) -> &'static str
     requires { count ≤ 13 }
     ensures { result.now ≡ last count (codes "23456789TJQKA") }
@@ -19,7 +19,7 @@ fn last_ranks(count: u8) -> &'static str
     &RANKS[RANKS.len() - count as usize..]
 }
 
-// The first suits.
+// Returns the first `count` suits.
 fn first_suits(count: u8) -> &'static str
     requires { count ≤ 4 }
     ensures { result.now ≡ take count (codes "shdc") }
@@ -27,7 +27,7 @@ fn first_suits(count: u8) -> &'static str
     &SUITS[..count as usize]
 }
 
-// The lines before the rounds.
+// Returns the lines before the rounds.
 #[tactic(auto, unfolding(crate::specs::Made::head_text))]
 fn head(
     alloc: Global,
@@ -43,7 +43,7 @@ fn head(
     )
 }
 
-// Adds the lines of a round.
+// Adds the lines of a round to the text.
 #[tactic(auto, unfolding(crate::specs::Made::round_text))]
 fn push_round(text: &mut String, round: Round, cap: u8) -> Result<(), AllocError>
     ensures { OnOk result (string_bytes text.new ≡ string_bytes text.old ++ round_text cap (round_view round)) }
@@ -57,9 +57,10 @@ fn push_round(text: &mut String, round: Round, cap: u8) -> Result<(), AllocError
     )
 }
 
-/// The game file of a well-known game with the highest `ranks` of the thirteen, the first `suits` of
-/// spades, hearts, diamonds and clubs, and at most `cap` bets and raises in a round. A game made so
-/// may still be refused, as one with fewer cards than it deals.
+/// Returns the game file of a well-known game with the highest `ranks` of the thirteen, the first
+/// `suits` of spades, hearts, diamonds and clubs, and at most `cap` bets and raises in a round.
+///
+/// The file may still be refused, for example if the game has fewer cards than it deals.
 pub fn made_game(
     alloc: Global,
     kind: Kind,

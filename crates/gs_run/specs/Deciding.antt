@@ -1,4 +1,4 @@
--- What a command says of an input is one reply, and where nothing outside fails the run does it, unless memory runs out.
+-- A command has one reply to an input. The run gives this reply if no read or write fails and memory does not run out.
 use Rattle.std.specs.Prelude.{◌≡◌, ◌⊎◌, ℕ, ◌<◌, ◌≤◌, List, Bool, length, Some, None, true, false}
 use Rattle.std.specs.Io.KnownBytes.{Appends}
 use Rattle.gs_answer.specs.Asking.{Asks, reads}
@@ -12,18 +12,19 @@ use Rattle.gs_run.specs.Statuses.{status_of}
 use Rattle.gs_run.specs.declared.status.Status.{Status}
 use Rattle.gs_run.specs.declared.status.Status.TheVariants as status
 
--- the source holds these bytes, which are not too many; a task that reads nothing needs none
+-- the source holds these bytes, within the limit; for a task that reads no input this says nothing
 abbrev pub Holds : Bool → Ends → List ℕ → Type 0
 Holds true old bytes = (old.left ≡ Some bytes) × (length bytes ≤ most_bytes)
 Holds false old bytes = Unit {0}
 
--- the run did the reply: its text went out, or its line was told
+-- The run gave the reply. A text went to stdout at status 0, and nothing to stderr. A refusal ended the run at its status: nothing went to stdout, and its
+-- line to stderr.
 abbrev pub DoesReply : Reply → Ends → Ends → Status → Type 0
 DoesReply (Prints text) old new s = (s ≡ status.Ok) × Appends old.given new.given text × Silent old new
 DoesReply (Refuses why) old new s = (s ≡ status_of (cause_of why)) × Quiet old new × Tells old new (line_of why)
 
--- Words that are no request get the usage line. An input that is too long is refused. Where the definition of a task says a reply of the bytes, the run
--- does it. Each of these unless memory runs out.
+-- Words that are no request end the run with status `Usage`. An input that is too long ends it with `TooLong`, if no read fails. If the task's definition
+-- gives a reply for the bytes and nothing fails, the run gives that reply. Each of these runs may end out of memory instead.
 pub record IsDecided (words : List (List ℕ)) (old new : Ends) (s : Status) : Type 0 where
   pub no_request : request_of words ≡ None → (s ≡ status.Usage) ⊎ (s ≡ status.Memory)
   pub too_long : (task : Task) (bytes : List ℕ) → request_of words ≡ Some task → reads task ≡ true → old.left ≡ Some bytes → most_bytes < length bytes
@@ -31,7 +32,7 @@ pub record IsDecided (words : List (List ℕ)) (old new : Ends) (s : Status) : T
   pub reply : (task : Task) (bytes : List ℕ) (reply : Reply) → request_of words ≡ Some task → Holds (reads task) old bytes
       → NothingFailed (reads task) old new → Asks task bytes reply → DoesReply reply old new s ⊎ (s ≡ status.Memory)
 
--- two runs over the same words and the same bytes, in which nothing outside fails, do the same reply, unless memory runs out in one of them
+-- two runs over the same words and the same bytes, without a failed read or write, give the same reply, unless one of them runs out of memory
 abbrev pub OneReply : List (List ℕ) → Ends → Ends → Status → Ends → Ends → Status → Type 0
 OneReply words old new s before after t =
     (task : Task) (bytes : List ℕ) → request_of words ≡ Some task → Holds (reads task) old bytes → Holds (reads task) before bytes

@@ -1,4 +1,4 @@
--- How each command ends over bytes that it accepts, where nothing outside fails: well, out of memory, or at a refusal that its definition tells.
+-- How each command ends over valid input, if no read or write fails: well, out of memory, or with a refusal that its definition gives.
 use Rattle.std.specs.Prelude.{◌≡◌, ◌⊎◌, ℕ, ◌++◌, List, false, true}
 use Rattle.gs_certificate.specs.TextLaws.{IsStated}
 use Rattle.gs_certificate.specs.Texts.{Stated, certificate_text}
@@ -34,13 +34,13 @@ use Rattle.gs_run.specs.Statuses.{status_of}
 use Rattle.gs_run.specs.declared.status.Status.{Status}
 use Rattle.gs_run.specs.declared.status.Status.TheVariants as status
 
--- well, with a text that is said; out of memory; or at the status of a refusal that is said
+-- the run ends well, and `says` holds of some text; or out of memory; or at the status of a refusal of which `says` holds
 abbrev pub EndsSo : (Reply → Type 0) → Status → Type 0
 EndsSo says s =
     ((s ≡ status.Ok) × ((text : List ℕ) × says (Prints text))) ⊎ ((s ≡ status.Memory)
     ⊎ ((why : Refusal) × says (Refuses why) × (status_of (cause_of why) ≡ s)))
 
--- well, or out of memory
+-- the run ends well or out of memory
 abbrev pub EndsWell : Status → Type 0
 EndsWell s = (s ≡ status.Ok) ⊎ (s ≡ status.Memory)
 
@@ -50,38 +50,40 @@ pub record AreUnlike (g : FileGame) : Type 0 where
   pub are : IsSignalClasses (rules_of g) classes
   pub not_lossless : IsLossless (frame_of (rules_of g)) classes → ⊥
 
--- well, out of memory, or at the refusal of signal classes that are not lossless
+-- the run ends well or out of memory; or it refuses the game because its signal classes, which were asked for, are not lossless
 abbrev pub EndsChecked : Grouping → FileGame → Status → Type 0
 EndsChecked grouping g s = (s ≡ status.Ok) ⊎ ((s ≡ status.Memory) ⊎ ((s ≡ status.Unlike) × (grouping ≡ Isomorphism) × AreUnlike g))
 
 -- ---- over files
 
--- this is said of the game that the bytes state
+-- `ends` holds of each game that the bytes state
 abbrev pub OverGame : (FileGame → Status → Type 0) → List ℕ → Status → Type 0
 OverGame ends bytes s = (g : FileGame) → FileStates bytes g → ends g s
 
--- this is said of the strategy whose file the bytes are
+-- `ends` holds of each strategy whose file, in some version, is these bytes
 abbrev pub OverStrategy : (Strategy → Status → Type 0) → List ℕ → Status → Type 0
 OverStrategy ends bytes s = (version : Version) (t : Strategy) → IsStrategy version t → bytes ≡ strategy_text version t → ends t s
 
--- this is said of the two strategies whose files the bytes are, the second behind the first
+-- `ends` holds of each two strategies whose files, one after the other, are these bytes
 abbrev pub OverTwo : (Strategy → Strategy → Status → Type 0) → List ℕ → Status → Type 0
 OverTwo ends bytes s =
     (v w : Version) (one two : Strategy) → IsStrategy v one → IsStrategy w two → bytes ≡ strategy_text v one ++ strategy_text w two → ends one two s
 
--- over a strategy file and behind it a certificate's text; and over what `certify` prints of a strategy file
+-- If the bytes are a strategy file and a certificate's text after it, the run ends well, out of memory, or with a refusal, as `SaysChecked` says of both.
+-- If `certify` prints these bytes for a strategy file, the run ends well or out of memory.
 pub record OverCertificate (bytes : List ℕ) (s : Status) : Type 0 where
   pub any : (version : Version) (t : Strategy) (c : Stated) → IsStrategy version t → IsStated c → bytes ≡ strategy_text version t ++ certificate_text c
       → EndsSo (λ reply. (d : Certificate) × (certificate_view d ≡ c) × SaysChecked t d reply) s
   pub certified : (version : Version) (t : Strategy) → IsStrategy version t → Means Certify (strategy_text version t) bytes → EndsWell s
 
--- as it is said of the strategy; and well, or out of memory, where the strategy is confirmed, as each is that `solve` or `play` prints
+-- The run ends well, out of memory, or with a refusal, as `evaluate` says of the strategy. For a confirmed strategy it ends well or out of memory. Each
+-- strategy that `solve` or `play` prints is confirmed.
 abbrev pub EndsEvaluated : Strategy → Status → Type 0
 EndsEvaluated t s = EndsSo (OfConfirmed SaysNumbers t) s × (IsConfirmed t → EndsWell s)
 
 -- ---- the table
 
--- how each command ends over bytes that it accepts
+-- how each command ends over valid input
 abbrev pub Concludes : Task → List ℕ → Status → Type 0
 Concludes (Shrink summary) = OverGame (λ g s. EndsWell s)
 Concludes (Check grouping summary) = OverGame (EndsChecked grouping)

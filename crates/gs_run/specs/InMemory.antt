@@ -1,4 +1,4 @@
--- What the program does with words and bytes in memory, as `Does` says it of a run, with no source and no sinks.
+-- What the program does with words and bytes in memory. This is what `Does` says of a run, without a source and sinks.
 use Rattle.std.specs.Prelude.{◌≡◌, ◌≢◌, ◌⊎◌, ℕ, ◌<◌, ◌≤◌, List, [], Bool, length, Some, None, true, false}
 use Rattle.gs_answer.specs.Asking.{Asks, reads}
 use Rattle.gs_reply.specs.Refusals.{cause_of, line_of}
@@ -13,28 +13,29 @@ use Rattle.gs_run.specs.Statuses.{status_of}
 use Rattle.gs_run.specs.declared.status.Status.{Status}
 use Rattle.gs_run.specs.declared.status.Status.TheVariants as status
 
--- an input of a task that reads one is not too long
+-- the input is within the limit, if the task reads one
 abbrev pub Fits : Bool → List ℕ → Type 0
 Fits true input = length input ≤ most_bytes
 Fits false input = Unit {0}
 
--- the reply was given: its text printed, or its line told
+-- the reply was given: at status 0 its text and no line, or at the status of the refusal its line and no text
 abbrev pub GivesReply : Reply → Status → List ℕ → List ℕ → Type 0
 GivesReply (Prints text) s printed told = (s ≡ status.Ok) × (printed ≡ text) × (told ≡ [])
 GivesReply (Refuses why) s printed told = (s ≡ status_of (cause_of why)) × (printed ≡ []) × (told ≡ line_of why)
 
--- a reply that the definition of the task says of the input was given
+-- the reply was given that the task's definition gives for the input
 abbrev pub GivesAnswer : Task → List ℕ → Status → List ℕ → List ℕ → Type 0
 GivesAnswer task input s printed told = (reply : Reply) × Asks task input reply × GivesReply reply s printed told
 
--- words that are no request were given the usage line, an input that is too long the line that refuses it, and any other what the definition of its task says
+-- Words that are no request get the usage line. An input that is too long gets the line that refuses it. In all other cases the reply was given that the
+-- task's definition gives for the input.
 abbrev pub GivesSo : List (List ℕ) → List ℕ → Status → List ℕ → List ℕ → Type 0
 GivesSo words input s printed told =
     ((request_of words ≡ None) × (s ≡ status.Usage) × (printed ≡ []) × (told ≡ usage_line))
     ⊎ Asked words (λ task. ((reads task ≡ true) × (most_bytes < length input) × (s ≡ status.TooLong) × (printed ≡ []) × (told ≡ long_line))
     ⊎ (Fits (reads task) input × GivesAnswer task input s printed told))
 
--- what the program does with words and bytes in memory: how it ends, what it prints and what it tells
+-- what the program does with words and bytes in memory: its status, what it prints to stdout and what it tells on stderr
 pub record DoesInMemory (words : List (List ℕ)) (input : List ℕ) (s : Status) (printed told : List ℕ) : Type 0 where
   -- a command with its options is never refused for its words
   pub takes_words : (task : Task) → AskFor words task → s ≢ status.Usage
@@ -46,10 +47,10 @@ pub record DoesInMemory (words : List (List ℕ)) (input : List ℕ) (s : Status
   pub path : (grouping : Grouping) → AskFor words (Solve grouping) → s ≡ status.Ok → ShowsSolution grouping input printed
   -- at every other status it prints nothing
   pub quiet : s ≢ status.Ok → printed ≡ []
-  -- over bytes that the command accepts it ends as the table of endings says, and never by running out of memory
+  -- over valid input it ends as the table of endings says, and never out of memory
   pub ends : (task : Task) → AskFor words task → Fits (reads task) input → Concludes task input s × (s ≢ status.Memory)
   -- an input that is too long is refused
   pub too_long : (task : Task) → request_of words ≡ Some task → reads task ≡ true → most_bytes < length input
       → (s ≡ status.TooLong) × (printed ≡ []) × (told ≡ long_line)
-  -- any words and bytes have one reply, and it is given
+  -- a reply that the task's definition gives for the input is the one that is given
   pub decided : (task : Task) (reply : Reply) → request_of words ≡ Some task → Fits (reads task) input → Asks task input reply → GivesReply reply s printed told

@@ -1,4 +1,4 @@
--- What each command prints, by the bytes that it reads, in the words of games and strategies. No order of checks is spoken of.
+-- What each command prints for the bytes that it reads, in terms of games and strategies. No order of checks is fixed here.
 use Rattle.std.specs.Prelude.{◌≡◌, ℕ, ◌<◌, ◌≤◌, ◌++◌, ◌∷◌, List, pos, Some, false, true, IsTrue}
 use Rattle.gs_certificate.specs.Texts.{certificate_text}
 use Rattle.gs_certificate.specs.Views.{certificate_view}
@@ -40,7 +40,8 @@ use Rattle.gs_words.specs.declared.request.Grouping.{Grouping}
 
 -- ---- words
 
--- the words are a command and options of it, in any order, each at most once and each required one there; together they ask for the task
+-- The words are a command and options of it, in any order. Each option is given at most once, and each required one is given. Together they ask for the
+-- task.
 pub record AskFor (words : List (List ℕ)) (task : Task) : Type 0 where
   pub command : CommandName
   pub options : List Given
@@ -50,15 +51,15 @@ pub record AskFor (words : List (List ℕ)) (task : Task) : Type 0 where
 
 -- ---- game files
 
--- the bytes are a game file, and this is said of its game and of the text
+-- the bytes are a game file, and `says` holds of its game and the text
 pub record OfGameFile (says : FileGame → List ℕ → Type 0) (bytes text : List ℕ) : Type 0 where
   pub game : FileGame
   pub states : FileStates bytes game
   pub said : says game text
 
 -- The text is the strategy file, in version 2, of a strategy of the game over the classes of the grouping. Both plans stand for raw plans of their
--- players. The classes are lossless, and the three numbers are the value of the plans and what each player could still gain by any raw plan. Further
--- this is said of the strategy.
+-- players. The classes are lossless, and the three numbers are the value of the plans and what each player could still gain by any raw plan. And `says`
+-- holds of the strategy.
 pub record IsStrategyFile (grouping : Grouping) (says : Strategy → Type 0) (g : FileGame) (text : List ℕ) : Type 0 where
   pub strategy : Strategy
   pub game : strategy.game ≡ g
@@ -74,7 +75,7 @@ abbrev pub IsPlayedOut : ℕ → Strategy → Type 0
 IsPlayedOut turns s = IsFictitiousPlay (frame_in s.game) s.classes turns (plan_of (frame_in s.game) s.classes s.one.total s.one.weights)
     (plan_of (frame_in s.game) s.classes s.two.total s.two.weights)
 
--- the classes of the grouping are lossless, the game over them keeps the limits, and this is said of the game, the classes and the text
+-- the classes of the grouping are lossless, the game over them keeps the limits, and `says` holds of the game, the classes and the text
 pub record OverLossless (grouping : Grouping) (says : FileGame → ClassLists → List ℕ → Type 0) (g : FileGame) (text : List ℕ) : Type 0 where
   pub classes : ClassLists
   pub grouped : IsGrouping grouping (rules_of g) classes
@@ -84,8 +85,8 @@ pub record OverLossless (grouping : Grouping) (says : FileGame → ClassLists �
 
 -- ---- strategy files
 
--- The bytes are the strategy file, in version 1 or 2, of a strategy. Both plans stand for raw plans of their players. Further this is said of the
--- strategy and of the text.
+-- The bytes are the strategy file, in version 1 or 2, of a strategy. Both plans stand for raw plans of their players. And `says` holds of the strategy
+-- and the text.
 pub record OfStrategyFile (says : Strategy → List ℕ → Type 0) (bytes text : List ℕ) : Type 0 where
   pub version : Version
   pub strategy : Strategy
@@ -94,26 +95,26 @@ pub record OfStrategyFile (says : Strategy → List ℕ → Type 0) (bytes text 
   pub raw : AreRawPlans strategy strategy
   pub said : says strategy text
 
--- The value of player 1's plan of one strategy against player 2's of another, each over the classes of its own strategy, and both gaps, as reduced
--- fractions: no raw plan of a player gains more than the gap, and some raw plan gains it.
+-- The numbers are the value and both gaps of player 1's plan of one strategy against player 2's of another, as reduced fractions. Each plan is over the
+-- classes of its own strategy. No raw plan of a player gains more than the gap, and some raw plan gains it. The game has at most 16,777,216 raw cells.
 pub record AreOnRawCards (one two : Strategy) (n : Numbers) : Type 0 where
   pub few : raw_cell_count (frame_in one.game) ≤ 16777216
   pub fractions : AreFractions n
   pub verdict : IsVerdict (frame_in one.game) (raw_plan one one.one) (raw_plan two two.two) (over n.value) (over n.gap1) (over n.gap2)
 
--- the three lines of these numbers, of a strategy's own two plans
+-- the text is the three lines of value and gaps of the strategy's own two plans
 abbrev pub IsJudged : Strategy → List ℕ → Type 0
 IsJudged s text = (n : Numbers) × AreOnRawCards s s n × (text ≡ verdict_text n)
 
--- the lines of these numbers, of player 1's plan of the first strategy against player 2's of the second; then a line for each raw signal of round 1 with
--- what it is worth to player 1, and each of these signals is dealt
+-- The text gives the value and gaps of player 1's plan of the first strategy against player 2's of the second. Then it has a line for each raw signal of
+-- round 1 with its value to player 1. Each of these signals is dealt.
 abbrev pub IsDuelled : Strategy → Strategy → List ℕ → Type 0
 IsDuelled one two text = (n : Numbers) × AreOnRawCards one two n
     × ((signal : ℕ) → signal < signal_count (frame_in one.game) 1 → 0 < hand_weight (frame_in one.game) signal)
     × ((hands : List FractionParts) × AreHands one two hands × (text ≡ verdict_text n ++ hands_text one.game.deck (rules_of one.game) hands))
 
--- The bytes are two strategy files of one game, the second behind the first, each in version 1 or 2. Player 1's plan of the first and player 2's plan of
--- the second stand for raw plans. Further this is said of the two strategies and of the text.
+-- The bytes are two strategy files of one game, one after the other, each in version 1 or 2. Player 1's plan of the first and player 2's plan of the
+-- second stand for raw plans. And `says` holds of the two strategies and the text.
 pub record OfTwoFiles (says : Strategy → Strategy → List ℕ → Type 0) (bytes text : List ℕ) : Type 0 where
   pub first_version : Version
   pub second_version : Version
@@ -126,8 +127,8 @@ pub record OfTwoFiles (says : Strategy → Strategy → List ℕ → Type 0) (by
   pub raw : AreRawPlans one two
   pub said : says one two text
 
--- The bytes are a strategy file and behind it the text of a certificate that holds of the strategy's plans, whoever made it. The text is the value of the
--- plans and both bounds.
+-- The bytes are a strategy file and after it the text of a certificate that is valid for the strategy's plans, whoever made it. The text is the value of
+-- the plans and both bounds.
 pub record OfCertifiedFile (bytes text : List ℕ) : Type 0 where
   pub version : Version
   pub strategy : Strategy
@@ -139,7 +140,7 @@ pub record OfCertifiedFile (bytes text : List ℕ) : Type 0 where
 
 -- ---- the table
 
--- what each command prints, by the bytes that it reads; `make` reads none
+-- what each command prints for the bytes that it reads; `make` reads none
 abbrev pub Means : Task → List ℕ → List ℕ → Type 0
 Means (Shrink summary) = OfGameFile (IsShrunk summary)
 Means (Check grouping summary) = OfGameFile (IsChecked grouping summary)

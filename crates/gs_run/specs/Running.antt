@@ -1,4 +1,4 @@
--- What a run does to its three ends, status by status.
+-- What a run does to the source, to stdout and to stderr, for each status.
 use Rattle.std.specs.Prelude.{◌≡◌, ◌⊎◌, ℕ, ◌+◌, ◌<◌, ◌≤◌, List, [], length, take, codes, Bool, true, false, Some, None, Result, Ok, Err}
 use Rattle.std.specs.declared.option.Option.{Option}
 use Rattle.std.specs.declared.alloc.Global.{Global}
@@ -17,7 +17,7 @@ use Rattle.gs_run.specs.Statuses.{status_of}
 use Rattle.gs_run.specs.declared.status.Status.{Status}
 use Rattle.gs_run.specs.declared.status.Status.TheVariants as status
 
--- what is seen of the source, of the output and of the errors' end: the bytes that they tell, and their counts of faults
+-- the source, stdout and stderr: the bytes of each, if it tells them, and its count of faults
 pub record Ends : Type 0 where
   pub left : Option (List ℕ)
   pub read_faults : ℕ
@@ -26,46 +26,46 @@ pub record Ends : Type 0 where
   pub told : Option (List ℕ)
   pub tell_faults : ℕ
 
--- the ends, by what each of them tells and counts
+-- the ends with these bytes and counts
 abbrev pub ends : Option (List ℕ) → ℕ → Option (List ℕ) → ℕ → Option (List ℕ) → ℕ → Ends
 ends left read_faults given write_faults told tell_faults =
     record { left = left; read_faults = read_faults; given = given; write_faults = write_faults; told = told; tell_faults = tell_faults }
 
--- how long an input may be
+-- the greatest length of an input, in bytes
 abbrev pub most_bytes : ℕ
 most_bytes = 16777216
 
--- the words ask for a task that meets the test
+-- the words are a request, and `what` holds of its task
 abbrev pub Asked : List (List ℕ) → (Task → Type 0) → Type 0
 Asked words what = (task : Task) × (request_of words ≡ Some task) × what task
 
--- nothing was read
+-- nothing was read, and no read failed
 abbrev pub Unread : Ends → Ends → Type 0
 Unread old new = (new.left ≡ old.left) × (new.read_faults ≡ old.read_faults)
 
--- the source was read to its end, and these were its bytes
+-- the source was read to its end, and no read failed; these were its bytes, within the limit
 pub record ReadsWhole (old new : Ends) (bytes : List ℕ) : Type 0 where
   pub taken : Consumes old.left new.left bytes
   pub end : IsAtEnd new.left
   pub few : length bytes ≤ most_bytes
   pub faults : new.read_faults ≡ old.read_faults
 
--- the input of a task: all bytes of the source where it reads one, else none
+-- the input of a task: all bytes of the source; or no bytes for a task that reads none, and nothing was read
 abbrev pub Inputs : Bool → Ends → Ends → List ℕ → Type 0
 Inputs true old new bytes = ReadsWhole old new bytes
 Inputs false old new bytes = (bytes ≡ []) × Unread old new
 
--- what reading the input of a task does to the source, by its answer
+-- what reading the input of a task does to the source, for each result
 abbrev pub ReadsInput : Bool → Option (List ℕ) → Option (List ℕ) → ℕ → ℕ → Result (Vec ℕ Global) ReadStop → Type 0
 ReadsInput true old new before now result = ReadsAll (λ v. v.items) most_bytes old new before now result
 ReadsInput false old new before now (Ok v) = (v.items ≡ []) × (new ≡ old) × (now ≡ before)
 ReadsInput false old new before now (Err e) = ⊥
 
--- no write to the output failed, nor a read where a source is read; and no count stands at its last value
+-- no write to stdout failed, and no read if the task reads the source; these counts of faults are below their last value
 abbrev pub NothingFailed : Bool → Ends → Ends → Type 0
 NothingFailed reads_source old new = (reads_source ≡ true → Rose old.read_faults new.read_faults → ⊥) × (Rose old.write_faults new.write_faults → ⊥)
 
--- nothing went out
+-- nothing was written to stdout, and no write to it failed
 abbrev pub Quiet : Ends → Ends → Type 0
 Quiet old new = (new.given ≡ old.given) × (new.write_faults ≡ old.write_faults)
 
@@ -73,17 +73,17 @@ Quiet old new = (new.given ≡ old.given) × (new.write_faults ≡ old.write_fau
 abbrev pub Tells : Ends → Ends → List ℕ → Type 0
 Tells old new line = TellsTo old.told old.tell_faults new.told new.tell_faults line
 
--- the errors' end has got nothing
+-- nothing was written to stderr, and no write to it failed
 abbrev pub Silent : Ends → Ends → Type 0
 Silent old new = (new.told ≡ old.told) × (new.tell_faults ≡ old.tell_faults)
 
--- the input of the task was read, and this is what it says of it
+-- the input of the task was read, and the task's definition gives this reply for it
 pub record IsAnswered (task : Task) (old new : Ends) (reply : Reply) : Type 0 where
   pub bytes : List ℕ
   pub input : Inputs (reads task) old new bytes
   pub says : Asks task bytes reply
 
--- the input was refused with this status
+-- the task's definition refuses the input with this status: nothing went to stdout, and the line of the refusal to stderr
 pub record IsRefused (task : Task) (old new : Ends) (s : Status) : Type 0 where
   pub why : Refusal
   pub answered : IsAnswered task old new (Refuses why)
@@ -91,7 +91,7 @@ pub record IsRefused (task : Task) (old new : Ends) (s : Status) : Type 0 where
   pub quiet : Quiet old new
   pub told : Tells old new (line_of why)
 
--- a prefix of the source was taken, and nothing unless the words ask for a task that reads it
+-- a prefix of the source was taken, at most one byte more than the limit; nothing was taken unless the words ask for a task that reads it
 pub record TookInput (words : List (List ℕ)) (old new : Ends) : Type 0 where
   pub front : TookPrefix (most_bytes + 1) old.left new.left
   pub unread : (new.left ≡ old.left) ⊎ Asked words (λ task. reads task ≡ true)
@@ -104,11 +104,11 @@ usage_line = codes "usage: gameshrink shrink, check, solve, play, evaluate, quer
 abbrev pub long_line : List ℕ
 long_line = codes "input longer than 16777216 bytes\n"
 
--- the line that tells that memory ran out
+-- the line for out of memory
 abbrev pub memory_line : List ℕ
 memory_line = codes "out of memory\n"
 
--- what each status says; every other status is that of a refusal
+-- what each status says of the ends; each status that is not listed is that of a refusal
 abbrev pub RunsTo : List (List ℕ) → Ends → Ends → Status → Type 0
 RunsTo words old new status.Ok =
     Asked words (λ task. ((text : List ℕ) × IsAnswered task old new (Prints text) × Appends old.given new.given text)

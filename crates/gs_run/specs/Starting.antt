@@ -7,7 +7,7 @@ use Rattle.gs_run.specs.Theorem.{Does}
 use Rattle.gs_run.specs.declared.status.Status.{Status}
 use Rattle.gs_run.specs.declared.status.Status.TheVariants as status
 
--- nothing was read and nothing printed, and this line was told
+-- nothing was read and nothing printed, and this line went to stderr
 pub record OnlyTells (line : List ℕ) (old new : Ends) : Type 0 where
   pub unread : Unread old new
   pub quiet : Quiet old new
@@ -19,11 +19,11 @@ pub record RanOver (old new : Ends) (s : Status) : Type 0 where
   pub does : Does (record { words = words; old = old; new = new; status = s })
   pub runs : RunsTo words old new s
 
--- how the process ends: as a run over the words that it collected; at words that are no text; or out of memory for them
+-- how the process ends: as a run over some words; or it reads and prints nothing, and tells the usage line or that memory ran out
 abbrev pub EndsStarted : Ends → Ends → Status → Type 0
 EndsStarted old new s =
     RanOver old new s ⊎ (((s ≡ status.Usage) × OnlyTells usage_line old new) ⊎ ((s ≡ status.Memory) × OnlyTells memory_line old new))
 
--- the process ends so, and its number is that of the status
+-- the process ends as `EndsStarted` says, and its exit status is the number of that status
 abbrev pub Started : Ends → Ends → ℕ → Type 0
 Started old new code = (s : Status) × (code ≡ code_of s) × EndsStarted old new s

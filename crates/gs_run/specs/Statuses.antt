@@ -5,7 +5,7 @@ use Rattle.gs_reply.specs.declared.answers.Cause.TheVariants as cause
 use Rattle.gs_run.specs.declared.status.Status.{Status}
 use Rattle.gs_run.specs.declared.status.Status.TheVariants as status
 
--- the number with which the process ends
+-- the number of a status: the exit status of the process
 abbrev pub code_of : Status → ℕ
 code_of status.Ok = 0
 code_of status.Usage = 2
@@ -24,7 +24,7 @@ code_of status.BadQuery = 14
 code_of status.OtherGame = 16
 code_of status.BadCertificate = 17
 
--- the status of a run that refuses its input
+-- the status of a run that refuses its input, by the cause of the refusal
 abbrev pub status_of : Cause → Status
 status_of cause.BadGame = status.BadGame
 status_of cause.Unlike = status.Unlike

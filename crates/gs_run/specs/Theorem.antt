@@ -11,14 +11,15 @@ use Rattle.gs_run.specs.Running.{Ends, Inputs, NothingFailed, Quiet, Silent}
 use Rattle.gs_run.specs.declared.status.Status.{Status}
 use Rattle.gs_run.specs.declared.status.Status.TheVariants as status
 
--- a run: its words, its three ends before it and behind it, and its status
+-- a run: its words, the ends before and after it, and its status
 pub record Run : Type 0 where
   pub words : List (List ℕ)
   pub old : Ends
   pub new : Ends
   pub status : Status
 
--- all of the source was read, or nothing where the command reads nothing; one text went out, of which this is said; and nothing was told
+-- The input was read: all of the source, or nothing if the command reads nothing. One text went to stdout, and nothing to stderr. `says` holds of the
+-- input and the text.
 pub record Printed (reads_source : Bool) (says : List ℕ → List ℕ → Type 0) (r : Run) : Type 0 where
   pub bytes : List ℕ
   pub read : Inputs reads_source r.old r.new bytes
@@ -27,7 +28,7 @@ pub record Printed (reads_source : Bool) (says : List ℕ → List ℕ → Type 
   pub silent : Silent r.old r.new
   pub said : says bytes text
 
--- a proper prefix went out of one text, of which this is said
+-- the input was read; a proper prefix of one text went to stdout, and `says` holds of the input and the whole text
 pub record CutShort (reads_source : Bool) (says : List ℕ → List ℕ → Type 0) (r : Run) : Type 0 where
   pub bytes : List ℕ
   pub read : Inputs reads_source r.old r.new bytes
@@ -45,12 +46,12 @@ pub record Does (r : Run) : Type 0 where
   pub prints : (task : Task) → AskFor r.words task → r.status ≡ status.Ok → Printed (reads task) (Means task) r
   -- and the plans that `solve` prints are read off its path
   pub path : (grouping : Grouping) → AskFor r.words (Solve grouping) → r.status ≡ status.Ok → Printed true (ShowsSolution grouping) r
-  -- where a write failed, a proper prefix of what the command means went out
+  -- if a write to stdout failed, a proper prefix of what the command means went out
   pub cut : (task : Task) → AskFor r.words task → r.status ≡ status.WriteFault → CutShort (reads task) (Means task) r
   -- at every other status nothing went out
   pub quiet : r.status ≢ status.Ok → r.status ≢ status.WriteFault → Quiet r.old r.new
-  -- over bytes that the command accepts the run ends as the table of endings says, where nothing outside fails
+  -- over valid input the run ends as the table of endings says, if no read or write fails
   pub ends : (task : Task) (bytes : List ℕ) → AskFor r.words task → Holds (reads task) r.old bytes → NothingFailed (reads task) r.old r.new
       → Concludes task bytes r.status
-  -- words that are no request, an input that is too long and a reply that is said of the bytes each decide how the run ends, unless memory runs out
+  -- unless memory runs out, the end of the run is decided by invalid words, by an input that is too long, or by the reply that the task's definition gives
   pub decided : IsDecided r.words r.old r.new r.status

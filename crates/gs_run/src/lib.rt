@@ -1,4 +1,4 @@
-//! The whole of the program: over any source and any two sinks, over words and bytes in memory, and as a process.
+//! The whole program: over any source and any two sinks, over words and bytes in memory, and as a process.
 #![tactic(auto)]
 
 mod laws;

@@ -12,18 +12,18 @@ use gs_reply::Answer;
 use gs_words::{Request, WordsStop, read_words};
 use std::alloc::{AllocError, Global};
 
-/// What the program gives for words and bytes in memory.
+/// The outcome of the program over words and bytes in memory.
 #[derive(Drop)]
 pub struct Outcome {
-    /// How the run ends.
+    /// The status of the run.
     pub status: Status,
-    /// What goes to stdout: a whole text at [`Status::Ok`], else nothing.
+    /// The bytes for stdout: a whole text at [`Status::Ok`], otherwise none.
     pub printed: Vec<u8>,
-    /// What goes to stderr: nothing at [`Status::Ok`], else one line.
+    /// The bytes for stderr: none at [`Status::Ok`], otherwise one line.
     pub told: Vec<u8>,
 }
 
-// A refusal that tells the line.
+// Returns the outcome with the status, nothing for stdout and the line for stderr.
 fn refusal(alloc: Global, status: Status, line: &str) -> Result<Outcome, AllocError>
     ensures { IfOk result (λ o. (o.status ≡ status) × (o.printed.items ≡ []) × (o.told.items ≡ line.now)) }
 {
@@ -35,7 +35,7 @@ fn refusal(alloc: Global, status: Status, line: &str) -> Result<Outcome, AllocEr
     })
 }
 
-// What is given for a request whose input is not too long.
+// Returns the outcome of a request, once the length of its input is checked.
 fn answered(alloc: Global, request: Request, input: &[u8]) -> Result<Outcome, AllocError>
     requires { IsInRange (task_of request) }
     ensures { IfOk result (λ o. GivesAnswer (task_of request.entry) input.now o.status o.printed.items o.told.items) }
@@ -54,7 +54,7 @@ fn answered(alloc: Global, request: Request, input: &[u8]) -> Result<Outcome, Al
     }
 }
 
-// What is given for the words and the input.
+// Returns the outcome for the words and the input.
 fn given(alloc: Global, words: &[String], input: &[u8]) -> Result<Outcome, AllocError>
     ensures { IfOk result (λ o. GivesSo (map string_bytes words.now) input.now o.status o.printed.items o.told.items) }
 {
@@ -69,13 +69,13 @@ fn given(alloc: Global, words: &[String], input: &[u8]) -> Result<Outcome, Alloc
     answered(alloc, request, input)
 }
 
-/// Returns what the program gives for words and an input in memory. `words` are the program's words without its own name.
+/// Returns the outcome of the program for words and an input in memory. `words` are the command line without the program's name.
 ///
-/// For whoever embeds the program: it reads nothing, writes nothing, and refuses just what the program refuses, by the same lines.
+/// Use it to embed the program: it reads and writes nothing. It refuses exactly what the program refuses, with the same lines.
 ///
 /// # Errors
 ///
-/// `AllocError` where memory runs out.
+/// `AllocError` if memory runs out.
 pub fn run_bytes(alloc: Global, words: &[String], input: &[u8]) -> Result<Outcome, AllocError>
     ensures { IfOk result (λ o. DoesInMemory (map string_bytes words.now) input.now o.status o.printed.items o.told.items) }
 {

@@ -1,4 +1,4 @@
-//! The program as a process, with the words that it was started with.
+//! The program as a process, over the words of its command line.
 
 ghost use Rattle.std.specs.Prelude.{◌≡◌};
 ghost use Rattle.gs_run.specs.Running.{ends};
@@ -11,7 +11,7 @@ use gs_words::WordsStop;
 use std::io::ErrorKind;
 use std::rt::Env;
 
-// The words behind the program's own name.
+// Returns the words of the command line after the program's name.
 fn words_of<R: Env + AllocGlobal>(rt: &R) -> Result<Vec<String>, WordsStop> {
     let words = match std::env::args(rt) {
         Ok(words) => words,
@@ -26,7 +26,7 @@ fn words_of<R: Env + AllocGlobal>(rt: &R) -> Result<Vec<String>, WordsStop> {
     }
 }
 
-// Runs over the words that the process was started with.
+// Runs the program over the words of the command line.
 fn run_started<R: Env + AllocGlobal, S: Source, O: Sink, E: Sink>(
     rt: &R,
     source: &mut S,
@@ -45,9 +45,9 @@ fn run_started<R: Env + AllocGlobal, S: Source, O: Sink, E: Sink>(
     }
 }
 
-/// Runs the program over the words that the process was started with, and returns the number that the process ends with.
+/// Runs the program over the words of the command line, and returns the exit status of the process.
 ///
-/// Words that are no UTF-8 are answered by the usage line.
+/// Words that are not UTF-8 get the usage line.
 pub fn start<R: Env + AllocGlobal, S: Source, O: Sink, E: Sink>(
     rt: &R,
     source: &mut S,

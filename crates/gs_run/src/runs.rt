@@ -1,4 +1,4 @@
-//! The whole of the program, over any source and any two sinks.
+//! The whole program, over any source and any two sinks.
 
 ghost use Rattle.std.specs.Prelude.{◌≡◌, map, string_bytes};
 ghost use Rattle.gs_answer.specs.Asking.{reads};
@@ -15,24 +15,24 @@ use gs_reply::Answer;
 use gs_words::{Request, WordsStop, read_words};
 use std::alloc::Global;
 
-/// How long an input may be.
+/// The greatest length of an input, in bytes.
 pub(crate) const MOST_BYTES: u64 = 16_777_216;
 
-/// The line that refuses words that are no command with its options.
+/// The line for an invalid command line.
 pub(crate) const USAGE_LINE: &str =
     "usage: gameshrink shrink, check, solve, play, evaluate, query, make, upgrade, judge, duel, certify, verify or path\n";
 
-/// The line that refuses an input that is too long.
+/// The line for an input that is too long.
 pub(crate) const LONG_LINE: &str = "input longer than 16777216 bytes\n";
 
-// Tells a line.
+// Writes a line to `err`; a failure of this write is ignored.
 fn tell<E: Sink>(err: &mut E, line: &[u8])
     ensures { TellsTo (E.given err.old) (E.faults err.old) (E.given err.new) (E.faults err.new) line.now }
 {
     let _ = write_all(err, line);
 }
 
-// Tells the line, and ends with the status.
+// Writes the line to `err`, and returns the status.
 fn refuse<E: Sink>(err: &mut E, status: Status, line: &str) -> Status
     ensures status { result ≡ status }
     ensures told { TellsTo (E.given err.old) (E.faults err.old) (E.given err.new) (E.faults err.new) line.now }
@@ -41,7 +41,7 @@ fn refuse<E: Sink>(err: &mut E, status: Status, line: &str) -> Status
     status
 }
 
-/// Tells the words that can be used.
+/// Writes the usage line to `err`, and returns the status for it.
 pub(crate) fn refuse_words<E: Sink>(err: &mut E) -> Status
     ensures status { result ≡ status.Usage }
     ensures told { TellsTo (E.given err.old) (E.faults err.old) (E.given err.new) (E.faults err.new) usage_line }
@@ -49,7 +49,7 @@ pub(crate) fn refuse_words<E: Sink>(err: &mut E) -> Status
     refuse(err, Status::Usage, USAGE_LINE)
 }
 
-/// Tells that memory ran out.
+/// Writes to `err` that memory ran out, and returns the status for it.
 pub(crate) fn out_of_memory<E: Sink>(err: &mut E) -> Status
     ensures status { result ≡ status.Memory }
     ensures told { TellsTo (E.given err.old) (E.faults err.old) (E.given err.new) (E.faults err.new) memory_line }
@@ -57,7 +57,7 @@ pub(crate) fn out_of_memory<E: Sink>(err: &mut E) -> Status
     refuse(err, Status::Memory, "out of memory\n")
 }
 
-// The bytes of the input that a request reads; none where it reads none.
+// Returns the input of a request: all bytes of the source, or no bytes for a request that reads none.
 fn input<S: Source>(alloc: Global, source: &mut S, request: Request) -> Result<Vec<u8>, ReadStop>
     ensures { ReadsInput (reads (task_of request.entry)) (S.left source.old) (S.left source.new) (S.faults source.old) (S.faults source.new) result }
 {
@@ -68,7 +68,7 @@ fn input<S: Source>(alloc: Global, source: &mut S, request: Request) -> Result<V
     }
 }
 
-// Does what the words ask for.
+// Runs the command that the words ask for.
 fn run_words<S: Source, O: Sink, E: Sink>(
     alloc: Global,
     words: &[String],
@@ -105,11 +105,12 @@ fn run_words<S: Source, O: Sink, E: Sink>(
     }
 }
 
-/// Does what the words ask for, and returns how the run ended. `words` are the program's words without its own name: a command and its options.
+/// Runs the command that the words ask for, and returns the status of the run. `words` are the command line without the program's name: a command and
+/// its options.
 ///
-/// Commands that read an input read the source to its end first. All work is done before the first byte goes to `out`. A run that ends well tells
-/// nothing to `err`. Any other tells one line, and its status stays even where that write fails. It gives nothing to `out`, unless a write failed:
-/// then a proper prefix of the text went out.
+/// A command with an input reads the source to its end first. It writes to `out` only when all work is done. At [`Status::Ok`] nothing is written to
+/// `err`. At any other status one line is written to `err`; if that write fails, the status stays. Nothing is then written to `out`, unless a write to
+/// `out` failed: then `out` received a proper prefix of the text.
 pub fn run<S: Source, O: Sink, E: Sink>(
     alloc: Global,
     words: &[String],

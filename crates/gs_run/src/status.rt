@@ -1,23 +1,23 @@
-//! How a run of the program ends.
+//! The status of a run.
 
 use gs_reply::Cause;
 
-/// How a run of the program ends.
+/// The status with which a run of the program ends.
 #[derive(Clone, Copy, Debug, PartialEq, Eq)]
 pub enum Status {
-    /// The whole text went out.
+    /// The whole text was written to stdout.
     Ok,
-    /// The words are no command.
+    /// The command line is invalid.
     Usage,
     /// A read failed.
     ReadFault,
     /// A write failed.
     WriteFault,
-    /// No memory was left.
+    /// Memory ran out.
     Memory,
     /// The input is longer than 16,777,216 bytes.
     TooLong,
-    /// The input is no game file.
+    /// The input is not a valid game file.
     BadGame,
     /// The classes are not lossless.
     Unlike,
@@ -27,15 +27,15 @@ pub enum Status {
     PivotLimit,
     /// The game is too large for what is asked.
     TooLarge,
-    /// The input is no strategy file.
+    /// The input is not a valid strategy file.
     BadStrategy,
-    /// A number of the strategy is not the one that was found.
+    /// A number of the strategy differs from the computed one.
     WrongNumbers,
-    /// The query names no spot.
+    /// The query names no information set of the player.
     BadQuery,
-    /// The two strategies are of two games.
+    /// The two strategies are for different games.
     OtherGame,
-    /// The certificate is malformed, or does not hold.
+    /// The certificate is malformed or invalid.
     BadCertificate,
 }
 
@@ -43,7 +43,7 @@ impl Status {
     ghost use Rattle.std.specs.Prelude.{◌≡◌};
     ghost use Rattle.gs_run.specs.Statuses.{code_of, status_of};
 
-    /// The status of a run that refuses its input.
+    /// Returns the status of a run that refuses its input for this cause.
     pub fn of(cause: Cause) -> Status
         ensures { result ≡ status_of cause }
     {
@@ -61,7 +61,7 @@ impl Status {
         }
     }
 
-    /// The number with which the process ends.
+    /// Returns the exit status of the process.
     pub fn code(self) -> u8
         ensures { result ≡ code_of self }
     {
