@@ -1,4 +1,4 @@
--- What a function of the program answers, beside what reading gives.
+-- What a function of the program returns, compared with what reading gives.
 use Rattle.std.specs.Prelude.{◌≡◌, ℕ, Result, Ok, Err}
 use Rattle.gs_bet.specs.declared.fault.TreeFault.{TreeFault}
 use Rattle.gs_bet.specs.declared.fault.TreeFault.TheVariants as tree
@@ -11,7 +11,7 @@ use Rattle.gs_file.specs.Faults.{Fault, not_text, not_toml, missing_key, unknown
 use Rattle.gs_file.specs.declared.fault.FileFault.{FileFault}
 use Rattle.gs_file.specs.declared.fault.FileFault.TheVariants as fault
 
--- the fault of a game's rules; running out of memory is not one of them
+-- reading gives the refusal that this fault of a game's rules stands for; running out of memory is not one of them
 abbrev pub FailsByRules : {Y : Type 0} → GameFault → Result Y Fault → Type 0
 FailsByRules (rules.Rounds count) read = read ≡ Err (game (refusal.rounds count))
 FailsByRules rules.NoPrivate read = read ≡ Err (game refusal.no_private)
@@ -26,7 +26,7 @@ FailsByRules (rules.TooManySignals round) read = read ≡ Err (game (refusal.too
 FailsByRules rules.TooManyDeals read = read ≡ Err (game refusal.too_many_deals)
 FailsByRules rules.Memory read = ⊥
 
--- the fault is what reading meets first; running out of memory may be answered at any point, and is never told as another fault
+-- reading gives this fault first; running out of memory may be returned at any time, and is never reported as another fault
 abbrev pub Fails : {Y : Type 0} → FileFault → Result Y Fault → Type 0
 Fails fault.NotText read = read ≡ Err not_text
 Fails fault.NotToml read = read ≡ Err not_toml
@@ -45,17 +45,17 @@ abbrev pub Gives : {X Y : Type 0} → (X → Y) → Result X FileFault → Resul
 Gives view (Ok x) read = read ≡ Ok (view x)
 Gives view (Err e) read = Fails e read
 
--- the fault of the file that a fault of its deck, its rules or the tree of a round is
+-- the fault of the file for a fault of its deck
 abbrev pub of_deck : DeckFault → FileFault
 of_deck cards.Memory = fault.Memory
 of_deck why = fault.Deck why
 
--- the fault of the file that a fault of its game's rules is
+-- the fault of the file for a fault of its game's rules
 abbrev pub of_rules : GameFault → FileFault
 of_rules rules.Memory = fault.Memory
 of_rules why = fault.Game why
 
--- the fault of the file that a fault of a round's tree is
+-- the fault of the file for a fault of a round's tree
 abbrev pub of_tree : ℕ → TreeFault → FileFault
 of_tree round tree.Memory = fault.Memory
 of_tree round why = fault.TreeText round why

@@ -1,12 +1,12 @@
--- What a game file may have wrong, and which fault of the program says so.
+-- Faults of a game file.
 use Rattle.std.specs.Prelude.{ℕ, ℤ}
 use Rattle.gs_bet.specs.declared.fault.TreeFault.{TreeFault}
 use Rattle.gs_card.specs.declared.faults.DeckFault.{DeckFault}
 use Rattle.gs_game.specs.Refusals.{Refusal}
 use Rattle.gs_file.specs.declared.fault.Place.{Place}
 
--- what a game file may have wrong first: no UTF-8, no TOML, a missing or an unknown key, a value of a wrong type, another version, a value out of its
--- range, no deck, no betting tree, or a rule of games
+-- the first fault of a game file: not UTF-8, not TOML, a missing or an unknown key, a value of a wrong type, a wrong version, a value out of its
+-- range, no deck, no betting tree, or a broken rule of games
 pub data Fault : Type 0 where
   not_text : Fault
   not_toml : Fault

@@ -32,7 +32,7 @@ abbrev pub rounds_key : Form → List ℕ
 rounds_key File = codes "round"
 rounds_key (Json version) = codes "rounds"
 
--- a key as a form writes it: the two differ in the key of the rounds
+-- a key as a form writes it; the two forms differ in the key of the rounds
 abbrev pub key_in : Form → Key → List ℕ
 key_in form key.Round = rounds_key form
 key_in form k = key_text k

@@ -1,4 +1,4 @@
--- What a game file or a value of JSON states, or the first check that fails: the checks stand in their order. Source: this project's game files and
+-- What a game file or a JSON value states, or the first check that fails. The checks are made in this order. Source: this project's game files and
 -- strategy files.
 use Rattle.std.specs.Prelude.{ℕ, zero, suc, ℤ, pos, ◌-◌, ◌==◌, ◌||◌, Bool, true, false, List, Option, Some, None, is_some, Result, Ok, Err, codes, length, replicate, nat_lt, if◌then◌else◌}
 use Rattle.std.specs.Option.{ok_or}
@@ -28,17 +28,17 @@ use Rattle.gs_file.specs.declared.version.Version.TheVariants.{One, Two}
 
 -- ---- the text
 
--- the bytes as a text, where they are UTF-8
+-- the bytes as a text, if they are UTF-8
 abbrev pub text_at : List ℕ → Result (List ℕ) Fault
 text_at bytes = if is_utf8 bytes then Ok bytes else Err not_text
 
--- the table of a text, where it is TOML
+-- the table of a text, if it is TOML
 abbrev pub parsed_at : List ℕ → Result Members Fault
 parsed_at text = ok_or (parse_document text) not_toml
 
 -- ---- the top
 
--- a game file states version 1 or 2, a value of JSON the version that is wanted; another number is refused
+-- the version of this number: 1 or 2 in a game file, the version of the form in a JSON value; any other number is refused
 abbrev pub version_of : Form → ℤ → Result Version Fault
 version_of File (pos (suc zero)) = Ok One
 version_of File (pos (suc (suc zero))) = Ok Two
@@ -73,7 +73,7 @@ pub record TopValues : Type 0 where
   pub ante : Data
   pub rounds : Data
 
--- the values at the top: the version, then no key that may not stand there, then each key that has to be there
+-- the values at the top; checked are the version, then that no unknown key stands there, then that each required key does
 unfoldable pub values_at : Form → Members → Result TopValues Fault
 values_at form table = do
   version ← version_at form table
@@ -87,12 +87,12 @@ values_at form table = do
   rounds ← required form table (top key.Round)
   Ok (record { ranks = ranks; suits = suits; copies = copies; ranking = ranking; bonus = bonus; ante = ante; rounds = rounds })
 
--- the integers of `bonus`, where there is one
+-- the integers of `bonus`, if it is there
 abbrev pub bonus_numbers : Option Data → Result (Option (List ℤ)) Fault
 bonus_numbers None = Ok None
 bonus_numbers (Some d) = whole_numbers_in (top key.Bonus) d >>= λ numbers. Ok (Some numbers)
 
--- what stands at the top, each of its type
+-- the fields at the top, each of its type
 pub record Top : Type 0 where
   pub ranks : List ℕ
   pub suits : List ℕ
@@ -102,7 +102,7 @@ pub record Top : Type 0 where
   pub ante : ℤ
   pub rounds : List Members
 
--- the values at the top, each as what its type gives
+-- the fields at the top from their values, each of its type
 unfoldable pub typed_at : TopValues → Result Top Fault
 typed_at values = do
   ranks ← text (top key.Ranks) values.ranks
@@ -120,28 +120,28 @@ typed_at values = do
 abbrev pub counted : List Members → Result (Unit {0}) Fault
 counted rounds = if nat_lt (length rounds) 1 || nat_lt 4 (length rounds) then Err (game (rounds_refused (length rounds))) else Ok tt
 
--- how a round is bet: by a tree's text, or by a bet and a cap
+-- the betting of a round: a tree's text, or a bet and a cap
 pub data Play (N : Type 0) : Type 0 where
   Tree_text : List ℕ → Play N
   Limit_of : (bet cap : N) → Play N
 
--- a round: how many private and public cards it gives, and how it is bet
+-- a round: its numbers of private and public cards, and its betting
 pub record Round (N : Type 0) : Type 0 where
   pub private : N
   pub public : N
   pub play : Play N
 
--- whether a round is told by its tree: in a game file where the key `tree` is there, in JSON always
+-- whether a round states its tree: in a game file if the key `tree` is there, in JSON always
 abbrev pub has_tree : Form → Members → Bool
 has_tree File table = is_some (get_member (key_text key.Tree) table)
 has_tree (Json version) table = true
 
--- the values that a round's betting is told by: a tree's text, or a bet and a cap
+-- the values that state a round's betting: a tree's text, or a bet and a cap
 pub data PlayValues : Type 0 where
   Tree_value : Data → PlayValues
   Limit_values : (bet cap : Data) → PlayValues
 
--- the keys that may stand in a round, by whether it is told by its tree
+-- the keys that may stand in a round, with a tree or without
 abbrev pub round_keys : Bool → List Key
 round_keys true = tree_keys
 round_keys false = limit_keys
@@ -184,7 +184,7 @@ ranking_at word =
     else if bytes_eq word (codes "three") then Ok Three
     else Err (range (top key.Ranking))
 
--- one bonus for each category, each from 1 to 9; without them all are 1
+-- one bonus for each category, each from 1 to 9; without `bonus` all are 1
 unfoldable pub bonus_at : Ranking → Option (List ℤ) → Result (List ℕ) Fault
 bonus_at r None = Ok (replicate (categories r) 1)
 bonus_at r (Some numbers) =
@@ -216,7 +216,7 @@ pub record FileGame : Type 0 where
   pub ante : ℕ
   pub rounds : List RoundRules
 
--- the game of the definitions
+-- the game as the definitions of `gs_model` see it, without the letters of its deck
 abbrev pub rules_of : FileGame → Game
 rules_of g = record { suits = length g.deck.suits; copies = g.deck.counts; ranking = g.ranking; bonus = g.bonus; ante = g.ante; rounds = g.rounds }
 
@@ -225,7 +225,7 @@ abbrev pub deck_made : DeckValue → Option DeckFault → Result DeckValue Fault
 deck_made d None = Ok d
 deck_made d (Some why) = Err (deck why)
 
--- the deck that the texts of ranks, suits and copies make, or the first fault that they have
+-- the deck that the texts of ranks, suits and copies make, or their first fault
 abbrev pub deck_at : List ℕ → List ℕ → List ℕ → Result DeckValue Fault
 deck_at ranks suits copies = deck_made (deck_of ranks suits copies) (deck_fault_of ranks suits copies)
 
@@ -234,7 +234,7 @@ abbrev pub tree_read : ℕ → List ℕ → Read Bet → Result Bet Fault
 tree_read n text (Ok (t, rest)) = Ok t
 tree_read n text (Err (mistake, rest)) = Err (tree_text n (tree_fault_of mistake (length text - length rest)))
 
--- what is read of the text of a round's tree. It is read by `all_of` of `gs_bet`; the law `trees_are_read` says by the grammar alone what comes of that
+-- What reading the text of a round's tree gives. `all_of` of `gs_bet` reads it. The law `trees_are_read` says by the grammar alone what this gives.
 abbrev pub tree_at : ℕ → List ℕ → Result Bet Fault
 tree_at n text = tree_read n text (all_of text)
 
@@ -249,24 +249,24 @@ round_built n round = do
   tree ← play_tree n round.play
   Ok (record { private = round.private; public = round.public; tree = tree })
 
--- a game, unless it meets a refusal
+-- the game, unless there is a refusal
 abbrev pub unless_refused : FileGame → Option Refusal → Result FileGame Fault
 unless_refused g None = Ok g
 unless_refused g (Some why) = Err (game why)
 
--- the game that keeps the rules
+-- the game if it keeps the rules, otherwise its first refusal
 abbrev pub lawful : FileGame → Result FileGame Fault
 lawful g = unless_refused g (first_refusal (rules_of g))
 
--- what is in its range
+-- what a file states beside its deck, each in its range
 pub record Stated : Type 0 where
   pub ranking : Ranking
   pub bonus : List ℕ
   pub ante : ℕ
   pub rounds : List (Round ℕ)
 
--- what a file states: first the number of rounds, then the keys and types of each round, the ranking, the bonus, the ante from 1 to 4,096 chips, and the
--- ranges of each round
+-- What a file states beside its deck. Checked are the number of rounds, then the keys and types of each round, the ranking, the bonus, the ante from 1 to
+-- 4,096 chips, and the ranges of each round.
 unfoldable pub stated_at : Form → Top → Result Stated Fault
 stated_at form fields = do
   _ ← counted fields.rounds
@@ -287,7 +287,7 @@ game_at form table = do
   rounds ← each round_built 1 stated.rounds
   lawful (record { deck = cards; ranking = stated.ranking; bonus = stated.bonus; ante = stated.ante; rounds = rounds })
 
--- what the bytes of a game file state, or what is wrong with them first
+-- the game that the bytes of a game file state, or their first fault
 unfoldable pub read_at : List ℕ → Result FileGame Fault
 read_at bytes = do
   text ← text_at bytes

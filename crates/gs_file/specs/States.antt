@@ -1,4 +1,4 @@
--- What a game file states, with no word of the order in which it is checked: the keys of its tables, with their types and ranges, and the game.
+-- What a game file states, without an order of checks: the keys of its tables, with their types and ranges, and the game.
 -- Source: this project's game files.
 use Rattle.std.specs.Prelude.{ℕ, pos, ◌≡◌, ◌≤◌, ◌⊎◌, true, List, [], ◌∷◌, Some, None, length, replicate}
 use Rattle.std.specs.Str.{is_utf8}
@@ -21,15 +21,15 @@ use Rattle.gs_file.specs.declared.fault.Key.TheVariants as key
 use Rattle.gs_file.specs.declared.form.Form.TheVariants.{File}
 use Rattle.gs_file.specs.declared.version.Version.TheVariants.{One, Two}
 
--- the key stands in the table, with a value that meets the test
+-- the table has the key, with a value of which `P` holds
 abbrev pub Has : Members → Key → (Data → Type 0) → Type 0
 Has table k P = (d : Data) × (get_member (key_in File k) table ≡ Some d) × P d
 
--- the key does not stand there
+-- the table does not have the key
 abbrev pub HasNo : Members → Key → Type 0
 HasNo table k = get_member (key_in File k) table ≡ None
 
--- no key stands there but these
+-- the table has no keys but these
 abbrev pub HasOnly : Members → List Key → Type 0
 HasOnly table keys = has_only File keys table ≡ true
 
@@ -43,20 +43,20 @@ IsText text d = as_str d ≡ Some text
 abbrev pub IsNumber : ℕ → ℕ → ℕ → Data → Type 0
 IsNumber low high n d = (as_integer d ≡ Some (pos n)) × (low ≤ n) × (n ≤ high)
 
--- two lists are as long, and their members go together one by one
+-- two lists have the same length, and `R` holds of their members one by one
 abbrev pub OneByOne : {A B : Type 0} → (A → B → Type 0) → List A → List B → Type 0
 OneByOne R [] [] = Unit {0}
 OneByOne R [] (y ∷ ys) = ⊥
 OneByOne R (x ∷ xs) [] = ⊥
 OneByOne R (x ∷ xs) (y ∷ ys) = R x y × OneByOne R xs ys
 
--- the value is a list of such values
+-- the value is a list, and `R` holds of the members of `xs` and its items one by one
 abbrev pub IsList : {A : Type 0} → (A → Data → Type 0) → List A → Data → Type 0
 IsList R xs d = (items : Items) × (as_array d ≡ Some items) × OneByOne R xs (list_of items)
 
 -- ---- a round
 
--- a round is bet by a tree's text, or by a bet and a cap
+-- the table states the betting: by a tree's text, or by a bet from 1 to 2,048 chips and a cap from 0 to 8
 abbrev pub StatesBetting : Bet → Members → Type 0
 StatesBetting t table =
     ((text : List ℕ) × HasOnly table tree_keys × Has table key.Tree (IsText text) × IsTextOf text t)
@@ -75,11 +75,11 @@ IsRound round d = (table : Members) × (as_table d ≡ Some table) × StatesRoun
 
 -- ---- the game
 
--- the text of the copies, which is empty where the key is left out
+-- the text of the copies, which is empty if the key is left out
 abbrev pub StatesCopies : List ℕ → Members → Type 0
 StatesCopies copies table = (HasNo table key.Copies × (copies ≡ [])) ⊎ Has table key.Copies (IsText copies)
 
--- the texts of ranks, suits and copies are without fault, and make the deck
+-- the texts of ranks, suits and copies have no fault, and make the deck
 pub record StatesDeck (d : DeckValue) (table : Members) : Type 0 where
   pub ranks : Has table key.Ranks (IsText d.ranks)
   pub suits : Has table key.Suits (IsText d.suits)
@@ -104,6 +104,6 @@ pub record StatesGame (g : FileGame) (table : Members) : Type 0 where
   pub rounds : Has table key.Round (IsList IsRound g.rounds)
   pub lawful : first_refusal (rules_of g) ≡ None
 
--- the bytes are a text whose table states the game
+-- the bytes are UTF-8 and TOML, and their table states the game
 abbrev pub FileStates : List ℕ → FileGame → Type 0
 FileStates bytes g = (is_utf8 bytes ≡ true) × ((table : Members) × (parse_document bytes ≡ Some table) × StatesGame g table)

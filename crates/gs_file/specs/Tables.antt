@@ -9,36 +9,36 @@ use Rattle.gs_file.specs.declared.fault.Key.{Key}
 use Rattle.gs_file.specs.declared.fault.Place.{Place}
 use Rattle.gs_file.specs.declared.form.Form.{Form}
 
--- the value of a key that has to be there
+-- the value of a required key, or the fault that it is missing
 abbrev pub required : Form → Members → Place → Result Data Fault
 required form table place = ok_or (get_member (key_in form place.key) table) (missing_key place)
 
--- no key but these stands in the table
+-- the table has no keys but these
 abbrev pub only : Form → List Key → ℕ → Members → Result (Unit {0}) Fault
 only form keys round table = if has_only form keys table then Ok tt else Err (unknown_key round)
 
--- the value, where it has the type that is wanted
+-- the integer that a value is, if it has this type
 abbrev pub whole_number : Place → Data → Result ℤ Fault
 whole_number place d = ok_or (as_integer d) (wrong_type place)
 
--- the string that a value is, where it has this type
+-- the string that a value is, if it has this type
 abbrev pub text : Place → Data → Result (List ℕ) Fault
 text place d = ok_or (as_str d) (wrong_type place)
 
--- the table that a value is, where it has this type
+-- the table that a value is, if it has this type
 abbrev pub table_in : Place → Data → Result Members Fault
 table_in place d = ok_or (as_table d) (wrong_type place)
 
--- the array that a value is, where it has this type
+-- the array that a value is, if it has this type
 abbrev pub array_in : Place → Data → Result Items Fault
 array_in place d = ok_or (as_array d) (wrong_type place)
 
--- the text of a key that may be absent, and then is empty
+-- the text of a value, or the empty text if it is absent
 abbrev pub text_or_empty : Place → Option Data → Result (List ℕ) Fault
 text_or_empty place None = Ok []
 text_or_empty place (Some d) = text place d
 
--- each member of a list read in turn, by its number from the given one on
+-- the members of a list, each read in turn with its number from `n` on, or the first fault
 abbrev pub each : {A B : Type 0} → (ℕ → A → Result B Fault) → ℕ → List A → Result (List B) Fault
 each read n [] = Ok []
 each read n (x ∷ xs) = do
@@ -51,7 +51,7 @@ abbrev pub list_of : Items → List Data
 list_of no_items = []
 list_of (item d rest) = d ∷ list_of rest
 
--- an array of tables, and one of integers
+-- the tables of an array that holds nothing else
 unfoldable pub tables_in : Place → Data → Result (List Members) Fault
 tables_in place d = do
   items ← array_in place d
@@ -63,7 +63,7 @@ whole_numbers_in place d = do
   items ← array_in place d
   each (λ n. whole_number place) 1 (list_of items)
 
--- a number from low to high
+-- the number, if it is from low to high
 abbrev pub within : Place → ℕ → ℕ → ℤ → Result ℕ Fault
 within place low high (pos n) = if nat_le low n && nat_le n high then Ok n else Err (range place)
 within place low high z = Err (range place)

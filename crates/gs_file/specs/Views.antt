@@ -1,4 +1,4 @@
--- What is read by the program, as the definitions see it.
+-- What the program reads, as the definitions see it.
 use Rattle.std.specs.Prelude.{ℕ, ℤ, map, option_map}
 use Rattle.toml.specs.View.{view, table_view}
 use Rattle.gs_card.specs.Rankings.{ranking_of}
@@ -30,7 +30,7 @@ values_view v = record {
   rounds = view v.rounds.now;
 }
 
--- what stands at the top, each of its type, as the definitions see it
+-- the fields at the top, each of its type, as the definitions see them
 abbrev pub top_view : TopFields → Top
 top_view t = record {
   ranks = t.ranks.now;
@@ -47,7 +47,7 @@ abbrev pub betting_view : BettingValues → PlayValues
 betting_view (told.Tree tree) = Tree_value (view tree.now)
 betting_view (told.Limit bet cap) = Limit_values (view bet.now) (view cap.now)
 
--- how a round is bet, as the definitions see it
+-- the betting of a round, as the definitions see it
 abbrev pub play_view : Betting → Play ℤ
 play_view (betting.Tree text) = Tree_text text.now
 play_view (betting.Limit bet cap) = Limit_of bet cap
@@ -56,7 +56,7 @@ play_view (betting.Limit bet cap) = Limit_of bet cap
 abbrev pub round_view : RoundFields → Round ℤ
 round_view r = record { private = r.private; public = r.public; play = play_view r.betting }
 
--- how a round is bet, with its numbers in their ranges, as the definitions see it
+-- the betting of a round with its numbers in their ranges, as the definitions see it
 abbrev pub sizes_view : Sizes → Play ℕ
 sizes_view (sizes.Tree text) = Tree_text text.now
 sizes_view (sizes.Limit limits) = Limit_of limits.bet limits.cap
@@ -65,7 +65,7 @@ sizes_view (sizes.Limit limits) = Limit_of limits.bet limits.cap
 abbrev pub ranged_view : RoundSizes → Round ℕ
 ranged_view r = record { private = r.private; public = r.public; play = sizes_view r.betting }
 
--- what is in its range
+-- what a file states beside its deck, each in its range, as the definitions see it
 abbrev pub stated_view : StatedGame → Stated
 stated_view s = record { ranking = ranking_of s.ranking; bonus = s.bonus.items; ante = s.ante; rounds = map ranged_view s.rounds.items }
 

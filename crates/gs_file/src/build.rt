@@ -1,4 +1,4 @@
-//! The parts of a game, made of what a file states.
+//! Building the parts of a game from what a file states.
 
 ghost use Rattle.std.specs.Prelude.{◌≤◌, All, IfOk, length, map};
 ghost use Rattle.gs_bet.specs.TreeView.{plain};
@@ -15,7 +15,7 @@ use gs_card::Deck;
 use gs_game::{Game, Round, ValidGame};
 use std::alloc::Global;
 
-/// The deck of the three texts.
+/// Returns the deck of the three texts, or their first fault.
 pub fn deck_of(alloc: Global, ranks: &str, suits: &str, copies: &str) -> Result<Deck, FileFault>
     ensures { Gives (λ d. d) result (deck_at ranks.now suits.now copies.now) }
 {
@@ -25,7 +25,7 @@ pub fn deck_of(alloc: Global, ranks: &str, suits: &str, copies: &str) -> Result<
     }
 }
 
-/// The tree of a text.
+/// Returns the tree that a round's text writes, or the fault of the text.
 fn tree_of_text(alloc: Global, text: &str, round: u8) -> Result<BetTree, FileFault>
     ensures { Gives (λ t. plain t.tree) result (tree_at round text.now) }
 {
@@ -35,7 +35,7 @@ fn tree_of_text(alloc: Global, text: &str, round: u8) -> Result<BetTree, FileFau
     }
 }
 
-/// The tree of a round.
+/// Returns the tree of a round.
 fn tree_of(alloc: Global, betting: Sizes<'_>, round: u8) -> Result<BetTree, FileFault>
     ensures { Gives (λ t. plain t.tree) result (play_tree round (sizes_view betting.entry)) }
 {
@@ -61,7 +61,7 @@ fn round_of(alloc: Global, sizes: &RoundSizes<'_>, round: u8) -> Result<Round, F
     })
 }
 
-/// The rounds with their trees, each in turn.
+/// Returns the rounds with their trees, or the first fault.
 pub fn rounds_built(alloc: Global, sizes: &[RoundSizes<'_>]) -> Result<Vec<Round>, FileFault>
     requires { length sizes.now ≤ 4 }
     ensures gives { Gives (λ v. map rules_of_round v.items) result (each round_built 1 (map ranged_view sizes.now)) }
@@ -75,7 +75,7 @@ pub fn rounds_built(alloc: Global, sizes: &[RoundSizes<'_>]) -> Result<Vec<Round
     Ok(rounds)
 }
 
-/// The game, where it keeps the rules.
+/// Returns the game as a valid one if it keeps the rules, or the first rule that it breaks.
 pub fn checked(alloc: Global, game: Game) -> Result<ValidGame, FileFault>
     requires some_ante { 1 ≤ game.ante }
     requires ante { game.ante ≤ 4096 }

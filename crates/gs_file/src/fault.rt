@@ -1,4 +1,4 @@
-//! What a game file may have wrong.
+//! Faults of a game file.
 
 ghost use Rattle.std.specs.Prelude.{◌≡◌};
 ghost use Rattle.gs_file.specs.declared.fault.FileFault.TheVariants.{Memory};
@@ -29,7 +29,7 @@ pub enum Key {
 impl Key {
     ghost use Rattle.gs_file.specs.Keys.{key_text};
 
-    /// The key as the file writes it.
+    /// Returns the key as the file writes it.
     pub fn text(self) -> &'static str
         ensures { result.now ≡ key_text self }
     {
@@ -58,26 +58,26 @@ pub struct Place {
     pub round: u8,
 }
 
-/// The first thing that is wrong with a game file, or that memory ran out. The checks stand in the order of the file's description.
+/// The first fault of a game file, or that memory ran out. The checks are made in the order of the file's description.
 #[derive(Debug, Drop)]
 pub enum FileFault {
     /// The bytes are not UTF-8.
     NotText,
     /// The text is not TOML.
     NotToml,
-    /// A key that has to be there is not.
+    /// A required key is missing.
     MissingKey(Place),
-    /// A key stands at the top, where the round is 0, or in a round, that may not stand there.
+    /// A key is not allowed where it stands: in this round, or at the top if the round is 0.
     UnknownKey { round: u8 },
-    /// A value is of another type than its key wants.
+    /// A value has the wrong type for its key.
     WrongType(Place),
     /// The version is neither 1 nor 2.
     BadVersion(i64),
-    /// A value is of its type and out of its range.
+    /// A value has the right type and is out of its range.
     Range(Place),
     /// The ranks, suits and copies make no deck.
     Deck(DeckFault),
-    /// The text of a round's tree is no tree's text.
+    /// The text of a round's tree is not the text of a tree.
     TreeText { round: u8, fault: TreeFault },
     /// The game breaks a rule.
     Game(GameFault),
@@ -130,7 +130,7 @@ impl From<GameFault> for FileFault {
 impl FileFault {
     ghost use Rattle.gs_file.specs.Answers.{of_tree};
 
-    /// The fault of a round's tree.
+    /// Returns the fault of the file for a fault of a round's tree.
     pub(crate) fn of_tree(round: u8, fault: TreeFault) -> FileFault
         ensures { result ≡ of_tree round fault }
     {

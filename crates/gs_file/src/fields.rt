@@ -1,4 +1,4 @@
-//! The values of a table, each by its key and its type.
+//! Reading the values of a table by key and type.
 
 ghost use Rattle.std.specs.{Prelude.{◌≡◌, string_bytes, option_map}, List.{list_all}, BTreeMap.{keys}};
 ghost use Rattle.toml.specs.{Data.{get_member}, View.{view, table_view, array_view}};
@@ -10,14 +10,14 @@ use crate::form::Form;
 use toml::value::Array;
 use toml::{Table, Value};
 
-/// A place outside the rounds.
+/// Returns the place of a key outside the rounds.
 pub const fn top(key: Key) -> Place
     ensures { result ≡ top_place key }
 {
     Place { key, round: 0 }
 }
 
-/// A key as a form writes it.
+/// Returns a key as the form writes it.
 fn name(form: Form, key: Key) -> &'static str
     ensures { result.now ≡ key_in form key }
 {
@@ -27,14 +27,14 @@ fn name(form: Form, key: Key) -> &'static str
     }
 }
 
-/// The value of a key, where it is there.
+/// Returns the value of a key, if it is there.
 pub fn value_at(form: Form, table: &Table, key: Key) -> Option<&Value>
     ensures { option_map (λ v. view v.now) result ≡ get_member (key_in form key) (table_view table.now) }
 {
     table.get(name(form, key))
 }
 
-/// The value of a key that has to be there.
+/// Returns the value of a required key, or the fault that it is missing.
 pub fn required_at(form: Form, table: &Table, place: Place) -> Result<&Value, FileFault>
     ensures { Gives (λ v. view v.now) result (required form (table_view table.now) place) }
 {
@@ -62,7 +62,7 @@ fn has_only_keys(form: Form, table: &Table, known: &[Key]) -> bool
     all_known(form, table, known)
 }
 
-/// Each key of the table is one of these.
+/// Checks that each key of the table is one of `known`.
 pub fn check_only(form: Form, table: &Table, known: &[Key], round: u8) -> Result<(), FileFault>
     ensures { Gives (λ v. v) result (only form known.now round (table_view table.now)) }
 {
@@ -91,7 +91,7 @@ pub fn text_of(value: &Value, place: Place) -> Result<&str, FileFault>
     }
 }
 
-/// The text of a value that may be absent, and then is empty.
+/// Returns the text of a value, or the empty text if the value is absent.
 pub fn text_or_none(value: Option<&Value>, place: Place) -> Result<&str, FileFault>
     ensures { Gives (λ s. s.now) result (text_or_empty place (option_map (λ v. view v.now) value.entry)) }
 {

@@ -2,7 +2,7 @@
 
 use crate::version::Version;
 
-/// A form in which a game is described: a game file, of whichever version it states, or a value of JSON, of the version that is wanted.
+/// A form in which a game is described: a game file in the version that it states, or a JSON value in a given version.
 #[derive(Clone, Copy)]
 pub enum Form {
     File,
@@ -13,7 +13,7 @@ impl Form {
     ghost use Rattle.std.specs.Prelude.{◌≡◌};
     ghost use Rattle.gs_file.specs.Keys.{rounds_key};
 
-    /// The key of the rounds.
+    /// Returns the key of the rounds.
     pub fn rounds_key(self) -> &'static str
         ensures { result.now ≡ rounds_key self }
     {

@@ -1,4 +1,4 @@
-//! The whole of a game file.
+//! Reading a whole game file.
 
 ghost use Rattle.toml.specs.View.{table_view};
 ghost use Rattle.gs_file.specs.{Answers.{Gives}, Reading.{text_at, parsed_at, game_at, read_at}, Views.{valid_view}};
@@ -31,7 +31,7 @@ fn document_of(alloc: Global, text: &str) -> Result<Table, FileFault>
     }
 }
 
-/// The game that a table states.
+/// Returns the game that a table states, or its first fault.
 #[tactic(auto, unfolding(crate::specs::Reading::game_at))]
 pub fn game_of(alloc: Global, form: Form, table: &Table) -> Result<ValidGame, FileFault>
     ensures { Gives valid_view result (game_at form (table_view table.now)) }
@@ -53,7 +53,7 @@ pub fn game_of(alloc: Global, form: Form, table: &Table) -> Result<ValidGame, Fi
     )
 }
 
-/// The game that the bytes of a game file state, or what is wrong with them first.
+/// Returns the game that the bytes of a game file state, or their first fault.
 #[tactic(auto, unfolding(crate::specs::Reading::read_at))]
 pub fn read_game(alloc: Global, bytes: &[u8]) -> Result<ValidGame, FileFault>
     ensures { Gives valid_view result (read_at bytes.now) }

@@ -1,4 +1,4 @@
-//! Arrays of one type.
+//! Reading arrays whose items have one type.
 
 ghost use Rattle.std.specs.Prelude.{map};
 ghost use Rattle.toml.specs.View.{view, table_view};
@@ -20,7 +20,7 @@ fn each_table(alloc: Global, items: &[Value], place: Place) -> Result<Vec<&Table
     Ok(tables)
 }
 
-/// The tables of an array of tables.
+/// Returns the tables of an array of tables.
 #[tactic(auto, unfolding(crate::specs::Tables::tables_in))]
 pub fn tables_of(alloc: Global, value: &Value, place: Place) -> Result<Vec<&Table>, FileFault>
     ensures { Gives (λ v. map (λ t. table_view t.now) v.items) result (tables_in place (view value.now)) }
@@ -40,7 +40,7 @@ fn each_whole_number(alloc: Global, items: &[Value], place: Place) -> Result<Vec
     Ok(numbers)
 }
 
-/// The integers of an array of integers.
+/// Returns the integers of an array of integers.
 #[tactic(auto, unfolding(crate::specs::Tables::whole_numbers_in))]
 pub fn whole_numbers_of(alloc: Global, value: &Value, place: Place) -> Result<Vec<i64>, FileFault>
     ensures { Gives (λ v. v.items) result (whole_numbers_in place (view value.now)) }

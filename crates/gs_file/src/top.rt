@@ -1,4 +1,4 @@
-//! The top of a game's description.
+//! Reading the top of a game's description.
 
 ghost use Rattle.std.specs.Prelude.{option_map};
 ghost use Rattle.toml.specs.View.{view, table_view};
@@ -36,7 +36,7 @@ fn version(form: Form, table: &Table) -> Result<Version, FileFault>
     version_by_number(form, number)
 }
 
-/// No key but those of the version stands at the top: `bonus`, the last, in version 2 alone.
+/// Checks that only keys of the version stand at the top: `bonus`, the last, in version 2 alone.
 fn check_top_keys(form: Form, table: &Table, version: Version) -> Result<(), FileFault>
     ensures { Gives (λ v. v) result (only form (top_keys version) 0 (table_view table.now)) }
 {
@@ -56,7 +56,7 @@ fn check_top_keys(form: Form, table: &Table, version: Version) -> Result<(), Fil
     }
 }
 
-/// The value of `copies`, which a game file may leave out.
+/// Returns the value of `copies`, which a game file may leave out.
 fn copies_of(form: Form, table: &Table) -> Result<Option<&Value>, FileFault>
     ensures { Gives (option_map (λ v. view v.now)) result (copies_value form (table_view table.now)) }
 {
@@ -69,7 +69,7 @@ fn copies_of(form: Form, table: &Table) -> Result<Option<&Value>, FileFault>
     }
 }
 
-/// The value of `bonus`, which version 2 has and version 1 has not.
+/// Returns the value of `bonus`, which version 2 has and version 1 has not.
 fn bonus_of(form: Form, table: &Table, version: Version) -> Result<Option<&Value>, FileFault>
     ensures { Gives (option_map (λ v. view v.now)) result (bonus_value form version (table_view table.now)) }
 {
@@ -82,7 +82,7 @@ fn bonus_of(form: Form, table: &Table, version: Version) -> Result<Option<&Value
     }
 }
 
-/// The values at the top.
+/// Returns the values at the top, or the first fault.
 #[tactic(auto, unfolding(crate::specs::Reading::values_at))]
 pub fn values_of(form: Form, table: &Table) -> Result<TopValues<'_>, FileFault>
     ensures { Gives values_view result (values_at form (table_view table.now)) }
@@ -119,7 +119,7 @@ fn bonus_typed(alloc: Global, bonus: Option<&Value>) -> Result<Option<Vec<i64>>,
     }
 }
 
-/// What stands at the top, each of its type.
+/// Returns the fields at the top, each of its type, or the first fault.
 #[tactic(auto, unfolding(crate::specs::Reading::typed_at))]
 pub fn typed_of<'t>(alloc: Global, values: &TopValues<'t>) -> Result<TopFields<'t>, FileFault>
     ensures { Gives top_view result (typed_at (values_view values.now)) }

@@ -1,4 +1,4 @@
-//! What has been read of a game file, step by step.
+//! What is known of a game file after each step of reading.
 
 ghost use Rattle.std.specs.Prelude.{◌≤◌};
 ghost use Rattle.gs_card.specs.Rankings.{ranking_of};
@@ -19,7 +19,7 @@ pub struct TopValues<'t> {
     pub rounds: &'t Value,
 }
 
-/// What stands at the top, each of its type.
+/// The fields at the top, each of its type.
 #[derive(Drop)]
 pub struct TopFields<'t> {
     pub ranks: &'t str,
@@ -31,14 +31,14 @@ pub struct TopFields<'t> {
     pub rounds: Vec<&'t Table>,
 }
 
-/// The values that a round's betting is told by.
+/// The values that state a round's betting.
 #[derive(Clone, Copy)]
 pub enum BettingValues<'t> {
     Tree(&'t Value),
     Limit { bet: &'t Value, cap: &'t Value },
 }
 
-/// How a round is bet.
+/// The betting of a round: the text of its tree, or a bet and a cap.
 #[derive(Clone, Copy)]
 pub enum Betting<'t> {
     Tree(&'t str),
@@ -53,7 +53,7 @@ pub struct RoundFields<'t> {
     pub betting: Betting<'t>,
 }
 
-/// The limit betting of a round, in its range.
+/// The limit betting of a round, in its range: the bet in chips, and the most bets and raises.
 #[derive(Clone, Copy)]
 pub struct Limits {
     pub bet: u16,
@@ -63,7 +63,7 @@ pub struct Limits {
     pub ghost few: { cap ≤ 8 },
 }
 
-/// How a round is bet, each value in its range.
+/// The betting of a round, each value in its range.
 #[derive(Clone, Copy)]
 pub enum Sizes<'t> {
     Tree(&'t str),
@@ -80,7 +80,7 @@ pub struct RoundSizes<'t> {
     pub ghost few_public: { public ≤ 3 },
 }
 
-/// What is in its range.
+/// What a game file states beside its deck, each value in its range.
 #[derive(Drop)]
 pub struct StatedGame<'t> {
     pub ranking: Ranking,

@@ -11,7 +11,7 @@ impl Version {
     ghost use Rattle.std.specs.Prelude.{◌≡◌};
     ghost use Rattle.gs_file.specs.JsonForm.{version_number};
 
-    /// The number of the version.
+    /// Returns the number of the version.
     pub fn number(self) -> u8
         ensures { result ≡ version_number self }
     {

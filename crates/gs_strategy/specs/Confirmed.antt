@@ -16,7 +16,7 @@ frame_of s = frame_in s.game
 abbrev pub raw_plan : Strategy → Weights → Plan
 raw_plan s w = lift (frame_of s) s.classes (plan_of (frame_of s) s.classes w.total w.weights)
 
--- a fraction as a numerator with a sign and a denominator
+-- a fraction as a signed numerator and an unsigned denominator
 abbrev pub over : FractionParts → ℤ × ℕ
 over p = (p.0, unsigned_abs p.1)
 
@@ -27,7 +27,7 @@ pub record AreNumbersOf (s : Strategy) (n : Numbers) : Type 0 where
   pub gap2 : IsFractionOf n.gap2
   pub verdict : IsVerdict (frame_of s) (raw_plan s s.one) (raw_plan s s.two) (over n.value) (over n.gap1) (over n.gap2)
 
--- the classes are lossless, and the numbers are those of the plans
+-- the classes are lossless, the game over them keeps the limits, and the strategy's numbers are those of its plans
 pub record IsConfirmed (s : Strategy) : Type 0 where
   pub lossless : IsLossless (frame_of s) s.classes
   pub small : IsSmall (frame_of s) s.classes

@@ -11,7 +11,7 @@ use Rattle.gs_model.specs.Signals.{signals}
 use Rattle.gs_card.specs.Decks.{DeckValue}
 use Rattle.gs_tree.specs.Texts.{signal_text}
 
--- a space and the text of each signal that is of the class c. A member is a signal's text beside its class
+-- a space and the text of each signal of class c; each of `members` is a signal's text with its class
 abbrev pub members_text : ℕ → List (List ℕ × ℕ) → List ℕ
 members_text c members = flat_map (λ m. if m.1 == c then codes " " ++ m.0 else []) members
 
@@ -19,7 +19,7 @@ members_text c members = flat_map (λ m. if m.1 == c then codes " " ++ m.0 else 
 abbrev pub begin_line : ℕ → List ℕ
 begin_line c = decimal c ++ codes ":"
 
--- a class's line so far: its number, a colon, and its members in the order of the signals
+-- a class's line without the line feed: its number, a colon, and its members in the order of the signals
 abbrev pub open_line : List (List ℕ × ℕ) → ℕ → List ℕ
 open_line members c = begin_line c ++ members_text c members
 
@@ -27,12 +27,12 @@ open_line members c = begin_line c ++ members_text c members
 abbrev pub class_line : List (List ℕ × ℕ) → ℕ → List ℕ
 class_line members c = open_line members c ++ codes "\n"
 
--- the line of a round: how many classes and signals it has
+-- the line of a round, with its numbers of classes and signals
 unfoldable pub round_line : ℕ → ℕ → ℕ → List ℕ
 round_line round classes signals = codes "round " ++ decimal round ++ codes " classes " ++ decimal classes ++ codes " signals " ++ decimal signals
     ++ codes "\n"
 
--- a round, by the texts of its signals and their classes: its line, and a line for each class in order
+-- a round's text, from the texts of its signals and their classes: its line, and a line for each class in order
 abbrev pub round_text : ℕ → List (List ℕ) → List ℕ → List ℕ
 round_text round texts classes =
     round_line round (greatest classes) (length texts) ++ flat_map (class_line (zip texts classes)) (range_with_len 1 (greatest classes))
@@ -50,7 +50,7 @@ pub record AreListsOf (g : Game) (lists : ClassLists) : Type 0 where
   pub rounds : length lists ≡ round_count g
   pub lengths : (round : ℕ) → 0 < round → round ≤ round_count g → length (list_of lists round) ≡ length (signals g round)
 
--- the line of the deals: how many there are, and their weight
+-- the line of the deals, with their number and their weight
 unfoldable pub deals_line : ℕ → ℕ → List ℕ
 deals_line deals weight = codes "deals " ++ decimal deals ++ codes " weight " ++ decimal weight ++ codes "\n"
 

@@ -13,7 +13,7 @@ use Rattle.gs_file.specs.Reading.{FileGame}
 use Rattle.gs_file.specs.declared.fault.FileFault.{FileFault}
 use Rattle.gs_file.specs.declared.fault.Place.{Place}
 
--- where a key stands, unless it stands outside the rounds
+-- the round of a key, unless the key stands outside the rounds
 abbrev pub in_round : ℕ → List ℕ
 in_round n = if n == 0 then [] else codes " in round " ++ decimal n
 
@@ -41,7 +41,7 @@ tree_text tree.Memory = codes "out of memory"
 abbrev pub round_tree_text : ℕ → TreeFault → List ℕ
 round_tree_text round why = codes "tree of round " ++ decimal round ++ codes ": " ++ tree_text why
 
--- the rule that a game breaks
+-- the text of the rule that a game breaks
 abbrev pub rule_text : Refusal → List ℕ
 rule_text (rounds count) = codes "rounds: " ++ decimal count
 rule_text no_private = codes "no private card in round 1"

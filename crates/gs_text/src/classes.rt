@@ -1,4 +1,4 @@
-//! The class text.
+//! Writing the class text.
 
 ghost use Rattle.std.specs.Prelude.{◌≡◌, ◌≤◌, ◌<◌, ◌-◌, ◌++◌, All, IfOk, OnOk, length, map, flat_map, codes, string_bytes};
 ghost use Rattle.std.specs.List.{zip, range_with_len};
@@ -12,7 +12,7 @@ use gs_tree::Signals;
 use std::alloc::{AllocError, Global};
 use std::fmt::Write;
 
-// Adds the line of a round: how many classes and signals it has.
+// Adds the line of a round, with its numbers of classes and signals.
 #[tactic(auto, unfolding(crate::specs::ClassText::round_line))]
 pub(crate) fn push_round_line(
     text: &mut String,
@@ -25,7 +25,7 @@ pub(crate) fn push_round_line(
     writeln!(text, "round {round} classes {classes} signals {signals}")
 }
 
-// The beginning of each class's line: its number and a colon.
+// Returns the beginning of each class's line: its number and a colon.
 fn begun_lines(alloc: Global, count: u32) -> Result<Vec<String>, AllocError>
     ensures { IfOk result (λ lines. map string_bytes lines.items ≡ map begin_line (range_with_len 1 count)) }
 {
@@ -44,8 +44,8 @@ fn push_member(line: &mut String, text: &str) -> Result<(), AllocError>
     line.push_str(text)
 }
 
-// The line of each class, with its members in order, but without its end. A class has a member for
-// each time that its number stands in `classes`, so one pass over the signals fills all the lines.
+// Returns the line of each class with its members in order, without the line feed. A class has a
+// member for each place of its number in `classes`, so one pass over the signals fills all lines.
 fn class_lines(
     alloc: Global,
     texts: &[String],
@@ -63,7 +63,7 @@ fn class_lines(
     Ok(lines)
 }
 
-// Adds the lines, each with its end.
+// Adds the lines to the text, each with a line feed.
 fn push_lines(text: &mut String, lines: &[String]) -> Result<(), AllocError>
     ensures { OnOk result (string_bytes text.new ≡ string_bytes text.old ++ flat_map (λ l. l ++ codes "\n") (map string_bytes lines.now)) }
 {
@@ -74,7 +74,7 @@ fn push_lines(text: &mut String, lines: &[String]) -> Result<(), AllocError>
     Ok(())
 }
 
-// The texts of the signals of a round, in order.
+// Returns the texts of the signals of a round, in order.
 fn signal_texts(alloc: Global, signals: &Signals, round: u8) -> Result<Vec<String>, AllocError>
     requires some { 0 < round }
     requires last { round ≤ round_count (rules_of signals.now) }
@@ -88,7 +88,8 @@ fn signal_texts(alloc: Global, signals: &Signals, round: u8) -> Result<Vec<Strin
     Ok(texts)
 }
 
-// The line of each class of a round after the first, without its end, by the texts of the round before: no text of the round itself is kept.
+// Returns the line of each class of a round after the first, without the line feed. It works from the texts of the round before, and keeps no text of the
+// round itself.
 fn lines_below(
     alloc: Global,
     signals: &Signals,
@@ -119,7 +120,7 @@ fn lines_below(
     Ok(lines)
 }
 
-// The line of each class of a round, without its end.
+// Returns the line of each class of a round, without the line feed.
 fn round_lines(
     alloc: Global,
     signals: &Signals,
@@ -142,7 +143,7 @@ fn round_lines(
     lines_below(alloc, signals, round, &above, classes, count)
 }
 
-// Adds the text of a round, by the classes of its signals.
+// Adds the text of a round, from the classes of its signals.
 fn push_round(
     alloc: Global,
     text: &mut String,
@@ -166,7 +167,7 @@ fn push_round(
     Ok(())
 }
 
-// Adds the text of a round of some classes.
+// Adds the text of a round of the classes.
 fn push_classes(
     alloc: Global,
     text: &mut String,
@@ -185,8 +186,8 @@ fn push_classes(
     push_round(alloc, text, signals, round, list, count)
 }
 
-/// The class text: for each round a line with its numbers of classes and signals, and a line for
-/// each class with its members.
+/// Returns the class text: for each round a line with its numbers of classes and signals, and a
+/// line for each class with its members.
 pub fn class_text(alloc: Global, signals: &Signals, classes: &Classes) -> Result<String, AllocError>
     requires { AreListsOf (rules_of signals.now) classes.now.lists }
     ensures { IfOk result (λ text. string_bytes text ≡ text_of_classes (deck_of signals.now) (rules_of signals.now) classes.now.lists) }

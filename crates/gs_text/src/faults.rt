@@ -1,4 +1,4 @@
-//! The texts of what is wrong with a game file.
+//! Writing the texts of the faults of a game file.
 
 ghost use Rattle.std.specs.{Prelude.{◌≡◌, ◌≢◌, ◌++◌, IfOk, OnOk, codes, string_bytes, Err}, Fmt.{decimal}};
 ghost use Rattle.gs_file.specs.{Faults.{Fault, bad_version, game as broken_rule}, Answers.{FailsByRules}, Reading.{FileGame}};
@@ -14,7 +14,7 @@ use gs_game::GameFault;
 use std::alloc::{AllocError, Global};
 use std::fmt::Write;
 
-// Adds where a key stands, unless it stands outside the rounds.
+// Adds the round of a key, unless the key stands outside the rounds.
 fn push_in_round(text: &mut String, round: u8) -> Result<(), AllocError>
     ensures { OnOk result (string_bytes text.new ≡ string_bytes text.old ++ text_in_round round) }
 {
@@ -24,7 +24,7 @@ fn push_in_round(text: &mut String, round: u8) -> Result<(), AllocError>
     }
 }
 
-// What is wrong with a key, the key, and its round.
+// Returns what is wrong with a key, the key, and its round.
 fn place_text(alloc: Global, wrong: &str, place: Place) -> Result<Vec<u8>, AllocError>
     ensures { IfOk result (λ text. text.items ≡ text_of_place wrong.now place) }
 {
@@ -35,7 +35,7 @@ fn place_text(alloc: Global, wrong: &str, place: Place) -> Result<Vec<u8>, Alloc
     Ok(text.into_bytes())
 }
 
-// A key that may not stand where it stands.
+// Returns the text for a key that may not stand where it stands.
 fn unknown_key_text(alloc: Global, round: u8) -> Result<Vec<u8>, AllocError>
     ensures { IfOk result (λ text. text.items ≡ codes "unknown key" ++ text_in_round round) }
 {
@@ -44,7 +44,7 @@ fn unknown_key_text(alloc: Global, round: u8) -> Result<Vec<u8>, AllocError>
     Ok(text.into_bytes())
 }
 
-// Why ranks, suits and copies make no deck.
+// Returns why ranks, suits and copies make no deck.
 fn deck_text(fault: DeckFault) -> &'static str
     ensures { result.now ≡ text_of_deck fault }
 {
@@ -58,7 +58,7 @@ fn deck_text(fault: DeckFault) -> &'static str
     }
 }
 
-// What is wrong with a tree's text, and at which byte.
+// Returns what is wrong with a tree's text, and at which byte.
 fn tree_text(alloc: Global, fault: TreeFault) -> Result<String, AllocError>
     ensures { IfOk result (λ text. string_bytes text ≡ text_of_tree fault) }
 {
@@ -70,7 +70,7 @@ fn tree_text(alloc: Global, fault: TreeFault) -> Result<String, AllocError>
     }
 }
 
-// What is wrong with the text of a round's tree.
+// Returns what is wrong with the text of a round's tree.
 fn round_tree_text(alloc: Global, round: u8, fault: TreeFault) -> Result<Vec<u8>, AllocError>
     ensures { IfOk result (λ text. text.items ≡ text_of_round_tree round fault) }
 {
@@ -80,7 +80,7 @@ fn round_tree_text(alloc: Global, round: u8, fault: TreeFault) -> Result<Vec<u8>
     Ok(text.into_bytes())
 }
 
-// An even leaf where the players have put different amounts, and the letters on the way to it.
+// Returns the text for an even leaf at which the players have put in different amounts, with the letters of the moves to it.
 fn uneven_text(alloc: Global, round: u8, path: &[u8]) -> Result<Vec<u8>, AllocError>
     ensures { IfOk result (λ text. text.items ≡ codes "uneven: round " ++ decimal round ++ codes " path " ++ path.now) }
 {
@@ -89,14 +89,14 @@ fn uneven_text(alloc: Global, round: u8, path: &[u8]) -> Result<Vec<u8>, AllocEr
     Ok(text)
 }
 
-// The bytes of a text.
+// Returns the bytes of a text.
 fn bytes_of(alloc: Global, text: &str) -> Result<Vec<u8>, AllocError>
     ensures { IfOk result (λ v. v.items ≡ text.now) }
 {
     Ok(String::from_str(alloc, text)?.into_bytes())
 }
 
-// The cards that a game's ranking wants otherwise.
+// Returns the text for numbers of cards that the ranking does not allow.
 fn ranking_text(alloc: Global, own: u8, all: u8) -> Result<Vec<u8>, AllocError>
     ensures { IfOk result (λ v. v.items ≡ text_of_rule (ranking_cards own all)) }
 {
@@ -105,7 +105,7 @@ fn ranking_text(alloc: Global, own: u8, all: u8) -> Result<Vec<u8>, AllocError>
     Ok(text.into_bytes())
 }
 
-// How many cards a game wants, and how many it has.
+// Returns the text for too few cards: the number that the game needs, and the number that it has.
 fn cards_text(alloc: Global, need: u32, have: u32) -> Result<Vec<u8>, AllocError>
     ensures { IfOk result (λ v. v.items ≡ text_of_rule (not_enough_cards need have)) }
 {
@@ -114,14 +114,14 @@ fn cards_text(alloc: Global, need: u32, have: u32) -> Result<Vec<u8>, AllocError
     Ok(text.into_bytes())
 }
 
-// What is wrong, and a number behind it.
+// Returns what is wrong, followed by a number.
 fn counted_text(alloc: Global, wrong: &str, number: u128) -> Result<Vec<u8>, AllocError>
     ensures { IfOk result (λ v. v.items ≡ wrong.now ++ decimal number) }
 {
     Ok(format!(in alloc; "{wrong}{number}")?.into_bytes())
 }
 
-// The rule that a game breaks.
+// Returns the text of the rule that a game breaks.
 fn rule_text(alloc: Global, fault: &GameFault) -> Result<Vec<u8>, AllocError>
     ensures { IfOk result (λ text. (why : Refusal) → FailsByRules {Y = FileGame} fault.now (Err (broken_rule why)) → text.items ≡ text_of_rule why) }
 {
@@ -147,14 +147,14 @@ fn rule_text(alloc: Global, fault: &GameFault) -> Result<Vec<u8>, AllocError>
     }
 }
 
-// A version that does not exist.
+// Returns the text for a wrong version.
 fn version_text(alloc: Global, version: i64) -> Result<Vec<u8>, AllocError>
     ensures { IfOk result (λ v. v.items ≡ fault_text (bad_version version)) }
 {
     Ok(format!(in alloc; "version {version}")?.into_bytes())
 }
 
-/// Why a game file is refused, without an end of line.
+/// Returns why a game file is refused, without a line feed.
 pub fn file_fault_text(alloc: Global, fault: &FileFault) -> Result<Vec<u8>, AllocError>
     requires told { fault.now ≢ file.Memory }
     ensures { IfOk result (λ text. (why : Fault) → IsFault fault.now why → text.items ≡ fault_text why) }

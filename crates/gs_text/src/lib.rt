@@ -1,4 +1,4 @@
-//! The texts of classes and their summaries, and of why a game file is refused.
+//! The texts of classes, of their summaries, and of the faults of a game file.
 #![tactic(auto)]
 
 mod classes;

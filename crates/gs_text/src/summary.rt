@@ -1,4 +1,4 @@
-//! The summary of classes.
+//! Writing the summary of classes.
 
 ghost use Rattle.std.specs.Prelude.{◌≡◌, ◌++◌, IfOk, OnOk, string_bytes};
 ghost use Rattle.gs_tree.specs.Trees.{rules_of};
@@ -10,7 +10,7 @@ use gs_tree::Signals;
 use std::alloc::{AllocError, Global};
 use std::fmt::Write;
 
-// Adds the line of the deals: how many there are, and their weight.
+// Adds the line of the deals, with their number and their weight.
 #[tactic(auto, unfolding(crate::specs::ClassText::deals_line))]
 fn push_deals_line(text: &mut String, deals: u32, weight: u64) -> Result<(), AllocError>
     ensures { OnOk result (string_bytes text.new ≡ string_bytes text.old ++ deals_line deals weight) }
@@ -18,7 +18,7 @@ fn push_deals_line(text: &mut String, deals: u32, weight: u64) -> Result<(), All
     writeln!(text, "deals {deals} weight {weight}")
 }
 
-/// The summary of classes: a line with the number and the weight of all deals, and for each round a line with its numbers of classes and signals.
+/// Returns the summary of classes: a line with the number and the weight of all deals, and for each round a line with its numbers of classes and signals.
 pub fn summary_text(
     alloc: Global,
     signals: &Signals,

@@ -5,7 +5,7 @@ use Rattle.gs_words.specs.Values.{grouping_of, kind_of, number_in}
 use Rattle.gs_words.specs.declared.names.CommandName.{CommandName}
 use Rattle.gs_words.specs.declared.names.CommandName.TheVariants.{Shrink, Check, Solve, Play, Evaluate, Query, Make, Upgrade, Judge, Duel, Certify, Verify, Path}
 
--- an option that a command has: a flag, or one whose value obeys a rule
+-- an option of a command: a flag, or an option whose value obeys a rule
 pub record OptionOf : Type 0 where
   pub name : List ℕ
   pub is_required : Bool
@@ -19,11 +19,11 @@ summary = record { name = codes "summary"; is_required = false; rule = None }
 abbrev pub classes : OptionOf
 classes = record { name = codes "classes"; is_required = false; rule = Some (λ word. is_some (grouping_of word)) }
 
--- an option that has to be given, with a value that obeys a rule
+-- a required option with a value that obeys a rule
 abbrev pub required : List ℕ → (List ℕ → Bool) → OptionOf
 required name obeys = record { name = name; is_required = true; rule = Some obeys }
 
--- an option that has to be given, with a number from `least` to `most`
+-- a required option with a number from `least` to `most`
 abbrev pub numbered : List ℕ → ℕ → ℕ → OptionOf
 numbered name least most = required name (λ word. is_some (number_in least most word))
 

@@ -35,7 +35,7 @@ abbrev pub obeys : Option (List ℕ → Bool) → List ℕ → Bool
 obeys None value = false
 obeys (Some rule) value = rule value
 
--- the option is given in its form
+-- the option is given in its form: with a plain value that obeys its rule, or as a flag if it is one
 abbrev pub is_given_as : OptionOf → Given → Bool
 is_given_as option (valued name value) = bytes_eq name option.name && (is_plain_value value && obeys option.rule value)
 is_given_as option (flagged name) = bytes_eq name option.name && is_none option.rule
@@ -51,7 +51,7 @@ are_plain command gs =
     list_all (λ g. list_any (λ option. is_given_as option g) (options_of command)) gs
     && (stand_once gs && list_all (λ option. not option.is_required || list_any (λ g. bytes_eq (name_of g) option.name) gs) (options_of command))
 
--- what is given for an option: its value, and `true` for a flag
+-- what is given for an option: its value, or `true` for a flag
 abbrev pub given_for : List Given → List ℕ → Option (List ℕ)
 given_for [] option = None
 given_for (valued name value ∷ rest) option = if bytes_eq name option then Some value else given_for rest option

@@ -1,4 +1,4 @@
--- The command that words are read by.
+-- The command of `clap` that parses the words.
 use Rattle.std.specs.Prelude.{◌≡◌, ℕ, List, Bool, Option, Some, None, true, false, codes, fold, map}
 use Rattle.clap.specs.Words.{App, Rule, new_app, new_rule, app_of, with_rule, with_subcommand}
 use Rattle.clap.specs.Simple.{on_top}
@@ -13,7 +13,7 @@ use Rattle.gs_words.specs.declared.names.CommandName.{CommandName}
 abbrev pub Is : App → Command → Type 0
 Is app c = (app_of c ≡ app) × ((out-Command c).has_globals ≡ false)
 
--- a flag is set, and another option takes its value
+-- the action of an option: a flag is set; an option with a value has the default action
 abbrev pub action_by : Option (List ℕ → Bool) → Option ArgAction
 action_by None = Some SetTrue
 action_by (Some rule) = None
@@ -34,7 +34,7 @@ app_for c = with_options (command_word c) (options_of c)
 abbrev pub bare : App
 bare = on_top (λ s. record s { no_binary_name = true; subcommand_required = true }) (new_app (codes "gameshrink"))
 
--- some commands behind it
+-- the bare command with these commands as subcommands
 abbrev pub with_commands : List CommandName → App
 with_commands names = fold (λ (app : App) c. with_subcommand app (app_for c).top) bare names
 

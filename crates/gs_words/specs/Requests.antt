@@ -29,28 +29,28 @@ abbrev pub grouping_in : Option Text → Option Grouping
 grouping_in None = Some Coarsest
 grouping_in (Some word) = grouping_of word
 
--- `play` with a grouping and a number of turns, where both are there
+-- `play` with a grouping and a number of turns, if both are there
 abbrev pub play_with : Option Grouping → Option ℕ → Option Task
 play_with (Some grouping) (Some turns) = Some (Play grouping turns)
 play_with _ _ = None
 
--- `query` with a player, a line and a signal, where all are there
+-- `query` with a player, a line and a signal, if all are there
 abbrev pub query_with : Option ℕ → Option Text → Option Text → Option Task
 query_with (Some player) (Some line) (Some signal) = Some (Query player line signal)
 query_with _ _ _ = None
 
--- `make` with a kind, ranks, suits and a cap, where all are there
+-- `make` with a kind, ranks, suits and a cap, if all are there
 abbrev pub make_with : Option Kind → Option ℕ → Option ℕ → Option ℕ → Bool → Option Task
 make_with (Some kind) (Some ranks) (Some suits) (Some cap) summary = Some (Make kind ranks suits cap summary)
 make_with _ _ _ _ summary = None
 
--- the same from the texts of these options, each by its rule
+-- `make` from the texts of its options, each read by its rule
 abbrev pub make_of : (kind ranks suits cap summary : Option Text) → Option Task
 make_of kind ranks suits cap summary =
     make_with (option_and_then kind_of kind) (option_and_then (number_in 1 13) ranks) (option_and_then (number_in 1 4) suits)
     (option_and_then (number_in 0 8) cap) (is_set summary)
 
--- what a command asks for, by what is given for each of its options
+-- what a command asks for, from what is given for each of its options
 abbrev pub task_for : CommandName → (Text → Option Text) → Option Task
 task_for command.Shrink given = Some (Shrink (is_set (given (codes "summary"))))
 task_for command.Check given = option_map (λ grouping. Check grouping (is_set (given (codes "summary")))) (grouping_in (given (codes "classes")))
@@ -70,26 +70,26 @@ task_for command.Path given = option_map (λ grouping. Path grouping) (grouping_
 abbrev pub task_in : Text × List Row → Option Task
 task_in entered = option_and_then (λ command. task_for command (λ option. first_of option entered.1)) (command_of entered.0)
 
--- `clap` takes the words
+-- `clap` accepts the words
 abbrev pub is_taken : List Text → Bool
 is_taken words = is_empty (fault_of program words)
 
--- what the words ask for, where they are a request
+-- what the words ask for, if they are a request
 unfoldable pub request_of : List Text → Option Task
 request_of words = if is_taken words then option_and_then task_in (subcommand_of program words) else None
 
--- the words are read as what they ask for, unless memory runs out
+-- the words are read as the request that they are, or refused if they are none, unless memory runs out
 abbrev pub ReadsWords : Result Request WordsStop → List Text → Type 0
 ReadsWords (Ok request) words = request_of words ≡ Some (task_of request)
 ReadsWords (Err stop.Usage) words = request_of words ≡ None
 ReadsWords (Err stop.Memory) words = Unit {0}
 
--- words are not taken because memory ran out, or for another error
+-- the stop is `Memory` for an error of kind `OutOfMemory`, and `Usage` for any other
 abbrev pub IsStopFor : ErrorKind → WordsStop → Type 0
 IsStopFor kind stop.Memory = kind ≡ OutOfMemory
 IsStopFor kind stop.Usage = kind ≡ OutOfMemory → ⊥
 
--- `clap` took the words and entered this command, or refused them
+-- `clap` accepted the words and entered this command, or refused them, unless memory ran out
 abbrev pub TakesWords : Result ArgMatches WordsStop → List Text → Type 0
 TakesWords (Ok m) words = (is_taken words ≡ true) × (subcommand_rows_of m ≡ subcommand_of program words)
 TakesWords (Err stop.Usage) words = is_taken words ≡ false

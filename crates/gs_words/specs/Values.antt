@@ -18,7 +18,7 @@ abbrev pub kind_of : List ℕ → Option Kind
 kind_of word = if bytes_eq word (codes "kuhn") then Some Kuhn
     else (if bytes_eq word (codes "leduc") then Some Leduc else (if bytes_eq word (codes "rhode") then Some Rhode else None))
 
--- the number that the word writes, where it is from `least` to `most`
+-- the number that the word writes, if it is from `least` to `most`
 abbrev pub number_in : ℕ → ℕ → List ℕ → Option ℕ
 number_in least most word =
     let n = digits_value 10 word in

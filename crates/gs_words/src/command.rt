@@ -1,4 +1,4 @@
-//! The command that words are read by.
+//! The command of `clap` that parses the words.
 
 ghost use Rattle.std.specs.Prelude.{◌≡◌, List, [], ◌∷◌, ◌++◌, IfOk, false, true};
 ghost use Rattle.clap.specs.Words.{rule_of};
@@ -11,7 +11,7 @@ use crate::names::{COMMANDS, CommandName};
 use clap::{Arg, ArgAction, Command};
 use std::alloc::{AllocError, Global};
 
-// The flag for a summary.
+// Returns the flag `--summary`.
 fn summary_flag<'a>(alloc: Global) -> Arg<'a>
     ensures rule { rule_of result ≡ rule_for summary }
     ensures local { result.global ≡ false }
@@ -21,7 +21,7 @@ fn summary_flag<'a>(alloc: Global) -> Arg<'a>
         .action(ArgAction::SetTrue)
 }
 
-// The option for a grouping.
+// Returns the option `--classes`.
 fn classes_option<'a>(alloc: Global) -> Arg<'a>
     ensures rule { rule_of result ≡ rule_for classes }
     ensures local { result.global ≡ false }
@@ -29,7 +29,7 @@ fn classes_option<'a>(alloc: Global) -> Arg<'a>
     Arg::new(alloc, "classes").long("classes")
 }
 
-// An option with one value that has to be given.
+// Returns a required option with one value.
 fn required_value<'a>(alloc: Global, name: &'a str) -> Arg<'a>
     ensures rule { rule_of result ≡ rule_for (required name.entry.now (λ _. true)) }
     ensures local { result.global ≡ false }
@@ -37,7 +37,7 @@ fn required_value<'a>(alloc: Global, name: &'a str) -> Arg<'a>
     Arg::new(alloc, name).long(name).required(true)
 }
 
-// A command with its options.
+// Returns the subcommand of this name with its options.
 fn command_for<'a>(alloc: Global, name: CommandName) -> Result<Command<'a>, AllocError>
     ensures { IfOk result (Is (app_for name)) }
 {
@@ -77,7 +77,7 @@ fn bare_command<'a>(alloc: Global) -> Command<'a>
         .subcommand_required(true)
 }
 
-// A command with one subcommand more.
+// Adds the subcommand of this name to a command.
 fn with_command<'a>(
     command: Command<'a>,
     alloc: Global,
@@ -88,7 +88,7 @@ fn with_command<'a>(
     command.subcommand(command_for(alloc, name)?)
 }
 
-/// The program's command.
+/// Returns the program's command with all its subcommands.
 pub(crate) fn program<'a>(alloc: Global) -> Result<Command<'a>, AllocError>
     ensures { IfOk result (Is whole) }
 {

@@ -4,9 +4,11 @@ ghost use Rattle.std.specs.Prelude.{◌≡◌, [], ◌∷◌, List, Some, true, 
 ghost use Rattle.gs_words.specs.{Commands.{command_word}, Plain.{Given, are_plain, given_for, option_words}, Requests.{request_of, task_for}};
 ghost use Rattle.gs_words.specs.{Tasks.{Check}, declared.names.CommandName.{CommandName}, declared.request.Grouping.TheVariants.{Single}};
 
-/// Plain words are never refused, and ask for what their options say. Plain words are a command and
-/// then options of it in any order, each once and each that is required; an option is `--name` and a
-/// value, which is not empty, does not begin with `-` and obeys the option's rule, or a flag.
+/// Plain words are never refused, and ask for what their options say.
+///
+/// Plain words are a command and then options of it in any order. No option stands twice, and each
+/// required one is there. An option is a flag, or `--name` and a value. The value is not empty,
+/// does not begin with `-` and obeys the option's rule.
 pub fn plain_words_are_read()
     ensures read { (command : CommandName) (options : List Given) → IsTrue (are_plain command options)
         → IsSome (request_of (command_word command ∷ option_words options)) }

@@ -39,7 +39,7 @@ pub(crate) const COMMANDS: [CommandName; 13] = [
 ];
 
 impl CommandName {
-    /// The word that names the command.
+    /// Returns the word that names the command.
     pub(crate) fn word(self) -> &'static str
         ensures { result.now ≡ command_word self }
     {
@@ -61,7 +61,7 @@ impl CommandName {
     }
 }
 
-// The first of the commands that a word names.
+// Returns the first of the commands that the word names.
 fn named_in(names: &[CommandName], word: &str) -> Option<CommandName>
     ensures { result ≡ find (λ c. bytes_eq word.now (command_word c)) names.now }
 {
@@ -73,7 +73,7 @@ fn named_in(names: &[CommandName], word: &str) -> Option<CommandName>
     None
 }
 
-/// The command that a word names.
+/// Returns the command that the word names.
 pub(crate) fn command_named(word: &str) -> Option<CommandName>
     ensures { result ≡ command_of word.now }
 {

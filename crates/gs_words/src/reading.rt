@@ -1,4 +1,4 @@
-//! Reading words.
+//! Reading the words of the command line.
 
 ghost use Rattle.std.specs.Prelude.{◌≡◌, ◌≤◌, codes, IfOk, IfSome, map, string_bytes, option_map, option_and_then};
 ghost use Rattle.clap.specs.Words.{first_of, rows_of, found_of, subcommand_rows_of};
@@ -14,7 +14,7 @@ use clap::ArgMatches;
 use clap::error::ErrorKind;
 use std::alloc::Global;
 
-// Why words are not taken, by the kind of the error.
+// Returns why words are refused, from the kind of `clap`'s error.
 fn stop_for(kind: ErrorKind) -> WordsStop
     ensures { IsStopFor kind result }
 {
@@ -24,7 +24,7 @@ fn stop_for(kind: ErrorKind) -> WordsStop
     }
 }
 
-// The words as the program's command takes them.
+// Parses the words with the program's command.
 fn taken<'a>(alloc: Global, words: &'a [String]) -> Result<ArgMatches<'a>, WordsStop>
     ensures { TakesWords result (map string_bytes words.entry.now) }
 {
@@ -38,14 +38,14 @@ fn taken<'a>(alloc: Global, words: &'a [String]) -> Result<ArgMatches<'a>, Words
     }
 }
 
-// The value of an option of the command.
+// Returns the value of an option, if it is given.
 fn value_of<'a>(options: &ArgMatches<'a>, name: &str) -> Option<&'a str>
     ensures { option_map (λ s. s.now) result ≡ first_of name.now (rows_of (found_of options.now)) }
 {
     options.get_str(name)
 }
 
-// Whether a flag of the command is given.
+// Returns whether a flag is given.
 fn is_set(options: &ArgMatches, name: &str) -> bool
     ensures { result ≡ is_true (first_of name.now (rows_of (found_of options.now))) }
 {
@@ -55,7 +55,7 @@ fn is_set(options: &ArgMatches, name: &str) -> bool
     }
 }
 
-// The number that an option of the command gives.
+// Returns the number that an option gives, if it is from `least` to `most`.
 fn number_of(options: &ArgMatches, name: &str, least: u32, most: u32) -> Option<u32>
     ensures value { result ≡ option_and_then (number_in least most) (first_of name.now (rows_of (found_of options.now))) }
     ensures within { IfSome result (λ n. (least ≤ n) × (n ≤ most)) }
@@ -63,7 +63,7 @@ fn number_of(options: &ArgMatches, name: &str, least: u32, most: u32) -> Option<
     number(value_of(options, name)?, least, most)
 }
 
-// The grouping that the command is given.
+// Returns the grouping that `--classes` names, and the coarsest lossless one without it.
 fn grouping_of(options: &ArgMatches) -> Option<Grouping>
     ensures { result ≡ grouping_in (first_of (codes "classes") (rows_of (found_of options.now))) }
 {
@@ -118,7 +118,7 @@ fn make_request<'a>(options: &ArgMatches<'a>) -> Option<Request<'a>>
     })
 }
 
-// What a command with options asks for.
+// Returns the request of a command with options, if its values are valid.
 fn request_for<'a>(name: CommandName, options: &ArgMatches<'a>) -> Option<Request<'a>>
     ensures value { option_map task_of result ≡ task_for name (λ option. first_of option (rows_of (found_of options.now))) }
     ensures within { IfSome result (λ r. IsInRange (task_of r)) }
@@ -149,14 +149,14 @@ fn request_for<'a>(name: CommandName, options: &ArgMatches<'a>) -> Option<Reques
     }
 }
 
-// The command that was entered, by its name and its options.
+// Returns the name and the options of the subcommand that was entered.
 fn entered<'m, 'a>(matches: &'m ArgMatches<'a>) -> Option<(&'a str, &'m ArgMatches<'a>)>
     ensures { option_map (λ p. (p.0.now, rows_of (found_of p.1.now))) result ≡ subcommand_rows_of matches.now }
 {
     matches.subcommand()
 }
 
-// What the words that were taken ask for.
+// Returns the request of the parsed words, if their values are valid.
 fn request_in<'a>(matches: &ArgMatches<'a>) -> Option<Request<'a>>
     ensures value { option_map task_of result ≡ option_and_then task_in (subcommand_rows_of matches.now) }
     ensures within { IfSome result (λ r. IsInRange (task_of r)) }
@@ -165,9 +165,12 @@ fn request_in<'a>(matches: &ArgMatches<'a>) -> Option<Request<'a>>
     request_for(command_named(name)?, options)
 }
 
-/// What the words ask for. The first one is the command. They are read with `clap`: that it
-/// refuses them, a request for help included, is `Usage`, and so is a value that its option does
-/// not take.
+/// Returns what the words ask for. The first word is the command.
+///
+/// # Errors
+///
+/// `Usage` if `clap` refuses the words, a request for help included, or if a value is not valid for
+/// its option. `Memory` if memory runs out.
 #[tactic(auto, unfolding(crate::specs::Requests::request_of))]
 pub fn read_words<'w>(alloc: Global, words: &'w [String]) -> Result<Request<'w>, WordsStop>
     ensures reads { ReadsWords result (map string_bytes words.entry.now) }

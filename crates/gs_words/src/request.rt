@@ -1,8 +1,8 @@
-//! What words ask for.
+//! What the words of the command line ask for.
 
 use gs_made::Kind;
 
-/// Which classes of signals.
+/// A grouping of the signals into classes.
 #[derive(Clone, Copy, Debug, PartialEq, Eq, Hash)]
 pub enum Grouping {
     /// The classes of ordered game isomorphism.
@@ -13,30 +13,30 @@ pub enum Grouping {
     Single,
 }
 
-/// What words ask for. The texts of a query are words of the command line.
+/// A request of the command line. The texts of a query are words of it.
 #[derive(Clone, Copy, Debug, PartialEq, Eq)]
 pub enum Request<'w> {
     /// The signal classes of a game, or only how many there are.
     Shrink {
         summary: bool,
     },
-    /// These classes of a game once they are found to be lossless, or only how many there are.
+    /// The classes of this grouping, once they are found to be lossless, or only how many there are.
     Check {
         grouping: Grouping,
         summary: bool,
     },
-    /// A strategy over these classes that no player can gain against.
+    /// A strategy over these classes with both gaps 0.
     Solve {
         grouping: Grouping,
     },
-    /// The strategy over these classes after this many turns of play, at most 1,000,000.
+    /// The strategy over these classes after `turns` turns of fictitious play, at most 1,000,000.
     Play {
         grouping: Grouping,
         turns: u32,
     },
-    /// The numbers of a strategy, once they are found to be right.
+    /// The value and gaps of a strategy, once they are confirmed.
     Evaluate,
-    /// What a player, 1 or 2, does at a line with a signal.
+    /// The mixture of a player, 1 or 2, at a line with a signal.
     Query {
         player: u8,
         line: &'w str,
@@ -53,25 +53,25 @@ pub enum Request<'w> {
     },
     /// A strategy's text in the latest version.
     Upgrade,
-    /// The numbers of a strategy over any classes.
+    /// The value and gaps of a strategy over any classes.
     Judge,
-    /// The numbers of two strategies against each other.
+    /// The value and gaps of two strategies against each other.
     Duel,
     /// A certificate of a strategy's bounds.
     Certify,
     /// The bounds that a certificate of a strategy shows.
     Verify,
-    /// The steps by which a strategy over these classes is found.
+    /// The pivots by which a strategy over these classes is found.
     Path {
         grouping: Grouping,
     },
 }
 
-/// Why words are not read.
+/// The reason why words give no request.
 #[derive(Clone, Copy, Debug, PartialEq, Eq, Hash)]
 pub enum WordsStop {
-    /// They ask for nothing that the program does, or for help.
+    /// They are no valid command line, or ask for help.
     Usage,
-    /// There is no memory to read them.
+    /// Memory ran out.
     Memory,
 }

@@ -1,4 +1,4 @@
-//! The values of options.
+//! Reading the values of options.
 
 ghost use Rattle.std.specs.Prelude.{◌≡◌, ◌≤◌, IfSome};
 ghost use Rattle.gs_words.specs.Values.{grouping_of, kind_of, number_in};
@@ -7,7 +7,7 @@ use crate::request::Grouping;
 use gs_frac::is_number;
 use gs_made::Kind;
 
-/// The classes that a word names.
+/// Returns the grouping that a word names.
 pub(crate) fn grouping(word: &str) -> Option<Grouping>
     ensures { result ≡ grouping_of word.now }
 {
@@ -19,7 +19,7 @@ pub(crate) fn grouping(word: &str) -> Option<Grouping>
     }
 }
 
-/// The game that a word names.
+/// Returns the kind of game that a word names.
 pub(crate) fn kind(word: &str) -> Option<Kind>
     ensures { result ≡ kind_of word.now }
 {
@@ -31,7 +31,7 @@ pub(crate) fn kind(word: &str) -> Option<Kind>
     }
 }
 
-/// The number that a word writes, where it is from `least` to `most`.
+/// Returns the number that a word writes, if it is from `least` to `most`.
 pub(crate) fn number(word: &str, least: u32, most: u32) -> Option<u32>
     ensures value { result ≡ number_in least most word.now }
     ensures within { IfSome result (λ n. (least ≤ n) × (n ≤ most)) }
