@@ -1,4 +1,4 @@
--- What a task says of an input: for each task the definition of its family.
+-- What a task says of an input: for each task the definition of its command.
 use Rattle.std.specs.Prelude.{ℕ, List, Bool, true, false}
 use Rattle.gs_answer.specs.Making.{Makes}
 use Rattle.gs_certify.specs.Certificates.{Certifies}
@@ -19,7 +19,7 @@ abbrev pub reads : Task → Bool
 reads (Make kind ranks suits cap summary) = false
 reads _ = true
 
--- what a task says of the bytes of its input; a game is made whatever they are
+-- what a task says of the bytes of its input; `make` does not depend on them
 abbrev pub Asks : Task → List ℕ → Reply → Type 0
 Asks (Shrink summary) bytes reply = Shrinks summary bytes reply
 Asks (Check grouping summary) bytes reply = Checks grouping summary bytes reply

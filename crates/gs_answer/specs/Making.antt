@@ -5,7 +5,7 @@ use Rattle.gs_made.specs.Made.{made_game}
 use Rattle.gs_made.specs.declared.kind.Kind.{Kind}
 use Rattle.gs_reply.specs.Replies.{Reply, Prints}
 
--- the file of the made game, accepted or not; or what `shrink --summary` says of this file
+-- the reply prints the file of the made game, valid or not; or it is what `shrink --summary` says of this file
 abbrev pub Makes : Kind → (ranks suits cap : ℕ) → Bool → Reply → Type 0
 Makes kind ranks suits cap false reply = reply ≡ Prints (made_game kind ranks suits cap)
 Makes kind ranks suits cap true reply = Shrinks true (made_game kind ranks suits cap) reply

@@ -1,4 +1,4 @@
-//! What a request asks for.
+//! Answering a request.
 
 ghost use Rattle.std.specs.Prelude.{◌≡◌, IfOk};
 ghost use Rattle.gs_answer.specs.Asking.{Asks, reads};
@@ -16,7 +16,7 @@ use gs_settle::{path_answer, play_answer, solve_answer};
 use gs_words::Request;
 use std::alloc::{AllocError, Global};
 
-/// Whether a request reads an input.
+/// Returns whether a request reads an input.
 pub fn reads_input(request: Request) -> bool
     ensures { result ≡ reads (task_of request.entry) }
 {
@@ -26,7 +26,7 @@ pub fn reads_input(request: Request) -> bool
     }
 }
 
-// A made game's file, or the summary of its signal classes.
+// Returns a made game's file, or the summary of its signal classes.
 fn made(
     alloc: Global,
     kind: Kind,
@@ -46,7 +46,7 @@ fn made(
     }
 }
 
-/// What a request asks to be printed of the bytes of its input, or why they are refused.
+/// Returns the answer to a request for the bytes of its input: a text to print, or the refusal.
 pub fn answer(alloc: Global, request: Request, bytes: &[u8]) -> Result<Answer, AllocError>
     requires { IsInRange (task_of request) }
     ensures { IfOk result (Answers (Asks (task_of request.entry) bytes.now)) }

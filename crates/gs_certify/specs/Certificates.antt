@@ -13,14 +13,15 @@ use Rattle.gs_strategy.specs.Confirmed.{frame_of, raw_plan}
 use Rattle.gs_strategy.specs.Texts.{strategy_text}
 use Rattle.gs_strategy.specs.Values.{Strategy}
 
--- the certificate holds of the strategy's plans, with numbers below 2^90 in size; so each bound holds of all raw plans: none of the player, using any
--- raw cards, is paid more against the other's plan
+-- The certificate is valid for the strategy's plans, with numbers below 2^90 in size. So each bound holds for all raw plans: no raw plan of the player is
+-- paid more against the other's plan.
 pub record IsCertificateOf (s : Strategy) (c : Certificate) : Type 0 where
   pub small : AreSmall c
   pub sound : IsSound (frame_of s) s.classes (raw_plan s s.one) (raw_plan s s.two) c
   pub bounds : BoundsAll (frame_of s) (raw_plan s s.one) (raw_plan s s.two) c
 
--- the strategy's text in version 2, and behind it the text of the certificate of both players' best values, whose bounds are reached by raw plans
+-- The text is the strategy's in version 2, followed by that of a valid certificate. The certificate has both players' best values, and raw plans reach its
+-- bounds.
 pub record IsCertified (s : Strategy) (text : List ℕ) : Type 0 where
   pub certificate : Certificate
   pub holds : IsCertificateOf s certificate
@@ -29,7 +30,7 @@ pub record IsCertified (s : Strategy) (text : List ℕ) : Type 0 where
   pub reached : AreReached (frame_of s) (raw_plan s s.one) (raw_plan s s.two) certificate
   pub printed : text ≡ strategy_text Two s ++ certificate_text (certificate_view certificate)
 
--- such a text is printed
+-- the reply prints the strategy with its certificate
 abbrev pub SaysCertified : Strategy → Reply → Type 0
 SaysCertified s reply = (text : List ℕ) × IsCertified s text × (reply ≡ Prints text)
 

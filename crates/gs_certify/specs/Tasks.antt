@@ -1,4 +1,4 @@
--- What each command says of a strategy that was read. Of private functions.
+-- What each command says of a strategy that was read. It stands in contracts of private functions.
 use Rattle.gs_confirm.specs.Commands.{OfConfirmed}
 use Rattle.gs_reply.specs.Replies.{Reply}
 use Rattle.gs_strategy.specs.Values.{Strategy}

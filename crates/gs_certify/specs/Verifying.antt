@@ -1,4 +1,4 @@
--- What `verify` says of two lines: a strategy's text, and a certificate's. The numbers that the strategy states are not looked at.
+-- What `verify` says of two lines: a strategy's text, and a certificate's. It does not check the numbers that the strategy states.
 use Rattle.std.specs.Prelude.{◌≡◌, ◌⊎◌, ℕ, List, ◌++◌, Err, codes}
 use Rattle.gs_certificate.specs.Checks.{AreSmall, IsFault}
 use Rattle.gs_certificate.specs.FaultTexts.{cert_fault_text, cert_text_fault_text}
@@ -22,12 +22,12 @@ use Rattle.gs_strategy.specs.Confirmed.{frame_of, over, raw_plan}
 use Rattle.gs_strategy.specs.Values.{IsFractionOf, FractionParts, Strategy}
 use Rattle.gs_certify.specs.Certificates.{IsCertificateOf}
 
--- the value of the plans, and each player's bound
+-- the lines of the value of the plans and of each player's bound
 abbrev pub bounds_text : FractionParts → Stated → List ℕ
 bounds_text value c = number_line (codes "value") value ++ number_line (codes "player1 at most") c.one.bound
     ++ number_line (codes "player2 at most") c.two.bound
 
--- the classes are lossless, the certificate holds of the plans, and these are their value and the bounds
+-- the classes are lossless, the game is within the limits, the certificate is valid for the plans, and the text gives their value and the bounds
 pub record IsVerified (s : Strategy) (c : Certificate) (text : List ℕ) : Type 0 where
   pub lossless : IsLossless (frame_of s) s.classes
   pub small : IsSmall (frame_of s) s.classes
@@ -37,7 +37,7 @@ pub record IsVerified (s : Strategy) (c : Certificate) (text : List ℕ) : Type 
   pub value_is : IsValue (frame_of s) (raw_plan s s.one) (raw_plan s s.two) (over value).0 (over value).1
   pub printed : text ≡ bounds_text value (certificate_view c)
 
--- the certificate does not hold, and this is the text of the first thing that is wrong with it
+-- the classes are lossless, the game is within the limits, the certificate is not valid, and this is the text of its first fault
 pub record IsUnsound (s : Strategy) (c : Certificate) (text : List ℕ) : Type 0 where
   pub lossless : IsLossless (frame_of s) s.classes
   pub small : IsSmall (frame_of s) s.classes
@@ -45,7 +45,7 @@ pub record IsUnsound (s : Strategy) (c : Certificate) (text : List ℕ) : Type 0
   pub fault : IsFault (frame_of s) s.classes (raw_plan s s.one) (raw_plan s s.two) c why
   pub told : text ≡ cert_fault_text why
 
--- what is said of a strategy and a certificate
+-- what `verify` says of a strategy and a certificate
 abbrev pub SaysChecked : Strategy → Certificate → Reply → Type 0
 SaysChecked s c (Prints text) = IsVerified s c text
 SaysChecked s c (Refuses (Unlike_pair round one two)) = IsUnlikePair s.game s.classes round one two
@@ -58,16 +58,16 @@ pub record IsTextOf (bytes : List ℕ) (c : Certificate) : Type 0 where
   pub text : bytes ≡ certificate_text (certificate_view c)
   pub small : AreSmall c
 
--- the bytes are no certificate's text, and this is the first fault
+-- the bytes are not the text of a certificate, and the reply refuses them for their first fault
 pub record IsNoText (bytes : List ℕ) (reply : Reply) : Type 0 where
   pub why : CertTextFault
   pub reads : Reads bytes (Err why)
   pub told : reply ≡ Refuses (Bad_certificate (cert_text_fault_text why))
 
--- what is said of a strategy and the bytes of a certificate
+-- what `verify` says of a strategy and the bytes of a certificate
 abbrev pub SaysVerified : List ℕ → Strategy → Reply → Type 0
 SaysVerified bytes s reply = IsNoText bytes reply ⊎ ((c : Certificate) × IsTextOf bytes c × SaysChecked s c reply)
 
--- what `verify` says of two files: the bytes up to the first line feed with it, and those behind it
+-- what `verify` says of two files: the bytes up to and with the first line feed, and the bytes after it
 abbrev pub Verifies : List ℕ → Reply → Type 0
 Verifies bytes = OfStrategy (SaysVerified (first_line bytes).1) (first_line bytes).0

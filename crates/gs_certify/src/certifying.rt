@@ -12,7 +12,7 @@ use gs_seq::Abstract;
 use gs_strategy::Stored;
 use std::alloc::{AllocError, Global};
 
-/// A strategy's text in version 2, and behind it the text of its certificate.
+/// Returns a strategy's text in version 2, followed by the text of its certificate.
 pub(crate) fn certified_text(
     alloc: Global,
     stored: &Stored,

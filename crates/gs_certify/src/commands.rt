@@ -14,7 +14,7 @@ use gs_reply::{Answer, Which, stored_or_refusal};
 use gs_strategy::Stored;
 use std::alloc::{AllocError, Global};
 
-/// The strategy file's text in version 2 and its certificate, where its numbers are those of its plans; or why it is refused.
+/// Returns the strategy's text in version 2 and its certificate, if the strategy is confirmed; or the refusal.
 pub fn certify_answer(alloc: Global, bytes: &[u8]) -> Result<Answer, AllocError>
     ensures { IfOk result (Answers (Certifies bytes.now)) }
 {
@@ -24,7 +24,7 @@ pub fn certify_answer(alloc: Global, bytes: &[u8]) -> Result<Answer, AllocError>
     }
 }
 
-// A strategy, and the bytes of its certificate.
+// Returns the answer of `verify` for a strategy and the bytes of its certificate.
 fn with_second(alloc: Global, stored: &Stored, bytes: &[u8]) -> Result<Answer, AllocError>
     ensures { IfOk result (Answers (SaysVerified bytes.now (stored_view stored.now))) }
 {
@@ -35,8 +35,8 @@ fn with_second(alloc: Global, stored: &Stored, bytes: &[u8]) -> Result<Answer, A
     }
 }
 
-/// The value of a strategy's plans and the bounds of its certificate, where that holds; or why the strategy or the certificate is refused. The strategy
-/// file stands before the first line feed and with it, and the certificate behind.
+/// Returns the value of a strategy's plans and the bounds of its certificate, if the certificate is valid; or the refusal of the strategy or of the
+/// certificate. The strategy file ends with the first line feed, and the certificate follows.
 pub fn verify_answer(alloc: Global, bytes: &[u8]) -> Result<Answer, AllocError>
     ensures { IfOk result (Answers (Verifies bytes.now)) }
 {

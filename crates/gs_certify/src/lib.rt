@@ -1,5 +1,5 @@
-//! The commands `certify` and `verify`: a strategy's certificate is made and printed behind its text, and such two lines are checked by one who need
-//! not trust their maker.
+//! The commands `certify` and `verify`. The first prints a strategy's text and its certificate. The second checks such two lines without trusting who made
+//! them.
 #![tactic(auto)]
 
 mod certifying;

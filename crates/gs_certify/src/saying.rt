@@ -1,4 +1,4 @@
-//! What is said of a strategy by the task, once its classes and its size are looked at, and for `certify` its numbers.
+//! The answers of both commands for a strategy, once its classes and its size are checked, and for `certify` its numbers.
 
 ghost use Rattle.std.specs.Prelude.{IfOk};
 ghost use Rattle.gs_model.specs.Lossless.{IsLossless};
@@ -18,7 +18,7 @@ use gs_strategy::Stored;
 use gs_tree::Signals;
 use std::alloc::{AllocError, Global};
 
-// The text of a strategy and its certificate.
+// Returns the text of a strategy and its certificate.
 fn certified(alloc: Global, stored: &Stored, form: &Abstract) -> Result<Answer, AllocError>
     requires { Holds form.now.lossless.now stored.now }
     ensures { IfOk result (Answers (SaysCertified (stored_view stored.now))) }
@@ -27,7 +27,7 @@ fn certified(alloc: Global, stored: &Stored, form: &Abstract) -> Result<Answer, 
     Ok(Answer::Prints(text))
 }
 
-// The certificate of a strategy whose numbers are those of its plans.
+// Returns the text of a confirmed strategy and its certificate, or the refusal of wrong numbers.
 fn confirmed(alloc: Global, stored: &Stored, form: &Abstract) -> Result<Answer, AllocError>
     requires { IsFormOf stored.now form.now }
     ensures { IfOk result (Answers (OfConfirmed SaysCertified (stored_view stored.now))) }
@@ -38,7 +38,7 @@ fn confirmed(alloc: Global, stored: &Stored, form: &Abstract) -> Result<Answer, 
     }
 }
 
-// A strategy whose classes are lossless: its game is to be small.
+// Returns the answer for a strategy whose classes are lossless, or the refusal of a game that is too large.
 fn of_lossless(
     alloc: Global,
     task: &Task<'_>,
@@ -59,7 +59,7 @@ fn of_lossless(
     }
 }
 
-/// A strategy that was read: its classes are to be lossless and its game small before the task is done.
+/// Returns the answer for a strategy that was read, or the refusal of classes that are not lossless or of a game that is too large.
 pub(crate) fn of_strategy(
     alloc: Global,
     task: &Task<'_>,

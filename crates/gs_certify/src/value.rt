@@ -9,7 +9,7 @@ use gs_best::{deal_weight, fraction, round_total};
 use gs_frac::Fraction;
 use gs_seq::{Abstract, Plan};
 
-// The weight of all deals times both totals.
+// Returns the weight of all deals times both totals.
 fn scale_of(weight: u64, one: u64, two: u64) -> u128
     requires weight { (0 < weight) × (weight ≤ 2 ^ 26) }
     requires one { (0 < one) × (one ≤ 2 ^ 36) }
@@ -21,7 +21,8 @@ fn scale_of(weight: u64, one: u64, two: u64) -> u128
     u128::from(weight * one) * u128::from(two)
 }
 
-/// What a plan of player 1 and a plan of player 2 pay player 1, from that in chips: over the weight of all deals and both totals.
+/// Returns the value of a plan of player 1 and a plan of player 2 to player 1, in chips. This is the payoff `paid` over the weight of all deals times both
+/// totals.
 pub fn value_of(form: &Abstract, one: &Plan, two: &Plan, paid: i128) -> Fraction
     requires one { IsPlanOf (frame_of form.now) (lists_of form.now) 1 one.now }
     requires two { IsPlanOf (frame_of form.now) (lists_of form.now) 2 two.now }

@@ -1,4 +1,4 @@
-//! A certificate beside the plans of a strategy.
+//! Checking a certificate against the plans of a strategy.
 
 ghost use Rattle.std.specs.Prelude.{◌≡◌, IfOk};
 ghost use Rattle.gs_certificate.specs.{Checks.{AreSmall}, FaultTexts.{cert_fault_text as text_of_fault, cert_text_fault_text as text_of_text_fault}};
@@ -18,7 +18,7 @@ use gs_seq::Abstract;
 use gs_strategy::Stored;
 use std::alloc::{AllocError, Global};
 
-// The value of two plans, and each player's bound.
+// Returns the lines of the value of two plans and of each player's bound.
 fn bounds_text(alloc: Global, value: &Fraction, c: &Certificate) -> Result<Vec<u8>, AllocError>
     ensures { IfOk result (λ text. text.items ≡ text_of_bounds (parts_of value.now) (certificate_view c.now)) }
 {
@@ -29,7 +29,7 @@ fn bounds_text(alloc: Global, value: &Fraction, c: &Certificate) -> Result<Vec<u
     Ok(text.into_bytes())
 }
 
-// The refusal of a certificate that does not hold.
+// Returns the refusal of a certificate that is not valid.
 fn unsound(alloc: Global, fault: &CertFault) -> Result<Answer, AllocError>
     ensures { IfOk result (λ a. Tells a (Bad_certificate (text_of_fault fault.now))) }
 {
@@ -37,7 +37,7 @@ fn unsound(alloc: Global, fault: &CertFault) -> Result<Answer, AllocError>
     bad_certificate(alloc, &why)
 }
 
-/// The refusal of bytes that are no certificate's text.
+/// Returns the refusal of bytes that are not the text of a certificate.
 pub(crate) fn no_text(alloc: Global, fault: &CertTextFault) -> Result<Answer, AllocError>
     ensures { IfOk result (λ a. Tells a (Bad_certificate (text_of_text_fault fault.now))) }
 {
@@ -45,7 +45,7 @@ pub(crate) fn no_text(alloc: Global, fault: &CertTextFault) -> Result<Answer, Al
     bad_certificate(alloc, &why)
 }
 
-/// The value of a strategy's plans and the bounds of a certificate, where it holds; or the first thing that is wrong with it.
+/// Returns the value of a strategy's plans and the bounds of a certificate, if it is valid; or the refusal with its first fault.
 pub(crate) fn checked(
     alloc: Global,
     stored: &Stored,

@@ -11,22 +11,22 @@ use Rattle.gs_strategy.specs.Values.{Numbers, FractionParts, Strategy}
 use Rattle.gs_reply.specs.VerdictText.{verdict_text}
 use Rattle.gs_compare.specs.Judging.{AreHands, AreJudged, hands_text}
 
--- what is said of the numbers of two strategies of one game, where it has at most 16,777,216 raw cells; a game with more is too large
+-- `says` holds of the value and gaps of two strategies and the reply, if the game has at most 16,777,216 raw cells; a game with more is refused as too large
 abbrev pub OnRawCards : (Numbers → Reply → Type 0) → Strategy → Strategy → Reply → Type 0
 OnRawCards says one two reply =
     ((raw_cell_count (frame_of one) ≤ 16777216) × ((n : Numbers) × AreJudged one two n × says n reply))
     ⊎ ((16777216 < raw_cell_count (frame_of one)) × (reply ≡ Refuses (Too_large (Raw_cells (raw_cell_count (frame_of one))))))
 
--- the value and the gaps of a strategy's plans, a line each
+-- the reply prints the value and the gaps of a strategy's plans, a line each
 abbrev pub SaysJudged : Strategy → Reply → Type 0
 SaysJudged s = OnRawCards (λ n reply. reply ≡ Prints (verdict_text n)) s s
 
--- the value and the gaps of two strategies, and what each raw signal of round 1 is worth, a line each
+-- the reply prints the value and the gaps of two strategies, and the value of each raw signal of round 1, a line each
 abbrev pub SaysHands : Strategy → Strategy → Reply → Type 0
 SaysHands one two = OnRawCards (λ n reply. (hands : List FractionParts) × AreHands one two hands
     × (reply ≡ Prints (verdict_text n ++ hands_text one.game.deck (rules_of one.game) hands))) one two
 
--- what `duel` says of two strategies: of one game their numbers and the hands, of two games a refusal
+-- what `duel` says of two strategies: for one game their numbers and the values of the hands, for two different games a refusal
 abbrev pub SaysDuel : Strategy → Strategy → Reply → Type 0
 SaysDuel one two reply = ((one.game ≢ two.game) × (reply ≡ Refuses Other_game)) ⊎ ((one.game ≡ two.game) × SaysHands one two reply)
 
@@ -36,6 +36,6 @@ SaysDuel one two reply = ((one.game ≢ two.game) × (reply ≡ Refuses Other_ga
 abbrev pub Judges : List ℕ → Reply → Type 0
 Judges = OfFile Only SaysJudged
 
--- the first file is one line; the first file's fault is told before the second's
+-- what `duel` says of bytes: the first file ends with the first line feed, and the second follows; a fault of the first file comes before one of the second
 abbrev pub Duels : List ℕ → Reply → Type 0
 Duels bytes = OfFile First (λ one. OfFile Second (SaysDuel one) (first_line bytes).1) (first_line bytes).0

@@ -15,7 +15,7 @@ use Rattle.gs_strategy.specs.Confirmed.{frame_of, over, raw_plan}
 use Rattle.gs_strategy.specs.Values.{IsFractionOf, Numbers, FractionParts, Strategy, Weights}
 use Rattle.gs_tree.specs.Texts.{signal_text}
 
--- the plan over a strategy's classes that weights are
+-- the weights as a plan over the strategy's classes
 abbrev pub plan_in : Strategy → Weights → Plan
 plan_in s w = plan_of (frame_of s) s.classes w.total w.weights
 
@@ -26,12 +26,12 @@ pub record AreJudged (one two : Strategy) (n : Numbers) : Type 0 where
   pub gap2 : IsFractionOf n.gap2
   pub verdict : IsJudgedVerdict (frame_of one) one.classes (plan_in one one.one) two.classes (plan_in two two.two) (over n.value) (over n.gap1) (over n.gap2)
 
--- a reduced fraction that is what a raw signal of round 1 is worth to player 1
+-- the reduced fraction is the value of a raw signal of round 1 to player 1
 pub record IsHand (one two : Strategy) (signal : ℕ) (p : FractionParts) : Type 0 where
   pub reduced : IsFractionOf p
   pub value : IsHandValue (frame_of one) (raw_plan one one.one) (raw_plan two two.two) signal (over p).0 (over p).1
 
--- so of each raw signal of round 1, in order
+-- the values of all raw signals of round 1, in order
 pub record AreHands (one two : Strategy) (hands : List FractionParts) : Type 0 where
   pub long : length hands ≡ signal_count (frame_of one) 1
   pub each : (signal : ℕ) (d : FractionParts) → signal < signal_count (frame_of one) 1 → IsHand one two signal (get_or hands signal d)
@@ -40,6 +40,6 @@ pub record AreHands (one two : Strategy) (hands : List FractionParts) : Type 0 w
 abbrev pub hand_line : DeckValue → Game → ℕ → FractionParts → List ℕ
 hand_line d g signal p = number_line (codes "hand " ++ signal_text d (signal_at g 1 signal)) p
 
--- these lines of all of them
+-- the lines of all raw signals of round 1
 abbrev pub hands_text : DeckValue → Game → List FractionParts → List ℕ
 hands_text d g hands = flat_map (λ signal. hand_line d g signal (get_or hands signal (pos 0, pos 1))) (range_with_len 0 (length hands))

@@ -11,8 +11,8 @@ use gs_reply::{Answer, Which, stored_or_refusal};
 use gs_strategy::Stored;
 use std::alloc::{AllocError, Global};
 
-/// What the plans of a strategy file pay, and what each player could still gain on raw cards by any plan, whether its classes lose something or not;
-/// or why the file is refused.
+/// Returns the value of the plans of a strategy file and what each player could still gain by any raw plan, whether the classes are lossless or not;
+/// or the refusal.
 pub fn judge_answer(alloc: Global, bytes: &[u8]) -> Result<Answer, AllocError>
     ensures { IfOk result (Answers (Judges bytes.now)) }
 {
@@ -22,7 +22,7 @@ pub fn judge_answer(alloc: Global, bytes: &[u8]) -> Result<Answer, AllocError>
     }
 }
 
-// What a duel of a strategy with that of a second file is answered.
+// Returns the answer of `duel` for a strategy and the bytes of the second file.
 fn against(alloc: Global, one: &Stored, bytes: &[u8]) -> Result<Answer, AllocError>
     ensures { IfOk result (Answers (OfFile Second (SaysDuel (stored_view one.now)) bytes.now)) }
 {
@@ -32,8 +32,8 @@ fn against(alloc: Global, one: &Stored, bytes: &[u8]) -> Result<Answer, AllocErr
     }
 }
 
-/// What player 1's plan of one strategy file pays against player 2's of a second one, which stands behind it, what each player could still gain on raw
-/// cards by any plan, and what each raw signal of round 1 is worth; or why the files are refused.
+/// Returns the value of player 1's plan of one strategy file against player 2's of a second one after it, what each player could still gain by any raw
+/// plan, and the value of each raw signal of round 1; or the refusal.
 pub fn duel_answer(alloc: Global, bytes: &[u8]) -> Result<Answer, AllocError>
     ensures { IfOk result (Answers (Duels bytes.now)) }
 {

@@ -1,4 +1,4 @@
-//! Whether two games are one.
+//! Comparing two games.
 
 ghost use Rattle.std.specs.Prelude.{◌≡◌, ◌↔◌, IfOk, IsTrue, map};
 ghost use Rattle.gs_bet.specs.TreeView.{plain};
@@ -11,7 +11,7 @@ use gs_card::{Deck, Ranking};
 use gs_game::{Game, Round, ValidGame};
 use std::alloc::{AllocError, Global};
 
-// Whether two trees are the same.
+// Returns whether two trees are equal.
 fn same_tree(alloc: Global, one: &BetTree, two: &BetTree) -> Result<bool, AllocError>
     ensures { IfOk result (λ b. IsTrue b ↔ (plain one.now.tree ≡ plain two.now.tree)) }
 {
@@ -20,7 +20,7 @@ fn same_tree(alloc: Global, one: &BetTree, two: &BetTree) -> Result<bool, AllocE
     Ok(first.as_bytes() == second.as_bytes())
 }
 
-// Whether two rounds are the same.
+// Returns whether two rounds are equal.
 fn same_round(alloc: Global, one: &Round, two: &Round) -> Result<bool, AllocError>
     ensures { IfOk result (λ b. IsTrue b ↔ (round_of one.now ≡ round_of two.now)) }
 {
@@ -30,7 +30,7 @@ fn same_round(alloc: Global, one: &Round, two: &Round) -> Result<bool, AllocErro
     same_tree(alloc, &one.tree, &two.tree)
 }
 
-// Whether two lists of rounds are the same.
+// Returns whether two lists of rounds are equal.
 fn same_rounds(alloc: Global, one: &[Round], two: &[Round]) -> Result<bool, AllocError>
     ensures { IfOk result (λ b. IsTrue b ↔ (map round_of one.now ≡ map round_of two.now)) }
 {
@@ -45,21 +45,21 @@ fn same_rounds(alloc: Global, one: &[Round], two: &[Round]) -> Result<bool, Allo
     Ok(true)
 }
 
-// Whether two decks are the same.
+// Returns whether two decks are equal.
 fn same_deck(one: &Deck, two: &Deck) -> bool
     ensures { IsTrue result ↔ (one.now ≡ two.now) }
 {
     one.ranks() == two.ranks() && one.suits() == two.suits() && one.counts() == two.counts()
 }
 
-// Whether two rankings are the same.
+// Returns whether two rankings are equal.
 fn same_ranking(one: Ranking, two: Ranking) -> bool
     ensures { IsTrue result ↔ (ranking_of one ≡ ranking_of two) }
 {
     one == two
 }
 
-// Whether two games are the same but for their rounds.
+// Returns whether two games are equal but for their rounds.
 fn same_terms(one: &Game, two: &Game) -> bool
     ensures { IsTrue result ↔ ((one.now.deck ≡ two.now.deck) × (ranking_of one.now.ranking ≡ ranking_of two.now.ranking)
         × (one.now.bonus.items ≡ two.now.bonus.items) × (one.now.ante ≡ two.now.ante)) }
@@ -70,7 +70,7 @@ fn same_terms(one: &Game, two: &Game) -> bool
         && one.ante == two.ante
 }
 
-/// Whether two games are one game.
+/// Returns whether two games are equal.
 pub(crate) fn same_game(alloc: Global, one: &ValidGame, two: &ValidGame) -> Result<bool, AllocError>
     ensures { IfOk result (λ b. IsTrue b ↔ (valid_view one.now ≡ valid_view two.now)) }
 {

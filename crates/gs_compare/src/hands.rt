@@ -1,4 +1,4 @@
-//! What the raw signals of round 1 are worth, as lines.
+//! Writing the lines of the values of the raw signals of round 1.
 
 ghost use Rattle.std.specs.Prelude.{◌≡◌, ◌++◌, ◌<◌, IfOk, OnOk, length, map, string_bytes};
 ghost use Rattle.gs_compare.specs.Judging.{hand_line, hands_text as text_of_hands};
@@ -10,7 +10,7 @@ use gs_frac::{Fraction, push_line};
 use gs_tree::Signals;
 use std::alloc::{AllocError, Global};
 
-// Adds the line of a raw signal of round 1.
+// Adds the line of a raw signal of round 1, with its value.
 fn push_hand(
     text: &mut String,
     alloc: Global,
@@ -28,7 +28,7 @@ fn push_hand(
     push_line(text, signals.text(alloc, 1, signal)?.as_str(), value)
 }
 
-// The lines of all raw signals of round 1.
+// Returns the lines of all raw signals of round 1, with their values.
 fn hands_text(alloc: Global, signals: &Signals, values: &[Fraction]) -> Result<String, AllocError>
     requires { length values.now ≡ length (signals_in (rules_of signals.now) 1) }
     ensures { IfOk result (λ t. string_bytes t ≡ text_of_hands (deck_of signals.now) (rules_of signals.now) (map parts_of values.now)) }
@@ -42,7 +42,7 @@ fn hands_text(alloc: Global, signals: &Signals, values: &[Fraction]) -> Result<S
     Ok(text)
 }
 
-/// Adds the lines of all raw signals of round 1, with what each is worth.
+/// Adds the lines of all raw signals of round 1, with their values.
 pub(crate) fn push_hands(
     text: &mut Vec<u8>,
     alloc: Global,

@@ -1,4 +1,4 @@
-//! Strategies that were read, judged on raw cards.
+//! Judging strategies that were read on raw cards.
 
 ghost use Rattle.std.specs.Prelude.{◌≡◌, IfOk};
 ghost use Rattle.gs_compare.specs.Commands.{SaysDuel, SaysHands, SaysJudged};
@@ -14,7 +14,7 @@ use gs_strategy::Stored;
 use gs_tree::Signals;
 use std::alloc::{AllocError, Global};
 
-/// What the plans of a strategy are answered: their value and gaps on raw cards.
+/// Returns the answer of `judge` for a strategy: the value and gaps of its plans on raw cards, or the refusal of too many raw cells.
 pub(crate) fn judged(alloc: Global, stored: &Stored) -> Result<Answer, AllocError>
     ensures { IfOk result (Answers (SaysJudged (stored_view stored.now))) }
 {
@@ -32,7 +32,8 @@ pub(crate) fn judged(alloc: Global, stored: &Stored) -> Result<Answer, AllocErro
     }
 }
 
-// What two strategies of one game are answered: the value and gaps of player 1's plan of the first against player 2's of the second, and the hands.
+// Returns the answer of `duel` for two strategies of one game: the value and gaps of player 1's plan of the first against player 2's of the second, and the
+// value of each raw signal of round 1.
 fn fought(alloc: Global, one: &Stored, two: &Stored) -> Result<Answer, AllocError>
     requires { valid_view one.now.game ≡ valid_view two.now.game }
     ensures { IfOk result (Answers (SaysHands (stored_view one.now) (stored_view two.now))) }
@@ -56,7 +57,7 @@ fn fought(alloc: Global, one: &Stored, two: &Stored) -> Result<Answer, AllocErro
     }
 }
 
-/// What two strategies are answered.
+/// Returns the answer of `duel` for two strategies, or the refusal of two different games.
 pub(crate) fn dueled(alloc: Global, one: &Stored, two: &Stored) -> Result<Answer, AllocError>
     ensures { IfOk result (Answers (SaysDuel (stored_view one.now) (stored_view two.now))) }
 {

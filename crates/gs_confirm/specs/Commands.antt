@@ -12,23 +12,23 @@ use Rattle.gs_reply.specs.VerdictText.{verdict_text}
 use Rattle.gs_confirm.specs.Queries.{IsBadQuery, IsQueried}
 use Rattle.gs_confirm.specs.Troubles.{IsTrouble}
 
--- what is said of the bytes of the only strategy file of a command
+-- the reply to the bytes of the only strategy file of a command
 abbrev pub OfStrategy : (Strategy → Reply → Type 0) → List ℕ → Reply → Type 0
 OfStrategy = OfFile Only
 
--- what is said of a strategy that is confirmed; one that is not is refused for its first trouble
+-- `says` holds of a confirmed strategy and the reply; a strategy that is not confirmed is refused for its first trouble
 abbrev pub OfConfirmed : (Strategy → Reply → Type 0) → Strategy → Reply → Type 0
 OfConfirmed says s reply = (IsConfirmed s × says s reply) ⊎ ((why : Refusal) × IsTrouble s why × (reply ≡ Refuses why))
 
--- the three lines of its numbers
+-- the reply prints the three lines of the strategy's numbers
 abbrev pub SaysNumbers : Strategy → Reply → Type 0
 SaysNumbers s reply = reply ≡ Prints (verdict_text s.numbers)
 
--- its text in version 2
+-- the reply prints the strategy's text in version 2
 abbrev pub SaysUpgraded : Strategy → Reply → Type 0
 SaysUpgraded s reply = reply ≡ Prints (strategy_text Two s)
 
--- what a player does at the spot that texts name, or why they name none
+-- the reply prints the player's mixture at the information set that the texts name, or refuses texts that name none
 abbrev pub SaysQueried : ℕ → List ℕ → List ℕ → Strategy → Reply → Type 0
 SaysQueried player line signal s reply =
     ((text : List ℕ) × IsQueried s player line signal text × (reply ≡ Prints text))
@@ -40,10 +40,10 @@ SaysQueried player line signal s reply =
 abbrev pub Evaluates : List ℕ → Reply → Type 0
 Evaluates = OfStrategy (OfConfirmed SaysNumbers)
 
--- what `upgrade` says of them
+-- what `upgrade` says of the bytes of a strategy file
 abbrev pub Upgrades : List ℕ → Reply → Type 0
 Upgrades = OfStrategy (OfConfirmed SaysUpgraded)
 
--- what `query` says of them, by its words
+-- what `query` says of the bytes of a strategy file, for its player, line and signal
 abbrev pub Queries : ℕ → List ℕ → List ℕ → List ℕ → Reply → Type 0
 Queries player line signal = OfStrategy (OfConfirmed (SaysQueried player line signal))

@@ -1,4 +1,4 @@
--- A game in sequence form is that of a strategy that was read.
+-- The game in sequence form of a strategy that was read.
 use Rattle.std.specs.Prelude.{◌≡◌}
 use Rattle.gs_lossless.specs.declared.checking.Lossless.{Lossless}
 use Rattle.gs_model.specs.Lossless.{IsLossless}
@@ -13,7 +13,7 @@ pub record Holds (l : Lossless) (s : Stored) : Type 0 where
   pub game : l.signals.now.game.now ≡ s.game
   pub classes : l.classes.now ≡ s.classes
 
--- the game in sequence form is that of a strategy with lossless classes whose game is small
+-- the game in sequence form is that of the strategy, whose classes are lossless and whose game is within the limits
 pub record IsFormOf (s : Stored) (a : Abstract) : Type 0 where
   pub held : Holds a.lossless.now s
   pub lossless : IsLossless (frame_of (stored_view s)) s.classes.lists

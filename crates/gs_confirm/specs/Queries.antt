@@ -1,4 +1,4 @@
--- What a query of a strategy asks for: the spot that its words name, and what the player does there.
+-- What a query of a strategy asks for: the information set that its words name, and the player's mixture there.
 use Rattle.std.specs.Prelude.{◌≡◌, ◌≢◌, ℕ, ◌<◌, ◌≤◌, List, ◌==◌, if◌then◌else◌, Some}
 use Rattle.gs_file.specs.Reading.{FileGame, rules_of}
 use Rattle.gs_frac.specs.declared.value.Fraction.{Fraction}
@@ -14,22 +14,22 @@ use Rattle.gs_strategy.specs.Values.{FractionParts, Strategy, Weights, frame_in}
 use Rattle.gs_reply.specs.VerdictText.{mix_text}
 use Rattle.gs_tree.specs.Texts.{signal_text}
 
--- a text is the line of a point of a game
+-- the text is the line of this point of the game
 abbrev pub NamesPoint : FileGame → List ℕ → ℕ → Type 0
 NamesPoint g line q = text_at (lines (trees_of (rules_of g))) (at_point q) ≡ Some line
 
--- of a point of a player
+-- the text is the line of this point of the game, and the point is the player's
 pub record NamesOwnPoint (g : FileGame) (player : ℕ) (line : List ℕ) (q : ℕ) : Type 0 where
   pub in_range : q < point_count (frame_in g)
   pub named : NamesPoint g line q
   pub own : player_at (frame_in g) q ≡ player
 
--- a text is that of a raw signal of a round
+-- the text is that of this raw signal of the round
 pub record NamesSignal (g : FileGame) (round : ℕ) (text : List ℕ) (i : ℕ) : Type 0 where
   pub in_range : i < signal_count (frame_in g) round
   pub named : text ≡ signal_text g.deck (signal_at (rules_of g) round i)
 
--- of some round
+-- the text is that of a raw signal of some round
 abbrev pub NamesSomeSignal : FileGame → List ℕ → Type 0
 NamesSomeSignal g text = (round : ℕ) × (0 < round) × (round ≤ last_round (frame_in g)) × (i : ℕ) × NamesSignal g round text i
 
@@ -49,13 +49,13 @@ weights_of_player s player = if player == 1 then s.one else s.two
 abbrev pub gap_of_player : Strategy → ℕ → FractionParts
 gap_of_player s player = if player == 1 then s.numbers.gap1 else s.numbers.gap2
 
--- the mixture of the player's raw plan at a point and a raw signal, and then the player's gap
+-- the text is the mixture of the player's raw plan at a point and a raw signal, and then the player's gap
 pub record IsToldAt (s : Strategy) (player point place : ℕ) (text : List ℕ) : Type 0 where
   pub moves : List (ℕ × Fraction)
   pub mixture : IsMixture (frame_of s) (raw_plan s (weights_of_player s player)) point place moves
   pub printed : text ≡ mix_text moves (gap_of_player s player)
 
--- these at the point and the raw signal that the texts name
+-- the text is the mixture and the gap at the player's point and the raw signal that the texts name
 pub record IsQueried (s : Strategy) (player : ℕ) (line signal text : List ℕ) : Type 0 where
   pub point : ℕ
   pub place : ℕ

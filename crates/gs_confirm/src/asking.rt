@@ -1,8 +1,8 @@
-//! What is asked of a strategy.
+//! What a command asks of a strategy.
 
 ghost use Rattle.std.specs.Prelude.{◌<◌, ◌≤◌};
 
-/// What a player does at a point, by the text of its line, with a raw signal, by its text.
+/// A query for the mixture of a player at a point, given by the text of its line, with a raw signal, given by its text.
 #[derive(Clone, Copy)]
 pub struct Query<'w> {
     pub player: u8,
@@ -12,7 +12,7 @@ pub struct Query<'w> {
     pub ghost two: { player ≤ 2 },
 }
 
-/// What a command asks of a strategy that is confirmed.
+/// What a command asks of a confirmed strategy.
 #[derive(Clone, Copy)]
 pub enum Ask<'w> {
     Evaluate,

@@ -1,4 +1,4 @@
-//! The checks that stand before anything is said of a strategy: its classes, its size, its numbers.
+//! The checks of a strategy before a command answers: its classes, its size, its numbers.
 
 ghost use Rattle.std.specs.Prelude.{◌≡◌, IfErr, IfOk, MatchOption};
 ghost use Rattle.gs_file.specs.Views.{valid_view};
@@ -17,7 +17,7 @@ use gs_strategy::Stored;
 use gs_tree::Signals;
 use std::alloc::{AllocError, Global};
 
-/// The lossless classes of a strategy, over the signals of its game; or the refusal that names their first unlike pair.
+/// Returns the classes of a strategy as lossless ones over the signals of its game, or the refusal with their first unlike pair.
 pub fn lossless_of<'a>(
     alloc: Global,
     stored: &'a Stored,
@@ -35,7 +35,7 @@ pub fn lossless_of<'a>(
     }
 }
 
-/// The game of a strategy in sequence form over its classes, or the refusal of a game that is too large.
+/// Returns the game of a strategy in sequence form over its classes, or the refusal of a game that is too large.
 pub fn form_of<'a>(
     alloc: Global,
     stored: &Stored,
@@ -52,7 +52,7 @@ pub fn form_of<'a>(
     }
 }
 
-/// The refusal that names the first number that a strategy states otherwise than its plans have it; none where it is confirmed.
+/// Returns the refusal with the first stated number that differs from the computed one, or `None` if the strategy is confirmed.
 pub fn wrong_of(
     alloc: Global,
     stored: &Stored,

@@ -9,7 +9,7 @@ use crate::confirming::of_strategy;
 use gs_reply::{Answer, Which, stored_or_refusal};
 use std::alloc::{AllocError, Global};
 
-// What a command answers to the bytes of a strategy file.
+// Returns the answer of a command to the bytes of a strategy file.
 fn answered(alloc: Global, ask: &Ask<'_>, bytes: &[u8]) -> Result<Answer, AllocError>
     ensures { IfOk result (Answers (OfStrategy (OfConfirmed (says_of ask.now)) bytes.now)) }
 {
@@ -19,14 +19,15 @@ fn answered(alloc: Global, ask: &Ask<'_>, bytes: &[u8]) -> Result<Answer, AllocE
     }
 }
 
-/// The value and the gaps that the strategy file states, where they are those of its plans; or why it is refused.
+/// Returns the value and the gaps that the strategy file states, if the strategy is confirmed; or the refusal.
 pub fn evaluate_answer(alloc: Global, bytes: &[u8]) -> Result<Answer, AllocError>
     ensures { IfOk result (Answers (Evaluates bytes.now)) }
 {
     answered(alloc, &Ask::Evaluate, bytes)
 }
 
-/// What a player does at the point and the raw signal that two texts name, and the player's gap; or why the file or the texts are refused.
+/// Returns the mixture of a player at the point and the raw signal that the two texts name, and the player's gap; or the refusal of the file or of the
+/// texts.
 pub fn query_answer(
     alloc: Global,
     player: u8,
@@ -46,7 +47,7 @@ pub fn query_answer(
     answered(alloc, &Ask::Query(query), bytes)
 }
 
-/// The text in version 2 of what the strategy file holds, where its numbers are those of its plans; or why it is refused.
+/// Returns the text in version 2 of the strategy, if it is confirmed; or the refusal.
 pub fn upgrade_answer(alloc: Global, bytes: &[u8]) -> Result<Answer, AllocError>
     ensures { IfOk result (Answers (Upgrades bytes.now)) }
 {

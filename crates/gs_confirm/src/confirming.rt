@@ -1,4 +1,4 @@
-//! The way from a strategy that was read to what is said of it, where it is confirmed.
+//! Confirming a strategy that was read, and answering a command.
 
 ghost use Rattle.std.specs.Prelude.{IfOk};
 ghost use Rattle.gs_strategy.specs.Views.{stored_view};
@@ -13,7 +13,8 @@ use gs_strategy::Stored;
 use gs_tree::Signals;
 use std::alloc::{AllocError, Global};
 
-/// A strategy that was read: its classes are to be lossless, its game small and its numbers those of its plans, before what is asked is said.
+/// Returns the answer of a command for a strategy that was read. It answers only if the classes are lossless, the game is within the limits and the numbers
+/// are those of the plans; otherwise it returns the first refusal.
 pub fn of_strategy(alloc: Global, ask: &Ask<'_>, stored: &Stored) -> Result<Answer, AllocError>
     ensures { IfOk result (Answers (OfConfirmed (says_of ask.now) (stored_view stored.now))) }
 {

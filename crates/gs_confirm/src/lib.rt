@@ -1,4 +1,4 @@
-//! The commands that read a strategy file: its classes are looked at and its numbers computed again before anything is said of it.
+//! The commands that read a strategy file. They check its classes and compute its numbers again before they answer.
 #![tactic(auto)]
 
 mod asking;

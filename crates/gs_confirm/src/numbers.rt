@@ -1,4 +1,4 @@
-//! Stated numbers beside those that were found.
+//! Comparing stated numbers with computed ones.
 
 ghost use Rattle.std.specs.Prelude.{◌≡◌, ◌↔◌, IsTrue, MatchOption};
 ghost use Rattle.gs_confirm.specs.Troubles.{IsFirstWrong};
@@ -6,7 +6,7 @@ ghost use Rattle.gs_strategy.specs.Views.{numbers_of, parts_of};
 
 use gs_frac::{Fraction, Verdict};
 
-/// A number by its name, as it is stated and as it was found.
+/// A number with its name, as it is stated and as it was computed.
 #[derive(Clone, Copy)]
 pub(crate) struct Wrong {
     pub name: &'static str,
@@ -14,14 +14,14 @@ pub(crate) struct Wrong {
     pub found: Fraction,
 }
 
-// Whether two fractions have the same parts.
+// Returns whether two fractions have the same numerator and the same denominator.
 fn are_same(one: &Fraction, two: &Fraction) -> bool
     ensures { IsTrue result ↔ (parts_of one.now ≡ parts_of two.now) }
 {
     one.num == two.num && one.den == two.den
 }
 
-// A number by its name.
+// Returns a number with its name.
 fn named(name: &'static str, stated: &Fraction, found: &Fraction) -> Wrong
     ensures name { result.name.now ≡ name.entry.now }
     ensures stated { parts_of result.stated ≡ parts_of stated.now }
@@ -34,7 +34,7 @@ fn named(name: &'static str, stated: &Fraction, found: &Fraction) -> Wrong
     }
 }
 
-/// The first of the three numbers that is stated otherwise than it was found.
+/// Returns the first of the three stated numbers that differs from the computed one.
 pub(crate) fn first_wrong(stated: &Verdict, found: &Verdict) -> Option<Wrong>
     ensures { MatchOption result (numbers_of stated.now ≡ numbers_of found.now)
         (λ w. IsFirstWrong (numbers_of stated.now) (numbers_of found.now) w.name.now (parts_of w.stated) (parts_of w.found)) }

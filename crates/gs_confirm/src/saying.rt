@@ -1,4 +1,4 @@
-//! What is said of a strategy that is confirmed.
+//! The answers for a confirmed strategy.
 
 ghost use Rattle.std.specs.Prelude.{◌≡◌, ◌<◌, ◌==◌, IfOk, if◌then◌else◌};
 ghost use Rattle.gs_confirm.specs.{Asking.{says_of}, Commands.{SaysUpgraded}, Held.{Holds}, Queries.{IsToldAt}};
@@ -15,7 +15,7 @@ use gs_seq::{Abstract, Plan};
 use gs_strategy::Stored;
 use std::alloc::{AllocError, Global};
 
-// A player's plan.
+// Returns a player's plan.
 fn plan_of(stored: &Stored, player: u8) -> &Plan
     ensures { result.now ≡ (if player == 1 then stored.now.one else stored.now.two) }
 {
@@ -26,7 +26,7 @@ fn plan_of(stored: &Stored, player: u8) -> &Plan
     }
 }
 
-// A player's gap.
+// Returns a player's gap.
 fn gap_of(stored: &Stored, player: u8) -> &Fraction
     ensures { result.now ≡ (if player == 1 then stored.now.verdict.gap1 else stored.now.verdict.gap2) }
 {
@@ -37,7 +37,7 @@ fn gap_of(stored: &Stored, player: u8) -> &Fraction
     }
 }
 
-// What a player does at a decision point with a hand, and the player's gap.
+// Returns the text of a player's mixture at a decision point with a raw signal, and of the player's gap.
 fn told_at(
     alloc: Global,
     query: &Query<'_>,
@@ -55,7 +55,7 @@ fn told_at(
     mix_text(alloc, &mixture, gap_of(stored, query.player))
 }
 
-// The text of a strategy in version 2.
+// Returns the text of a strategy in version 2.
 fn upgraded(alloc: Global, stored: &Stored) -> Result<Answer, AllocError>
     ensures { IfOk result (Answers (SaysUpgraded (stored_view stored.now))) }
 {
@@ -63,7 +63,7 @@ fn upgraded(alloc: Global, stored: &Stored) -> Result<Answer, AllocError>
     Ok(Answer::Prints(text))
 }
 
-/// What is asked of a strategy that is confirmed.
+/// Returns the answer to what a command asks of a confirmed strategy.
 pub fn said(
     alloc: Global,
     ask: &Ask<'_>,

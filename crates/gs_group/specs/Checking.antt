@@ -20,14 +20,14 @@ IsGrouping Isomorphism g lists = IsSignalClasses g lists
 IsGrouping Coarsest g lists = (signal_classes : ClassLists) × IsSignalClasses g signal_classes × IsCoarsestLossless (frame_of g) signal_classes lists
 IsGrouping Single g lists = lists ≡ single_classes (frame_of g).parents
 
--- the text of a grouping's classes, which are lossless, or their summary
+-- the classes of the grouping are lossless, and the text is theirs or their summary
 pub record IsChecked (grouping : Grouping) (summary : Bool) (g : FileGame) (text : List ℕ) : Type 0 where
   pub classes : ClassLists
   pub are : IsGrouping grouping (rules_of g) classes
   pub lossless : IsLossless (frame_of (rules_of g)) classes
   pub printed : text ≡ told summary g.deck (rules_of g) classes
 
--- the classes of the grouping are refused by their first unlike pair: only those of ordered game isomorphism may have one
+-- the classes of the grouping are refused with their first unlike pair; only those of ordered game isomorphism may have one
 abbrev pub SaysNotLossless : Grouping → FileGame → Reply → Type 0
 SaysNotLossless grouping g reply =
     (grouping ≡ Isomorphism) × (classes : ClassLists) × IsSignalClasses (rules_of g) classes × SaysUnlike g classes reply
@@ -37,6 +37,6 @@ abbrev pub ChecksGame : Grouping → Bool → FileGame → Reply → Type 0
 ChecksGame grouping summary g (Prints text) = IsChecked grouping summary g text
 ChecksGame grouping summary g (Refuses why) = SaysNotLossless grouping g (Refuses why)
 
--- what the bytes of a game file say, by classes or their summary
+-- what `check` says of the bytes of a game file
 abbrev pub Checks : Grouping → Bool → List ℕ → Reply → Type 0
 Checks grouping summary bytes reply = OfReading (ChecksGame grouping summary) (read_at bytes) reply

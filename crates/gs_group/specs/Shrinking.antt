@@ -13,7 +13,7 @@ abbrev pub told : Bool → DeckValue → Game → ClassLists → List ℕ
 told false d g lists = class_text d g lists
 told true d g lists = summary_text g lists
 
--- the text of the signal classes of a game, those of recursive ordered game isomorphism, or their summary
+-- the text is that of the signal classes of a game, those of recursive ordered game isomorphism, or their summary
 pub record IsShrunk (summary : Bool) (g : FileGame) (text : List ℕ) : Type 0 where
   pub classes : ClassLists
   pub are : IsSignalClasses (rules_of g) classes
@@ -24,6 +24,6 @@ abbrev pub ShrinksGame : Bool → FileGame → Reply → Type 0
 ShrinksGame summary g (Prints text) = IsShrunk summary g text
 ShrinksGame summary g (Refuses why) = ⊥
 
--- what the bytes of a game file say, by their classes or their summary
+-- what `shrink` says of the bytes of a game file
 abbrev pub Shrinks : Bool → List ℕ → Reply → Type 0
 Shrinks summary bytes reply = OfReading (ShrinksGame summary) (read_at bytes) reply

@@ -13,7 +13,7 @@ use gs_tree::Signals;
 use gs_words::Grouping;
 use std::alloc::{AllocError, Global};
 
-// What `check` says of a game.
+// Returns the answer of `check` for a game.
 fn checked(
     alloc: Global,
     game: &ValidGame,
@@ -32,8 +32,8 @@ fn checked(
     }
 }
 
-/// What `check` answers to the bytes of a game file: the text of its classes in this grouping, or their summary, where they are lossless; or why it
-/// is refused.
+/// Returns the answer of `check` to the bytes of a game file: the text or the summary of the classes of this grouping, if they are lossless; or the
+/// refusal.
 pub fn check_answer(
     alloc: Global,
     bytes: &[u8],

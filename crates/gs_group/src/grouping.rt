@@ -15,7 +15,7 @@ use gs_tree::Signals;
 use gs_words::Grouping;
 use std::alloc::{AllocError, Global};
 
-// The coarsest lossless classes that refine those of ordered game isomorphism.
+// Returns the coarsest lossless classes that refine those of ordered game isomorphism.
 fn coarsest(alloc: Global, signals: &Signals) -> Result<Classes, AllocError>
     ensures grouping { IfOk result (λ c. IsGrouping Coarsest (rules_of signals.now) c.lists) }
     ensures parents { IfOk result (λ c. c.parents ≡ (frame_of (rules_of signals.now)).parents) }
@@ -24,7 +24,7 @@ fn coarsest(alloc: Global, signals: &Signals) -> Result<Classes, AllocError>
     split(alloc, signals, &classes)
 }
 
-/// The classes of a grouping.
+/// Returns the classes of a grouping.
 pub fn classes_of(
     alloc: Global,
     signals: &Signals,
@@ -40,7 +40,7 @@ pub fn classes_of(
     }
 }
 
-/// The classes of a grouping as lossless ones, or the first unlike pair. Only signal classes are compared: the others are known to be lossless.
+/// Returns the classes of a grouping as lossless ones, or their first unlike pair. Only signal classes are compared: the others are known to be lossless.
 pub fn lossless_of<'a>(
     alloc: Global,
     signals: &'a Signals<'a>,

@@ -11,7 +11,7 @@ use gs_reply::{Answer, game_or_refusal};
 use gs_tree::Signals;
 use std::alloc::{AllocError, Global};
 
-// The text of the signal classes of a game, or their summary.
+// Returns the text of the signal classes of a game, or their summary.
 fn shrunk(alloc: Global, game: &ValidGame, summary: bool) -> Result<Vec<u8>, AllocError>
     ensures { IfOk result (λ text. IsShrunk summary (valid_view game.now) text.items) }
 {
@@ -20,7 +20,7 @@ fn shrunk(alloc: Global, game: &ValidGame, summary: bool) -> Result<Vec<u8>, All
     told(alloc, &signals, &classes, summary)
 }
 
-/// What `shrink` answers to the bytes of a game file: the text of its signal classes, or their summary; or why it is refused.
+/// Returns the answer of `shrink` to the bytes of a game file: the text or the summary of its signal classes, or the refusal.
 pub fn shrink_answer(alloc: Global, bytes: &[u8], summary: bool) -> Result<Answer, AllocError>
     ensures { IfOk result (Answers (Shrinks summary bytes.now)) }
 {

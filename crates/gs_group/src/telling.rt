@@ -10,7 +10,7 @@ use gs_text::{class_text, summary_text};
 use gs_tree::Signals;
 use std::alloc::{AllocError, Global};
 
-/// The text of classes, or their summary.
+/// Returns the text of classes, or their summary.
 pub(crate) fn told(
     alloc: Global,
     signals: &Signals,

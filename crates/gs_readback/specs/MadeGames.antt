@@ -10,13 +10,13 @@ use Rattle.gs_made.specs.declared.kind.Kind.TheVariants.{Kuhn, Leduc, Rhode}
 use Rattle.gs_model.specs.Game.{Round, Ranking, High, Pair, Three}
 use Rattle.gs_model.specs.Outcome.{categories}
 
--- how a kind of game ranks hands
+-- the ranking of hands in a kind of game
 abbrev pub ranking_for : Kind → Ranking
 ranking_for Kuhn = High
 ranking_for Leduc = Pair
 ranking_for Rhode = Three
 
--- a round by its numbers of private and public cards, with limit betting of this bet
+-- a round with these numbers of private and public cards, and limit betting with this bet and `cap`
 abbrev pub round_for : ℕ → ℕ × ℕ × ℕ → Round
 round_for cap r = record { private = r.0; public = r.1; tree = limit_bet r.2 cap }
 
@@ -30,7 +30,7 @@ game_for kind ranks suits cap = record {
   rounds = map (round_for cap) (rounds_of kind);
 }
 
--- a made game file is read back as the game that its words ask for, wherever that game keeps the rules
+-- a made game file is read back as the game that its words ask for, if that game keeps the rules
 abbrev pub MadeFilesAreReadBack : Type 0
 MadeFilesAreReadBack =
     (kind : Kind) (ranks suits cap : ℕ) → 1 ≤ ranks → ranks ≤ 13 → 1 ≤ suits → suits ≤ 4 → cap ≤ 8

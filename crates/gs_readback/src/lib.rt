@@ -1,4 +1,4 @@
-//! Made game files beside the reader of game files: a law over both. It runs nothing.
+//! A law about made game files and the reader of game files. No code runs.
 #![tactic(auto)]
 
 mod laws;

@@ -1,4 +1,4 @@
--- Why an input is refused, and the line that tells it.
+-- Why an input is refused, and the line of each refusal.
 use Rattle.std.specs.Prelude.{ℕ, ℤ, List, [], ◌++◌, codes}
 use Rattle.std.specs.Fmt.{decimal, signed_decimal}
 use Rattle.gs_file.specs.Faults.{Fault}
@@ -26,9 +26,9 @@ pub data Overflowing : Type 0 where
   At_step : ℕ → ℕ → ℕ → ℤ → Overflowing
   At_total : ℕ → ℕ → Overflowing
 
--- why an input is refused: it is no game file; its classes have an unlike pair in a round, here by the texts of the two signals; its solution overflows
--- or takes too many pivots; its game is too large; it is no strategy file; a number, by its name, is stated otherwise than it was found; a query names
--- no decision point; two games differ; a certificate is malformed or does not hold, here by the text of what is wrong with it
+-- Why an input is refused. It is not a valid game file. Its classes have an unlike pair in a round, given by the texts of the two signals. Its solution
+-- overflows or takes too many pivots. Its game is too large. It is not a valid strategy file. A stated number, given by its name, differs from the
+-- computed one. A query names no information set of the player. Two games differ. A certificate is malformed or invalid, given by the text of its fault.
 pub data Refusal : Type 0 where
   Bad_game : Fault → Refusal
   Unlike_pair : ℕ → List ℕ → List ℕ → Refusal
@@ -74,13 +74,13 @@ query_text query.Player = codes "player"
 query_text query.Signal = codes "signal"
 query_text query.Round = codes "round"
 
--- which file it is, where a command reads two
+-- which file it is, if a command reads two
 abbrev pub which_text : Which → List ℕ
 which_text Only = []
 which_text First = codes "first: "
 which_text Second = codes "second: "
 
--- the line that tells a refusal
+-- the line of a refusal
 abbrev pub line_of : Refusal → List ℕ
 line_of (Bad_game why) = codes "bad game: " ++ fault_text why ++ codes "\n"
 line_of (Unlike_pair round first second) = codes "unlike: round " ++ decimal round ++ codes " " ++ first ++ codes " " ++ second ++ codes "\n"

@@ -1,4 +1,4 @@
--- What an input asks to be printed, or why it is refused.
+-- What is printed for an input, or why it is refused.
 use Rattle.std.specs.Prelude.{◌≡◌, ℕ, List, Result, Ok, Err}
 use Rattle.gs_file.specs.Faults.{Fault}
 use Rattle.gs_file.specs.Reading.{FileGame}
@@ -15,7 +15,7 @@ pub data Reply : Type 0 where
   Prints : List ℕ → Reply
   Refuses : Refusal → Reply
 
--- what is said of the game that a file states; a file that states no game is refused for its first fault
+-- `says` holds of the game that a file states and the reply; a file that states no game is refused for its first fault
 abbrev pub OfReading : (FileGame → Reply → Type 0) → Result FileGame Fault → Reply → Type 0
 OfReading says (Ok g) reply = says g reply
 OfReading says (Err why) reply = reply ≡ Refuses (Bad_game why)
@@ -24,12 +24,12 @@ OfReading says (Err why) reply = reply ≡ Refuses (Bad_game why)
 abbrev pub IsBadGame : Result FileGame Fault → Reply → Type 0
 IsBadGame read reply = (why : Fault) × (read ≡ Err why) × (reply ≡ Refuses (Bad_game why))
 
--- what is said of the strategy that was read; bytes that hold none are refused for their first fault, by which file they are
+-- `says` holds of the strategy that was read and the reply; bytes that hold none are refused for their first fault, naming which file it is
 abbrev pub OfRead : Which → (Strategy → Reply → Type 0) → ReadResult → Reply → Type 0
 OfRead which says (Ok s) reply = says s reply
 OfRead which says (Err why) reply = reply ≡ Refuses (Bad_strategy which why)
 
--- what is said of the bytes of a strategy file: of the strategy that they hold, or of the first fault that they have
+-- the reply to the bytes of a strategy file: `says` holds of the strategy that they hold and the reply, or they are refused for their first fault
 pub record OfFile (which : Which) (says : Strategy → Reply → Type 0) (bytes : List ℕ) (reply : Reply) : Type 0 where
   pub read : ReadResult
   pub reads : Reads bytes read
@@ -39,12 +39,12 @@ pub record OfFile (which : Which) (says : Strategy → Reply → Type 0) (bytes 
 abbrev pub IsBadStrategy : Which → List ℕ → Reply → Type 0
 IsBadStrategy which bytes reply = (why : StrategyFault) × Reads bytes (Err why) × (reply ≡ Refuses (Bad_strategy which why))
 
--- an answer tells a refusal: its kind and its line
+-- the answer of the program is this refusal, by its kind and its line
 abbrev pub Tells : Answer → Refusal → Type 0
 Tells (answer.Prints text) why = ⊥
 Tells (answer.Refuses kind line) why = (kind ≡ cause_of why) × (line.items ≡ line_of why)
 
--- an answer of the program is a reply that meets the test
+-- the answer of the program is a reply of which `says` holds
 abbrev pub Answers : (Reply → Type 0) → Answer → Type 0
 Answers says (answer.Prints text) = says (Prints text.items)
 Answers says (answer.Refuses kind line) = (why : Refusal) × says (Refuses why) × Tells (answer.Refuses kind line) why

@@ -1,4 +1,4 @@
--- What stands against a game over classes: the classes are not lossless, or the game in sequence form is too large.
+-- Why a game over classes is refused: the classes are not lossless, or the game in sequence form is too large.
 use Rattle.std.specs.Prelude.{◌≡◌, ℕ, List}
 use Rattle.gs_file.specs.Reading.{FileGame, rules_of}
 use Rattle.gs_model.specs.Classes.{ClassLists}
@@ -29,11 +29,11 @@ Passes g lists (Raw_cells count) = ⊥
 
 -- ---- the refusal for one of them
 
--- the first unlike pair of classes that are not lossless
+-- the reply refuses classes that are not lossless, with their first unlike pair
 abbrev pub SaysUnlike : FileGame → ClassLists → Reply → Type 0
 SaysUnlike g lists reply =
     (round : ℕ) × (one : List ℕ) × (two : List ℕ) × IsUnlikePair g lists round one two × (reply ≡ Refuses (Unlike_pair round one two))
 
--- the first limit that a game passes
+-- the reply refuses the game, with the first limit that it passes
 abbrev pub SaysLarge : FileGame → ClassLists → Reply → Type 0
 SaysLarge g lists reply = (limit : Limit) × Passes g lists limit × (reply ≡ Refuses (Too_large limit))

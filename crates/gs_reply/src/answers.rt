@@ -1,31 +1,31 @@
-//! Answers.
+//! What the program answers to an input.
 
 /// The kind of a refusal.
 #[derive(Clone, Copy, Debug, PartialEq, Eq)]
 pub enum Cause {
-    /// The input is no game file.
+    /// The input is not a valid game file.
     BadGame,
     /// The classes have an unlike pair.
     Unlike,
     /// A number of the solution's path, or a plan's total, is too large.
     Overflow,
-    /// The solution's path is too long.
+    /// The path to the solution is too long.
     PivotLimit,
     /// The game is too large for what is asked.
     TooLarge,
-    /// The input is no strategy file.
+    /// The input is not a valid strategy file.
     BadStrategy,
-    /// A number that is stated is not the one that was found.
+    /// A stated number differs from the computed one.
     WrongNumbers,
-    /// A line, a player and a signal name no spot.
+    /// The query names no information set of the player.
     BadQuery,
-    /// Two strategies are of two games.
+    /// Two strategies are for different games.
     OtherGame,
-    /// The input holds no certificate, or one that does not hold.
+    /// The certificate is malformed or invalid.
     BadCertificate,
 }
 
-/// A text to print, or a refusal with the line that tells it.
+/// A text to print, or a refusal with its line.
 #[derive(Drop)]
 pub enum Answer {
     Prints(Vec<u8>),

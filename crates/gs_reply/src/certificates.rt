@@ -6,7 +6,7 @@ ghost use Rattle.gs_reply.specs.{Refusals.{Bad_certificate}, Replies.{Tells}};
 use crate::answers::{Answer, Cause};
 use std::alloc::{AllocError, Global};
 
-/// The refusal of a certificate, by the text of what is wrong with it.
+/// Returns the refusal of a certificate, with the text of what is wrong with it.
 pub fn bad_certificate(alloc: Global, why: &[u8]) -> Result<Answer, AllocError>
     ensures { IfOk result (λ a. Tells a (Bad_certificate why.now)) }
 {

@@ -1,4 +1,4 @@
-//! Refusals of game files, and of two games where one is wanted.
+//! Refusals of game files, and of two different games.
 
 ghost use Rattle.std.specs.Prelude.{◌≡◌, ◌≢◌, IfErr, IfOk, Ok};
 ghost use Rattle.gs_file.specs.{Faults.{Fault}, Reading.{read_at}, Views.{valid_view}, declared.fault.FileFault.TheVariants.{Memory}};
@@ -11,7 +11,7 @@ use gs_game::ValidGame;
 use gs_text::file_fault_text;
 use std::alloc::{AllocError, Global};
 
-// The refusal of a file that states no game.
+// Returns the refusal of a file that states no game.
 fn bad_game(alloc: Global, fault: &FileFault) -> Result<Answer, AllocError>
     requires { fault.now ≢ Memory }
     ensures { IfOk result (λ a. (why : Fault) → IsFault fault.now why → Tells a (Bad_game why)) }
@@ -24,7 +24,7 @@ fn bad_game(alloc: Global, fault: &FileFault) -> Result<Answer, AllocError>
     Ok(Answer::Refuses { cause, line })
 }
 
-/// The game that the bytes of a game file state, or the refusal of bytes that state none.
+/// Returns the game that the bytes of a game file state, or the refusal of bytes that state none.
 pub fn game_or_refusal(alloc: Global, bytes: &[u8]) -> Result<Result<ValidGame, Answer>, AllocError>
     ensures stated { IfOk result (λ found. IfOk found (λ game. read_at bytes.now ≡ Ok (valid_view game))) }
     ensures refused { IfOk result (λ found. IfErr found (Answers (IsBadGame (read_at bytes.now)))) }
@@ -36,7 +36,7 @@ pub fn game_or_refusal(alloc: Global, bytes: &[u8]) -> Result<Result<ValidGame, 
     }
 }
 
-/// The refusal of two strategies whose games differ.
+/// Returns the refusal of two strategies whose games differ.
 pub fn other_game(alloc: Global) -> Result<Answer, AllocError>
     ensures { IfOk result (λ a. Tells a Other_game) }
 {

@@ -1,4 +1,4 @@
-//! What an input is answered: a text to print, or why it is refused, with the line that tells it.
+//! What the program answers to an input: a text to print, or a refusal with its line.
 #![tactic(auto)]
 
 mod answers;

@@ -7,7 +7,7 @@ use crate::answers::{Answer, Cause};
 use gs_frac::Fraction;
 use std::alloc::{AllocError, Global};
 
-/// The refusal of a number, by its name, that is stated otherwise than it was found.
+/// Returns the refusal of a stated number, by its name, that differs from the computed one.
 pub fn wrong_number(
     alloc: Global,
     name: &str,

@@ -7,7 +7,7 @@ use crate::answers::{Answer, Cause};
 use gs_lift::QueryFault;
 use std::alloc::{AllocError, Global};
 
-/// The refusal of a line, a player and a signal that name no spot.
+/// Returns the refusal of a query that names no information set of the player.
 pub fn bad_query(alloc: Global, fault: QueryFault) -> Result<Answer, AllocError>
     ensures { IfOk result (λ a. Tells a (Bad_query fault)) }
 {

@@ -12,7 +12,7 @@ use gs_lossless::CheckStop;
 use gs_tree::Signals;
 use std::alloc::{AllocError, Global};
 
-// The refusal of classes in which two signals of a round are unlike.
+// Returns the refusal of classes in which two signals of a round are unlike.
 fn unlike(
     alloc: Global,
     signals: &Signals,
@@ -39,7 +39,7 @@ fn unlike(
     })
 }
 
-/// The refusal of classes that are not lossless, by their first unlike pair.
+/// Returns the refusal of classes that are not lossless, with their first unlike pair.
 pub fn not_lossless(alloc: Global, signals: &Signals, stop: CheckStop) -> Result<Answer, AllocError>
     requires { (lists : ClassLists) × IsUnlikeIn (frame_of (rules_of signals.now)) lists stop }
     ensures { IfOk result (λ a. (lists : ClassLists) → IsUnlikeIn (frame_of (rules_of signals.now)) lists stop

@@ -1,4 +1,4 @@
-//! Refusals of games that are too large, and of solutions whose numbers or paths are.
+//! Refusals of games that are too large, and of solutions with too large a number or too long a path.
 
 ghost use Rattle.std.specs.{Prelude.{◌≡◌, ◌++◌, IfOk, codes}, Fmt.{decimal}};
 ghost use Rattle.gs_file.specs.Reading.{FileGame};
@@ -12,7 +12,7 @@ use gs_seq::SeqStop;
 use std::alloc::{AllocError, Global};
 use std::fmt::Write;
 
-/// The refusal of a solution at a number of its path, by the step, the row and the column where it stands.
+/// Returns the refusal of a solution for a number of its path that is too large, with its step, row and column.
 pub fn overflow_at_step(
     alloc: Global,
     step: u32,
@@ -32,7 +32,7 @@ pub fn overflow_at_step(
     })
 }
 
-/// The refusal of a solution at a player's total.
+/// Returns the refusal of a solution for a player's total that is too large.
 pub fn overflow_of_total(alloc: Global, player: u8, multiple: u128) -> Result<Answer, AllocError>
     ensures { IfOk result (λ a. Tells a (Overflows (At_total player multiple))) }
 {
@@ -44,7 +44,7 @@ pub fn overflow_of_total(alloc: Global, player: u8, multiple: u128) -> Result<An
     })
 }
 
-/// The refusal of a solution whose path is too long.
+/// Returns the refusal of a solution whose path is too long.
 pub fn many_pivots(alloc: Global) -> Result<Answer, AllocError>
     ensures { IfOk result (λ a. Tells a Many_pivots) }
 {
@@ -53,7 +53,7 @@ pub fn many_pivots(alloc: Global) -> Result<Answer, AllocError>
     Ok(Answer::Refuses { cause, line })
 }
 
-// What there is too much of, and how much.
+// Returns the line that says what there is too much of, and how much.
 fn too_many(alloc: Global, what: &str, count: u64) -> Result<Vec<u8>, AllocError>
     ensures { IfOk result (λ line. line.items ≡ codes "too large: " ++ what.now ++ decimal count ++ codes "\n") }
 {
@@ -63,7 +63,7 @@ fn too_many(alloc: Global, what: &str, count: u64) -> Result<Vec<u8>, AllocError
     Ok(line.into_bytes())
 }
 
-/// The refusal of a game in which a player has too many sequences.
+/// Returns the refusal of a game in which a player has too many sequences.
 pub fn many_sequences(alloc: Global, player: u8, count: u64) -> Result<Answer, AllocError>
     ensures { IfOk result (λ a. Tells a (Too_large (Sequences player count))) }
 {
@@ -73,7 +73,7 @@ pub fn many_sequences(alloc: Global, player: u8, count: u64) -> Result<Answer, A
     Ok(Answer::Refuses { cause, line })
 }
 
-/// The refusal of a game with too many pairs of classes over its ends.
+/// Returns the refusal of a game with too many pairs of classes over its ends.
 pub fn many_cells(alloc: Global, count: u64) -> Result<Answer, AllocError>
     ensures { IfOk result (λ a. Tells a (Too_large (Cells count))) }
 {
@@ -82,7 +82,7 @@ pub fn many_cells(alloc: Global, count: u64) -> Result<Answer, AllocError>
     Ok(Answer::Refuses { cause, line })
 }
 
-/// The refusal of a game that has no sequence form within the limits.
+/// Returns the refusal of a game whose sequence form passes a limit.
 pub fn too_large(alloc: Global, stop: SeqStop) -> Result<Answer, AllocError>
     ensures { IfOk result (λ a. (g : FileGame) (lists : ClassLists) → IsStopOf (frame_in g) lists stop → Answers (SaysLarge g lists) a) }
 {
@@ -93,7 +93,7 @@ pub fn too_large(alloc: Global, stop: SeqStop) -> Result<Answer, AllocError>
     }
 }
 
-/// The refusal of a game whose program has too large a table.
+/// Returns the refusal of a game whose linear program has too large a table.
 pub fn many_table_numbers(alloc: Global, count: u64) -> Result<Answer, AllocError>
     ensures { IfOk result (λ a. Tells a (Too_large (Table_numbers count))) }
 {
@@ -102,7 +102,7 @@ pub fn many_table_numbers(alloc: Global, count: u64) -> Result<Answer, AllocErro
     Ok(Answer::Refuses { cause, line })
 }
 
-/// The refusal of a game with too many pairs of raw signals over its ends.
+/// Returns the refusal of a game with too many pairs of raw signals over its ends.
 pub fn many_raw_cells(alloc: Global, count: u64) -> Result<Answer, AllocError>
     ensures { IfOk result (λ a. Tells a (Too_large (Raw_cells count))) }
 {

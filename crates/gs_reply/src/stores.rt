@@ -1,4 +1,4 @@
-//! The texts of what is wrong with a strategy file.
+//! Writing the texts of the faults of a strategy file.
 
 ghost use Rattle.std.specs.{Prelude.{◌≡◌, ◌≢◌, ◌++◌, IfOk, codes}, Fmt.{decimal}};
 ghost use Rattle.gs_file.specs.Faults.{Fault as GameRule};
@@ -17,7 +17,7 @@ use gs_strategy::{FilePart, StoreFault};
 use gs_text::file_fault_text;
 use std::alloc::{AllocError, Global};
 
-/// The name of a part.
+/// Returns the name of a part.
 fn part_text(part: FilePart) -> &'static str
     ensures { result.now ≡ text_of_part part }
 {
@@ -33,7 +33,7 @@ fn part_text(part: FilePart) -> &'static str
     }
 }
 
-/// A part of a wrong shape.
+/// Returns the text for a part of a wrong shape.
 fn shape_text(alloc: Global, part: FilePart) -> Result<Vec<u8>, AllocError>
     ensures { IfOk result (λ v. v.items ≡ codes "shape of " ++ text_of_part part) }
 {
@@ -42,7 +42,7 @@ fn shape_text(alloc: Global, part: FilePart) -> Result<Vec<u8>, AllocError>
     Ok(text.into_bytes())
 }
 
-/// A value that is no game.
+/// Returns the text for a value that states no game.
 fn game_text(alloc: Global, fault: &FileFault) -> Result<Vec<u8>, AllocError>
     requires { fault.now ≢ file.Memory }
     ensures { IfOk result (λ v. (why : GameRule) → IsFault fault.now why → v.items ≡ codes "game: " ++ fault_text why) }
@@ -53,7 +53,7 @@ fn game_text(alloc: Global, fault: &FileFault) -> Result<Vec<u8>, AllocError>
     Ok(text)
 }
 
-/// Class numbers that are no classes.
+/// Returns the text for class numbers that are not classes.
 fn classes_text(alloc: Global, fault: &ClassFault) -> Result<Vec<u8>, AllocError>
     ensures { IfOk result (λ v. v.items ≡ codes "classes: " ++ class_fault_text fault.now) }
 {
@@ -63,7 +63,7 @@ fn classes_text(alloc: Global, fault: &ClassFault) -> Result<Vec<u8>, AllocError
     Ok(text.into_bytes())
 }
 
-/// A place where a player's weights do not add up.
+/// Returns the text for a point and a class at which a player's weights do not add up.
 fn flow_text(alloc: Global, player: u8, point: u32, class: u32) -> Result<Vec<u8>, AllocError>
     ensures { IfOk result (λ v. v.items ≡ codes "player " ++ decimal player ++ codes " flow at point " ++ decimal point ++ codes " class " ++ decimal class) }
 {
@@ -71,14 +71,14 @@ fn flow_text(alloc: Global, player: u8, point: u32, class: u32) -> Result<Vec<u8
     Ok(text.into_bytes())
 }
 
-/// A player's weights, and what is wrong with them.
+/// Returns the player's number, followed by what is wrong with the weights.
 fn player_text(alloc: Global, player: u8, wrong: &str) -> Result<Vec<u8>, AllocError>
     ensures { IfOk result (λ v. v.items ≡ codes "player " ++ decimal player ++ wrong.now) }
 {
     Ok(format!(in alloc; "player {player}{wrong}")?.into_bytes())
 }
 
-/// Weights that are no plan.
+/// Returns the text for weights that are not a plan.
 fn plan_text(alloc: Global, player: u8, fault: PlanFault) -> Result<Vec<u8>, AllocError>
     ensures { IfOk result (λ v. v.items ≡ text_of_plan player fault) }
 {
@@ -89,7 +89,7 @@ fn plan_text(alloc: Global, player: u8, fault: PlanFault) -> Result<Vec<u8>, All
     }
 }
 
-/// A text that is no fraction's.
+/// Returns the text for a part that is not the text of a fraction.
 fn fraction_fault(alloc: Global, part: FilePart, fault: &FracFault) -> Result<Vec<u8>, AllocError>
     ensures { IfOk result (λ v. v.items ≡ text_of_part part ++ codes " " ++ fraction_fault_text fault.now) }
 {
@@ -100,14 +100,14 @@ fn fraction_fault(alloc: Global, part: FilePart, fault: &FracFault) -> Result<Ve
     Ok(text.into_bytes())
 }
 
-/// What is wrong, and behind it a number.
+/// Returns what is wrong, followed by a number.
 fn counted_text(alloc: Global, wrong: &str, number: u64) -> Result<Vec<u8>, AllocError>
     ensures { IfOk result (λ v. v.items ≡ wrong.now ++ decimal number) }
 {
     Ok(format!(in alloc; "{wrong}{number}")?.into_bytes())
 }
 
-/// Why a strategy file is refused, without an end of line.
+/// Returns why a strategy file is refused, without a line feed.
 pub fn store_fault_text(alloc: Global, fault: &StoreFault) -> Result<Vec<u8>, AllocError>
     requires { (why : Fault) × IsStoreFault fault.now why }
     ensures { IfOk result (λ text. (why : Fault) → IsStoreFault fault.now why → text.items ≡ text_of_store why) }

@@ -17,7 +17,7 @@ pub enum Which {
     Second,
 }
 
-// The refusal of a file that holds no strategy.
+// Returns the refusal of a file that holds no strategy.
 fn bad_strategy(alloc: Global, which: Which, fault: &StoreFault) -> Result<Answer, AllocError>
     requires { (why : Fault) × IsFault fault.now why }
     ensures { IfOk result (λ a. (why : Fault) → IsFault fault.now why → Tells a (Bad_strategy which why)) }
@@ -35,7 +35,7 @@ fn bad_strategy(alloc: Global, which: Which, fault: &StoreFault) -> Result<Answe
     Ok(Answer::Refuses { cause, line })
 }
 
-/// The strategy that the bytes of a strategy file hold, or the refusal of bytes that hold none.
+/// Returns the strategy that the bytes of a strategy file hold, or the refusal of bytes that hold none.
 pub fn stored_or_refusal(
     alloc: Global,
     which: Which,

@@ -1,4 +1,4 @@
-//! The texts of verdicts and mixtures.
+//! Writing the texts of verdicts and mixtures.
 
 ghost use Rattle.std.specs.Prelude.{◌≡◌, IfOk};
 ghost use Rattle.gs_strategy.specs.Views.{numbers_of, parts_of};
@@ -9,7 +9,7 @@ use gs_lift::Mixture;
 use std::alloc::{AllocError, Global};
 use std::fmt::Write;
 
-/// The value and the gaps of both players, a line each.
+/// Returns the value and the gaps of both players, a line each.
 pub fn verdict_text(alloc: Global, verdict: &Verdict) -> Result<Vec<u8>, AllocError>
     ensures { IfOk result (λ text. text.items ≡ text_of_verdict (numbers_of verdict.now)) }
 {
@@ -20,7 +20,7 @@ pub fn verdict_text(alloc: Global, verdict: &Verdict) -> Result<Vec<u8>, AllocEr
     Ok(text.into_bytes())
 }
 
-/// Each move of a mixture by its letter with its share, and then a gap, a line each.
+/// Returns each move of a mixture by its letter with its share, and then a gap, a line each.
 pub fn mix_text(alloc: Global, mixture: &Mixture, gap: &Fraction) -> Result<Vec<u8>, AllocError>
     ensures { IfOk result (λ text. text.items ≡ text_of_mix mixture.now (parts_of gap.now)) }
 {

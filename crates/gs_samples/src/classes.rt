@@ -9,8 +9,8 @@ use gs_filter::{ClassFault, Classes};
 use gs_tree::Signals;
 use std::alloc::{AllocError, Global};
 
-/// The text of classes, where a word names it: those of Leduc hold'em by rank, which lose nothing; its isomorphic signals, which lose something; and those of
-/// Rhode Island hold'em with kings and aces by hand, which lose nothing. Any other text is as it is.
+/// Returns the text of the classes that a word names, and any other text as it is. `ranks` are the classes of Leduc hold'em by rank, which are lossless;
+/// `isomorphic` are its signal classes, which are not. `hands` are classes of Rhode Island hold'em with kings and aces, made by hand, which are lossless.
 fn numbers_of(text: &str) -> &str {
     match text {
         "ranks" => "1 1 2 2 3 3/1 2 2 3 3 1 2 2 3 3 4 4 5 6 6 4 4 5 6 6 7 7 8 8 9 7 7 8 8 9",
@@ -21,8 +21,8 @@ fn numbers_of(text: &str) -> &str {
     }
 }
 
-/// Classes of a game's signals by the numbers of a text: for each round that of each signal's class, with a slash between two rounds. Where the text is
-/// empty, each signal is a class of its own.
+/// Returns classes of a game's signals from a text: for each round the number of each signal's class, with a slash between two rounds. For an empty text
+/// each signal is a class of its own.
 pub fn classes_of(alloc: Global, signals: &Signals<'_>, text: &str) -> Result<Classes, ClassFault>
     ensures { IfOk result (λ c. c.parents ≡ (frame_of (rules_of signals.now)).parents) }
 {
@@ -36,7 +36,7 @@ pub fn classes_of(alloc: Global, signals: &Signals<'_>, text: &str) -> Result<Cl
     Classes::new(alloc, signals.parents(), lists)
 }
 
-/// The text of a signal, or none where the round has no such signal.
+/// Returns the text of a signal, or the empty text if the round has no such signal.
 pub fn signal_text(
     alloc: Global,
     signals: &Signals<'_>,

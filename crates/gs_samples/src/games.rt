@@ -1,4 +1,4 @@
-//! Games by lines of words.
+//! Games given by lines of words.
 
 ghost use Rattle.std.specs.Prelude.{◌<◌, All, OnOk, IfOk};
 ghost use Rattle.gs_card.specs.Rankings.{ranking_of};
@@ -13,8 +13,8 @@ use std::alloc::{AllocError, Global};
 /// Kuhn's game of three cards.
 pub const KUHN: &str = "JQK, s, high, 1 0 kuhn";
 
-/// The text of a betting tree, where a word names it: Kuhn's, a check or a bet of 1 with no raise; a check alone; eight and sixteen moves, each of which
-/// ends the round. Any other word is the text.
+/// Returns the text of the betting tree that a word names, and any other text as it is. `kuhn` is a check or a bet of 1 with no raise, `check` a check
+/// alone, `eight` and `sixteen` that many moves, each of which ends the round.
 fn tree_of(word: &str) -> &str {
     match word {
         "kuhn" => "1[k:2[k:=,b1:1[f:!,c1:=]],b1:2[f:!,c1:=]]",
@@ -25,10 +25,10 @@ fn tree_of(word: &str) -> &str {
     }
 }
 
-/// Why a line is no game.
+/// The reason why a line gives no game.
 #[derive(Debug, Drop)]
 pub enum SampleFault {
-    /// A part of the line is missing, or a word is not one of those that may stand there.
+    /// A part of the line is missing, or a word is not allowed where it stands.
     Line,
     Deck(DeckFault),
     Tree(TreeFault),
@@ -44,12 +44,12 @@ impl From<AllocError> for SampleFault {
     }
 }
 
-/// A number of a line.
+/// Returns the number that a word of a line writes.
 fn number_in(word: &str) -> Result<u8, SampleFault> {
     word.parse::<u8>().map_err(|_| SampleFault::Line)
 }
 
-/// The ranking of a word.
+/// Returns the ranking that a word names.
 fn ranking_in(word: &str) -> Result<Ranking, SampleFault> {
     match word {
         "high" => Ok(Ranking::High),
@@ -59,7 +59,7 @@ fn ranking_in(word: &str) -> Result<Ranking, SampleFault> {
     }
 }
 
-/// The bonus of each category of a ranking: of two words the first for the lowest, the second for all above it.
+/// Returns the bonus of each category of a ranking from two words: the first for the lowest category, the second for all above it.
 fn bonuses(alloc: Global, ranking: Ranking, words: &str) -> Result<Vec<u8>, SampleFault>
     ensures { IfOk result (λ v. IsBonus (ranking_of ranking) v.items) }
 {
@@ -73,7 +73,7 @@ fn bonuses(alloc: Global, ranking: Ranking, words: &str) -> Result<Vec<u8>, Samp
     Ok(all)
 }
 
-/// The round of three words: how many private cards each player gets, how many public cards are shown, and the betting tree.
+/// Returns the round of three words: the number of private cards of each player, the number of public cards, and the betting tree.
 fn round_of(alloc: Global, words: &str) -> Result<Round, SampleFault>
     ensures { IfOk result HasFewCards }
 {
@@ -91,7 +91,7 @@ fn round_of(alloc: Global, words: &str) -> Result<Round, SampleFault>
     })
 }
 
-/// One round more.
+/// Adds a round.
 fn push_round(rounds: &mut Vec<Round>, round: Round) -> Result<(), AllocError>
     requires few { HasFewCards round }
     requires all { All HasFewCards rounds.old.items }
@@ -101,7 +101,7 @@ fn push_round(rounds: &mut Vec<Round>, round: Round) -> Result<(), AllocError>
     Ok(())
 }
 
-/// The rounds of these parts of a line.
+/// Returns the rounds of these parts of a line.
 fn rounds_of(alloc: Global, parts: &[&str]) -> Result<Vec<Round>, SampleFault>
     ensures { IfOk result (λ v. All HasFewCards v.items) }
 {
@@ -113,9 +113,11 @@ fn rounds_of(alloc: Global, parts: &[&str]) -> Result<Vec<Round>, SampleFault>
     Ok(rounds)
 }
 
-/// The game of a line, checked, or the first thing that is wrong with it. The line's parts, with a comma and a space between two: the ranks; the suits,
-/// and behind them how many copies of each card there are where it is not one of each; the ranking, and behind it the bonus of the lowest category, that
-/// of those above it and the ante where these are not all 1; and each round.
+/// Returns the game of a line, checked, or its first fault.
+///
+/// The parts of a line stand with a comma and a space between two: the ranks, the suits, the ranking, and each round. After the suits may stand the
+/// copies of each card, if they are not all 1. After the ranking may stand the bonus of the lowest category, the bonus of those above it and the ante, if
+/// they are not all 1.
 pub fn game_of(alloc: Global, line: &str) -> Result<ValidGame, SampleFault> {
     let parts: Vec<&str> = line.split(", ").collect(alloc)?;
     if parts.len() < 3 {

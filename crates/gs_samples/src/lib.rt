@@ -1,6 +1,6 @@
-//! Sample games and classes of their signals: what the tests of many crates start from.
+//! Sample games and classes of their signals, from which the tests of many crates start.
 //!
-//! Only tests use this crate; a command stands on none of it.
+//! Only tests use this crate; no command does.
 #![tactic(auto)]
 
 mod classes;

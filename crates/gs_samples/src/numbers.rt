@@ -3,7 +3,7 @@
 use std::alloc::{AllocError, Global};
 use std::str::FromStr;
 
-/// The numbers of a text with a space between two; words that are no numbers are passed over.
+/// Returns the numbers of a text with a space between two. Words that are not numbers are skipped.
 pub fn numbers_in<T: FromStr + Drop>(alloc: Global, text: &str) -> Result<Vec<T>, AllocError>
 where
     T::Err: Drop,

@@ -1,11 +1,11 @@
-//! Rows of tests: what is said of a line, and what should be said.
+//! Rows of tests: a line, and the text that is expected for it.
 
 ghost use Rattle.std.specs.Prelude.{◌≡◌, IfOk};
 
 use std::alloc::Global;
 use std::test::Fail;
 
-/// Fails, with the line, where what is said of a row's line is not what should be said.
+/// Fails, naming the line, if the text for a row's line is not the expected one.
 pub fn check_row(alloc: Global, line: &str, said: &str, wanted: &str) -> Result<(), Fail>
     ensures { IfOk result (λ _. said.now ≡ wanted.now) }
 {
@@ -15,7 +15,7 @@ pub fn check_row(alloc: Global, line: &str, said: &str, wanted: &str) -> Result<
     Err(Fail::new(format!(in alloc; "{said:?} in place of {wanted:?} at {line}")?))
 }
 
-/// Fails at the first row of whose line something else is said than what should be said.
+/// Fails at the first row for whose line `say` gives another text than the expected one.
 pub fn check_rows<F: Fn(Global, &str) -> Result<String, Fail> + Drop>(
     alloc: Global,
     rows: &[(&str, &str)],

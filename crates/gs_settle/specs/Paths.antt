@@ -19,7 +19,7 @@ use Rattle.gs_settle.specs.Solving.{SaysStopped}
 abbrev pub turn_line : ℕ → Turn → List ℕ
 turn_line number turn = decimal number ++ codes " enters " ++ decimal turn.enter ++ codes " leaves " ++ decimal turn.leave ++ codes "\n"
 
--- the lines of pivots, behind this many
+-- the lines of pivots, numbered after the `before` earlier ones
 abbrev pub turn_lines : ℕ → List Turn → List ℕ
 turn_lines before [] = []
 turn_lines before (turn ∷ turns) = turn_line (before + 1) turn ++ turn_lines (before + 1) turns
@@ -28,7 +28,7 @@ turn_lines before (turn ∷ turns) = turn_line (before + 1) turn ++ turn_lines (
 abbrev pub path_text : PathTrace → List ℕ
 path_text t = number_line (codes "opening") (parts_of t.start) ++ turn_lines 0 t.turns.items ++ number_line (codes "aim") (parts_of t.aim)
 
--- the lines of the path of the game's program
+-- the text is the lines of the path of the game's linear program
 pub record IsPathShown (g : FileGame) (lists : ClassLists) (text : List ℕ) : Type 0 where
   pub program : Program
   pub opening : Listing

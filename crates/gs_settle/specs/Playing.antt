@@ -9,14 +9,14 @@ use Rattle.gs_seq.specs.declared.plan.Plan.{Plan}
 use Rattle.gs_strategy.specs.Values.{frame_in}
 use Rattle.gs_settle.specs.Texts.{IsTextOf}
 
--- the strategy of both players' plans after a number of turns of fictitious play
+-- the text is that of the strategy of both players' plans after `turns` turns of fictitious play
 pub record IsPlayed (turns : ℕ) (g : FileGame) (lists : ClassLists) (text : List ℕ) : Type 0 where
   pub one : Plan
   pub two : Plan
   pub played : IsFictitiousPlay (frame_in g) lists turns (class_plan (frame_in g) lists one) (class_plan (frame_in g) lists two)
   pub told : IsTextOf g lists one two text
 
--- what `play` says of a game over classes: the strategy after that many turns; no game is refused
+-- what `play` says of a game over classes: the strategy after `turns` turns; no game is refused
 abbrev pub Plays : ℕ → FileGame → ClassLists → Reply → Type 0
 Plays turns g lists (Prints text) = IsPlayed turns g lists text
 Plays turns g lists (Refuses why) = ⊥

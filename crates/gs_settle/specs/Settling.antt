@@ -1,5 +1,5 @@
--- What is said of an input before a game over classes is played, solved or shown: the game file is read, the classes of the grouping are looked at, and
--- the game over them is counted. The refusals stand in this order.
+-- The refusals of an input before a game over classes is played, solved or shown, in this order. The game file is read, the classes of the grouping are
+-- checked, and the sizes of the game over them.
 use Rattle.std.specs.Prelude.{◌⊎◌, ℕ, List}
 use Rattle.gs_file.specs.Reading.{FileGame, read_at, rules_of}
 use Rattle.gs_file.specs.Views.{valid_view}
@@ -13,20 +13,20 @@ use Rattle.gs_seq.specs.declared.form.Abstract.{Abstract}
 use Rattle.gs_strategy.specs.Values.{frame_in}
 use Rattle.gs_words.specs.declared.request.Grouping.{Grouping}
 
--- the game of a game in sequence form
+-- the game that a game in sequence form is made of
 abbrev pub game_in : Abstract → FileGame
 game_in a = valid_view a.lossless.now.signals.now.game.now
 
--- what is said of a game over lossless classes, which is refused where it is too large
+-- a game over lossless classes is refused as too large, or it is within the limits and `says` holds of it and the reply
 abbrev pub OfForm : (FileGame → ClassLists → Reply → Type 0) → FileGame → ClassLists → Reply → Type 0
 OfForm says g lists reply = SaysLarge g lists reply ⊎ (IsSmall (frame_in g) lists × says g lists reply)
 
--- what is said of a game over the classes of a grouping, which is refused where they are not lossless
+-- the classes of the grouping are refused as not lossless, or they are lossless and `OfForm` holds of the game over them
 abbrev pub OfGrouping : Grouping → (FileGame → ClassLists → Reply → Type 0) → FileGame → Reply → Type 0
 OfGrouping grouping says g reply =
     SaysNotLossless grouping g reply
     ⊎ ((lists : ClassLists) × IsGrouping grouping (rules_of g) lists × IsLossless (frame_in g) lists × OfForm says g lists reply)
 
--- what is said of the bytes of a game file
+-- the reply to the bytes of a game file, over the classes of a grouping
 abbrev pub Settles : (FileGame → ClassLists → Reply → Type 0) → Grouping → List ℕ → Reply → Type 0
 Settles says grouping bytes reply = OfReading (OfGrouping grouping says) (read_at bytes) reply

@@ -10,7 +10,8 @@ use Rattle.gs_solve.specs.declared.stop.SolveStop.TheVariants.{TableTooLarge, Wi
 use Rattle.gs_strategy.specs.Values.{frame_in}
 use Rattle.gs_settle.specs.Texts.{IsTextOf}
 
--- the strategy of two plans from which no raw plan of either player gains, read off the end of the path of the game's program: both gaps are 0 over 1
+-- The text is that of the strategy of two plans read off the end of the path of the game's linear program. Both gaps are 0 over 1: no raw plan of either
+-- player gains.
 pub record IsSolved (g : FileGame) (lists : ClassLists) (text : List ℕ) : Type 0 where
   pub one : Plan
   pub two : Plan
@@ -19,14 +20,14 @@ pub record IsSolved (g : FileGame) (lists : ClassLists) (text : List ℕ) : Type
   pub gap1 : told.strategy.numbers.gap1 ≡ (pos 0, pos 1)
   pub gap2 : told.strategy.numbers.gap2 ≡ (pos 0, pos 1)
 
--- where the path of the game's program stops before its end, or the program's table has too many numbers
+-- this refusal applies: the path of the game's linear program stops before its end, or the program's table has too many numbers
 abbrev pub SaysStopped : FileGame → ClassLists → Refusal → Type 0
 SaysStopped g lists (Too_large (Table_numbers count)) = IsSolveStop (frame_in g) lists (TableTooLarge count)
 SaysStopped g lists (Overflows (At_step step row column number)) = IsSolveStop (frame_in g) lists (Wide step row column number)
 SaysStopped g lists Many_pivots = IsSolveStop (frame_in g) lists Pivots
 SaysStopped g lists why = ⊥
 
--- why a game over classes has no solution printed: its path stops, or a plan's least total is too large
+-- this refusal applies: the path stops, or a plan's least total is too large
 abbrev pub SaysUnsolved : FileGame → ClassLists → Refusal → Type 0
 SaysUnsolved g lists (Overflows (At_total player multiple)) = IsSolveStop (frame_in g) lists (Total player multiple)
 SaysUnsolved g lists why = SaysStopped g lists why

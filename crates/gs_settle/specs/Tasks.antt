@@ -1,4 +1,4 @@
--- The tasks of the three commands. Of private functions.
+-- The tasks of the three commands. They stand in contracts of private functions.
 use Rattle.std.specs.Prelude.{◌≤◌}
 use Rattle.gs_file.specs.Reading.{FileGame}
 use Rattle.gs_model.specs.Classes.{ClassLists}
@@ -9,13 +9,13 @@ use Rattle.gs_settle.specs.Solving.{Solves}
 use Rattle.gs_settle.specs.declared.tasks.Task.{Task}
 use Rattle.gs_settle.specs.declared.tasks.Task.TheVariants.{Play, Solve, Path}
 
--- what is said of a game over classes
+-- what the command of a task says of a game over classes
 abbrev pub Says : Task → FileGame → ClassLists → Reply → Type 0
 Says (Play turns) g lists reply = Plays turns g lists reply
 Says Solve g lists reply = Solves g lists reply
 Says Path g lists reply = ShowsPath g lists reply
 
--- turns are not too many
+-- a task of play has at most 1,000,000 turns
 abbrev pub IsFew : Task → Type 0
 IsFew (Play turns) = turns ≤ 1000000
 IsFew Solve = Unit {0}

@@ -10,8 +10,8 @@ use Rattle.gs_strategy.specs.Texts.{strategy_text}
 use Rattle.gs_strategy.specs.Values.{IsPlanOf, Strategy}
 use Rattle.gs_strategy.specs.Views.{weights_of}
 
--- the version 2 text of the strategy of a game, its classes and two plans, whose numbers are the value of these plans and what each player could still
--- gain by any raw plan
+-- The text is that, in version 2, of the strategy of a game, its classes and two plans. The strategy is confirmed: its numbers are the value of these plans
+-- and what each player could still gain by any raw plan.
 pub record IsTextOf (g : FileGame) (lists : ClassLists) (one two : Plan) (text : List ℕ) : Type 0 where
   pub strategy : Strategy
   pub game : strategy.game ≡ g

@@ -1,5 +1,4 @@
-//! The commands that settle a game: `play`, `solve` and `path`, from the bytes of a game file and a grouping of its signals to a strategy's text or to
-//! the lines of a path.
+//! The commands `play`, `solve` and `path`. From the bytes of a game file and a grouping of its signals they make a strategy's text or the lines of a path.
 #![tactic(auto)]
 
 mod laws;
@@ -22,8 +21,8 @@ use settling::settle;
 use std::alloc::{AllocError, Global};
 use tasks::Task;
 
-/// What `play` answers to the bytes of a game file: the text of the strategy of both players' plans after a number of turns of fictitious play over the
-/// classes of a grouping; or why the file is refused.
+/// Returns the answer of `play` to the bytes of a game file: the text of the strategy after `turns` turns of fictitious play over the classes of a
+/// grouping, or the refusal.
 pub fn play_answer(
     alloc: Global,
     bytes: &[u8],
@@ -36,15 +35,15 @@ pub fn play_answer(
     settle(alloc, bytes, grouping, Task::Play { turns })
 }
 
-/// What `solve` answers to the bytes of a game file: the text of a strategy over the classes of a grouping whose gaps are both 0; or why the file is
-/// refused.
+/// Returns the answer of `solve` to the bytes of a game file: the text of a strategy over the classes of a grouping whose gaps are both 0, or the
+/// refusal.
 pub fn solve_answer(alloc: Global, bytes: &[u8], grouping: Grouping) -> Result<Answer, AllocError>
     ensures { IfOk result (Answers (Settles Solves grouping bytes.now)) }
 {
     settle(alloc, bytes, grouping, Task::Solve)
 }
 
-/// What `path` answers to the bytes of a game file: the lines of the path on which `solve` finds its strategy; or why the file is refused.
+/// Returns the answer of `path` to the bytes of a game file: the lines of the path on which `solve` finds its strategy, or the refusal.
 pub fn path_answer(alloc: Global, bytes: &[u8], grouping: Grouping) -> Result<Answer, AllocError>
     ensures { IfOk result (Answers (Settles ShowsPath grouping bytes.now)) }
 {

@@ -1,4 +1,4 @@
-//! The lines of a path.
+//! Writing the lines of a path.
 
 ghost use Rattle.std.specs.Prelude.{◌≡◌, ◌+◌, ◌++◌, IfOk, OnOk, string_bytes};
 ghost use Rattle.gs_settle.specs.Paths.{path_text as text_of_path, turn_line, turn_lines};
@@ -16,7 +16,7 @@ fn push_turn(text: &mut String, number: usize, turn: Turn) -> Result<(), AllocEr
     writeln!(text, "{number} enters {enter} leaves {leave}")
 }
 
-// Adds the lines of pivots.
+// Adds the lines of pivots, numbered from 1.
 fn push_turns(text: &mut String, turns: &[Turn]) -> Result<(), AllocError>
     ensures { OnOk result (string_bytes text.new ≡ string_bytes text.old ++ turn_lines 0 turns.now) }
 {
@@ -26,7 +26,7 @@ fn push_turns(text: &mut String, turns: &[Turn]) -> Result<(), AllocError>
     Ok(())
 }
 
-/// The lines of a path: the aim's value after the opening, each pivot, and the aim's value at the end.
+/// Returns the lines of a path: the aim's value (the objective) after the opening, each pivot, and the aim's value at the end.
 pub(crate) fn path_text(alloc: Global, path: &PathTrace) -> Result<String, AllocError>
     ensures { IfOk result (λ text. string_bytes text ≡ text_of_path path.now) }
 {

@@ -16,7 +16,7 @@ use gs_simplex::{Program, Stop, trace};
 use gs_solve::{MOST_PIVOTS, SolveStop, program};
 use std::alloc::{AllocError, Global};
 
-/// The refusal of a game whose program is not made.
+/// Returns the refusal of a game whose linear program is not made.
 fn unmade(alloc: Global, form: &Abstract, stop: SolveStop) -> Result<Answer, AllocError>
     requires { IsProgramStop (frame_of form.now) (lists_of form.now) stop }
     ensures { IfOk result (Answers (ShowsPath (game_in form.now) (lists_of form.now))) }
@@ -28,7 +28,7 @@ fn unmade(alloc: Global, form: &Abstract, stop: SolveStop) -> Result<Answer, All
     }
 }
 
-/// The refusal of a game whose path stops before its end. The table of its program is small, and the path is never unbounded.
+/// Returns the refusal of a game whose path stops before its end. The table of its linear program is within the limit, and the path is never unbounded.
 fn unended(
     alloc: Global,
     form: &Abstract,
@@ -53,7 +53,7 @@ fn unended(
     }
 }
 
-/// The lines of the path of a game's program.
+/// Returns the lines of the path of a game's linear program, or the refusal.
 pub(crate) fn shown(alloc: Global, form: &Abstract) -> Result<Answer, AllocError>
     ensures { IfOk result (Answers (ShowsPath (game_in form.now) (lists_of form.now))) }
 {

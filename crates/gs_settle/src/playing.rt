@@ -11,7 +11,7 @@ use gs_reply::Answer;
 use gs_seq::Abstract;
 use std::alloc::{AllocError, Global};
 
-/// The text of the plans after a number of turns of play.
+/// Returns the text of the strategy after `turns` turns of fictitious play.
 pub(crate) fn played(alloc: Global, form: &Abstract, turns: u32) -> Result<Answer, AllocError>
     requires few { turns ≤ 1000000 }
     requires small { IsSmall (frame_of form.now) (lists_of form.now) }

@@ -1,4 +1,4 @@
-//! From the bytes of a game file to a game in sequence form over classes, and what is asked of it.
+//! From the bytes of a game file to a game in sequence form over classes, and to the answer for a task.
 
 ghost use Rattle.std.specs.Prelude.{IfOk};
 ghost use Rattle.gs_file.specs.Views.{valid_view};
@@ -19,7 +19,7 @@ use gs_tree::Signals;
 use gs_words::Grouping;
 use std::alloc::{AllocError, Global};
 
-// What is asked of a game in sequence form.
+// Returns the answer to a task for a game in sequence form.
 fn over_form(alloc: Global, form: &Abstract, task: Task) -> Result<Answer, AllocError>
     requires few { IsFew task }
     requires small { IsSmall (frame_by form.now) (lists_of form.now) }
@@ -32,7 +32,7 @@ fn over_form(alloc: Global, form: &Abstract, task: Task) -> Result<Answer, Alloc
     }
 }
 
-// What is asked of a game over lossless classes, or that it is too large.
+// Returns the answer to a task for a game over lossless classes, or the refusal of a game that is too large.
 fn over_classes(alloc: Global, lossless: &Lossless, task: Task) -> Result<Answer, AllocError>
     requires { IsFew task }
     ensures { IfOk result (Answers (OfForm (Says task) (valid_view lossless.now.signals.now.game.now) lossless.now.classes.now.lists)) }
@@ -43,7 +43,7 @@ fn over_classes(alloc: Global, lossless: &Lossless, task: Task) -> Result<Answer
     }
 }
 
-// What is asked of a game over the classes of a grouping, or their first unlike pair.
+// Returns the answer to a task for a game over the classes of a grouping, or the refusal with their first unlike pair.
 fn over_game(
     alloc: Global,
     game: &ValidGame,
@@ -61,7 +61,7 @@ fn over_game(
     }
 }
 
-/// What is asked of the bytes of a game file over the classes of a grouping, or why they are refused.
+/// Returns the answer to a task for the bytes of a game file over the classes of a grouping, or the refusal.
 pub(crate) fn settle(
     alloc: Global,
     bytes: &[u8],

@@ -12,7 +12,7 @@ use gs_seq::Abstract;
 use gs_solve::{SolveStop, solve};
 use std::alloc::{AllocError, Global};
 
-/// The refusal of a game that is not solved.
+/// Returns the refusal of a game that is not solved.
 fn unsolved(alloc: Global, form: &Abstract, stop: SolveStop) -> Result<Answer, AllocError>
     requires { IsSolveStop (frame_of form.now) (lists_of form.now) stop }
     ensures { IfOk result (Answers (Solves (game_in form.now) (lists_of form.now))) }
@@ -31,7 +31,7 @@ fn unsolved(alloc: Global, form: &Abstract, stop: SolveStop) -> Result<Answer, A
     }
 }
 
-/// The text of plans with no gaps.
+/// Returns the text of a strategy with both gaps 0, or the refusal.
 pub(crate) fn solved(alloc: Global, form: &Abstract) -> Result<Answer, AllocError>
     requires { IsSmall (frame_of form.now) (lists_of form.now) }
     ensures { IfOk result (Answers (Solves (game_in form.now) (lists_of form.now))) }

@@ -1,4 +1,4 @@
-//! The text of a strategy.
+//! Writing the text of a strategy.
 
 ghost use Rattle.std.specs.Prelude.{IfOk};
 ghost use Rattle.gs_seq.specs.{Abstracts.{frame_of, lists_of}, Plans.{IsPlanOf}, Stops.{IsSmall}};
@@ -9,7 +9,7 @@ use gs_seq::{Abstract, Plan};
 use gs_strategy::write_strategy;
 use std::alloc::{AllocError, Global};
 
-/// The text of the strategy of a game, its classes and two plans, with the verdict on these plans.
+/// Returns the text of the strategy of a game, its classes and two plans, with the value and gaps of these plans.
 pub(crate) fn text_of(
     alloc: Global,
     form: &Abstract,

@@ -7,7 +7,7 @@ use Rattle.gs_model.specs.SignalClasses.{SameClass}
 use Rattle.gs_model.specs.Signals.{Signal, signal_at, signals}
 use Rattle.gs_model.specs.ViewTree.{leaves}
 
--- one round, one private card each, one copy of each kind of the given ranks and suits; no betting is looked at
+-- one round without moves, one private card each, one copy of each of `kinds` kinds of card in `suits` suits
 abbrev pub single_cards : ℕ → ℕ → Game
 single_cards suits kinds = record {
   suits = suits;
@@ -18,7 +18,7 @@ single_cards suits kinds = record {
   rounds = record { private = 1; public = 0; tree = even } ∷ [];
 }
 
--- a signal that shows one own card
+-- the signal of one own card
 abbrev pub seen : ℕ → Signal
 seen card = record { own = card ∷ []; public = [] } ∷ []
 

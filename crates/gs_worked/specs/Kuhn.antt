@@ -33,11 +33,11 @@ apart = (1 ∷ 2 ∷ 3 ∷ []) ∷ []
 abbrev pub plan_by : List (List (List ℕ)) → Plan
 plan_by rows = record { total = 2; number = λ q c m. get_or (get_or (get_or rows q []) (c - 1) []) m 0 }
 
--- player 1 after one turn: a jack or a queen checks half and bets half, the king checks; behind a check and a bet all cards fold
+-- player 1 after one turn: a jack or a queen checks half and bets half, the king checks; after a check and a bet all cards fold
 abbrev pub turn_one : Plan
 turn_one = plan_by (((1 ∷ 1 ∷ []) ∷ (1 ∷ 1 ∷ []) ∷ (2 ∷ 0 ∷ []) ∷ []) ∷ [] ∷ ((1 ∷ 0 ∷ []) ∷ (1 ∷ 0 ∷ []) ∷ (2 ∷ 0 ∷ []) ∷ []) ∷ [] ∷ [])
 
--- player 2 after one turn: behind a check the same, and behind a bet all cards fold
+-- player 2 after one turn: after a check a jack or a queen checks half and bets half, the king checks; after a bet all cards fold
 abbrev pub turn_two : Plan
 turn_two = plan_by ([] ∷ ((1 ∷ 1 ∷ []) ∷ (1 ∷ 1 ∷ []) ∷ (2 ∷ 0 ∷ []) ∷ []) ∷ [] ∷ ((2 ∷ 0 ∷ []) ∷ (2 ∷ 0 ∷ []) ∷ (2 ∷ 0 ∷ []) ∷ []) ∷ [])
 

@@ -1,4 +1,4 @@
--- What an end puts, said along its line: the ante and the chips of the moves on the way to it.
+-- What an end puts, stated along its line: the ante and the chips of the moves on the way to it.
 use Rattle.std.specs.Prelude.{ℕ, ◌≡◌, ◌+◌, ◌==◌, [], ◌∷◌, ◌++◌, List, sum_by, if◌then◌else◌}
 use Rattle.gs_model.specs.Betting.{Bet, Moves, act, fold, even, none, move}
 use Rattle.gs_model.specs.Positions.{End, EndKind, Folded1, Folded2, Show}
@@ -10,13 +10,13 @@ pub record Paid : Type 0 where
   pub chips : ℕ
 
 abbrev mutual
-  -- the ways to the ends of a tree, each the moves from the root on, behind the moves before it; `go_on` has the ways on from an even leaf
+  -- the ways to the ends of a tree, each with the moves before the tree and then those from its root on; `go_on` gives the ways on from an even leaf
   pub ways : (List Paid → List (List Paid)) → List Paid → Bet → List (List Paid)
   ways go_on before (act player moves) = ways_of go_on before player moves
   ways go_on before fold = before ∷ []
   ways go_on before even = go_on before
 
-  -- the same of the moves of a choice
+  -- the ways to the ends after each move of a choice
   pub ways_of : (List Paid → List (List Paid)) → List Paid → ℕ → Moves → List (List Paid)
   ways_of go_on before player none = []
   ways_of go_on before player (move letter chips next moves) =
@@ -35,19 +35,19 @@ chips_one way = sum_by (λ (m : Paid). if m.player == 1 then m.chips else 0) way
 abbrev pub chips_two : List Paid → ℕ
 chips_two way = sum_by (λ (m : Paid). if m.player == 1 then 0 else m.chips) way
 
--- the chips of the player who has folded; at a showdown those of player 1, and in a valid game player 2 has then put as much
+-- the chips of the player who folded; at a showdown those of player 1, which in a valid game equal those of player 2
 abbrev pub chips_at : EndKind → List Paid → ℕ
 chips_at Folded1 way = chips_one way
 chips_at Folded2 way = chips_two way
 chips_at Show way = chips_one way
 
--- ends and ways go together one by one: an end puts the ante and the chips of its way
+-- there are as many ends as ways, and each end puts the ante and the chips of its way
 abbrev pub PutChips : ℕ → List End → List (List Paid) → Type 0
 PutChips ante [] [] = Unit {0}
 PutChips ante [] (way ∷ ways) = ⊥
 PutChips ante (z ∷ zs) [] = ⊥
 PutChips ante (z ∷ zs) (way ∷ ways) = (z.put ≡ ante + chips_at z.kind way) × PutChips ante zs ways
 
--- so it is at all ends of a game, by its ante and its trees
+-- each end of a game, from its ante and its trees, puts the ante and the chips of its way
 abbrev pub PutsAreChips : Type 0
 PutsAreChips = (ante : ℕ) (trees : List Bet) → PutChips ante (walk ante trees).ends (ways_from trees [])

@@ -1,17 +1,17 @@
-//! Worked values of the definitions, as laws: two decks whose classes are known by hand, Kuhn's game after one turn of play, and what ends put. More
-//! values of cards and of Kuhn's game stand in `proofs/`.
+//! Worked values of the definitions, as laws: two decks whose classes are known by hand, Kuhn's game after one turn of play, and the chips put in at
+//! ends. More values of cards and of Kuhn's game stand in `proofs/`.
 //!
 //! The crate runs nothing: a function here is a law, and its contract names the values.
 #![tactic(auto)]
 
 ghost use Rattle.gs_worked.specs.{Decks.{OneRank, TwoSuits}, Kuhn.{KuhnPlay, KuhnVerdict}, Puts.{PutsAreChips}};
 
-/// Kuhn poker with two suits: two hands of one rank are of one class, and hands of two ranks are not.
+/// Kuhn poker with two suits: hands of one rank are in one class, and hands of different ranks are not.
 pub fn two_suits()
     ensures { TwoSuits }
 {}
 
-/// One rank in four suits: all hands are of one class.
+/// One rank in four suits: all hands are in one class.
 pub fn one_rank()
     ensures { OneRank }
 {}

@@ -1,4 +1,4 @@
-//! `gameshrink`: the program. `start` of `gs_run` does all of its work and carries what is proved of it.
+//! `gameshrink`: the program. `start` of `gs_run` does all the work, and its contract states what is proved of the program.
 #![tactic(auto)]
 
 use gs_io::{StdSink, StdSource};
