@@ -1,9 +1,9 @@
-//! Why a line is no row.
+//! Faults of the lines of a file of rows.
 
 use std::alloc::{AllocError, AllocFailed};
 use thiserror::Error;
 
-/// Why a line of a file of rows is no row.
+/// The reason why a line of a file of rows is not a valid row.
 #[derive(Clone, Copy, Debug, PartialEq, Eq, Drop, Error)]
 pub enum RowFault {
     #[error("{0} fields in place of words | input | status | out | err | why")]

@@ -1,8 +1,8 @@
 //! Compares runs of the whole program with what files of rows say of them.
 //!
-//! Its words are the paths of these files. Of each run it compares the status, stdout and stderr, and it prints what differs. A line that is no row is
-//! printed too, and counts as a run that differs. Behind each file it prints how many runs the file has and how many of them differ, and at the end these
-//! counts over all files. `data/README` has the form of a row.
+//! Its words are the paths of these files. For each run it compares the status, stdout and stderr, and prints what differs. A line that is not a valid
+//! row is printed too, and counts as a run that differs. After each file it prints the number of its runs and the number of those that differ. At the end
+//! it prints these counts over all files. `data/README` has the form of a row.
 #![tactic(auto)]
 
 mod fault;
@@ -18,7 +18,7 @@ use std::{env, fs, io};
 use tally::Tally;
 use texts::Texts;
 
-/// Reads a file. Where that fails, it says which file it was.
+/// Returns the text of a file. If reading fails, it prints the file's path to stderr.
 fn read<R: Files + Eprint + AllocGlobal>(rt: &R, path: &str) -> io::Result<String> {
     let text = fs::read_to_string(rt, path);
     if text.is_err() {
@@ -27,7 +27,7 @@ fn read<R: Files + Eprint + AllocGlobal>(rt: &R, path: &str) -> io::Result<Strin
     text
 }
 
-/// Compares the runs of a file, and names the texts that its lines name.
+/// Compares the runs of a file, adds the texts that its lines name, and returns the counts.
 fn compare_file<R: Files + Print + Eprint + AllocGlobal>(
     rt: &R,
     texts: &mut Texts,
@@ -48,7 +48,7 @@ fn compare_file<R: Files + Print + Eprint + AllocGlobal>(
     Ok(tally)
 }
 
-/// Compares the runs of all files that the words name. Returns the counts over all.
+/// Compares the runs of all files that the words name, and returns the counts over all.
 fn compare_files<R: Files + Print + Eprint + Env + AllocGlobal>(rt: &R) -> io::Result<Tally> {
     let mut texts = Texts::new(rt.alloc());
     let mut all = Tally::default();

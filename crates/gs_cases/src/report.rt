@@ -12,9 +12,9 @@ use std::fmt::Write;
 pub enum Found {
     /// It has no run.
     Nothing,
-    /// Its run ends as it has to.
+    /// Its run ends as the row expects.
     Same,
-    /// Its run ends otherwise, or it is no row; a text says what differs.
+    /// Its run ends otherwise, or the line is not a valid row; a text says what differs.
     Differs(String),
 }
 
@@ -37,7 +37,7 @@ fn written(alloc: Global, bytes: &[u8]) -> Result<String, AllocError> {
     Ok(text)
 }
 
-/// Whether bytes are what a field describes: a text; `@` and the name of an input; or, as `800 bytes ending TEXT`, their number and their end.
+/// Returns whether bytes are what a field describes: a text; `@` and the name of an input; or, as `800 bytes ending TEXT`, their number and their end.
 fn is_field(alloc: Global, texts: &Texts, field: &str, bytes: &[u8]) -> Result<bool, RowFault> {
     if let Some(name) = field.strip_prefix("@") {
         return Ok(texts.of(name)? == bytes);
@@ -49,7 +49,7 @@ fn is_field(alloc: Global, texts: &Texts, field: &str, bytes: &[u8]) -> Result<b
     Ok(text_of(alloc, field)?.as_bytes() == bytes)
 }
 
-/// Adds a line on an output that differs.
+/// Adds a line with an output that differs from its field.
 fn push_output(
     alloc: Global,
     text: &mut String,
@@ -65,7 +65,7 @@ fn push_output(
     Ok(())
 }
 
-/// Compares how a run ended with its row. What differs stands in lines of their own, each with a line end before it.
+/// Compares the outcome of a run with its row. Each difference stands in a line of its own, after a line feed.
 pub fn differences(
     alloc: Global,
     texts: &Texts,

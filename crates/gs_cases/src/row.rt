@@ -1,4 +1,4 @@
-//! The rows of a file.
+//! The rows of a file, and reading them.
 
 ghost use Rattle.std.specs.Prelude.{◌≤◌};
 
@@ -19,11 +19,11 @@ pub struct Ends {
     pub ghost moves: { 1 ≤ piece },
 }
 
-/// The most bytes that one call moves where a row does not say it.
+/// The most bytes that one call moves if a row does not say it.
 const PIECE: u32 = 9;
 
 impl Ends {
-    /// Returns ends of which no call fails.
+    /// Returns ends at which no call fails.
     pub fn sure() -> Ends {
         Ends {
             piece: PIECE,
@@ -85,7 +85,7 @@ impl Ends {
     }
 }
 
-/// One run of the program, and how it has to end.
+/// One run of the program, and its expected outcome.
 #[derive(Clone, Copy)]
 pub struct Row<'t> {
     pub ends: Ends,
@@ -101,12 +101,12 @@ pub struct Row<'t> {
 pub enum Line<'t> {
     /// Nothing, or a comment.
     Remark,
-    /// A text by its name.
+    /// A text with its name.
     Text {
         name: &'t str,
         text: &'t str,
     },
-    /// A text by its name, and the words and the input of the run that prints it.
+    /// The name of a text, and the words and the input of the run that prints it.
     Made {
         name: &'t str,
         words: &'t str,
@@ -149,7 +149,7 @@ fn run_of<'t>(fields: &[&'t str]) -> Result<Row<'t>, RowFault> {
     }
 }
 
-/// Returns the name that a line gives, and what stands behind it.
+/// Returns the name that a line gives, and what stands after it.
 fn named(rest: &str) -> Result<(&str, &str), RowFault> {
     let (name, rest) = rest.split_once(" = ").ok_or(RowFault::Naming)?;
     Ok((name.trim(), rest))

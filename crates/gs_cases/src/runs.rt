@@ -1,4 +1,4 @@
-//! Runs over memory, and how they differ from their rows.
+//! Runs in memory, and how they differ from their rows.
 
 use crate::fault::RowFault;
 use crate::report::{Found, differences};
@@ -20,7 +20,7 @@ fn words_in(alloc: Global, field: &str) -> Result<Vec<String>, AllocError> {
     Ok(words)
 }
 
-/// Returns the calls that fail, where `call` is one of them or 0.
+/// Returns the calls that fail: `call` alone, or none if it is 0.
 fn failing(alloc: Global, call: u32) -> Result<Vec<u32>, AllocError> {
     let mut calls = Vec::new(alloc);
     if call > 0 {
@@ -29,7 +29,7 @@ fn failing(alloc: Global, call: u32) -> Result<Vec<u32>, AllocError> {
     Ok(calls)
 }
 
-/// Returns how a run of these words over an input ended.
+/// Returns the outcome of a run of these words over an input.
 fn ended(alloc: Global, words: &str, input: Vec<u8>, ends: Ends) -> Result<Outcome, AllocError> {
     let words = words_in(alloc, words)?;
     let mut source = MemSource::new(input, ends.piece, failing(alloc, ends.read)?);
@@ -50,7 +50,7 @@ fn compare_run(alloc: Global, texts: &Texts, row: &Row<'_>) -> Result<Found, Row
     differences(alloc, texts, row, &end)
 }
 
-/// Names a text that a run prints.
+/// Adds the text that a run prints, under a name.
 fn name_made(
     alloc: Global,
     texts: &mut Texts,
@@ -70,7 +70,7 @@ fn name_made(
     }
 }
 
-/// Does what a line says: names a text, or compares a run.
+/// Does what a line says: adds a named text, or compares a run.
 fn done(alloc: Global, texts: &mut Texts, line: &str) -> Result<Found, RowFault> {
     match line_of(alloc, line)? {
         Line::Remark => {}
@@ -83,7 +83,7 @@ fn done(alloc: Global, texts: &mut Texts, line: &str) -> Result<Found, RowFault>
     Ok(Found::Nothing)
 }
 
-/// Returns what a line's run shows. A line that is no row differs, and its text says why.
+/// Returns what a line shows. A line that is not a valid row differs, and its text says why.
 pub fn compare_line(alloc: Global, texts: &mut Texts, line: &str) -> Result<Found, AllocError> {
     match done(alloc, texts, line) {
         Ok(found) => Ok(found),

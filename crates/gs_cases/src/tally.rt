@@ -1,9 +1,9 @@
-//! How many runs there are, and how many of them differ.
+//! Counts of runs, and of those that differ.
 
 use crate::report::Found;
 use std::fmt;
 
-/// Counts of runs.
+/// The number of runs, and the number of those that differ.
 #[derive(Clone, Copy, Default)]
 pub struct Tally {
     runs: u64,
@@ -21,7 +21,7 @@ impl Tally {
         self.add(Tally { runs, differ });
     }
 
-    /// Adds the counts of another.
+    /// Adds the counts of another tally.
     pub fn add(&mut self, other: Tally) {
         self.runs = self.runs.saturating_add(other.runs);
         self.differ = self.differ.saturating_add(other.differ);

@@ -1,17 +1,17 @@
-//! Texts that runs read and print: how rows write them, and their names.
+//! Texts that runs read and print: their form in rows, and their names.
 
 use crate::fault::RowFault;
 use std::alloc::{AllocError, Global};
 use std::collections::BTreeMap;
 use std::str;
 
-/// Texts by their names.
+/// Texts with their names.
 #[derive(Drop)]
 pub struct Texts {
     named: BTreeMap<String, Vec<u8>>,
 }
 
-/// Returns the text that a row writes: `~` stands for the end of a line, `␣` for a space at its beginning or end.
+/// Returns the text that a row writes. `~` stands for a line feed, and `␣` for a space at the beginning or the end.
 pub fn text_of(alloc: Global, written: &str) -> Result<String, AllocError> {
     let mut text = String::new(alloc);
     for letter in written.trim().chars() {
@@ -24,7 +24,7 @@ pub fn text_of(alloc: Global, written: &str) -> Result<String, AllocError> {
     Ok(text)
 }
 
-/// Adds as many bytes as a part like `200 x 5b` says.
+/// Adds the bytes of a part like `200 x 5b`: the number of times, and the byte in hexadecimal.
 fn push_repeated(bytes: &mut Vec<u8>, count: &str, byte: &str) -> Result<(), RowFault> {
     let count = count.trim().parse::<u32>().map_err(|_| RowFault::Repeat)?;
     let byte = u8::from_str_radix(byte.trim(), 16).map_err(|_| RowFault::Repeat)?;
@@ -34,7 +34,7 @@ fn push_repeated(bytes: &mut Vec<u8>, count: &str, byte: &str) -> Result<(), Row
     Ok(())
 }
 
-/// Returns a text with one part of it changed, where that part first stands.
+/// Returns a text in which the first occurrence of a part is replaced.
 fn changed(alloc: Global, file: &str, change: &str) -> Result<String, RowFault> {
     let (old, new) = change.split_once("->").ok_or(RowFault::NoPlace)?;
     let old = text_of(alloc, old)?;
@@ -43,7 +43,7 @@ fn changed(alloc: Global, file: &str, change: &str) -> Result<String, RowFault> 
     Ok(format!(in alloc; "{before}{new}{behind}")?)
 }
 
-/// Returns a text with changes made one after the other; ` ; ` stands between two.
+/// Returns a text with several changes made one after the other; ` ; ` stands between two.
 fn changed_by(alloc: Global, file: &[u8], changes: &str) -> Result<String, RowFault> {
     let text = str::from_utf8(file).map_err(|_| RowFault::NoPlace)?;
     let mut text = String::from_str(alloc, text)?;
@@ -54,14 +54,14 @@ fn changed_by(alloc: Global, file: &[u8], changes: &str) -> Result<String, RowFa
 }
 
 impl Texts {
-    /// Returns no texts.
+    /// Returns an empty collection.
     pub fn new(alloc: Global) -> Texts {
         Texts {
             named: BTreeMap::new(alloc),
         }
     }
 
-    /// Gives a name to a text.
+    /// Adds a text under a name that is not empty and not yet taken.
     pub fn name(&mut self, alloc: Global, name: &str, bytes: Vec<u8>) -> Result<(), RowFault> {
         if name.is_empty() || self.named.get(name).is_some() {
             return Err(RowFault::Naming);
@@ -78,7 +78,7 @@ impl Texts {
         }
     }
 
-    /// Adds what a part like `100 bytes of kuhn` says.
+    /// Adds the prefix that a part like `100 bytes of kuhn` describes.
     fn push_front(&self, bytes: &mut Vec<u8>, count: &str, name: &str) -> Result<(), RowFault> {
         let count = count.parse::<usize>().map_err(|_| RowFault::Short)?;
         let front = self.of(name)?.get(..count).ok_or(RowFault::Short)?;
@@ -102,7 +102,7 @@ impl Texts {
         Ok(())
     }
 
-    /// Returns the input that the parts of a row describe; where it has none, an empty one.
+    /// Returns the input that the parts of a row describe, and an empty one without parts.
     pub fn read(&self, alloc: Global, parts: &str) -> Result<Vec<u8>, RowFault> {
         let mut bytes = Vec::new(alloc);
         if parts.trim().is_empty() {

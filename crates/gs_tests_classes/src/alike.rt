@@ -1,5 +1,5 @@
-//! Stand-ins of whole games, against their deals one by one. A separate program counted the boards' hands by rank and key, or where bonuses
-//! differ by strength and key.
+//! Stand-ins of whole games, compared with their deals one by one. A separate program counted the boards' hands by rank and key, or by strength and key if
+//! bonuses differ.
 
 ghost use Rattle.std.specs.Prelude.{◌≡◌, IfOk, length};
 ghost use Rattle.gs_tree.specs.{Trees.{rules_of}, Walk.{last_count}};
@@ -13,7 +13,7 @@ use gs_tree::Signals;
 use std::alloc::{AllocError, Global};
 use std::test::Fail;
 
-/// The same key for each signal of the last round.
+/// Returns the same key for each signal of the last round.
 fn one_key(alloc: Global, signals: &Signals) -> Result<Vec<u32>, AllocError>
     ensures { IfOk result (λ v. length v.items ≡ last_count (rules_of signals.now)) }
 {
@@ -22,7 +22,7 @@ fn one_key(alloc: Global, signals: &Signals) -> Result<Vec<u32>, AllocError>
     Ok(keys)
 }
 
-/// Two keys by turns.
+/// Returns two alternating keys.
 fn two_keys(alloc: Global, signals: &Signals) -> Result<Vec<u32>, AllocError>
     ensures { IfOk result (λ v. length v.items ≡ last_count (rules_of signals.now)) }
 {
@@ -33,7 +33,7 @@ fn two_keys(alloc: Global, signals: &Signals) -> Result<Vec<u32>, AllocError>
     Ok(keys)
 }
 
-/// The deals of a signal as its player sees them, in ascending order.
+/// Returns the deals of a signal as its player sees them, in ascending order.
 fn sights(
     alloc: Global,
     signals: &Signals,
@@ -51,7 +51,7 @@ fn sights(
     Ok(all)
 }
 
-/// How many signals stand for themselves, or none where a signal sees other deals than the one that stands for it.
+/// Returns how many signals stand for themselves, or `None` if a signal sees other deals than the one that stands for it.
 fn own_stand_ins(alloc: Global, signals: &Signals, keys: &[u32]) -> Result<Option<u32>, Fail>
     requires { length keys.now ≡ last_count (rules_of signals.now) }
 {
@@ -71,19 +71,19 @@ fn own_stand_ins(alloc: Global, signals: &Signals, keys: &[u32]) -> Result<Optio
     Ok(Some(own))
 }
 
-/// How many signals stand for themselves where all have one key.
+/// Returns how many signals stand for themselves if all have one key.
 fn own_with_one(alloc: Global, signals: &Signals) -> Result<Option<u32>, Fail> {
     let keys = one_key(alloc, signals)?;
     own_stand_ins(alloc, signals, &keys)
 }
 
-/// How many signals stand for themselves with two keys by turns.
+/// Returns how many signals stand for themselves with two alternating keys.
 fn own_with_two(alloc: Global, signals: &Signals) -> Result<Option<u32>, Fail> {
     let keys = two_keys(alloc, signals)?;
     own_stand_ins(alloc, signals, &keys)
 }
 
-/// How many signals stand for themselves: with one key for all, and with two keys by turns.
+/// The question how many signals stand for themselves: with one key for all, and with two alternating keys.
 struct StandIns;
 
 impl Question for StandIns {
@@ -100,7 +100,7 @@ impl Question for StandIns {
     }
 }
 
-/// Games, and how many of their signals stand for themselves: with one key for all, and with two keys by turns.
+/// Games, and how many of their signals stand for themselves: with one key for all, and with two alternating keys.
 const CASES: &[(&str, u32, u32)] = &[
     (TWO_OWN_CARDS, 12, 12),
     (LEDUC_OF_COPIES, 9, 9),

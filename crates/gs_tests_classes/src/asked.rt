@@ -1,19 +1,19 @@
-//! What tests ask of the signals of sample games.
+//! Questions that tests ask about the signals of sample games.
 
 use gs_samples::game_of;
 use gs_tree::Signals;
 use std::alloc::Global;
 use std::test::Fail;
 
-/// A question to the signals of a game.
+/// A question about the signals of a game.
 pub(crate) trait Question {
     type Answer: Drop;
 
-    /// Its answer.
+    /// Returns the answer.
     fn answer(&self, alloc: Global, signals: &Signals<'_>) -> Result<Self::Answer, Fail>;
 }
 
-/// The answer of a game's signals to a question.
+/// Returns the answer to a question about the signals of the game of a line.
 pub(crate) fn asked<Q: Question>(
     alloc: Global,
     line: &str,

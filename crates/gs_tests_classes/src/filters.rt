@@ -8,7 +8,7 @@ use gs_filter::{ClassFault, Classes};
 use std::alloc::{AllocError, Global};
 use std::test::Fail;
 
-/// Lists of digits, a word for each list.
+/// Returns lists of digits from a text with a word for each list.
 fn lists_of(alloc: Global, text: &str) -> Result<Vec<Vec<u32>>, AllocError> {
     let mut lists = Vec::new(alloc);
     for word in text.split(' ') {
@@ -17,7 +17,7 @@ fn lists_of(alloc: Global, text: &str) -> Result<Vec<Vec<u32>>, AllocError> {
     Ok(lists)
 }
 
-/// The digits of a word.
+/// Returns the digits of a word.
 fn digits_of(alloc: Global, word: &str) -> Result<Vec<u32>, AllocError> {
     let mut list = Vec::new(alloc);
     for digit in word.chars() {
@@ -26,7 +26,7 @@ fn digits_of(alloc: Global, word: &str) -> Result<Vec<u32>, AllocError> {
     Ok(list)
 }
 
-/// Parents of three signals, and of two below each of them.
+/// Returns the parents of three signals of round 1, and of two signals below each of them.
 fn worked_parents(alloc: Global) -> Result<Vec<Vec<u32>>, AllocError>
     ensures { IfOk result (λ v. AreParents (rows v.items)) }
 {
@@ -35,19 +35,19 @@ fn worked_parents(alloc: Global) -> Result<Vec<Vec<u32>>, AllocError>
     Ok(vec![in alloc; first, second]?)
 }
 
-/// The classes of lists of digits over the worked parents, or what is wrong with them.
+/// Returns the classes of lists of digits over the worked parents, or their fault.
 fn classes_in(alloc: Global, text: &str) -> Result<Classes, ClassFault> {
     let parents = worked_parents(alloc)?;
     Classes::new(alloc, &parents, lists_of(alloc, text)?)
 }
 
-/// A class for each signal of the worked parents.
+/// Returns a class for each signal of the worked parents.
 fn singles(alloc: Global) -> Result<Classes, AllocError> {
     let parents = worked_parents(alloc)?;
     Classes::identity(alloc, &parents)
 }
 
-/// Size, first member and parents' class of a class of a round from the second.
+/// Returns the size, first member and parents' class of a class of a round after the first.
 fn class_numbers(classes: &Classes, round: u8, class: u32) -> Option<(u32, u32, u32)> {
     if round < 2 || round > classes.rounds() || class < 1 || class > classes.classes(round) {
         return None;
@@ -66,17 +66,17 @@ fn class_of(classes: &Classes, round: u8, signal: u32) -> Option<u32> {
     Some(classes.class_of(round, signal))
 }
 
-/// Rounds, classes, and their size, first member and parents' class in the worked filter.
+/// Rounds and classes, with their size, first member and parents' class in the worked filter.
 const NUMBERS: &[(u8, u32, Option<(u32, u32, u32)>)] = &[
     (2, 1, Some((2, 0, 1))),
     (2, 3, Some((2, 2, 2))),
     (2, 4, None),
 ];
 
-/// Rounds, signals, and their class in the worked filter.
+/// Rounds and signals, with their class in the worked filter.
 const CLASSES: &[(u8, u32, Option<u32>)] = &[(1, 2, Some(1)), (2, 4, Some(1)), (2, 6, None)];
 
-/// The first row of classes' numbers that is not so.
+/// Returns the first row of `NUMBERS` that fails.
 fn other_numbers(classes: &Classes) -> Option<(u8, u32)> {
     for &(round, class, numbers) in NUMBERS {
         if class_numbers(classes, round, class) != numbers {
@@ -86,7 +86,7 @@ fn other_numbers(classes: &Classes) -> Option<(u8, u32)> {
     None
 }
 
-/// The first row of signals' classes that is not so.
+/// Returns the first row of `CLASSES` that fails.
 fn other_class(classes: &Classes) -> Option<(u8, u32)> {
     for &(round, signal, class) in CLASSES {
         if class_of(classes, round, signal) != class {
@@ -96,13 +96,13 @@ fn other_class(classes: &Classes) -> Option<(u8, u32)> {
     None
 }
 
-/// The first rows of numbers and of classes that are not so in the worked filter.
+/// Returns the first rows of `NUMBERS` and of `CLASSES` that fail in the worked filter.
 fn others(alloc: Global) -> Result<(Option<(u8, u32)>, Option<(u8, u32)>), ClassFault> {
     let classes = classes_in(alloc, "121 123312")?;
     Ok((other_numbers(&classes), other_class(&classes)))
 }
 
-/// The second round's classes and parents where each signal is a class, and the fifth class's numbers.
+/// Returns the second round's classes and parents if each signal is a class, and the fifth class's numbers.
 fn singles_text(alloc: Global) -> Result<String, AllocError> {
     let single = singles(alloc)?;
     format!(in alloc;

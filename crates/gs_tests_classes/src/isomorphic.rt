@@ -7,7 +7,7 @@ use gs_tree::Signals;
 use std::alloc::Global;
 use std::test::Fail;
 
-/// The place for the first child in a pairing; none where there is no pairing.
+/// Returns the place of the first child in a pairing, and `None` without a pairing.
 fn first_place(
     alloc: Global,
     signals: &Signals<'_>,
@@ -28,7 +28,7 @@ fn first_place(
     }
 }
 
-/// The place for the first child in the pairing of two signals of a round.
+/// The question for the place of the first child in the pairing of two signals of a round.
 #[derive(Clone, Copy)]
 struct Paired {
     round: u8,
@@ -44,7 +44,7 @@ impl Question for Paired {
     }
 }
 
-/// The place for the first child in a pairing of Leduc hold'em.
+/// Returns the place of the first child in a pairing of Leduc hold'em.
 fn place_in_leduc(alloc: Global, round: u8, a: u32, b: u32) -> Result<Option<u32>, Fail> {
     asked(alloc, LEDUC, &Paired { round, a, b })
 }

@@ -1,5 +1,5 @@
-//! Tests of classes: which lists are filters, which graphs have matchings, which signals are alike, which are isomorphic, which classes lose nothing and
-//! how others are parted. They go through the public calls of `gs_filter`, `gs_match`, `gs_alike`, `gs_iso`, `gs_lossless` and `gs_split`.
+//! Tests of classes: filters, matchings, alike signals, isomorphic signals, lossless classes, and the splitting of others. They go through the public
+//! calls of `gs_filter`, `gs_match`, `gs_alike`, `gs_iso`, `gs_lossless` and `gs_split`.
 #![tactic(auto)]
 
 #[cfg(test)]

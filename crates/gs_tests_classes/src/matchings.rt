@@ -1,4 +1,4 @@
-//! Matchings of worked graphs, by hand.
+//! Matchings of small graphs, worked by hand.
 
 ghost use Rattle.std.specs.Prelude.{◌↔◌, ◌<◌, All, IsTrue};
 ghost use Rattle.gs_match.specs.Adjacency.{AreEdgesInRange};
@@ -7,14 +7,14 @@ use gs_match::{Graph, perfect};
 use std::alloc::{AllocError, Global};
 use std::test::Fail;
 
-/// Whether the edges join left and right nodes of so many.
+/// Returns whether each edge joins one of `left` left nodes and one of `right` right nodes.
 fn are_in_range(left: u32, right: u32, edges: &[(u32, u32)]) -> bool
     ensures { IsTrue result ↔ All (λ e. (e.0 < left) × (e.1 < right)) edges.now }
 {
     edges.iter().all(|edge| edge.0 < left && edge.1 < right)
 }
 
-/// The matching of a graph, or what is said of there being none.
+/// Returns the text of the matching of a graph, or why there is none.
 fn answer_of(alloc: Global, graph: &Graph) -> Result<String, AllocError>
     requires { AreEdgesInRange graph.now }
 {
@@ -24,7 +24,7 @@ fn answer_of(alloc: Global, graph: &Graph) -> Result<String, AllocError>
     }
 }
 
-/// The matching of the graph of these edges, or what is said of there being none; no text where an edge is out of range.
+/// Returns the text of the matching of the graph of these edges, or why there is none; an empty text if an edge is out of range.
 fn answer(
     alloc: Global,
     left: u32,
@@ -38,7 +38,7 @@ fn answer(
     answer_of(alloc, &Graph { left, right, edges })
 }
 
-/// Graphs by the counts of their left and right nodes and their edges, and what is said of their matchings.
+/// Graphs by the numbers of their left and right nodes and their edges, and the expected text of each.
 const CASES: &[(u32, u32, &[(u32, u32)], &str)] = &[
     (2, 2, &[(0, 0), (0, 1), (1, 0)], "[1, 0]"),
     (

@@ -1,4 +1,4 @@
-//! How classes of whole games are parted, with the answers of a separate program that works by the definitions.
+//! Splitting classes of whole games, compared with a separate program that works by the definitions.
 
 ghost use Rattle.std.specs.Prelude.{◌≡◌};
 ghost use Rattle.gs_model.specs.Frame.{frame_of};
@@ -14,7 +14,7 @@ use gs_tree::Signals;
 use std::alloc::{AllocError, Global};
 use std::test::Fail;
 
-/// Whether classes are lossless, and are not parted further.
+/// Returns whether classes are lossless and are not split further.
 fn stays(alloc: Global, signals: &Signals<'_>, classes: &Classes) -> Result<bool, AllocError>
     requires { classes.now.parents ≡ (frame_of (rules_of signals.now)).parents }
 {
@@ -22,7 +22,7 @@ fn stays(alloc: Global, signals: &Signals<'_>, classes: &Classes) -> Result<bool
     Ok(again.lists() == classes.lists() && check(alloc, signals, classes).is_ok())
 }
 
-/// Whether classes are parted into the wanted ones, which stay.
+/// Returns whether classes are split into the expected ones, which are lossless and are not split further.
 fn parts_as(
     alloc: Global,
     signals: &Signals<'_>,
@@ -35,7 +35,7 @@ fn parts_as(
     Ok(stays(alloc, signals, &parted)? && parted.lists() == wanted.lists())
 }
 
-/// Whether the classes of one text are parted into those of another, which are lossless and stay.
+/// The question whether the classes of one text are split into those of another, which are lossless and are not split further.
 #[derive(Clone, Copy)]
 struct Parted<'t> {
     from: &'t str,
@@ -56,7 +56,7 @@ impl Question for Parted<'_> {
 const SINGLES: &str =
     "1 2 3 4 5 6/1 2 3 4 5 6 7 8 9 10 11 12 13 14 15 16 17 18 19 20 21 22 23 24 25 26 27 28 29 30";
 
-/// Games, classes of their signals, and those that they are parted into.
+/// Games, classes of their signals, and the classes that they are split into.
 const CASES: &[(&str, &str, &str)] = &[
     (KUHN, "1 1 1", "1 2 3"),
     (LEDUC, "isomorphic", "ranks"),

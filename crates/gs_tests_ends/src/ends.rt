@@ -1,4 +1,4 @@
-//! Reads and writes that end well, and ones that fail in mid-stream.
+//! Reads and writes that end well, and ones that fail on the way.
 
 ghost use Rattle.std.specs.Prelude.{◌<◌, ◌≤◌, ◌^◌};
 
@@ -10,7 +10,7 @@ use std::alloc::{AllocError, Global};
 use std::io::{self, ErrorKind, Read, Write};
 use std::test::Fail;
 
-// What reading everything answers, twice: the bytes, or why it stopped.
+// Returns the results of reading all bytes, twice.
 fn read_twice<S: Source>(
     alloc: Global,
     source: &mut S,
@@ -22,7 +22,7 @@ fn read_twice<S: Source>(
     (first, read_all(alloc, source, 99))
 }
 
-// Whether an answer is the one that is wanted.
+// Returns whether a result is the expected one.
 fn is_read(answer: &Result<Vec<u8>, ReadStop>, wanted: &Result<&[u8], ReadStop>) -> bool {
     match (answer, wanted) {
         (Ok(bytes), Ok(text)) => bytes.as_slice() == *text,
@@ -31,7 +31,7 @@ fn is_read(answer: &Result<Vec<u8>, ReadStop>, wanted: &Result<&[u8], ReadStop>)
     }
 }
 
-// Bytes, the longest piece, the call that fails, the limit, the answer, and the answer of a second read.
+// Bytes, the longest piece, the call that fails, the limit, the expected result, and the bytes of a second read.
 type ReadRow = (
     &'static [u8],
     u32,
@@ -56,7 +56,7 @@ const READS: &[ReadRow] = &[
     (b"", 2, 1, 0, Err(ReadStop::Fault), b""),
 ];
 
-// Whether both answers of a source are those of its row.
+// Returns whether both results of a source are those of its row.
 fn are_read<S: Source>(alloc: Global, source: &mut S, row: &ReadRow) -> bool
     requires { row.now.3 < 2 ^ 32 }
 {
@@ -65,7 +65,7 @@ fn are_read<S: Source>(alloc: Global, source: &mut S, row: &ReadRow) -> bool
     is_read(&answers.0, &first) && is_read(&answers.1, &Ok(second))
 }
 
-// Whether a source in memory answers as its row says.
+// Returns whether a source in memory gives the results of its row.
 fn reads(alloc: Global, row: &ReadRow) -> Result<bool, AllocError>
     requires piece { 1 ≤ row.now.1 }
     requires limit { row.now.3 < 2 ^ 32 }
@@ -76,7 +76,7 @@ fn reads(alloc: Global, row: &ReadRow) -> Result<bool, AllocError>
     Ok(are_read(alloc, &mut source, row))
 }
 
-// Whether a source that never fails answers as the row says.
+// Returns whether a source that never fails gives the results of the row.
 fn reads_surely(alloc: Global, row: &ReadRow) -> Result<bool, AllocError>
     requires limit { row.now.3 < 2 ^ 32 }
 {
@@ -94,7 +94,7 @@ fn reads_everything_or_stops(rt: HostRuntime) -> Result<(), Fail> {
     Ok(())
 }
 
-// Bytes, room, the longest piece, the call that fails, and how many went out before the fault, if any.
+// Bytes, room, the longest piece, the call that fails, and the number of bytes written before the fault, if there is one.
 type WriteRow = (&'static [u8], u32, u32, u32, Option<usize>);
 
 const WRITES: &[WriteRow] = &[
@@ -108,7 +108,7 @@ const WRITES: &[WriteRow] = &[
     (b"hello", 0, 3, 0, Some(0)),
 ];
 
-// What writing the bytes of a row answers, and what went out.
+// Returns the result of writing the bytes of a row, and the bytes that were written.
 fn written(alloc: Global, row: &WriteRow) -> Result<(Result<(), WriteStop>, Vec<u8>), AllocError>
     requires { 1 ≤ row.now.2 }
 {
@@ -119,7 +119,7 @@ fn written(alloc: Global, row: &WriteRow) -> Result<(Result<(), WriteStop>, Vec<
     Ok((answer, given))
 }
 
-// What writing is to answer.
+// Returns the expected result of writing.
 fn wanted(stop: Option<usize>) -> Result<(), WriteStop> {
     match stop {
         Some(written) => Err(WriteStop::Fault { written }),
@@ -139,7 +139,7 @@ fn writes_everything_or_stops(rt: HostRuntime) -> Result<(), Fail> {
     Ok(())
 }
 
-// What a reader or a writer does at its turns, one after the other.
+// What a reader or a writer does at one of its turns.
 #[derive(Clone, Copy)]
 enum Turn {
     Moves(usize),
@@ -192,14 +192,14 @@ impl Write for Script<'_> {
     }
 }
 
-// Whether a read meets the failing turn, and the next one what stands behind it.
+// Returns whether a first read meets the failing turn, and a second one the turn after it.
 fn reads_turns(alloc: Global, turns: &[Turn]) -> bool {
     let mut source = StdSource::new(Script { turns });
     let answers = read_twice(alloc, &mut source, 9);
     is_read(&answers.0, &Err(ReadStop::Fault)) && is_read(&answers.1, &Ok(b"aa"))
 }
 
-// What two writes answer.
+// Returns the results of two writes.
 fn written_in_turns(turns: &[Turn]) -> (Result<(), WriteStop>, Result<(), WriteStop>) {
     let mut sink = StdSink::new(Script { turns });
     let first = write_all(&mut sink, b"hello");

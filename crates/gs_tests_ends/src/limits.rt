@@ -1,4 +1,4 @@
-//! The lines of games that are too large, and of solutions whose numbers or paths are. Most of them no small game comes to.
+//! The lines for games that are too large, and for solutions with too large a number or too long a path. No small game reaches most of these limits.
 
 use gs_reply::{
     Answer, many_cells, many_pivots, many_raw_cells, many_sequences, many_table_numbers,
@@ -7,7 +7,7 @@ use gs_reply::{
 use std::alloc::{AllocError, Global};
 use std::test::Fail;
 
-/// What is printed, or the line of the refusal.
+/// Returns the text that is printed, or the line of the refusal.
 fn text_of(answer: Answer) -> Vec<u8> {
     match answer {
         Answer::Prints(text) => text,
@@ -15,7 +15,7 @@ fn text_of(answer: Answer) -> Vec<u8> {
     }
 }
 
-/// The refusal for what is too large, and its line.
+/// What is too large, and the line of its refusal.
 const LINES: &[(&str, &str)] = &[
     ("sequences", "too large: sequences of player 2: 262145\n"),
     ("cells", "too large: cells: 4521984\n"),
@@ -29,7 +29,7 @@ const LINES: &[(&str, &str)] = &[
     ("path", "more than 8192 pivots\n"),
 ];
 
-/// The refusal of what is too large.
+/// Returns the refusal for what is too large.
 fn refusal_of(alloc: Global, what: &str) -> Result<Answer, AllocError> {
     match what {
         "sequences" => many_sequences(alloc, 2, 262_145),
