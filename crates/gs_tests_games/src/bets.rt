@@ -17,7 +17,7 @@ const TREES: &[&str] = &[
     "1[a:=,b:=,c:=,d:=,e:=,f:=,g:=,h:=,i:=,j:=,k:=,l:=,m:=,n:=,o:=,p:=,q:=,r:=,s:=,t:=,u:=,v:=,w:=,x:=,y:=,z:=]",
 ];
 
-/// A tree's text, read and printed again.
+/// Returns a tree's text, read and printed again.
 fn printed(alloc: Global, text: &str) -> Result<String, Fail> {
     let tree = parse_tree(alloc, text)?;
     Ok(tree_text(alloc, &tree)?)

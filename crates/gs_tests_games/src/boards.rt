@@ -1,4 +1,4 @@
-//! What last-round signals are paid in their deals, against sums that a separate program took deal by deal.
+//! Payments to signals of the last round over their deals, compared with sums that a separate program took deal by deal.
 
 ghost use Rattle.std.specs.Prelude.{◌≡◌, IfOk, length};
 ghost use Rattle.gs_tree.specs.{Trees.{rules_of}, Walk.{last_count}};
@@ -10,8 +10,8 @@ use gs_tree::Signals;
 use std::alloc::{AllocError, Global};
 use std::test::Fail;
 
-/// Games, and what their signals are paid where each deal takes 3 chips and at a showdown for 5: the first one, and a sum over all that changes where one
-/// is paid otherwise. The order does not apply to two copies of a card, nor to two private cards.
+/// Games, and the payments to their signals if each deal costs 3 chips, and at a showdown for 5. Given are that of the first signal, and a sum over all
+/// signals that changes if one payment does. The order does not apply to two copies of a card, nor to two private cards.
 const CASES: &[(&str, &str)] = &[
     (
         "JQK, s, high, 1 0 check",
@@ -37,7 +37,7 @@ const CASES: &[(&str, &str)] = &[
     ("TJQKA, s, three, 1 0 check, 1 1 check", "no order"),
 ];
 
-/// A number for each of so many signals.
+/// Returns a number for each of `count` signals.
 fn numbers(alloc: Global, count: usize) -> Result<Vec<u64>, AllocError>
     ensures { IfOk result (λ v. length v.items ≡ count) }
 {
@@ -49,7 +49,7 @@ fn numbers(alloc: Global, count: usize) -> Result<Vec<u64>, AllocError>
     Ok(all)
 }
 
-/// The first of some sums, and a sum over all that changes where one does.
+/// Returns the first of some sums, and a sum over all that changes if one of them does.
 fn mixed(sums: &[i128]) -> (i128, i128) {
     let mut mix = 0i128;
     for (signal, sum) in sums.iter().enumerate() {
@@ -58,7 +58,7 @@ fn mixed(sums: &[i128]) -> (i128, i128) {
     (sums.first().copied().unwrap_or(0), mix)
 }
 
-/// What the signals are paid.
+/// Returns the payments to the signals, as `mixed` gives them.
 fn paid(
     alloc: Global,
     order: &BoardOrder<'_>,
@@ -73,7 +73,7 @@ fn paid(
     Ok(mixed(&sums))
 }
 
-/// What is said of the payments to the signals of a game that has an order.
+/// Returns the text of the payments to the signals of a game that has an order.
 fn said(alloc: Global, order: &BoardOrder<'_>, count: usize) -> Result<String, AllocError>
     requires { count ≡ last_count (rules_of order.now.signals.now) }
 {
@@ -82,7 +82,7 @@ fn said(alloc: Global, order: &BoardOrder<'_>, count: usize) -> Result<String, A
     format!(in alloc; "fixed {one} {all} showdown {first} {sum}")
 }
 
-/// What is said of the payments to signals, where they have an order.
+/// Returns the text of the payments to signals, or `no order`.
 fn ordered(alloc: Global, signals: &Signals<'_>) -> Result<String, AllocError> {
     let count = signals.count(signals.rounds()) as usize;
     match BoardOrder::of(alloc, signals)? {
@@ -91,13 +91,13 @@ fn ordered(alloc: Global, signals: &Signals<'_>) -> Result<String, AllocError> {
     }
 }
 
-/// What is said of the payments to the signals of a game.
+/// Returns the text of the payments to the signals of a game.
 fn told_of(alloc: Global, game: &ValidGame) -> Result<String, AllocError> {
     let signals = Signals::of(alloc, game)?;
     ordered(alloc, &signals)
 }
 
-/// What is said of the payments to the signals of the game of a line.
+/// Returns the text of the payments to the signals of the game of a line.
 fn told(alloc: Global, line: &str) -> Result<String, Fail> {
     let game = game_of(alloc, line)?;
     Ok(told_of(alloc, &game)?)

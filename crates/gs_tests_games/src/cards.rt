@@ -1,4 +1,4 @@
-//! The texts of cards, and groups in order.
+//! The texts of cards, and groups of cards in order.
 
 ghost use Rattle.std.specs.Prelude.{◌≤◌};
 
@@ -7,7 +7,7 @@ use std::alloc::{AllocError, Global};
 use std::process::Abort;
 use std::test::Fail;
 
-/// Texts, and the number of the card of three ranks and two suits that each is of.
+/// Texts, and the number of the card with that text in a deck of three ranks and two suits.
 const TEXTS: &[(&str, Option<u8>)] = &[
     ("Js", Some(0)),
     ("Jh", Some(1)),
@@ -21,7 +21,7 @@ const TEXTS: &[(&str, Option<u8>)] = &[
     ("js", None),
 ];
 
-/// The number of the card of a text.
+/// Returns the number of the card with a text.
 fn number_of(deck: &Deck, text: &str) -> Option<u8> {
     Some(deck.card_of(text)?.number())
 }
@@ -33,7 +33,7 @@ fn compare_numbers(rt: &impl Abort, deck: &Deck) {
     }
 }
 
-/// The texts of all cards of a deck.
+/// Returns the texts of all cards of a deck.
 fn texts_of(rt: &impl Abort, alloc: Global, deck: &Deck) -> Result<Vec<u8>, AllocError> {
     let mut texts = Vec::new(alloc);
     for card in deck.cards() {
@@ -52,7 +52,7 @@ fn cards_have_texts(rt: HostRuntime) -> Result<(), Fail> {
     Ok(())
 }
 
-/// The cards of each group of a deck's copies, each group followed by the ways of taking it.
+/// Returns the cards of each group of a deck's copies, each group followed by the number of ways to take it.
 fn listed(alloc: Global, deck: &Deck, size: u8) -> Result<Vec<u64>, AllocError>
     requires { size ≤ 3 }
 {
@@ -66,15 +66,15 @@ fn listed(alloc: Global, deck: &Deck, size: u8) -> Result<Vec<u64>, AllocError>
     Ok(found)
 }
 
-/// The groups of two cards of a deck of four cards with 3, 2, 1 and 0 copies, in their order, each followed by the ways of taking it.
+/// The groups of two cards of a deck of four kinds with 3, 2, 1 and 0 copies, in order, each followed by the number of ways to take it.
 const PAIRS: &[u64] = &[0, 0, 3, 0, 1, 6, 0, 2, 3, 1, 1, 1, 1, 2, 2];
 
-/// The groups of three cards of this deck.
+/// The groups of three cards of the same deck.
 const TRIPLES: &[u64] = &[
     0, 0, 0, 1, 0, 0, 1, 6, 0, 0, 2, 3, 0, 1, 1, 3, 0, 1, 2, 6, 1, 1, 2, 1,
 ];
 
-/// Compares the groups of a deck's copies with those that are wanted.
+/// Compares the groups of a deck's copies with the expected ones.
 fn compare_groups(
     rt: &impl Abort,
     alloc: Global,

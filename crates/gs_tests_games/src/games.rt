@@ -14,7 +14,7 @@ fn told(alloc: Global, line: &str) -> Result<String, Fail> {
     Ok(format!(in alloc; "{points} points {ends} ends weight {weight}")?)
 }
 
-/// Games and their sizes, from the rules of games by hand.
+/// Games and their sizes, worked by hand from the rules of games.
 const CASES: &[(&str, &str)] = &[
     ("JQK, s, high, 1 0 1[k4095:!]", "1 points 1 ends weight 6"),
     (
@@ -32,7 +32,7 @@ fn sizes(rt: HostRuntime) -> Result<(), Fail> {
     check_rows(rt.alloc(), CASES, told)
 }
 
-/// Whether a position is one of the game's and has this text.
+/// Returns whether a position is one of the game's and has this text.
 fn has_text(alloc: Global, game: &ValidGame, at: Target, text: &str) -> Result<bool, AllocError> {
     let points = game.points().len();
     let ends = game.ends().len();
@@ -51,7 +51,7 @@ const TWO: &str = "JQK, s, high, 1 0 kuhn, 0 0 kuhn";
 
 const LATE: &str = "JQK, s, high, 1 0 =, 0 0 kuhn";
 
-/// Games, the text of a line, and the position that it names, from the rules of such texts by hand.
+/// Games, the text of a line, and the position that it names, worked by hand from the rules of such texts.
 const LINES: &[(&str, &str, Option<Target>)] = &[
     (KUHN, "/", Some(Target::Point(0))),
     (KUHN, "/k", Some(Target::Point(1))),
@@ -74,7 +74,7 @@ const LINES: &[(&str, &str, Option<Target>)] = &[
     (LATE, "/", None),
 ];
 
-/// The position that a text names in a game, and whether there is one and it has this text.
+/// Returns the position that a text names in a game, and whether there is one with this text.
 fn named(alloc: Global, line: &str, text: &str) -> Result<(Option<Target>, bool), Fail> {
     let game = game_of(alloc, line)?;
     match game.line_of(text) {

@@ -1,11 +1,11 @@
-//! Strengths and outcomes of hands, by hand.
+//! Strengths and outcomes of hands, worked by hand.
 
 use gs_card::{Deck, Ranking};
 use gs_rank::{Ranker, category, outcome, strength};
 use std::process::Abort;
 use std::test::Fail;
 
-/// The strengths of an own card with two public ones, by three cards, by a pair and by the own card.
+/// Returns the strengths of an own card with two public ones: by three cards, by a pair and by the own card.
 fn strengths(
     rt: &impl Abort,
     ranker: &Ranker<'_>,
@@ -25,7 +25,7 @@ fn strengths(
     )
 }
 
-/// An own card, two public ones, and the strengths of the three.
+/// An own card, two public ones, and their three strengths.
 const HANDS: &[(&str, &str, &str, (u32, u32, u32))] = &[
     ("Qs", "Ks", "As", (1359872, 10, 10)),
     ("As", "3h", "2s", (49216, 12, 12)),
@@ -53,7 +53,7 @@ fn hands_have_strengths(rt: HostRuntime) -> Result<(), Fail> {
     Ok(())
 }
 
-/// Compares an outcome with the one that is wanted.
+/// Compares an outcome with the expected one.
 fn compare_outcome(rt: &impl Abort, found: i8, wanted: i8) {
     assert_eq!(rt; found, wanted);
 }

@@ -1,4 +1,4 @@
-//! Raw signals and deals of whole games, against sums that a separate program took by the definitions.
+//! Raw signals and deals of whole games, compared with sums that a separate program took by the definitions.
 
 use gs_game::ValidGame;
 use gs_samples::{check_row, game_of, signal_text};
@@ -6,9 +6,9 @@ use gs_tree::Signals;
 use std::alloc::{AllocError, Global};
 use std::test::Fail;
 
-/// A game; texts that no signal of its last round has, with a comma between two; and what is said of the game: the texts of the middle and of the last
-/// signal of the last round, the number of deals, the weight of all, a sum over all that changes where one deal does, the sum of the last edges of all
-/// signals of the last round, and the strength of the one in the middle.
+/// A game; texts that no signal of its last round has, with a comma between two; and the expected text for the game. The text has the middle and the last
+/// signal of the last round, the number of deals, their weight, and a sum over all deals that changes if one deal does. It ends with the sum of the last
+/// edges of all signals of the last round, and the strength of the middle one.
 const CASES: &[(&str, &str, &str)] = &[
     (
         "JQK, s, high, 1 0 check",
@@ -47,7 +47,7 @@ const CASES: &[(&str, &str, &str)] = &[
     ),
 ];
 
-/// The number of deals, the weight of all, and a sum over all that changes where one deal does.
+/// Returns the number of deals, the weight of all, and a sum over all that changes if one deal does.
 fn sums(signals: &Signals<'_>) -> (u64, u64, u64) {
     let mut count: u64 = 0;
     let mut weight: u64 = 0;
@@ -65,7 +65,7 @@ fn sums(signals: &Signals<'_>) -> (u64, u64, u64) {
     (count, weight, mix)
 }
 
-/// The sum of the last edges of all signals of the last round, and the strength of the one in the middle.
+/// Returns the sum of the last edges of all signals of the last round, and the strength of the middle one.
 fn edges(signals: &Signals<'_>) -> (u64, u32) {
     let round = signals.rounds();
     let count = signals.count(round);
@@ -82,7 +82,7 @@ fn edges(signals: &Signals<'_>) -> (u64, u32) {
     (sum, strength)
 }
 
-/// What is said of the signals and deals of a game.
+/// Returns the text for the signals and deals of a game.
 fn told(alloc: Global, signals: &Signals<'_>) -> Result<String, AllocError> {
     let round = signals.rounds();
     let count = signals.count(round);
@@ -95,7 +95,7 @@ fn told(alloc: Global, signals: &Signals<'_>) -> Result<String, AllocError> {
     )
 }
 
-/// Whether a signal is there and its text names it.
+/// Returns whether a signal is there and its text names it.
 fn is_named(
     alloc: Global,
     signals: &Signals<'_>,
@@ -107,7 +107,8 @@ fn is_named(
     Ok(within && signals.index_of(round, text.as_str()) == Some(signal))
 }
 
-/// Whether their texts name the first signal, and of the last round the middle and the last one, and none of the texts is that of one.
+/// Returns whether texts name what they should: the first signal, and the middle and the last one of the last round, each by its own text. No text of
+/// `nothing` may name a signal of the last round.
 fn names(alloc: Global, signals: &Signals<'_>, nothing: &str) -> Result<bool, AllocError> {
     let round = signals.rounds();
     let count = signals.count(round);
@@ -121,7 +122,7 @@ fn names(alloc: Global, signals: &Signals<'_>, nothing: &str) -> Result<bool, Al
     )
 }
 
-/// What is said of signals and their deals, and whether the texts name what they should.
+/// Returns the text for signals and their deals, and whether the texts name what they should.
 fn found(
     alloc: Global,
     signals: &Signals<'_>,
@@ -131,13 +132,13 @@ fn found(
     Ok((told(alloc, signals)?, named))
 }
 
-/// What is found of the signals of a game.
+/// Returns what `found` returns for the signals of a game.
 fn found_of(alloc: Global, game: &ValidGame, nothing: &str) -> Result<(String, bool), AllocError> {
     let signals = Signals::of(alloc, game)?;
     found(alloc, &signals, nothing)
 }
 
-/// What is found of the signals of the game of a line.
+/// Returns what `found` returns for the signals of the game of a line.
 fn found_in(alloc: Global, line: &str, nothing: &str) -> Result<(String, bool), Fail> {
     let game = game_of(alloc, line)?;
     Ok(found_of(alloc, &game, nothing)?)

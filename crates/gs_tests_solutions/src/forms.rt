@@ -1,4 +1,4 @@
-//! What stops the path of a game's program over its classes.
+//! What stops the path of the linear program of a game over classes.
 
 use crate::leduc::stop_of_stated;
 use gs_lossless::{Lossless, check};

@@ -1,4 +1,4 @@
-//! Divisors, multiples and reduced fractions, by hand.
+//! Divisors, multiples and reduced fractions, worked by hand.
 
 use gs_frac::{FracFault, Fraction, gcd, lcm_within};
 use std::process::Abort;

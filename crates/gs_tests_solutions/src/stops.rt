@@ -1,4 +1,4 @@
-//! Programs that `run` of `gs_simplex` refuses, and one that it just does not.
+//! Linear programs that `run` of `gs_simplex` refuses, and one just within the limit.
 
 ghost use Rattle.std.specs.Prelude.{◌<◌, ◌^◌, IfOk};
 ghost use Rattle.gs_tests_solutions.specs.Programs.{IsWideSample, IsRowless};
@@ -8,7 +8,7 @@ use gs_simplex::{Best, Stop, run};
 use std::alloc::{AllocError, Global};
 use std::test::Fail;
 
-/// What stopped the path; no text where nothing did.
+/// Returns the text of what stopped the path, and an empty text if nothing did.
 pub(crate) fn stop_text(alloc: Global, answer: &Result<Best, Stop>) -> Result<String, AllocError> {
     match answer {
         Ok(_) => Ok(String::new(alloc)),
@@ -35,7 +35,7 @@ fn wide_program(alloc: Global) -> Result<Program, AllocError>
     })
 }
 
-/// What stops the path of the wide program.
+/// Returns what stops the path of the wide program.
 fn wide_stop(alloc: Global) -> Result<String, AllocError> {
     let p = wide_program(alloc)?;
     let answer = run(alloc, &p, &[(1, 1), (2, 2)], 9);
@@ -65,7 +65,7 @@ fn rowless(alloc: Global, cols: u32) -> Result<Program, AllocError>
     })
 }
 
-/// What stops the path of the program of so many columns and no row.
+/// Returns what stops the path of the program with `cols` columns and no row.
 fn rowless_stop(alloc: Global, cols: u32) -> Result<String, AllocError>
     requires { cols < 2 ^ 31 }
 {

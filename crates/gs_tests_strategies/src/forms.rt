@@ -1,4 +1,4 @@
-//! Games in sequence form, against sums taken by hand. A hand above the lowest category wins double.
+//! Games in sequence form, compared with sums taken by hand. A hand above the lowest category wins double.
 
 ghost use Rattle.std.specs.Prelude.{◌<◌};
 
@@ -10,10 +10,10 @@ use gs_tree::Signals;
 use std::alloc::Global;
 use std::test::Fail;
 
-/// A row of the table: a round, a class of player 1, the class of player 2 behind which to look, and the pair there.
+/// A row of the table: a round, a class of player 1, the class of player 2 after which to look, and the pair there.
 type Query = (u8, u32, u32, Option<(u32, u32, i64)>);
 
-/// The pair of a class behind another one, or none where the round has no such class.
+/// Returns the pair of a class after another one, or `None` if the round has no such class.
 fn pair_at(form: &Abstract<'_>, round: u8, one: u32, after: u32) -> Option<Pair> {
     let classes = form.lossless().classes();
     if 0 < round && round <= classes.rounds() && 0 < one && one <= classes.classes(round) {
@@ -22,7 +22,7 @@ fn pair_at(form: &Abstract<'_>, round: u8, one: u32, after: u32) -> Option<Pair>
     None
 }
 
-/// Whether each query has its answer.
+/// Returns whether each query has its answer.
 fn answers(form: &Abstract<'_>, queries: &[Query]) -> bool {
     for query in queries {
         let (round, one, after, want) = *query;
@@ -38,17 +38,17 @@ fn answers(form: &Abstract<'_>, queries: &[Query]) -> bool {
     true
 }
 
-/// How many sequences both players have, and the answers to which queries.
+/// The expected numbers of sequences of both players, and the queries with their answers.
 type Want<'a> = ((u32, u32), &'a [Query]);
 
-/// Whether there is a form that has so many sequences and gives these answers, or why there is none.
+/// Returns whether the sequence form has the expected numbers of sequences and answers, or why there is no form.
 fn formed(alloc: Global, lossless: &Lossless<'_>, want: Want<'_>) -> Result<bool, SeqStop> {
     let form = Abstract::of(alloc, lossless)?;
     let counts = (form.sequences(1), form.sequences(2));
     Ok(counts == want.0 && answers(&form, want.1))
 }
 
-/// How the sequence form over classes of these signals ends.
+/// Returns what `formed` returns for the sequence form over classes of these signals.
 fn over_signals(
     alloc: Global,
     signals: &Signals<'_>,
@@ -60,7 +60,7 @@ fn over_signals(
     Ok(formed(alloc, &lossless, want))
 }
 
-/// How the sequence form of a game over classes ends: that it has so many sequences of both players and its answers are these, or why there is none.
+/// Returns what `formed` returns for the sequence form of a game over classes.
 fn outcome(
     alloc: Global,
     game: &str,
@@ -95,7 +95,7 @@ const OF_LEDUC: &[Query] = &[
     (2, 2, 8, None),
 ];
 
-/// Games and classes, how many sequences both players have, pairs of classes, and whether there is a form.
+/// Games and classes, the numbers of sequences of both players, pairs of classes, and the expected result.
 const CASES: &[(&str, &str, Want<'static>, Result<bool, SeqStop>)] = &[
     (
         "JQK, s, high 1 2 1, 1 0 kuhn",

@@ -1,4 +1,4 @@
-//! Tests of sequence forms, of verdicts and of best answers, through the public calls of `gs_seq`, `gs_best` and `gs_raw`.
+//! Tests of sequence forms, of verdicts and of best responses (here called best answers), through the public calls of `gs_seq`, `gs_best` and `gs_raw`.
 #![tactic(auto)]
 
 #[cfg(test)]

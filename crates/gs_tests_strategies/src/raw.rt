@@ -1,4 +1,4 @@
-//! How many pairs of raw signals a game has over its ends.
+//! The number of pairs of raw signals over all ends of a game.
 
 use crate::rows::{agree, over_game};
 use gs_raw::raw_cells;

@@ -1,4 +1,4 @@
-//! The sequence form of a game over classes of its signals, and plans in it by their texts.
+//! The sequence form of a game over classes of its signals, and plans in it given by texts.
 
 ghost use Rattle.std.specs.Prelude.{◌≤◌, ◌<◌, IfOk};
 ghost use Rattle.gs_seq.specs.{Abstracts.{frame_of, lists_of}, Plans.{IsPlanOf}};
@@ -12,7 +12,7 @@ use std::alloc::Global;
 use std::fmt::Debug;
 use std::test::Fail;
 
-/// Fails where one value is found for a row and another is wanted.
+/// Fails, naming the row, if the value found for a row is not the expected one.
 pub(crate) fn agree<T: PartialEq + Debug + Drop>(
     alloc: Global,
     found: T,
@@ -25,7 +25,7 @@ pub(crate) fn agree<T: PartialEq + Debug + Drop>(
     Err(Fail::new(format!(in alloc; "{found:?} in place of {want:?} at {row}")?))
 }
 
-/// What is said of the signals of a checked game.
+/// Returns what `say` returns for the signals of a checked game.
 fn over_checked<R, F: FnOnce(&Signals<'_>) -> Result<R, Fail> + Drop>(
     alloc: Global,
     game: &ValidGame,
@@ -37,7 +37,7 @@ fn over_checked<R, F: FnOnce(&Signals<'_>) -> Result<R, Fail> + Drop>(
     say(&signals)
 }
 
-/// What is said of a game's signals, the game as `gs_samples` reads it.
+/// Returns what `say` returns for the signals of a game, which `gs_samples` reads.
 pub(crate) fn over_game<R, F: FnOnce(&Signals<'_>) -> Result<R, Fail> + Drop>(
     alloc: Global,
     game: &str,
@@ -49,7 +49,7 @@ pub(crate) fn over_game<R, F: FnOnce(&Signals<'_>) -> Result<R, Fail> + Drop>(
     over_checked(alloc, &game, say)
 }
 
-/// What is said of the form over lossless classes.
+/// Returns what `say` returns for the sequence form over lossless classes.
 fn over_lossless<R, F: FnOnce(&Abstract<'_>) -> Result<R, Fail> + Drop>(
     alloc: Global,
     lossless: &Lossless<'_>,
@@ -61,7 +61,7 @@ fn over_lossless<R, F: FnOnce(&Abstract<'_>) -> Result<R, Fail> + Drop>(
     say(&form)
 }
 
-/// What is said of the form over classes of these signals.
+/// Returns what `say` returns for the sequence form over classes of these signals.
 fn over_signals<R, F: FnOnce(&Abstract<'_>) -> Result<R, Fail> + Drop>(
     alloc: Global,
     signals: &Signals<'_>,
@@ -75,7 +75,7 @@ fn over_signals<R, F: FnOnce(&Abstract<'_>) -> Result<R, Fail> + Drop>(
     over_lossless(alloc, &lossless, say)
 }
 
-/// What is said of the form of a game over classes of its signals, both as `gs_samples` reads them.
+/// Returns what `say` returns for the sequence form of a game over classes of its signals; `gs_samples` reads both.
 pub(crate) fn over_form<R, F: FnOnce(&Abstract<'_>) -> Result<R, Fail> + Drop>(
     alloc: Global,
     game: &str,
@@ -89,7 +89,7 @@ pub(crate) fn over_form<R, F: FnOnce(&Abstract<'_>) -> Result<R, Fail> + Drop>(
     })
 }
 
-/// A player's plan by its total and its weights, or by the word `first` the first moves everywhere.
+/// Returns a player's plan from its total and its weights; the word `first` in place of weights stands for the first move everywhere.
 pub(crate) fn plan_in(
     alloc: Global,
     form: &Abstract<'_>,

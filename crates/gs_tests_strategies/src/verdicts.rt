@@ -1,5 +1,5 @@
-//! Verdicts on small games, against the gaps that a separate program found by trying every pure raw plan of each player, and best answers. The
-//! last two games have too many pure plans to try: their gaps are those that the separate program found by its own best answers.
+//! Verdicts and best answers (best responses) of small games. They are compared with the gaps that a separate program found by trying every pure raw plan
+//! of each player. The last two games have too many pure plans to try: for their gaps the separate program used its own best answers.
 
 ghost use Rattle.std.specs.Prelude.{◌≤◌, ◌<◌};
 ghost use Rattle.gs_model.specs.Frame.{other_player};
@@ -13,8 +13,8 @@ use gs_seq::{Abstract, Plan};
 use std::alloc::{AllocError, Global};
 use std::test::Fail;
 
-// A game a line: the game, its classes and two plans; value and gaps; then the weights and the choices of player 1's best answer to player 2's plan, and
-// those of player 2's to player 1's, as the separate program has them: only the last line leaves these out.
+// One game a line: the game, its classes and two plans; value and gaps; the weights and the choices of player 1's best answer to player 2's plan; and those
+// of player 2's best answer to player 1's plan. The best answers are those of the separate program. Only the last line leaves them out.
 const GAMES: &str = "\
 JQK, s, high, 1 0 kuhn|1 2 3|1|first|1|first|0 1 1 1 1 1|0 1 0 1 1 0 0 0 0 0 1 0|1 1 0 0 0 0|0 1 0 1 1 0 1 0 1 0 1 0|1 1 0 0 0 0
 JQK, s, high, 1 0 kuhn|1 2 3|2|1 1 1 1 2 0 1 0 1 0 2 0|2|1 1 1 1 2 0 2 0 2 0 2 0|1 12 13 12 7 6|0 1 0 1 1 0 0 0 0 0 0 1|1 1 0 0 1 1|0 1 0 1 1 0 1 0 0 1 0 \
@@ -112,7 +112,7 @@ JQK, sh, pair, 1 0 1[k:2[k:=,b2:1[f:!,c2:=,r4:2[f:!,c2:=]]],b2:2[f:!,c2:=,r4:1[f
     9|1|first|1|first|0 1 1 1 1 1
 ";
 
-/// The verdict on two plans as a text.
+/// Returns the verdict on two plans as a text.
 fn text_of(alloc: Global, form: &Abstract<'_>, one: &Plan, two: &Plan) -> Result<String, AllocError>
     requires one { IsPlanOf (frame_of form.now) (lists_of form.now) 1 one.now }
     requires two { IsPlanOf (frame_of form.now) (lists_of form.now) 2 two.now }
@@ -125,7 +125,7 @@ fn text_of(alloc: Global, form: &Abstract<'_>, one: &Plan, two: &Plan) -> Result
     )
 }
 
-/// Whether these are a player's choices against a plan.
+/// Returns whether these are a player's choices against a plan.
 fn chooses(
     alloc: Global,
     form: &Abstract<'_>,
@@ -142,7 +142,7 @@ fn chooses(
     Ok(*listed == *wanted)
 }
 
-/// Whether a player's best answer to a plan has these weights, and these are his choices.
+/// Returns whether a player's best answer to a plan has these weights and these choices.
 fn is_answer(
     alloc: Global,
     form: &Abstract<'_>,
@@ -161,7 +161,7 @@ fn is_answer(
     Ok(same && chooses(alloc, form, player, other, moves)?)
 }
 
-/// Whether the best answers to two plans are as a row has them, where it has any.
+/// Returns whether the best answers to two plans are those of a row, or the row has none.
 fn answers_hold(
     alloc: Global,
     form: &Abstract<'_>,
@@ -179,7 +179,7 @@ fn answers_hold(
     Ok(first && is_answer(alloc, form, 2, one, row[7], row[8])?)
 }
 
-/// The verdict on two plans as a text, where the best answers are as a row has them.
+/// Returns the verdict on two plans as a text, if the best answers are those of a row.
 fn judged_plans(
     alloc: Global,
     form: &Abstract<'_>,
@@ -196,7 +196,7 @@ fn judged_plans(
     String::from_str(alloc, "other answers")
 }
 
-/// What is judged of the plans of a row.
+/// Returns what `judged_plans` returns for the plans of a row.
 fn judged(alloc: Global, form: &Abstract<'_>, row: &[&str]) -> Result<String, Fail> {
     if row.len() < 5 {
         return Err("a row with no verdict".into());
@@ -206,7 +206,7 @@ fn judged(alloc: Global, form: &Abstract<'_>, row: &[&str]) -> Result<String, Fa
     Ok(judged_plans(alloc, form, &one, &two, row)?)
 }
 
-/// What is judged of a line, and the verdict that it has.
+/// Returns what `judged` returns for a line, and the expected verdict.
 fn told(alloc: Global, line: &str) -> Result<(String, &str), Fail> {
     let row: Vec<&str> = line.split('|').collect(alloc)?;
     if row.len() != 7 && row.len() != 11 {
