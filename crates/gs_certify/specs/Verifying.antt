@@ -27,7 +27,7 @@ abbrev pub bounds_text : FractionParts → Stated → List ℕ
 bounds_text value c = number_line (codes "value") value ++ number_line (codes "player1 at most") c.one.bound
     ++ number_line (codes "player2 at most") c.two.bound
 
--- the classes are lossless, the game is within the limits, the certificate is valid for the plans, and the text gives their value and the bounds
+-- The classes are lossless, the game is within the limits, and the certificate is valid for the plans. The text gives their value and the bounds.
 pub record IsVerified (s : Strategy) (c : Certificate) (text : List ℕ) : Type 0 where
   pub lossless : IsLossless (frame_of s) s.classes
   pub small : IsSmall (frame_of s) s.classes

@@ -59,7 +59,7 @@ fn of_lossless(
     }
 }
 
-/// Returns the answer for a strategy that was read, or the refusal of classes that are not lossless or of a game that is too large.
+/// Returns the answer for a strategy that was read. Classes that are not lossless and a game that is too large are refused.
 pub(crate) fn of_strategy(
     alloc: Global,
     task: &Task<'_>,

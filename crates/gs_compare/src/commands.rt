@@ -11,8 +11,8 @@ use gs_reply::{Answer, Which, stored_or_refusal};
 use gs_strategy::Stored;
 use std::alloc::{AllocError, Global};
 
-/// Returns the value of the plans of a strategy file and what each player could still gain by any raw plan, whether the classes are lossless or not;
-/// or the refusal.
+/// Returns the value of the plans of a strategy file and what each player could still gain by any raw plan; or the refusal. The classes may be lossless
+/// or not.
 pub fn judge_answer(alloc: Global, bytes: &[u8]) -> Result<Answer, AllocError>
     ensures { IfOk result (Answers (Judges bytes.now)) }
 {
@@ -32,8 +32,8 @@ fn against(alloc: Global, one: &Stored, bytes: &[u8]) -> Result<Answer, AllocErr
     }
 }
 
-/// Returns the value of player 1's plan of one strategy file against player 2's of a second one after it, what each player could still gain by any raw
-/// plan, and the value of each raw signal of round 1; or the refusal.
+/// Returns the answer of `duel` for two strategy files, one after the other: player 1's plan of the first plays against player 2's of the second. The answer
+/// is their value, what each player could still gain by any raw plan, and the value of each raw signal of round 1; or the refusal.
 pub fn duel_answer(alloc: Global, bytes: &[u8]) -> Result<Answer, AllocError>
     ensures { IfOk result (Answers (Duels bytes.now)) }
 {

@@ -32,8 +32,8 @@ pub(crate) fn judged(alloc: Global, stored: &Stored) -> Result<Answer, AllocErro
     }
 }
 
-// Returns the answer of `duel` for two strategies of one game: the value and gaps of player 1's plan of the first against player 2's of the second, and the
-// value of each raw signal of round 1.
+// Returns the answer of `duel` for two strategies of one game. Player 1's plan of the first plays against player 2's of the second. The answer is their value
+// and gaps, and the value of each raw signal of round 1.
 fn fought(alloc: Global, one: &Stored, two: &Stored) -> Result<Answer, AllocError>
     requires { valid_view one.now.game ≡ valid_view two.now.game }
     ensures { IfOk result (Answers (SaysHands (stored_view one.now) (stored_view two.now))) }

@@ -8,7 +8,7 @@ use Rattle.gs_seq.specs.Stops.{IsSmall}
 use Rattle.gs_strategy.specs.Confirmed.{AreNumbersOf, frame_of}
 use Rattle.gs_strategy.specs.Values.{Numbers, FractionParts, Strategy}
 
--- the classes are lossless, and the game is too large
+-- the classes are lossless, the game is too large, and this is the first limit that it passes
 pub record IsTooLarge (s : Strategy) (limit : Limit) : Type 0 where
   pub lossless : IsLossless (frame_of s) s.classes
   pub passed : Passes s.game s.classes limit

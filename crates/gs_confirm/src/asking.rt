@@ -2,7 +2,7 @@
 
 ghost use Rattle.std.specs.Prelude.{◌<◌, ◌≤◌};
 
-/// A query for the mixture of a player at a point, given by the text of its line, with a raw signal, given by its text.
+/// A query for the mixture of a player at a point with a raw signal. `line` is the text of the point's line, `signal` that of the raw signal.
 #[derive(Clone, Copy)]
 pub struct Query<'w> {
     pub player: u8,

@@ -5,8 +5,8 @@ use Rattle.gs_card.specs.declared.faults.DeckFault.{DeckFault}
 use Rattle.gs_game.specs.Refusals.{Refusal}
 use Rattle.gs_file.specs.declared.fault.Place.{Place}
 
--- the first fault of a game file: not UTF-8, not TOML, a missing or an unknown key, a value of a wrong type, a wrong version, a value out of its
--- range, no deck, no betting tree, or a broken rule of games
+-- The first fault of a game file. It is not UTF-8 or not TOML. A key is missing or unknown. A value has a wrong type or is out of its range. The version is
+-- wrong. There is no deck or no betting tree. Or a rule of games is broken.
 pub data Fault : Type 0 where
   not_text : Fault
   not_toml : Fault

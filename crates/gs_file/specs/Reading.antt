@@ -265,8 +265,8 @@ pub record Stated : Type 0 where
   pub ante : ℕ
   pub rounds : List (Round ℕ)
 
--- What a file states beside its deck. Checked are the number of rounds, then the keys and types of each round, the ranking, the bonus, the ante from 1 to
--- 4,096 chips, and the ranges of each round.
+-- What a file states beside its deck. Checked are the number of rounds, the keys and types of each round, and the ranking. Then come the bonus, the ante
+-- from 1 to 4,096 chips, and the ranges of each round.
 unfoldable pub stated_at : Form → Top → Result Stated Fault
 stated_at form fields = do
   _ ← counted fields.rounds

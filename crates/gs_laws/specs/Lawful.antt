@@ -22,8 +22,8 @@ pub record IsDealt (g : FileGame) : Type 0 where
   pub deals : 0 < total_weight (frame_in g)
 
 -- Player 1's plan of one strategy and player 2's plan of another stand for raw plans of these players in one game. Totals are above 0. At each point of
--- the player and each raw signal the numbers of the moves add up to the number of the player's last move before, or to the total where there is none.
--- And the game has deals.
+-- the player and each raw signal the numbers of the moves add up to the number of the player's last move before. Without such a move they add up to the
+-- total. And the game has deals.
 pub record AreRawPlans (one two : Strategy) : Type 0 where
   pub first : IsRawPlan (frame_in one.game) 1 (raw_plan one one.one)
   pub second : IsRawPlan (frame_in one.game) 2 (raw_plan two two.two)

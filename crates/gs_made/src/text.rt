@@ -57,8 +57,9 @@ fn push_round(text: &mut String, round: Round, cap: u8) -> Result<(), AllocError
     )
 }
 
-/// Returns the game file of a well-known game with the highest `ranks` of the thirteen, the first
-/// `suits` of spades, hearts, diamonds and clubs, and at most `cap` bets and raises in a round.
+/// Returns the game file of a well-known game with the highest `ranks` of the thirteen and the
+/// first `suits` of spades, hearts, diamonds and clubs. Each round has at most `cap` bets and
+/// raises.
 ///
 /// The file may still be refused, for example if the game has fewer cards than it deals.
 pub fn made_game(

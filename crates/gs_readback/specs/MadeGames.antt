@@ -20,7 +20,8 @@ ranking_for Rhode = Three
 abbrev pub round_for : ℕ → ℕ × ℕ × ℕ → Round
 round_for cap r = record { private = r.0; public = r.1; tree = limit_bet r.2 cap }
 
--- the game of a kind with the given numbers of highest ranks and first suits, one copy of each card, no bonuses, and at most `cap` bets and raises in a round
+-- The game of a kind with the `ranks` highest ranks and the first `suits` suits. There is one copy of each card, each bonus is 1, and a round has at most
+-- `cap` bets and raises.
 abbrev pub game_for : Kind → ℕ → ℕ → ℕ → FileGame
 game_for kind ranks suits cap = record {
   deck = deck_of (last ranks (codes "23456789TJQKA")) (take suits (codes "shdc")) [];

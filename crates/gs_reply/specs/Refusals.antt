@@ -54,20 +54,20 @@ cause_of (Bad_query why) = cause.BadQuery
 cause_of Other_game = cause.OtherGame
 cause_of (Bad_certificate why) = cause.BadCertificate
 
--- what there is too much of, and how much
+-- the text of what there is too much of, and how much
 abbrev pub limit_text : Limit → List ℕ
 limit_text (Sequences player count) = codes "sequences of player " ++ decimal player ++ codes ": " ++ decimal count
 limit_text (Cells count) = codes "cells: " ++ decimal count
 limit_text (Table_numbers count) = codes "table numbers: " ++ decimal count
 limit_text (Raw_cells count) = codes "raw cells: " ++ decimal count
 
--- what of a solution is too large, and where
+-- the text of what of a solution is too large, and where
 abbrev pub overflow_text : Overflowing → List ℕ
 overflow_text (At_step step row column number) =
     codes "step " ++ decimal step ++ codes " row " ++ decimal row ++ codes " column " ++ decimal column ++ codes " number " ++ signed_decimal number
 overflow_text (At_total player multiple) = codes "player " ++ decimal player ++ codes " total " ++ decimal multiple
 
--- the part of a query that breaks a rule
+-- the text of the part of a query that breaks a rule
 abbrev pub query_text : QueryFault → List ℕ
 query_text query.Line = codes "line"
 query_text query.Player = codes "player"

@@ -32,7 +32,7 @@ pub record IsDecided (words : List (List ℕ)) (old new : Ends) (s : Status) : T
   pub reply : (task : Task) (bytes : List ℕ) (reply : Reply) → request_of words ≡ Some task → Holds (reads task) old bytes
       → NothingFailed (reads task) old new → Asks task bytes reply → DoesReply reply old new s ⊎ (s ≡ status.Memory)
 
--- two runs over the same words and the same bytes, without a failed read or write, give the same reply, unless one of them runs out of memory
+-- two runs over the same words and bytes give the same reply, if no read or write fails; or one of them runs out of memory
 abbrev pub OneReply : List (List ℕ) → Ends → Ends → Status → Ends → Ends → Status → Type 0
 OneReply words old new s before after t =
     (task : Task) (bytes : List ℕ) → request_of words ≡ Some task → Holds (reads task) old bytes → Holds (reads task) before bytes

@@ -34,7 +34,7 @@ use Rattle.gs_run.specs.Statuses.{status_of}
 use Rattle.gs_run.specs.declared.status.Status.{Status}
 use Rattle.gs_run.specs.declared.status.Status.TheVariants as status
 
--- the run ends well, and `says` holds of some text; or out of memory; or at the status of a refusal of which `says` holds
+-- the run ends well, and `says` holds of some text; or out of memory; or `says` holds of some refusal, and the run ends with its status
 abbrev pub EndsSo : (Reply → Type 0) → Status → Type 0
 EndsSo says s =
     ((s ≡ status.Ok) × ((text : List ℕ) × says (Prints text))) ⊎ ((s ≡ status.Memory)
@@ -69,7 +69,7 @@ abbrev pub OverTwo : (Strategy → Strategy → Status → Type 0) → List ℕ 
 OverTwo ends bytes s =
     (v w : Version) (one two : Strategy) → IsStrategy v one → IsStrategy w two → bytes ≡ strategy_text v one ++ strategy_text w two → ends one two s
 
--- If the bytes are a strategy file and a certificate's text after it, the run ends well, out of memory, or with a refusal, as `SaysChecked` says of both.
+-- If the bytes are a strategy file and a certificate's text, the run ends well, out of memory, or with a refusal, as `SaysChecked` says.
 -- If `certify` prints these bytes for a strategy file, the run ends well or out of memory.
 pub record OverCertificate (bytes : List ℕ) (s : Status) : Type 0 where
   pub any : (version : Version) (t : Strategy) (c : Stated) → IsStrategy version t → IsStated c → bytes ≡ strategy_text version t ++ certificate_text c

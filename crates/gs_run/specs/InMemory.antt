@@ -23,11 +23,11 @@ abbrev pub GivesReply : Reply → Status → List ℕ → List ℕ → Type 0
 GivesReply (Prints text) s printed told = (s ≡ status.Ok) × (printed ≡ text) × (told ≡ [])
 GivesReply (Refuses why) s printed told = (s ≡ status_of (cause_of why)) × (printed ≡ []) × (told ≡ line_of why)
 
--- the reply was given that the task's definition gives for the input
+-- the outcome is a reply that the task's definition gives for the input
 abbrev pub GivesAnswer : Task → List ℕ → Status → List ℕ → List ℕ → Type 0
 GivesAnswer task input s printed told = (reply : Reply) × Asks task input reply × GivesReply reply s printed told
 
--- Words that are no request get the usage line. An input that is too long gets the line that refuses it. In all other cases the reply was given that the
+-- Words that are no request get the usage line. An input that is too long gets the line that refuses it. In all other cases the outcome is a reply that the
 -- task's definition gives for the input.
 abbrev pub GivesSo : List (List ℕ) → List ℕ → Status → List ℕ → List ℕ → Type 0
 GivesSo words input s printed told =
@@ -52,5 +52,5 @@ pub record DoesInMemory (words : List (List ℕ)) (input : List ℕ) (s : Status
   -- an input that is too long is refused
   pub too_long : (task : Task) → request_of words ≡ Some task → reads task ≡ true → most_bytes < length input
       → (s ≡ status.TooLong) × (printed ≡ []) × (told ≡ long_line)
-  -- a reply that the task's definition gives for the input is the one that is given
+  -- if the task's definition gives a reply for the input, the outcome is this reply
   pub decided : (task : Task) (reply : Reply) → request_of words ≡ Some task → Fits (reads task) input → Asks task input reply → GivesReply reply s printed told

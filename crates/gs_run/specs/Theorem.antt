@@ -53,5 +53,5 @@ pub record Does (r : Run) : Type 0 where
   -- over valid input the run ends as the table of endings says, if no read or write fails
   pub ends : (task : Task) (bytes : List ℕ) → AskFor r.words task → Holds (reads task) r.old bytes → NothingFailed (reads task) r.old r.new
       → Concludes task bytes r.status
-  -- unless memory runs out, the end of the run is decided by invalid words, by an input that is too long, or by the reply that the task's definition gives
+  -- each of these decides how the run ends, unless memory runs out: invalid words, an input that is too long, the reply of the task's definition
   pub decided : IsDecided r.words r.old r.new r.status

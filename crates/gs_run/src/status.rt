@@ -23,7 +23,7 @@ pub enum Status {
     Unlike,
     /// A number of the solution, or of its path, is too large.
     Overflow,
-    /// The solution's path is too long.
+    /// The path to the solution is too long.
     PivotLimit,
     /// The game is too large for what is asked.
     TooLarge,

@@ -13,8 +13,8 @@ use std::alloc::{AllocError, Global};
 /// Kuhn's game of three cards.
 pub const KUHN: &str = "JQK, s, high, 1 0 kuhn";
 
-/// Returns the text of the betting tree that a word names, and any other text as it is. `kuhn` is a check or a bet of 1 with no raise, `check` a check
-/// alone, `eight` and `sixteen` that many moves, each of which ends the round.
+/// Returns the text of the betting tree that a word names, and any other text as it is. `kuhn` is a check or a bet of 1 with no raise, and `check` a check
+/// alone. `eight` and `sixteen` are that many moves, and each of them ends the round.
 fn tree_of(word: &str) -> &str {
     match word {
         "kuhn" => "1[k:2[k:=,b1:1[f:!,c1:=]],b1:2[f:!,c1:=]]",

@@ -1,5 +1,5 @@
--- The refusals of an input before a game over classes is played, solved or shown, in this order. The game file is read, the classes of the grouping are
--- checked, and the sizes of the game over them.
+-- What is said of an input before a game over classes is played, solved or shown. The game file is read, then the classes of the grouping are checked, then
+-- the sizes of the game over them. The refusals have this order.
 use Rattle.std.specs.Prelude.{◌⊎◌, ℕ, List}
 use Rattle.gs_file.specs.Reading.{FileGame, read_at, rules_of}
 use Rattle.gs_file.specs.Views.{valid_view}

@@ -66,7 +66,7 @@ fn listed(alloc: Global, deck: &Deck, size: u8) -> Result<Vec<u64>, AllocError>
     Ok(found)
 }
 
-/// The groups of two cards of a deck of four kinds with 3, 2, 1 and 0 copies, in order, each followed by the number of ways to take it.
+/// The groups of two cards in order, each followed by the number of ways to take it. The deck has four kinds of card with 3, 2, 1 and 0 copies.
 const PAIRS: &[u64] = &[0, 0, 3, 0, 1, 6, 0, 2, 3, 1, 1, 1, 1, 2, 2];
 
 /// The groups of three cards of the same deck.

@@ -7,8 +7,8 @@ use std::alloc::{AllocError, Global};
 use std::test::Fail;
 
 /// A game; texts that no signal of its last round has, with a comma between two; and the expected text for the game. The text has the middle and the last
-/// signal of the last round, the number of deals, their weight, and a sum over all deals that changes if one deal does. It ends with the sum of the last
-/// edges of all signals of the last round, and the strength of the middle one.
+/// signal of the last round, then the number of deals, their weight, and a sum over all deals that changes if one deal does. It ends with the sum of the
+/// last edges of all signals of the last round, and the strength of the middle one.
 const CASES: &[(&str, &str, &str)] = &[
     (
         "JQK, s, high, 1 0 check",

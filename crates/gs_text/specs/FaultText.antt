@@ -68,6 +68,6 @@ fault_text (deck why) = deck_text why
 fault_text (tree_in round why) = round_tree_text round why
 fault_text (game why) = rule_text why
 
--- the program's fault is this one
+-- the program's fault stands for this one
 abbrev pub IsFault : FileFault → Fault → Type 0
 IsFault told why = Fails {Y = FileGame} told (Err why)

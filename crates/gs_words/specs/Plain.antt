@@ -25,7 +25,7 @@ option_words [] = []
 option_words (valued name value ∷ rest) = long_word name ∷ value ∷ option_words rest
 option_words (flagged name ∷ rest) = long_word name ∷ option_words rest
 
--- not empty, and not beginning with a hyphen
+-- the value is not empty and does not begin with a hyphen
 abbrev pub is_plain_value : List ℕ → Bool
 is_plain_value [] = false
 is_plain_value (b ∷ bytes) = not (b == 45)

@@ -78,7 +78,7 @@ is_taken words = is_empty (fault_of program words)
 unfoldable pub request_of : List Text → Option Task
 request_of words = if is_taken words then option_and_then task_in (subcommand_of program words) else None
 
--- the words are read as the request that they are, or refused if they are none, unless memory runs out
+-- the words are read as the request that they make, or refused if they make none, unless memory runs out
 abbrev pub ReadsWords : Result Request WordsStop → List Text → Type 0
 ReadsWords (Ok request) words = request_of words ≡ Some (task_of request)
 ReadsWords (Err stop.Usage) words = request_of words ≡ None

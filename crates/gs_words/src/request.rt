@@ -42,8 +42,8 @@ pub enum Request<'w> {
         line: &'w str,
         signal: &'w str,
     },
-    /// The game file of a well-known game with 1 to 13 ranks, 1 to 4 suits and at most 8 bets and
-    /// raises in a round, or only how many signal classes that game has.
+    /// The game file of a well-known game, or only how many signal classes that game has. The game
+    /// has 1 to 13 ranks, 1 to 4 suits and at most 8 bets and raises in a round.
     Make {
         kind: Kind,
         ranks: u8,
