@@ -1,7 +1,6 @@
 -- What a game in sequence form says of its frame.
 use Rattle.std.proofs.Common.{◌≡◌, ℕ, ◌<◌, ◌≤◌, List, length, map, get_or, sym, ap, ◌∙◌, arith}
 use Rattle.std.proofs.lemmas.List.{get_or-map, length-map}
-use Rattle.gs_filter.specs.Filter.{IsSound}
 use Rattle.gs_game.specs.Games.{game_of}
 use Rattle.gs_game.specs.Seen.{arrow_of, end_of, own_point, point_of, target_of, OwnPoint}
 use Rattle.gs_game.specs.declared.positions.Arrow.{Arrow as StoredArrow}
@@ -103,12 +102,12 @@ pub form_ends : (a : Abstract) (game : ValidGame) (es : List StoredEnd) → game
 form_ends a game es e ends = sym (length-map es end_of) ∙ ap (λ (xs : List End). length xs) (ends ∙ ap (λ (v : ValidGame). (frame_in v).ends) e)
 
 -- its classes
-pub form_classes : (a : Abstract) → IsSound a.lossless.now.classes.now → IsClasses (frame_of a).parents (lists_of a)
-form_classes a s = over (frame_of a) a.lossless.now.classes.now a.lossless.now.parents s
+pub form_classes : (a : Abstract) → IsClasses (frame_of a).parents (lists_of a)
+form_classes a = over (frame_of a) a.lossless.now.classes.now a.lossless.now.parents
 
-pub form_class_few : (a : Abstract) → IsSound a.lossless.now.classes.now → (round : ℕ) → 0 < round → round ≤ last_round (frame_of a)
+pub form_class_few : (a : Abstract) → (round : ℕ) → 0 < round → round ≤ last_round (frame_of a)
     → class_count (lists_of a) round ≤ 200000
-form_class_few a s round some top = class_few (game_in a) a.lossless.now.classes.now a.lossless.now.parents s round some top
+form_class_few a round some top = class_few (game_in a) a.lossless.now.classes.now a.lossless.now.parents round some top
 
 pub form_signals : (a : Abstract) (round : ℕ) → 0 < round → round ≤ last_round (frame_of a) → signal_count (frame_of a) round ≤ 200000
 form_signals a round some top =

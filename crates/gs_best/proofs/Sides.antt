@@ -2,7 +2,6 @@
 use Rattle.std.proofs.Common.{◌≡◌, ℕ, ◌+◌, ◌-◌, ◌^◌, ◌<◌, ◌≤◌, List, get_or, refl, ap, subst, arith}
 use Rattle.std.specs.Prelude.{ℤ, pos, unsigned_abs}
 use Rattle.std.specs.List.{range_with_len}
-use Rattle.gs_filter.specs.Filter.{IsSound}
 use Rattle.gs_model.specs.BestAnswers.{Values, class_worth, spread, start_sum}
 use Rattle.gs_model.specs.Classes.{ClassLists, IsClass, IsClasses, class_count}
 use Rattle.gs_model.specs.Frame.{Frame, end_count, last_round, leads_to, move_count, other_player, point_count, round_of}
@@ -47,9 +46,9 @@ side_walked d = form_walked d.form.now d.player d.some d.two
 pub other_walked : (d : Deviator) → IsWalked (frame d) (other_player d.player)
 other_walked d = form_walked d.form.now (other_player d.player) (let t = d.two in omega arith) (let s = d.some in omega arith)
 
-module _ (d : Deviator) (s : IsSound d.form.now.lossless.now.classes.now) where
+module _ (d : Deviator) where
   pub classes : IsClasses (frame d).parents (lists d)
-  classes = form_classes d.form.now s
+  classes = form_classes d.form.now
 
   module _ (values : List ℤ) (picks : List ℕ) (from : ℕ) (h : IsKnown d values picks from) where
     pub known_value : (t : Target) (c : ℕ) → IsInside (frame d) t → IsFrom from t → IsClass (lists d) (round_of (frame d) t) c

@@ -7,7 +7,6 @@ ghost use Rattle.gs_best.specs.Answers.{AreChoices, IsPaidMost, NoneGainsMore};
 
 use crate::deviator::Deviator;
 use crate::fill::filled;
-use crate::form::round_total;
 use crate::listing::own_moves;
 use crate::putting::put_all;
 use gs_seq::{Abstract, Plan};
@@ -27,8 +26,6 @@ pub fn best(alloc: Global, form: &Abstract, player: u8, other: &Plan) -> Result<
     ensures paid { IfOk result (λ x. let f = frame_of form.now in let lists = lists_of form.now in
         IsPaidMost f lists player (lifted f lists other.now) (lifted f lists x)) }
 {
-    // called only for what its contract says
-    let _rounds = round_total(form);
     let side = Deviator {
         form,
         player,

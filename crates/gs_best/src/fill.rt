@@ -6,7 +6,7 @@ ghost use Rattle.gs_seq.specs.{Abstracts.{frame_of, lists_of}, Plans.{lifted}};
 ghost use Rattle.gs_best.specs.{Answers.{IsFilled}, Rows.{IsCopied}, Sizes.{HasRoom, HoldsAll, IsLaidOut}, Tables.{IsBestFrom, moves_of, table_of}};
 
 use crate::deviator::Deviator;
-use crate::form::{class_total, point_total, round_at, round_total};
+use crate::form::{class_total, point_total, round_at};
 use crate::merging::merge_moves;
 use crate::room::{Scratch, Table, place_points};
 use crate::work::room_for;
@@ -48,8 +48,6 @@ fn fill_point(side: &Deviator<'_>, point: u32, table: &mut Table, scratch: &mut 
         (moves_of f lists table.new.picks.items) point }
     ensures room { HasRoom (frame_of side.now.form.now) (lists_of side.now.form.now) scratch.new }
 {
-    // called only for what its contract says
-    let _rounds = round_total(side.form);
     merge_moves(side, point, table, scratch);
     let start = table.starts[point as usize] as usize;
     let count = class_total(side.form, round_at(side.form, point)) as usize;

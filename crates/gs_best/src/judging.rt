@@ -8,7 +8,7 @@ ghost use Rattle.gs_best.specs.{Answers.{IsBestTotal, IsFilled}, Judged.{parts},
 use crate::deviator::Deviator;
 use crate::ends::read_end;
 use crate::fill::fill;
-use crate::form::{deal_weight, end_round, round_at, round_total, signal_total, start_at};
+use crate::form::{deal_weight, end_round, round_at, signal_total, start_at};
 use crate::numbers::judged;
 use crate::room::{Scratch, Table};
 use crate::rows::run_sum;
@@ -44,8 +44,6 @@ fn start_total(side: &Deviator<'_>, table: &Table, scratch: &mut Scratch) -> i12
     ensures small { unsigned_abs result ≤ 2 ^ 87 }
     ensures room { HasRoom (frame_of side.now.form.now) (lists_of side.now.form.now) scratch.new }
 {
-    // called only for what its contract says
-    let _rounds = round_total(side.form);
     match start_at(side.form) {
         Target::Point(point) => {
             let start = table.starts[point as usize] as usize;
@@ -95,7 +93,6 @@ pub fn verdict(form: &Abstract, one: &Plan, two: &Plan, work: &mut Work) -> Verd
     ensures verdict { let f = frame_of form.now in let lists = lists_of form.now in
         IsVerdict f (lifted f lists one.now) (lifted f lists two.now) (parts result.value) (parts result.gap1) (parts result.gap2) }
 {
-    let _rounds = round_total(form);
     let first = Deviator {
         form,
         player: 1,

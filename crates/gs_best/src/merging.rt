@@ -7,7 +7,7 @@ ghost use Rattle.gs_best.specs.{Rows.{AreAdded, AreRaised, IsMerged, raises}, Si
 ghost use Rattle.gs_best.specs.Tables.{IsBestFrom, moves_of, table_of};
 
 use crate::deviator::Deviator;
-use crate::form::{chooser, class_total, move_total, round_at, round_total};
+use crate::form::{chooser, class_total, move_total, round_at};
 use crate::room::{Scratch, Table};
 use crate::rows::read_worths;
 use gs_seq::plus;
@@ -71,8 +71,6 @@ pub(crate) fn merge_moves(side: &Deviator<'_>, point: u32, table: &Table, scratc
         point scratch.new.best.items scratch.new.moves.items }
     ensures room { HasRoom (frame_of side.now.form.now) (lists_of side.now.form.now) scratch.new }
 {
-    // called only for what its contract says
-    let _rounds = round_total(side.form);
     let count = class_total(side.form, round_at(side.form, point)) as usize;
     let own = chooser(side.form, point) == side.player;
     for choice in 0..move_total(side.form, point) {

@@ -7,7 +7,7 @@ ghost use Rattle.gs_seq.specs.Slots.{slot_count, slots_before};
 ghost use Rattle.gs_best.specs.{Answers.{IsFilled}, Puts.{ArePutBefore, IsPutAt}, Tables.{AreInMoves, AreStarts, moves_of, start_of}};
 
 use crate::deviator::Deviator;
-use crate::form::{chooser, class_total, point_total, round_at, round_total};
+use crate::form::{chooser, class_total, point_total, round_at};
 use crate::room::Table;
 use gs_seq::{Abstract, Plan};
 use std::alloc::{AllocError, Global};
@@ -36,8 +36,6 @@ fn put_point(
         (c : ℕ) → IsClass lists (round_of f (at_point point)) c → IsPutAt f lists player (moves_of f lists picks.now) weights.new point c }
     ensures clear { IsClear (slots_before (frame_of form.now) (lists_of form.now) player (point + 1)) weights.new }
 {
-    // called only for what its contract says
-    let _rounds = round_total(form);
     let start = starts[point as usize] as usize;
     for before in 0..class_total(form, round_at(form, point)) {
         let choice = picks[start + before as usize];
@@ -61,7 +59,6 @@ pub fn put_moves(form: &Abstract, player: u8, starts: &[u32], picks: &[u8], weig
     ensures { let f = frame_of form.now in let lists = lists_of form.now in
         ArePutBefore f lists player (moves_of f lists picks.now) weights.new (point_count f) }
 {
-    let _rounds = round_total(form);
     for point in 0..point_total(form) {
         if chooser(form, point) == player {
             put_point(form, player, starts, picks, point, weights);
@@ -77,7 +74,6 @@ fn best_weights(alloc: Global, side: &Deviator<'_>, table: &Table) -> Result<Vec
     ensures puts { let f = frame_of side.now.form.now in let lists = lists_of side.now.form.now in
         IfOk result (λ v. ArePutBefore f lists side.now.player (moves_of f lists table.now.picks.items) v.items (point_count f)) }
 {
-    let _rounds = round_total(side.form);
     let count = side.form.sequences(side.player) - 1;
     let mut weights = vec![in alloc; 0u64; count as usize]?;
     put_moves(
@@ -98,7 +94,6 @@ pub(crate) fn put_all(alloc: Global, side: &Deviator<'_>, table: &Table) -> Resu
     ensures best { let f = frame_of side.now.form.now in let lists = lists_of side.now.form.now in
         IfOk result (λ x. IsFirstBestPlan f lists side.now.player (lifted f lists side.now.other.now) (class_plan f lists x)) }
 {
-    let _rounds = round_total(side.form);
     let weights = best_weights(alloc, side, table)?;
     Ok(Plan {
         player: side.player,

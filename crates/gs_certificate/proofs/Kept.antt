@@ -4,7 +4,6 @@ use Rattle.std.specs.Prelude.{ℤ, pos}
 use Rattle.std.proofs.lemmas.Bool.{cases_eq}
 use Rattle.std.proofs.lemmas.List.{get_or-append-add, get_or_append_left, get_or_push, length_push}
 use Rattle.std.proofs.Math.ListN.{length-append}
-use Rattle.gs_filter.specs.Filter.{IsSound}
 use Rattle.gs_model.specs.Classes.{ClassLists, IsClass}
 use Rattle.gs_model.specs.Frame.{Frame, round_of}
 use Rattle.gs_model.specs.Plans.{IsClassPlan, Plan}
@@ -59,5 +58,5 @@ other_plan d e =
     subst (λ p. IsClassPlan (frame d) (lists d) p (class_plan (frame d) (lists d) d.other.now)) two d.plan.plan.plan
 
 -- what the laws ask of the game and its classes
-pub side_given : (d : Deviator) → IsSound d.form.now.lossless.now.classes.now → AreGiven (frame d) (lists d)
-side_given d sound = given (game_in d.form.now) (frame d) (lists d) refl (form_classes d.form.now sound)
+pub side_given : (d : Deviator) → AreGiven (frame d) (lists d)
+side_given d = given (game_in d.form.now) (frame d) (lists d) refl (form_classes d.form.now)

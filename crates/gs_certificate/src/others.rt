@@ -8,7 +8,7 @@ use crate::claim::Claim;
 use crate::spot::{Spot, Way};
 use crate::spots::ways_at;
 use crate::worths::{number_at, worth};
-use gs_best::{class_total, move_total, round_total};
+use gs_best::{class_total, move_total};
 use gs_seq::plus;
 
 /// Returns the sum of the worths of all moves.
@@ -36,8 +36,6 @@ pub(crate) fn others_low_at(claim: &Claim<'_>, spot: Spot) -> Option<u32>
     ensures { let f = frame_in claim.now in let lists = lists_in claim.now in let v = table_in claim.now in
         MatchOption result (AreHighAt f lists claim.now.side.now.player v spot.point) (IsFirstLowAt f lists claim.now.side.now.player v spot.point) }
 {
-    // called only for what its contract says
-    let _rounds = round_total(claim.side.form);
     let ways = ways_at(claim.side, spot);
     for before in 0..class_total(claim.side.form, spot.round) {
         let class = before + 1;

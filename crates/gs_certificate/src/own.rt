@@ -13,7 +13,7 @@ use crate::spot::{Spot, Way};
 use crate::spots::way_at;
 use crate::sums::paid_together;
 use crate::worths::{number_at, worth};
-use gs_best::{class_total, move_total, round_total};
+use gs_best::{class_total, move_total};
 use gs_game::Target;
 use gs_seq::scaled;
 
@@ -42,8 +42,6 @@ fn is_below(claim: &Claim<'_>, spot: Spot, way: Way, class: u32) -> bool
         let v = table_in claim.now in let number = v (at_point spot.point) class in let worth = target_worth f lists v spot.point (target_of way.to) class in
         Tells result (number <ℤ worth) (worth ≤ℤ number) }
 {
-    // called only for what its contract says
-    let _rounds = round_total(claim.side.form);
     let number = number_at(claim.side, claim.values, spot, class);
     if let Target::End(end) = way.to {
         if spot.round == way.round {
@@ -78,7 +76,6 @@ pub(crate) fn own_low_at(claim: &Claim<'_>, spot: Spot) -> Option<u32>
     ensures { let f = frame_in claim.now in let lists = lists_in claim.now in let v = table_in claim.now in
         MatchOption result (AreHighAt f lists claim.now.side.now.player v spot.point) (IsFirstLowAt f lists claim.now.side.now.player v spot.point) }
 {
-    let _rounds = round_total(claim.side.form);
     let count = class_total(claim.side.form, spot.round);
     let mut low = count;
     for choice in 0..move_total(claim.side.form, spot.point) {

@@ -7,7 +7,7 @@ ghost use Rattle.gs_best.specs.Sizes.{IsWide};
 ghost use Rattle.gs_certificate.specs.{Claims.{IsClaim, frame_in, lists_in}, Paid.{ArePaid}};
 
 use crate::claim::Claim;
-use gs_best::{Deviator, class_total, end_round, end_total, round_total, widest};
+use gs_best::{Deviator, class_total, end_round, end_total, widest};
 use gs_seq::{Plan, plus, scaled};
 use std::alloc::{AllocError, Global};
 
@@ -30,8 +30,6 @@ fn sums_in(
     ensures { let f = frame_of side.now.form.now in let lists = lists_of side.now.form.now in
         IfOk result (ArePaid f lists side.now.player (class_plan f lists side.now.other.now)) }
 {
-    // called only for what its contract says
-    let _rounds = round_total(side.form);
     let ends = end_total(side.form);
     let mut starts = Vec::with_capacity(alloc, ends as usize)?;
     let mut sums = Vec::new(alloc);
@@ -93,7 +91,6 @@ fn end_paid(first: &Deviator<'_>, x: &Plan, ends: &EndSums, end: u32) -> i128
     ensures { let f = frame_of first.now.form.now in let lists = lists_of first.now.form.now in
         result ≡ payoff_at f lists (class_plan f lists x.now) (class_plan f lists first.now.other.now) end }
 {
-    let _rounds = round_total(first.form);
     let mut sum = 0i128;
     for before in 0..class_total(first.form, end_round(first.form, end)) {
         let number = first.form.number_at_end(x, end, before + 1);
@@ -111,7 +108,6 @@ pub(crate) fn plans_pay(first: &Deviator<'_>, x: &Plan, ends: &EndSums) -> i128
     ensures { let f = frame_of first.now.form.now in let lists = lists_of first.now.form.now in
         result ≡ raw_payoff f (lifted f lists x.now) (lifted f lists first.now.other.now) }
 {
-    let _rounds = round_total(first.form);
     let mut sum = 0i128;
     for end in 0..end_total(first.form) {
         sum = plus(sum, end_paid(first, x, ends, end));

@@ -5,7 +5,6 @@ ghost use Rattle.gs_confirm.specs.Held.{Holds};
 ghost use Rattle.gs_strategy.specs.Views.{stored_view};
 ghost use Rattle.gs_certify.specs.Certificates.{IsCertified};
 
-use gs_best::round_total;
 use gs_certificate::{certificate_text, make_certificate};
 use gs_file::Version;
 use gs_seq::Abstract;
@@ -21,8 +20,6 @@ pub(crate) fn certified_text(
     requires { Holds form.now.lossless.now stored.now }
     ensures { IfOk result (λ text. IsCertified (stored_view stored.now) text.items) }
 {
-    // called only for what its contract says
-    let _rounds = round_total(form);
     let c = make_certificate(alloc, form, &stored.one, &stored.two)?;
     let line = certificate_text(alloc, &c)?;
     let mut text = stored.text(alloc, Version::Two)?;

@@ -8,18 +8,18 @@ use Rattle.gs_model.specs.Numbering.{greatest, IsNumbered}
 use Rattle.gs_model.specs.Classes.{list_of, class_of, class_count, first_member, IsClass, IsClasses}
 use Rattle.gs_model.proofs.Numbered.{greatest_push, whole}
 use Rattle.gs_model.proofs.Push.{le_greatest}
-use Rattle.gs_filter.specs.Filter.{Filter, IsSound, IsParentClass, single_classes}
+use Rattle.gs_filter.specs.Filter.{Filter, IsParentClass, single_classes}
 use Rattle.gs_filter.proofs.TallyLaws.{first_in, number_in, first_member_of}
 
-module _ (f : Filter) (sound : IsSound f) (round : ℕ) (some : 0 < round) (top : round ≤ length f.lists) where
+module _ (f : Filter) (round : ℕ) (some : 0 < round) (top : round ≤ length f.lists) where
   pub numbered_at : IsNumbered (list_of f.lists round)
-  numbered_at = let e = sound.classes.rounds in sound.classes.numbered round some (omega arith)
+  numbered_at = let e = f.classes.rounds in f.classes.numbered round some (omega arith)
 
   pub long_at : length (list_of f.lists round) ≡ length (list_of f.parents round)
-  long_at = let e = sound.classes.rounds in sound.classes.lengths round some (omega arith)
+  long_at = let e = f.classes.rounds in f.classes.lengths round some (omega arith)
 
   pub short_at : length (list_of f.lists round) < 2 ^ 32
-  short_at = let e = sound.classes.rounds in let l = long_at in let s = sound.forest.short round some (omega arith) in omega arith
+  short_at = let e = f.classes.rounds in let l = long_at in let s = f.forest.short round some (omega arith) in omega arith
 
   pub class_at : (s : ℕ) → s < length (list_of f.lists round) → IsClass f.lists round (class_of f.lists round s)
   class_at s l = number_in (list_of f.lists round) s numbered_at l
@@ -32,16 +32,16 @@ module _ (f : Filter) (sound : IsSound f) (round : ℕ) (some : 0 < round) (top 
 
   pub parent_within : 1 < round → (s : ℕ) → s < length (list_of f.lists round) → get_or (list_of f.parents round) s 0 < length (list_of f.lists (round - 1))
   parent_within more s l =
-      let e = sound.classes.rounds in
+      let e = f.classes.rounds in
       let long = long_at in
-      let before = sound.classes.lengths (round - 1) (omega arith) (omega arith) in
-      let r = sound.forest.in_range round s more (omega arith) (omega arith) in
+      let before = f.classes.lengths (round - 1) (omega arith) (omega arith) in
+      let r = f.forest.in_range round s more (omega arith) (omega arith) in
       omega arith
 
   pub parent_class_is : 1 < round → (class : ℕ) → IsClass f.lists round class
       → IsParentClass f round class (class_of f.lists (round - 1) (get_or (list_of f.parents round) (first_member f.lists round class) 0))
   parent_class_is more class is s l same =
-      let e = sound.classes.rounds in
+      let e = f.classes.rounds in
       let long = long_at in
       let k : round - 1 + 1 ≡ round = omega arith in
       let within = first_within class is in
@@ -50,7 +50,7 @@ module _ (f : Filter) (sound : IsSound f) (round : ℕ) (some : 0 < round) (top 
       → class_of f.lists r s ≡ class_of f.lists r (first_member f.lists round class)
       → class_of f.lists (round - 1) (get_or (list_of f.parents r) s 0) ≡ class_of f.lists (round - 1)
       (get_or (list_of f.parents r) (first_member f.lists round class) 0) in
-      subst P k (sound.classes.filter (round - 1) s (first_member f.lists round class) (omega arith) (omega arith)) (omega arith) (omega arith) both
+      subst P k (f.classes.filter (round - 1) s (first_member f.lists round class) (omega arith) (omega arith)) (omega arith) (omega arith) both
 
 -- ---- each signal a class of its own
 
@@ -103,6 +103,6 @@ greatest_before xs h (suc n) l =
 pub greatest_within : (xs : List ℕ) → IsNumbered xs → greatest xs ≤ length xs
 greatest_within xs h = subst (λ l. greatest l ≤ length xs) (whole xs) (greatest_before xs h (length xs) (omega arith))
 
-pub count_fits : (f : Filter) → IsSound f → (round : ℕ) → 0 < round → round ≤ length f.lists → class_count f.lists round < 2 ^ 32
-count_fits f sound round some top = let g = greatest_within (list_of f.lists round) (numbered_at f sound round some top) in
-    let s = short_at f sound round some top in omega arith
+pub count_fits : (f : Filter) → (round : ℕ) → 0 < round → round ≤ length f.lists → class_count f.lists round < 2 ^ 32
+count_fits f round some top = let g = greatest_within (list_of f.lists round) (numbered_at f round some top) in
+    let s = short_at f round some top in omega arith

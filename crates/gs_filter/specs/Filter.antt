@@ -3,11 +3,6 @@ use Rattle.std.specs.Prelude.{ℕ, ◌-◌, ◌^◌, ◌<◌, ◌≤◌, ◌≡�
 use Rattle.std.specs.List.{range_with_len}
 use Rattle.gs_model.specs.Classes.{ClassLists, list_of, class_of, IsClasses}
 
--- for each round the parent of each signal, and the class of each signal
-pub record Filter : Type 0 where
-  pub parents : List (List ℕ)
-  pub lists : ClassLists
-
 -- each list is shorter than 2^32
 abbrev pub AreShort : List (List ℕ) → Type 0
 AreShort lists = (round : ℕ) → 0 < round → round ≤ length lists → length (list_of lists round) < 2 ^ 32
@@ -19,10 +14,12 @@ pub record AreParents (parents : List (List ℕ)) : Type 0 where
   pub in_range : (round s : ℕ) → 1 < round → round ≤ length parents → s < length (list_of parents round)
       → get_or (list_of parents round) s 0 < length (list_of parents (round - 1))
 
--- what holds for every filter: its parents are valid, and its lists are classes over them
-pub record IsSound (f : Filter) : Type 0 where
-  pub forest : AreParents f.parents
-  pub classes : IsClasses f.parents f.lists
+-- a filter: for each round the parent of each signal, and the class of each signal; its parents are valid, and its lists are classes over them
+pub record Filter : Type 0 where
+  pub parents : List (List ℕ)
+  pub lists : ClassLists
+  pub forest : AreParents parents
+  pub classes : IsClasses parents lists
 
 -- every member of `class` has a parent in the class `above` of the round before
 abbrev pub IsParentClass : Filter → ℕ → ℕ → ℕ → Type 0

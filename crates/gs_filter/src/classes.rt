@@ -2,7 +2,7 @@
 
 ghost use Rattle.std.specs.Prelude.{◌≡◌, ◌-◌, ◌<◌, ◌≤◌, length, IfOk, IfErr};
 ghost use Rattle.gs_model.specs.{Rows.{rows}, Classes.{list_of, class_of, class_count, class_size, first_member, IsClass, IsClasses}};
-ghost use Rattle.gs_filter.specs.Filter.{AreParents, IsSound, IsParentClass, single_classes};
+ghost use Rattle.gs_filter.specs.Filter.{AreParents, IsParentClass, single_classes};
 
 use crate::apart::first_apart;
 use crate::fault::ClassFault;
@@ -20,23 +20,22 @@ pub struct Classes {
     parents: Vec<Vec<u32>>,
     lists: Vec<Vec<u32>>,
     tallies: Vec<Vec<Tally>>,
+    ghost are_parents: { AreParents (rows parents.items) },
+    ghost are_classes: { IsClasses (rows parents.items) (rows lists.items) },
 }
 
 impl Model for Classes {
     ghost use Rattle.std.specs.Prelude.{◌≡◌, map};
-    ghost use Rattle.gs_filter.specs.Filter.{Filter, IsSound};
+    ghost use Rattle.gs_filter.specs.Filter.{Filter};
 
     ghost Value = { Filter };
 
     ghost use Rattle.gs_model.specs.Rows.{rows};
     ghost use Rattle.gs_filter.specs.Tallies.{tallies_of};
 
-    ghost view = { λ c. record { parents = rows c.parents.items; lists = rows c.lists.items } };
+    ghost view = { λ c. record { parents = rows c.parents.items; lists = rows c.lists.items; forest = c.are_parents; classes = c.are_classes } };
 
-    ghost invariant = { λ c. record {
-      sound : IsSound (record { parents = rows c.parents.items; lists = rows c.lists.items });
-      tallied : rows c.tallies.items ≡ map tallies_of (rows c.lists.items);
-    } };
+    ghost invariant = { λ c. rows c.tallies.items ≡ map tallies_of (rows c.lists.items) };
 }
 
 impl Classes {
@@ -103,7 +102,6 @@ impl Classes {
     /// Returns the number of rounds.
     pub fn rounds(&self) -> u8
         ensures value { result ≡ length self.now.lists }
-        ensures sound { IsSound self.now }
     {
         self.lists.len() as u8
     }
@@ -177,8 +175,7 @@ impl Classes {
         requires some { 0 < round }
         requires top { round ≤ length self.now.lists }
         requires class { IsClass self.now.lists round class }
-        ensures value { result ≡ tally_of (list_of self.now.lists round) class }
-        ensures sound { IsSound self.now }
+        ensures { result ≡ tally_of (list_of self.now.lists round) class }
     {
         self.tallies[round as usize - 1][class as usize - 1]
     }
@@ -186,7 +183,6 @@ impl Classes {
     /// Returns for each round the class of each signal.
     pub fn lists(&self) -> &[Vec<u32>]
         ensures value { rows result.now ≡ self.now.lists }
-        ensures sound { IsSound self.now }
     {
         &self.lists
     }
@@ -194,7 +190,6 @@ impl Classes {
     /// Returns for each round the parent of each signal, as given to the constructor.
     pub fn parents(&self) -> &[Vec<u32>]
         ensures value { rows result.now ≡ self.now.parents }
-        ensures sound { IsSound self.now }
     {
         &self.parents
     }

@@ -24,8 +24,6 @@ fn checked(
 {
     let signals = Signals::of(alloc, game)?;
     let classes = classes_of(alloc, &signals, grouping)?;
-    // called only for what its contract says
-    let _rounds = classes.rounds();
     match lossless_of(alloc, &signals, &classes, grouping) {
         Ok(_) => Ok(Answer::Prints(told(alloc, &signals, &classes, summary)?)),
         Err(stop) => not_lossless(alloc, &signals, stop),

@@ -1,6 +1,6 @@
 -- The class of a point's raw signal.
 use Rattle.std.proofs.Common.{◌≡◌, ℕ, ◌<◌, ◌≤◌, List, length, map, get_or, ap, ◌∙◌, arith}
-use Rattle.gs_filter.specs.Filter.{Filter, IsSound}
+use Rattle.gs_filter.specs.Filter.{Filter}
 use Rattle.gs_game.specs.Seen.{own_point, point_of}
 use Rattle.gs_game.specs.declared.positions.Point.{Point as StoredPoint}
 use Rattle.gs_game.specs.declared.valid.ValidGame.{ValidGame}
@@ -26,10 +26,10 @@ pub record InRound (a : Abstract) (c : Filter) (q s round : ℕ) : Type 0 where
 
 pub in_round : (a : Abstract) (lossless : Lossless) (signals : Signals) (game : ValidGame) (c : Filter) (ps : List StoredPoint) (p : StoredPoint) (q s : ℕ)
     → lossless ≡ a.lossless.now → signals ≡ lossless.signals.now → game ≡ signals.game.now
-    → c ≡ lossless.classes.now → c.parents ≡ (frame (rules_of lossless.signals.now)).parents → IsSound c
+    → c ≡ lossless.classes.now → c.parents ≡ (frame (rules_of lossless.signals.now)).parents
     → map point_of ps ≡ map own_point (frame_in game).points → p ≡ get_or ps q p → q < point_count (frame_of a)
     → s < signal_count (frame_of a) (round_of (frame_of a) (at_point q)) → InRound a c q s p.round
-in_round a lossless signals game c ps p q s form held played classed over sound points is l m =
+in_round a lossless signals game c ps p q s form held played classed over points is l m =
     let g = a.lossless.now.signals.now.game.now in
     let f = frame_of a in
     let e = game_held a lossless signals game form held played in
@@ -44,8 +44,8 @@ in_round a lossless signals game c ps p q s form held played classed over sound 
     ap (λ (x : List (List ℕ)). length (list_of x p.round)) parents ∙ ap (λ n. length (parents_of f n)) r.round in
     record {
       some = some;
-      top = omega (arith, top, sound.classes.rounds);
-      within = omega (arith, m, all, sound.classes.lengths p.round some top);
+      top = omega (arith, top, c.classes.rounds);
+      within = omega (arith, m, all, c.classes.lengths p.round some top);
       same = r.round;
       lists = ap (λ (x : Filter). x.lists) (classes_held a lossless c form classed);
     }

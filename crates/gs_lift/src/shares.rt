@@ -19,8 +19,6 @@ fn class_at(a: &Abstract, point: u32, signal: u32) -> u32
 {
     let lossless = a.lossless();
     let classes = lossless.classes();
-    // called only for what its contract says
-    let _rounds = classes.rounds();
     let round = lossless.signals().game().points()[point as usize].round;
     classes.class_of(round, signal)
 }

@@ -20,7 +20,7 @@ use Rattle.gs_tree.specs.Trees.{rules_of}
 use Rattle.gs_tree.specs.declared.signals.Signals.{Signals}
 use Rattle.gs_tree.proofs.Readers.{first_next}
 use Rattle.std.proofs.lemmas.List.FromFn.{length-map-range_with_len}
-use Rattle.gs_filter.specs.Filter.{AreParents, Filter, IsSound}
+use Rattle.gs_filter.specs.Filter.{AreParents, Filter}
 use Rattle.gs_model.specs.Classes.{class_of, list_of}
 use Rattle.gs_lossless.specs.Amounts.{HasSide, IsRunIn, key_count, keys_of}
 use Rattle.gs_lossless.specs.declared.sides.Side.{Side}
@@ -155,16 +155,16 @@ pub deals_light : (g : Game) → IsWithinLimits g → All (λ (d : Deal). d.weig
 deals_light g limits = λ k d l. omega (arith, get_or-le-sum_by (λ (x : Deal). x.weight) (deals g) k d l, limits.weight_in)
 
 -- the lists of classes over a game's parents are as long as its rounds
-pub list_long : (g : Game) (l : Filter) → l.parents ≡ (frame_of g).parents → IsSound l → (round : ℕ) → 0 < round → round ≤ round_count g
+pub list_long : (g : Game) (l : Filter) → l.parents ≡ (frame_of g).parents → (round : ℕ) → 0 < round → round ≤ round_count g
     → length (list_of l.lists round) ≡ length (signals g round)
-list_long g l e s round some le =
+list_long g l e round some le =
     let n = ap (λ (ps : List (List ℕ)). length ps) e in
-    s.classes.lengths round some (omega (arith, n, last_round_of g)) ∙ ap (λ (ps : List (List ℕ)). length (list_of ps round)) e
+    l.classes.lengths round some (omega (arith, n, last_round_of g)) ∙ ap (λ (ps : List (List ℕ)). length (list_of ps round)) e
     ∙ signal_count_is g round some le
 
-pub keys_long : (g : Game) (l : Filter) → l.parents ≡ (frame_of g).parents → IsSound l → IsPlayable g → (side : Side) (round : ℕ)
+pub keys_long : (g : Game) (l : Filter) → l.parents ≡ (frame_of g).parents → IsPlayable g → (side : Side) (round : ℕ)
     → HasSide (frame_of g) side round → length (keys_of (frame_of g) l.lists side round) ≡ key_count g side round
-keys_long g l e s p Deals round h = length-map-range_with_len (λ x. class_of l.lists round (at_round (frame_of g) round x)) 0
+keys_long g l e p Deals round h = length-map-range_with_len (λ x. class_of l.lists round (at_round (frame_of g) round x)) 0
     (signal_count (frame_of g) (last_round (frame_of g))) ∙ count_last g p
 keys_long g l e s p Children round h = list_long g l e s (round + 1) (omega arith) (omega (arith, h.1, last_round_of g))
 

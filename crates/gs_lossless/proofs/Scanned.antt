@@ -4,7 +4,7 @@ use Rattle.std.specs.Option.{option_or}
 use Rattle.std.specs.Prelude.{is_some, unwrap_or}
 use Rattle.std.proofs.lemmas.Bool.{cases_eq, cases_lt}
 use Rattle.std.proofs.lemmas.List.{get_or-set_other, get_or-set_same}
-use Rattle.gs_filter.specs.Filter.{Filter, IsSound, single_classes}
+use Rattle.gs_filter.specs.Filter.{Filter, single_classes}
 use Rattle.gs_filter.proofs.ClassLaws.{single_are_classes}
 use Rattle.gs_filter.proofs.TallyLaws.{first_member_of}
 use Rattle.gs_model.specs.Classes.{ClassLists, class_count, class_of, class_size, first_member, list_of}
@@ -36,9 +36,9 @@ pub side_signals : (g : Game) (side : Side) (round : ℕ) → HasSide (frame_of 
 side_signals g side round h = signal_count_is g round (side_in (frame_of g) side round h).0 (side_top g side round h)
 
 -- and by the lists of classes over the game's parents
-pub side_classes : (g : Game) (l : Filter) → l.parents ≡ (frame_of g).parents → IsSound l → (side : Side) (round : ℕ) → HasSide (frame_of g) side round
+pub side_classes : (g : Game) (l : Filter) → l.parents ≡ (frame_of g).parents → (side : Side) (round : ℕ) → HasSide (frame_of g) side round
     → length (list_of l.lists round) ≡ length (signals g round)
-side_classes g l e sound side round h = list_long g l e sound round (side_in (frame_of g) side round h).0 (side_top g side round h)
+side_classes g l e side round h = list_long g l e round (side_in (frame_of g) side round h).0 (side_top g side round h)
 
 -- ---- sums that are kept
 
@@ -163,14 +163,14 @@ alike_more f lists before h here r some l = ⊎_elim (λ under. h r some (omega 
     subst (λ (k : ℕ). AreAlikeBelow f lists k (signal_count f k)) e here) (cases_lt r (before + 1))
 
 -- a first unlike pair refutes losslessness, and single signals have none
-pub refuted : (f : Frame) (l : Filter) → l.parents ≡ f.parents → IsSound l → (round first second : ℕ) → IsFirstUnlike f l.lists round first second
+pub refuted : (f : Frame) (l : Filter) → l.parents ≡ f.parents → (round first second : ℕ) → IsFirstUnlike f l.lists round first second
     → IsLossless f l.lists → ⊥
-refuted f l e s round first second = not_lossless f l.lists round first second (over f l e s.classes)
+refuted f l e round first second = not_lossless f l.lists round first second (over f l e l.classes)
 
-pub not_single : (f : Frame) (l : Filter) → l.parents ≡ f.parents → IsSound l → (round first second : ℕ) → IsFirstUnlike f l.lists round first second
+pub not_single : (f : Frame) (l : Filter) → l.parents ≡ f.parents → (round first second : ℕ) → IsFirstUnlike f l.lists round first second
     → l.lists ≡ single_classes l.parents → ⊥
-not_single f l e s round first second u g =
-    refuted f l e s round first second u (subst (IsLossless f) (sym (g ∙ ap single_classes e)) (singles f (single_are_classes f.parents)))
+not_single f l e round first second u g =
+    refuted f l e round first second u (subst (IsLossless f) (sym (g ∙ ap single_classes e)) (singles f (single_are_classes f.parents)))
 
 -- the end of the second scan of a round
 pub end_in : (f : Frame) (lists : ClassLists) (round count : ℕ) (apart : Option ℕ) → IsFirstApart f lists Deals round count apart

@@ -58,8 +58,6 @@ impl<'a> Lossless<'a> {
 fn settles(alloc: Global, grouped: &Grouped<'_>) -> Result<bool, AllocError>
     ensures { IfOk result (λ b. IsTrue b → IsLossless (frame_of (rules_of grouped.now.signals.now)) grouped.now.classes.now.lists) }
 {
-    // called only for what its contract says
-    let _rounds = grouped.classes.rounds();
     let last = grouped.signals.rounds();
     for round in 1..last {
         let end = grouped.signals.count(round);
@@ -93,7 +91,6 @@ fn first_unlike(alloc: Global, grouped: &Grouped<'_>) -> Result<(), CheckStop>
     ensures refuted { IfErr result (λ e. IsUnlike e → IsLossless (frame_of (rules_of grouped.now.signals.now)) grouped.now.classes.now.lists → ⊥) }
     ensures single { IfErr result (λ e. IsUnlike e → grouped.now.classes.now.lists ≡ single_classes grouped.now.classes.now.parents → ⊥) }
 {
-    let _rounds = grouped.classes.rounds();
     for before in 0..grouped.signals.rounds() {
         let round = before + 1;
         if let Some(second) = unlike_in(alloc, grouped, round)? {

@@ -37,8 +37,6 @@ fn ancestor_classes(alloc: Global, grouped: &Grouped<'_>, round: u8) -> Result<V
     ensures { IfOk result (λ v. v.items ≡ keys_of (frame_of (rules_of grouped.now.signals.now)) grouped.now.classes.now.lists Side.Deals round) }
 {
     let Grouped { signals, classes } = *grouped;
-    // called only for what its contract says
-    let _rounds = classes.rounds();
     let count = signals.count(signals.rounds());
     let mut keys = Vec::with_capacity(alloc, count as usize)?;
     for signal in 0..count {

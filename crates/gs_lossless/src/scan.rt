@@ -43,8 +43,6 @@ pub(crate) fn first_apart(
     ensures { IfOk result (IsFirstApart (frame_of (rules_of grouped.now.signals.now)) grouped.now.classes.now.lists side round end) }
 {
     let Grouped { signals, classes } = *grouped;
-    // called only for what its contract says
-    let _rounds = classes.rounds();
     if are_alone(classes, round) {
         return Ok(None);
     }

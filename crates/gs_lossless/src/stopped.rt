@@ -67,8 +67,6 @@ pub(crate) fn first_deals_apart(
         IfOk result (IsFirstApart f grouped.now.classes.now.lists Deals round (signal_count f round)) }
 {
     let Grouped { signals, classes } = *grouped;
-    // called only for what its contract says
-    let _rounds = classes.rounds();
     let end = signals.count(round);
     if round < signals.rounds() {
         if let Some(game) = signals.game().stopped(alloc, round)? {

@@ -11,7 +11,6 @@ ghost use Rattle.gs_totals.specs.Roles.{ArePaid, IsOthers, frame_in, lists_in, m
 ghost use Rattle.gs_play.specs.{Seats.{HasAnswered, HasRises, HasRoom, IsAtStart, IsSeat}, Staying.{AnswerStays, ChoicesStay}};
 
 use crate::adding::add_times;
-use gs_best::round_total;
 use gs_seq::{Abstract, Plan};
 use gs_totals::{
     Course, Ledger, Role, Scratch, Totals, advance, fill, follow, lasting, picks_for, put_all,
@@ -113,8 +112,6 @@ fn answer_anew(role: &Role<'_>, seat: &mut Seat, other: &Plan, scratch: &mut Scr
     ensures next { seat.new.next.items ≡ seat.old.answer.weights.items }
     ensures same { IsTrue result ↔ (seat.new.answer.weights.items ≡ seat.old.answer.weights.items) }
 {
-    // called only for what its contract says
-    let _rounds = round_total(role.form);
     find(
         role,
         &mut seat.totals,
@@ -255,7 +252,6 @@ pub(crate) fn look_ahead(
     ensures most { result ≤ times }
     ensures some { 0 < result }
 {
-    let _rounds = round_total(role.form);
     renew(role, same, other, steps, scratch);
     if times == 1 {
         return 1;

@@ -6,7 +6,7 @@ use Rattle.std.proofs.lemmas.Bool.{cases_eq, cases_lt}
 use Rattle.std.proofs.lemmas.Bool.Decides.{Decides-eqb}
 use Rattle.std.proofs.lemmas.List.{get_or-append-add, get_or-drop, get_or-take, get_or_append_left, length-take}
 use Rattle.std.proofs.lemmas.List.FromFn.{get_or-range_with_len}
-use Rattle.gs_filter.specs.Filter.{Filter, IsSound, single_classes}
+use Rattle.gs_filter.specs.Filter.{Filter, single_classes}
 use Rattle.gs_filter.proofs.ClassLaws.{single_are_classes, single_at}
 use Rattle.gs_filter.proofs.TallyLaws.{first_in, first_member_of}
 use Rattle.gs_game.specs.Seen.{own_point, point_of}
@@ -209,14 +209,14 @@ pub record PointFacts (g : ValidGame) (c : Filter) (q round moves : ℕ) : Type 
   pub top : round ≤ length c.lists
   pub wide : length (list_of c.lists round) ≡ signal_count (frame_in g) (round_of (frame_in g) (at_point q))
 
-pub point_facts : (g : ValidGame) (c : Filter) (ps : List StoredPoint) (q : ℕ) (p : StoredPoint) → c.parents ≡ (frame_in g).parents → IsSound c
+pub point_facts : (g : ValidGame) (c : Filter) (ps : List StoredPoint) (q : ℕ) (p : StoredPoint) → c.parents ≡ (frame_in g).parents
     → map point_of ps ≡ map own_point (frame_in g).points
     → q < point_count (frame_in g) → p ≡ get_or ps q p → PointFacts g c q p.round (length p.moves.items)
-point_facts g c ps q p parents sound points lq is =
+point_facts g c ps q p parents points lq is =
     let f = frame_in g in
     let r = point_reads g ps q p points lq is in
     let w = walked g 1 (omega arith) (omega arith) in
-    let k = over f c parents sound in
+    let k = over f c parents in
     let some : 0 < p.round = omega (arith, r.round, w.some_round q lq) in
     let top : p.round ≤ last_round f = omega (arith, r.round, w.point_in q lq) in
     record {

@@ -1,6 +1,6 @@
 -- The class that a class descends from, round by round.
 use Rattle.std.proofs.Common.{◌≡◌, ℕ, ◌-◌, ◌<◌, ◌≤◌, List, length, get_or, sym, ap, ◌∙◌, arith}
-use Rattle.gs_filter.specs.Filter.{Filter, IsParentClass, IsSound}
+use Rattle.gs_filter.specs.Filter.{Filter, IsParentClass}
 use Rattle.gs_filter.proofs.TallyLaws.{first_in, first_member_of}
 use Rattle.gs_model.specs.Classes.{IsClass, class_of, first_member, list_of}
 use Rattle.gs_model.specs.Frame.{Frame, ancestor, ancestor_up, parents_of, signal_count}
@@ -12,15 +12,15 @@ parent_is : (f : Frame) (at x : ℕ) → 0 < at → ancestor f at (at - 1) x ≡
 unfolding ancestor
 parent_is f at x some = let one : at - (at - 1) ≡ 1 = omega arith in ap (λ k. ancestor_up f at k x) one
 
-module _ (c : Filter) (s : IsSound c) (round class : ℕ) (some : 0 < round) (top : round ≤ length c.lists) (here : IsClass c.lists round class) where
+module _ (c : Filter) (round class : ℕ) (some : 0 < round) (top : round ≤ length c.lists) (here : IsClass c.lists round class) where
   in_parents : round ≤ length c.parents
-  in_parents = omega (arith, s.classes.rounds, top)
+  in_parents = omega (arith, c.classes.rounds, top)
 
   -- a class is its own in its own round
   pub above_none : IsClassAbove c round round class class
   above_none f r e =
       let own = (is_table f r).itself round (first_member c.lists round class) in
-      sym (ap (class_of c.lists round) own ∙ first_member_of (list_of c.lists round) class (s.classes.numbered round some in_parents) here.0 here.1)
+      sym (ap (class_of c.lists round) own ∙ first_member_of (list_of c.lists round) class (c.classes.numbered round some in_parents) here.0 here.1)
 
   -- one round up
   pub above_more : (at above next : ℕ) → 1 < at → at ≤ round → IsClassAbove c round at class above → IsParentClass c at above next
@@ -32,12 +32,12 @@ module _ (c : Filter) (s : IsSound c) (round class : ℕ) (some : 0 < round) (to
       let member : first < signal_count f round =
       omega (
         arith,
-        first_in (list_of c.lists round) class (s.classes.numbered round some in_parents) here.0 here.1,
-        s.classes.lengths round some in_parents,
+        first_in (list_of c.lists round) class (c.classes.numbered round some in_parents) here.0 here.1,
+        c.classes.lengths round some in_parents,
         count round,
       ) in
       let inside = (is_table f r).kept round at first (omega arith) hi member in
-      let within : x < length (list_of c.lists at) = omega (arith, inside, count at, s.classes.lengths at (omega arith) (omega (arith, hi, in_parents))) in
+      let within : x < length (list_of c.lists at) = omega (arith, inside, count at, c.classes.lengths at (omega arith) (omega (arith, hi, in_parents))) in
       let same = p x within (sym (a f r e)) in
       sym (ap (class_of c.lists (at - 1)) (sym ((is_table f r).chain round at (at - 1) first (omega arith) hi) ∙ parent_is f at x (omega arith)
       ∙ ap (λ (ps : List (List ℕ)). get_or (list_of ps at) x 0) e) ∙ same)

@@ -4,7 +4,7 @@ use Rattle.std.specs.Prelude.{◌*ℤ◌, ◌⊎◌, slice_index}
 use Rattle.std.proofs.lemmas.Bool.{cases_lt}
 use Rattle.gs_boards.specs.Boards.{deal_sum, paid}
 use Rattle.gs_boards.specs.declared.pays.Pays.{Pays}
-use Rattle.gs_filter.specs.Filter.{Filter, IsSound}
+use Rattle.gs_filter.specs.Filter.{Filter}
 use Rattle.gs_filter.proofs.ClassLaws.{greatest_within}
 use Rattle.gs_game.specs.Games.{game_of}
 use Rattle.gs_game.specs.declared.valid.ValidGame.{ValidGame}
@@ -28,15 +28,15 @@ use Rattle.gs_seq.proofs.Singles.{count_is, deals_of, made_row}
 use Rattle.gs_seq.proofs.SlotLaws.{over}
 
 -- each of the last round's signals is a class, and there are no more
-pub single_count : (g : ValidGame) (c : Filter) → c.parents ≡ (frame_in g).parents → IsSound c → IsSingleIn c.lists (last_round (frame_in g))
+pub single_count : (g : ValidGame) (c : Filter) → c.parents ≡ (frame_in g).parents → IsSingleIn c.lists (last_round (frame_in g))
     → class_count c.lists (last_round (frame_in g)) ≡ last_count (game_of g.game)
-single_count g c e sound single =
+single_count g c e single =
     let f = frame_in g in
     let last = last_round f in
     let n = last_count (game_of g.game) in
     let some : 0 < last = omega (arith, last_round_of (game_of g.game), g.limits.some_round) in
-    let k = over f c e sound in
-    let count = count_is g c e sound single in
+    let k = over f c e in
+    let count = count_is g c e single in
     let long = k.lengths last some (omega arith) in
     let most = greatest_within (list_of c.lists last) (k.numbered last some (omega arith)) in
     ⊎_elim
@@ -47,18 +47,18 @@ single_count g c e sound single =
     (λ (none : n ≤ 0). omega (arith, most, long, count, none))
     (cases_lt 0 n)
 
-pub by_deals : (g : ValidGame) (c : Filter) (e : c.parents ≡ (frame_in g).parents) (sound : IsSound c) (single : IsSingleIn c.lists (last_round (frame_in g)))
+pub by_deals : (g : ValidGame) (c : Filter) (e : c.parents ≡ (frame_in g).parents) (single : IsSingleIn c.lists (last_round (frame_in g)))
     (player z : ℕ) (pays : Pays) (numbers : List ℕ)
     → (player ≡ 1) ⊎ (player ≡ 2) → IsWalked (frame_in g) player → z < end_count (frame_in g) → round_of (frame_in g) (at_end z) ≡ last_round (frame_in g)
     → InRange (frame_in g) → IsClasses (frame_in g).parents c.lists
     → ((d : Deal) → pos d.weight *ℤ paid pays d.outcome ≡ pair_pays player (end_at (frame_in g) z) (deal_pair d))
     → (k : ℕ) → 0 < k → deal_sum (game_of g.game) numbers (paid pays) (k - 1) ≡ number_sum (frame_in g) c.lists player numbers z k
-by_deals g c e sound single player z pays numbers either w l last r classes same k some =
+by_deals g c e single player z pays numbers either w l last r classes same k some =
     let f = frame_in g in
-    let ds = deals_of g c e sound single (k - 1) in
+    let ds = deals_of g c e single (k - 1) in
     let row : List Pair = map deal_pair ds in
     let is : IsRow f c.lists (round_of f (at_end z)) k row = subst (λ x. IsRow f c.lists x k row) (sym last)
-    (made_row g c e sound single k (k - 1) (omega (arith, some))) in
+    (made_row g c e single k (k - 1) (omega (arith, some))) in
     let term : Pair → ℤ = λ p. pos (get_or numbers (p.two - 1) 0) *ℤ pair_pays player (end_at f z) p in
     let place : (d : Deal) → d.two ≡ d.two + 1 - 1 = λ d. omega arith in
     sum_z-same (λ (d : Deal). pos (slice_index numbers d.two) *ℤ (pos d.weight *ℤ paid pays d.outcome)) (λ d. term (deal_pair d))

@@ -7,7 +7,7 @@ use Rattle.std.proofs.lemmas.Bool.{cases_lt}
 use Rattle.std.proofs.lemmas.List.{get_or_append_left, get_or_push, get_or_read, length-map, length_push}
 use Rattle.std.proofs.lemmas.List.FromFn.{length-range_with_len}
 use Rattle.std.proofs.lemmas.List.Sums.{count_by-le-length, sum_by-le, sum_by_more}
-use Rattle.gs_filter.specs.Filter.{Filter, IsSound}
+use Rattle.gs_filter.specs.Filter.{Filter}
 use Rattle.gs_game.specs.Games.{game_of}
 use Rattle.gs_game.specs.Seen.{end_of}
 use Rattle.gs_game.specs.declared.positions.End.{End as StoredEnd}
@@ -76,7 +76,7 @@ at_map f [] k n l h = absurd (omega arith)
 at_map f (x ∷ xs) zero n l h = h x
 at_map f (x ∷ xs) (suc k) n l h = at_map f xs k n (omega arith) h
 
-module _ (g : ValidGame) (c : Filter) (e : c.parents ≡ (frame_in g).parents) (s : IsSound c) where
+module _ (g : ValidGame) (c : Filter) (e : c.parents ≡ (frame_in g).parents) where
   -- the pairs of a round are few
   pub few_pairs : (round : ℕ) → 0 < round → round ≤ last_round (frame_in g) → pair_count (frame_in g) c.lists round ≤ 40000000000
   few_pairs round some top =
@@ -87,7 +87,7 @@ module _ (g : ValidGame) (c : Filter) (e : c.parents ≡ (frame_in g).parents) (
       let k = get_or (classes_in c.lists round) i d in
       omega (arith, count_by-le-length (λ m. meets (frame_in g) c.lists round k m) (classes_in c.lists round), long)) in
       let most : pair_count (frame_in g) c.lists round ≤ length (classes_in c.lists round) * n = sum_by-le own n (classes_in c.lists round) each in
-      let few : n ≤ 200000 = class_few g c e s round some top in
+      let few : n ≤ 200000 = class_few g c e round some top in
       let square : n * n ≤ 200000 * n = mul-le-mul_right n few in
       omega (arith, most, ap (λ k. k * n) long, square, few)
 
@@ -95,7 +95,7 @@ module _ (g : ValidGame) (c : Filter) (e : c.parents ≡ (frame_in g).parents) (
     round_pairs : (round : ℕ) (d : Vec (Vec Pair Global) Global) → 0 < round → round ≤ length rows
         → pairs_of (get_or rows (round - 1) d).items ≡ pair_count (frame_in g) c.lists round
     round_pairs round d some top =
-        rows_long (frame_in g) (table g) c.lists (over (frame_in g) c e s) (deals_weigh (game_of g.game)) round some (omega (arith, top, r.most))
+        rows_long (frame_in g) (table g) c.lists (over (frame_in g) c e) (deals_weigh (game_of g.game)) round some (omega (arith, top, r.most))
         (get_or rows (round - 1) d).items (r.in_round round d some top)
 
     -- so they can be counted
@@ -129,7 +129,7 @@ module _ (g : ValidGame) (c : Filter) (e : c.parents ≡ (frame_in g).parents) (
             ∙ listed round some (omega (arith, under, counts_long)))
             (λ (past : length counts ≤ round - 1). (let at : round ≡ last_round (frame_in g) = omega (arith, past, top, some, l, counts_long, r.fewest) in
             let place : length counts ≡ round - 1 = omega (arith, past, top, some, l, counts_long, r.fewest) in
-            get_or_push counts n 0 (round - 1) place ∙ are ∙ sym (made_count g c e s (r.single (omega (arith, l, counts_long))))
+            get_or_push counts n 0 (round - 1) place ∙ are ∙ sym (made_count g c e (r.single (omega (arith, l, counts_long))))
             ∙ ap (pair_count (frame_in g) c.lists) (sym at)))
             (cases_lt (round - 1) (length counts));
       }

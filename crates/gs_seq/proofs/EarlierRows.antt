@@ -19,7 +19,7 @@ use Rattle.std.proofs.lemmas.List.Filters.{sum_by-filter_both}
 use Rattle.std.proofs.lemmas.List.Sorted.{All-permutation, sum_by-IsPermutation}
 use Rattle.std.proofs.lemmas.List.Sums.{sum_by-append, sum_by-cons}
 use borrow.Author.Differences.{product_is}
-use Rattle.gs_filter.specs.Filter.{Filter, IsParentClass, IsSound}
+use Rattle.gs_filter.specs.Filter.{Filter, IsParentClass}
 use Rattle.gs_filter.proofs.TallyLaws.{first_in, first_member_of}
 use Rattle.gs_game.specs.declared.valid.ValidGame.{ValidGame}
 use Rattle.gs_lossless.specs.declared.parts.Part.{Part}
@@ -172,11 +172,11 @@ times true w = omega (arith, ints, product_is (pos w) (pos 1))
 times false w = *ℤ-zero (pos w)
 
 -- the class above a class is that of its first member's parent
-pub up_is : (f : Filter) → IsSound f → (round k above : ℕ) → 0 < round → round < length f.lists → IsClass f.lists (round + 1) k
+pub up_is : (f : Filter) → (round k above : ℕ) → 0 < round → round < length f.lists → IsClass f.lists (round + 1) k
     → IsParentClass f (round + 1) k above → above ≡ class_up f round k
-up_is f s round k above some top h p =
+up_is f round k above some top h p =
     let next = round + 1 in
-    let n = s.classes.numbered next (omega arith) (omega (arith, s.classes.rounds, top)) in
+    let n = f.classes.numbered next (omega arith) (omega (arith, f.classes.rounds, top)) in
     let first = first_member f.lists next k in
     let back : next - 1 ≡ round = omega arith in
     sym (p first (first_in (list_of f.lists next) k n h.0 h.1) (first_member_of (list_of f.lists next) k n h.0 h.1))
@@ -234,10 +234,10 @@ below_more c round n below old new above b h up is items = record {
 
 -- ---- the classes below a class
 
-module _ (g : ValidGame) (c : Filter) (e : c.parents ≡ (frame_in g).parents) (s : IsSound c) (round : ℕ) (some : 0 < round) (before : round
+module _ (g : ValidGame) (c : Filter) (e : c.parents ≡ (frame_in g).parents) (round : ℕ) (some : 0 < round) (before : round
     < last_round (frame_in g)) where
   k : IsClasses (frame_in g).parents c.lists
-  k = over (frame_in g) c e s
+  k = over (frame_in g) c e
 
   lo : 0 < round + 1
   lo = omega arith

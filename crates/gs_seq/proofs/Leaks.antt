@@ -8,7 +8,7 @@ use Rattle.std.proofs.lemmas.Bool.{cases_eq}
 use Rattle.std.proofs.lemmas.List.{get_or-drop, get_or-take, length-take}
 use Rattle.std.proofs.lemmas.List.FromFn.{fill_by_all}
 use Rattle.std.proofs.lemmas.List.Sums.{sum-map}
-use Rattle.gs_filter.specs.Filter.{Filter, IsSound}
+use Rattle.gs_filter.specs.Filter.{Filter}
 use Rattle.gs_game.specs.declared.positions.Point.{Point as StoredPoint}
 use Rattle.gs_game.specs.declared.valid.ValidGame.{ValidGame}
 use Rattle.gs_model.specs.Classes.{ClassLists, IsClass, class_count}
@@ -81,12 +81,12 @@ pub record RowAt (f : Frame) (lists : ClassLists) (player q before first moves :
   pub room : first + before * moves + moves ≤ slot_count f lists player
   pub few : slot_count f lists player < 2 ^ 60
 
-pub row_at : (g : ValidGame) (c : Filter) → c.parents ≡ (frame_in g).parents → IsSound c → (player q before first moves count : ℕ) (p : StoredPoint)
+pub row_at : (g : ValidGame) (c : Filter) → c.parents ≡ (frame_in g).parents → (player q before first moves count : ℕ) (p : StoredPoint)
     → Reads (frame_in g) q p → player_at (frame_in g) q ≡ player
     → q < point_count (frame_in g) → first ≡ slots_before (frame_in g) c.lists player q → moves ≡ length p.moves.items → count ≡ class_count c.lists p.round
     → before < count
     → RowAt (frame_in g) c.lists player q before first moves
-row_at g c e s player q before first moves count p r own lq at long all less =
+row_at g c e player q before first moves count p r own lq at long all less =
     let f = frame_in g in
     let below : before < class_count c.lists (round_of f (at_point q)) = omega (arith, less, all, ap (class_count c.lists) r.round) in
     let many : moves ≡ move_count f q = omega (arith, long, r.moves) in
@@ -95,5 +95,5 @@ row_at g c e s player q before first moves count p r own lq at long all less =
       many = many;
       starts = at;
       room = row_room f c.lists player q before first moves own many at lq below;
-      few = slots_few g c e s player (point_count f) (omega arith);
+      few = slots_few g c e player (point_count f) (omega arith);
     }

@@ -1,7 +1,7 @@
 -- The row of a class of a valid game: that it fits, and that it is the row of the class.
 use Rattle.std.proofs.Common.{◌≡◌, ℕ, ◌*◌, ◌<◌, ◌≤◌, ◌^◌, List, [], length, ◌∙◌, arith, sum_by}
 use Rattle.std.proofs.lemmas.List.Sums.{sum_by-cons}
-use Rattle.gs_filter.specs.Filter.{Filter, IsSound}
+use Rattle.gs_filter.specs.Filter.{Filter}
 use Rattle.gs_game.specs.Games.{game_of}
 use Rattle.gs_game.specs.declared.valid.ValidGame.{ValidGame}
 use Rattle.gs_lossless.specs.Amounts.{AreAmounts}
@@ -23,12 +23,12 @@ use Rattle.gs_seq.proofs.SlotLaws.{over}
 pub table : (g : ValidGame) → Tabled (frame_in g)
 table g = tabled (game_of g.game) (playable g)
 
-module _ (g : ValidGame) (c : Filter) (e : c.parents ≡ (frame_in g).parents) (s : IsSound c) (h : IsLossless (frame_in g) c.lists) (round : ℕ) (some : 0
+module _ (g : ValidGame) (c : Filter) (e : c.parents ≡ (frame_in g).parents) (h : IsLossless (frame_in g) c.lists) (round : ℕ) (some : 0
     < round) (top : round ≤ last_round (frame_in g))
     (class first members : ℕ) (size : members ≡ class_size c.lists round class) (sums : List Part)
     (a : AreAmounts (frame_in g) c.lists Deals round first sums) where
   long : length (list_of c.lists round) ≡ signal_count (frame_in g) round
-  long = (over (frame_in g) c e s).lengths round some top
+  long = (over (frame_in g) c e).lengths round some top
 
   -- the row gathered from the first member's sums is the class's row
   pub row_is : first < length (list_of c.lists round) → class_of c.lists round first ≡ class
@@ -41,7 +41,7 @@ module _ (g : ValidGame) (c : Filter) (e : c.parents ≡ (frame_in g).parents) (
   -- the class's weight is no more than a row holds
   pub row_fits : first < length (list_of c.lists round) → class_of c.lists round first ≡ class → members * sum_by (λ (p : Part). p.weight) sums < 2 ^ 32
   row_fits l member =
-      let k = over (frame_in g) c e s in
+      let k = over (frame_in g) c e in
       let weigh = class_weight (frame_in g) (table g) c.lists k round some top in
       omega (
         arith,

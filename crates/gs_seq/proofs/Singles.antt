@@ -11,7 +11,7 @@ use Rattle.std.proofs.lemmas.List.Elements.{All-from_recursion, All-head, All-ta
 use Rattle.std.proofs.lemmas.List.Sums.{get_or-le-sum_by, sum_by-cons}
 use borrow.Author.Differences.{product_is}
 use borrow.Author.Tests.{ltb-true}
-use Rattle.gs_filter.specs.Filter.{Filter, IsSound}
+use Rattle.gs_filter.specs.Filter.{Filter}
 use Rattle.gs_game.specs.Games.{game_of}
 use Rattle.gs_game.specs.declared.valid.ValidGame.{ValidGame}
 use Rattle.gs_model.specs.Classes.{class_count, class_of, classes_in}
@@ -150,7 +150,7 @@ no_deals s n (d ∷ ds) h l =
 times_one : (w : ℕ) → pos w ≡ pos w *ℤ pos 1
 times_one w = omega (arith, ints, product_is (pos w) (pos 1))
 
-module _ (g : ValidGame) (c : Filter) (e : c.parents ≡ (frame_in g).parents) (sound : IsSound c) (single : IsSingleIn c.lists (last_round (frame_in g))) where
+module _ (g : ValidGame) (c : Filter) (e : c.parents ≡ (frame_in g).parents) (single : IsSingleIn c.lists (last_round (frame_in g))) where
   abbrev last : ℕ
   last = last_round (frame_in g)
 
@@ -165,7 +165,7 @@ module _ (g : ValidGame) (c : Filter) (e : c.parents ≡ (frame_in g).parents) (
       ∙ signal_count_is (game_of g.game) (round_count (game_of g.game)) g.limits.some_round (omega arith)
 
   class_is : (x : ℕ) → x < signal_count (frame_in g) last → class_of c.lists last x ≡ x + 1
-  class_is x l = single x (omega (arith, l, (over (frame_in g) c e sound).lengths last some (omega arith)))
+  class_is x l = single x (omega (arith, l, (over (frame_in g) c e).lengths last some (omega arith)))
 
   own_class : (x : ℕ) → x < signal_count (frame_in g) last → class_of c.lists last (at_round (frame_in g) last x) ≡ x + 1
   own_class x l = ap (class_of c.lists last) ((table g).itself last x) ∙ class_is x l
@@ -224,7 +224,7 @@ module _ (g : ValidGame) (c : Filter) (e : c.parents ≡ (frame_in g).parents) (
   pub made_count : pair_count (frame_in g) c.lists last ≡ length (deals (game_of g.game))
   made_count =
       let ds = deals (game_of g.game) in
-      let k = over (frame_in g) c e sound in
+      let k = over (frame_in g) c e in
       let n = class_count c.lists last in
       let own : ℕ → ℕ = λ x. count_by (λ y. meets (frame_in g) c.lists last x y) (classes_in c.lists last) in
       let here : ℕ → ℕ = λ x. sum_by (λ (d : Deal). cond ((d.one + 1) == x) 1 0) ds in

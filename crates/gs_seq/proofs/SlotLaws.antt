@@ -4,7 +4,7 @@ use Rattle.std.specs.Prelude.{◌==◌}
 use Rattle.std.specs.List.{range_with_len}
 use Rattle.std.proofs.Math.Nat.{mul-le-mul_right}
 use Rattle.std.proofs.lemmas.List.Sums.{sum_by-append, sum_by-cons}
-use Rattle.gs_filter.specs.Filter.{Filter, IsSound}
+use Rattle.gs_filter.specs.Filter.{Filter}
 use Rattle.gs_filter.proofs.ClassLaws.{greatest_within}
 use Rattle.gs_game.specs.Games.{game_of}
 use Rattle.gs_game.specs.declared.valid.ValidGame.{ValidGame}
@@ -39,14 +39,14 @@ sum_range_le f m n l =
 -- ---- classes
 
 -- class lists over the parents of a frame are classes of the frame
-pub over : (f : Frame) (c : Filter) → c.parents ≡ f.parents → IsSound c → IsClasses f.parents c.lists
-over f c e s = subst (λ (ps : List (List ℕ)). IsClasses ps c.lists) e s.classes
+pub over : (f : Frame) (c : Filter) → c.parents ≡ f.parents → IsClasses f.parents c.lists
+over f c e = subst (λ (ps : List (List ℕ)). IsClasses ps c.lists) e c.classes
 
-pub class_few : (g : ValidGame) (c : Filter) → c.parents ≡ (frame_in g).parents → IsSound c → (round : ℕ) → 0 < round → round ≤ last_round (frame_in g)
+pub class_few : (g : ValidGame) (c : Filter) → c.parents ≡ (frame_in g).parents → (round : ℕ) → 0 < round → round ≤ last_round (frame_in g)
     → class_count c.lists round ≤ 200000
-class_few g c e s round some top =
+class_few g c e round some top =
     let f = frame_in g in
-    let h = over f c e s in
+    let h = over f c e in
     let r = last_round_of (game_of g.game) in
     let n = greatest_within (list_of c.lists round) (h.numbered round some top) in
     omega (
@@ -92,13 +92,13 @@ before_few f lists player (suc n) h =
     )
 
 -- the slots of a player are fewer than 2^60
-pub slots_few : (g : ValidGame) (c : Filter) → c.parents ≡ (frame_in g).parents → IsSound c → (player n : ℕ) → n ≤ point_count (frame_in g)
+pub slots_few : (g : ValidGame) (c : Filter) → c.parents ≡ (frame_in g).parents → (player n : ℕ) → n ≤ point_count (frame_in g)
     → slots_before (frame_in g) c.lists player n < 2 ^ 60
-slots_few g c e s player n l =
+slots_few g c e player n l =
     let f = frame_in g in
     let w = walked g 1 (omega arith) (omega arith) in
     let all = point_count f in
-    let b = before_few f c.lists player all (λ q lq. class_few g c e s (round_of f (at_point q)) (w.some_round q lq) (w.point_in q lq)) in
+    let b = before_few f c.lists player all (λ q lq. class_few g c e (round_of f (at_point q)) (w.some_round q lq) (w.point_in q lq)) in
     omega (arith, slots_le f c.lists player n all l, b, moves_total f 1 w, (few g).points, (few g).ends)
 
 -- a point has few moves

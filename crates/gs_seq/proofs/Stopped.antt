@@ -7,7 +7,7 @@ use Rattle.std.specs.declared.cmp.Ordering.TheVariants.{Less}
 use Rattle.std.proofs.Math.Nat.{mul-div_cancel_left, mul-le-mul_right, mul-le-mul_left}
 use Rattle.std.proofs.lemmas.List.Elements.{recursion_from_All}
 use Rattle.std.proofs.lemmas.List.Sums.{sum_by-cons}
-use Rattle.gs_filter.specs.Filter.{Filter, IsSound}
+use Rattle.gs_filter.specs.Filter.{Filter}
 use Rattle.gs_game.specs.Games.{game_of}
 use Rattle.gs_game.specs.GoingOn.{StopsAfter, ways_on}
 use Rattle.gs_game.specs.declared.valid.ValidGame.{ValidGame}
@@ -137,7 +137,7 @@ module _ (g h : ValidGame) (round : ℕ) (some : 0 < round) (top : round ≤ rou
   -- ---- the row
 
   module _ (before : round < round_count (game_of g.game)) (c : Filter) (e : c.parents
-      ≡ (frame_in g).parents) (sound : IsSound c) (lossless : IsLossless (frame_in g) c.lists) (others : ClassLists) (same : list_of others round
+      ≡ (frame_in g).parents) (lossless : IsLossless (frame_in g) c.lists) (others : ClassLists) (same : list_of others round
       ≡ list_of c.lists round)
       (class first members : ℕ) (size : members ≡ class_size c.lists round class) (sums : List Part)
       (a : AreAmounts (frame_in h) others Deals round first sums) where
@@ -154,7 +154,7 @@ module _ (g h : ValidGame) (round : ℕ) (some : 0 < round) (top : round ≤ rou
     }
 
     long : length (list_of c.lists round) ≡ signal_count (frame_in g) round
-    long = (over (frame_in g) c e sound).lengths round some (omega (arith, one_less))
+    long = (over (frame_in g) c e).lengths round some (omega (arith, one_less))
 
     pub row_is : first < length (list_of c.lists round) → class_of c.lists round first ≡ class
         → IsRow (frame_in g) c.lists round class (gathered (members * ways) sums)
@@ -167,7 +167,7 @@ module _ (g h : ValidGame) (round : ℕ) (some : 0 < round) (top : round ≤ rou
     pub row_fits : first < length (list_of c.lists round) → class_of c.lists round first ≡ class
         → (members * ways) * sum_by (λ (p : Part). p.weight) sums < 2 ^ 32
     row_fits l member =
-        let k = over (frame_in g) c e sound in
+        let k = over (frame_in g) c e in
         let weigh = class_weight (frame_in g) (table g) c.lists k round some (omega (arith, one_less)) in
         omega (
           arith,

@@ -52,8 +52,6 @@ fn row_by(
     requires class { IsClass at.now.classes.now.lists at.now.round class }
     ensures { IfOk result (λ v. IsRow (frame_in at.now.signals.now.game.now) at.now.classes.now.lists at.now.round class v.items) }
 {
-    // called only for what its contract says
-    let _rounds = at.classes.rounds();
     let first = at.classes.first(at.round, class);
     let sums = side_sums(alloc, at.stopped, Side::Deals, at.round, keys, first)?;
     row_of(
@@ -67,7 +65,6 @@ fn row_by(
 fn rows_by(alloc: Global, at: &StoppedRound<'_>) -> Result<Vec<Vec<Pair>>, AllocError>
     ensures { IfOk result (λ v. AreRowsIn (frame_in at.now.signals.now.game.now) at.now.classes.now.lists at.now.round v.items) }
 {
-    let _rounds = at.classes.rounds();
     let keys = side_keys(alloc, at.stopped, at.seen, Side::Deals, at.round)?;
     let ways = ways_on(at);
     let count = at.classes.classes(at.round);
@@ -92,7 +89,6 @@ fn rows_at(
     requires before_last { round < round_count (rules_of signals.now) }
     ensures { IfOk result (λ v. AreRowsIn (frame_in signals.now.game.now) classes.now.lists round v.items) }
 {
-    let _rounds = classes.rounds();
     if let Some(game) = signals.game().stopped(alloc, round)? {
         let stopped = Signals::of(alloc, &game)?;
         if let Some(seen) = stopped_classes(alloc, &stopped, classes, round)? {

@@ -16,8 +16,6 @@ fn classes_below(alloc: Global, classes: &Classes, round: u8) -> Result<Vec<Vec<
     requires before_last { round < length classes.now.lists }
     ensures { IfOk result (λ v. AreBelow classes.now round (class_count classes.now.lists (round + 1)) v.items) }
 {
-    // called only for what its contract says
-    let _rounds = classes.rounds();
     let mut below = empty_lists(alloc, classes.classes(round))?;
     for before in 0..classes.classes(round + 1) {
         let above = classes.parent_class(round + 1, before + 1);
@@ -33,7 +31,6 @@ fn part_above(classes: &Classes, round: u8, pair: Pair) -> Part
     requires class { IsClass classes.now.lists (round + 1) pair.two }
     ensures { result ≡ part_up classes.now round pair }
 {
-    let _rounds = classes.rounds();
     Part {
         class: classes.parent_class(round + 1, pair.two),
         outcome: 0,
@@ -96,7 +93,6 @@ fn row_above(
     ensures { IfOk result (λ v. IsRow (frame_in lossless.now.signals.now.game.now) lossless.now.classes.now.lists round class v.items) }
 {
     let classes = lossless.classes();
-    let _rounds = classes.rounds();
     let mut parts = parts_above(alloc, classes, round, below, rows)?;
     parts.sort_unstable();
     row_of(alloc, &parts, 1)
@@ -115,7 +111,6 @@ pub(crate) fn rows_above(
     ensures { IfOk result (λ v. AreRowsIn (frame_in lossless.now.signals.now.game.now) lossless.now.classes.now.lists round v.items) }
 {
     let classes = lossless.classes();
-    let _rounds = classes.rounds();
     let below = classes_below(alloc, classes, round)?;
     let count = classes.classes(round);
     let mut above = Vec::with_capacity(alloc, count as usize)?;

@@ -34,8 +34,6 @@ fn put_first(
         → IsFirstAt (frame_in game.now) classes.now.lists player weights.new point c }
     ensures clear { IsClear (slots_before (frame_in game.now) classes.now.lists player (point + 1)) weights.new }
 {
-    // called only for what its contract says
-    let _rounds = classes.rounds();
     let source = point_source(game, offsets, point);
     let here = &game.points()[point as usize];
     let moves = here.moves.len();
@@ -61,7 +59,6 @@ fn first_weights(
     ensures long { IfOk result (λ v. length v.items ≡ count) }
     ensures firsts { IfOk result (λ v. AreFirstBefore (frame_in game.now) classes.now.lists player v.items (point_count (frame_in game.now))) }
 {
-    let _rounds = classes.rounds();
     let mut weights = vec![in alloc; 0u64; count as usize]?;
     for point in 0..point_total(game) {
         if game.points()[point as usize].player == player {

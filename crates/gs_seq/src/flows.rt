@@ -37,8 +37,6 @@ pub fn class_above(classes: &Classes, round: u8, to: u8, class: u32) -> u32
     ensures above { IsClassAbove classes.now round to class result }
     ensures class { IsClass classes.now.lists to result }
 {
-    // called only for what its contract says
-    let _rounds = classes.rounds();
     let mut at = round;
     let mut above = class;
     while to < at {
@@ -113,7 +111,6 @@ pub(crate) fn coming(
         (last_step f (player_at f point) (at_point point)) round
         (first_member classes.now.lists round class) }
 {
-    let _rounds = classes.rounds();
     match source {
         None => total,
         Some(step) => {
@@ -160,7 +157,6 @@ fn first_leak_at(
     requires long { length weights.now ≡ slots_in (frame_in game.now) classes.now.lists player }
     ensures { FirstLeakAt (frame_in game.now) classes.now.lists player (plan_of (frame_in game.now) classes.now.lists total weights.now) point result }
 {
-    let _rounds = classes.rounds();
     let source = source_of(game, classes, player, point, first);
     let here = &game.points()[point as usize];
     let moves = here.moves.len();

@@ -134,8 +134,6 @@ impl<'a> Abstract<'a> {
         ensures held { frame_in result.now ≡ frame_of self.now }
         ensures classes { IsClasses (frame_of self.now).parents (lists_of self.now) }
     {
-        // called only for what its contract says
-        let _rounds = self.lossless.classes().rounds();
         self.lossless.signals().game()
     }
 
@@ -188,7 +186,6 @@ impl<'a> Abstract<'a> {
         requires class { IsClass (lists_of self.now) round one }
         ensures { IsRow (frame_of self.now) (lists_of self.now) round one result }
     {
-        let _rounds = self.lossless.classes().rounds();
         if usize::from(round) <= self.rows.len() {
             let row = &self.rows[usize::from(round) - 1][one as usize - 1];
             return Pairs::listed(row);

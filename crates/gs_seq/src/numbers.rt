@@ -111,8 +111,6 @@ pub fn number_by(
         (class_plan (frame_in game.now) classes.now.lists plan.now) end class }
     ensures within { result ≤ plan.now.total }
 {
-    // called only for what its contract says
-    let _rounds = classes.rounds();
     match source {
         None => plan.total,
         Some(step) => {

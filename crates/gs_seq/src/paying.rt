@@ -58,8 +58,6 @@ impl<'a> Abstract<'a> {
         requires { end < end_count (frame_of self.now) }
         ensures { result ≡ end_classes (frame_of self.now) (lists_of self.now) end }
     {
-        // called only for what its contract says
-        let _rounds = self.lossless().classes().rounds();
         self.classes().classes(self.end_in(end).round)
     }
 
@@ -120,8 +118,6 @@ impl<'a> Abstract<'a> {
         ensures behind { (i : ℕ) → start + end_classes (frame_of self.now) (lists_of self.now) end ≤ i
             → get_or sums.new i (pos 0) ≡ get_or sums.old i (pos 0) }
     {
-        let _game = self.game();
-        let _rounds = self.lossless().classes().rounds();
         let stop = start + self.class_total(end) as usize;
         let pays = pays_at(player, self.end_in(end));
         order.deal_sums(pays, numbers, &mut sums[start..stop]);
@@ -187,7 +183,6 @@ impl<'a> Abstract<'a> {
         requires row { IsRow (frame_of self.now) (lists_of self.now) (round_of (frame_of self.now) (at_end end)) class row }
         ensures { result ≡ number_sum (frame_of self.now) (lists_of self.now) player numbers.now end class }
     {
-        let _game = self.game();
         let at = self.end_in(end);
         let mut sum = 0i128;
         for pair in row {

@@ -97,8 +97,6 @@ impl<'a> Abstract<'a> {
         ensures { result ≡ raw_payoff (frame_of self.now) (lifted (frame_of self.now) (lists_of self.now) x.now)
             (lifted (frame_of self.now) (lists_of self.now) y.now) }
     {
-        // called only for what its contract says
-        let _game = self.game();
         let mut sum = 0i128;
         for end in 0..self.end_total() {
             sum = plus(sum, self.payoff_at(x, y, end));
@@ -114,7 +112,6 @@ impl<'a> Abstract<'a> {
         ensures { result ≡ payoff_at (frame_of self.now) (lists_of self.now) (class_plan (frame_of self.now) (lists_of self.now) x.now)
             (class_plan (frame_of self.now) (lists_of self.now) y.now) end }
     {
-        let _game = self.game();
         let mut sum = 0i128;
         for before in 0..self.class_total(end) {
             let number = self.number_at_end(x, end, before + 1);
@@ -134,7 +131,6 @@ impl<'a> Abstract<'a> {
         ensures { result ≡ raw_payoff (frame_of self.now) (lifted (frame_of self.now) (lists_of self.now) x.now)
             (lifted (frame_of self.now) (lists_of self.now) y.now) }
     {
-        let _game = self.game();
         let mut sum = 0i128;
         for end in 0..self.end_total() {
             sum = plus(sum, self.payoff_read(x, y, end, sums, numbers));
@@ -159,7 +155,6 @@ impl<'a> Abstract<'a> {
         ensures { result ≡ payoff_at (frame_of self.now) (lists_of self.now) (class_plan (frame_of self.now) (lists_of self.now) x.now)
             (class_plan (frame_of self.now) (lists_of self.now) y.now) end }
     {
-        let _game = self.game();
         self.end_sums(1, y, end, 0, sums, numbers);
         let mut sum = 0i128;
         for before in 0..self.class_total(end) {

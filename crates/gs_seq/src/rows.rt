@@ -119,8 +119,6 @@ fn class_row(
     requires class { IsClass classes.now.lists round class }
     ensures { IfOk result (λ v. IsRow (frame_in signals.now.game.now) classes.now.lists round class v.items) }
 {
-    // called only for what its contract says
-    let _rounds = classes.rounds();
     let first = classes.first(round, class);
     let sums = side_sums(alloc, signals, Side::Deals, round, keys, first)?;
     row_of(alloc, &sums, u64::from(classes.size(round, class)))
@@ -139,7 +137,6 @@ pub(crate) fn rows_in(
     requires top { round ≤ last_round (frame_in signals.now.game.now) }
     ensures { IfOk result (λ v. AreRowsIn (frame_in signals.now.game.now) classes.now.lists round v.items) }
 {
-    let _rounds = classes.rounds();
     let keys = side_keys(alloc, signals, classes, Side::Deals, round)?;
     let count = classes.classes(round);
     let mut rows = Vec::with_capacity(alloc, count as usize)?;
@@ -229,7 +226,6 @@ pub(crate) fn cells(
     requires rows { AreRows (frame_in game.now) classes.now.lists rows.now }
     ensures { IfOk result (λ n. n ≡ cell_count (frame_in game.now) classes.now.lists) }
 {
-    let _rounds = classes.rounds();
     let counts = pair_counts(alloc, game, classes, rows)?;
     let mut count = 0u64;
     for end in game.ends() {

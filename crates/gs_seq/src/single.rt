@@ -34,7 +34,5 @@ pub(crate) fn are_made(signals: &Signals, classes: &Classes) -> bool
     requires { classes.now.parents ≡ (frame_in signals.now.game.now).parents }
     ensures { IsTrue result → IsSingleIn classes.now.lists (last_round (frame_in signals.now.game.now)) }
 {
-    // called only for what its contract says
-    let _rounds = classes.rounds();
     is_large(signals) && is_single(classes, signals.rounds())
 }

@@ -23,8 +23,6 @@ pub(crate) fn slots_at(game: &ValidGame, classes: &Classes, player: u8, point: u
     requires in_range { point < point_count (frame_in game.now) }
     ensures { result ≡ slots_here (frame_in game.now) classes.now.lists player point }
 {
-    // called only for what its contract says
-    let _rounds = classes.rounds();
     let point = &game.points()[point as usize];
     if point.player == player {
         u64::from(classes.classes(point.round)) * point.moves.len() as u64
@@ -46,7 +44,6 @@ pub(crate) fn slots_between(
     requires in_range { to ≤ point_count (frame_in game.now) }
     ensures { slots_before (frame_in game.now) classes.now.lists player from + result ≡ slots_before (frame_in game.now) classes.now.lists player to }
 {
-    let _rounds = classes.rounds();
     let mut slots = 0u64;
     for point in from..to {
         slots += slots_at(game, classes, player, point);
@@ -60,7 +57,6 @@ pub(crate) fn slot_count(game: &ValidGame, classes: &Classes, player: u8) -> u64
     ensures value { result ≡ slots_in (frame_in game.now) classes.now.lists player }
     ensures few { result < 2 ^ 60 }
 {
-    let _rounds = classes.rounds();
     slots_between(game, classes, player, 0, point_total(game))
 }
 
@@ -106,7 +102,6 @@ pub(crate) fn offsets_of(
     requires two { slots_in (frame_in game.now) classes.now.lists 2 < 2 ^ 32 }
     ensures { IfOk result (λ v. AreOffsets (frame_in game.now) classes.now.lists v.items) }
 {
-    let _rounds = classes.rounds();
     let count = point_total(game);
     let mut offsets = Vec::with_capacity(alloc, count as usize)?;
     let mut one = 0;

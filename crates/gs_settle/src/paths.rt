@@ -9,7 +9,6 @@ ghost use Rattle.gs_simplex.specs.Answer.{IsStop};
 ghost use Rattle.gs_solve.specs.{Solutions.{IsGamePath, IsProgramStop, most_pivots}, Stops.{IsMet}};
 
 use crate::lines::path_text;
-use gs_best::round_total;
 use gs_reply::{Answer, many_pivots, many_table_numbers, overflow_at_step};
 use gs_seq::Abstract;
 use gs_simplex::{Program, Stop, trace};
@@ -57,8 +56,6 @@ fn unended(
 pub(crate) fn shown(alloc: Global, form: &Abstract) -> Result<Answer, AllocError>
     ensures { IfOk result (Answers (ShowsPath (game_in form.now) (lists_of form.now))) }
 {
-    // called only for what its contract says
-    let _rounds = round_total(form);
     let (p, opening) = match program(alloc, form) {
         Ok(made) => made,
         Err(stop) => return unmade(alloc, form, stop),

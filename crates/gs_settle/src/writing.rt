@@ -24,8 +24,6 @@ pub(crate) fn text_of(
     let lossless = form.lossless();
     let signals = lossless.signals();
     let classes = lossless.classes();
-    // called only for what its contract says
-    let _rounds = classes.rounds();
     let mut work = Work::new(alloc, form)?;
     let found = verdict(form, one, two, &mut work);
     write_strategy(alloc, signals.game(), classes, one, two, &found)

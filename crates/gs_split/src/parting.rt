@@ -35,8 +35,6 @@ fn round_parted(
     requires numbers { length numbers.now ≡ signal_count (frame_of (rules_of grouped.now.signals.now)) round }
     ensures { IfOk result (λ v. IsRoundParted (frame_of (rules_of grouped.now.signals.now)) grouped.now.classes.now.lists above.now numbers.now round v.items) }
 {
-    // called only for what its contract says
-    let _rounds = grouped.classes.rounds();
     let before = &grouped.classes.lists()[usize::from(round) - 1];
     let keys = TurnKeys {
         before,

@@ -115,8 +115,6 @@ fn order_numbers(
     ensures { let f = frame_of (rules_of grouped.now.signals.now) in
         IfOk result (λ v. AreFair f grouped.now.classes.now.lists (last_round f) v.items) }
 {
-    // called only for what its contract says
-    let _rounds = grouped.classes.rounds();
     let last = grouped.signals.rounds();
     let list = &grouped.classes.lists()[usize::from(last) - 1];
     deal_numbers(alloc, order, list)
@@ -146,7 +144,6 @@ fn fair_numbers(
     requires fair { AreFair (frame_of (rules_of grouped.now.signals.now)) grouped.now.classes.now.lists (round + 1) below.now }
     ensures { IfOk result (λ v. AreFair (frame_of (rules_of grouped.now.signals.now)) grouped.now.classes.now.lists round v.items) }
 {
-    let _rounds = grouped.classes.rounds();
     let list = &grouped.classes.lists()[usize::from(round)];
     let parents = grouped.signals.parents_in(round + 1);
     child_numbers(alloc, grouped.signals.count(round), parents, list, below)

@@ -93,8 +93,6 @@ pub(crate) fn side_numbers(
     ensures { IfOk result (λ v. AreTurnNumbers (frame_of (rules_of grouped.now.signals.now)) grouped.now.classes.now.lists round v.items) }
 {
     let Grouped { signals, classes } = *grouped;
-    // called only for what its contract says
-    let _rounds = classes.rounds();
     let side = side_at(signals, round);
     let keys = side_keys(alloc, signals, classes, side, round)?;
     let firsts = side_firsts(alloc, signals, boards, side, round, &keys)?;

@@ -40,9 +40,6 @@ pub(crate) fn known_rounds(
     requires turned { IsTurn (frame_of (rules_of signals.now)) before.now.lists classes.now.lists }
     ensures { IfOk result (λ v. AreKnown (frame_of (rules_of signals.now)) classes.now.lists v.items) }
 {
-    // called only for what its contract says
-    let _before = before.rounds();
-    let _rounds = classes.rounds();
     let last = signals.rounds();
     let mut known = Vec::with_capacity(alloc, usize::from(last))?;
     for above in 0..last {

@@ -3,7 +3,6 @@ use Rattle.std.proofs.Common.{◌≡◌, ◌≢◌, ℕ, ◌+◌, ◌-◌, ◌^�
 use Rattle.std.specs.Prelude.{ℤ, pos, ◌-ℤ◌, nat_lt, slice_index, unsigned_abs}
 use Rattle.std.proofs.lemmas.Int.{ints}
 use borrow.Author.Differences.{abs_is}
-use Rattle.gs_filter.specs.Filter.{IsSound}
 use Rattle.gs_model.specs.Classes.{IsClass}
 use Rattle.gs_model.specs.Frame.{move_count, player_at, point_count, round_of}
 use Rattle.gs_model.specs.Positions.{at_point}
@@ -24,13 +23,13 @@ use Rattle.gs_totals.proofs.Stepping.{from_some}
 apart : (a b : ℤ) → unsigned_abs a < 2 ^ 110 → unsigned_abs b < 2 ^ 110 → unsigned_abs (a -ℤ b) < 2 ^ 120
 apart a b h g = omega (arith, ints, abs_is a, abs_is b, abs_is (a -ℤ b), h, g)
 
-module _ (k : Course) (s : IsSound k.role.form.now.lossless.now.classes.now) where
+module _ (k : Course) where
   pub now_modest : (q : ℕ) → AreModestFrom (frame_in k.role) (lists_in k.role) (totals_now k) q
-  now_modest q = known_modest k.role s k.other.now k.plan k.totals.now.points.items (moves_chosen k) q
+  now_modest q = known_modest k.role k.other.now k.plan k.totals.now.points.items (moves_chosen k) q
       (from_some (frame_in k.role) (lists_in k.role) k.role.player _ (totals_now k) (moves_chosen k) q k.best.followed)
 
   pub added_modest : (q : ℕ) → AreModestFrom (frame_in k.role) (lists_in k.role) (totals_added k) q
-  added_modest q = known_modest k.role s k.more.now k.added k.steps.now.points.items (moves_chosen k) q
+  added_modest q = known_modest k.role k.more.now k.added k.steps.now.points.items (moves_chosen k) q
       (from_some (frame_in k.role) (lists_in k.role) k.role.player _ (totals_added k) (moves_chosen k) q k.rise)
 
   module _ (q m c : ℕ) (lq : q < point_count (frame_in k.role)) (lm : m < move_count (frame_in k.role) q)
@@ -39,14 +38,14 @@ module _ (k : Course) (s : IsSound k.role.form.now.lossless.now.classes.now) whe
     gap_small =
         let even : q ≤ q = omega arith in
         let a = now_modest q (at_point q) c lq even lc in
-        let b = worth_modest k.role s (totals_now k) q m c (now_modest (q + 1)) lq lm lc in
+        let b = worth_modest k.role (totals_now k) q m c (now_modest (q + 1)) lq lm lc in
         apart (totals_now k (at_point q) c) (total_worth (frame_in k.role) (lists_in k.role) (totals_now k) q m c) (omega (arith, a)) (omega (arith, b))
 
     pub gain_small : unsigned_abs (total_worth (frame_in k.role) (lists_in k.role) (totals_added k) q m c -ℤ totals_added k (at_point q) c) < 2 ^ 120
     gain_small =
         let even : q ≤ q = omega arith in
         let a = added_modest q (at_point q) c lq even lc in
-        let b = worth_modest k.role s (totals_added k) q m c (added_modest (q + 1)) lq lm lc in
+        let b = worth_modest k.role (totals_added k) q m c (added_modest (q + 1)) lq lm lc in
         apart (total_worth (frame_in k.role) (lists_in k.role) (totals_added k) q m c) (totals_added k (at_point q) c) (omega (arith, b)) (omega (arith, a))
 
     pub not_ahead : player_at (frame_in k.role) q ≡ k.role.player → IsNotAhead (nat_lt m (moves_chosen k q c)) (totals_now k (at_point q) c)
@@ -60,10 +59,10 @@ line_now : (a s : ℤ) → a ≡ line a s 0
 line_now a s = omega (arith, ints)
 
 -- in one turn nothing is overtaken, since the choices are those of now
-pub once_behind : (k : Course) → IsSound k.role.form.now.lossless.now.classes.now → (q m times : ℕ) → q < point_count (frame_in k.role)
+pub once_behind : (k : Course) → (q m times : ℕ) → q < point_count (frame_in k.role)
     → m < move_count (frame_in k.role) q
     → player_at (frame_in k.role) q ≡ k.role.player → times ≤ 1 → StaysBehind k q m times
-once_behind k s q m times lq lm own few c lc ne n soon =
+once_behind k q m times lq lm own few c lc ne n soon =
     let before = nat_lt m (moves_chosen k q c) in
     let value = totals_now k (at_point q) c in
     let slope = totals_added k (at_point q) c in
@@ -72,7 +71,7 @@ once_behind k s q m times lq lm own few c lc ne n soon =
     let now : 0 ≡ n = omega (arith, few, soon) in
     subst (λ n. IsNotAhead before (line value slope n) (line worth rise n)) now
     (subst (λ v. IsNotAhead before v (line worth rise 0)) (line_now value slope)
-    (subst (λ w. IsNotAhead before value w) (line_now worth rise) (not_ahead k s q m c lq lm lc own)))
+    (subst (λ w. IsNotAhead before value w) (line_now worth rise) (not_ahead k q m c lq lm lc own)))
 
 -- a move's rows, class by class
 module _ (k : Course) (q m start count : ℕ) (row : IsRow (classes_at (frame_in k.role) (lists_in k.role)) (point_count (frame_in k.role)) q start count)
@@ -101,17 +100,17 @@ module _ (k : Course) (q m start count : ℕ) (row : IsRow (classes_at (frame_in
   rise_at : (i : ℕ) → i < count → get_or rises i (pos 0) ≡ total_worth (frame_in k.role) (lists_in k.role) (totals_added k) q m (i + 1)
   rise_at i l = let e : i ≡ i + 1 - 1 = omega arith in ap (λ n. get_or rises n (pos 0)) e ∙ r (i + 1) (class_at i l)
 
-  module _ (s : IsSound k.role.form.now.lossless.now.classes.now) (lq : q < point_count (frame_in k.role)) (lm : m < move_count (frame_in k.role) q) where
+  module _ (lq : q < point_count (frame_in k.role)) (lm : m < move_count (frame_in k.role) q) where
     pub all_gaps : (i : ℕ) → i < count → unsigned_abs (get_or values (start + i) (pos 0) -ℤ get_or worths i (pos 0)) < 2 ^ 120
     all_gaps i l =
         subst (λ x. unsigned_abs (x -ℤ get_or worths i (pos 0)) < 2 ^ 120) (sym (value_at i))
-        (subst (λ x. unsigned_abs (totals_now k (at_point q) (i + 1) -ℤ x) < 2 ^ 120) (sym (worth_at i l)) (gap_small k s q m (i + 1) lq lm (class_at i l)))
+        (subst (λ x. unsigned_abs (totals_now k (at_point q) (i + 1) -ℤ x) < 2 ^ 120) (sym (worth_at i l)) (gap_small k q m (i + 1) lq lm (class_at i l)))
 
     pub all_gains : (i : ℕ) → i < count → unsigned_abs (get_or rises i (pos 0) -ℤ get_or slopes (start + i) (pos 0)) < 2 ^ 120
     all_gains i l =
         subst (λ x. unsigned_abs (x -ℤ get_or slopes (start + i) (pos 0)) < 2 ^ 120) (sym (rise_at i l))
         (subst (λ x. unsigned_abs (total_worth (frame_in k.role) (lists_in k.role) (totals_added k) q m (i + 1) -ℤ x)
-        < 2 ^ 120) (sym (slope_at i)) (gain_small k s q m (i + 1) lq lm (class_at i l)))
+        < 2 ^ 120) (sym (slope_at i)) (gain_small k q m (i + 1) lq lm (class_at i l)))
 
     pub all_ahead : player_at (frame_in k.role) q ≡ k.role.player → (i : ℕ) → i < count → slice_index k.picks.now (start + i) ≢ m
         → IsNotAhead (nat_lt m (slice_index k.picks.now (start + i))) (get_or values (start + i) (pos 0)) (get_or worths i (pos 0))
@@ -119,7 +118,7 @@ module _ (k : Course) (q m start count : ℕ) (row : IsRow (classes_at (frame_in
         subst (λ p. IsNotAhead (nat_lt m p) (get_or values (start + i) (pos 0)) (get_or worths i (pos 0))) (sym (pick_at i))
         (subst (λ x. IsNotAhead (nat_lt m (moves_chosen k q (i + 1))) x (get_or worths i (pos 0))) (sym (value_at i))
         (subst (λ x. IsNotAhead (nat_lt m (moves_chosen k q (i + 1))) (totals_now k (at_point q) (i + 1)) x) (sym (worth_at i l))
-        (not_ahead k s q m (i + 1) lq lm (class_at i l) own)))
+        (not_ahead k q m (i + 1) lq lm (class_at i l) own)))
 
   -- the chosen move of a class, and where the class stands
   abbrev Here : ℕ → ℕ → Type 0

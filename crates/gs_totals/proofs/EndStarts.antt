@@ -1,6 +1,5 @@
 -- Where the rows of ends start, and how many numbers they have.
 use Rattle.std.proofs.Common.{◌≡◌, ℕ, zero, suc, ◌+◌, ◌-◌, ◌*◌, ◌<◌, ◌≤◌, ap, arith}
-use Rattle.gs_filter.specs.Filter.{IsSound}
 use Rattle.gs_model.specs.Classes.{ClassLists, IsClass}
 use Rattle.gs_model.specs.Frame.{Frame, end_count, round_of}
 use Rattle.gs_model.specs.Positions.{at_end}
@@ -17,14 +16,14 @@ end_starts_more f lists z = sum_range_more (end_classes f lists) z
 pub end_starts_le : (f : Frame) (lists : ClassLists) (m n : ℕ) → m ≤ n → end_start f lists m ≤ end_start f lists n
 end_starts_le f lists m n l = sum_range_le (end_classes f lists) m n l
 
-module _ (a : Abstract) (sound : IsSound a.lossless.now.classes.now) where
+module _ (a : Abstract) where
   end_starts_by : (z : ℕ) → z ≤ end_count (frame_of a) → end_start (frame_of a) (lists_of a) z ≤ z * 200000
   end_starts_by zero l = omega arith
   end_starts_by (suc z) l =
       let f = frame_of a in
       let w = form_walked a 1 (omega arith) (omega arith) in
       let inside : z < end_count f = omega arith in
-      let few = form_class_few a sound (round_of f (at_end z)) (w.end_round z inside) (w.end_in z inside) in
+      let few = form_class_few a (round_of f (at_end z)) (w.end_round z inside) (w.end_in z inside) in
       let e : suc z ≡ z + 1 = omega arith in
       omega (arith, ap (end_start f (lists_of a)) e, end_starts_more f (lists_of a) z, few, end_starts_by z (omega arith))
 

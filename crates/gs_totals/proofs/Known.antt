@@ -2,7 +2,6 @@
 use Rattle.std.proofs.Common.{ℕ, ◌+◌, ◌*◌, ◌^◌, ◌<◌, ◌≤◌, cond, List, refl, arith}
 use Rattle.std.specs.Prelude.{◌==◌, ℤ, pos, unsigned_abs}
 use Rattle.std.specs.List.{range_with_len}
-use Rattle.gs_filter.specs.Filter.{IsSound}
 use Rattle.gs_model.specs.BestAnswers.{Values}
 use Rattle.gs_model.specs.Classes.{IsClass, class_count}
 use Rattle.gs_model.specs.Frame.{leads_to, move_count, point_count, round_of}
@@ -24,7 +23,7 @@ use Rattle.gs_totals.proofs.TotalBounds.{totals_few}
 pub figures : (total weight : ℕ) → total ≤ 2 ^ 36 → weight ≤ 67108864 → 4096 * (total * weight) ≤ 2 ^ 74
 figures total weight l m = let p = product_le total weight (2 ^ 36) 67108864 l m in omega (arith, p)
 
-module _ (k : Role) (s : IsSound k.form.now.lossless.now.classes.now) where
+module _ (k : Role) where
   pub known_modest : (other : Plan) → IsOthers k other → (values : List ℤ) (move : ℕ → ℕ → ℕ) (from : ℕ)
       → IsFollowedFrom (frame_in k) (lists_in k) k.player (totals_in k other values) move from
       → AreModestFrom (frame_in k) (lists_in k) (totals_in k other values) from
@@ -32,7 +31,7 @@ module _ (k : Role) (s : IsSound k.form.now.lossless.now.classes.now) where
       let m = form_modest k.form.now in
       let plan = his.plan.plan in
       let b =
-      totals_few (frame_in k) (form_in_range k.form.now) (lists_in k) (form_classes k.form.now s) k.player (walked k) (other_walked k)
+      totals_few (frame_in k) (form_in_range k.form.now) (lists_in k) (form_classes k.form.now) k.player (walked k) (other_walked k)
       (apart k.player k.some k.two) (plan_in k other) plan 4096
       (λ z n e lz ln. m.pays k.player z n e lz ln) (totals_in k other values) move from (λ z e lz le. refl) h
       (λ q. either_player k.form.now k.player q k.some k.two) g c i a lc in
@@ -50,7 +49,7 @@ module _ (k : Role) (s : IsSound k.form.now.lossless.now.classes.now) where
       let j = round_of f (at_point q) in
       let some = w.some_round q lq in
       let onward = w.onward q m lq lm in
-      let few = form_class_few k.form.now s i (omega (arith, some, onward)) (w.within q m lq lm) in
+      let few = form_class_few k.form.now i (omega (arith, some, onward)) (w.within q m lq lm) in
       let all = range_abs (λ n. cond (class_above f (lists_in k) i j n == c) (v g n) (pos 0)) 1 (class_count (lists_in k) i) (2 ^ 90)
       (λ n lo hi. tested_small (class_above f (lists_in k) i j n == c) (v g n) (2 ^ 90)
       (let a = h g n (w.inside q m lq lm) (w.later q m lq lm) (omega arith, omega arith) in omega (arith, a))) in

@@ -1,7 +1,6 @@
 -- What ends pay against a plan is small, and so are class totals against it.
 use Rattle.std.proofs.Common.{ℕ, ◌^◌, ◌<◌, ◌≤◌, List, [], refl, sym, subst, arith}
 use Rattle.std.specs.Prelude.{ℤ, unsigned_abs}
-use Rattle.gs_filter.specs.Filter.{IsSound}
 use Rattle.gs_model.specs.Frame.{other_player, point_count}
 use Rattle.gs_model.specs.FrameFacts.{IsFrom}
 use Rattle.gs_model.specs.Positions.{at_end, at_point}
@@ -17,7 +16,7 @@ use Rattle.gs_totals.proofs.Sides.{apart, either_player}
 use Rattle.gs_totals.proofs.Stepping.{from_some, none_followed}
 use Rattle.gs_totals.proofs.TotalBounds.{totals_few}
 
-module _ (a : Abstract) (s : IsSound a.lossless.now.classes.now) (player : ℕ) (some : 0 < player) (two : player
+module _ (a : Abstract) (player : ℕ) (some : 0 < player) (two : player
     ≤ 2) (p : Plan) (h : IsPlanOf (frame_of a) (lists_of a) (other_player player) p) where
   pub small_ends : (sums : List ℤ) → AreEndSums (frame_of a) (lists_of a) player (class_plan (frame_of a) (lists_of a) p) sums
       → AreSmallRows (frame_of a) (lists_of a) sums
@@ -29,7 +28,7 @@ module _ (a : Abstract) (s : IsSound a.lossless.now.classes.now) (player : ℕ) 
       let plan = h.plan.plan in
       let move : ℕ → ℕ → ℕ = λ q c. 0 in
       let b =
-      totals_few f (form_in_range a) lists (form_classes a s) player (form_walked a player some two)
+      totals_few f (form_in_range a) lists (form_classes a) player (form_walked a player some two)
       (form_walked a (other_player player) (omega arith) (omega arith)) (apart player some two) y plan 4096 (λ z n e lz ln. m.pays player z n e lz ln)
       (totals_of f lists player y []) move (point_count f) (λ z e lz le. refl)
       (none_followed f lists player (totals_of f lists player y []) move (point_count f) (omega arith))
@@ -48,7 +47,7 @@ module _ (a : Abstract) (s : IsSound a.lossless.now.classes.now) (player : ℕ) 
       let plan = h.plan.plan in
       let from : IsFrom 0 (at_point q) = omega arith in
       let b =
-      totals_few f (form_in_range a) lists (form_classes a s) player (form_walked a player some two)
+      totals_few f (form_in_range a) lists (form_classes a) player (form_walked a player some two)
       (form_walked a (other_player player) (omega arith) (omega arith)) (apart player some two) y plan 4096 (λ z n e lz ln. m.pays player z n e lz ln)
       (totals_of f lists player y values) move 0 (λ z e lz le. refl) (from_some f lists player y (totals_of f lists player y values) move 0 followed)
       (λ q. either_player a player q some two) (at_point q) c lq from lc in

@@ -6,9 +6,7 @@ ghost use Rattle.gs_seq.specs.Abstracts.{frame_of, lists_of};
 ghost use Rattle.gs_best.specs.Tables.{start_of};
 ghost use Rattle.gs_totals.specs.{Places.{AreEndStarts, end_start}, Room.{HasRows, HasScratch, IsPlaced}};
 
-use gs_best::{
-    class_total, end_round, end_total, place_points, point_total, round_total, value_total, widest,
-};
+use gs_best::{class_total, end_round, end_total, place_points, point_total, value_total, widest};
 use gs_seq::Abstract;
 use std::alloc::{AllocError, Global};
 
@@ -44,8 +42,6 @@ fn place_ends(form: &Abstract, starts: &mut [u32])
     requires { end_count (frame_of form.now) ≤ length starts.old }
     ensures { AreEndStarts (frame_of form.now) (lists_of form.now) starts.new }
 {
-    // called only for what its contract says
-    let _rounds = round_total(form);
     let mut start = 0;
     for end in 0..end_total(form) {
         starts[end as usize] = start;
@@ -57,7 +53,6 @@ fn place_ends(form: &Abstract, starts: &mut [u32])
 pub(crate) fn end_room(form: &Abstract) -> u32
     ensures { result ≡ end_start (frame_of form.now) (lists_of form.now) (end_count (frame_of form.now)) }
 {
-    let _rounds = round_total(form);
     let mut total = 0;
     for end in 0..end_total(form) {
         total += class_total(form, end_round(form, end));

@@ -1,14 +1,13 @@
 //! A point with its row.
 
 ghost use Rattle.std.specs.Prelude.{◌≡◌, ◌+◌, ◌<◌};
-ghost use Rattle.gs_filter.specs.Filter.{IsSound};
 ghost use Rattle.gs_model.specs.Frame.{point_count};
 ghost use Rattle.gs_best.specs.Tables.{classes_at, start_of};
 ghost use Rattle.gs_totals.specs.{Merged.{AreModestFrom}, Roles.{ArePaid, frame_in, lists_in, totals_in}, Room.{HasRows}};
 
 use crate::ledger::Ledger;
 use crate::places::Totals;
-use gs_best::{class_total, round_at, round_total};
+use gs_best::{class_total, round_at};
 
 /// A point with the place of its row and the number of its classes, and class totals that are known at all later points.
 #[derive(Clone, Copy)]
@@ -18,7 +17,6 @@ pub(crate) struct PointRow<'a, 'b> {
     pub(crate) point: u32,
     pub(crate) start: usize,
     pub(crate) count: usize,
-    pub(crate) ghost sound: { IsSound ledger.role.form.now.lossless.now.classes.now },
     pub(crate) ghost inside: { point < point_count (frame_in ledger.role) },
     pub(crate) ghost start_is: { start ≡ start_of (frame_in ledger.role) (lists_in ledger.role) point },
     pub(crate) ghost count_is: { count ≡ classes_at (frame_in ledger.role) (lists_in ledger.role) point },
@@ -34,15 +32,13 @@ impl<'a, 'b> PointRow<'a, 'b> {
         requires inside { point < point_count (frame_in ledger.now.role) }
         requires rows { HasRows (frame_in ledger.now.role) (lists_in ledger.now.role) totals.now }
         requires paid { ArePaid ledger.now.role ledger.now.other.now totals.now }
-        requires modest { let k = ledger.now.role in IsSound k.form.now.lossless.now.classes.now
-            → AreModestFrom (frame_in k) (lists_in k) (totals_in k ledger.now.other.now totals.now.points.items) (point + 1) }
+        requires modest { let k = ledger.now.role in
+            AreModestFrom (frame_in k) (lists_in k) (totals_in k ledger.now.other.now totals.now.points.items) (point + 1) }
         ensures ledger { result.ledger ≡ ledger.now }
         ensures totals { result.totals.now ≡ totals.now }
         ensures point { result.point ≡ point }
     {
         let form = ledger.role.form;
-        // called only for what its contract says
-        let _rounds = round_total(form);
         let start = ledger.role.places.points[point as usize] as usize;
         let count = class_total(form, round_at(form, point)) as usize;
         PointRow {

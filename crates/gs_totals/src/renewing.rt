@@ -12,7 +12,7 @@ ghost use Rattle.gs_totals.specs.{Roles.{ArePaid, frame_in, lists_in, plan_in}, 
 use crate::ledger::Ledger;
 use crate::paying::read_end;
 use crate::places::{Scratch, Totals};
-use gs_best::{class_total, end_total, game, round_at, round_total};
+use gs_best::{class_total, end_total, game, round_at};
 use gs_game::Step;
 use gs_seq::{Abstract, end_step};
 
@@ -24,8 +24,6 @@ fn agree_at(form: &Abstract, step: Step, before: &[u64], now: &[u64]) -> bool
     requires now { length now.now ≡ slot_count (frame_of form.now) (lists_of form.now) (player_at (frame_of form.now) step.point) }
     ensures { IsTrue result ↔ AgreeAt (frame_of form.now) (lists_of form.now) (step_of step) before.now now.now }
 {
-    // called only for what its contract says
-    let _rounds = round_total(form);
     for class in 0..class_total(form, round_at(form, step.point)) {
         let slot = form.slot(step.point, class + 1, step.choice) as usize;
         let first = before[slot];
@@ -47,7 +45,6 @@ fn is_same_at(ledger: &Ledger<'_>, before: &[u64], end: u32) -> bool
         (plan_in k other) end }
 {
     let form = ledger.role.form;
-    let _rounds = round_total(form);
     match end_step(game(form), ledger.other.player, end) {
         None => true,
         Some(step) => agree_at(form, step, before, &ledger.other.weights),

@@ -8,7 +8,7 @@ ghost use Rattle.gs_totals.specs.{ClassTotals.{total_worth}, Merged.{AreGathered
 ghost use Rattle.gs_totals.specs.{Roles.{frame_in, lists_in}, Rows.{IsLaterRow, IsRowOf}};
 
 use crate::point_row::PointRow;
-use gs_best::{class_above, class_total, end_round, round_at, round_total, target_at};
+use gs_best::{class_above, class_total, end_round, round_at, target_at};
 use gs_game::Target;
 use gs_seq::{Abstract, plus};
 
@@ -52,8 +52,6 @@ fn read_row<'a>(form: &Abstract, row: Row<'a>, to: u8, sums: &'a mut [i128]) -> 
     ensures gathered { AreGathered (frame_of form.now) (lists_of form.now) row.entry.round to row.entry.values.now row.entry.start result.now }
     ensures long { class_count (lists_of form.now) to ≤ length result.now }
 {
-    // called only for what its contract says
-    let _rounds = round_total(form);
     let count = class_total(form, to) as usize;
     if row.round == to {
         return &row.values[row.start..row.start + count];

@@ -12,7 +12,7 @@ use crate::ledger::Ledger;
 use crate::places::Scratch;
 use crate::point_row::PointRow;
 use crate::rows::read_worths;
-use gs_best::{chooser, move_total, point_total, round_total};
+use gs_best::{chooser, move_total, point_total};
 
 /// Returns the greatest number of turns, at most `times`, in which a gain each turn does not close a gap.
 fn within_gap(before: bool, gap: u128, gain: u128, times: u32) -> u32
@@ -127,8 +127,6 @@ fn lasting_move(
     ensures most { result ≤ times }
     ensures some { 0 < times → 0 < result }
 {
-    // called only for what its contract says
-    let _rounds = round_total(course.role.form);
     if times <= 1 {
         return times;
     }

@@ -20,7 +20,7 @@ over-requires c =
     let a = c.args.side.now.form.now in
     let held : c.classes.result.now ≡ a.lossless.now.classes.now = c.classes.ensures.held ∙ ap (λ (l : Lossless). l.classes.now) c.lossless.ensures in
     let here = subst (λ j. IsClass (lists_of a) j c.args.class) (sym c.end_round.ensures.value) c.requires.class in
-    let some = some_member (frame_of a) (lists_of a) (form_classes a c.round_total-rounds.ensures.sound) c.end_round.result c.args.class c.end_round.ensures.some c.end_round.ensures.top here in
+    let some = some_member (frame_of a) (lists_of a) (form_classes a) c.end_round.result c.args.class c.end_round.ensures.some c.end_round.ensures.top here in
     omega (arith, c.size-members.ensures, ap (λ (k : Filter). class_size k.lists c.end_round.result c.args.class) held, some)
 
 pub returns : goal.returns
@@ -29,7 +29,7 @@ returns c =
     let a = d.form.now in
     let held : c.classes.result.now ≡ a.lossless.now.classes.now = c.classes.ensures.held ∙ ap (λ (l : Lossless). l.classes.now) c.lossless.ensures in
     let worth = end_worth (frame d) d.player (lifted (frame d) (lists d) d.other.now) c.args.end (first_member (lists d) (round_of (frame d) (at_end c.args.end)) c.args.class) in
-    let share = end_share (frame d) (form_in_range a) (lists d) (form_classes a c.round_total-rounds.ensures.sound) (form_lossless a) d.player (form_walked a d.player d.some d.two) (class_plan (frame d) (lists d) d.other.now) c.args.end c.args.class c.requires.end c.requires.class in
+    let share = end_share (frame d) (form_in_range a) (lists d) (form_classes a) (form_lossless a) d.player (form_walked a d.player d.some d.two) (class_plan (frame d) (lists d) d.other.now) c.args.end c.args.class c.requires.end c.requires.class in
     let size = c.size-members.ensures ∙ ap (λ (k : Filter). class_size k.lists c.end_round.result c.args.class) held ∙ ap (λ j. class_size (lists d) j c.args.class) c.end_round.ensures.value in
     to_z-of_z w128 c.over.result (record { sfits = c.over.type_inv })
     ∙ c.over.ensures.share worth (to_z-of_z w128 c.end_sum-together.result (record { sfits = c.end_sum-together.type_inv }) ∙ c.end_sum-together.ensures ∙ share ∙ ap (λ n. worth *ℤ pos n) (sym size))

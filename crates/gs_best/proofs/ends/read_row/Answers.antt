@@ -19,7 +19,7 @@ returns c =
     let row = c.end_sums.new.sums in
     λ k h.
     (let worth = end_worth f d.player (against d) z (first_member (lists d) round k) in
-    let share = end_share f (form_in_range d.form.now) (lists d) (classes d c.round_total-rounds.ensures.sound) (form_lossless d.form.now) d.player (side_walked d) (class_plan f (lists d) d.other.now) z k c.requires.end h in
+    let share = end_share f (form_in_range d.form.now) (lists d) (classes d) (form_lossless d.form.now) d.player (side_walked d) (class_plan f (lists d) d.other.now) z k c.requires.end h in
     let at : k - 1 ≡ 0 + (k - 1) = omega arith in
     let one : k ≡ k - 1 + 1 = omega (arith, h.0) in
     let sum : get_or row (k - 1) (pos 0) ≡ worth *ℤ pos (class_size (lists d) c.end_round.result (k - 1 + 1)) =

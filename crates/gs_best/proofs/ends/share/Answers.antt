@@ -14,7 +14,7 @@ pub over-requires : goal.over-requires
 over-requires c =
     let a = c.args.form.now in
     let held : c.classes.result.now ≡ a.lossless.now.classes.now = c.classes.ensures.held ∙ ap (λ (l : Lossless). l.classes.now) c.lossless.ensures in
-    let some = some_member (frame_of a) (lists_of a) (form_classes a c.round_total-rounds.ensures.sound) c.args.round c.args.class c.requires.some c.requires.top c.requires.class in
+    let some = some_member (frame_of a) (lists_of a) (form_classes a) c.args.round c.args.class c.requires.some c.requires.top c.requires.class in
     omega (arith, c.size.ensures, ap (λ (k : Filter). class_size k.lists c.args.round c.args.class) held, some)
 
 pub returns : goal.returns

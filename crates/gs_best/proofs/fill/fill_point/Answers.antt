@@ -46,5 +46,5 @@ returns-clause-known c =
     (subst (λ l. IsBestFrom (frame d) (lists d) d.player (values_in d old.items) (moves_of (frame d) (lists d) l) (c.args.point + 1)) (sym c.deref_mut-2.ensures.value) c.requires.known) in
     subst (λ l. IsBestFrom (frame d) (lists d) d.player (values_in d l) (moves_of (frame d) (lists d) (take was.len (picks ++ drop (length picks) was.items))) c.args.point) (sym values_are)
     (subst (λ l. IsBestFrom (frame d) (lists d) d.player (values_in d values) (moves_of (frame d) (lists d) l) c.args.point) (sym picks_are)
-    (step_back (frame d) (lists d) (classes d c.round_total-rounds.ensures.sound) d.player (side_walked d) (against d) c.deref_mut.result.now values c.deref_mut-2.result.now picks c.args.point c.index.result.now c.class_total-count.result c.requires.point row.start_is row.count_is
+    (step_back (frame d) (lists d) (classes d) d.player (side_walked d) (against d) c.deref_mut.result.now values c.deref_mut-2.result.now picks c.args.point c.index.result.now c.class_total-count.result c.requires.point row.start_is row.count_is
     c.deref.result.now c.deref-2.result.now c.copy_values.ensures c.copy_moves.ensures merged known))

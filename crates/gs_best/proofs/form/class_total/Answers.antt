@@ -8,6 +8,6 @@ use Rattle.gs_best.proofs.form.class_total.Goals as goal
 pub returns-clause-few : goal.returns-clause-few
 returns-clause-few c =
     let a = c.args.form.now in
-    let few = form_class_few a c.round_total-rounds.ensures.sound c.args.round c.requires.some c.requires.top in
+    let few = form_class_few a c.args.round c.requires.some c.requires.top in
     let held : c.classes.result.now ≡ a.lossless.now.classes.now = c.classes.ensures.held ∙ ap (λ (l : Lossless). l.classes.now) c.lossless.ensures in
     omega (arith, c.classes-2.ensures, ap (λ (k : Filter). class_count k.lists c.args.round) held, few)

@@ -57,7 +57,7 @@ total_at_end c is =
     let d = c.args.side.now in
     let sum = ap (λ l. sum_z (value_at (lists d) c.end_round.result l 0) (signals_in (frame d) c.end_round.result)) c.deref-in-End.ensures.value in
     to_z-of_z w128 c.round_sum-in-End.result (record { sfits = c.round_sum-in-End.type_inv }) ∙ c.round_sum-in-End.ensures ∙ sum
-    ∙ starts_at_end (frame d) (lists d) d.player (against d) c.args.table.now.values.items (classes d c.round_total-rounds.ensures.sound) c.in-End.end c.end_round.result c.read_end.new.scratch.ends.items is c.end_round.ensures.value c.end_round.ensures.some c.end_round.ensures.top c.read_end.ensures.row
+    ∙ starts_at_end (frame d) (lists d) d.player (against d) c.args.table.now.values.items (classes d) c.in-End.end c.end_round.result c.read_end.new.scratch.ends.items is c.end_round.ensures.value c.end_round.ensures.some c.end_round.ensures.top c.read_end.ensures.row
 
 -- so it is the best total
 is_best : (c : Start) (total : ℤ) → total ≡ start_sum (frame c.args.side.now) (spread (frame c.args.side.now) (lists c.args.side.now) (values_in c.args.side.now c.args.table.now.values.items))
@@ -81,7 +81,7 @@ round_sum-requires-clause-room c = omega (arith, (row (goal.at.round_sum-require
 pub round_sum-requires-clause-modest : goal.round_sum-requires-clause-modest
 round_sum-requires-clause-modest c =
     let at = goal.at.round_sum-requires-clause-modest c in
-    point_modest c.args.side.now c.round_total-rounds.ensures.sound c.args.table.now.values.items c.args.table.now.picks.items 0 (known at.Start) c.in-Point.point _ _ _ (point_inside at.In-Point) (omega arith) (row at.After-round_at) c.deref.ensures.value
+    point_modest c.args.side.now c.args.table.now.values.items c.args.table.now.picks.items 0 (known at.Start) c.in-Point.point _ _ _ (point_inside at.In-Point) (omega arith) (row at.After-round_at) c.deref.ensures.value
 
 pub read_end-requires-clause-end : goal.read_end-requires-clause-end
 read_end-requires-clause-end c = end_inside (goal.at.read_end-requires-clause-end c).In-End
@@ -92,7 +92,7 @@ end_round-requires c = end_inside (goal.at.end_round-requires c).In-End
 pub round_sum-requires-in-End-clause-modest : goal.round_sum-requires-in-End-clause-modest
 round_sum-requires-in-End-clause-modest c =
     let at = goal.at.round_sum-requires-in-End-clause-modest c in
-    end_modest c.args.side.now c.round_total-rounds.ensures.sound c.args.table.now.values.items c.args.table.now.picks.items 0 (known at.Start) c.in-End.end _ _ c.read_end.new.scratch.ends.items (end_inside at.In-End)
+    end_modest c.args.side.now c.args.table.now.values.items c.args.table.now.picks.items 0 (known at.Start) c.in-End.end _ _ c.read_end.new.scratch.ends.items (end_inside at.In-End)
     (ap (class_count (lists c.args.side.now)) c.end_round.ensures.value) c.read_end.ensures.row c.deref-in-End.ensures.value
 
 pub returns-in-Point-clause-total : goal.returns-in-Point-clause-total
@@ -104,7 +104,7 @@ pub returns-in-Point-clause-small : goal.returns-in-Point-clause-small
 returns-in-Point-clause-small c =
     let at = goal.at.returns-in-Point-clause-small c in
     let total = total_at_point at.After-round_sum (at_that_point at.In-Point) (row at.After-round_at).start_is in
-    omega (arith, ap unsigned_abs total, known_start c.args.side.now c.round_total-rounds.ensures.sound c.args.table.now.values.items c.args.table.now.picks.items 0 (known at.Start) refl)
+    omega (arith, ap unsigned_abs total, known_start c.args.side.now c.args.table.now.values.items c.args.table.now.picks.items 0 (known at.Start) refl)
 
 pub returns-in-End-clause-total : goal.returns-in-End-clause-total
 returns-in-End-clause-total c = let at = goal.at.returns-in-End-clause-total c in is_best at.Start _ (total_at_end at.After-round_sum-in-End (at_that_end at.In-End))
@@ -113,4 +113,4 @@ pub returns-in-End-clause-small : goal.returns-in-End-clause-small
 returns-in-End-clause-small c =
     let at = goal.at.returns-in-End-clause-small c in
     let total = total_at_end at.After-round_sum-in-End (at_that_end at.In-End) in
-    omega (arith, ap unsigned_abs total, known_start c.args.side.now c.round_total-rounds.ensures.sound c.args.table.now.values.items c.args.table.now.picks.items 0 (known at.Start) refl)
+    omega (arith, ap unsigned_abs total, known_start c.args.side.now c.args.table.now.values.items c.args.table.now.picks.items 0 (known at.Start) refl)

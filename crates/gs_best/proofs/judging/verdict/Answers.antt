@@ -37,7 +37,7 @@ judged-requires-clause-paid c =
     let a = c.args.form.now in
     let paid = paid_is (goal.at.judged-requires-clause-paid c).After-plans_pay-paid in
     let small =
-    paid_small (frame_of a) (form_in_range a) (lists_of a) (form_classes a c.round_total-rounds.ensures.sound) (form_lossless a) (form_walked a 1 (omega arith) (omega arith)) (form_walked a 2 (omega arith) (omega arith)) (exchanged_one (game_of (game_in a).game))
+    paid_small (frame_of a) (form_in_range a) (lists_of a) (form_classes a) (form_lossless a) (form_walked a 1 (omega arith) (omega arith)) (form_walked a 2 (omega arith) (omega arith)) (exchanged_one (game_of (game_in a).game))
     (class_plan (frame_of a) (lists_of a) c.args.one.now) (class_plan (frame_of a) (lists_of a) c.args.two.now) c.requires.one.plan.plan c.requires.two.plan.plan c.best_total.result c.best_total-2.result c.best_total.ensures.total c.best_total-2.ensures.total
     c.best_total.ensures.small c.best_total-2.ensures.small in
     omega (arith, ap unsigned_abs paid, small)
@@ -60,7 +60,7 @@ returns-clause-verdict c =
     let w1 = form_walked a 1 (omega arith) (omega arith) in
     let w2 = form_walked a 2 (omega arith) (omega arith) in
     let ranged = form_in_range a in
-    let classes = form_classes a c.round_total-rounds.ensures.sound in
+    let classes = form_classes a in
     let lossless = form_lossless a in
     let ex = exchanged_one (game_of (game_in a).game) in
     let x = class_plan f lists c.args.one.now in

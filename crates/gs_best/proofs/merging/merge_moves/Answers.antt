@@ -33,7 +33,6 @@ add-requires-clause-fits c =
     let q = c.args.point in
     let n = c.loop-choice.choice in
     let at = goal.at.add-requires-clause-fits c in
-    let sound = c.round_total-rounds.ensures.sound in
     let values = c.args.table.now.values.items in
     let picks = c.args.table.now.picks.items in
     let v = worths_in d values in
@@ -44,7 +43,7 @@ add-requires-clause-fits c =
     λ k l some.
     sum_fits (frame d) (lists d) v q n c.class_total-count.result (all at.After-class_total-count) c.deref-else-own.result.now (subst (AreWorths (frame d) (lists d) v q n) (sym c.deref-else-own.ensures.value) c.read_worths.ensures.worths)
     c.deref_mut-else-own.result.now (2 ^ 87) (2 ^ 87) (omega arith) (sums_so_far d values q n _ _ c.loop-choice.scratch.moves.items c.loop-choice.invariant.so_far was other some)
-    (λ e. known_worths d sound values picks (q + 1) c.requires.known q e n c.requires.point even (omega (arith, in_moves))) (λ e. known_worth d sound values picks (q + 1) c.requires.known q n e c.requires.point even in_moves) k l
+    (λ e. known_worths d values picks (q + 1) c.requires.known q e n c.requires.point even (omega (arith, in_moves))) (λ e. known_worth d values picks (q + 1) c.requires.known q n e c.requires.point even in_moves) k l
 
 pub loop-choice-preserved : goal.loop-choice-preserved
 loop-choice-preserved c =

@@ -18,7 +18,7 @@ returns-clause-plan c =
     put_is_best f (lists d) d.player (against d) (table_of f (lists d) d.player (against d) t.values.items) (moves_of f (lists d) t.picks.items) weights filled.best c.in_ok-weights.ensures.puts in
     record {
       player_is = refl;
-      plan = put_is_plan f (form_in_range d.form.now) (lists d) (classes d c.round_total-rounds.ensures.sound) d.player (side_walked d) (against d) weights c.in_ok-weights.ensures.long best;
+      plan = put_is_plan f (form_in_range d.form.now) (lists d) (classes d) d.player (side_walked d) (against d) weights c.in_ok-weights.ensures.long best;
     }
 
 pub returns-clause-best : goal.returns-clause-best

@@ -49,7 +49,7 @@ pub sum_below-requires-clause-modest : goal.sum_below-requires-clause-modest
 sum_below-requires-clause-modest c =
     let at = goal.at.sum_below-requires-clause-modest c in
     let n = next at.In-Point in
-    point_modest c.args.side.now c.round_total-rounds.ensures.sound c.args.table.now.values.items c.args.table.now.picks.items (c.args.point + 1) c.requires.known c.in-Point.next _ _ _ n.inside n.later (row at.After-index) c.deref.ensures.value
+    point_modest c.args.side.now c.args.table.now.values.items c.args.table.now.picks.items (c.args.point + 1) c.requires.known c.in-Point.next _ _ _ n.inside n.later (row at.After-index) c.deref.ensures.value
 
 pub read_end-requires-clause-end : goal.read_end-requires-clause-end
 read_end-requires-clause-end c = (end (goal.at.read_end-requires-clause-end c).In-End).inside
@@ -63,7 +63,7 @@ sum_below-requires-in-End-clause-onward c = omega (arith, (end (goal.at.sum_belo
 pub sum_below-requires-in-End-clause-modest : goal.sum_below-requires-in-End-clause-modest
 sum_below-requires-in-End-clause-modest c =
     let at = goal.at.sum_below-requires-in-End-clause-modest c in
-    end_modest c.args.side.now c.round_total-rounds.ensures.sound c.args.table.now.values.items c.args.table.now.picks.items (c.args.point + 1) c.requires.known c.in-End.end _ _ c.read_end.new.scratch.ends.items (end at.In-End).inside
+    end_modest c.args.side.now c.args.table.now.values.items c.args.table.now.picks.items (c.args.point + 1) c.requires.known c.in-End.end _ _ c.read_end.new.scratch.ends.items (end at.In-End).inside
     (ap (class_count (lists c.args.side.now)) c.end_round-to.ensures.value) c.read_end.ensures.row c.deref-in-End.ensures.value
 
 pub returns-in-Point-clause-worths : goal.returns-in-Point-clause-worths
@@ -87,7 +87,7 @@ returns-in-End-clause-worths c =
     let sums = c.sum_below-in-End.new.sums in
     let below = subst (λ l. AreSumsBelow (frame d) (lists d) c.round_at-from.result c.end_round-to.result l 0 sums) c.deref-in-End.ensures.value c.sum_below-in-End.ensures in
     let worths =
-    worths_at_end (frame d) (lists d) d.player (against d) c.args.table.now.values.items c.args.point c.args.choice c.round_at-from.result c.round_at-from.ensures.value sums (classes d c.round_total-rounds.ensures.sound) c.in-End.end c.end_round-to.result c.read_end.new.scratch.ends.items (to_end at.In-End)
+    worths_at_end (frame d) (lists d) d.player (against d) c.args.table.now.values.items c.args.point c.args.choice c.round_at-from.result c.round_at-from.ensures.value sums (classes d) c.in-End.end c.end_round-to.result c.read_end.new.scratch.ends.items (to_end at.In-End)
     c.end_round-to.ensures.value c.end_round-to.ensures.some c.end_round-to.ensures.top c.read_end.ensures.row below in
     let old = c.read_end.new.scratch.worths in
     subst (AreWorths (frame d) (lists d) (worths_in d c.args.table.now.values.items) c.args.point c.args.choice)

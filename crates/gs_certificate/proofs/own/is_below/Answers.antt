@@ -30,7 +30,7 @@ returns-then-spot-way c =
     let s = c.args.spot in
     let z = c.in-End.end in
     let to = ap target_of c.in-End.is in
-    let worth = end_own d c.round_total-rounds.ensures.sound z s.round c.args.class (c.if-spot-way.true ∙ c.requires.way.round ∙ ap (round_of f) to) c.requires.spot.some c.requires.spot.top c.requires.class
+    let worth = end_own d z s.round c.args.class (c.if-spot-way.true ∙ c.requires.way.round ∙ ap (round_of f) to) c.requires.spot.some c.requires.spot.top c.requires.class
     ∙ end_worth_is f ls d.player (against d) c.args.claim.now.values.now s.point c.args.class s.round z c.requires.spot.round
     ∙ ap (λ t. target_worth f ls (values_in d c.args.claim.now.values.now) s.point t c.args.class) (sym to) in
     tells_same _ _ _ _ _ (number_is (goal.at.returns-then-spot-way c).After-number_at-number) worth c.is_below_end.ensures

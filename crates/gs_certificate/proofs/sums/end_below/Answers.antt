@@ -32,13 +32,13 @@ returns-then-from-to-clause-value c =
     let d = c.args.claim.now.side.now in
     let top = round_in d c.args.end c.args.to c.requires.end c.requires.to in
     share_is (goal.at.returns-then-from-to-clause-value c).After-share_of
-    ∙ end_own d c.round_total-rounds.ensures.sound c.args.end c.args.from c.args.class (c.if-from-to.true ∙ c.requires.to) c.requires.some (omega (arith, c.if-from-to.true, top)) c.requires.class
+    ∙ end_own d c.args.end c.args.from c.args.class (c.if-from-to.true ∙ c.requires.to) c.requires.some (omega (arith, c.if-from-to.true, top)) c.requires.class
 
 pub returns-then-from-to-clause-small : goal.returns-then-from-to-clause-small
 returns-then-from-to-clause-small c =
     let d = c.args.claim.now.side.now in
     let class = subst (λ j. IsClass (lists d) j c.args.class) (c.if-from-to.true ∙ c.requires.to) c.requires.class in
-    let small = end_small d c.round_total-rounds.ensures.sound c.args.end c.args.class c.requires.end class in
+    let small = end_small d c.args.end c.args.class c.requires.end class in
     omega (arith, small, ap unsigned_abs (share_is (goal.at.returns-then-from-to-clause-small c).After-share_of))
 
 pub run_below-run-requires-clause-top : goal.run_below-run-requires-clause-top
@@ -65,5 +65,5 @@ returns-clause-small c =
     let runs = c.run_below-run.ensures in
     let within : run.end ≤ signal_count f round = omega (arith, runs.within, ap (signal_count f) c.requires.to) in
     let small = run_small (worth_at f (lists d) d.player (against d) z) run.first run.end (signal_count f round) runs.ordered within (form_signals d.form.now round some top)
-    (λ r l. worth_small d c.round_total-rounds.ensures.sound z r c.requires.end some top l) in
+    (λ r l. worth_small d z r c.requires.end some top l) in
     omega (arith, small, ap unsigned_abs (read_back c.ends_sum.result _ (record { sfits = c.ends_sum.type_inv }) c.ends_sum.ensures))

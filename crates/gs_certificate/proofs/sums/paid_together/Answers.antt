@@ -35,7 +35,7 @@ returns-clause-some c =
     let d = c.args.claim.now.side.now in
     let z = c.args.end in
     let at = (goal.at.returns-clause-some c).After-size-members in
-    let some = some_member (frame d) (lists d) (classes d c.round_total-rounds.ensures.sound) (round_of (frame d) (at_end z)) c.args.class ((side_walked d).end_round z c.requires.end) ((side_walked d).end_in z c.requires.end) (class_is at) in
+    let some = some_member (frame d) (lists d) (classes d) (round_of (frame d) (at_end z)) c.args.class ((side_walked d).end_round z c.requires.end) ((side_walked d).end_in z c.requires.end) (class_is at) in
     omega (arith, size_is at, some)
 
 pub returns-clause-each : goal.returns-clause-each
@@ -45,5 +45,5 @@ returns-clause-each c =
     let ls = lists d in
     let at = (goal.at.returns-clause-each c).After-size-members in
     let worth = end_worth f d.player (against d) c.args.end (first_member ls (round_of f (at_end c.args.end)) c.args.class) in
-    let share = end_share f (form_in_range d.form.now) ls (classes d c.round_total-rounds.ensures.sound) (form_lossless d.form.now) d.player (side_walked d) (class_plan f ls d.other.now) c.args.end c.args.class c.requires.end (class_is at) in
+    let share = end_share f (form_in_range d.form.now) ls (classes d) (form_lossless d.form.now) d.player (side_walked d) (class_plan f ls d.other.now) c.args.end c.args.class c.requires.end (class_is at) in
     read_back c.paid_at-together.result _ (record { sfits = c.paid_at-together.type_inv }) (c.paid_at-together.ensures ∙ share ∙ ap (λ n. worth *ℤ pos n) (sym (size_is at)))

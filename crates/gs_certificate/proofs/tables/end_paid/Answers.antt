@@ -54,14 +54,14 @@ pub scaled-requires : goal.scaled-requires
 scaled-requires c =
     let at = goal.at.scaled-requires c in
     let d = c.args.first.now in
-    let small = term_within _ _ (side_given d c.round_total-rounds.ensures.sound) _ _ c.requires.x.plan.plan (other_plan d c.requires.first) c.args.end (c.loop-before.before + 1) c.requires.end (here at.In-loop-before) in
+    let small = term_within _ _ (side_given d) _ _ c.requires.x.plan.plan (other_plan d c.requires.first) c.args.end (c.loop-before.before + 1) c.requires.end (here at.In-loop-before) in
     term_fits c.number_at_end-number.result _ _ _ (number_is at.After-number_at_end-number) (worth_is at.After-kept_at) small
 
 pub plus-sum-requires : goal.plus-sum-requires
 plus-sum-requires c =
     let at = goal.at.plus-sum-requires c in
     let d = c.args.first.now in
-    classes_within _ _ (side_given d c.round_total-rounds.ensures.sound) _ _ c.requires.x.plan.plan (other_plan d c.requires.first) c.args.end (c.loop-before.before + 1) c.requires.end (here at.In-loop-before).1 _ (sum_is at.After-scaled)
+    classes_within _ _ (side_given d) _ _ c.requires.x.plan.plan (other_plan d c.requires.first) c.args.end (c.loop-before.before + 1) c.requires.end (here at.In-loop-before).1 _ (sum_is at.After-scaled)
 
 pub loop-before-preserved : goal.loop-before-preserved
 loop-before-preserved c = read_back c.plus-sum.result _ (record { sfits = c.plus-sum.type_inv }) (c.plus-sum.ensures ∙ sum_is (goal.at.loop-before-preserved c).After-scaled)

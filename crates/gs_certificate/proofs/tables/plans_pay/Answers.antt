@@ -28,7 +28,7 @@ pub plus-sum-requires : goal.plus-sum-requires
 plus-sum-requires c =
     let d = c.args.first.now in
     let inside : c.loop-end.end + 1 ≤ end_count (frame d) = omega (arith, c.end_total-end-end.ensures, c.loop-end-test.true) in
-    ends_within _ _ (side_given d c.round_total-rounds.ensures.sound) _ _ c.requires.x.plan.plan (other_plan d c.requires.first) (c.loop-end.end + 1) inside _ (sum_is (goal.at.plus-sum-requires c).After-end_paid)
+    ends_within _ _ (side_given d) _ _ c.requires.x.plan.plan (other_plan d c.requires.first) (c.loop-end.end + 1) inside _ (sum_is (goal.at.plus-sum-requires c).After-end_paid)
 
 pub loop-end-preserved : goal.loop-end-preserved
 loop-end-preserved c = read_back c.plus-sum.result _ (record { sfits = c.plus-sum.type_inv }) (c.plus-sum.ensures ∙ sum_is (goal.at.loop-end-preserved c).After-end_paid)
@@ -37,4 +37,4 @@ pub returns : goal.returns
 returns c =
     let d = c.args.first.now in
     let all : c.loop-end.end ≡ end_count (frame d) = omega (arith, c.end_total-end-end.ensures, c.loop-end-test.false, c.loop-end.auto.end-end) in
-    ends_are_all _ _ (side_given d c.round_total-rounds.ensures.sound) _ _ c.requires.x.plan.plan (other_plan d c.requires.first) c.loop-end.end all _ c.loop-end.invariant
+    ends_are_all _ _ (side_given d) _ _ c.requires.x.plan.plan (other_plan d c.requires.first) c.loop-end.end all _ c.loop-end.invariant

@@ -37,7 +37,7 @@ returns-then-from-to-clause-value c =
     let read = get_or values (c.args.place + c.args.class - 1) (pos 0) in
     let fits : FitsSigned w128 read = search rules in
     to_z-of_z w128 read fits ∙ ap (λ i. get_or values i (pos 0)) at
-    ∙ number_own d c.round_total-rounds.ensures.sound values (start_of (frame d) (lists d) c.args.next) c.args.from (round_of (frame d) (at_point c.args.next)) c.args.class e c.requires.some (omega (arith, c.if-from-to.true, c.requires.top)) c.requires.class
+    ∙ number_own d values (start_of (frame d) (lists d) c.args.next) c.args.from (round_of (frame d) (at_point c.args.next)) c.args.class e c.requires.some (omega (arith, c.if-from-to.true, c.requires.top)) c.requires.class
 
 pub returns-then-from-to-clause-small : goal.returns-then-from-to-clause-small
 returns-then-from-to-clause-small c =
@@ -85,5 +85,5 @@ returns-clause-small c =
     let values = c.args.values.now in
     let u = value_at (lists d) to values c.args.place in
     let small = run_small u run.first run.end (signal_count (frame d) to) runs.ordered runs.within (form_signals d.form.now to some c.requires.top)
-    (λ r l. value_small d c.round_total-rounds.ensures.sound values c.requires.numbers c.args.next to c.args.place r c.requires.next c.requires.to c.requires.place some c.requires.top l) in
+    (λ r l. value_small d values c.requires.numbers c.args.next to c.args.place r c.requires.next c.requires.to c.requires.place some c.requires.top l) in
     omega (arith, small, ap unsigned_abs (to_z-of_z w128 c.run_sum.result (record { sfits = c.run_sum.type_inv }) ∙ c.run_sum.ensures))

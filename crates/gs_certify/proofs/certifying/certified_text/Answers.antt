@@ -25,7 +25,7 @@ returns c =
       holds = record {
         small = made.small;
         sound = moved (λ f n. IsSound f n (lifted f n s.one) (lifted f n s.two) k) l s c.requires made.sound;
-        bounds = moved (λ f n. BoundsAll f (lifted f n s.one) (lifted f n s.two) k) l s c.requires (bounds_all a c.round_total-rounds.ensures.sound x y k made.sound);
+        bounds = moved (λ f n. BoundsAll f (lifted f n s.one) (lifted f n s.two) k) l s c.requires (bounds_all a x y k made.sound);
       };
       first = moved (λ f n. AreBestValues f n 1 (lifted f n s.two) k.values1.items) l s c.requires made.first;
       second = moved (λ f n. AreBestValues f n 2 (lifted f n s.one) k.values2.items) l s c.requires made.second;

@@ -12,7 +12,7 @@ use Rattle.gs_group.proofs.Checked.{check_refuses, is_checked, lists_of}
 use Rattle.gs_group.proofs.checking.checked.Goals as goal
 
 pub told-requires : goal.told-requires
-told-requires c = lists_of (rules_of c.in_ok-signals.signals) c.in_ok-classes.classes.parents c.in_ok-classes.classes.lists c.in_ok-classes.ensures.parents c.rounds-rounds.ensures.sound.classes
+told-requires c = lists_of (rules_of c.in_ok-signals.signals) c.in_ok-classes.classes.parents c.in_ok-classes.classes.lists c.in_ok-classes.ensures.parents c.in_ok-classes.classes.classes
 
 pub not_lossless-requires : goal.not_lossless-requires
 not_lossless-requires c = (c.in_ok-classes.classes.lists, c.in-Err.ensures.unlike)

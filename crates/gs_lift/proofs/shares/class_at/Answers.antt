@@ -10,7 +10,7 @@ use Rattle.gs_lift.proofs.shares.class_at.Goals.{After-index-points-point}
 here : (c : After-index-points-point) → InRound c.args.a.now c.classes-classes.result.now c.args.point c.args.signal c.index-points-point.result.round
 here c =
     in_round c.args.a.now c.lossless-lossless.result.now c.signals.result.now c.game.result.now c.classes-classes.result.now c.points.result.now c.index-points-point.result c.args.point c.args.signal c.lossless-lossless.ensures
-    c.signals.ensures.held c.game.ensures c.classes-classes.ensures.held c.classes-classes.ensures.parents c.rounds-rounds.ensures.sound c.points.ensures c.index-points-point.is c.requires.point c.requires.signal
+    c.signals.ensures.held c.game.ensures c.classes-classes.ensures.held c.classes-classes.ensures.parents c.points.ensures c.index-points-point.is c.requires.point c.requires.signal
 
 pub class_of-requires-clause-some : goal.class_of-requires-clause-some
 class_of-requires-clause-some c = omega (arith, (here (goal.at.class_of-requires-clause-some c).After-index-points-point).some, ap (λ (p : Point). p.round) c.index-points-point.is)

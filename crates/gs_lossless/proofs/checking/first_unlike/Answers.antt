@@ -18,7 +18,7 @@ class_of-class-requires-clause-within c =
     let round = c.loop-before.before + 1 in
     let top : round ≤ round_count g = omega (arith, c.loop-before-test.true, c.rounds-before-end.ensures.value) in
     let h = subst (MatchUnlike f l.lists round) c.in-Some.is c.in_ok-second.ensures in
-    omega (arith, h.0, list_long g l c.args.grouped.now.parents c.rounds-rounds.ensures.sound round (omega arith) top, signal_count_is g round (omega arith) top)
+    omega (arith, h.0, list_long g l c.args.grouped.now.parents round (omega arith) top, signal_count_is g round (omega arith) top)
 
 pub returns-in-Some-clause-unlike : goal.returns-in-Some-clause-unlike
 returns-in-Some-clause-unlike c =
@@ -33,12 +33,12 @@ returns-in-Some-clause-unlike c =
 pub returns-in-Some-clause-refuted : goal.returns-in-Some-clause-refuted
 returns-in-Some-clause-refuted c =
     let f = frame_of (rules_of c.args.grouped.now.signals.now) in
-    λ _. refuted f c.args.grouped.now.classes.now c.args.grouped.now.parents c.rounds-rounds.ensures.sound (c.loop-before.before + 1) c.first-first.result c.in-Some.second (returns-in-Some-clause-unlike c)
+    λ _. refuted f c.args.grouped.now.classes.now c.args.grouped.now.parents (c.loop-before.before + 1) c.first-first.result c.in-Some.second (returns-in-Some-clause-unlike c)
 
 pub returns-in-Some-clause-single : goal.returns-in-Some-clause-single
 returns-in-Some-clause-single c =
     let f = frame_of (rules_of c.args.grouped.now.signals.now) in
-    λ _. not_single f c.args.grouped.now.classes.now c.args.grouped.now.parents c.rounds-rounds.ensures.sound (c.loop-before.before + 1) c.first-first.result c.in-Some.second (returns-in-Some-clause-unlike c)
+    λ _. not_single f c.args.grouped.now.classes.now c.args.grouped.now.parents (c.loop-before.before + 1) c.first-first.result c.in-Some.second (returns-in-Some-clause-unlike c)
 
 pub loop-before-preserved : goal.loop-before-preserved
 loop-before-preserved c =
@@ -51,5 +51,5 @@ returns-clause-lossless c =
     let g = rules_of c.args.grouped.now.signals.now in
     let f = frame_of g in
     let l = c.args.grouped.now.classes.now in
-    let classes = over f l c.args.grouped.now.parents c.rounds-rounds.ensures.sound.classes in
+    let classes = over f l c.args.grouped.now.parents l.classes in
     lossless_by_firsts f l.lists classes.filter (λ r s some top ls. c.loop-before.invariant r some (omega (arith, top, last_round_of g)) s ls)

@@ -34,7 +34,7 @@ returns c =
     let f = frame_of g in
     let l = c.args.grouped.now.classes.now in
     let p = playable c.args.grouped.now.signals.now in
-    let classes = over f l c.args.grouped.now.parents c.rounds-rounds.ensures.sound.classes in
+    let classes = over f l c.args.grouped.now.parents l.classes in
     let top : c.rounds-last.result ≡ last_round f = c.rounds-last.ensures.value ∙ sym (last_round_of g) in
     λ t.
     let here = none_apart f l.lists Deals c.rounds-last.result c.count-end-2.result c.in_ok-first_apart-2.field-0 (not_turned (is_some c.in_ok-first_apart-2.field-0) c.is_none.result c.is_none.ensures t) c.in_ok-first_apart-2.ensures in

@@ -15,7 +15,7 @@ ancestor-requires-clause-last c = omega (arith, c.requires.1, last_round_of (rul
 pub class_of-requires-clause-within : goal.class_of-requires-clause-within
 class_of-requires-clause-within c =
     let g = rules_of c.args.grouped.now.signals.now in
-    let n = list_long g c.args.grouped.now.classes.now c.args.grouped.now.parents c.rounds-rounds.ensures.sound c.args.round c.requires.0 (omega (arith, c.requires.1, last_round_of g)) in
+    let n = list_long g c.args.grouped.now.classes.now c.args.grouped.now.parents c.args.round c.requires.0 (omega (arith, c.requires.1, last_round_of g)) in
     omega (arith, n, c.ancestor.ensures.within)
 
 pub loop-signal-preserved : goal.loop-signal-preserved

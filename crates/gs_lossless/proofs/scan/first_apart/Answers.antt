@@ -14,35 +14,35 @@ use Rattle.gs_lossless.proofs.Descent.{keys_long, list_long, playable}
 use Rattle.gs_lossless.proofs.Scanned.{agree_more, agree_self, side_in, stored_first, stored_later, stored_single, stood_agrees, stood_later}
 use Rattle.gs_lossless.proofs.Settled.{first_le, agree_if_same, same_if_agree, single_agrees}
 use Rattle.gs_lossless.proofs.scan.first_apart.Goals as goal
-use Rattle.gs_lossless.proofs.scan.first_apart.Goals.{After-first, After-rounds-rounds, In_ok-firsts, In_ok-keys, then-first-signal, else-first-signal+else-not-are_same}
+use Rattle.gs_lossless.proofs.scan.first_apart.Goals.{After-first, Start, In_ok-firsts, In_ok-keys, then-first-signal, else-first-signal+else-not-are_same}
 
 -- the list of the round has a class for each signal, and numbers them as they are first seen
-module _ (c : After-rounds-rounds) where
+module _ (c : Start) where
   long : let g = rules_of c.args.grouped.now.signals.now in length (list_of c.args.grouped.now.classes.now.lists c.args.round) ≡ length (signals g c.args.round)
   long =
       let g = rules_of c.args.grouped.now.signals.now in
       let h = side_in (frame_of g) c.args.side c.args.round c.requires.side in
-      list_long g c.args.grouped.now.classes.now c.args.grouped.now.parents c.rounds-rounds.ensures.sound c.args.round h.0 (omega (arith, h.1, last_round_of g))
+      list_long g c.args.grouped.now.classes.now c.args.grouped.now.parents c.args.round h.0 (omega (arith, h.1, last_round_of g))
 
   numbered : IsNumbered (list_of c.args.grouped.now.classes.now.lists c.args.round)
   numbered =
       let h = side_in (frame_of (rules_of c.args.grouped.now.signals.now)) c.args.side c.args.round c.requires.side in
-      c.rounds-rounds.ensures.sound.classes.numbered c.args.round h.0 (omega (arith, h.1, ap (λ (ps : List (List ℕ)). length ps) c.args.grouped.now.parents))
+      c.args.grouped.now.classes.now.classes.numbered c.args.round h.0 (omega (arith, h.1, ap (λ (ps : List (List ℕ)). length ps) c.args.grouped.now.parents))
 
 pub class_of-class-requires-clause-within : goal.class_of-class-requires-clause-within
-class_of-class-requires-clause-within c = omega (arith, long (goal.at.class_of-class-requires-clause-within c).After-rounds-rounds, c.requires.within)
+class_of-class-requires-clause-within c = omega (arith, long (goal.at.class_of-class-requires-clause-within c).Start, c.requires.within)
 
 pub returns-then-are_alone : goal.returns-then-are_alone
 returns-then-are_alone c =
     let lists = c.args.grouped.now.classes.now.lists in
-    λ s l. let within : s < length (list_of lists c.args.round) = omega (arith, long (goal.at.returns-then-are_alone c).After-rounds-rounds, l, c.requires.within) in
+    λ s l. let within : s < length (list_of lists c.args.round) = omega (arith, long (goal.at.returns-then-are_alone c).Start, l, c.requires.within) in
     single_agrees (frame_of (rules_of c.args.grouped.now.signals.now)) lists c.args.side c.args.round s within (c.are_alone.ensures c.if-are_alone.true s within)
 
 -- there are as many keys as the side has
 many : (c : In_ok-keys) (keys : List ℕ) → keys ≡ c.in_ok-keys.keys.items → length keys ≡ key_count (rules_of c.args.grouped.now.signals.now) c.args.side c.args.round
 many c keys is =
     ap (λ (l : List ℕ). length l) (is ∙ c.in_ok-keys.ensures)
-    ∙ keys_long (rules_of c.args.grouped.now.signals.now) c.args.grouped.now.classes.now c.args.grouped.now.parents c.rounds-rounds.ensures.sound (playable c.args.grouped.now.signals.now) c.args.side c.args.round c.requires.side
+    ∙ keys_long (rules_of c.args.grouped.now.signals.now) c.args.grouped.now.classes.now c.args.grouped.now.parents (playable c.args.grouped.now.signals.now) c.args.side c.args.round c.requires.side
 
 pub stand_ins_at-requires : goal.stand_ins_at-requires
 stand_ins_at-requires c last = last_keys (rules_of c.args.grouped.now.signals.now) c.args.side c.args.round (length c.deref.result.now) c.requires.side last
@@ -63,7 +63,7 @@ loop-signal-preserved-then-has_earlier c =
     let lists = c.args.grouped.now.classes.now.lists in
     let signal = c.loop-signal.signal in
     let firsts = c.in_ok-firsts.firsts.items in
-    let n = numbered w.After-rounds-rounds in
+    let n = numbered w.Start in
     let found = subst (λ (xs : List ℕ). (signal < length xs) × (get_or xs signal 0 < signal)) c.deref-in-loop-signal.ensures.value (c.has_earlier.ensures c.if-has_earlier.true) in
     let stand = standing w.In_ok-firsts lists c.in_ok-keys.ensures (omega (arith, found.0)) in
     record {
@@ -84,10 +84,10 @@ loop-signal-preserved-then-size-eq1 c =
     ap (class_size lists c.args.round) (sym c.class_of-class.ensures.value) ∙ sym c.size.ensures ∙ c.if-size-eq1.true in
     record {
       long = c.loop-signal.invariant.long;
-      stored = stored_single f lists c.args.side c.args.round c.loop-signal.signal c.loop-signal.kept.items (numbered w.After-rounds-rounds) c.loop-signal.invariant.stored one;
+      stored = stored_single f lists c.args.side c.args.round c.loop-signal.signal c.loop-signal.kept.items (numbered w.Start) c.loop-signal.invariant.stored one;
       stand = standing w.In_ok-firsts;
       agree = agree_more f lists c.args.side c.args.round c.loop-signal.signal c.loop-signal.invariant.agree
-          (single_agrees f lists c.args.side c.args.round c.loop-signal.signal (omega (arith, long w.After-rounds-rounds, c.requires.within)) one);
+          (single_agrees f lists c.args.side c.args.round c.loop-signal.signal (omega (arith, long w.Start, c.requires.within)) one);
     }
 
 -- the first member of the class stands before another one, and its sums are kept
@@ -130,7 +130,7 @@ loop-signal-preserved c =
     let kept = c.loop-signal.kept.items in
     let class = c.class_of-class.result in
     let sums = c.in_ok-sums.sums in
-    let n = numbered at.After-rounds-rounds in
+    let n = numbered at.Start in
     let is = c.class_of-class.ensures.value in
     let in_class = c.class_of-class.ensures.class in
     let here = c.in_ok-sums.ensures lists (c.deref-in-loop-signal-2.ensures.value ∙ c.in_ok-keys.ensures) in

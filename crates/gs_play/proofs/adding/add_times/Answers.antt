@@ -14,7 +14,7 @@ pub add_weights-requires-clause-fits : goal.add_weights-requires-clause-fits
 add_weights-requires-clause-fits c =
     let a = c.args.form.now in
     let player = c.args.player in
-    let k = form_classes a c.round_total-rounds.ensures.sound in
+    let k = form_classes a in
     let w = form_walked a player c.requires.some c.requires.two in
     let sum = c.args.sum.now in
     let more = c.args.more.now in
@@ -34,7 +34,7 @@ pub returns-clause-sum : goal.returns-clause-sum
 returns-clause-sum c =
     let f = frame_of c.args.form.now in
     let lists = lists_of c.args.form.now in
-    let k = form_classes c.args.form.now c.round_total-rounds.ensures.sound in
+    let k = form_classes c.args.form.now in
     let w = form_walked c.args.form.now c.args.player c.requires.some c.requires.two in
     let sum = c.args.sum.now in
     let more = c.args.more.now in

@@ -48,7 +48,7 @@ returns-clause-seat c =
     let other = c.args.other.now in
     let weights = c.find.new.weights in
     let long : length weights ≡ slot_count f lists k.player = c.find.auto.weights ∙ ap (λ (l : List ℕ). length l) c.deref_mut-2.ensures.value ∙ room.next in
-    let plan = put_plan f (form_in_range a) lists (form_classes a c.round_total-rounds.ensures.sound) (form_lossless a) k.player (form_walked a k.player k.some k.two) (plan_in k other) (totals_in k other c.find.new.totals.points.items) (moves_in k c.find.new.picks) weights
+    let plan = put_plan f (form_in_range a) lists (form_classes a) (form_lossless a) k.player (form_walked a k.player k.some k.two) (plan_in k other) (totals_in k other c.find.new.totals.points.items) (moves_in k c.find.new.picks) weights
     c.find.ensures.best c.find.ensures.puts long in
     record {
       room = record {

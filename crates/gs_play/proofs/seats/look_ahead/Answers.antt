@@ -9,7 +9,7 @@ returns-then-times-eq1-clause-stays c =
     let k = c.args.role.now in
     let a = k.form.now in
     let seat = c.args.seat.now in
-    put_stays_once (frame_in k) (form_in_range a) (lists_in k) (form_classes a c.round_total-rounds.ensures.sound) (form_lossless a) k.player (walked k) (other_walked k)
+    put_stays_once (frame_in k) (form_in_range a) (lists_in k) (form_classes a) (form_lossless a) k.player (walked k) (other_walked k)
     _ _ seat.answer.total seat.answer.weights.items _ _ c.requires.answered.best c.requires.seat.room.one c.requires.answered.puts
 
 pub returns-clause-stays : goal.returns-clause-stays
@@ -17,5 +17,5 @@ returns-clause-stays c =
     let k = c.args.role.now in
     let a = k.form.now in
     let seat = c.args.seat.now in
-    put_stays (frame_in k) (form_in_range a) (lists_in k) (form_classes a c.round_total-rounds.ensures.sound) (form_lossless a) k.player (walked k) (other_walked k)
+    put_stays (frame_in k) (form_in_range a) (lists_in k) (form_classes a) (form_lossless a) k.player (walked k) (other_walked k)
     _ _ seat.answer.total seat.answer.weights.items _ _ _ c.lasts.result c.requires.answered.best c.rise.ensures.rises.followed c.lasts.ensures.lasts c.requires.seat.room.one c.requires.answered.puts

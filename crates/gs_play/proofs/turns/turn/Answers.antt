@@ -24,22 +24,22 @@ look_ahead-first-requires-clause-answered c =
     subst (λ (p : Plan). HasAnswered f lists 1 (class_plan f lists p) c.answer-same_one.new.seat) (sym c.answer-same_two.ensures.plan) c.answer-same_one.ensures.answered
 
 pub move_on-requires-clause-small : goal.move_on-requires-clause-small
-move_on-requires-clause-small c = small_ends c.args.form.now c.round_total-rounds.ensures.sound 1 (omega arith) (omega arith) c.args.two.now.plan c.requires.playing.plan_two c.answer-same_one.new.seat.totals.ends.items c.answer-same_one.ensures.seat.paid
+move_on-requires-clause-small c = small_ends c.args.form.now 1 (omega arith) (omega arith) c.args.two.now.plan c.requires.playing.plan_two c.answer-same_one.new.seat.totals.ends.items c.answer-same_one.ensures.seat.paid
 
 pub move_on-requires-clause-small_steps : goal.move_on-requires-clause-small_steps
 move_on-requires-clause-small_steps c =
-    small_ends c.args.form.now c.round_total-rounds.ensures.sound 1 (omega arith) (omega arith) c.answer-same_two.new.seat.answer c.answer-same_two.ensures.seat.room.answer c.look_ahead-first.new.steps.ends.items c.look_ahead-first.ensures.paid
+    small_ends c.args.form.now 1 (omega arith) (omega arith) c.answer-same_two.new.seat.answer c.answer-same_two.ensures.seat.room.answer c.look_ahead-first.new.steps.ends.items c.look_ahead-first.ensures.paid
 
 pub move_on-requires-2-clause-small : goal.move_on-requires-2-clause-small
 move_on-requires-2-clause-small c =
     let f = frame_of c.args.form.now in
     let lists = lists_of c.args.form.now in
     let plan = subst (λ (p : Plan). IsPlanOf f lists 1 p) (sym c.answer-same_one.ensures.plan) c.requires.playing.plan_one in
-    small_ends c.args.form.now c.round_total-rounds.ensures.sound 2 (omega arith) (omega arith) c.answer-same_one.new.seat.plan plan c.answer-same_two.new.seat.totals.ends.items c.answer-same_two.ensures.seat.paid
+    small_ends c.args.form.now 2 (omega arith) (omega arith) c.answer-same_one.new.seat.plan plan c.answer-same_two.new.seat.totals.ends.items c.answer-same_two.ensures.seat.paid
 
 pub move_on-requires-2-clause-small_steps : goal.move_on-requires-2-clause-small_steps
 move_on-requires-2-clause-small_steps c =
-    small_ends c.args.form.now c.round_total-rounds.ensures.sound 2 (omega arith) (omega arith) c.answer-same_one.new.seat.answer c.answer-same_one.ensures.seat.room.answer c.look_ahead-second.new.steps.ends.items c.look_ahead-second.ensures.paid
+    small_ends c.args.form.now 2 (omega arith) (omega arith) c.answer-same_one.new.seat.answer c.answer-same_one.ensures.seat.room.answer c.look_ahead-second.new.steps.ends.items c.look_ahead-second.ensures.paid
 
 pub answer-same_two-requires-clause-known : goal.answer-same_two-requires-clause-known
 answer-same_two-requires-clause-known c =
@@ -62,13 +62,13 @@ look_ahead-second-requires-clause-paid c = λ t. paid_same (frame_of c.args.form
 pub move_on-requires-clause-small_points : goal.move_on-requires-clause-small_points
 move_on-requires-clause-small_points c =
     let picks = c.answer-same_one.new.seat.picks.items in
-    λ l. small_points c.args.form.now c.round_total-rounds.ensures.sound 1 (omega arith) (omega arith) c.args.two.now.plan c.requires.playing.plan_two c.answer-same_one.new.seat.totals.points.items
+    λ l. small_points c.args.form.now 1 (omega arith) (omega arith) c.args.two.now.plan c.requires.playing.plan_two c.answer-same_one.new.seat.totals.points.items
     (moves_of (frame_of c.args.form.now) (lists_of c.args.form.now) picks) c.answer-same_one.ensures.answered.best.followed
 
 pub move_on-requires-clause-small_slopes : goal.move_on-requires-clause-small_slopes
 move_on-requires-clause-small_slopes c =
     let picks = c.answer-same_one.new.seat.picks.items in
-    λ l. small_points c.args.form.now c.round_total-rounds.ensures.sound 1 (omega arith) (omega arith) c.answer-same_two.new.seat.answer c.answer-same_two.ensures.seat.room.answer c.look_ahead-first.new.steps.points.items
+    λ l. small_points c.args.form.now 1 (omega arith) (omega arith) c.answer-same_two.new.seat.answer c.answer-same_two.ensures.seat.room.answer c.look_ahead-first.new.steps.points.items
     (moves_of (frame_of c.args.form.now) (lists_of c.args.form.now) picks) (c.look_ahead-first.ensures.rises (omega (arith, l, (least_of c.look_ahead-first.result c.look_ahead-second.result c.min-times.result c.min-times.ensures).some c.look_ahead-first.ensures.some c.look_ahead-second.ensures.some))).followed
 
 pub move_on-requires-2-clause-small_points : goal.move_on-requires-2-clause-small_points
@@ -76,13 +76,13 @@ move_on-requires-2-clause-small_points c =
     let f = frame_of c.args.form.now in
     let lists = lists_of c.args.form.now in
     let plan = subst (λ (p : Plan). IsPlanOf f lists 1 p) (sym c.answer-same_one.ensures.plan) c.requires.playing.plan_one in
-    λ l. small_points c.args.form.now c.round_total-rounds.ensures.sound 2 (omega arith) (omega arith) c.answer-same_one.new.seat.plan plan c.answer-same_two.new.seat.totals.points.items
+    λ l. small_points c.args.form.now 2 (omega arith) (omega arith) c.answer-same_one.new.seat.plan plan c.answer-same_two.new.seat.totals.points.items
     (moves_of f lists c.answer-same_two.new.seat.picks.items) c.answer-same_two.ensures.answered.best.followed
 
 pub move_on-requires-2-clause-small_slopes : goal.move_on-requires-2-clause-small_slopes
 move_on-requires-2-clause-small_slopes c =
     let picks = c.answer-same_two.new.seat.picks.items in
-    λ l. small_points c.args.form.now c.round_total-rounds.ensures.sound 2 (omega arith) (omega arith) c.answer-same_one.new.seat.answer c.answer-same_one.ensures.seat.room.answer c.look_ahead-second.new.steps.points.items
+    λ l. small_points c.args.form.now 2 (omega arith) (omega arith) c.answer-same_one.new.seat.answer c.answer-same_one.ensures.seat.room.answer c.look_ahead-second.new.steps.points.items
     (moves_of (frame_of c.args.form.now) (lists_of c.args.form.now) picks) (c.look_ahead-second.ensures.rises (omega (arith, l, (least_of c.look_ahead-first.result c.look_ahead-second.result c.min-times.result c.min-times.ensures).some c.look_ahead-first.ensures.some c.look_ahead-second.ensures.some))).followed
 
 pub returns-clause-steps : goal.returns-clause-steps
@@ -100,7 +100,7 @@ returns-clause-playing c =
     let f = frame_of a in
     let lists = lists_of a in
     let r = form_in_range a in
-    let k = form_classes a c.round_total-rounds.ensures.sound in
+    let k = form_classes a in
     let w1 = form_walked a 1 (omega arith) (omega arith) in
     let w2 = form_walked a 2 (omega arith) (omega arith) in
     let before = c.requires.playing in

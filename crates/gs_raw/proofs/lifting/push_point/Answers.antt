@@ -12,7 +12,7 @@ use Rattle.gs_raw.proofs.lifting.push_point.Goals.{After-class_of-class, After-l
 
 -- the point that is read, and the room of the class's weights
 here : (c : After-len-moves) → PointFacts c.args.game.now c.args.classes.now c.args.point c.index-points-point.result.round (length c.index-points-point.result.moves.items)
-here c = point_facts c.args.game.now c.args.classes.now c.points.result.now c.args.point c.index-points-point.result c.requires.parents c.rounds-rounds.ensures.sound c.points.ensures c.requires.in_range c.index-points-point.is
+here c = point_facts c.args.game.now c.args.classes.now c.points.result.now c.args.point c.index-points-point.result c.requires.parents c.points.ensures c.requires.in_range c.index-points-point.is
 
 room : (c : After-class_of-class) → RoomFacts (frame_in c.args.game.now) c.args.classes.now.lists c.args.plan.now.player c.args.point c.class_of-class.result c.args.first c.len-moves.result
 room c =
@@ -24,7 +24,7 @@ room c =
 inside : (c : After-class_of-class)
     → (c.args.first + (c.class_of-class.result - 1) * c.len-moves.result + c.len-moves.result < 2 ^ 60) × (c.args.first + (c.class_of-class.result - 1) * c.len-moves.result + c.len-moves.result ≤ length c.args.plan.now.weights.items)
 inside c =
-    let few = slots_few c.args.game.now c.args.classes.now c.requires.parents c.rounds-rounds.ensures.sound c.args.plan.now.player (point_count (frame_in c.args.game.now)) (omega arith) in
+    let few = slots_few c.args.game.now c.args.classes.now c.requires.parents c.args.plan.now.player (point_count (frame_in c.args.game.now)) (omega arith) in
     (omega (arith, (room c).room, few), omega (arith, (room c).room, c.requires.plan.plan.long))
 
 pub signals-signal-end-requires-clause-some : goal.signals-signal-end-requires-clause-some

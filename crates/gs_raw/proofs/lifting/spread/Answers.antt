@@ -29,7 +29,7 @@ reads c =
 
 facts : (c : After-index-points-point) → PointFacts c.args.game.now c.args.classes.now c.loop-point.point c.index-points-point.result.round (length c.index-points-point.result.moves.items)
 facts c =
-    point_facts c.args.game.now c.args.classes.now c.points-in-loop-point.result.now c.loop-point.point c.index-points-point.result c.requires.parents c.rounds-rounds.ensures.sound c.points-in-loop-point.ensures
+    point_facts c.args.game.now c.args.classes.now c.points-in-loop-point.result.now c.loop-point.point c.index-points-point.result c.requires.parents c.points-in-loop-point.ensures
     (inside (goal.at.After-index-points-point c).In-loop-point) c.index-points-point.is
 
 -- the slots up to the next point are few
@@ -42,7 +42,7 @@ up_to_next c =
     let q = c.loop-point.point in
     let r = reads at.After-index-points-point in
     let here = slots_here f lists player q c.classes.result c.len.result (sym r.player ∙ c.if-here-plan.true) (c.classes.ensures ∙ ap (class_count lists) r.round) (omega (arith, c.len.ensures, r.moves)) in
-    omega (arith, here, slots_few c.args.game.now c.args.classes.now c.requires.parents c.rounds-rounds.ensures.sound player (q + 1) (omega (arith, inside at.In-loop-point)))
+    omega (arith, here, slots_few c.args.game.now c.args.classes.now c.requires.parents player (q + 1) (omega (arith, inside at.In-loop-point)))
 
 -- all points are passed
 all_passed : (c : After-loop-point)
@@ -98,7 +98,7 @@ returns-clause-plan c =
     record {
       player_is = refl;
       plan = spread_plan (frame_in g) c.args.classes.now.lists c.args.plan.now.player c.args.plan.now.total c.args.plan.now.weights.items c.loop-point.weights.items (in_range (game_of g.game) (playable g))
-          (walked g c.args.plan.now.player c.requires.some c.requires.two) (over (frame_in g) c.args.classes.now c.requires.parents c.rounds-rounds.ensures.sound) c.requires.plan.plan all.long all.rows;
+          (walked g c.args.plan.now.player c.requires.some c.requires.two) (over (frame_in g) c.args.classes.now c.requires.parents) c.requires.plan.plan all.long all.rows;
     }
 
 pub returns-clause-same : goal.returns-clause-same
@@ -106,4 +106,4 @@ returns-clause-same c =
     let all = all_passed (goal.at.returns-clause-same c).After-loop-point in
     let g = c.args.game.now in
     spread_same (frame_in g) c.args.classes.now.lists c.args.plan.now.player c.args.plan.now.total c.args.plan.now.weights.items c.loop-point.weights.items (in_range (game_of g.game) (playable g))
-    (walked g c.args.plan.now.player c.requires.some c.requires.two) (over (frame_in g) c.args.classes.now c.requires.parents c.rounds-rounds.ensures.sound) c.requires.plan.plan all.long all.rows
+    (walked g c.args.plan.now.player c.requires.some c.requires.two) (over (frame_in g) c.args.classes.now c.requires.parents) c.requires.plan.plan all.long all.rows

@@ -17,9 +17,9 @@ use Rattle.gs_seq.specs.Games.{frame_in}
 use Rattle.gs_seq.specs.Rows.{IsRow, gathered}
 use Rattle.gs_seq.proofs.Stopped.{in_stopped, row_fits, row_is, same_signals, ways_few}
 use Rattle.gs_seq.proofs.before.row_by.Goals as goal
-use Rattle.gs_seq.proofs.before.row_by.Goals.{After-deref, After-rounds-rounds}
+use Rattle.gs_seq.proofs.before.row_by.Goals.{After-deref, Start}
 
-top : (c : After-rounds-rounds) → c.args.at.now.round ≤ round_count (rules_of c.args.at.now.signals.now)
+top : (c : Start) → c.args.at.now.round ≤ round_count (rules_of c.args.at.now.signals.now)
 top c = omega (arith, c.args.at.now.before_last)
 
 -- the sums of the first member
@@ -39,17 +39,17 @@ side_sums-requires-clause-all c =
 
 pub side_sums-requires-clause-in_range : goal.side_sums-requires-clause-in_range
 side_sums-requires-clause-in_range c =
-    let few = top (goal.at.side_sums-requires-clause-in_range c).After-rounds-rounds in
+    let few = top (goal.at.side_sums-requires-clause-in_range c).Start in
     let same = ap length (same_signals c.args.at.now.signals.now.game.now c.args.at.now.stopped.now.game.now c.args.at.now.round c.args.at.now.some few c.args.at.now.stops) in
-    omega (arith, c.first-first.ensures.within, list_long (rules_of c.args.at.now.signals.now) c.args.at.now.classes.now c.args.at.now.parents c.rounds-rounds.ensures.sound c.args.at.now.round c.args.at.now.some few, same)
+    omega (arith, c.first-first.ensures.within, list_long (rules_of c.args.at.now.signals.now) c.args.at.now.classes.now c.args.at.now.parents c.args.at.now.round c.args.at.now.some few, same)
 
 pub overflow_mul-from : goal.overflow_mul-from
 overflow_mul-from c =
     let g = c.args.at.now.signals.now.game.now in
     let round = c.args.at.now.round in
-    let within = top (goal.at.overflow_mul-from c).After-rounds-rounds in
+    let within = top (goal.at.overflow_mul-from c).Start in
     let few = ways_few g c.args.at.now.stopped.now.game.now round c.args.at.now.some within c.args.at.now.stops in
-    let long = list_long (rules_of c.args.at.now.signals.now) c.args.at.now.classes.now c.args.at.now.parents c.rounds-rounds.ensures.sound round c.args.at.now.some within in
+    let long = list_long (rules_of c.args.at.now.signals.now) c.args.at.now.classes.now c.args.at.now.parents round c.args.at.now.some within in
     let most = count_by-le-length (λ x. x == c.args.class) (list_of c.args.at.now.classes.now.lists round) in
     let size : c.from.result ≤ 200000 = omega (arith, c.from.ensures, c.size.ensures, most, long, g.limits.signals_in round within) in
     omega (arith, mul-le-mul_right c.args.ways size, few, c.requires.ways)
@@ -58,8 +58,8 @@ pub row_of-requires : goal.row_of-requires
 row_of-requires c =
     let at = goal.at.row_of-requires c in
     let sums = c.deref.result.now in
-    let fits = row_fits c.args.at.now.signals.now.game.now c.args.at.now.stopped.now.game.now c.args.at.now.round c.args.at.now.some (top at.After-rounds-rounds) c.args.at.now.stops c.args.at.now.before_last c.args.at.now.classes.now c.args.at.now.parents
-    c.rounds-rounds.ensures.sound c.args.at.now.lossless c.args.at.now.seen.now.lists c.args.at.now.same c.args.class c.first-first.result c.from.result (c.from.ensures ∙ c.size.ensures) sums (amounts at.After-deref) c.first-first.ensures.within
+    let fits = row_fits c.args.at.now.signals.now.game.now c.args.at.now.stopped.now.game.now c.args.at.now.round c.args.at.now.some (top at.Start) c.args.at.now.stops c.args.at.now.before_last c.args.at.now.classes.now c.args.at.now.parents
+    c.args.at.now.lossless c.args.at.now.seen.now.lists c.args.at.now.same c.args.class c.first-first.result c.from.result (c.from.ensures ∙ c.size.ensures) sums (amounts at.After-deref) c.first-first.ensures.within
     c.first-first.ensures.member in
     omega (arith, fits, ap (λ n. (c.from.result * n) * sum_by (λ (p : Part). p.weight) sums) c.requires.ways)
 
@@ -69,8 +69,8 @@ returns c =
     let f = frame_in c.args.at.now.signals.now.game.now in
     let lists = c.args.at.now.classes.now.lists in
     let sums = c.deref.result.now in
-    let row = row_is c.args.at.now.signals.now.game.now c.args.at.now.stopped.now.game.now c.args.at.now.round c.args.at.now.some (top at.After-rounds-rounds) c.args.at.now.stops c.args.at.now.before_last c.args.at.now.classes.now c.args.at.now.parents
-    c.rounds-rounds.ensures.sound c.args.at.now.lossless c.args.at.now.seen.now.lists c.args.at.now.same c.args.class c.first-first.result c.from.result (c.from.ensures ∙ c.size.ensures) sums (amounts at.After-deref) c.first-first.ensures.within
+    let row = row_is c.args.at.now.signals.now.game.now c.args.at.now.stopped.now.game.now c.args.at.now.round c.args.at.now.some (top at.Start) c.args.at.now.stops c.args.at.now.before_last c.args.at.now.classes.now c.args.at.now.parents
+    c.args.at.now.lossless c.args.at.now.seen.now.lists c.args.at.now.same c.args.class c.first-first.result c.from.result (c.from.ensures ∙ c.size.ensures) sums (amounts at.After-deref) c.first-first.ensures.within
     c.first-first.ensures.member in
     let here = subst (λ n. IsRow f lists c.args.at.now.round c.args.class (gathered (c.from.result * n) sums)) (sym c.requires.ways) row in
     if_ok c.row_of.result (λ v. v.items ≡ gathered (c.from.result * c.args.ways) sums) (λ v. IsRow f lists c.args.at.now.round c.args.class v.items)

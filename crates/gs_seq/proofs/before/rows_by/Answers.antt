@@ -15,7 +15,7 @@ side_keys-requires-clause-side c = in_stopped c.args.at.now.signals.now.game.now
 
 pub classes-count-requires-clause-top : goal.classes-count-requires-clause-top
 classes-count-requires-clause-top c =
-    omega (arith, c.args.at.now.before_last, last_round_of (rules_of c.args.at.now.signals.now), (over (frame_in c.args.at.now.signals.now.game.now) c.args.at.now.classes.now c.args.at.now.parents c.rounds-rounds.ensures.sound).rounds)
+    omega (arith, c.args.at.now.before_last, last_round_of (rules_of c.args.at.now.signals.now), (over (frame_in c.args.at.now.signals.now.game.now) c.args.at.now.classes.now c.args.at.now.parents).rounds)
 
 pub loop-before-preserved : goal.loop-before-preserved
 loop-before-preserved c =

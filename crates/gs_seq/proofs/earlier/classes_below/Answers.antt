@@ -13,5 +13,5 @@ loop-before-preserved c =
     let back : c.args.round + 1 - 1 ≡ c.args.round = omega arith in
     let own = subst (λ j. IsClass f.lists j above) back c.parent_class-above.ensures.class in
     below_more f c.args.round n c.loop-before.below.items c.index_mut.result.now c.push.new.self above c.loop-before.invariant own
-    (up_is f c.rounds-rounds.ensures.sound c.args.round (n + 1) above c.requires.some c.requires.before_last h c.parent_class-above.ensures.value)
+    (up_is f c.args.round (n + 1) above c.requires.some c.requires.before_last h c.parent_class-above.ensures.value)
     c.index_mut.ensures.value c.in_ok-push.ensures.items

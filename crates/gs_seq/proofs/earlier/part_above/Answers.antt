@@ -7,4 +7,4 @@ pub returns : goal.returns
 returns c =
     let f = c.args.classes.now in
     let made : ℕ → Part = λ m. record { class = m; outcome = pos 0; weight = c.args.pair.weight } in
-    ap made (up_is f c.rounds-rounds.ensures.sound c.args.round c.args.pair.two c.parent_class.result c.requires.some c.requires.before_last c.requires.class c.parent_class.ensures.value)
+    ap made (up_is f c.args.round c.args.pair.two c.parent_class.result c.requires.some c.requires.before_last c.requires.class c.parent_class.ensures.value)

@@ -44,7 +44,7 @@ loop-point-preserved c =
           record {
             long = ap (λ (v : Vec ℕ Global). vec_len v) w.weights-is ∙ i.long;
             firsts = subst (λ zs. AreFirstBefore f lists p zs (q + 1)) (sym same)
-                (firsts_more f (in_range (game_of g.game) (playable g)) lists (over f c.args.classes.now c.requires.parents c.rounds-rounds.ensures.sound) p (walked_at g p q within own) (some_move g) q xs ys within i.firsts agree
+                (firsts_more f (in_range (game_of g.game) (playable g)) lists (over f c.args.classes.now c.requires.parents) p (walked_at g p q within own) (some_move g) q xs ys within i.firsts agree
                 w.put_first.ensures.here);
             clear = subst (λ zs. IsClear (slots_before f lists p (q + 1)) zs) (sym same) w.put_first.ensures.clear;
           }

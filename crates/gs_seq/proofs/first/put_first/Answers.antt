@@ -29,7 +29,7 @@ row c =
     let q = c.args.point in
     let lists = c.args.classes.now.lists in
     let first : get_or c.args.offsets.now q 0 ≡ slots_before f lists c.args.player q = c.requires.offsets.first q c.requires.in_range ∙ ap (λ p. slots_before f lists p q) c.requires.own in
-    row_at c.args.game.now c.args.classes.now c.requires.parents c.rounds-rounds.ensures.sound c.args.player q c.loop-before.before (get_or c.args.offsets.now q 0) c.len-moves.result c.classes-before-end.result
+    row_at c.args.game.now c.args.classes.now c.requires.parents c.args.player q c.loop-before.before (get_or c.args.offsets.now q 0) c.len-moves.result c.classes-before-end.result
     c.index-points-point.result (reads (goal.at.In-loop-before c).After-len-moves) c.requires.own c.requires.in_range first (omega (arith, c.len-moves.ensures)) c.classes-before-end.ensures c.loop-before-test.true
 
 -- the slot of the first move is one of the weights, which are few
@@ -46,7 +46,7 @@ classes-before-end-requires-clause-some c =
 pub classes-before-end-requires-clause-top : goal.classes-before-end-requires-clause-top
 classes-before-end-requires-clause-top c =
     let r = round_in c.args.game.now c.args.point c.index-points-point.result (reads (goal.at.classes-before-end-requires-clause-top c).After-len-moves) c.requires.in_range in
-    omega (arith, r.1, (over (frame_in c.args.game.now) c.args.classes.now c.requires.parents c.rounds-rounds.ensures.sound).rounds)
+    omega (arith, r.1, (over (frame_in c.args.game.now) c.args.classes.now c.requires.parents).rounds)
 
 pub coming-came-requires-clause-source : goal.coming-came-requires-clause-source
 coming-came-requires-clause-source c = c.point_source-source.ensures c.args.classes.now.lists c.requires.offsets
@@ -89,7 +89,7 @@ loop-before-preserved c =
     let one : before + 1 - 1 ≡ before = omega arith in
     let slot_is : slot ≡ slots_before f lists p q + (before + 1 - 1) * move_count f q = omega (arith, place, ap (λ k. k * move_count f q) one) in
     let ranged = in_range (game_of g.game) (playable g) in
-    let classes = over f c.args.classes.now c.requires.parents c.rounds-rounds.ensures.sound in
+    let classes = over f c.args.classes.now c.requires.parents in
     let is : came ≡ number_before f (lift f lists (plan_of f lists 1 weights)) (last_step f p (at_point q)) (round_of f (at_point q)) (first_member lists (round_of f (at_point q)) (before + 1)) =
     c.coming-came.ensures
     ∙ ap (λ p. number_before f (lift f lists (plan_of f lists 1 weights)) (last_step f p (at_point q)) (round_of f (at_point q)) (first_member lists (round_of f (at_point q)) (before + 1))) c.requires.own in

@@ -7,7 +7,7 @@ loop-at-init c = record {
   from = omega arith;
   until = omega arith;
   class_in = c.requires.class;
-  above_is = above_none c.args.classes.now c.rounds-rounds.ensures.sound c.args.round c.args.class (omega arith) c.requires.top c.requires.class;
+  above_is = above_none c.args.classes.now c.args.round c.args.class (omega arith) c.requires.top c.requires.class;
 }
 
 pub loop-at-preserved : goal.loop-at-preserved
@@ -17,6 +17,6 @@ loop-at-preserved c =
       from = omega arith;
       until = omega arith;
       class_in = c.parent_class-above.ensures.class;
-      above_is = above_more c.args.classes.now c.rounds-rounds.ensures.sound c.args.round c.args.class (omega arith) c.requires.top c.requires.class c.loop-at.at c.loop-at.above c.parent_class-above.result
+      above_is = above_more c.args.classes.now c.args.round c.args.class (omega arith) c.requires.top c.requires.class c.loop-at.at c.loop-at.above c.parent_class-above.result
           (omega arith) i.until i.above_is c.parent_class-above.ensures.value;
     }

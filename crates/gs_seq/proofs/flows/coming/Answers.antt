@@ -41,7 +41,7 @@ weight_above-requires-clause-top c =
     let f = frame_in c.args.game.now in
     let q = c.args.point in
     let w = walked_at c.args.game.now (player_at f q) q c.requires.in_range refl in
-    omega (arith, here (goal.at.weight_above-requires-clause-top c).After-index-points-point, w.point_in q c.requires.in_range, (over f c.args.classes.now c.requires.parents c.rounds-rounds.ensures.sound).rounds)
+    omega (arith, here (goal.at.weight_above-requires-clause-top c).After-index-points-point, w.point_in q c.requires.in_range, (over f c.args.classes.now c.requires.parents).rounds)
 
 pub weight_above-requires-clause-class : goal.weight_above-requires-clause-class
 weight_above-requires-clause-class c = subst (λ k. IsClass c.args.classes.now.lists k c.args.class) (sym (here (goal.at.weight_above-requires-clause-class c).After-index-points-point)) c.requires.class
@@ -53,7 +53,7 @@ pub weight_above-requires-clause-few : goal.weight_above-requires-clause-few
 weight_above-requires-clause-few c =
     let f = frame_in c.args.game.now in
     let q = c.args.point in
-    let few = slots_few c.args.game.now c.args.classes.now c.requires.parents c.rounds-rounds.ensures.sound (player_at f q) q (omega (arith, c.requires.in_range)) in
+    let few = slots_few c.args.game.now c.args.classes.now c.requires.parents (player_at f q) q (omega (arith, c.requires.in_range)) in
     λ above k. omega (arith, (facts (goal.at.weight_above-requires-clause-few c).In-Some).within above k, few)
 
 pub returns-in-Some : goal.returns-in-Some

@@ -21,7 +21,7 @@ reads c = point_reads c.args.game.now c.points.result.now c.args.point c.index-p
 -- where the weights of the class stand
 row : (c : In-loop-before) → RowAt (frame_in c.args.game.now) c.args.classes.now.lists c.args.player c.args.point c.loop-before.before c.args.first c.len-moves.result
 row c =
-    row_at c.args.game.now c.args.classes.now c.requires.parents c.rounds-rounds.ensures.sound c.args.player c.args.point c.loop-before.before c.args.first c.len-moves.result c.classes-before-end.result
+    row_at c.args.game.now c.args.classes.now c.requires.parents c.args.player c.args.point c.loop-before.before c.args.first c.len-moves.result c.classes-before-end.result
     c.index-points-point.result (reads (goal.at.In-loop-before c).After-len-moves) c.requires.own c.requires.in_range c.requires.first (omega (arith, c.len-moves.ensures)) c.classes-before-end.ensures c.loop-before-test.true
 
 -- the two numbers that are compared are the sum of the moves' weights, and what comes to the class
@@ -54,7 +54,7 @@ classes-before-end-requires-clause-some c =
 pub classes-before-end-requires-clause-top : goal.classes-before-end-requires-clause-top
 classes-before-end-requires-clause-top c =
     let r = round_in c.args.game.now c.args.point c.index-points-point.result (reads (goal.at.classes-before-end-requires-clause-top c).After-len-moves) c.requires.in_range in
-    omega (arith, r.1, (over (frame_in c.args.game.now) c.args.classes.now c.requires.parents c.rounds-rounds.ensures.sound).rounds)
+    omega (arith, r.1, (over (frame_in c.args.game.now) c.args.classes.now c.requires.parents).rounds)
 
 pub overflow_mul-slot : goal.overflow_mul-slot
 overflow_mul-slot c = let r = row (goal.at.overflow_mul-slot c).In-loop-before in omega (arith, r.room, r.few)

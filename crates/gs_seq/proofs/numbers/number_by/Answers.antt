@@ -40,7 +40,7 @@ weight_above-requires-clause-earlier c =
 pub weight_above-requires-clause-top : goal.weight_above-requires-clause-top
 weight_above-requires-clause-top c =
     let w = walked c.args.game.now c.args.plan.now.player c.requires.some c.requires.two in
-    omega (arith, here (goal.at.weight_above-requires-clause-top c).After-ends, w.end_in c.args.end c.requires.end, (over (frame_in c.args.game.now) c.args.classes.now c.requires.parents c.rounds-rounds.ensures.sound).rounds)
+    omega (arith, here (goal.at.weight_above-requires-clause-top c).After-ends, w.end_in c.args.end c.requires.end, (over (frame_in c.args.game.now) c.args.classes.now c.requires.parents).rounds)
 
 pub weight_above-requires-clause-class : goal.weight_above-requires-clause-class
 weight_above-requires-clause-class c = subst (λ k. IsClass c.args.classes.now.lists k c.args.class) (sym (here (goal.at.weight_above-requires-clause-class c).After-ends)) c.requires.class
@@ -52,7 +52,7 @@ weight_above-requires-clause-within c =
 
 pub weight_above-requires-clause-few : goal.weight_above-requires-clause-few
 weight_above-requires-clause-few c =
-    let few = slots_few c.args.game.now c.args.classes.now c.requires.parents c.rounds-rounds.ensures.sound c.args.plan.now.player (point_count (frame_in c.args.game.now)) (omega arith) in
+    let few = slots_few c.args.game.now c.args.classes.now c.requires.parents c.args.plan.now.player (point_count (frame_in c.args.game.now)) (omega arith) in
     λ above k. omega (arith, (facts (goal.at.weight_above-requires-clause-few c).In-Some).within above k, few)
 
 pub returns-in-Some-clause-value : goal.returns-in-Some-clause-value
@@ -71,5 +71,5 @@ returns-in-Some-clause-within c =
     let f = frame_in c.args.game.now in
     let lists = c.args.classes.now.lists in
     let n = number_few f lists p.player (class_plan f lists p) c.args.end c.args.class (in_range (game_of c.args.game.now.game) (playable c.args.game.now)) (walked c.args.game.now p.player c.requires.some c.requires.two)
-    (over f c.args.classes.now c.requires.parents c.rounds-rounds.ensures.sound) c.requires.plan.plan.plan c.requires.end c.requires.class in
+    (over f c.args.classes.now c.requires.parents) c.requires.plan.plan.plan c.requires.end c.requires.class in
     omega (arith, returns-in-Some-clause-value c, n)

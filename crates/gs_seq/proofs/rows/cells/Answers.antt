@@ -16,22 +16,22 @@ overflow_sub-from c =
 pub index-requires : goal.index-requires
 index-requires c =
     let counts = c.in_ok-counts.counts in
-    let inside = end_inside c.args.game.now c.args.classes.now c.requires.parents c.rounds-rounds.ensures.sound counts.items c.in_ok-counts.ensures
+    let inside = end_inside c.args.game.now c.args.classes.now c.requires.parents counts.items c.in_ok-counts.ensures
     c.ends-end-items.result.now c.ends-end-items.ensures c.loop-end.end-index _ c.from.result c.loop-end-test.true c.from.ensures in
     omega (arith, inside, counts.ok.0)
 
 pub overflow_add-count : goal.overflow_add-count
 overflow_add-count c =
-    let few = end_few c.args.game.now c.args.classes.now c.requires.parents c.rounds-rounds.ensures.sound c.in_ok-counts.counts.items c.in_ok-counts.ensures
+    let few = end_few c.args.game.now c.args.classes.now c.requires.parents c.in_ok-counts.counts.items c.in_ok-counts.ensures
     c.ends-end-items.result.now c.ends-end-items.ensures c.loop-end.end-index _ c.from.result c.index.result.now c.loop-end-test.true c.from.ensures c.index.ensures in
     omega (arith, few, c.loop-end.invariant.few, c.loop-end-test.true, length-ends c.args.game.now c.ends-end-items.result.now c.ends-end-items.ensures, (modest c.args.game.now).ends)
 
 pub loop-end-preserved : goal.loop-end-preserved
 loop-end-preserved c =
-    let few = end_few c.args.game.now c.args.classes.now c.requires.parents c.rounds-rounds.ensures.sound c.in_ok-counts.counts.items c.in_ok-counts.ensures
+    let few = end_few c.args.game.now c.args.classes.now c.requires.parents c.in_ok-counts.counts.items c.in_ok-counts.ensures
     c.ends-end-items.result.now c.ends-end-items.ensures c.loop-end.end-index _ c.from.result c.index.result.now c.loop-end-test.true c.from.ensures c.index.ensures in
     record {
-      count_is = end_more c.args.game.now c.args.classes.now c.requires.parents c.rounds-rounds.ensures.sound c.in_ok-counts.counts.items c.in_ok-counts.ensures
+      count_is = end_more c.args.game.now c.args.classes.now c.requires.parents c.in_ok-counts.counts.items c.in_ok-counts.ensures
           c.ends-end-items.result.now c.ends-end-items.ensures c.loop-end.end-index _ c.from.result c.index.result.now c.loop-end.count c.loop-end-test.true c.from.ensures c.index.ensures c.loop-end.invariant.count_is;
       few = omega (arith, few, c.loop-end.invariant.few);
     }
@@ -43,4 +43,4 @@ returns c =
     let es = c.ends-end-items.result.now in
     let whole = take_all c.loop-end.end-index es (omega arith) in
     c.loop-end.invariant.count_is ∙ ap (sum_by (λ (z : End). pair_count f lists z.round)) whole
-    ∙ all_ends c.args.game.now c.args.classes.now c.requires.parents c.rounds-rounds.ensures.sound c.in_ok-counts.counts.items c.in_ok-counts.ensures es c.ends-end-items.ensures
+    ∙ all_ends c.args.game.now c.args.classes.now c.requires.parents c.in_ok-counts.counts.items c.in_ok-counts.ensures es c.ends-end-items.ensures

@@ -10,7 +10,7 @@ use Rattle.gs_seq.proofs.single.are_made.Goals as goal
 pub is_single-requires-clause-top : goal.is_single-requires-clause-top
 is_single-requires-clause-top c =
     let f = frame_in c.args.signals.now.game.now in
-    omega (arith, c.rounds.ensures.value, last_round_of (rules_of c.args.signals.now), (over f c.args.classes.now c.requires c.rounds-rounds.ensures.sound).rounds)
+    omega (arith, c.rounds.ensures.value, last_round_of (rules_of c.args.signals.now), (over f c.args.classes.now c.requires).rounds)
 
 pub returns-then-is_large : goal.returns-then-is_large
 returns-then-is_large c =

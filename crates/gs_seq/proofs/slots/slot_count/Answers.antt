@@ -11,5 +11,5 @@ returns-clause-value c =
 
 pub returns-clause-few : goal.returns-clause-few
 returns-clause-few c =
-    let few = slots_few c.args.game.now c.args.classes.now c.requires.parents c.rounds-rounds.ensures.sound c.args.player c.point_total.result (omega (arith, c.point_total.ensures)) in
+    let few = slots_few c.args.game.now c.args.classes.now c.requires.parents c.args.player c.point_total.result (omega (arith, c.point_total.ensures)) in
     omega (arith, c.slots_between.ensures, few)

@@ -20,7 +20,7 @@ pub classes-requires-clause-top : goal.classes-requires-clause-top
 classes-requires-clause-top c =
     let f = frame_in c.args.game.now in
     let r = point_reads c.args.game.now c.points.result.now c.args.point c.index-points-point.result c.points.ensures c.requires.in_range c.index-points-point.is in
-    omega (arith, (round_in c.args.game.now c.args.point c.index-points-point.result r c.requires.in_range).1, (over f c.args.classes.now c.requires.parents c.rounds-rounds.ensures.sound).rounds)
+    omega (arith, (round_in c.args.game.now c.args.point c.index-points-point.result r c.requires.in_range).1, (over f c.args.classes.now c.requires.parents).rounds)
 
 pub overflow_mul-result : goal.overflow_mul-result
 overflow_mul-result c =
@@ -28,7 +28,7 @@ overflow_mul-result c =
     let r = point_reads c.args.game.now c.points.result.now c.args.point c.index-points-point.result c.points.ensures c.requires.in_range c.index-points-point.is in
     let w = walked c.args.game.now 1 (omega arith) (omega arith) in
     let round = round_of f (at_point c.args.point) in
-    let few = class_few c.args.game.now c.args.classes.now c.requires.parents c.rounds-rounds.ensures.sound round (w.some_round c.args.point c.requires.in_range) (w.point_in c.args.point c.requires.in_range) in
+    let few = class_few c.args.game.now c.args.classes.now c.requires.parents round (w.some_round c.args.point c.requires.in_range) (w.point_in c.args.point c.requires.in_range) in
     let least : c.from.result ≤ 200000 = omega (arith, c.from.ensures, c.classes.ensures, ap (class_count c.args.classes.now.lists) r.round, few) in
     let short : c.len.result < 2 ^ 33 = omega (arith, c.len.ensures, r.moves, moves_few c.args.game.now c.args.point c.requires.in_range) in
     omega (arith, mul-le-mul_right c.len.result least, short)

@@ -25,5 +25,5 @@ unended-requires-clause-stop c =
 pub unended-requires-clause-met : goal.unended-requires-clause-met
 unended-requires-clause-met c =
     let form = c.args.form.now in
-    stop_is_met (frame_of form) (lists_of form) (form_is form c.round_total-rounds.ensures.sound) c.in-Ok.made.0 c.in-Ok.made.1.items c.in-Ok.ensures.path c.in-Ok.ensures.small c.in-Err-trace.stop
+    stop_is_met (frame_of form) (lists_of form) (form_is form) c.in-Ok.made.0 c.in-Ok.made.1.items c.in-Ok.ensures.path c.in-Ok.ensures.small c.in-Err-trace.stop
     (subst (λ (o : Listing). IsStop c.in-Ok.made.0 o most_pivots c.in-Err-trace.stop) c.deref.ensures.value c.in-Err-trace.ensures)

@@ -39,7 +39,7 @@ returns c =
     let classes = c.classes-classes.ensures.held ∙ ap (λ (l : Lossless). l.classes.now) c.lossless-lossless.ensures in
     let parents = c.classes-classes.ensures.parents ∙ ap (λ (l : Lossless). (frame_of (rules_of l.signals.now)).parents) c.lossless-lossless.ensures in
     let are : IsClasses (frame_by form).parents (lists_of form) =
-    subst (λ (x : Filter). IsClasses (frame_by form).parents x.lists) classes (subst (λ ps. IsClasses ps c.classes-classes.result.now.lists) parents c.rounds-rounds.ensures.sound.classes) in
+    subst (λ (x : Filter). IsClasses (frame_by form).parents x.lists) classes (subst (λ ps. IsClasses ps c.classes-classes.result.now.lists) parents c.classes-classes.result.now.classes) in
     let lossless : IsLossless (frame_by form) (lists_of form) = subst (λ (l : Lossless). IsLossless (frame_of (rules_of l.signals.now)) l.classes.now.lists) c.lossless-lossless.ensures c.classes-classes.ensures.lossless in
     IfOk-weaker c.write_strategy.result _ _ (λ text. told_of form c.game.result.now c.classes-classes.result.now c.args.one.now c.args.two.now c.verdict-found.result text.items game classes are lossless c.requires.small
     c.requires.one c.requires.two c.verdict-found.ensures.verdict) c.write_strategy.ensures

@@ -22,7 +22,7 @@ use Rattle.gs_solve.proofs.payoffs.add_row.Goals as goal
 use Rattle.gs_solve.proofs.payoffs.add_row.Goals.{After-pays, After-round_total-rounds, After-sequence_at-two, In-Some}
 
 form : (c : After-round_total-rounds) → IsForm (frame_of c.args.form.now) (lists_of c.args.form.now)
-form c = form_is c.args.form.now c.round_total-rounds.ensures.sound
+form c = form_is c.args.form.now
 
 -- where the walk stands, and what is known of the pair there
 at_pair : (c : In-Some) → IsTurn {X = Pair} c.args.row c.loop-pair.pair-iterator c.next.new.self c.in-Some.pair × IsKnown (frame_of c.args.form.now) (lists_of c.args.form.now) 1 c.args.end c.in-Some.pair

@@ -19,7 +19,7 @@ parents_in-parents-requires-clause-last c = omega (arith, c.requires.before_last
 -- the classes of the next round
 next : (c : After-deref) → c.deref.result.now ≡ list_of c.args.grouped.now.classes.now.lists (c.args.round + 1)
 next c =
-    let all = c.rounds-rounds.ensures.sound.classes.rounds ∙ ap (λ (ps : List (List ℕ)). length ps) c.args.grouped.now.parents in
+    let all = c.args.grouped.now.classes.now.classes.rounds ∙ ap (λ (ps : List (List ℕ)). length ps) c.args.grouped.now.parents in
     list_next c.lists.result.now c.args.grouped.now.classes.now.lists c.from.result c.args.round c.index-lists-from.result c.deref.result.now c.lists.ensures.value c.from.ensures (omega (arith, all, c.requires.before_last)) c.index-lists-from.is c.deref.ensures.value
 
 -- its signals, each with a parent
@@ -36,7 +36,7 @@ pub child_numbers-requires-clause-classes : goal.child_numbers-requires-clause-c
 child_numbers-requires-clause-classes c =
     let g = rules_of c.args.grouped.now.signals.now in
     ap (λ (l : List ℕ). length l) (next (goal.at.child_numbers-requires-clause-classes c).After-deref)
-    ∙ list_long g c.args.grouped.now.classes.now c.args.grouped.now.parents c.rounds-rounds.ensures.sound (c.args.round + 1) (omega arith) (omega (arith, c.requires.before_last, last_round_of g)) ∙ many (goal.at.child_numbers-requires-clause-classes c).After-parents_in-parents
+    ∙ list_long g c.args.grouped.now.classes.now c.args.grouped.now.parents (c.args.round + 1) (omega arith) (omega (arith, c.requires.before_last, last_round_of g)) ∙ many (goal.at.child_numbers-requires-clause-classes c).After-parents_in-parents
 
 pub child_numbers-requires-clause-numbers : goal.child_numbers-requires-clause-numbers
 child_numbers-requires-clause-numbers c =

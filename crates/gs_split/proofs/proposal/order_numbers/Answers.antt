@@ -20,10 +20,9 @@ deal_numbers-requires c =
     let g = rules_of s in
     let f = frame_of g in
     let some : 0 < round_count g = (playable s).some in
-    let sound = c.rounds-rounds.ensures.sound in
-    let all = sound.classes.rounds ∙ ap (λ (ps : List (List ℕ)). length ps) c.args.grouped.now.parents in
+    let all = c.args.grouped.now.classes.now.classes.rounds ∙ ap (λ (ps : List (List ℕ)). length ps) c.args.grouped.now.parents in
     let here = list_read c.lists.result.now c.args.grouped.now.classes.now.lists c.from.result (round_count g) c.index-lists-from.result c.deref.result.now c.lists.ensures.value (omega (arith, c.from.ensures, c.rounds-last.ensures.value)) some (omega (arith, all, last_round_of g)) c.index-lists-from.is c.deref.ensures.value in
-    ap (λ (l : List ℕ). length l) here ∙ list_long g c.args.grouped.now.classes.now c.args.grouped.now.parents sound (round_count g) some (omega arith) ∙ ap (λ (x : Signals). last_count (rules_of x)) (sym c.requires)
+    ap (λ (l : List ℕ). length l) here ∙ list_long g c.args.grouped.now.classes.now c.args.grouped.now.parents (round_count g) some (omega arith) ∙ ap (λ (x : Signals). last_count (rules_of x)) (sym c.requires)
 
 pub returns : goal.returns
 returns c =
@@ -34,10 +33,9 @@ returns c =
     let last = last_round f in
     let top : last ≤ round_count g = omega (arith, last_round_of g) in
     let some : 0 < last = omega (arith, last_round_of g, (playable s).some) in
-    let sound = c.rounds-rounds.ensures.sound in
-    let all = sound.classes.rounds ∙ ap (λ (ps : List (List ℕ)). length ps) c.args.grouped.now.parents in
+    let all = c.args.grouped.now.classes.now.classes.rounds ∙ ap (λ (ps : List (List ℕ)). length ps) c.args.grouped.now.parents in
     let here : c.deref.result.now ≡ list_of lists last = list_read c.lists.result.now lists c.from.result last c.index-lists-from.result c.deref.result.now c.lists.ensures.value (omega (arith, c.from.ensures, c.rounds-last.ensures.value, last_round_of g)) some (omega (arith, all)) c.index-lists-from.is c.deref.ensures.value in
-    let long : length (list_of lists last) ≡ signal_count f last = list_long g c.args.grouped.now.classes.now c.args.grouped.now.parents sound last some top ∙ sym (signal_count_is g last some top) in
+    let long : length (list_of lists last) ≡ signal_count f last = list_long g c.args.grouped.now.classes.now c.args.grouped.now.parents last some top ∙ sym (signal_count_is g last some top) in
     let same : rules_of c.args.order.now.signals.now ≡ g = ap (λ (x : Signals). rules_of x) c.requires in
     both_ok c.deal_numbers.result
     (λ (v : Vec ℕ Global). length v.items ≡ length c.deref.result.now)
@@ -51,6 +49,6 @@ returns c =
 pub bounds-lists-from : goal.bounds-lists-from
 bounds-lists-from c =
     let g = rules_of c.args.grouped.now.signals.now in
-    let all = c.rounds-rounds.ensures.sound.classes.rounds ∙ ap (λ (ps : List (List ℕ)). length ps) c.args.grouped.now.parents in
+    let all = c.args.grouped.now.classes.now.classes.rounds ∙ ap (λ (ps : List (List ℕ)). length ps) c.args.grouped.now.parents in
     let long = ap (λ (l : List (List ℕ)). length l) c.lists.ensures.value in
     omega (arith, c.from.ensures, c.rounds-last.ensures.value, c.rounds-last.ensures.some, all, long, length-rows c.lists.result.now, last_round_of g)

@@ -21,7 +21,7 @@ count-count-requires-clause-in_range c = side_top (rules_of c.args.grouped.now.s
 many : (c : In_ok-keys) (keys : List ℕ) → keys ≡ c.in_ok-keys.keys.items → length keys ≡ key_count (rules_of c.args.grouped.now.signals.now) c.side_at-side.result c.args.round
 many c keys is =
     ap (λ (l : List ℕ). length l) (is ∙ c.in_ok-keys.ensures)
-    ∙ keys_long (rules_of c.args.grouped.now.signals.now) c.args.grouped.now.classes.now c.args.grouped.now.parents c.rounds-rounds.ensures.sound (playable c.args.grouped.now.signals.now) c.side_at-side.result c.args.round c.side_at-side.ensures.side
+    ∙ keys_long (rules_of c.args.grouped.now.signals.now) c.args.grouped.now.classes.now c.args.grouped.now.parents (playable c.args.grouped.now.signals.now) c.side_at-side.result c.args.round c.side_at-side.ensures.side
 
 pub side_firsts-requires-clause-all : goal.side_firsts-requires-clause-all
 side_firsts-requires-clause-all c = many (goal.at.side_firsts-requires-clause-all c).In_ok-keys c.deref.result.now c.deref.ensures.value
@@ -34,7 +34,7 @@ pub settled_classes-requires-clause-all : goal.settled_classes-requires-clause-a
 settled_classes-requires-clause-all c =
     let g = rules_of c.args.grouped.now.signals.now in
     ap (λ (l : List ℕ). length l) c.deref-2.ensures.value ∙ (stands (goal.at.settled_classes-requires-clause-all c).In_ok-firsts).long ∙ side_signals g c.side_at-side.result c.args.round c.side_at-side.ensures.side
-    ∙ sym (side_classes g c.args.grouped.now.classes.now c.args.grouped.now.parents c.rounds-rounds.ensures.sound c.side_at-side.result c.args.round c.side_at-side.ensures.side)
+    ∙ sym (side_classes g c.args.grouped.now.classes.now c.args.grouped.now.parents c.side_at-side.result c.args.round c.side_at-side.ensures.side)
 
 pub index-first-requires : goal.index-first-requires
 index-first-requires c =
@@ -42,7 +42,7 @@ index-first-requires c =
 
 pub class_of-class-requires-clause-within : goal.class_of-class-requires-clause-within
 class_of-class-requires-clause-within c =
-    let n = side_classes (rules_of c.args.grouped.now.signals.now) c.args.grouped.now.classes.now c.args.grouped.now.parents c.rounds-rounds.ensures.sound c.side_at-side.result c.args.round c.side_at-side.ensures.side in
+    let n = side_classes (rules_of c.args.grouped.now.signals.now) c.args.grouped.now.classes.now c.args.grouped.now.parents c.side_at-side.result c.args.round c.side_at-side.ensures.side in
     omega (arith, n, c.count-count.ensures.value, c.loop-signal-test.true)
 
 pub side_sums-requires-clause-all : goal.side_sums-requires-clause-all

@@ -7,12 +7,12 @@ use Rattle.gs_split.proofs.stays.known_rounds.Goals as goal
 
 pub stays-requires-clause-before : goal.stays-requires-clause-before
 stays-requires-clause-before c =
-    let all = c.rounds-before.ensures.sound.classes.rounds ∙ ap (λ (ps : List (List ℕ)). length ps) c.requires.before in
+    let all = c.args.before.now.classes.rounds ∙ ap (λ (ps : List (List ℕ)). length ps) c.requires.before in
     omega (arith, all, c.min.ensures, c.rounds-last.ensures.value, last_round_of (rules_of c.args.signals.now))
 
 pub stays-requires-clause-top : goal.stays-requires-clause-top
 stays-requires-clause-top c =
-    let all = c.rounds-rounds.ensures.sound.classes.rounds ∙ ap (λ (ps : List (List ℕ)). length ps) c.requires.parents in
+    let all = c.args.classes.now.classes.rounds ∙ ap (λ (ps : List (List ℕ)). length ps) c.requires.parents in
     omega (arith, all, c.min.ensures, c.rounds-last.ensures.value, last_round_of (rules_of c.args.signals.now))
 
 pub loop-above-preserved : goal.loop-above-preserved

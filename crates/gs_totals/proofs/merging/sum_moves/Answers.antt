@@ -17,7 +17,7 @@ add-requires-clause-fits c =
     let in_moves : c.loop-choice.choice < move_count (frame_in at.ledger.role) at.point = omega (arith, c.loop-choice-test.true, c.move_total-choice-end.ensures.value) in
     λ i l some.
     sum_fits (frame_in at.ledger.role) (lists_in at.ledger.role) (total_worth (frame_in at.ledger.role) (lists_in at.ledger.role) (totals_at at)) at.point c.loop-choice.choice at.count at.count_is c.read_worths-read.result.now c.read_worths-read.ensures.worths c.loop-choice.sums (26 * (200000 * 2 ^ 90)) (200000 * 2 ^ 90) (omega arith) (c.loop-choice.invariant some)
-    (λ e. worths_modest at.ledger.role at.sound v at.point e c.loop-choice.choice at.modest at.inside (omega (arith, in_moves))) (λ e. worth_modest at.ledger.role at.sound v at.point c.loop-choice.choice e at.modest at.inside in_moves) i l
+    (λ e. worths_modest at.ledger.role v at.point e c.loop-choice.choice at.modest at.inside (omega (arith, in_moves))) (λ e. worth_modest at.ledger.role v at.point c.loop-choice.choice e at.modest at.inside in_moves) i l
 
 pub loop-choice-preserved : goal.loop-choice-preserved
 loop-choice-preserved c =

@@ -13,7 +13,7 @@ next c = row_next (end_classes (frame_of c.args.form.now) (lists_of c.args.form.
 
 pub overflow_add-total : goal.overflow_add-total
 overflow_add-total c =
-    let few = end_starts_few c.args.form.now c.round_total-rounds.ensures.sound (c.loop-end.end + 1) (omega (arith, c.loop-end-test.true, c.end_total-end-end.ensures)) in
+    let few = end_starts_few c.args.form.now (c.loop-end.end + 1) (omega (arith, c.loop-end-test.true, c.end_total-end-end.ensures)) in
     record { fits = omega (arith, next (goal.at.overflow_add-total c).After-class_total-total, few) }
 
 pub loop-end-preserved : goal.loop-end-preserved

@@ -63,5 +63,5 @@ returns-in-Some c =
     let a = k.role.form.now in
     let z = c.args.end in
     let u = step_of c.in-Some.step in
-    λ t. step_same f (form_in_range a) (lists k.role) (form_classes a c.round_total-rounds.ensures.sound) (other_player k.role.player) (other_walked k.role) z k.other.now.total c.args.before.now k.other.now.weights.items u c.requires.end (made (goal.at.returns-in-Some c).In-Some)
+    λ t. step_same f (form_in_range a) (lists k.role) (form_classes a) (other_player k.role.player) (other_walked k.role) z k.other.now.total c.args.before.now k.other.now.weights.items u c.requires.end (made (goal.at.returns-in-Some c).In-Some)
     (subst (λ l. AgreeAt f (lists k.role) u c.args.before.now l) c.deref.ensures.value (c.agree_at.ensures.0 t))

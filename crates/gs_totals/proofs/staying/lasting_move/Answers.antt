@@ -54,17 +54,17 @@ behind_all-requires-clause-slopes c = omega (arith, (row (goal.at.behind_all-req
 pub behind_all-requires-clause-ahead : goal.behind_all-requires-clause-ahead
 behind_all-requires-clause-ahead c =
     let at = goal.at.behind_all-requires-clause-ahead c in
-    all_ahead c.args.course.now c.args.point c.args.choice _ _ (row at.After-of-now) _ _ _ _ c.deref.ensures.value c.deref-2.ensures.value (worths at.After-read_worths-worth) (rises at.After-read_worths-rise) c.round_total-rounds.ensures.sound c.requires.point c.requires.choice c.requires.own
+    all_ahead c.args.course.now c.args.point c.args.choice _ _ (row at.After-of-now) _ _ _ _ c.deref.ensures.value c.deref-2.ensures.value (worths at.After-read_worths-worth) (rises at.After-read_worths-rise) c.requires.point c.requires.choice c.requires.own
 
 pub behind_all-requires-clause-gaps : goal.behind_all-requires-clause-gaps
 behind_all-requires-clause-gaps c =
     let at = goal.at.behind_all-requires-clause-gaps c in
-    all_gaps c.args.course.now c.args.point c.args.choice _ _ (row at.After-of-now) _ _ _ _ c.deref.ensures.value c.deref-2.ensures.value (worths at.After-read_worths-worth) (rises at.After-read_worths-rise) c.round_total-rounds.ensures.sound c.requires.point c.requires.choice
+    all_gaps c.args.course.now c.args.point c.args.choice _ _ (row at.After-of-now) _ _ _ _ c.deref.ensures.value c.deref-2.ensures.value (worths at.After-read_worths-worth) (rises at.After-read_worths-rise) c.requires.point c.requires.choice
 
 pub behind_all-requires-clause-gains : goal.behind_all-requires-clause-gains
 behind_all-requires-clause-gains c =
     let at = goal.at.behind_all-requires-clause-gains c in
-    all_gains c.args.course.now c.args.point c.args.choice _ _ (row at.After-of-now) _ _ _ _ c.deref.ensures.value c.deref-2.ensures.value (worths at.After-read_worths-worth) (rises at.After-read_worths-rise) c.round_total-rounds.ensures.sound c.requires.point c.requires.choice
+    all_gains c.args.course.now c.args.point c.args.choice _ _ (row at.After-of-now) _ _ _ _ c.deref.ensures.value c.deref-2.ensures.value (worths at.After-read_worths-worth) (rises at.After-read_worths-rise) c.requires.point c.requires.choice
 
 pub returns-clause-behind : goal.returns-clause-behind
 returns-clause-behind c =
@@ -77,4 +77,4 @@ returns-clause-greatest c =
     λ l h. c.behind_all.ensures.greatest l (each_behind c.args.course.now c.args.point c.args.choice _ _ (row at.After-of-now) _ _ _ _ c.deref.ensures.value c.deref-2.ensures.value (worths at.After-read_worths-worth) (rises at.After-read_worths-rise) (c.behind_all.result + 1) h)
 
 pub returns-then-times-le1-clause-behind : goal.returns-then-times-le1-clause-behind
-returns-then-times-le1-clause-behind c = once_behind c.args.course.now c.round_total-rounds.ensures.sound c.args.point c.args.choice c.args.times c.requires.point c.requires.choice c.requires.own (omega arith)
+returns-then-times-le1-clause-behind c = once_behind c.args.course.now c.args.point c.args.choice c.args.times c.requires.point c.requires.choice c.requires.own (omega arith)

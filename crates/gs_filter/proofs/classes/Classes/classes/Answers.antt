@@ -1,6 +1,6 @@
 use Rattle.std.proofs.Common.{◌≡◌, length, map, ◌∙◌, ap, subst, arith}
 use Rattle.gs_model.specs.Classes.{list_of, class_count}
-use Rattle.gs_filter.specs.Filter.{Filter, IsSound}
+use Rattle.gs_filter.specs.Filter.{Filter}
 use Rattle.gs_model.specs.Rows.{rows}
 use Rattle.gs_filter.specs.Tallies.{tallies_of}
 use Rattle.gs_filter.proofs.TallyLaws.{round_tallies, length-tallies_of}
@@ -10,15 +10,14 @@ use Rattle.gs_filter.proofs.classes.Classes.classes.Goals as goal
 module _ (c : goal.After-len) where
   count : c.len.result ≡ class_count c.args.self.now.lists c.args.round
   count =
-      let tallied = subst (λ (f : Filter). rows c.self.inside.tallies.items ≡ map tallies_of f.lists) c.self.view_is c.self.invariant.tallied in
+      let tallied = subst (λ (f : Filter). rows c.self.inside.tallies.items ≡ map tallies_of f.lists) c.self.view_is c.self.invariant in
       let e = round_tallies c.args.self.now.lists c.self.inside.tallies.items tallied c.args.round c.index.result.now c.requires.some c.requires.top c.index.ensures in
       c.len.ensures ∙ c.index.result.now.ok.0 ∙ ap length e ∙ length-tallies_of (list_of c.args.self.now.lists c.args.round)
 
 pub overflow_cast-result : goal.overflow_cast-result
 overflow_cast-result c =
     let e = count c in
-    let sound : IsSound c.args.self.now = subst IsSound c.self.view_is c.self.invariant.sound in
-    let s = count_fits c.args.self.now sound c.args.round c.requires.some c.requires.top in
+    let s = count_fits c.args.self.now c.args.round c.requires.some c.requires.top in
     omega arith
 
 pub returns : goal.returns

@@ -1,7 +1,7 @@
 use Rattle.std.proofs.Common.{◌≡◌, ℕ, List, map, subst, sym, Vec, Global}
 use Rattle.gs_model.specs.Classes.{IsClasses}
 use Rattle.gs_model.specs.Rows.{rows}
-use Rattle.gs_filter.specs.Filter.{IsSound}
+use Rattle.gs_filter.specs.Filter.{AreParents}
 use Rattle.gs_filter.specs.Tallies.{tallies_of}
 use Rattle.gs_filter.specs.Faults.{Agree, AllNumbered, AllTogether}
 use Rattle.gs_filter.proofs.ApartLaws.{classes_from}
@@ -15,10 +15,4 @@ module _ (c : goal.In_ok-copy_of) where
       (subst (λ (vs : List (Vec ℕ Global)). AllTogether (rows c.args.parents.now) (rows vs)) c.deref-3.ensures.value c.in_default-first_apart.ensures)
 
 pub invariant_of-result : goal.invariant_of-result
-invariant_of-result c = record {
-  sound = subst (λ (ps : List (List ℕ)). IsSound (record { parents = ps; lists = rows c.args.lists.items })) (sym c.in_ok-copy_of.ensures) (record { forest = c.requires; classes = are_classes c });
-  tallied = subst (λ (vs : List (Vec ℕ Global)). rows c.in_ok-tallies.tallies.items ≡ map tallies_of (rows vs)) c.deref-2.ensures.value c.in_ok-tallies.ensures.tallied;
-}
-
-pub returns-clause-classes : goal.returns-clause-classes
-returns-clause-classes c = subst (λ (ps : List (List ℕ)). IsClasses ps (rows c.args.lists.items)) (sym c.in_ok-copy_of.ensures) (are_classes c)
+invariant_of-result c = (subst AreParents (sym c.in_ok-copy_of.ensures) c.requires, (subst (λ (ps : List (List ℕ)). IsClasses ps (rows c.args.lists.items)) (sym c.in_ok-copy_of.ensures) (are_classes c), tt))

@@ -9,4 +9,4 @@ pub returns-clause-classes : goal.returns-clause-classes
 returns-clause-classes c =
     let f = frame_of c.args.self.now in
     let lists = ap (λ (k : Filter). k.lists) c.classes.ensures.held in
-    subst (λ (ls : ClassLists). IsClasses f.parents ls) lists (over f c.classes.result.now c.classes.ensures.parents c.rounds-rounds.ensures.sound)
+    subst (λ (ls : ClassLists). IsClasses f.parents ls) lists (over f c.classes.result.now c.classes.ensures.parents)

@@ -1,6 +1,6 @@
 use Rattle.std.proofs.Common.{◌≡◌, ◌-◌, ◌<◌, ◌≤◌, List, length, map, ap, sym, ◌∙◌, subst, arith}
 use Rattle.std.specs.Prelude.{◌==◌, All, filter}
-use Rattle.gs_filter.specs.Filter.{Filter, IsSound}
+use Rattle.gs_filter.specs.Filter.{Filter}
 use Rattle.gs_filter.proofs.ClassLaws.{greatest_within}
 use Rattle.gs_game.specs.Games.{game_of}
 use Rattle.gs_model.specs.Classes.{class_count, list_of}
@@ -16,13 +16,10 @@ use Rattle.gs_seq.specs.declared.pair.Pair.{Pair}
 use Rattle.gs_seq.proofs.Singles.{count_is, made_row, slight}
 use Rattle.gs_seq.proofs.SlotLaws.{over}
 use Rattle.gs_seq.proofs.form.Abstract.pairs.Goals as goal
-use Rattle.gs_seq.proofs.form.Abstract.pairs.Goals.{After-deals_of, After-rounds-rounds, After-signals}
+use Rattle.gs_seq.proofs.form.Abstract.pairs.Goals.{After-deals_of, After-classes-classes, After-signals}
 
 -- what holds of the classes, and of a round with no rows
-sound : (c : After-rounds-rounds) → IsSound c.args.self.now.lossless.now.classes.now
-sound c = subst IsSound c.classes.ensures.held c.rounds-rounds.ensures.sound
-
-parents : (c : After-rounds-rounds) → c.args.self.now.lossless.now.classes.now.parents ≡ (frame_of c.args.self.now).parents
+parents : (c : After-classes-classes) → c.args.self.now.lossless.now.classes.now.parents ≡ (frame_of c.args.self.now).parents
 parents c = subst (λ (x : Filter). x.parents ≡ (frame_of c.args.self.now).parents) c.classes.ensures.held c.classes.ensures.parents
 
 record IsLast (c : After-signals) : Type 0 where
@@ -47,21 +44,20 @@ deals_of-requires c =
     let cls = c.args.self.now.lossless.now.classes.now in
     let f = frame_of c.args.self.now in
     let l = is_last at.After-signals in
-    let e = parents at.After-rounds-rounds in
-    let s = sound at.After-rounds-rounds in
-    let k = over f cls e s in
+    let e = parents at.After-classes-classes in
+    let k = over f cls e in
     let some : 0 < last_round f = omega (arith, c.requires.some, l.last) in
     let most = greatest_within (list_of cls.lists (last_round f)) (k.numbered (last_round f) some (omega arith)) in
     let class : c.args.one ≤ class_count cls.lists (last_round f) = omega (arith, c.requires.class.1, ap (class_count cls.lists) l.last) in
     let same = ap (λ (x : Signals). last_count (rules_of x)) c.signals.ensures.held in
-    omega (arith, most, class, k.lengths (last_round f) some (omega arith), count_is g cls e s l.single, same, c.requires.class.0)
+    omega (arith, most, class, k.lengths (last_round f) some (omega arith), count_is g cls e l.single, same, c.requires.class.0)
 
 pub made-requires : goal.made-requires
 made-requires c =
     let at = goal.at.made-requires c in
     let lossless = c.args.self.now.lossless.now in
     subst (All IsSlight) (sym (made_of at.After-deals_of))
-    (slight lossless.signals.now.game.now lossless.classes.now (parents at.After-rounds-rounds) (sound at.After-rounds-rounds) (is_last at.After-signals).single (c.args.one - 1))
+    (slight lossless.signals.now.game.now lossless.classes.now (parents at.After-classes-classes) (is_last at.After-signals).single (c.args.one - 1))
 
 pub returns : goal.returns
 returns c =
@@ -72,7 +68,7 @@ returns c =
     let one = c.args.one in
     let l = is_last at.After-signals in
     let row : IsRow f lossless.classes.now.lists (last_round f) one (map deal_pair (filter (λ (d : Deal). d.one == one - 1) (deals (game_of g.game)))) =
-    made_row g lossless.classes.now (parents at.After-rounds-rounds) (sound at.After-rounds-rounds) l.single one (one - 1) (omega (arith, c.requires.class.0)) in
+    made_row g lossless.classes.now (parents at.After-classes-classes) l.single one (one - 1) (omega (arith, c.requires.class.0)) in
     let P : List Pair → Type 0 = IsRow f lossless.classes.now.lists c.args.round one in
     subst P (sym (c.made.ensures ∙ ap (map deal_pair) (made_of at.After-deals_of)))
     (subst (λ r. IsRow f lossless.classes.now.lists r one (map deal_pair (filter (λ (d : Deal). d.one == one - 1) (deals (game_of g.game))))) (sym l.last) row)

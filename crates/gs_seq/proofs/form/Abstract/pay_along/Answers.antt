@@ -3,7 +3,7 @@ use Rattle.std.specs.Prelude.{◌*ℤ◌}
 use borrow.Rule.Slice.PartMut.{mid_len, post_of}
 use Rattle.std.proofs.lemmas.List.{get_or_append_left, get_or-append_right, length-take-le}
 use Rattle.gs_boards.specs.Boards.{paid}
-use Rattle.gs_filter.specs.Filter.{Filter, IsSound}
+use Rattle.gs_filter.specs.Filter.{Filter}
 use Rattle.gs_game.specs.Games.{game_of}
 use Rattle.gs_lossless.specs.declared.checking.Lossless.{Lossless}
 use Rattle.gs_model.specs.Classes.{class_count}
@@ -19,26 +19,25 @@ use Rattle.gs_seq.proofs.AlongBoards.{by_deals, single_count}
 use Rattle.gs_seq.proofs.Forms.{given, one_or_two}
 use Rattle.gs_seq.proofs.form.Abstract.pay_along.Goals as goal
 
--- the classes of a form, by what its calls give
-held : (a : Abstract) (l : Lossless) (cls : Filter) → l ≡ a.lossless.now → cls ≡ l.classes.now → IsSound cls → cls.parents ≡ (frame_in l.signals.now.game.now).parents
-    → IsSound a.lossless.now.classes.now × (a.lossless.now.classes.now.parents ≡ (frame_of a).parents)
-held a l cls same is sound parents = (
-  subst IsSound (is ∙ ap (λ (x : Lossless). x.classes.now) same) sound,
-  subst (λ (x : Lossless). x.classes.now.parents ≡ (frame_in x.signals.now.game.now).parents) same (subst (λ (x : Filter). x.parents ≡ (frame_in l.signals.now.game.now).parents) is parents),
-)
+-- the parents of a form's classes, by what its calls give
+parents_of : (a : Abstract) (l : Lossless) (cls : Filter) → l ≡ a.lossless.now → cls ≡ l.classes.now → cls.parents ≡ (frame_in l.signals.now.game.now).parents
+    → a.lossless.now.classes.now.parents ≡ (frame_of a).parents
+parents_of a l cls same is parents =
+    subst (λ (x : Lossless). x.classes.now.parents ≡ (frame_in x.signals.now.game.now).parents) same
+    (subst (λ (x : Filter). x.parents ≡ (frame_in l.signals.now.game.now).parents) is parents)
 
 pub deal_sums-requires-clause-numbers : goal.deal_sums-requires-clause-numbers
 deal_sums-requires-clause-numbers c =
     let a = c.args.self.now in
-    let h = held a c.lossless.result.now c.classes.result.now c.lossless.ensures c.classes.ensures.held c.rounds-rounds.ensures.sound c.classes.ensures.parents in
-    let count = single_count a.lossless.now.signals.now.game.now a.lossless.now.classes.now h.1 h.0 c.requires.single in
+    let h = parents_of a c.lossless.result.now c.classes.result.now c.lossless.ensures c.classes.ensures.held c.classes.ensures.parents in
+    let count = single_count a.lossless.now.signals.now.game.now a.lossless.now.classes.now h c.requires.single in
     omega (arith, c.requires.order.count, count, ap (class_count (lists_of a)) c.requires.last, c.requires.wide)
 
 pub deal_sums-requires-clause-sums : goal.deal_sums-requires-clause-sums
 deal_sums-requires-clause-sums c =
     let a = c.args.self.now in
-    let h = held a c.lossless.result.now c.classes.result.now c.lossless.ensures c.classes.ensures.held c.rounds-rounds.ensures.sound c.classes.ensures.parents in
-    let count = single_count a.lossless.now.signals.now.game.now a.lossless.now.classes.now h.1 h.0 c.requires.single in
+    let h = parents_of a c.lossless.result.now c.classes.result.now c.lossless.ensures c.classes.ensures.held c.classes.ensures.parents in
+    let count = single_count a.lossless.now.signals.now.game.now a.lossless.now.classes.now h c.requires.single in
     let here = mid_len c.args.start (c.args.start + c.class_total.result) c.args.sums.now (omega (arith, c.class_total.ensures, c.requires.room)) in
     omega (arith, here, c.class_total.ensures, c.requires.order.count, count, ap (class_count (lists_of a)) c.requires.last)
 
@@ -53,8 +52,8 @@ returns-clause-here c = λ k class. (
     let start = c.args.start in
     let new : List ℤ = c.deal_sums.new.sums in
     let after = post_of start (start + c.class_total.result - start) sums in
-    let h = held a c.lossless.result.now c.classes.result.now c.lossless.ensures c.classes.ensures.held c.rounds-rounds.ensures.sound c.classes.ensures.parents in
-    let count = single_count g cls h.1 h.0 c.requires.single in
+    let h = parents_of a c.lossless.result.now c.classes.result.now c.lossless.ensures c.classes.ensures.held c.classes.ensures.parents in
+    let count = single_count g cls h c.requires.single in
     let last = ap (class_count (lists_of a)) c.requires.last in
     let here = mid_len start (start + c.class_total.result) sums (omega (arith, c.class_total.ensures, c.requires.room)) in
     let long : length new ≡ last_count (game_of g.game) = omega (arith, c.deal_sums.auto.sums, here, c.class_total.ensures, count, last) in
@@ -68,5 +67,5 @@ returns-clause-here c = λ k class. (
     ∙ get_or_append_left new after (pos 0) s (omega (arith, long, within))
     ∙ c.deal_sums.ensures s (omega (arith, within, c.requires.order.count))
     ∙ c.requires.order.sums c.args.numbers.now (paid c.pays_at-pays.result) s
-    ∙ by_deals g cls h.1 h.0 c.requires.single c.args.player z c.pays_at-pays.result c.args.numbers.now (one_or_two c.args.player c.requires.some c.requires.two)
+    ∙ by_deals g cls h c.requires.single c.args.player z c.pays_at-pays.result c.args.numbers.now (one_or_two c.args.player c.requires.some c.requires.two)
     (w.walked c.args.player c.requires.some c.requires.two) c.requires.end c.requires.last w.in_range w.classes same k class.0)
