@@ -1,13 +1,10 @@
 -- The signals of a board, one after another.
 use Rattle.std.proofs.Common.{◌≡◌, ◌+◌, ◌-◌, ◌<◌, ◌≤◌, ◌∙◌, ℕ, zero, suc, Bool, true, false, cond, List, [], ◌∷◌, ◌++◌, append_assoc, append-nil, get_or, map, sym, ap, arith, ⊎_elim}
-use Rattle.std.specs.Prelude.{filter}
-use Rattle.std.specs.List.{range_with_len}
 use Rattle.std.proofs.lemmas.Bool.{cases_lt}
-use Rattle.gs_model.specs.Game.{Game, round_count}
-use Rattle.gs_model.specs.Signals.{signal_at}
+use Rattle.std.specs.{Prelude.{filter}, List.{range_with_len}}
+use Rattle.gs_model.specs.{Game.{Game, round_count}, Signals.{signal_at}}
 use Rattle.gs_model.proofs.Basics.{range_step, range_end}
-use Rattle.gs_tree.specs.Boards.{AreBoards}
-use Rattle.gs_tree.specs.Walk.{last_count, shows_same}
+use Rattle.gs_tree.specs.{Boards.{AreBoards}, Walk.{last_count, shows_same}}
 use Rattle.gs_tree.proofs.Same.{public_alike}
 use Rattle.gs_alike.specs.Boards.{signals_on}
 

@@ -1,9 +1,7 @@
 -- Hands that are written one after another.
 use Rattle.std.proofs.Common.{◌≡◌, ◌+◌, ◌*◌, ◌<◌, ◌∙◌, ℕ, List, get_or, length, set, below_more, arith, length-set}
 use Rattle.std.proofs.lemmas.List.{get_or-set_other, get_or-set_same}
-use Rattle.gs_alike.specs.Boards.{levels_in, signals_in}
-use Rattle.gs_alike.specs.declared.board.Board.{Board}
-use Rattle.gs_alike.specs.declared.board.Seat.{Seat}
+use Rattle.gs_alike.specs.{Boards.{levels_in, signals_in}, declared.board.Board.{Board}, declared.board.Seat.{Seat}}
 
 -- the hand of the signal at a place of a board
 abbrev pub hand_of : Board → List ℕ → ℕ → ℕ

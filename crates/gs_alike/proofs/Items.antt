@@ -1,12 +1,10 @@
 -- The first items with their marks.
 use Rattle.std.proofs.Common.{◌≡◌, ◌⊎◌, ◌≤◌, ◌<◌, ◌+◌, ◌∙◌, ℕ, zero, suc, List, [], ◌∷◌, get_or, length, replicate, set, refl, sym, ap, subst, below_more, arith, ⊎_elim, length-set}
-use Rattle.std.proofs.lemmas.Bool.{cases_eq, cases_lt}
-use Rattle.std.proofs.lemmas.List.{get_or-replicate, get_or-set_other, get_or-set_same, length-replicate}
+use Rattle.std.proofs.{lemmas.Bool.{cases_eq, cases_lt}, lemmas.List.{get_or-replicate, get_or-set_other, get_or-set_same, length-replicate}}
 use Rattle.std.proofs.lemmas.List.Sorted.{IsPermutation-refl, IsPermutation-sym, IsPermutation-trans}
 use Rattle.gs_model.specs.Game.{Game}
 use Rattle.gs_tree.specs.Walk.{last_count}
-use Rattle.gs_alike.specs.Alike.{AreAlike, AreStandIns, seen}
-use Rattle.gs_alike.specs.Firsts.{AreFirsts, AreMarks}
+use Rattle.gs_alike.specs.{Alike.{AreAlike, AreStandIns, seen}, Firsts.{AreFirsts, AreMarks}}
 
 -- what stands at a place, whatever stands past the end
 pub get_or-in : (xs : List ℕ) (i x : ℕ) → x ≡ get_or xs i x → i < length xs → get_or xs i 0 ≡ x

@@ -1,16 +1,10 @@
 -- Kinds that are kept for rows of hands.
 use Rattle.std.proofs.Common.{◌≡◌, ◌∙◌, ℕ, Bool, true, false, cond, List, [], ◌∷◌, ◌++◌, Some, get_or, length, refl, sym, subst, arith}
-use Rattle.std.specs.Global.{Vec}
-use Rattle.std.specs.HashMap.{HashMap, get}
-use Rattle.std.specs.List.Sorted.{IsPermutation}
-use Rattle.std.specs.declared.hash.BuildHasherDefault.{BuildHasherDefault}
+use Rattle.std.proofs.{lemmas.Bool.Decides.{Decides-eqb}, lemmas.List.{get_or_append_left, get_or_push, length_push}}
+use Rattle.std.proofs.{lemmas.List.Sorted.{IsPermutation-sym, IsPermutation-trans}, lemmas.Slice.Eq.{slice_eq-Decides}}
+use Rattle.std.specs.{Global.{Vec}, HashMap.{HashMap, get}, List.Sorted.{IsPermutation}, declared.hash.BuildHasherDefault.{BuildHasherDefault}}
 use Rattle.std.specs.declared.hash.FoldHasher.{FoldHasher}
-use Rattle.std.proofs.lemmas.Bool.Decides.{Decides-eqb}
-use Rattle.std.proofs.lemmas.List.{get_or_append_left, get_or_push, length_push}
-use Rattle.std.proofs.lemmas.List.Sorted.{IsPermutation-sym, IsPermutation-trans}
-use Rattle.std.proofs.lemmas.Slice.Eq.{slice_eq-Decides}
-use Rattle.gs_alike.specs.Hands.{IsKindOf, KeepsKinds, row_eq}
-use Rattle.gs_alike.specs.declared.kinds.Kind.{Kind}
+use Rattle.gs_alike.specs.{Hands.{IsKindOf, KeepsKinds, row_eq}, declared.kinds.Kind.{Kind}}
 
 rows_same : (row other : Vec ℕ) → row_eq row other ≡ true → row.items ≡ other.items
 rows_same row other e = (slice_eq-Decides Decides-eqb row.items other.items (row_eq row other) refl).0 e

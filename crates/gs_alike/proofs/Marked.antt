@@ -2,24 +2,14 @@
 use Rattle.std.proofs.Common.{◌≡◌, ◌⊎◌, ◌≤◌, ◌<◌, ◌∙◌, ℕ, Bool, List, ◌++◌, get_or, length, replicate, set, take, drop, inl, inr, refl, sym, ap, subst, arith, ⊎_elim, length-set}
 use Rattle.std.proofs.lemmas.Bool.{cases_eq}
 use Rattle.std.proofs.lemmas.List.{append-nil, drop_all, get_or-replicate, get_or-set_other, get_or-set_same, get_or_default, get_or-map, length-map, length-replicate, take_all}
-use Rattle.std.specs.Global.{Vec}
-use Rattle.std.specs.HashMap.{HashMap}
-use Rattle.std.specs.List.{All}
-use Rattle.std.specs.List.Sorted.{IsPermutation}
-use Rattle.std.specs.declared.hash.BuildHasherDefault.{BuildHasherDefault}
-use Rattle.std.specs.declared.hash.FoldHasher.{FoldHasher}
 use Rattle.std.proofs.lemmas.List.Elements.{All-push}
+use Rattle.std.specs.{Global.{Vec}, HashMap.{HashMap}, List.{All}, List.Sorted.{IsPermutation}, declared.hash.BuildHasherDefault.{BuildHasherDefault}}
+use Rattle.std.specs.declared.hash.FoldHasher.{FoldHasher}
 use Rattle.gs_model.specs.Game.{Game}
 use Rattle.gs_tree.specs.Walk.{last_count}
-use Rattle.gs_alike.specs.Alike.{AreAlike}
-use Rattle.gs_alike.specs.Boards.{IsBoard, signals_in}
-use Rattle.gs_alike.specs.Firsts.{AreMarks}
-use Rattle.gs_alike.specs.Hands.{AreHands, HasMore, IsKindOf, IsMark, KeepsKinds}
-use Rattle.gs_alike.specs.declared.board.Board.{Board}
-use Rattle.gs_alike.specs.declared.board.Seat.{Seat}
-use Rattle.gs_alike.specs.declared.kinds.Kind.{Kind}
-use Rattle.gs_alike.proofs.Places.{mark_alike}
-use Rattle.gs_alike.proofs.Seats.{none}
+use Rattle.gs_alike.specs.{Alike.{AreAlike}, Boards.{IsBoard, signals_in}, Firsts.{AreMarks}, Hands.{AreHands, HasMore, IsKindOf, IsMark, KeepsKinds}}
+use Rattle.gs_alike.specs.{declared.board.Board.{Board}, declared.board.Seat.{Seat}, declared.kinds.Kind.{Kind}}
+use Rattle.gs_alike.proofs.{Places.{mark_alike}, Seats.{none}}
 
 -- marks that are as they were, or of a board
 pub record MayMark (signals hands others other_hands old marks : List ℕ) : Type 0 where

@@ -1,30 +1,15 @@
 -- Signals of one level and key, on boards with the same hands, are alike.
 use Rattle.std.proofs.Common.{◌≡◌, ◌+◌, ◌*◌, ◌/◌, ◌%◌, ◌<◌, ◌≤◌, ◌∙◌, ℕ, ℤ, zero, suc, Bool, true, false, cond, eqb, nat_lt, List, ◌∷◌, get_or, map, refl, sym, ap, subst, arith}
-use Rattle.std.specs.Prelude.{◌&&◌, filter, length}
-use Rattle.std.specs.List.{range_with_len}
-use Rattle.std.specs.List.Sorted.{IsPermutation}
-use Rattle.std.proofs.lemmas.List.{ext_get_or, get_or-map, length-map}
-use Rattle.std.proofs.lemmas.Nat.{div-mul-add, mod-mul-add}
+use Rattle.std.proofs.{lemmas.List.{ext_get_or, get_or-map, length-map}, lemmas.Nat.{div-mul-add, mod-mul-add}}
 use Rattle.std.proofs.lemmas.List.Sorted.{IsPermutation-map, IsPermutation-sym, IsPermutation-trans, sum_by-IsPermutation}
-use Rattle.gs_model.specs.Deals.{Deal}
-use Rattle.gs_model.specs.Game.{Game, round_count}
-use Rattle.gs_model.specs.Outcome.{outcome}
-use Rattle.gs_model.specs.Signals.{signal_at}
-use Rattle.gs_model.specs.ViewTree.{signal_strength}
+use Rattle.std.specs.{Prelude.{◌&&◌, filter, length}, List.{range_with_len}, List.Sorted.{IsPermutation}}
+use Rattle.gs_model.specs.{Deals.{Deal}, Game.{Game, round_count}, Outcome.{outcome}, Signals.{signal_at}, ViewTree.{signal_strength}}
 use Rattle.gs_model.proofs.Multisets.{permuted_from_times, times, times-cons}
-use Rattle.gs_tree.specs.Walk.{deal_at, last_count, shows_same}
-use Rattle.gs_tree.proofs.Pairs.{row_deals}
-use Rattle.gs_tree.proofs.Same.{public_self}
-use Rattle.gs_alike.specs.Alike.{AreAlike, seen, seen_by}
-use Rattle.gs_alike.specs.Boards.{IsBoard, level_of, levels_in, signals_in, signals_on}
-use Rattle.gs_alike.specs.Hands.{AreHands, IsMark}
-use Rattle.gs_alike.specs.declared.board.Board.{Board}
-use Rattle.gs_alike.specs.declared.board.Seat.{Seat}
-use Rattle.gs_alike.proofs.Ranks.{TellOutcomes, tell}
-use Rattle.gs_alike.proofs.Seats.{none}
-use Rattle.gs_alike.proofs.Taken.{but, taken_out}
-use Rattle.gs_tree.specs.Plain.{IsPlain}
-use Rattle.gs_tree.proofs.Weighed.{path_is, weight_is}
+use Rattle.gs_tree.specs.{Walk.{deal_at, last_count, shows_same}, Plain.{IsPlain}}
+use Rattle.gs_tree.proofs.{Pairs.{row_deals}, Same.{public_self}, Weighed.{path_is, weight_is}}
+use Rattle.gs_alike.specs.{Alike.{AreAlike, seen, seen_by}, Boards.{IsBoard, level_of, levels_in, signals_in, signals_on}, Hands.{AreHands, IsMark}}
+use Rattle.gs_alike.specs.{declared.board.Board.{Board}, declared.board.Seat.{Seat}}
+use Rattle.gs_alike.proofs.{Ranks.{TellOutcomes, tell}, Seats.{none}, Taken.{but, taken_out}}
 
 -- one element less of each
 cancelled : (x : ℕ) (xs ys : List ℕ) → IsPermutation (x ∷ xs) (x ∷ ys) → IsPermutation xs ys

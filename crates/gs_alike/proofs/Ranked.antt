@@ -1,11 +1,9 @@
 -- Seats whose levels are made their ranks, one after another.
 use Rattle.std.proofs.Common.{◌≡◌, ◌+◌, ◌<◌, ◌≤◌, ◌∙◌, ℕ, List, get_or, length, set, refl, sym, ap, subst, arith, below_more, length-set}
-use Rattle.std.specs.List.Sorted.{IsNonDecreasingBy}
 use Rattle.std.proofs.lemmas.List.{ext_get_or, get_or-map, get_or-set_other, get_or-set_same, length-map}
-use Rattle.gs_alike.specs.Boards.{levels_in, ranked, ranked_in, smaller}
-use Rattle.gs_alike.specs.declared.board.Seat.{Seat}
-use Rattle.gs_alike.proofs.Ranks.{IsRanked, ranked_above, ranked_again, ranked_none}
-use Rattle.gs_alike.proofs.Seats.{ascending_in, none}
+use Rattle.std.specs.List.Sorted.{IsNonDecreasingBy}
+use Rattle.gs_alike.specs.{Boards.{levels_in, ranked, ranked_in, smaller}, declared.board.Seat.{Seat}}
+use Rattle.gs_alike.proofs.{Ranks.{IsRanked, ranked_above, ranked_again, ranked_none}, Seats.{ascending_in, none}}
 
 -- the first seats have their ranks, the others their levels
 pub record AreRanked (seats : List Seat) (n : ℕ) (now : List Seat) (rank above : ℕ) : Type 0 where

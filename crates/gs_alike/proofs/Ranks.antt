@@ -1,21 +1,14 @@
 -- Ranks in ascending numbers; ranks on a board tell outcomes where each bonus is 1, and strengths do everywhere.
 use Rattle.std.proofs.Common.{◌≡◌, ◌+◌, ◌<◌, ◌≤◌, ◌∙◌, ℕ, ℤ, zero, suc, Bool, true, false, cond, nat_lt, List, [], ◌∷◌, get_or, length, map, pos, neg_ℤ, refl, sym, ap, subst, arith, ⊎_elim}
-use Rattle.std.specs.Prelude.{filter, slice_index}
-use Rattle.std.specs.List.{All, range_with_len}
-use Rattle.std.specs.List.Sorted.{IsNonDecreasing, IsPermutation}
-use Rattle.std.proofs.lemmas.Bool.{cases_lt, lt-ltb, ltb-true}
-use Rattle.std.proofs.lemmas.List.{get_or-map, length-map}
-use Rattle.std.proofs.lemmas.List.Sorted.{sum_by-IsPermutation}
+use Rattle.std.proofs.{lemmas.Bool.{cases_lt, lt-ltb, ltb-true}, lemmas.List.{get_or-map, length-map}, lemmas.List.Sorted.{sum_by-IsPermutation}}
 use Rattle.std.proofs.lemmas.List.Sums.{sum_by-cons}
-use Rattle.gs_model.specs.Game.{Game, Ranking, round_count}
-use Rattle.gs_model.specs.Outcome.{IsBonus, categories, category, outcome}
-use Rattle.gs_model.specs.Signals.{signal_at, signals}
+use Rattle.std.specs.{Prelude.{filter, slice_index}, List.{All, range_with_len}, List.Sorted.{IsNonDecreasing, IsPermutation}}
+use Rattle.gs_model.specs.{Game.{Game, Ranking, round_count}, Outcome.{IsBonus, categories, category, outcome}, Signals.{signal_at, signals}}
 use Rattle.gs_model.specs.ViewTree.{signal_outcome, signal_strength}
 use Rattle.gs_tree.specs.Walk.{last_count, shows_same}
 use Rattle.gs_tree.proofs.Same.{public_self}
 use Rattle.gs_alike.specs.Boards.{PaysOnce, level_of, smaller, strengths_of, strengths_on}
-use Rattle.gs_alike.proofs.Seats.{one_board, shown_back}
-use Rattle.gs_alike.proofs.Taken.{but, taken_out}
+use Rattle.gs_alike.proofs.{Seats.{one_board, shown_back}, Taken.{but, taken_out}}
 
 -- ---- counts of smaller numbers
 

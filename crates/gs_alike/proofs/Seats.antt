@@ -1,23 +1,16 @@
 -- The signals on a board.
 use Rattle.std.proofs.Common.{◌≡◌, ◌+◌, ◌<◌, ◌≤◌, ◌∙◌, ℕ, zero, suc, Bool, true, false, cond, eqb, nat_lt, List, [], ◌∷◌, get_or, length, map, refl, sym, ap, subst, arith}
-use Rattle.std.specs.Prelude.{filter, slice_index}
-use Rattle.std.specs.List.{All, range_with_len}
-use Rattle.std.specs.List.Sorted.{IsNonDecreasing, IsNonDecreasingBy, IsPermutation}
-use Rattle.std.proofs.lemmas.List.{get_or-map, length-map, map-id}
-use Rattle.std.proofs.lemmas.Simd.{map-map}
-use Rattle.std.proofs.lemmas.List.Elements.{All-cons, All-head, All-map, All-nil, All-tail, All-weaker}
-use Rattle.std.proofs.lemmas.List.FromFn.{length-range_with_len}
+use Rattle.std.proofs.{lemmas.List.{get_or-map, length-map, map-id}, lemmas.Simd.{map-map}}
+use Rattle.std.proofs.{lemmas.List.Elements.{All-cons, All-head, All-map, All-nil, All-tail, All-weaker}, lemmas.List.FromFn.{length-range_with_len}}
 use Rattle.std.proofs.lemmas.List.Sorted.{All-permutation, IsPermutation-map, length_permutation, sum_by-IsPermutation}
 use Rattle.std.proofs.lemmas.List.Sums.{count_by-le-length, length-filter}
-use Rattle.gs_model.specs.Game.{Game, round_count}
-use Rattle.gs_model.specs.Signals.{signal_at}
+use Rattle.std.specs.{Prelude.{filter, slice_index}, List.{All, range_with_len}, List.Sorted.{IsNonDecreasing, IsNonDecreasingBy, IsPermutation}}
+use Rattle.gs_model.specs.{Game.{Game, round_count}, Signals.{signal_at}}
 use Rattle.gs_model.proofs.Multisets.{times}
-use Rattle.gs_tree.specs.Plain.{IsPlain}
-use Rattle.gs_tree.specs.Walk.{last_count, shows_same}
+use Rattle.gs_tree.specs.{Plain.{IsPlain}, Walk.{last_count, shows_same}}
 use Rattle.gs_tree.proofs.Same.{public_alike, public_self}
 use Rattle.gs_alike.specs.Boards.{HaveSame, IsBoard, PaysOnce, level_of, levels_in, ranked, ranked_in, seat_of, signals_in, signals_on, smaller, strengths_of}
-use Rattle.gs_alike.specs.declared.board.Board.{Board}
-use Rattle.gs_alike.specs.declared.board.Seat.{Seat}
+use Rattle.gs_alike.specs.{declared.board.Board.{Board}, declared.board.Seat.{Seat}}
 
 tests_alike : (p q : ℕ → Bool) → ((k : ℕ) → p k ≡ q k) → (xs : List ℕ) → filter p xs ≡ filter q xs
 tests_alike p q h [] = refl

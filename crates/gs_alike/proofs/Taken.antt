@@ -1,10 +1,7 @@
 -- A place that a test takes, and the others that it takes.
 use Rattle.std.proofs.Common.{◌≡◌, ◌+◌, ◌<◌, ◌≤◌, ◌∙◌, ℕ, zero, suc, Bool, true, false, cond, eqb, List, [], ◌∷◌, map, refl, sym, ap, subst, arith, ⊎_elim}
-use Rattle.std.specs.Prelude.{◌&&◌, filter}
-use Rattle.std.specs.List.{range_with_len}
-use Rattle.std.specs.List.Sorted.{IsPermutation}
-use Rattle.std.proofs.lemmas.Bool.{cases_eq}
-use Rattle.std.proofs.lemmas.List.Sorted.{IsPermutation-cons, IsPermutation-middle, IsPermutation-refl, IsPermutation-trans}
+use Rattle.std.proofs.{lemmas.Bool.{cases_eq}, lemmas.List.Sorted.{IsPermutation-cons, IsPermutation-middle, IsPermutation-refl, IsPermutation-trans}}
+use Rattle.std.specs.{Prelude.{◌&&◌, filter}, List.{range_with_len}, List.Sorted.{IsPermutation}}
 
 -- a test but for one place
 abbrev pub but : (ℕ → Bool) → ℕ → ℕ → Bool

@@ -1,9 +1,6 @@
 -- Last-round signals that see the same deals, up to a key for each of the opponent's signals.
-use Rattle.std.specs.Prelude.{ℕ, ℤ, ◌≡◌, ◌<◌, ◌≤◌, ◌==◌, List, filter, length, map, slice_index}
-use Rattle.std.specs.List.Sorted.{IsPermutation}
-use Rattle.gs_model.specs.Deals.{Deal, deals, path_weight}
-use Rattle.gs_model.specs.Game.{Game, round_count}
-use Rattle.gs_model.specs.Signals.{signal_at}
+use Rattle.std.specs.{Prelude.{ℕ, ℤ, ◌≡◌, ◌<◌, ◌≤◌, ◌==◌, List, filter, length, map, slice_index}, List.Sorted.{IsPermutation}}
+use Rattle.gs_model.specs.{Deals.{Deal, deals, path_weight}, Game.{Game, round_count}, Signals.{signal_at}}
 use Rattle.gs_tree.specs.Walk.{last_count}
 
 -- a deal as player 1 sees it: the key of player 2's signal, the outcome and the weight

@@ -1,14 +1,8 @@
 -- Boards: the last-round signals that show the same public cards, and their levels.
-use Rattle.std.specs.Prelude.{ℕ, ◌≡◌, ◌<◌, Bool, true, List, cond, count_by, filter, length, map, nat_eq, nat_lt, slice_index}
-use Rattle.std.specs.List.{All, range_with_len}
-use Rattle.gs_model.specs.Game.{Game, round_count}
-use Rattle.gs_model.specs.Outcome.{category}
-use Rattle.gs_model.specs.Signals.{signal_at, signals}
-use Rattle.gs_model.specs.ViewTree.{signal_strength}
-use Rattle.gs_tree.specs.Plain.{IsPlain}
-use Rattle.gs_tree.specs.Walk.{last_count, shows_same}
-use Rattle.gs_alike.specs.declared.board.Board.{Board}
-use Rattle.gs_alike.specs.declared.board.Seat.{Seat}
+use Rattle.std.specs.{Prelude.{ℕ, ◌≡◌, ◌<◌, Bool, true, List, cond, count_by, filter, length, map, nat_eq, nat_lt, slice_index}, List.{All, range_with_len}}
+use Rattle.gs_model.specs.{Game.{Game, round_count}, Outcome.{category}, Signals.{signal_at, signals}, ViewTree.{signal_strength}}
+use Rattle.gs_tree.specs.{Plain.{IsPlain}, Walk.{last_count, shows_same}}
+use Rattle.gs_alike.specs.{declared.board.Board.{Board}, declared.board.Seat.{Seat}}
 
 -- the last-round signals with the same public cards as signal `i`
 abbrev pub signals_on : Game → ℕ → List ℕ

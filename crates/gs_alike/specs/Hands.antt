@@ -1,14 +1,9 @@
 -- Kinds of boards: boards of one kind have the same hands.
-use Rattle.std.specs.Prelude.{ℕ, ◌≡◌, ◌<◌, ◌+◌, ◌*◌, ◌++◌, ◌∷◌, [], Bool, List, Some, get_or, length, nat_eq, slice_index}
-use Rattle.std.specs.Global.{Vec}
-use Rattle.std.specs.HashMap.{HashMap, get}
-use Rattle.std.specs.List.Sorted.{IsPermutation}
-use Rattle.std.specs.declared.hash.BuildHasherDefault.{BuildHasherDefault}
+use Rattle.std.specs.{Prelude.{ℕ, ◌≡◌, ◌<◌, ◌+◌, ◌*◌, ◌++◌, ◌∷◌, [], Bool, List, Some, get_or, length, nat_eq, slice_index}, Global.{Vec}}
+use Rattle.std.specs.{HashMap.{HashMap, get}, List.Sorted.{IsPermutation}, declared.hash.BuildHasherDefault.{BuildHasherDefault}}
 use Rattle.std.specs.declared.hash.FoldHasher.{FoldHasher}
 use lib.Pointwise.{pointwise}
-use Rattle.gs_alike.specs.Boards.{levels_in, signals_in}
-use Rattle.gs_alike.specs.declared.board.Board.{Board}
-use Rattle.gs_alike.specs.declared.kinds.Kind.{Kind}
+use Rattle.gs_alike.specs.{Boards.{levels_in, signals_in}, declared.board.Board.{Board}, declared.kinds.Kind.{Kind}}
 
 -- for each signal of a board its hand: a number made of its level and its key
 pub record AreHands (board : Board) (keys hands : List ℕ) : Type 0 where

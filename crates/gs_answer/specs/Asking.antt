@@ -1,18 +1,13 @@
 -- What a task says of an input: for each task the definition of its command.
 use Rattle.std.specs.Prelude.{ℕ, List, Bool, true, false}
 use Rattle.gs_answer.specs.Making.{Makes}
-use Rattle.gs_certify.specs.Certificates.{Certifies}
-use Rattle.gs_certify.specs.Verifying.{Verifies}
+use Rattle.gs_certify.specs.{Certificates.{Certifies}, Verifying.{Verifies}}
 use Rattle.gs_compare.specs.Commands.{Duels, Judges}
 use Rattle.gs_confirm.specs.Commands.{Evaluates, Queries, Upgrades}
-use Rattle.gs_group.specs.Checking.{Checks}
-use Rattle.gs_group.specs.Shrinking.{Shrinks}
+use Rattle.gs_group.specs.{Checking.{Checks}, Shrinking.{Shrinks}}
 use Rattle.gs_reply.specs.Replies.{Reply}
 use Rattle.gs_words.specs.Tasks.{Task, Shrink, Check, Make, Evaluate, Query, Upgrade, Certify, Verify, Solve, Play, Path, Judge, Duel}
-use Rattle.gs_settle.specs.Paths.{ShowsPath}
-use Rattle.gs_settle.specs.Playing.{Plays}
-use Rattle.gs_settle.specs.Settling.{Settles}
-use Rattle.gs_settle.specs.Solving.{Solves}
+use Rattle.gs_settle.specs.{Paths.{ShowsPath}, Playing.{Plays}, Settling.{Settles}, Solving.{Solves}}
 
 -- whether a task reads an input: all do but `make`
 abbrev pub reads : Task → Bool

@@ -1,8 +1,7 @@
 -- What `make` says.
 use Rattle.std.specs.Prelude.{◌≡◌, ℕ, Bool, true, false}
 use Rattle.gs_group.specs.Shrinking.{Shrinks}
-use Rattle.gs_made.specs.Made.{made_game}
-use Rattle.gs_made.specs.declared.kind.Kind.{Kind}
+use Rattle.gs_made.specs.{Made.{made_game}, declared.kind.Kind.{Kind}}
 use Rattle.gs_reply.specs.Replies.{Reply, Prints}
 
 -- the reply prints the file of the made game, valid or not; or it is what `shrink --summary` says of this file

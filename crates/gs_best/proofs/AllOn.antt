@@ -1,21 +1,13 @@
 -- Weights of the plan that puts all on given moves, class by class.
 use Rattle.std.proofs.Common.{◌≡◌, ℕ, ◌+◌, ◌-◌, ◌*◌, ◌<◌, ◌≤◌, cond, List, length, get_or, set, refl, sym, ap, ◌∙◌, subst, arith, ⊎_elim, get_or-set_other, get_or-set_same}
-use Rattle.std.proofs.Math.Nat.{mul-le-mul_right}
+use Rattle.std.proofs.{Math.Nat.{mul-le-mul_right}, lemmas.Bool.{cases_eq}, lemmas.Bool.Decides.{Decides-eqb}}
 use Rattle.std.specs.Prelude.{◌==◌}
-use Rattle.std.proofs.lemmas.Bool.{cases_eq}
-use Rattle.std.proofs.lemmas.Bool.Decides.{Decides-eqb}
-use Rattle.gs_model.specs.BestAnswers.{IsBestValues, IsFirstBestPlan, Values}
-use Rattle.gs_model.specs.Classes.{ClassLists, IsClass, IsClasses, first_member}
-use Rattle.gs_model.specs.Frame.{Frame, last_step, move_count, player_at, point_count, round_of}
-use Rattle.gs_model.specs.FrameFacts.{InRange, IsWalked}
-use Rattle.gs_model.specs.Plans.{Plan, lift, number_before}
-use Rattle.gs_model.specs.Positions.{at_point}
-use Rattle.gs_model.proofs.PlanLaws.{first_best_is_plan}
-use Rattle.gs_model.proofs.Basics.{not_eq}
-use Rattle.gs_seq.specs.Firsts.{Agree, IsClear}
-use Rattle.gs_seq.specs.Slots.{IsPlan, plan_of, slot_count, slot_of, slots_before}
-use Rattle.gs_seq.proofs.Firsts.{came_kept, slots_own, slot_under, agree_less}
-use Rattle.gs_seq.proofs.SlotLaws.{slots_le}
+use Rattle.gs_model.specs.{BestAnswers.{IsBestValues, IsFirstBestPlan, Values}, Classes.{ClassLists, IsClass, IsClasses, first_member}}
+use Rattle.gs_model.specs.{Frame.{Frame, last_step, move_count, player_at, point_count, round_of}, FrameFacts.{InRange, IsWalked}}
+use Rattle.gs_model.specs.{Plans.{Plan, lift, number_before}, Positions.{at_point}}
+use Rattle.gs_model.proofs.{PlanLaws.{first_best_is_plan}, Basics.{not_eq}}
+use Rattle.gs_seq.specs.{Firsts.{Agree, IsClear}, Slots.{IsPlan, plan_of, slot_count, slot_of, slots_before}}
+use Rattle.gs_seq.proofs.{Firsts.{came_kept, slots_own, slot_under, agree_less}, SlotLaws.{slots_le}}
 use Rattle.gs_best.specs.Puts.{ArePutBefore, IsPutAt}
 
 module _ (f : Frame) (r : InRange f) (lists : ClassLists) (k : IsClasses f.parents lists) (player : ℕ) (w : IsWalked f player) (move : ℕ → ℕ

@@ -1,17 +1,12 @@
 -- One step of the induction backwards: the values of a point from those of all later points.
 use Rattle.std.proofs.Common.{◌≡◌, ℕ, ◌+◌, ◌<◌, ◌≤◌, List, cond, refl, ap, arith}
 use Rattle.std.specs.Prelude.{◌==◌, ℤ, pos}
-use Rattle.gs_model.specs.BestAnswers.{IsBestValues, Values, class_worth}
-use Rattle.gs_model.specs.Classes.{ClassLists, IsClass, IsClasses, class_of, first_member}
-use Rattle.gs_model.specs.Frame.{Frame, ancestor, leads_to, move_count, point_count, round_of, signal_count}
-use Rattle.gs_model.specs.FrameFacts.{IsFrom, IsWalked}
-use Rattle.gs_model.specs.Plans.{Plan}
+use Rattle.gs_model.specs.{BestAnswers.{IsBestValues, Values, class_worth}, Classes.{ClassLists, IsClass, IsClasses, class_of, first_member}}
+use Rattle.gs_model.specs.{Frame.{Frame, ancestor, leads_to, move_count, point_count, round_of, signal_count}, FrameFacts.{IsFrom, IsWalked}, Plans.{Plan}}
 use Rattle.gs_model.specs.Positions.{Target, at_end, at_point}
 use Rattle.gs_model.proofs.Gather.{class_in}
-use Rattle.gs_best.specs.Rows.{IsCopied, IsMerged}
-use Rattle.gs_best.specs.Tables.{AreFirstBy, IsBestFrom, IsFollowedBy, classes_at, moves_of, start_of, table_of}
-use Rattle.gs_best.proofs.Ranges.{sum_same}
-use Rattle.gs_best.proofs.Stepping.{best_back, copied_here, kept_later, later_on}
+use Rattle.gs_best.specs.{Rows.{IsCopied, IsMerged}, Tables.{AreFirstBy, IsBestFrom, IsFollowedBy, classes_at, moves_of, start_of, table_of}}
+use Rattle.gs_best.proofs.{Ranges.{sum_same}, Stepping.{best_back, copied_here, kept_later, later_on}}
 
 -- best values as two parts, those of the moves and that these are the first of greatest worth
 followed_by : (f : Frame) (lists : ClassLists) (player : ℕ) (v : Values) (move : ℕ → ℕ → ℕ) (from : ℕ) → IsBestFrom f lists player v move from

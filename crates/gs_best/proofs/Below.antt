@@ -1,17 +1,11 @@
 -- How many ends lie below a position: at a point as many as below its moves together, and no more than there are.
 use Rattle.std.proofs.Common.{◌≡◌, ℕ, zero, suc, ◌+◌, ◌-◌, ◌<◌, ◌≤◌, cond, List, [], ◌∷◌, ◌++◌, length, map, refl, sym, ap, ◌∙◌, arith, sum_by, eqb, ⊎_elim}
-use Rattle.std.specs.Prelude.{flat_map, nat_lt}
-use Rattle.std.specs.List.{range_with_len}
-use Rattle.std.proofs.lemmas.Bool.{cases_eq, cases_lt, lt-ltb, le-ltb}
-use Rattle.std.proofs.lemmas.Bool.Decides.{Decides-eqb}
-use Rattle.std.proofs.lemmas.List.FromFn.{length-range_with_len}
-use Rattle.std.proofs.lemmas.List.Sorted.{sum_by-IsPermutation}
-use Rattle.std.proofs.lemmas.List.Sums.{sum_by-append, sum_by-cons}
+use Rattle.std.proofs.{lemmas.Bool.{cases_eq, cases_lt, lt-ltb, le-ltb}, lemmas.Bool.Decides.{Decides-eqb}, lemmas.List.FromFn.{length-range_with_len}}
+use Rattle.std.proofs.{lemmas.List.Sorted.{sum_by-IsPermutation}, lemmas.List.Sums.{sum_by-append, sum_by-cons}}
+use Rattle.std.specs.{Prelude.{flat_map, nat_lt}, List.{range_with_len}}
 use Rattle.gs_model.specs.Frame.{Frame, choices_at, end_count, leads_to, move_count, point_count}
-use Rattle.gs_model.specs.FrameFacts.{IsFrom, IsInside, IsWalked, ends_of, next_of, points_of}
-use Rattle.gs_model.specs.Positions.{Target, at_end, at_point}
-use Rattle.gs_model.proofs.FirstBest.{one_choice, sum-same_range}
-use Rattle.gs_model.proofs.Basics.{not_eq, sum_by-map}
+use Rattle.gs_model.specs.{FrameFacts.{IsFrom, IsInside, IsWalked, ends_of, next_of, points_of}, Positions.{Target, at_end, at_point}}
+use Rattle.gs_model.proofs.{FirstBest.{one_choice, sum-same_range}, Basics.{not_eq, sum_by-map}}
 use Rattle.gs_seq.proofs.SlotLaws.{sum_range_more}
 
 -- ---- sums over ranges

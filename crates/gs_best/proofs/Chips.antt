@@ -1,15 +1,10 @@
 -- What ends pay is at most 4,096 chips, and all deals weigh at most 2^26.
-use Rattle.std.proofs.Common.{◌≡◌, ℕ, ◌*◌, ◌<◌, ◌≤◌, length, get_or, arith, true, false, cond, None}
-use Rattle.std.specs.Prelude.{◌==◌, ℤ, pos, neg_ℤ, unsigned_abs}
-use Rattle.std.proofs.Math.Nat.{mul-le-mul_left}
+use Rattle.std.proofs.{Common.{◌≡◌, ℕ, ◌*◌, ◌<◌, ◌≤◌, length, get_or, arith, true, false, cond, None}, Math.Nat.{mul-le-mul_left}}
 use Rattle.std.proofs.lemmas.Int.{ints, unsigned_abs-mul}
+use Rattle.std.specs.Prelude.{◌==◌, ℤ, pos, neg_ℤ, unsigned_abs}
 use borrow.Author.Differences.{abs_is}
-use Rattle.gs_game.specs.Games.{game_of}
-use Rattle.gs_game.specs.Money.{most_in}
-use Rattle.gs_model.specs.Numbering.{greatest}
-use Rattle.gs_game.specs.declared.valid.ValidGame.{ValidGame}
-use Rattle.gs_model.specs.Deals.{Deal}
-use Rattle.gs_model.specs.Frame.{Frame, end_at, end_count, payoff_to, total_weight, trees_of}
+use Rattle.gs_game.specs.{Games.{game_of}, Money.{most_in}, declared.valid.ValidGame.{ValidGame}}
+use Rattle.gs_model.specs.{Numbering.{greatest}, Deals.{Deal}, Frame.{Frame, end_at, end_count, payoff_to, total_weight, trees_of}}
 use Rattle.gs_model.specs.Positions.{End, EndKind, Folded1, Folded2, Show, end_payoff}
 use Rattle.gs_model.proofs.Basics.{product_le}
 use Rattle.gs_seq.specs.Games.{frame_in}

@@ -1,10 +1,7 @@
 -- Rows written one number after another.
 use Rattle.std.proofs.Common.{◌≡◌, ℕ, ◌+◌, ◌-◌, ◌<◌, ◌≤◌, List, [], ◌∷◌, ◌++◌, length, get_or, take, zero, suc, refl, sym, ap, ◌∙◌, arith, ⊎_elim}
+use Rattle.std.proofs.{Math.ListN.{set}, lemmas.Bool.{cases_eq}, lemmas.Grind.{get_or-set_at}, lemmas.List.{get_or-set_other}}
 use Rattle.std.specs.Prelude.{ℤ, pos, ◌*ℤ◌}
-use Rattle.std.proofs.Math.ListN.{set}
-use Rattle.std.proofs.lemmas.Bool.{cases_eq}
-use Rattle.std.proofs.lemmas.Grind.{get_or-set_at}
-use Rattle.std.proofs.lemmas.List.{get_or-set_other}
 
 -- one more number
 pub row_more : {A : Type 0} (F : ℕ → A) (row : List A) (i : ℕ) (v d : A) → i < length row → v ≡ F i → ((k : ℕ) → k < i → get_or row k d ≡ F k) → (k : ℕ)

@@ -1,29 +1,13 @@
 -- What a game in sequence form says of its frame.
-use Rattle.std.proofs.Common.{◌≡◌, ℕ, ◌<◌, ◌≤◌, List, length, map, get_or, sym, ap, ◌∙◌, arith}
-use Rattle.std.proofs.lemmas.List.{get_or-map, length-map}
-use Rattle.gs_game.specs.Games.{game_of}
-use Rattle.gs_game.specs.Seen.{arrow_of, end_of, own_point, point_of, target_of, OwnPoint}
-use Rattle.gs_game.specs.declared.positions.Arrow.{Arrow as StoredArrow}
-use Rattle.gs_game.specs.declared.positions.End.{End as StoredEnd}
-use Rattle.gs_game.specs.declared.positions.Point.{Point as StoredPoint}
-use Rattle.gs_game.specs.declared.valid.ValidGame.{ValidGame}
-use Rattle.gs_model.specs.Classes.{IsClasses, class_count}
-use Rattle.gs_model.specs.Frame.{end_count, last_round, leads_to, move_count, point, point_count, round_of, signal_count}
-use Rattle.gs_model.specs.FrameFacts.{InRange, IsWalked}
-use Rattle.gs_model.specs.Lossless.{IsLossless}
-use Rattle.gs_model.specs.Positions.{Arrow, End, Show, at_end}
-use Rattle.gs_model.specs.Game.{round_count}
-use Rattle.gs_model.specs.Signals.{signals}
-use Rattle.gs_model.proofs.Ranges.{in_range, signal_count_is}
-use Rattle.gs_model.proofs.Walked.{last_round_of}
-use Rattle.gs_tree.specs.Trees.{rules_of}
-use Rattle.gs_tree.specs.declared.signals.Signals.{Signals}
-use Rattle.gs_seq.specs.Abstracts.{frame_of, lists_of}
-use Rattle.gs_seq.specs.Games.{frame_in}
-use Rattle.gs_seq.specs.declared.form.Abstract.{Abstract}
-use Rattle.gs_seq.proofs.FewMoves.{AreFewMoves, moves_few}
-use Rattle.gs_seq.proofs.Points.{Reads, few, length-points, playable, point_reads, walked}
-use Rattle.gs_seq.proofs.SlotLaws.{class_few, over}
+use Rattle.std.proofs.{Common.{◌≡◌, ℕ, ◌<◌, ◌≤◌, List, length, map, get_or, sym, ap, ◌∙◌, arith}, lemmas.List.{get_or-map, length-map}}
+use Rattle.gs_game.specs.{Games.{game_of}, Seen.{arrow_of, end_of, own_point, point_of, target_of, OwnPoint}, declared.positions.Arrow.{Arrow as StoredArrow}}
+use Rattle.gs_game.specs.{declared.positions.End.{End as StoredEnd}, declared.positions.Point.{Point as StoredPoint}, declared.valid.ValidGame.{ValidGame}}
+use Rattle.gs_model.specs.{Classes.{IsClasses, class_count}, Frame.{end_count, last_round, leads_to, move_count, point, point_count, round_of, signal_count}}
+use Rattle.gs_model.specs.{FrameFacts.{InRange, IsWalked}, Lossless.{IsLossless}, Positions.{Arrow, End, Show, at_end}, Game.{round_count}, Signals.{signals}}
+use Rattle.gs_model.proofs.{Ranges.{in_range, signal_count_is}, Walked.{last_round_of}}
+use Rattle.gs_tree.specs.{Trees.{rules_of}, declared.signals.Signals.{Signals}}
+use Rattle.gs_seq.specs.{Abstracts.{frame_of, lists_of}, Games.{frame_in}, declared.form.Abstract.{Abstract}}
+use Rattle.gs_seq.proofs.{FewMoves.{AreFewMoves, moves_few}, Points.{Reads, few, length-points, playable, point_reads, walked}, SlotLaws.{class_few, over}}
 use Rattle.gs_best.specs.Forms.{game_in}
 use Rattle.gs_best.proofs.Chips.{IsModest, modest}
 

@@ -1,13 +1,10 @@
 -- The lower part of a fraction.
-use Rattle.std.proofs.Common.{◌≡◌, ℕ, ◌<◌, ◌&&◌, ◌*◌, sym, ap, ◌∙◌, arith}
+use Rattle.std.proofs.{Common.{◌≡◌, ℕ, ◌<◌, ◌&&◌, ◌*◌, sym, ap, ◌∙◌, arith}, lemmas.Bool.{and_parts, false≢true}, lemmas.Int.{ints}}
 use Rattle.std.specs.Prelude.{ℤ, pos, ◌+ℤ◌, ◌*ℤ◌, negsuc, unsigned_abs, IsTrue, nat_lt}
-use Rattle.std.proofs.lemmas.Bool.{and_parts, false≢true}
-use Rattle.std.proofs.lemmas.Int.{ints}
 use borrow.Author.Differences.{abs_is, product_is}
 use borrow.Author.Tests.{ltb-true}
-use Rattle.gs_frac.specs.declared.value.Fraction.{Fraction}
+use Rattle.gs_frac.specs.{declared.value.Fraction.{Fraction}, Texts.{is_fraction, limit}}
 use Rattle.gs_best.specs.Judged.{IsOver, parts}
-use Rattle.gs_frac.specs.Texts.{is_fraction, limit}
 
 pub record IsBottom (den : ℤ) : Type 0 where
   pub some : 0 < unsigned_abs den

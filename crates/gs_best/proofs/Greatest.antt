@@ -1,15 +1,8 @@
 -- The first greatest and the sum of some numbers, one more at a time; and so for the worths of a point's moves, class by class.
 use Rattle.std.proofs.Common.{◌≡◌, ℕ, ◌+◌, ◌<◌, ◌≤◌, ◌^◌, Bool, true, false, cond, List, get_or, ◌-◌, refl, sym, ap, ◌∙◌, subst, arith, true≢false, ⊎_elim}
-use Rattle.std.specs.Prelude.{◌==◌, ◌||◌, ℤ, pos, ◌+ℤ◌, ◌≤ℤ◌, ◌<ℤ◌, int_lt, unsigned_abs}
-use Rattle.std.proofs.lemmas.Bool.{cases_eq}
-use Rattle.std.proofs.lemmas.Bool.Decides.{Decides-eqb}
-use Rattle.std.proofs.lemmas.Int.{ints}
-use Rattle.std.specs.List.{range_with_len}
-use Rattle.std.proofs.Math.IntN.{+ℤ_idl}
-use Rattle.gs_model.specs.Classes.{ClassLists, IsClass, class_count}
-use Rattle.gs_model.specs.Frame.{Frame, round_of}
-use Rattle.gs_model.specs.Positions.{at_point}
-use Rattle.gs_model.specs.Sums.{sum_z}
+use Rattle.std.proofs.{lemmas.Bool.{cases_eq}, lemmas.Bool.Decides.{Decides-eqb}, lemmas.Int.{ints}, Math.IntN.{+ℤ_idl}}
+use Rattle.std.specs.{Prelude.{◌==◌, ◌||◌, ℤ, pos, ◌+ℤ◌, ◌≤ℤ◌, ◌<ℤ◌, int_lt, unsigned_abs}, List.{range_with_len}}
+use Rattle.gs_model.specs.{Classes.{ClassLists, IsClass, class_count}, Frame.{Frame, round_of}, Positions.{at_point}, Sums.{sum_z}}
 use Rattle.gs_model.proofs.Sparse.{abs_sum}
 use Rattle.gs_best.specs.Rows.{AreAdded, AreGreatest, AreRaised, AreSums, AreWorths, IsFirstGreatest, Worths, raises}
 use Rattle.gs_seq.proofs.EndTotals.{range_more}

@@ -1,16 +1,12 @@
 -- Choices listed point by point.
 use Rattle.std.proofs.Common.{◌≡◌, ℕ, ◌+◌, ◌-◌, ◌<◌, ◌≤◌, ◌++◌, cond, List, drop, length, take, get_or, sym, ap, ◌∙◌, subst, arith, ⊎_elim}
-use Rattle.std.specs.Prelude.{◌==◌}
-use Rattle.std.proofs.lemmas.Bool.{cases_eq}
-use Rattle.std.proofs.lemmas.Bool.Decides.{Decides-eqb}
+use Rattle.std.proofs.{lemmas.Bool.{cases_eq}, lemmas.Bool.Decides.{Decides-eqb}}
 use Rattle.std.proofs.lemmas.List.{get_or-append-add, get_or-drop, get_or-take, get_or_append_left, length-append, length-drop, length-take-le}
-use Rattle.gs_model.specs.Classes.{ClassLists, IsClass}
-use Rattle.gs_model.specs.Frame.{Frame, player_at, round_of}
-use Rattle.gs_model.specs.Positions.{at_point}
+use Rattle.std.specs.Prelude.{◌==◌}
+use Rattle.gs_model.specs.{Classes.{ClassLists, IsClass}, Frame.{Frame, player_at, round_of}, Positions.{at_point}}
 use Rattle.gs_model.proofs.Basics.{not_eq}
 use Rattle.gs_seq.proofs.SlotLaws.{sum_range_le, sum_range_more}
-use Rattle.gs_best.specs.Answers.{choices_before}
-use Rattle.gs_best.specs.Tables.{classes_at, moves_of, start_of}
+use Rattle.gs_best.specs.{Answers.{choices_before}, Tables.{classes_at, moves_of, start_of}}
 
 module _ (f : Frame) (lists : ClassLists) (player : ℕ) where
   abbrev choices_at_point : ℕ → ℕ

@@ -1,14 +1,8 @@
 -- What the first best plan is paid, of both players.
-use Rattle.std.proofs.Common.{◌≡◌, ℕ, zero, suc, ◌<◌, ◌≤◌, refl, ap, ◌∙◌, arith}
+use Rattle.std.proofs.{Common.{◌≡◌, ℕ, zero, suc, ◌<◌, ◌≤◌, refl, ap, ◌∙◌, arith}, lemmas.Int.{ints}}
 use Rattle.std.specs.Prelude.{ℤ, pos, neg_ℤ, ◌*ℤ◌, ◌≤ℤ◌}
-use Rattle.std.proofs.lemmas.Int.{ints}
-use Rattle.gs_model.specs.BestAnswers.{IsFirstBestPlan, spread, start_sum}
-use Rattle.gs_model.specs.Classes.{ClassLists, IsClasses}
-use Rattle.gs_model.specs.Frame.{Frame}
-use Rattle.gs_model.specs.FrameFacts.{InRange, IsExchanged, IsWalked}
-use Rattle.gs_model.specs.Lossless.{IsLossless}
-use Rattle.gs_model.specs.Payoff.{raw_payoff}
-use Rattle.gs_model.specs.Plans.{Plan, lift}
+use Rattle.gs_model.specs.{BestAnswers.{IsFirstBestPlan, spread, start_sum}, Classes.{ClassLists, IsClasses}, Frame.{Frame}}
+use Rattle.gs_model.specs.{FrameFacts.{InRange, IsExchanged, IsWalked}, Lossless.{IsLossless}, Payoff.{raw_payoff}, Plans.{Plan, lift}}
 use Rattle.gs_model.proofs.BestPaid.{first_best_paid, second_best_paid}
 use Rattle.gs_best.specs.Answers.{IsPaidMost}
 

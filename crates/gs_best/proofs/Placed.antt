@@ -1,8 +1,7 @@
 -- Rows that stand in a list one behind another, each with a width of its own: where they start, and that they lie within the list.
-use Rattle.std.proofs.Common.{◌≡◌, ℕ, zero, suc, ◌+◌, ◌-◌, ◌<◌, ◌≤◌, List, length, get_or, ap, ◌∙◌, subst, arith, ⊎_elim, sum_by}
-use Rattle.std.specs.List.{range_with_len}
-use Rattle.std.proofs.lemmas.Bool.{cases_lt}
+use Rattle.std.proofs.{Common.{◌≡◌, ℕ, zero, suc, ◌+◌, ◌-◌, ◌<◌, ◌≤◌, List, length, get_or, ap, ◌∙◌, subst, arith, ⊎_elim, sum_by}, lemmas.Bool.{cases_lt}}
 use Rattle.std.proofs.lemmas.List.{get_or_read}
+use Rattle.std.specs.List.{range_with_len}
 use Rattle.gs_seq.proofs.SlotLaws.{sum_range_le, sum_range_more}
 
 -- behind all rows before it

@@ -1,15 +1,10 @@
 -- Sums over ranges and over runs of descendants.
-use Rattle.std.proofs.Common.{◌≡◌, ℕ, zero, suc, ◌+◌, ◌-◌, ◌*◌, ◌<◌, ◌≤◌, cond, refl, sym, ap, ◌∙◌, arith}
-use Rattle.std.specs.Prelude.{◌==◌, ℤ, pos, ◌+ℤ◌, unsigned_abs}
-use Rattle.std.specs.List.{range_with_len}
-use Rattle.std.proofs.lemmas.Bool.Decides.{Decides-eqb}
+use Rattle.std.proofs.{Common.{◌≡◌, ℕ, zero, suc, ◌+◌, ◌-◌, ◌*◌, ◌<◌, ◌≤◌, cond, refl, sym, ap, ◌∙◌, arith}, lemmas.Bool.Decides.{Decides-eqb}}
 use Rattle.std.proofs.lemmas.Int.{ints}
+use Rattle.std.specs.{Prelude.{◌==◌, ℤ, pos, ◌+ℤ◌, unsigned_abs}, List.{range_with_len}}
 use Rattle.gs_lossless.specs.Amounts.{IsRunIn}
-use Rattle.gs_model.specs.Frame.{Frame, ancestor, signal_count, signals_in}
-use Rattle.gs_model.specs.Sums.{sum_z}
-use Rattle.gs_model.proofs.Sparse.{abs_sum, range_append, sum_none}
-use Rattle.gs_model.proofs.Total.{sum_z-append}
-use Rattle.gs_model.proofs.Basics.{not_eq}
+use Rattle.gs_model.specs.{Frame.{Frame, ancestor, signal_count, signals_in}, Sums.{sum_z}}
+use Rattle.gs_model.proofs.{Sparse.{abs_sum, range_append, sum_none}, Total.{sum_z-append}, Basics.{not_eq}}
 use Rattle.gs_seq.proofs.EndTotals.{range_more}
 
 pub sum_same : (u v : ℕ → ℤ) (a n : ℕ) → ((m : ℕ) → a ≤ m → m < a + n → u m ≡ v m) → sum_z u (range_with_len a n) ≡ sum_z v (range_with_len a n)

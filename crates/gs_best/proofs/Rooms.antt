@@ -1,25 +1,14 @@
 -- Room by the sizes of rounds.
 use Rattle.std.proofs.Common.{◌≡◌, ℕ, ◌+◌, ◌-◌, ◌*◌, ◌<◌, List, ◌++◌, drop, length, get_or, sym, take, ap, ◌∙◌, subst, arith, sum_by, count_by, eqb}
-use Rattle.std.specs.Prelude.{pos, ◌*ℤ◌}
-use Rattle.std.specs.List.{range_with_len}
-use Rattle.std.proofs.Math.Nat.{mul-one, mul_comm}
-use Rattle.std.proofs.lemmas.Bool.Decides.{Decides-eqb}
-use Rattle.std.proofs.lemmas.Int.{ints}
-use Rattle.std.proofs.lemmas.List.{get_or-map, length-map}
+use Rattle.std.proofs.{Math.Nat.{mul-one, mul_comm}, lemmas.Bool.Decides.{Decides-eqb}, lemmas.Int.{ints}, lemmas.List.{get_or-map, length-map}}
 use Rattle.std.proofs.lemmas.List.FromFn.{get_or-range_with_len, length-range_with_len}
+use Rattle.std.specs.{Prelude.{pos, ◌*ℤ◌}, List.{range_with_len}}
 use borrow.Author.Differences.{product_is}
-use Rattle.gs_model.specs.Classes.{ClassLists, class_count}
-use Rattle.gs_model.specs.Frame.{Frame, last_round, point_count, round_of}
-use Rattle.gs_model.specs.FrameFacts.{IsWalked}
-use Rattle.gs_model.specs.Positions.{at_point}
-use Rattle.gs_model.proofs.RawBound.{All-range, range_once}
-use Rattle.gs_model.proofs.Regroup.{regroup_weights, sum_z-pos}
-use Rattle.gs_model.proofs.Total.{sum_z-same}
+use Rattle.gs_model.specs.{Classes.{ClassLists, class_count}, Frame.{Frame, last_round, point_count, round_of}, FrameFacts.{IsWalked}, Positions.{at_point}}
+use Rattle.gs_model.proofs.{RawBound.{All-range, range_once}, Regroup.{regroup_weights, sum_z-pos}, Total.{sum_z-same}}
 use Rattle.gs_model.proofs.Basics.{pos-injective, sum-same, sum-ones, sum_by-map}
 use Rattle.gs_best.specs.Sizes.{AreOfLength, HasRoom, Holds, HoldsAll, IsRoomy, IsWide, IsWideFor, point_room, points_in, sizes_of, value_room}
-use Rattle.gs_best.specs.Tables.{start_of}
-use Rattle.gs_best.specs.declared.room.Scratch.{Scratch}
-use Rattle.gs_best.specs.declared.room.Table.{Table}
+use Rattle.gs_best.specs.{Tables.{start_of}, declared.room.Scratch.{Scratch}, declared.room.Table.{Table}}
 use Rattle.gs_best.proofs.Filled.{written}
 
 pub pos-product : (a b : ℕ) → pos a *ℤ pos b ≡ pos (a * b)

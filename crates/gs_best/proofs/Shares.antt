@@ -2,16 +2,10 @@
 use Rattle.std.proofs.Common.{◌≡◌, ℕ, ◌<◌, ◌≤◌, sym, ap, ◌∙◌}
 use Rattle.std.specs.Prelude.{pos, ◌*ℤ◌}
 use Rattle.gs_filter.proofs.TallyLaws.{first_in, first_member_of}
-use Rattle.gs_model.specs.BestAnswers.{end_worth}
-use Rattle.gs_model.specs.Classes.{ClassLists, IsClass, IsClasses, class_of, class_size, first_member, list_of}
-use Rattle.gs_model.specs.Frame.{Frame, end_count, last_round, round_of}
-use Rattle.gs_model.specs.FrameFacts.{InRange, IsWalked}
-use Rattle.gs_model.specs.Lossless.{IsLossless}
-use Rattle.gs_model.specs.Plans.{Plan, lift}
+use Rattle.gs_model.specs.{BestAnswers.{end_worth}, Classes.{ClassLists, IsClass, IsClasses, class_of, class_size, first_member, list_of}}
+use Rattle.gs_model.specs.{Frame.{Frame, end_count, last_round, round_of}, FrameFacts.{InRange, IsWalked}, Lossless.{IsLossless}, Plans.{Plan, lift}}
 use Rattle.gs_model.specs.Positions.{at_end}
-use Rattle.gs_model.proofs.ClassTotals.{class_total_is, end_total_by_pairs}
-use Rattle.gs_model.proofs.Gather.{grouping_from, known_from, member_in}
-use Rattle.gs_model.proofs.Lift.{end_alike}
+use Rattle.gs_model.proofs.{ClassTotals.{class_total_is, end_total_by_pairs}, Gather.{grouping_from, known_from, member_in}, Lift.{end_alike}}
 use Rattle.gs_model.proofs.Tables.{is_table}
 use Rattle.gs_seq.proofs.RowLaws.{size_is, size_some}
 use Rattle.gs_seq.specs.Payoffs.{end_sum}

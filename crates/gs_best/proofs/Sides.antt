@@ -1,22 +1,13 @@
 -- What holds of a deviating player.
 use Rattle.std.proofs.Common.{◌≡◌, ℕ, ◌+◌, ◌-◌, ◌^◌, ◌<◌, ◌≤◌, List, get_or, refl, ap, subst, arith}
-use Rattle.std.specs.Prelude.{ℤ, pos, unsigned_abs}
-use Rattle.std.specs.List.{range_with_len}
-use Rattle.gs_model.specs.BestAnswers.{Values, class_worth, spread, start_sum}
-use Rattle.gs_model.specs.Classes.{ClassLists, IsClass, IsClasses, class_count}
+use Rattle.std.specs.{Prelude.{ℤ, pos, unsigned_abs}, List.{range_with_len}}
+use Rattle.gs_model.specs.{BestAnswers.{Values, class_worth, spread, start_sum}, Classes.{ClassLists, IsClass, IsClasses, class_count}}
 use Rattle.gs_model.specs.Frame.{Frame, end_count, last_round, leads_to, move_count, other_player, point_count, round_of}
-use Rattle.gs_model.specs.FrameFacts.{IsFrom, IsInside, IsWalked}
-use Rattle.gs_model.specs.Plans.{Plan}
-use Rattle.gs_model.specs.Positions.{Target, at_end, at_point}
-use Rattle.gs_model.specs.Sums.{sum_z}
-use Rattle.gs_seq.specs.Abstracts.{frame_of, lists_of}
-use Rattle.gs_seq.specs.Plans.{class_plan, lifted}
-use Rattle.gs_best.specs.Ends.{IsEndRow}
-use Rattle.gs_best.specs.Rows.{AreModest, Worths}
-use Rattle.gs_best.specs.Tables.{IsBestFrom, classes_at, moves_of, start_of, table_of}
+use Rattle.gs_model.specs.{FrameFacts.{IsFrom, IsInside, IsWalked}, Plans.{Plan}, Positions.{Target, at_end, at_point}, Sums.{sum_z}}
+use Rattle.gs_seq.specs.{Abstracts.{frame_of, lists_of}, Plans.{class_plan, lifted}}
+use Rattle.gs_best.specs.{Ends.{IsEndRow}, Rows.{AreModest, Worths}, Tables.{IsBestFrom, classes_at, moves_of, start_of, table_of}}
 use Rattle.gs_best.specs.declared.deviator.Deviator.{Deviator}
-use Rattle.gs_best.proofs.Forms.{form_classes, form_in_range, form_lossless, form_modest, form_walked}
-use Rattle.gs_best.proofs.Placed.{IsRow}
+use Rattle.gs_best.proofs.{Forms.{form_classes, form_in_range, form_lossless, form_modest, form_walked}, Placed.{IsRow}}
 use Rattle.gs_best.proofs.Small.{start_small, value_small, worth_small, worths_small}
 
 abbrev pub frame : Deviator → Frame

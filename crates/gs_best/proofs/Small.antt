@@ -1,34 +1,19 @@
 -- Best values are small: by the ends below a position and the weight of the deals.
 use Rattle.std.proofs.Common.{◌≡◌, ℕ, zero, suc, ◌+◌, ◌*◌, ◌^◌, ◌<◌, ◌≤◌, Bool, true, false, cond, List, [], ◌∷◌, get_or, refl, sym, ap, subst, arith, sum_by, Option, Some, None, ⊎_elim}
-use Rattle.std.specs.Prelude.{◌==◌, ℤ, pos, ◌*ℤ◌, unsigned_abs}
-use Rattle.std.specs.List.{range_with_len}
-use Rattle.std.proofs.Math.Nat.{mul-add, mul_assoc, mul_comm, mul-le-mul_left, mul-le-mul_right}
-use Rattle.std.proofs.lemmas.Bool.{cases_eq}
-use Rattle.std.proofs.lemmas.Int.{ints, unsigned_abs-mul}
+use Rattle.std.proofs.{Math.Nat.{mul-add, mul_assoc, mul_comm, mul-le-mul_left, mul-le-mul_right}, lemmas.Bool.{cases_eq}, lemmas.Int.{ints, unsigned_abs-mul}}
 use Rattle.std.proofs.lemmas.List.Sums.{sum_by-cons}
+use Rattle.std.specs.{Prelude.{◌==◌, ℤ, pos, ◌*ℤ◌, unsigned_abs}, List.{range_with_len}}
 use borrow.Author.Differences.{abs_is}
-use Rattle.gs_model.specs.BestAnswers.{Values, class_worth, end_worth, spread, start_sum}
-use Rattle.gs_model.specs.Classes.{ClassLists, IsClass, IsClasses, class_of, first_member}
+use Rattle.gs_model.specs.{BestAnswers.{Values, class_worth, end_worth, spread, start_sum}, Classes.{ClassLists, IsClass, IsClasses, class_of, first_member}}
 use Rattle.gs_model.specs.Deals.{Deal}
 use Rattle.gs_model.specs.Frame.{Frame, ancestor, at_round, end_count, last_round, last_step, leads_to, move_count, other_player, payoff_to, player_at, point_count, round_of, signal_count, signals_in, total_weight}
-use Rattle.gs_model.specs.FrameFacts.{InRange, IsFrom, IsInside, IsWalked}
-use Rattle.gs_model.specs.Lossless.{IsLossless}
-use Rattle.gs_model.specs.Payoff.{number_at_end}
-use Rattle.gs_model.specs.Plans.{IsClassPlan, Plan, lift, number_before}
-use Rattle.gs_model.specs.Positions.{Step, Target, at_end, at_point}
-use Rattle.gs_model.specs.Sums.{sum_z}
-use Rattle.gs_model.proofs.Deviations.{to_first}
-use Rattle.gs_model.proofs.Gather.{class_in, firsts_from}
-use Rattle.gs_model.proofs.Known.{Tabled}
-use Rattle.gs_model.proofs.PlanLaws.{numbers_within, le-sum}
-use Rattle.gs_model.proofs.RawBound.{All-range}
-use Rattle.gs_model.proofs.Tables.{is_table}
-use Rattle.gs_model.proofs.Basics.{product_le}
+use Rattle.gs_model.specs.{FrameFacts.{InRange, IsFrom, IsInside, IsWalked}, Lossless.{IsLossless}, Payoff.{number_at_end}}
+use Rattle.gs_model.specs.{Plans.{IsClassPlan, Plan, lift, number_before}, Positions.{Step, Target, at_end, at_point}, Sums.{sum_z}}
+use Rattle.gs_model.proofs.{Deviations.{to_first}, Gather.{class_in, firsts_from}, Known.{Tabled}, PlanLaws.{numbers_within, le-sum}, RawBound.{All-range}}
+use Rattle.gs_model.proofs.{Tables.{is_table}, Basics.{product_le}}
 use Rattle.gs_best.specs.Tables.{IsBestFrom}
-use Rattle.gs_seq.proofs.RowFacts.{abs_all, sum-times}
-use Rattle.gs_seq.proofs.SlotLaws.{sum_range_le}
-use Rattle.gs_best.proofs.Below.{below_end, below_le, below_point, ends_below}
-use Rattle.gs_best.proofs.Chips.{IsModest}
+use Rattle.gs_seq.proofs.{RowFacts.{abs_all, sum-times}, SlotLaws.{sum_range_le}}
+use Rattle.gs_best.proofs.{Below.{below_end, below_le, below_point, ends_below}, Chips.{IsModest}}
 use Rattle.gs_best.proofs.Weights.{own_le, own_weight, weight_alike, weight_all, weight_below}
 
 -- ---- sums

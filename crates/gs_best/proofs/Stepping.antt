@@ -1,18 +1,10 @@
 -- One step of the induction backwards, for worths of any kind: a point gets its row, and all later ones stay as they are.
-use Rattle.std.proofs.Common.{◌≡◌, ◌≢◌, ℕ, ◌+◌, ◌-◌, ◌<◌, ◌≤◌, List, get_or, sym, ap, ◌∙◌, subst, arith, ⊎_elim}
+use Rattle.std.proofs.{Common.{◌≡◌, ◌≢◌, ℕ, ◌+◌, ◌-◌, ◌<◌, ◌≤◌, List, get_or, sym, ap, ◌∙◌, subst, arith, ⊎_elim}, lemmas.Bool.{cases_eq}, lemmas.Int.{ints}}
 use Rattle.std.specs.Prelude.{ℤ, pos, ◌≤ℤ◌, ◌<ℤ◌}
-use Rattle.std.proofs.lemmas.Bool.{cases_eq}
-use Rattle.std.proofs.lemmas.Int.{ints}
-use Rattle.gs_model.specs.BestAnswers.{Values}
-use Rattle.gs_model.specs.Classes.{ClassLists, IsClass}
-use Rattle.gs_model.specs.Frame.{Frame, choices_at, move_count, player_at, point_count, round_of}
-use Rattle.gs_model.specs.FrameFacts.{IsFrom}
-use Rattle.gs_model.specs.Positions.{Target, at_end, at_point}
-use Rattle.gs_model.specs.Sums.{sum_z}
-use Rattle.gs_best.specs.Rows.{AreSums, IsCopied, IsMerged, Worths}
-use Rattle.gs_best.specs.Tables.{AreFirstBy, IsFollowedBy, classes_at, start_of}
-use Rattle.gs_best.proofs.Placed.{row_later}
-use Rattle.gs_best.proofs.Ranges.{sum_same}
+use Rattle.gs_model.specs.{BestAnswers.{Values}, Classes.{ClassLists, IsClass}, Frame.{Frame, choices_at, move_count, player_at, point_count, round_of}}
+use Rattle.gs_model.specs.{FrameFacts.{IsFrom}, Positions.{Target, at_end, at_point}, Sums.{sum_z}}
+use Rattle.gs_best.specs.{Rows.{AreSums, IsCopied, IsMerged, Worths}, Tables.{AreFirstBy, IsFollowedBy, classes_at, start_of}}
+use Rattle.gs_best.proofs.{Placed.{row_later}, Ranges.{sum_same}}
 
 -- what comes later than a point comes later than all points before it
 pub later_on : (q p : ℕ) → q ≤ p → (t : Target) → IsFrom (p + 1) t → IsFrom (q + 1) t

@@ -1,29 +1,14 @@
 -- Best values at the start, and how large they and payoffs are.
-use Rattle.std.proofs.Common.{◌≡◌, ℕ, ◌+◌, ◌-◌, ◌^◌, ◌<◌, ◌≤◌, List, get_or, sym, ap, ◌∙◌, subst, arith}
+use Rattle.std.proofs.{Common.{◌≡◌, ℕ, ◌+◌, ◌-◌, ◌^◌, ◌<◌, ◌≤◌, List, get_or, sym, ap, ◌∙◌, subst, arith}, lemmas.Int.{ints, unsigned_abs-mul}}
 use Rattle.std.specs.Prelude.{ℤ, pos, ◌*ℤ◌, ◌≤ℤ◌, unsigned_abs}
-use Rattle.std.proofs.lemmas.Int.{ints, unsigned_abs-mul}
 use borrow.Author.Differences.{abs_is}
-use Rattle.gs_model.specs.BestAnswers.{IsFirstBestPlan, spread, start_sum}
-use Rattle.gs_model.specs.Classes.{ClassLists, IsClasses, class_of}
-use Rattle.gs_model.specs.Frame.{Frame, last_round, round_of, signal_count, signals_in}
-use Rattle.gs_model.specs.FrameFacts.{InRange, IsExchanged, IsWalked}
-use Rattle.gs_model.specs.Lossless.{IsLossless}
-use Rattle.gs_model.specs.Payoff.{gain, raw_payoff}
-use Rattle.gs_model.specs.Plans.{IsClassPlan, Plan, lift}
-use Rattle.gs_model.specs.Positions.{Target, at_end, at_point}
-use Rattle.gs_model.specs.Sums.{sum_z}
-use Rattle.gs_model.proofs.Alike.{keeps_from}
-use Rattle.gs_model.proofs.Best.{best_holds}
-use Rattle.gs_model.proofs.Deviations.{lift_is_raw_plan, no_raw_plan_gains_more}
-use Rattle.gs_model.proofs.Exchange.{gain_exchange, raw_payoff_is_gain}
-use Rattle.gs_model.proofs.FirstBest.{first_best_reaches}
-use Rattle.gs_model.proofs.Gather.{class_in, firsts_from, holds_by, known_from, plan_by}
-use Rattle.gs_model.proofs.Tables.{is_table}
-use Rattle.gs_model.proofs.Basics.{product_le}
-use Rattle.gs_best.specs.Answers.{IsBestTotal, NoneGainsMore}
-use Rattle.gs_best.specs.Ends.{IsEndRow}
-use Rattle.gs_best.specs.Rows.{value_at}
-use Rattle.gs_best.specs.Tables.{start_of, table_of}
+use Rattle.gs_model.specs.{BestAnswers.{IsFirstBestPlan, spread, start_sum}, Classes.{ClassLists, IsClasses, class_of}}
+use Rattle.gs_model.specs.{Frame.{Frame, last_round, round_of, signal_count, signals_in}, FrameFacts.{InRange, IsExchanged, IsWalked}, Lossless.{IsLossless}}
+use Rattle.gs_model.specs.{Payoff.{gain, raw_payoff}, Plans.{IsClassPlan, Plan, lift}, Positions.{Target, at_end, at_point}, Sums.{sum_z}}
+use Rattle.gs_model.proofs.{Alike.{keeps_from}, Best.{best_holds}, Deviations.{lift_is_raw_plan, no_raw_plan_gains_more}}
+use Rattle.gs_model.proofs.{Exchange.{gain_exchange, raw_payoff_is_gain}, FirstBest.{first_best_reaches}}
+use Rattle.gs_model.proofs.{Gather.{class_in, firsts_from, holds_by, known_from, plan_by}, Tables.{is_table}, Basics.{product_le}}
+use Rattle.gs_best.specs.{Answers.{IsBestTotal, NoneGainsMore}, Ends.{IsEndRow}, Rows.{value_at}, Tables.{start_of, table_of}}
 use Rattle.gs_best.proofs.Ranges.{sum_same}
 
 module _ (f : Frame) (lists : ClassLists) (p : ℕ) (y : Plan) (values : List ℤ) where

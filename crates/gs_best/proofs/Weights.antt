@@ -1,21 +1,11 @@
 -- The weight of the deals of a signal.
-use Rattle.std.proofs.Common.{◌≡◌, ℕ, ◌<◌, ◌≤◌, Bool, true, false, cond, get_or, sym, ap, ◌∙◌, arith, sum_by, eqb}
+use Rattle.std.proofs.{Common.{◌≡◌, ℕ, ◌<◌, ◌≤◌, Bool, true, false, cond, get_or, sym, ap, ◌∙◌, arith, sum_by, eqb}, lemmas.Bool.Decides.{Decides-eqb}}
+use Rattle.std.proofs.{lemmas.Int.{ints}, lemmas.List.Sums.{sum_by-le-sum_by}}
 use Rattle.std.specs.Prelude.{◌==◌, pos, ◌*ℤ◌}
-use Rattle.std.proofs.lemmas.Bool.Decides.{Decides-eqb}
-use Rattle.std.proofs.lemmas.Int.{ints}
-use Rattle.std.proofs.lemmas.List.Sums.{sum_by-le-sum_by}
 use borrow.Author.Differences.{product_is}
-use Rattle.gs_model.specs.Classes.{ClassLists, InOneClass, class_of}
-use Rattle.gs_model.specs.Deals.{Deal}
-use Rattle.gs_model.specs.Frame.{Frame, ancestor, at_round, last_round, signal_count, signals_in, total_weight}
-use Rattle.gs_model.specs.Lossless.{IsLossless}
-use Rattle.gs_model.specs.Sums.{sum_z}
-use Rattle.gs_model.proofs.Alike.{fair}
-use Rattle.gs_model.proofs.Flow.{by_ancestor}
-use Rattle.gs_model.proofs.Known.{Tabled}
-use Rattle.gs_model.proofs.RawBound.{range_once}
-use Rattle.gs_model.proofs.Regroup.{alike_total, sum_z-pos}
-use Rattle.gs_model.proofs.Total.{sum_z-same}
+use Rattle.gs_model.specs.{Classes.{ClassLists, InOneClass, class_of}, Deals.{Deal}}
+use Rattle.gs_model.specs.{Frame.{Frame, ancestor, at_round, last_round, signal_count, signals_in, total_weight}, Lossless.{IsLossless}, Sums.{sum_z}}
+use Rattle.gs_model.proofs.{Alike.{fair}, Flow.{by_ancestor}, Known.{Tabled}, RawBound.{range_once}, Regroup.{alike_total, sum_z-pos}, Total.{sum_z-same}}
 use Rattle.gs_model.proofs.Basics.{pos-injective, pos-cond, sum-same, cond_le}
 
 -- the weight of the deals in which player 1 has a signal of a round

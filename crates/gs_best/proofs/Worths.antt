@@ -1,16 +1,11 @@
 -- What a move is worth, from the values at its target.
 use Rattle.std.proofs.Common.{◌≡◌, ℕ, ◌+◌, ◌-◌, ◌<◌, ◌≤◌, List, cond, get_or, sym, ap, ◌∙◌, subst, arith}
 use Rattle.std.specs.Prelude.{◌==◌, ℤ, pos}
-use Rattle.gs_model.specs.BestAnswers.{class_worth}
-use Rattle.gs_model.specs.Classes.{ClassLists, IsClass, IsClasses, class_of, first_member}
-use Rattle.gs_model.specs.Frame.{Frame, ancestor, last_round, leads_to, round_of, signal_count, signals_in}
-use Rattle.gs_model.specs.Plans.{Plan}
-use Rattle.gs_model.specs.Positions.{Target, at_end, at_point}
-use Rattle.gs_model.specs.Sums.{sum_z}
+use Rattle.gs_model.specs.{BestAnswers.{class_worth}, Classes.{ClassLists, IsClass, IsClasses, class_of, first_member}}
+use Rattle.gs_model.specs.{Frame.{Frame, ancestor, last_round, leads_to, round_of, signal_count, signals_in}, Plans.{Plan}}
+use Rattle.gs_model.specs.{Positions.{Target, at_end, at_point}, Sums.{sum_z}}
 use Rattle.gs_model.proofs.Gather.{class_in}
-use Rattle.gs_best.specs.Ends.{IsEndRow}
-use Rattle.gs_best.specs.Rows.{AreSumsBelow, AreWorths, value_at}
-use Rattle.gs_best.specs.Tables.{start_of, table_of}
+use Rattle.gs_best.specs.{Ends.{IsEndRow}, Rows.{AreSumsBelow, AreWorths, value_at}, Tables.{start_of, table_of}}
 use Rattle.gs_best.proofs.Ranges.{sum_same}
 
 module _ (f : Frame) (lists : ClassLists) (p : ℕ) (y : Plan) (values : List ℤ) (q m from : ℕ) (here : from ≡ round_of f (at_point q)) (sums : List ℤ) where

@@ -1,10 +1,6 @@
 -- What an end is worth, class by class.
 use Rattle.std.specs.Prelude.{ℕ, ◌-◌, ◌≡◌, List, get_or, ℤ, pos}
-use Rattle.gs_model.specs.BestAnswers.{end_worth}
-use Rattle.gs_model.specs.Classes.{ClassLists, IsClass, first_member}
-use Rattle.gs_model.specs.Frame.{Frame, round_of}
-use Rattle.gs_model.specs.Plans.{Plan}
-use Rattle.gs_model.specs.Positions.{at_end}
+use Rattle.gs_model.specs.{BestAnswers.{end_worth}, Classes.{ClassLists, IsClass, first_member}, Frame.{Frame, round_of}, Plans.{Plan}, Positions.{at_end}}
 
 -- `row` has for each class of the end's round what the end is worth to the class's first member
 abbrev pub IsEndRow : Frame → ClassLists → ℕ → Plan → ℕ → List ℤ → Type 0

@@ -1,7 +1,6 @@
 -- Verdicts as fractions.
 use Rattle.std.specs.Prelude.{ℕ, ◌<◌, ◌≡◌, ℤ, pos, ◌+ℤ◌, ◌-ℤ◌, ◌*ℤ◌, unsigned_abs}
-use Rattle.gs_frac.specs.declared.value.Fraction.{Fraction}
-use Rattle.gs_frac.specs.declared.value.Verdict.{Verdict}
+use Rattle.gs_frac.specs.{declared.value.Fraction.{Fraction}, declared.value.Verdict.{Verdict}}
 
 -- the numerator with its sign, and the size of the denominator
 abbrev pub parts : Fraction → ℤ × ℕ

@@ -1,12 +1,7 @@
 -- The room that best answers need.
-use Rattle.std.specs.Prelude.{ℕ, ◌*◌, ◌<◌, ◌≤◌, ◌==◌, List, length, map, get_or, sum_by, count_by}
-use Rattle.std.specs.List.{range_with_len}
-use Rattle.gs_model.specs.Classes.{ClassLists, class_count}
-use Rattle.gs_model.specs.Frame.{Frame, last_round, point_count, round_of}
-use Rattle.gs_model.specs.Positions.{at_point}
-use Rattle.gs_best.specs.Tables.{AreStarts, start_of}
-use Rattle.gs_best.specs.declared.room.Scratch.{Scratch}
-use Rattle.gs_best.specs.declared.room.Table.{Table}
+use Rattle.std.specs.{Prelude.{ℕ, ◌*◌, ◌<◌, ◌≤◌, ◌==◌, List, length, map, get_or, sum_by, count_by}, List.{range_with_len}}
+use Rattle.gs_model.specs.{Classes.{ClassLists, class_count}, Frame.{Frame, last_round, point_count, round_of}, Positions.{at_point}}
+use Rattle.gs_best.specs.{Tables.{AreStarts, start_of}, declared.room.Scratch.{Scratch}, declared.room.Table.{Table}}
 
 -- how many points a round has
 abbrev pub points_in : Frame → ℕ → ℕ

@@ -1,12 +1,7 @@
 -- Best values kept as one list: the points in order, for each point the classes of its round.
-use Rattle.std.specs.Prelude.{ℕ, ◌+◌, ◌-◌, ◌<◌, ◌≤◌, ◌≡◌, ◌≢◌, List, get_or, slice_index, ℤ, pos, ◌≤ℤ◌, ◌<ℤ◌, sum_by}
-use Rattle.std.specs.List.{range_with_len}
-use Rattle.gs_model.specs.BestAnswers.{Values, class_worth, end_worth}
-use Rattle.gs_model.specs.Classes.{ClassLists, IsClass, class_count, first_member}
-use Rattle.gs_model.specs.Frame.{Frame, choices_at, move_count, player_at, point_count, round_of}
-use Rattle.gs_model.specs.Plans.{Plan}
-use Rattle.gs_model.specs.Positions.{at_end, at_point}
-use Rattle.gs_model.specs.Sums.{sum_z}
+use Rattle.std.specs.{Prelude.{ℕ, ◌+◌, ◌-◌, ◌<◌, ◌≤◌, ◌≡◌, ◌≢◌, List, get_or, slice_index, ℤ, pos, ◌≤ℤ◌, ◌<ℤ◌, sum_by}, List.{range_with_len}}
+use Rattle.gs_model.specs.{BestAnswers.{Values, class_worth, end_worth}, Classes.{ClassLists, IsClass, class_count, first_member}}
+use Rattle.gs_model.specs.{Frame.{Frame, choices_at, move_count, player_at, point_count, round_of}, Plans.{Plan}, Positions.{at_end, at_point}, Sums.{sum_z}}
 use Rattle.gs_best.specs.Rows.{Worths}
 
 -- how many classes the round of a point has

@@ -2,8 +2,7 @@
 use Rattle.std.proofs.Common.{◌≡◌, ℕ, zero, suc, ◌+◌, ◌-◌, ◌<◌, ◌≤◌, refl, inl, inr, true, false, not, cond, eqb, ltb, leb, ◌&&◌, arith}
 use Rattle.std.proofs.lemmas.Bool.{cases_Bool, cases_lt, cases_eq, and_parts, and_from, or_parts, not-true, leb-true, le-leb, lt-ltb, le-ltb, eqb-false, ne_eqb}
 use Rattle.gs_model.specs.Betting.{Bet, Moves, none, move}
-use Rattle.gs_bet.specs.MoveLists.{count, has_letter}
-use Rattle.gs_bet.specs.Grammar.{is_letter, is_sound, are_sound}
+use Rattle.gs_bet.specs.{MoveLists.{count, has_letter}, Grammar.{is_letter, is_sound, are_sound}}
 
 -- the moves with one of the first n letters
 places : ℕ → Moves → ℕ

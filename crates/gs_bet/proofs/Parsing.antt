@@ -1,17 +1,11 @@
 -- What the program's reading says of a text.
 use Rattle.std.proofs.Common.{◌≡◌, ℕ, ◌-◌, ◌≤◌, List, [], length, Result, Ok, Err, sym, ap, subst, ◌∙◌}
 use Rattle.std.specs.Prelude.{IsTrue}
-use Rattle.gs_bet.specs.declared.fault.Mistake.{Mistake}
-use Rattle.gs_bet.specs.declared.fault.Mistake.TheVariants.{RepeatedLetter, TooDeep, Syntax}
-use Rattle.gs_bet.specs.declared.fault.Stop.TheVariants.{At}
-use Rattle.gs_model.specs.Betting.{Bet}
-use Rattle.gs_bet.specs.Grammar.{tree_text, is_tree}
-use Rattle.gs_bet.specs.Cuts.{at_tree, whole}
-use Rattle.gs_bet.proofs.Steps.{read}
-use Rattle.gs_bet.specs.Reading.{Read, Fails, all_of}
+use Rattle.gs_bet.specs.{declared.fault.Mistake.{Mistake}, declared.fault.Mistake.TheVariants.{RepeatedLetter, TooDeep, Syntax}}
+use Rattle.gs_bet.specs.{declared.fault.Stop.TheVariants.{At}, Grammar.{tree_text, is_tree}, Cuts.{at_tree, whole}, Reading.{Read, Fails, all_of}}
 use Rattle.gs_bet.specs.Faults.{IsFaultOf, IsMistake, fault_of}
-use Rattle.gs_bet.proofs.ReadsAsCut.{LeadsTo, reads_as_cut}
-use Rattle.gs_bet.proofs.Whole.{is_read, reads, is_mistake, left_within}
+use Rattle.gs_model.specs.Betting.{Bet}
+use Rattle.gs_bet.proofs.{Steps.{read}, ReadsAsCut.{LeadsTo, reads_as_cut}, Whole.{is_read, reads, is_mistake, left_within}}
 
 read_to : (text : List ℕ) (r : Read Bet) → all_of text ≡ r → LeadsTo {A = Bet} (λ u. whole u) (read (at_tree []) text) r
 read_to text r h = subst (LeadsTo (λ u. whole u) (read (at_tree []) text)) h (reads_as_cut text)

@@ -1,9 +1,7 @@
 -- Each choice of a well-formed tree is player 1's or player 2's.
-use Rattle.std.proofs.Common.{◌≡◌, ℕ, zero, suc, true, ◌&&◌, ◌==◌, ◌⊎◌, inl, inr, not, nat_le}
-use Rattle.std.proofs.lemmas.Bool.{and_parts, or_cases, eqb-true}
+use Rattle.std.proofs.{Common.{◌≡◌, ℕ, zero, suc, true, ◌&&◌, ◌==◌, ◌⊎◌, inl, inr, not, nat_le}, lemmas.Bool.{and_parts, or_cases, eqb-true}}
 use Rattle.gs_model.specs.Betting.{Bet, Moves, act, fold, even, none, move, HasPlayers, MovesHavePlayers}
-use Rattle.gs_bet.specs.MoveLists.{has_move, has_letter}
-use Rattle.gs_bet.specs.Grammar.{is_player, is_letter, is_sound, are_sound, is_fold, is_tree}
+use Rattle.gs_bet.specs.{MoveLists.{has_move, has_letter}, Grammar.{is_player, is_letter, is_sound, are_sound, is_fold, is_tree}}
 
 pub player_cases : (p : ℕ) → is_player p ≡ true → (p ≡ 1) ⊎ (p ≡ 2)
 player_cases p h = elim (or_cases (p == 1) (p == 2) h) [ inl e ↦ inl (eqb-true p 1 e) | inr e ↦ inr (eqb-true p 2 e) ]

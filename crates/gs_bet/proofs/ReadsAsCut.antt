@@ -1,15 +1,11 @@
 -- Reading an act within an act, and going on from a cut byte by byte, are the same.
 use Rattle.std.proofs.Common.{◌≡◌, ℕ, zero, suc, ◌+◌, ◌-◌, ◌*◌, ◌<◌, ◌≤◌, List, [], ◌∷◌, length, Result, Ok, Err, refl, sym, ap, subst, ◌∙◌, inl, inr, Bool, true, false, cond, eqb, ltb, leb, ◌&&◌, ◌||◌, arith}
 use Rattle.std.proofs.lemmas.Bool.{cases_Bool, and_parts, and_right, leb-true, lt-ltb, le-ltb, ne_eqb}
-use Rattle.gs_bet.proofs.ReadingLaws.{more_room}
-use Rattle.gs_bet.specs.declared.fault.Mistake.{Mistake}
-use Rattle.gs_bet.specs.declared.fault.Mistake.TheVariants.{TooDeep, Syntax}
-use Rattle.gs_model.specs.Betting.{Bet, Moves, act, none, move}
-use Rattle.gs_bet.specs.MoveLists.{count, has_letter, push_move}
-use Rattle.gs_bet.specs.Grammar.{is_letter}
-use Rattle.gs_bet.specs.Cuts.{Open, Cut, at_tree, at_bracket, at_letter, at_chips, at_next, whole}
-use Rattle.gs_bet.proofs.Steps.{after, is_inside, read}
+use Rattle.gs_bet.proofs.{ReadingLaws.{more_room}, Steps.{after, is_inside, read}}
+use Rattle.gs_bet.specs.{declared.fault.Mistake.{Mistake}, declared.fault.Mistake.TheVariants.{TooDeep, Syntax}, MoveLists.{count, has_letter, push_move}}
+use Rattle.gs_bet.specs.{Grammar.{is_letter}, Cuts.{Open, Cut, at_tree, at_bracket, at_letter, at_chips, at_next, whole}}
 use Rattle.gs_bet.specs.Reading.{goes_on, Read, ◌>>=◌, player_at, expect_at, letter_at, chips_at, move_at, more_at, moves_at, inner_at, act_with, act_at, outer_at, at_end, all_of}
+use Rattle.gs_model.specs.Betting.{Bet, Moves, act, none, move}
 
 -- what reading a part leads to, where the whole text is read from a cut
 abbrev pub LeadsTo : {A : Type 0} → (A → Cut) → Result Bet (Mistake × List ℕ) → Read A → Type 0

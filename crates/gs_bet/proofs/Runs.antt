@@ -1,17 +1,12 @@
 -- Each cut can be completed, and a tree's text is read to its end.
 use Rattle.std.proofs.Common.{◌≡◌, ℕ, zero, suc, ◌+◌, ◌-◌, ◌*◌, ◌/◌, ◌%◌, ◌<◌, ◌≤◌, List, [], ◌∷◌, ◌++◌, length, Ok, refl, ap, ◌∙◌, inl, inr, Bool, true, false, not, eqb, ◌&&◌, ◌||◌, arith, append_assoc, zero-add}
+use Rattle.std.proofs.{lemmas.Fmt.{decimal_by_steps}, lemmas.Bool.{false≢true, or_parts, and_parts, le-leb, lt-ltb, ne_eqb}}
 use Rattle.std.specs.Fmt.{decimal}
-use Rattle.std.proofs.lemmas.Fmt.{decimal_by_steps}
-use Rattle.std.proofs.lemmas.Bool.{false≢true, or_parts, and_parts, le-leb, lt-ltb, ne_eqb}
 use Rattle.gs_model.specs.Betting.{Bet, Moves, act, fold, even, none, move}
 use Rattle.gs_bet.specs.MoveLists.{count, has_move, has_letter, push_move}
 use Rattle.gs_bet.specs.Grammar.{chips_text, tree_text, moves_text, is_letter, is_player, is_sound, are_sound, is_fold}
-use Rattle.gs_bet.specs.Cuts.{Open, Cut, at_tree, at_bracket, at_letter, at_chips, at_next, whole, act_front, IsAct, IsOpen, IsCut}
-use Rattle.gs_bet.proofs.Steps.{after, is_inside, run}
-use Rattle.gs_bet.specs.Reading.{goes_on}
-use Rattle.gs_bet.proofs.CutText.{sound_push, swapped}
-use Rattle.gs_bet.proofs.ReadsAsCut.{count_push}
-use Rattle.gs_bet.proofs.Letters.{First, first, at_most_26, spare}
+use Rattle.gs_bet.specs.{Cuts.{Open, Cut, at_tree, at_bracket, at_letter, at_chips, at_next, whole, act_front, IsAct, IsOpen, IsCut}, Reading.{goes_on}}
+use Rattle.gs_bet.proofs.{Steps.{after, is_inside, run}, CutText.{sound_push, swapped}, ReadsAsCut.{count_push}, Letters.{First, first, at_most_26, spare}}
 use Rattle.gs_bet.proofs.Players.{player_cases}
 
 -- ---- completion

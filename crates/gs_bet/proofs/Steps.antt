@@ -1,13 +1,10 @@
 -- Reading on from a cut, byte by byte.
 use Rattle.std.proofs.Common.{ℕ, ◌+◌, ◌-◌, ◌*◌, Bool, true, false, ◌&&◌, ◌||◌, List, [], ◌∷◌, length, Result, Ok, Err}
 use Rattle.std.specs.Prelude.{nat_lt, ◌==◌, if◌then◌else◌}
-use Rattle.gs_bet.specs.declared.fault.Mistake.{Mistake}
-use Rattle.gs_bet.specs.declared.fault.Mistake.TheVariants.{RepeatedLetter, TooDeep, Syntax}
+use Rattle.gs_bet.specs.{declared.fault.Mistake.{Mistake}, declared.fault.Mistake.TheVariants.{RepeatedLetter, TooDeep, Syntax}}
+use Rattle.gs_bet.specs.{MoveLists.{count, has_letter, push_move}, Grammar.{is_letter}}
+use Rattle.gs_bet.specs.{Cuts.{Open, Cut, at_tree, at_bracket, at_letter, at_chips, at_next, whole}, Reading.{goes_on}}
 use Rattle.gs_model.specs.Betting.{Bet, Moves, act, fold, even, none}
-use Rattle.gs_bet.specs.MoveLists.{count, has_letter, push_move}
-use Rattle.gs_bet.specs.Grammar.{is_letter}
-use Rattle.gs_bet.specs.Cuts.{Open, Cut, at_tree, at_bracket, at_letter, at_chips, at_next, whole}
-use Rattle.gs_bet.specs.Reading.{goes_on}
 
 -- where a tree ends
 abbrev pub after : List Open → Bet → Cut

@@ -1,12 +1,11 @@
 -- What the program's betting trees are to the definitions: an act, a fold, and an act that is made of its moves.
 use Rattle.std.proofs.Common.{◌≡◌, ℕ, List, [], ◌∷◌, refl, ◌∙◌, ap, map}
 use Rattle.std.specs.Global.{Vec}
-use Rattle.gs_bet.specs.declared.shape.Tree.{fold_out-Tree}
-use Rattle.gs_bet.specs.declared.shape.Tree.TheVariants.{Act, Fold, outs-Act, outs-Fold}
+use Rattle.gs_bet.specs.{declared.shape.Tree.{fold_out-Tree}, declared.shape.Tree.TheVariants.{Act, Fold, outs-Act, outs-Fold}}
 use Rattle.gs_bet.specs.declared.shape.Act.{Act as Choice, fold_out-Act, fold-roll-Act, roll-Act, out-Act}
 use Rattle.gs_bet.specs.declared.shape.Move.{Move, fold-Move, fold_out-Move}
-use Rattle.gs_model.specs.Betting.{Bet, act, fold}
 use Rattle.gs_bet.specs.TreeView.{plain, plain_act, plain_moves, moves_of, tree_step, act_step, move_step, PlainMove}
+use Rattle.gs_model.specs.Betting.{Bet, act, fold}
 
 pub plain-act : (a : Choice) → plain (Act a) ≡ plain_act a
 plain-act a = fold_out-Tree Bet Bet PlainMove tree_step act_step move_step (Act a) ∙ rw (outs-Act a) refl

@@ -1,21 +1,15 @@
 -- What reading all of a text says of it.
 use Rattle.std.proofs.Common.{◌≡◌, ℕ, zero, suc, ◌+◌, ◌-◌, ◌<◌, ◌≤◌, List, [], ◌∷◌, ◌++◌, length, take, Some, None, Result, Ok, Err, refl, sym, ap, subst, ◌∙◌, inl, inr, not, eqb, ltb, ◌&&◌, ◌||◌, arith, append_assoc}
-use Rattle.std.specs.Prelude.{slice_get, IsTrue}
-use Rattle.std.proofs.lemmas.List.{append-nil, length-append}
-use Rattle.std.proofs.Math.Seq.{take-append_seam, take-append-add}
+use Rattle.std.proofs.{lemmas.List.{append-nil, length-append}, Math.Seq.{take-append_seam, take-append-add}}
 use Rattle.std.proofs.lemmas.Bool.{cases_Bool, cases_lt, lt-ltb, le-ltb, and_parts}
-use Rattle.gs_bet.specs.declared.fault.Mistake.{Mistake}
-use Rattle.gs_bet.specs.declared.fault.Mistake.TheVariants.{Syntax}
-use Rattle.gs_model.specs.Betting.{Bet}
-use Rattle.gs_bet.specs.MoveLists.{count, has_letter}
+use Rattle.std.specs.Prelude.{slice_get, IsTrue}
+use Rattle.gs_bet.specs.{declared.fault.Mistake.{Mistake}, declared.fault.Mistake.TheVariants.{Syntax}, MoveLists.{count, has_letter}}
 use Rattle.gs_bet.specs.Grammar.{tree_text, moves_text, chips_text, is_letter, is_sound, is_fold, is_tree, BeginsTree, IsLongest}
 use Rattle.gs_bet.specs.Cuts.{Open, Cut, at_tree, at_bracket, at_letter, at_chips, at_next, whole, act_front, open_text, cut_text, AreOpen, IsCut}
-use Rattle.gs_bet.proofs.Steps.{is_inside, step, step_then, run, read, ended}
-use Rattle.gs_bet.specs.Reading.{goes_on}
-use Rattle.gs_bet.specs.Faults.{mistake_at, IsMistake}
-use Rattle.gs_bet.proofs.CutText.{run_grows, reached, reached-is}
-use Rattle.gs_bet.proofs.Runs.{completes, runs_tree, runs_act, runs_to_letter, runs_to_chips}
-use Rattle.gs_bet.proofs.Players.{player_cases}
+use Rattle.gs_bet.specs.{Reading.{goes_on}, Faults.{mistake_at, IsMistake}}
+use Rattle.gs_model.specs.Betting.{Bet}
+use Rattle.gs_bet.proofs.{Steps.{is_inside, step, step_then, run, read, ended}, CutText.{run_grows, reached, reached-is}}
+use Rattle.gs_bet.proofs.{Runs.{completes, runs_tree, runs_act, runs_to_letter, runs_to_chips}, Players.{player_cases}}
 
 -- ---- runs and prefixes
 

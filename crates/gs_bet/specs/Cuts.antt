@@ -1,8 +1,7 @@
 -- Prefixes of a tree's text: what has been read up to a cut, and what is expected next.
 use Rattle.std.specs.Prelude.{ℕ, ◌+◌, ◌-◌, ◌≡◌, ◌<◌, ◌≤◌, true, false, List, [], ◌∷◌, ◌++◌, length}
 use Rattle.gs_model.specs.Betting.{Bet, Moves, none, move}
-use Rattle.gs_bet.specs.MoveLists.{count, has_move, has_letter}
-use Rattle.gs_bet.specs.Grammar.{chips_text, tree_text, moves_text, is_letter, is_player, are_sound, is_tree}
+use Rattle.gs_bet.specs.{MoveLists.{count, has_move, has_letter}, Grammar.{chips_text, tree_text, moves_text, is_letter, is_player, are_sound, is_tree}}
 
 -- an act that is still open: its moves so far, and the letter and chips of the move that is being read
 pub record Open : Type 0 where

@@ -1,15 +1,10 @@
 -- Which fault a text has.
 use Rattle.std.specs.Prelude.{ℕ, ◌≡◌, List, take, slice_get, Option, Some, Result, Ok, Err, ◌&&◌, ◌||◌, ◌==◌, if◌then◌else◌, length}
-use Rattle.gs_bet.specs.declared.fault.Mistake.{Mistake}
-use Rattle.gs_bet.specs.declared.fault.Mistake.TheVariants.{RepeatedLetter, TooDeep, Syntax}
-use Rattle.gs_bet.specs.declared.fault.TreeFault.{TreeFault}
+use Rattle.gs_bet.specs.{declared.fault.Mistake.{Mistake}, declared.fault.Mistake.TheVariants.{RepeatedLetter, TooDeep, Syntax}}
+use Rattle.gs_bet.specs.{declared.fault.TreeFault.{TreeFault}, declared.shape.BetTree.{BetTree}, TreeView.{plain}, MoveLists.{has_letter}}
+use Rattle.gs_bet.specs.{Grammar.{IsLongest, is_letter}, Cuts.{Cut, at_tree, at_letter, cut_text, IsCut}}
 use Rattle.gs_bet.specs.declared.fault.TreeFault.TheVariants as faults
-use Rattle.gs_bet.specs.declared.shape.BetTree.{BetTree}
-use Rattle.gs_bet.specs.TreeView.{plain}
 use Rattle.gs_model.specs.Betting.{Bet}
-use Rattle.gs_bet.specs.MoveLists.{has_letter}
-use Rattle.gs_bet.specs.Grammar.{IsLongest, is_letter}
-use Rattle.gs_bet.specs.Cuts.{Cut, at_tree, at_letter, cut_text, IsCut}
 
 -- what is wrong at a cut with a byte that cannot come next, or with the end of the text
 abbrev pub mistake_at : Cut → Option ℕ → Mistake

@@ -1,12 +1,9 @@
 -- Reading a tree's text from the left. A reader gives the value and the bytes after it, or the first mistake and the bytes from it on.
 use Rattle.std.specs.Prelude.{ℕ, zero, suc, ◌+◌, ◌-◌, ◌*◌, ◌≡◌, Bool, true, false, ◌&&◌, ◌||◌, ◌==◌, nat_lt, nat_le, if◌then◌else◌, List, [], ◌∷◌, length, Result, Ok, Err}
-use Rattle.gs_bet.specs.declared.fault.Mistake.{Mistake}
-use Rattle.gs_bet.specs.declared.fault.Mistake.TheVariants.{RepeatedLetter, TooDeep, Syntax}
-use Rattle.gs_bet.specs.declared.fault.Stop.{Stop}
+use Rattle.gs_bet.specs.{declared.fault.Mistake.{Mistake}, declared.fault.Mistake.TheVariants.{RepeatedLetter, TooDeep, Syntax}, declared.fault.Stop.{Stop}}
+use Rattle.gs_bet.specs.{MoveLists.{count, has_letter, push_move}, Grammar.{is_letter}}
 use Rattle.gs_bet.specs.declared.fault.Stop.TheVariants as stops
 use Rattle.gs_model.specs.Betting.{Bet, Moves, act, fold, even, none}
-use Rattle.gs_bet.specs.MoveLists.{count, has_letter, push_move}
-use Rattle.gs_bet.specs.Grammar.{is_letter}
 
 -- what reading gives: a value and the bytes after it, or a mistake and the bytes from it on
 abbrev pub Read : Type 0 → Type 0

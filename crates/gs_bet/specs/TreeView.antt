@@ -1,9 +1,7 @@
 -- The program's betting trees, acts and moves as the definitions see them.
 use Rattle.std.specs.Prelude.{ℕ, List, [], ◌∷◌}
-use Rattle.gs_bet.specs.declared.shape.Tree.{Tree, Tree-F, fold-Tree}
-use Rattle.gs_bet.specs.declared.shape.Tree.TheOpen.{Act, Fold, Even}
-use Rattle.gs_bet.specs.declared.shape.Act.{Act as Choice, Act-F, fold-Act}
-use Rattle.gs_bet.specs.declared.shape.Move.{Move, Move-F}
+use Rattle.gs_bet.specs.{declared.shape.Tree.{Tree, Tree-F, fold-Tree}, declared.shape.Tree.TheOpen.{Act, Fold, Even}}
+use Rattle.gs_bet.specs.{declared.shape.Act.{Act as Choice, Act-F, fold-Act}, declared.shape.Move.{Move, Move-F}}
 use Rattle.gs_model.specs.Betting.{Bet, Moves, act, fold, even, none, move}
 
 -- a move as the definitions see it: letter, chips and the tree that follows

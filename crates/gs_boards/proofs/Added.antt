@@ -1,8 +1,6 @@
 -- Signed numbers that are added as the machine adds them.
-use Rattle.std.proofs.Common.{◌≡◌, ◌<◌, ◌^◌, ◌∙◌, ◌+ℤ◌, ℤ, ap, arith, subst, sym, to_z, of_z}
-use Rattle.std.specs.Int.{w128}
-use Rattle.std.specs.Prelude.{unsigned_abs}
-use Rattle.std.proofs.lemmas.Int.{fits_signed_from_abs, ints, to_z-of_z}
+use Rattle.std.proofs.{Common.{◌≡◌, ◌<◌, ◌^◌, ◌∙◌, ◌+ℤ◌, ℤ, ap, arith, subst, sym, to_z, of_z}, lemmas.Int.{fits_signed_from_abs, ints, to_z-of_z}}
+use Rattle.std.specs.{Int.{w128}, Prelude.{unsigned_abs}}
 use borrow.Author.Differences.{abs_is}
 use mir.Val.{SFits}
 

@@ -1,8 +1,7 @@
 -- What a place is paid fits 128 bits, so that the machine's numbers are the whole numbers meant.
 use Rattle.std.proofs.Common.{◌≡◌, ◌*◌, ◌<◌, ◌≤◌, ◌^◌, ◌∙◌, ℕ, ℤ, pos, negsuc, ◌-ℤ◌, ◌*ℤ◌, neg_ℤ, unsigned_abs, to_z, of_z, ap, arith, subst, sym}
+use Rattle.std.proofs.{lemmas.Int.{fits_signed_from_abs, ints, to_z-of_z, to_z_pos, unsigned_abs-mul}, lemmas.Nat.{mul-le}}
 use Rattle.std.specs.Int.{w32, w128}
-use Rattle.std.proofs.lemmas.Int.{fits_signed_from_abs, ints, to_z-of_z, to_z_pos, unsigned_abs-mul}
-use Rattle.std.proofs.lemmas.Nat.{mul-le}
 use mir.Val.{SFits}
 
 -- ---- a fixed stake in each of n deals

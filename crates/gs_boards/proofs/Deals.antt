@@ -1,30 +1,15 @@
 -- What a last-round signal is paid in its deals: a sum over the places of its board, before and behind its own.
 use Rattle.std.proofs.Common.{◌≡◌, ◌+◌, ◌<◌, ◌≤◌, ◌∙◌, ℕ, zero, suc, ℤ, pos, Bool, true, false, cond, eqb, nat_lt, List, ◌∷◌, drop, length, get_or, map, take, refl, sym, ap, subst, arith, ⊎_elim}
-use Rattle.std.specs.Prelude.{◌==◌, ◌&&◌, ◌+ℤ◌, ◌*ℤ◌, All, filter, slice_index}
-use Rattle.std.specs.List.{range_with_len}
-use Rattle.std.proofs.Math.IntN.{+ℤ_idl}
-use Rattle.std.proofs.lemmas.Bool.{cases_lt}
-use Rattle.std.proofs.lemmas.Bool.Decides.{Decides-eqb}
-use Rattle.std.proofs.lemmas.Int.{ints}
+use Rattle.std.proofs.{Math.IntN.{+ℤ_idl}, lemmas.Bool.{cases_lt}, lemmas.Bool.Decides.{Decides-eqb}, lemmas.Int.{ints}}
 use Rattle.std.proofs.lemmas.List.{drop_more, get_or-drop, get_or-take, get_or_default, length-drop, length-take, take-append-drop}
-use Rattle.gs_model.specs.Deals.{Deal}
-use Rattle.gs_model.specs.Game.{Game, round_count}
-use Rattle.gs_model.specs.Signals.{signal_at}
-use Rattle.gs_model.specs.Sums.{sum_z}
-use Rattle.gs_model.specs.ViewTree.{signal_outcome}
-use Rattle.gs_model.proofs.Total.{sum_z-append, sum_z-same_all}
-use Rattle.gs_model.proofs.Basics.{not_eq}
-use Rattle.gs_tree.specs.Plain.{IsPlain}
-use Rattle.gs_tree.specs.Walk.{deal_at, last_count, shows_same}
-use Rattle.gs_tree.proofs.Pairs.{row_deals}
-use Rattle.gs_tree.proofs.Weighed.{weight_is}
-use Rattle.gs_boards.specs.Boards.{ArePlaces, IsPlace, deal_sum, paid}
-use Rattle.gs_boards.specs.Places.{AreApart}
-use Rattle.gs_boards.specs.Runs.{number_at, outcome_at, paid_by}
-use Rattle.gs_boards.specs.declared.pays.Pays.{Pays}
+use Rattle.std.specs.{Prelude.{◌==◌, ◌&&◌, ◌+ℤ◌, ◌*ℤ◌, All, filter, slice_index}, List.{range_with_len}}
+use Rattle.gs_model.specs.{Deals.{Deal}, Game.{Game, round_count}, Signals.{signal_at}, Sums.{sum_z}, ViewTree.{signal_outcome}}
+use Rattle.gs_model.proofs.{Total.{sum_z-append, sum_z-same_all}, Basics.{not_eq}}
+use Rattle.gs_tree.specs.{Plain.{IsPlain}, Walk.{deal_at, last_count, shows_same}}
+use Rattle.gs_tree.proofs.{Pairs.{row_deals}, Weighed.{weight_is}}
+use Rattle.gs_boards.specs.{Boards.{ArePlaces, IsPlace, deal_sum, paid}, Places.{AreApart}, Runs.{number_at, outcome_at, paid_by}, declared.pays.Pays.{Pays}}
 use Rattle.gs_boards.specs.declared.place.Place.{Place}
-use Rattle.gs_boards.proofs.Once.{apart_from, over_places, place_of}
-use Rattle.gs_boards.proofs.Telling.{board_tells, outcome_tells}
+use Rattle.gs_boards.proofs.{Once.{apart_from, over_places, place_of}, Telling.{board_tells, outcome_tells}}
 
 module _ (g : Game) (plain : IsPlain g) (numbers : List ℕ) (pays : ℤ → ℤ) where
   -- what a deal adds

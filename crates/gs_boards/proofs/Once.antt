@@ -1,17 +1,11 @@
 -- Places of which each signal has one.
 use Rattle.std.proofs.Common.{◌≡◌, ◌<◌, ◌∙◌, ℕ, zero, suc, ℤ, pos, Bool, true, false, cond, List, [], ◌∷◌, length, get_or, map, refl, sym, ap, arith, count_by}
-use Rattle.std.specs.Prelude.{◌==◌, All}
-use Rattle.std.specs.List.{range_with_len}
-use Rattle.std.specs.List.Sorted.{IsPermutation}
-use Rattle.std.proofs.lemmas.Bool.Decides.{Decides-eqb}
-use Rattle.std.proofs.lemmas.List.FromFn.{get_or-range_with_len, length-range_with_len}
-use Rattle.std.proofs.lemmas.List.Sorted.{sum_by-IsPermutation}
-use Rattle.std.proofs.lemmas.List.Sums.{get_or-le-sum_by, sum_by-cons}
+use Rattle.std.proofs.{lemmas.Bool.Decides.{Decides-eqb}, lemmas.List.FromFn.{get_or-range_with_len, length-range_with_len}}
+use Rattle.std.proofs.{lemmas.List.Sorted.{sum_by-IsPermutation}, lemmas.List.Sums.{get_or-le-sum_by, sum_by-cons}}
+use Rattle.std.specs.{Prelude.{◌==◌, All}, List.{range_with_len}, List.Sorted.{IsPermutation}}
 use Rattle.gs_model.specs.Sums.{sum_z}
-use Rattle.gs_model.proofs.RawBound.{range_once}
-use Rattle.gs_model.proofs.Total.{pick_one, sum_z-regroup, sum_z-same, sum_z-same_all}
-use Rattle.gs_boards.specs.Places.{AreApart}
-use Rattle.gs_boards.specs.declared.place.Place.{Place}
+use Rattle.gs_model.proofs.{RawBound.{range_once}, Total.{pick_one, sum_z-regroup, sum_z-same, sum_z-same_all}}
+use Rattle.gs_boards.specs.{Places.{AreApart}, declared.place.Place.{Place}}
 
 -- ---- how often a test passes
 

@@ -1,20 +1,12 @@
 -- What a place is paid by what a walk has passed: what the sums of the walk give.
 use Rattle.std.proofs.Common.{◌≡◌, ◌+◌, ◌-◌, ◌*◌, ◌<◌, ◌≤◌, ◌∙◌, ℕ, ℤ, pos, neg_ℤ, Bool, true, false, cond, nat_lt, List, get_or, sym, ap, arith, ⊎_elim, sum_by}
+use Rattle.std.proofs.{Math.IntN.{*ℤ_comm}, lemmas.Bool.{cases_eq}, lemmas.Bool.Decides.{Decides-eqb, nat_tests}, lemmas.Int.{ints}}
 use Rattle.std.specs.Prelude.{◌==◌, ◌&&◌, ◌*ℤ◌, All}
-use Rattle.std.proofs.Math.IntN.{*ℤ_comm}
-use Rattle.std.proofs.lemmas.Bool.{cases_eq}
-use Rattle.std.proofs.lemmas.Bool.Decides.{Decides-eqb, nat_tests}
-use Rattle.std.proofs.lemmas.Int.{ints}
 use borrow.Author.Differences.{neg_is}
 use Rattle.gs_model.specs.Sums.{sum_z}
-use Rattle.gs_model.proofs.Total.{sum_z-mul, sum_z-same_all}
-use Rattle.gs_model.proofs.Regroup.{sum_z-pos}
-use Rattle.gs_model.proofs.Basics.{not_eq}
-use Rattle.gs_boards.specs.Runs.{HasPassed, board_sum, level_sum, lost_by, number_at, outcome_at, paid_by, won_by, worth_at}
-use Rattle.gs_boards.specs.declared.pays.Pays.{Pays}
-use Rattle.gs_boards.specs.declared.pays.Pays.TheVariants.{Fixed, Showdown}
-use Rattle.gs_boards.specs.declared.place.Place.{Place}
-use Rattle.gs_boards.specs.declared.running.Running.{Running}
+use Rattle.gs_model.proofs.{Total.{sum_z-mul, sum_z-same_all}, Regroup.{sum_z-pos}, Basics.{not_eq}}
+use Rattle.gs_boards.specs.{Runs.{HasPassed, board_sum, level_sum, lost_by, number_at, outcome_at, paid_by, won_by, worth_at}, declared.pays.Pays.{Pays}}
+use Rattle.gs_boards.specs.{declared.pays.Pays.TheVariants.{Fixed, Showdown}, declared.place.Place.{Place}, declared.running.Running.{Running}}
 use Rattle.gs_boards.proofs.Runs.{both_add}
 
 -- a sum of multiples of one number

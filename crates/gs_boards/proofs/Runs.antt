@@ -1,13 +1,9 @@
 -- Sums that run along the places of the boards, and what a place is paid by what a walk has passed.
 use Rattle.std.proofs.Common.{◌≡◌, ◌+◌, ◌*◌, ◌≤◌, ◌∙◌, ℕ, Bool, true, false, cond, List, [], ◌∷◌, length, get_or, refl, sym, ap, arith, ⊎_elim, sum_by}
-use Rattle.std.specs.Prelude.{◌==◌, ◌&&◌, All}
-use Rattle.std.proofs.lemmas.Bool.{cases_eq}
-use Rattle.std.proofs.lemmas.Bool.Decides.{Decides-eqb, nat_tests}
-use Rattle.std.proofs.lemmas.List.Elements.{All-head, All-tail}
+use Rattle.std.proofs.{lemmas.Bool.{cases_eq}, lemmas.Bool.Decides.{Decides-eqb, nat_tests}, lemmas.List.Elements.{All-head, All-tail}}
 use Rattle.std.proofs.lemmas.List.Sums.{sum_by-cons, sum_by-le}
-use Rattle.gs_boards.specs.Runs.{HasPassed, arrived, board_sum, level_sum, passed_by}
-use Rattle.gs_boards.specs.declared.place.Place.{Place}
-use Rattle.gs_boards.specs.declared.running.Running.{Running}
+use Rattle.std.specs.Prelude.{◌==◌, ◌&&◌, All}
+use Rattle.gs_boards.specs.{Runs.{HasPassed, arrived, board_sum, level_sum, passed_by}, declared.place.Place.{Place}, declared.running.Running.{Running}}
 use Rattle.gs_model.proofs.Basics.{not_eq}
 
 -- ---- sums over lists

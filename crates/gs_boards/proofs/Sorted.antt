@@ -1,11 +1,7 @@
 -- Places sorted by rank are in the order of boards and strengths.
-use Rattle.std.proofs.Common.{◌≡◌, ◌+◌, ◌*◌, ◌^◌, ◌<◌, ◌≤◌, ℕ, List, get_or, arith, ⊎_elim}
-use Rattle.std.specs.List.Sorted.{IsNonDecreasingBy, IsPermutation}
-use Rattle.std.specs.Prelude.{All}
-use Rattle.std.proofs.lemmas.Bool.{cases_lt}
-use Rattle.std.proofs.lemmas.List.Sorted.{All-permutation}
-use Rattle.gs_boards.specs.Places.{AreInOrder, IsNoLater, rank_of}
-use Rattle.gs_boards.specs.declared.place.Place.{Place}
+use Rattle.std.proofs.{Common.{◌≡◌, ◌+◌, ◌*◌, ◌^◌, ◌<◌, ◌≤◌, ℕ, List, get_or, arith, ⊎_elim}, lemmas.Bool.{cases_lt}, lemmas.List.Sorted.{All-permutation}}
+use Rattle.std.specs.{List.Sorted.{IsNonDecreasingBy, IsPermutation}, Prelude.{All}}
+use Rattle.gs_boards.specs.{Places.{AreInOrder, IsNoLater, rank_of}, declared.place.Place.{Place}}
 
 -- of two numbers with a low part below a bound, the one that is no more has a high part that is no more
 high_part : (a x b y : ℕ) → x < 2 ^ 32 → y < 2 ^ 32 → a * 2 ^ 32 + x ≤ b * 2 ^ 32 + y → a ≤ b

@@ -1,18 +1,12 @@
 -- What the places of two signals tell: whether they show the same public cards, and the outcome of their deal.
 use Rattle.std.proofs.Common.{◌≡◌, ◌<◌, ◌≤◌, ◌∙◌, ℕ, ℤ, pos, neg_ℤ, Bool, true, false, cond, nat_lt, refl, sym, ap, arith, true≢false, ⊎_elim}
+use Rattle.std.proofs.{lemmas.Bool.{cases_lt}, lemmas.Bool.Decides.{Decides-eqb}}
 use Rattle.std.specs.Prelude.{◌==◌, slice_index}
-use Rattle.std.proofs.lemmas.Bool.{cases_lt}
-use Rattle.std.proofs.lemmas.Bool.Decides.{Decides-eqb}
-use Rattle.gs_model.specs.Game.{Game, round_count}
-use Rattle.gs_model.specs.Outcome.{category}
-use Rattle.gs_model.specs.Signals.{Signal, signal_at}
-use Rattle.gs_model.specs.ViewTree.{signal_outcome, signal_strength}
+use Rattle.gs_model.specs.{Game.{Game, round_count}, Outcome.{category}, Signals.{Signal, signal_at}, ViewTree.{signal_outcome, signal_strength}}
 use Rattle.gs_model.proofs.Basics.{not_eq}
 use Rattle.gs_tree.specs.Walk.{shows_same}
 use Rattle.gs_tree.proofs.Same.{public_alike, public_self}
-use Rattle.gs_boards.specs.Boards.{IsFirstOn, IsPlace}
-use Rattle.gs_boards.specs.Runs.{outcome_at}
-use Rattle.gs_boards.specs.declared.place.Place.{Place}
+use Rattle.gs_boards.specs.{Boards.{IsFirstOn, IsPlace}, Runs.{outcome_at}, declared.place.Place.{Place}}
 
 module _ (g : Game) where
   at : ℕ → Signal

@@ -1,16 +1,8 @@
 -- What last-round signals are paid in their deals, and their order by boards and strengths.
 use Rattle.std.specs.Prelude.{ℕ, ◌≡◌, ◌==◌, ◌<◌, true, false, All, List, count_by, filter, length, ℤ, pos, ◌*ℤ◌, slice_index}
-use Rattle.gs_model.specs.Deals.{Deal, deals}
-use Rattle.gs_model.specs.Game.{Game, round_count}
-use Rattle.gs_model.specs.Outcome.{category}
-use Rattle.gs_model.specs.Signals.{signal_at}
-use Rattle.gs_model.specs.Sums.{sum_z}
-use Rattle.gs_model.specs.ViewTree.{signal_strength}
+use Rattle.gs_model.specs.{Deals.{Deal, deals}, Game.{Game, round_count}, Outcome.{category}, Signals.{signal_at}, Sums.{sum_z}, ViewTree.{signal_strength}}
 use Rattle.gs_tree.specs.Walk.{last_count, shows_same}
-use Rattle.gs_boards.specs.Places.{AreInOrder}
-use Rattle.gs_boards.specs.declared.pays.Pays.{Pays}
-use Rattle.gs_boards.specs.declared.pays.Pays.TheVariants.{Fixed, Showdown}
-use Rattle.gs_boards.specs.declared.place.Place.{Place}
+use Rattle.gs_boards.specs.{Places.{AreInOrder}, declared.pays.Pays.{Pays}, declared.pays.Pays.TheVariants.{Fixed, Showdown}, declared.place.Place.{Place}}
 
 -- what a player wins in a deal, in chips, by the own outcome
 abbrev pub paid : Pays → ℤ → ℤ

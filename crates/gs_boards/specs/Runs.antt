@@ -1,10 +1,7 @@
 -- Sums along the places of the boards.
 use Rattle.std.specs.Prelude.{ℕ, ◌≡◌, ◌==◌, ◌&&◌, ◌+◌, ◌-◌, ◌*◌, List, ℤ, pos, neg_ℤ, ◌*ℤ◌, nat_lt, if◌then◌else◌, slice_index, sum_by}
 use Rattle.gs_model.specs.Sums.{sum_z}
-use Rattle.gs_boards.specs.Boards.{paid}
-use Rattle.gs_boards.specs.declared.pays.Pays.{Pays}
-use Rattle.gs_boards.specs.declared.pays.Pays.TheVariants.{Fixed, Showdown}
-use Rattle.gs_boards.specs.declared.place.Place.{Place}
+use Rattle.gs_boards.specs.{Boards.{paid}, declared.pays.Pays.{Pays}, declared.pays.Pays.TheVariants.{Fixed, Showdown}, declared.place.Place.{Place}}
 use Rattle.gs_boards.specs.declared.running.Running.{Running}
 
 -- the outcome of the signal at a place against another on its board

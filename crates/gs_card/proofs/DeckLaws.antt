@@ -1,14 +1,9 @@
 -- Texts without a fault make a deck.
 use Rattle.std.proofs.Common.{◌≡◌, ◌≢◌, ℕ, ◌-◌, ◌*◌, ◌<◌, ◌≤◌, ◌==◌, ◌||◌, ◌&&◌, not, cond, Bool, true, false, List, [], ◌∷◌, length, nat_lt, nat_le, All, get_or, Some, None, arith, refl, ap, sym, ◌∙◌}
-use Rattle.std.specs.List.{list_all}
-use Rattle.std.specs.Char.{is_ascii_alphanumeric, is_ascii_digit}
-use Rattle.std.proofs.lemmas.List.{length-map, length-replicate}
-use Rattle.std.proofs.lemmas.List.Elements.{All-map, All-replicate}
-use Rattle.std.proofs.lemmas.List.Sums.{AllPass-from_list_all}
+use Rattle.std.proofs.{lemmas.List.{length-map, length-replicate}, lemmas.List.Elements.{All-map, All-replicate}, lemmas.List.Sums.{AllPass-from_list_all}}
 use Rattle.std.proofs.lemmas.Bool.{or_parts, and_parts, not-false, eqb-false, eqb-true, ltb-false, ne_eqb, leb-true}
-use Rattle.gs_card.specs.Decks.{IsDeck, repeats, counts_of, deck_of}
-use Rattle.gs_card.specs.DeckFaults.{fault_of}
-use Rattle.gs_card.specs.declared.faults.DeckFault.{DeckFault}
+use Rattle.std.specs.{List.{list_all}, Char.{is_ascii_alphanumeric, is_ascii_digit}}
+use Rattle.gs_card.specs.{Decks.{IsDeck, repeats, counts_of, deck_of}, DeckFaults.{fault_of}, declared.faults.DeckFault.{DeckFault}}
 use Rattle.gs_card.specs.declared.faults.DeckFault.TheVariants.{NoCards, BadLetter, RepeatedLetter, TooManyKinds, BadCopies}
 
 passes : (a b c d e : Bool) (f g h i j : DeckFault) → cond a (Some f) (cond b (Some g) (cond c (Some h) (cond d (Some i) (cond e (Some j) None)))) ≡ None

@@ -1,15 +1,11 @@
 -- The listed groups are all groups of the size, and they stand in order.
 use Rattle.std.proofs.Common.{◌≡◌, ◌≢◌, ◌↔◌, ℕ, zero, suc, ◌+◌, ◌-◌, ◌<◌, ◌≤◌, List, [], ◌∷◌, map, length, get_or, refl, ap, sym, ◌∙◌, subst, arith, cond, eqb, true, false, ⊎_elim, slice_set, All}
-use Rattle.std.specs.Prelude.{flat_map, Contains}
-use Rattle.std.specs.List.{range_with_len, AllByRecursion}
-use Rattle.std.specs.List.Sorted.{IsNonDecreasing}
 use Rattle.std.proofs.lemmas.Bool.{cases_eq, cases_lt, eq-eqb, ne_eqb, lt-ltb, le-ltb}
 use Rattle.std.proofs.lemmas.List.{get_or-set_same, get_or-set_other, length-map, get_or-map}
-use Rattle.std.proofs.lemmas.List.Elements.{All-contains, All-from_recursion, Contains-append_left, Contains-append_right}
-use Rattle.std.proofs.lemmas.List.Sums.{sum_by-cons}
+use Rattle.std.proofs.{lemmas.List.Elements.{All-contains, All-from_recursion, Contains-append_left, Contains-append_right}, lemmas.List.Sums.{sum_by-cons}}
+use Rattle.std.specs.{Prelude.{flat_map, Contains}, List.{range_with_len, AllByRecursion}, List.Sorted.{IsNonDecreasing}}
 use Rattle.gs_model.specs.Cards.{groups, groups_above, groups_with}
-use Rattle.gs_model.proofs.Listed.{times}
-use Rattle.gs_model.proofs.Basics.{every-map, every-weaker, every-append}
+use Rattle.gs_model.proofs.{Listed.{times}, Basics.{every-map, every-weaker, every-append}}
 use Rattle.gs_card.specs.Groups.{IsGroup}
 
 times-here : (k : ℕ) (g : List ℕ) → times k (k ∷ g) ≡ suc (times k g)

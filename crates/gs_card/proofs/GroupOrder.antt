@@ -1,13 +1,8 @@
 -- The listed groups stand in the order of lists of numbers.
 use Rattle.std.proofs.Common.{◌≡◌, ℕ, zero, suc, ◌+◌, ◌-◌, ◌<◌, ◌≤◌, List, [], ◌∷◌, ◌++◌, map, length, get_or, refl, ap, sym, ◌∙◌, arith, ⊎_elim, slice_set}
-use Rattle.std.specs.Prelude.{flat_map}
-use Rattle.std.specs.List.{range_with_len, AllByRecursion}
-use Rattle.std.specs.List.Sorted.{IsStrictlySortedBy}
-use Rattle.std.specs.Cmp.Lexicographic.{slice_cmp}
-use Rattle.std.specs.Cmp.{nat_cmp_is}
-use Rattle.std.specs.Ordering.{nat_cmp, ordering_then}
-use Rattle.std.specs.declared.cmp.Ordering.TheVariants.{Less, Equal}
 use Rattle.std.proofs.lemmas.Bool.{cases_lt, lt-ltb, le-ltb}
+use Rattle.std.specs.{Prelude.{flat_map}, List.{range_with_len, AllByRecursion}, List.Sorted.{IsStrictlySortedBy}, Cmp.Lexicographic.{slice_cmp}}
+use Rattle.std.specs.{Cmp.{nat_cmp_is}, Ordering.{nat_cmp, ordering_then}, declared.cmp.Ordering.TheVariants.{Less, Equal}}
 use Rattle.gs_model.specs.Cards.{groups_above, groups_with}
 use Rattle.gs_model.proofs.Basics.{every-map, every-weaker, every-append, every-any}
 use Rattle.gs_card.proofs.GroupLaws.{every-range}

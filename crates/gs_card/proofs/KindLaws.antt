@@ -1,12 +1,8 @@
 -- The places of a kind's letters give its number, and the number gives the places.
-use Rattle.std.proofs.Common.{◌≡◌, ℕ, ◌+◌, ◌*◌, ◌/◌, ◌%◌, ◌<◌, ◌==◌, false, List, length, Some, arith, ap, ◌∙◌, slice_index}
+use Rattle.std.proofs.{Common.{◌≡◌, ℕ, ◌+◌, ◌*◌, ◌/◌, ◌%◌, ◌<◌, ◌==◌, false, List, length, Some, arith, ap, ◌∙◌, slice_index}, lemmas.Bool.{eqb-true}}
+use Rattle.std.proofs.{lemmas.List.Quantifiers.{position-Some}, lemmas.Nat.{div-mul-add, mod-mul-add}, Math.Nat.{div-lt_iff_lt-mul}}
 use Rattle.std.specs.List.{position}
-use Rattle.std.proofs.lemmas.Bool.{eqb-true}
-use Rattle.std.proofs.lemmas.List.Quantifiers.{position-Some}
-use Rattle.std.proofs.lemmas.Nat.{div-mul-add, mod-mul-add}
-use Rattle.std.proofs.Math.Nat.{div-lt_iff_lt-mul}
-use Rattle.gs_card.specs.Decks.{repeats}
-use Rattle.gs_card.specs.Kinds.{HasLetters}
+use Rattle.gs_card.specs.{Decks.{repeats}, Kinds.{HasLetters}}
 use Rattle.gs_card.proofs.Letters.{position_here}
 
 -- where there is a kind there is a suit

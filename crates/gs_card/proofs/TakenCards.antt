@@ -1,12 +1,9 @@
 -- The ways of taking a group, card by card.
 use Rattle.std.proofs.Common.{◌≡◌, ◌≢◌, ℕ, zero, suc, ◌+◌, ◌-◌, ◌*◌, ◌/◌, ◌^◌, ◌<◌, ◌≤◌, List, [], ◌∷◌, ◌++◌, length, take, get_or, refl, ap, sym, ◌∙◌, cond, eqb, arith, ⊎_elim, subst, add-one, true, false}
-use Rattle.std.proofs.lemmas.Bool.{cases_lt, eq-eqb, ne_eqb}
-use Rattle.std.proofs.lemmas.List.{take_more}
-use Rattle.std.proofs.lemmas.List.Sums.{sum_by_push}
+use Rattle.std.proofs.{lemmas.Bool.{cases_lt, eq-eqb, ne_eqb}, lemmas.List.{take_more}, lemmas.List.Sums.{sum_by_push}}
 use Rattle.std.proofs.Math.Nat.{mul-div_cancel, div-le_self, pow-succ'}
 use Rattle.gs_model.specs.Cards.{choose, ways, ways_from}
-use Rattle.gs_model.proofs.Choose.{choose-zero}
-use Rattle.gs_model.proofs.Listed.{times}
+use Rattle.gs_model.proofs.{Choose.{choose-zero}, Listed.{times}}
 
 -- one more of n things is chosen: each choice of t + 1 comes from t + 1 choices of t
 pub choose_more : (n t : ℕ) → choose n (suc t) * suc t ≡ choose n t * (n - t)

@@ -1,9 +1,7 @@
 -- Why three texts make no deck: the first refusal that applies. Source: this project's game files.
-use Rattle.std.specs.Prelude.{ℕ, ◌*◌, ◌==◌, ◌||◌, ◌&&◌, not, List, length, nat_lt, Option, Some, None, if◌then◌else◌}
-use Rattle.std.specs.List.{list_all}
+use Rattle.std.specs.{Prelude.{ℕ, ◌*◌, ◌==◌, ◌||◌, ◌&&◌, not, List, length, nat_lt, Option, Some, None, if◌then◌else◌}, List.{list_all}}
 use Rattle.std.specs.Char.{is_ascii_alphanumeric, is_ascii_digit}
-use Rattle.gs_card.specs.Decks.{repeats}
-use Rattle.gs_card.specs.declared.faults.DeckFault.{DeckFault}
+use Rattle.gs_card.specs.{Decks.{repeats}, declared.faults.DeckFault.{DeckFault}}
 use Rattle.gs_card.specs.declared.faults.DeckFault.TheVariants.{NoCards, BadLetter, RepeatedLetter, TooManyKinds, BadCopies}
 
 -- the first refusal that applies to the texts of the ranks, the suits and the copies: no ranks or no suits; a byte of these two that is no ASCII letter or

@@ -1,8 +1,7 @@
 -- A deck: the letters of its ranks, lowest first, the letters of its suits, and how many copies of each kind there are. Kinds stand rank by rank
 -- and within a rank by suit. Source: this project's game files.
 use Rattle.std.specs.Prelude.{ℕ, ◌*◌, ◌-◌, ◌≡◌, ◌≤◌, ◌<◌, ◌==◌, ◌||◌, Bool, false, true, List, [], ◌∷◌, length, map, replicate, All, slice_index}
-use Rattle.std.specs.List.{list_any}
-use Rattle.std.specs.Char.{is_ascii_alphanumeric}
+use Rattle.std.specs.{List.{list_any}, Char.{is_ascii_alphanumeric}}
 use Rattle.gs_model.specs.Outcome.{rank_of, suit_of}
 
 -- a deck as contracts see it: the letters of the ranks and of the suits, and the number of copies of each kind

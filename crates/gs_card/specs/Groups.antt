@@ -1,8 +1,6 @@
 -- Which lists of cards are groups of a size, and that all of them are listed, each once. Source: drawing without replacement.
-use Rattle.std.specs.Prelude.{ℕ, ◌≡◌, ◌≤◌, ◌==◌, ◌↔◌, List, length, count_by, slice_index, Contains}
-use Rattle.std.specs.List.Sorted.{IsNonDecreasing, IsStrictlySortedBy}
-use Rattle.std.specs.Cmp.Lexicographic.{slice_cmp}
-use Rattle.std.specs.Ordering.{nat_cmp}
+use Rattle.std.specs.{Prelude.{ℕ, ◌≡◌, ◌≤◌, ◌==◌, ◌↔◌, List, length, count_by, slice_index, Contains}, List.Sorted.{IsNonDecreasing, IsStrictlySortedBy}}
+use Rattle.std.specs.{Cmp.Lexicographic.{slice_cmp}, Ordering.{nat_cmp}}
 use Rattle.gs_model.specs.Cards.{groups}
 
 -- a list of cards is a group of this size that `left` allows: it ascends, and no kind occurs in it more often than copies are left

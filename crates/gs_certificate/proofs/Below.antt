@@ -1,14 +1,9 @@
 -- The first class of a point whose number is less than what a move is worth.
-use Rattle.std.proofs.Common.{◌≡◌, ◌≢◌, ℕ, ◌+◌, ◌<◌, ◌≤◌, Bool, true, false, sym, subst, arith, ⊎_elim}
+use Rattle.std.proofs.{Common.{◌≡◌, ◌≢◌, ℕ, ◌+◌, ◌<◌, ◌≤◌, Bool, true, false, sym, subst, arith, ⊎_elim}, lemmas.Bool.{cases_eq}}
 use Rattle.std.specs.Prelude.{◌≤ℤ◌, ◌<ℤ◌}
-use Rattle.std.proofs.lemmas.Bool.{cases_eq}
-use Rattle.gs_model.specs.BestAnswers.{Values, class_worth}
-use Rattle.gs_model.specs.Classes.{ClassLists, IsClass, class_count}
-use Rattle.gs_model.specs.Frame.{Frame, leads_to, move_count, player_at, round_of}
-use Rattle.gs_model.specs.Positions.{Target, at_point}
-use Rattle.gs_certificate.specs.Numbers.{AreHighAt, IsFirstLowAt, Tells}
-use Rattle.gs_certificate.specs.Spots.{IsFirstBelow}
-use Rattle.gs_certificate.specs.Worths.{target_worth}
+use Rattle.gs_model.specs.{BestAnswers.{Values, class_worth}, Classes.{ClassLists, IsClass, class_count}}
+use Rattle.gs_model.specs.{Frame.{Frame, leads_to, move_count, player_at, round_of}, Positions.{Target, at_point}}
+use Rattle.gs_certificate.specs.{Numbers.{AreHighAt, IsFirstLowAt, Tells}, Spots.{IsFirstBelow}, Worths.{target_worth}}
 
 module _ (f : Frame) (lists : ClassLists) (v : Values) (q : ℕ) where
   -- the numbers of the classes up to one are at least what a move to a position is worth

@@ -1,20 +1,12 @@
 -- What ends pay, kept end by end.
 use Rattle.std.proofs.Common.{◌≡◌, ◌≢◌, ℕ, ◌+◌, ◌-◌, ◌<◌, ◌≤◌, List, [], ◌∷◌, ◌++◌, length, get_or, refl, sym, ap, subst, ◌∙◌, arith, ⊎_elim}
+use Rattle.std.proofs.{lemmas.Bool.{cases_eq}, lemmas.List.{get_or-append-add, get_or_append_left, get_or_push, length_push}, Math.ListN.{length-append}}
 use Rattle.std.specs.Prelude.{ℤ, pos}
-use Rattle.std.proofs.lemmas.Bool.{cases_eq}
-use Rattle.std.proofs.lemmas.List.{get_or-append-add, get_or_append_left, get_or_push, length_push}
-use Rattle.std.proofs.Math.ListN.{length-append}
-use Rattle.gs_model.specs.Classes.{ClassLists, IsClass}
-use Rattle.gs_model.specs.Frame.{Frame, round_of}
-use Rattle.gs_model.specs.Plans.{IsClassPlan, Plan}
-use Rattle.gs_model.specs.Positions.{at_end}
-use Rattle.gs_seq.specs.Payoffs.{end_classes, end_sum}
-use Rattle.gs_seq.specs.Plans.{class_plan}
+use Rattle.gs_model.specs.{Classes.{ClassLists, IsClass}, Frame.{Frame, round_of}, Plans.{IsClassPlan, Plan}, Positions.{at_end}}
+use Rattle.gs_seq.specs.{Payoffs.{end_classes, end_sum}, Plans.{class_plan}}
 use Rattle.gs_seq.proofs.Forms.{AreGiven, given}
-use Rattle.gs_best.specs.Forms.{game_in}
-use Rattle.gs_best.specs.declared.deviator.Deviator.{Deviator}
-use Rattle.gs_best.proofs.Forms.{form_classes}
-use Rattle.gs_best.proofs.Sides.{frame, lists}
+use Rattle.gs_best.specs.{Forms.{game_in}, declared.deviator.Deviator.{Deviator}}
+use Rattle.gs_best.proofs.{Forms.{form_classes}, Sides.{frame, lists}}
 use Rattle.gs_certificate.specs.Paid.{AreKept}
 
 module _ (f : Frame) (lists : ClassLists) (player : ℕ) (y : Plan) where

@@ -1,12 +1,10 @@
 -- Plain bytes: digits, the minus sign and the bar, of which the texts of numbers are made.
 use Rattle.std.proofs.Common.{◌≡◌, ℕ, suc, ◌<◌, ◌≤◌, ◌^◌, ◌&&◌, ◌==◌, List, [], ◌∷◌, ◌++◌, length, get_or, IsTrue, ℤ, pos, negsuc, decimal, refl, arith}
-use Rattle.std.specs.Prelude.{nat_lt, unsigned_abs}
-use Rattle.std.specs.Fmt.{signed_decimal}
 use Rattle.std.proofs.lemmas.Bool.{and_parts, ltb-true, false≢true}
+use Rattle.std.specs.{Prelude.{nat_lt, unsigned_abs}, Fmt.{signed_decimal}}
 use Rattle.json.specs.Print.{escape, escape_byte}
 use Rattle.json.proofs.Printed.Strings.{escape_byte_plain}
-use Rattle.gs_frac.specs.Gcd.{gcd_of}
-use Rattle.gs_frac.specs.Texts.{fraction_text, is_fraction, limit}
+use Rattle.gs_frac.specs.{Gcd.{gcd_of}, Texts.{fraction_text, is_fraction, limit}}
 use Rattle.gs_frac.proofs.Numerals.{digit_in, digits_of_decimal}
 
 abbrev pub Plain : List ℕ → Type 0

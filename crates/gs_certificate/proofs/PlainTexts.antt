@@ -1,29 +1,18 @@
 -- The text of a certificate, part by part: plain texts stand as they are between their quotes.
 use Rattle.std.proofs.Common.{◌≡◌, ◌≢◌, ℕ, zero, suc, ◌+◌, ◌-◌, ◌*◌, ◌<◌, ◌≤◌, ◌^◌, ◌&&◌, ◌==◌, Bool, true, false, List, [], ◌∷◌, ◌++◌, map, length, get_or, take, drop, All, IsTrue, ℤ, decimal, Some, inl, inr, refl, sym, ap, ap₂, ◌∙◌, subst, append_assoc, arith}
-use Rattle.std.specs.Prelude.{codes, unsigned_abs}
-use Rattle.std.specs.Fmt.{signed_decimal}
-use Rattle.std.specs.Char.{is_ascii_digit}
-use Rattle.std.specs.Str.{all_ascii_digits}
-use Rattle.std.specs.Str.Parse.{digits_value}
-use Rattle.std.proofs.lemmas.Bool.{and_parts, cases_Bool, le-leb, ne_eqb, false≢true}
-use Rattle.std.proofs.lemmas.Int.{fits_signed_from_abs, to_z-of_z}
+use Rattle.std.proofs.{lemmas.Bool.{and_parts, cases_Bool, le-leb, ne_eqb, false≢true}, lemmas.Int.{fits_signed_from_abs, to_z-of_z}}
+use Rattle.std.proofs.{lemmas.Fmt.{decimal_digit}, lemmas.Int.Digits.{digits_value_more}}
+use Rattle.std.proofs.{lemmas.List.{get_or-take, length-take-le, take-append-drop, take_more}, lemmas.List.Elements.{All-head, All-tail}}
+use Rattle.std.specs.{Prelude.{codes, unsigned_abs}, Fmt.{signed_decimal}, Char.{is_ascii_digit}, Str.{all_ascii_digits}, Str.Parse.{digits_value}}
 use mir.Syntax.{w128}
 use mir.Val.{of_z, to_z}
 use Rattle.json.specs.Print.{escape, escape_byte, quoted}
-use Rattle.std.proofs.lemmas.Fmt.{decimal_digit}
-use Rattle.std.proofs.lemmas.Int.Digits.{digits_value_more}
-use Rattle.std.proofs.lemmas.List.{get_or-take, length-take-le, take-append-drop, take_more}
-use Rattle.std.proofs.lemmas.List.Elements.{All-head, All-tail}
-use Rattle.serde_json.specs.Written.{comma_if, compact_text, items_text}
-use Rattle.serde_json.specs.View.{items_of}
+use Rattle.serde_json.specs.{Written.{comma_if, compact_text, items_text}, View.{items_of}}
 use Rattle.gs_frac.specs.Texts.{fraction_text, is_fraction, is_numeral, number_of, signed}
-use Rattle.gs_frac.proofs.Numerals.{decimal_of_value, digit_value-is}
-use Rattle.gs_frac.proofs.TextLaws.{with_sign, signed-is}
-use Rattle.gs_certificate.specs.Reading.{number_at}
-use Rattle.gs_certificate.specs.Straight.{AreDigits, StandsFor, opened}
+use Rattle.gs_frac.proofs.{Numerals.{decimal_of_value, digit_value-is}, TextLaws.{with_sign, signed-is}}
+use Rattle.gs_certificate.specs.{Reading.{number_at}, Straight.{AreDigits, StandsFor, opened}}
 use Rattle.gs_certificate.specs.Texts.{Side, Stated, certificate_data, certificate_text, number_data, side_data}
-use Rattle.gs_certificate.proofs.Plain.{escaped, fraction_plain, signed_plain}
-use Rattle.gs_certificate.proofs.Small.{by_parts}
+use Rattle.gs_certificate.proofs.{Plain.{escaped, fraction_plain, signed_plain}, Small.{by_parts}}
 
 -- ---- one number
 

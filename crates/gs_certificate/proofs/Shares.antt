@@ -1,11 +1,7 @@
 -- A number beside an equal share, and nothing is divided.
-use Rattle.std.proofs.Common.{◌≡◌, ℕ, ◌*◌, ◌<◌, ◌≤◌, ◌^◌, Bool, true, false, not, inl, inr, sym, subst, ◌∙◌, arith}
-use Rattle.std.specs.Prelude.{ℤ, pos, ◌+ℤ◌, ◌*ℤ◌, ◌≤ℤ◌, ◌<ℤ◌, T}
-use Rattle.std.specs.Int.Signed.{lt_z, lt_z_no, lt_z_yes}
-use Rattle.std.proofs.Math.IntN.{*ℤ_comm}
-use Rattle.std.proofs.Math.Nat.{mul-le-mul_right}
-use Rattle.std.proofs.lemmas.Bool.{cases_Bool}
-use Rattle.std.proofs.lemmas.Int.{by_lt_z, ints}
+use Rattle.std.proofs.{Common.{◌≡◌, ℕ, ◌*◌, ◌<◌, ◌≤◌, ◌^◌, Bool, true, false, not, inl, inr, sym, subst, ◌∙◌, arith}, Math.IntN.{*ℤ_comm}}
+use Rattle.std.proofs.{Math.Nat.{mul-le-mul_right}, lemmas.Bool.{cases_Bool}, lemmas.Int.{by_lt_z, ints}}
+use Rattle.std.specs.{Prelude.{ℤ, pos, ◌+ℤ◌, ◌*ℤ◌, ◌≤ℤ◌, ◌<ℤ◌, T}, Int.Signed.{lt_z, lt_z_no, lt_z_yes}}
 use Rattle.gs_model.proofs.Total.{mul-add_right, mul-le}
 use Rattle.gs_certificate.specs.Numbers.{Tells}
 

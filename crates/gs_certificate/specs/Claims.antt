@@ -1,14 +1,9 @@
 -- A claim: a player's numbers that are checked. For private functions.
 use Rattle.std.specs.Prelude.{IfSome}
-use Rattle.gs_model.specs.BestAnswers.{Values}
-use Rattle.gs_model.specs.Classes.{ClassLists}
-use Rattle.gs_model.specs.Frame.{Frame}
-use Rattle.gs_seq.specs.Abstracts.{frame_of, lists_of}
-use Rattle.gs_seq.specs.Plans.{class_plan, lifted}
+use Rattle.gs_model.specs.{BestAnswers.{Values}, Classes.{ClassLists}, Frame.{Frame}}
+use Rattle.gs_seq.specs.{Abstracts.{frame_of, lists_of}, Plans.{class_plan, lifted}}
 use Rattle.gs_best.specs.Tables.{table_of}
-use Rattle.gs_certificate.specs.Numbers.{AreNumbers}
-use Rattle.gs_certificate.specs.Paid.{ArePaid}
-use Rattle.gs_certificate.specs.declared.claim.Claim.{Claim}
+use Rattle.gs_certificate.specs.{Numbers.{AreNumbers}, Paid.{ArePaid}, declared.claim.Claim.{Claim}}
 
 -- the game
 abbrev pub frame_in : Claim → Frame

@@ -1,11 +1,8 @@
 -- The text of each fault of a certificate, and of each fault of a certificate's text. Source: this project's printed texts.
-use Rattle.std.specs.Prelude.{ℕ, List, ◌++◌, codes}
-use Rattle.std.specs.Fmt.{decimal}
-use Rattle.gs_frac.specs.FaultText.{fault_text as fraction_fault_text}
-use Rattle.gs_frac.specs.Texts.{fraction_text}
-use Rattle.gs_certificate.specs.declared.fault.CertFault.{CertFault}
+use Rattle.std.specs.{Prelude.{ℕ, List, ◌++◌, codes}, Fmt.{decimal}}
+use Rattle.gs_frac.specs.{FaultText.{fault_text as fraction_fault_text}, Texts.{fraction_text}}
+use Rattle.gs_certificate.specs.{declared.fault.CertFault.{CertFault}, declared.text_fault.CertTextFault.{CertTextFault}}
 use Rattle.gs_certificate.specs.declared.fault.CertFault.TheVariants as fault
-use Rattle.gs_certificate.specs.declared.text_fault.CertTextFault.{CertTextFault}
 use Rattle.gs_certificate.specs.declared.text_fault.CertTextFault.TheVariants as text
 
 -- why a certificate does not hold

@@ -1,9 +1,6 @@
 -- What ends pay a player, end by end and class by class. For private functions.
 use Rattle.std.specs.Prelude.{ℕ, ◌+◌, ◌-◌, ◌<◌, ◌≤◌, ◌≡◌, List, get_or, length, ℤ, pos}
-use Rattle.gs_model.specs.Classes.{ClassLists, IsClass}
-use Rattle.gs_model.specs.Frame.{Frame, end_count, round_of}
-use Rattle.gs_model.specs.Plans.{Plan}
-use Rattle.gs_model.specs.Positions.{at_end}
+use Rattle.gs_model.specs.{Classes.{ClassLists, IsClass}, Frame.{Frame, end_count, round_of}, Plans.{Plan}, Positions.{at_end}}
 use Rattle.gs_seq.specs.Payoffs.{end_classes, end_sum}
 use Rattle.gs_certificate.specs.declared.tables.EndSums.{EndSums}
 

@@ -1,15 +1,10 @@
 -- Points whose numbers are checked, and where their moves lead. For private functions.
 use Rattle.std.specs.Prelude.{ℕ, ◌+◌, ◌<◌, ◌≤◌, ◌≡◌, List, length, get_or, ◌≤ℤ◌, ◌<ℤ◌}
 use Rattle.gs_game.specs.Seen.{target_of}
-use Rattle.gs_model.specs.BestAnswers.{Values}
-use Rattle.gs_model.specs.Classes.{ClassLists, IsClass}
-use Rattle.gs_model.specs.Frame.{Frame, last_round, leads_to, point_count, round_of}
-use Rattle.gs_model.specs.FrameFacts.{IsInside}
-use Rattle.gs_model.specs.Positions.{Target, at_end, at_point}
+use Rattle.gs_model.specs.{BestAnswers.{Values}, Classes.{ClassLists, IsClass}, Frame.{Frame, last_round, leads_to, point_count, round_of}}
+use Rattle.gs_model.specs.{FrameFacts.{IsInside}, Positions.{Target, at_end, at_point}}
 use Rattle.gs_best.specs.Tables.{start_of}
-use Rattle.gs_certificate.specs.Worths.{target_worth}
-use Rattle.gs_certificate.specs.declared.spot.Spot.{Spot}
-use Rattle.gs_certificate.specs.declared.spot.Way.{Way}
+use Rattle.gs_certificate.specs.{Worths.{target_worth}, declared.spot.Spot.{Spot}, declared.spot.Way.{Way}}
 
 -- a point of the game, its round, and the place of its first number
 pub record IsSpot (f : Frame) (lists : ClassLists) (s : Spot) : Type 0 where

@@ -1,7 +1,5 @@
 -- The parts of a certificate's text, as they are read straight. For private functions.
-use Rattle.std.specs.Prelude.{ℕ, ℤ, ◌≡◌, ◌<◌, ◌≤◌, ◌^◌, true, List, [], ◌∷◌, ◌++◌, codes, length, take}
-use Rattle.std.specs.Fmt.{signed_decimal}
-use Rattle.std.specs.Str.{all_ascii_digits}
+use Rattle.std.specs.{Prelude.{ℕ, ℤ, ◌≡◌, ◌<◌, ◌≤◌, ◌^◌, true, List, [], ◌∷◌, ◌++◌, codes, length, take}, Fmt.{signed_decimal}, Str.{all_ascii_digits}}
 use Rattle.std.specs.Str.Parse.{digits_value}
 
 -- the text of numbers, each followed by what stands between it and the next

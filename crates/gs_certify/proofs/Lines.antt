@@ -2,37 +2,21 @@
 use Rattle.std.proofs.Common.{◌≡◌, ℕ, List, length, Result, Ok, Err, inl, inr, refl, ap, subst, ◌∙◌, arith}
 use Rattle.std.specs.Prelude.{unsigned_abs}
 use Rattle.gs_best.specs.Tables.{table_of}
-use Rattle.gs_certificate.specs.Checks.{AreSmall, IsSound}
-use Rattle.gs_certificate.specs.Numbers.{number_count}
-use Rattle.gs_certificate.specs.Texts.{Side, Stated, certificate_text}
-use Rattle.gs_certificate.specs.Views.{certificate_view}
-use Rattle.gs_certificate.specs.declared.certificate.Certificate.{Certificate}
-use Rattle.gs_certificate.specs.declared.text_fault.CertTextFault.{CertTextFault}
-use Rattle.gs_certificate.proofs.Holding.{faults_exclude}
-use Rattle.gs_certificate.proofs.Only.{only as certificate_only, stated}
-use Rattle.gs_certificate.proofs.OneText.{one_certificate}
+use Rattle.gs_certificate.specs.{Checks.{AreSmall, IsSound}, Numbers.{number_count}, Texts.{Side, Stated, certificate_text}, Views.{certificate_view}}
+use Rattle.gs_certificate.specs.{declared.certificate.Certificate.{Certificate}, declared.text_fault.CertTextFault.{CertTextFault}}
+use Rattle.gs_certificate.proofs.{Holding.{faults_exclude}, Only.{only as certificate_only, stated}, OneText.{one_certificate}}
 use Rattle.gs_confirm.specs.Commands.{OfStrategy}
 use Rattle.gs_file.specs.declared.version.Version.TheVariants.{Two}
 use Rattle.gs_json.specs.FirstLine.{first_line}
 use Rattle.gs_json.proofs.Feeds.{line_parted}
-use Rattle.gs_model.specs.Certificate.{IsCertificate}
-use Rattle.gs_model.specs.Classes.{ClassLists}
-use Rattle.gs_model.specs.Frame.{Frame}
-use Rattle.gs_model.specs.Plans.{Plan}
+use Rattle.gs_model.specs.{Certificate.{IsCertificate}, Classes.{ClassLists}, Frame.{Frame}, Plans.{Plan}}
 use Rattle.gs_reply.specs.Refusals.{Limit, Sequences, Cells, Table_numbers, Raw_cells, Bad_game, Unlike_pair, Overflows, Many_pivots, Too_large, Bad_strategy, Wrong_number, Bad_query, Other_game, Bad_certificate}
-use Rattle.gs_reply.specs.Replies.{OfRead, Reply, Prints, Refuses}
-use Rattle.gs_reply.specs.Troubles.{Passes}
-use Rattle.gs_reply.specs.declared.strategies.Which.TheVariants.{Only}
+use Rattle.gs_reply.specs.{Replies.{OfRead, Reply, Prints, Refuses}, Troubles.{Passes}, declared.strategies.Which.TheVariants.{Only}}
 use Rattle.gs_seq.specs.Stops.{IsSmall}
-use Rattle.gs_strategy.specs.Checks.{ReadResult}
-use Rattle.gs_strategy.specs.Confirmed.{IsConfirmed, frame_of, raw_plan}
-use Rattle.gs_strategy.specs.Laws.{IsStrategy}
-use Rattle.gs_strategy.specs.Texts.{strategy_data, strategy_text}
+use Rattle.gs_strategy.specs.{Checks.{ReadResult}, Confirmed.{IsConfirmed, frame_of, raw_plan}, Laws.{IsStrategy}, Texts.{strategy_data, strategy_text}}
 use Rattle.gs_strategy.specs.Values.{Strategy}
-use Rattle.gs_strategy.proofs.Only.{only}
-use Rattle.gs_strategy.proofs.Shape.{has_line}
-use Rattle.gs_certify.specs.Certificates.{IsCertified}
-use Rattle.gs_certify.specs.Verifying.{SaysChecked, SaysVerified, Verifies}
+use Rattle.gs_strategy.proofs.{Only.{only}, Shape.{has_line}}
+use Rattle.gs_certify.specs.{Certificates.{IsCertified}, Verifying.{SaysChecked, SaysVerified, Verifies}}
 
 -- ---- certificates that state the same
 

@@ -1,33 +1,18 @@
 -- What holds of a game in sequence form holds of the strategy that it was made of; and what is told is an answer.
-use Rattle.std.proofs.Common.{◌≡◌, ◌≢◌, ℤ, Result, Ok, Err, inr, refl, sym, subst}
+use Rattle.std.proofs.{Common.{◌≡◌, ◌≢◌, ℤ, Result, Ok, Err, inr, refl, sym, subst}, lemmas.Result.{IfOk-at_ok}}
 use Rattle.std.specs.Prelude.{IfOk, MatchResult}
-use Rattle.std.proofs.lemmas.Result.{IfOk-at_ok}
-use Rattle.gs_certificate.specs.Checks.{IsFault, IsSound}
-use Rattle.gs_certificate.specs.Faults.{FailsSo}
-use Rattle.gs_certificate.specs.Promises.{BoundsAll}
-use Rattle.gs_certificate.specs.Reading.{ReadResult}
-use Rattle.gs_certificate.specs.declared.certificate.Certificate.{Certificate}
-use Rattle.gs_certificate.specs.declared.fault.CertFault.{CertFault}
+use Rattle.gs_certificate.specs.{Checks.{IsFault, IsSound}, Faults.{FailsSo}, Promises.{BoundsAll}, Reading.{ReadResult}}
+use Rattle.gs_certificate.specs.{declared.certificate.Certificate.{Certificate}, declared.fault.CertFault.{CertFault}}
 use Rattle.gs_certificate.specs.declared.text_fault.CertTextFault.{CertTextFault}
 use Rattle.gs_certificate.specs.declared.text_fault.CertTextFault.TheVariants as fault
-use Rattle.gs_confirm.specs.Held.{Holds}
-use Rattle.gs_confirm.specs.Troubles.{SaysTooLarge}
+use Rattle.gs_confirm.specs.{Held.{Holds}, Troubles.{SaysTooLarge}}
 use Rattle.gs_lossless.specs.declared.checking.Lossless.{Lossless}
-use Rattle.gs_model.specs.Classes.{ClassLists}
-use Rattle.gs_model.specs.Frame.{Frame}
+use Rattle.gs_model.specs.{Classes.{ClassLists}, Frame.{Frame}}
 use Rattle.gs_reply.proofs.Refused.{answers_more}
-use Rattle.gs_reply.specs.Refusals.{Too_large, Unlike_pair}
-use Rattle.gs_reply.specs.Replies.{Answers, Reply}
-use Rattle.gs_reply.specs.Troubles.{SaysUnlike}
-use Rattle.gs_reply.specs.declared.answers.Answer.{Answer}
-use Rattle.gs_seq.specs.Games.{frame_in}
-use Rattle.gs_seq.specs.Plans.{lifted}
-use Rattle.gs_strategy.specs.Values.{Strategy}
-use Rattle.gs_strategy.specs.declared.stored.Stored.{Stored}
-use Rattle.gs_certify.specs.Tasks.{says_of}
-use Rattle.gs_certify.specs.Verifying.{SaysChecked}
-use Rattle.gs_certify.specs.declared.task.Task.{Task}
-use Rattle.gs_certify.specs.declared.task.Task.TheVariants.{Certify, Verify}
+use Rattle.gs_reply.specs.{Refusals.{Too_large, Unlike_pair}, Replies.{Answers, Reply}, Troubles.{SaysUnlike}, declared.answers.Answer.{Answer}}
+use Rattle.gs_seq.specs.{Games.{frame_in}, Plans.{lifted}}
+use Rattle.gs_strategy.specs.{Values.{Strategy}, declared.stored.Stored.{Stored}}
+use Rattle.gs_certify.specs.{Tasks.{says_of}, Verifying.{SaysChecked}, declared.task.Task.{Task}, declared.task.Task.TheVariants.{Certify, Verify}}
 
 pub moved : (P : Frame → ClassLists → Type 0) (l : Lossless) (s : Stored) → Holds l s → P (frame_in l.signals.now.game.now) l.classes.now.lists
     → P (frame_in s.game) s.classes.lists

@@ -1,17 +1,12 @@
 -- What a certificate says of a strategy, and what `certify` prints.
 use Rattle.std.specs.Prelude.{◌≡◌, List, ◌++◌, ℕ}
 use Rattle.gs_best.specs.Answers.{AreBestValues}
-use Rattle.gs_certificate.specs.Checks.{AreSmall, IsSound}
-use Rattle.gs_certificate.specs.Promises.{AreReached, BoundsAll}
-use Rattle.gs_certificate.specs.Texts.{certificate_text}
-use Rattle.gs_certificate.specs.Views.{certificate_view}
+use Rattle.gs_certificate.specs.{Checks.{AreSmall, IsSound}, Promises.{AreReached, BoundsAll}, Texts.{certificate_text}, Views.{certificate_view}}
 use Rattle.gs_certificate.specs.declared.certificate.Certificate.{Certificate}
 use Rattle.gs_confirm.specs.Commands.{OfConfirmed, OfStrategy}
 use Rattle.gs_file.specs.declared.version.Version.TheVariants.{Two}
 use Rattle.gs_reply.specs.Replies.{Reply, Prints}
-use Rattle.gs_strategy.specs.Confirmed.{frame_of, raw_plan}
-use Rattle.gs_strategy.specs.Texts.{strategy_text}
-use Rattle.gs_strategy.specs.Values.{Strategy}
+use Rattle.gs_strategy.specs.{Confirmed.{frame_of, raw_plan}, Texts.{strategy_text}, Values.{Strategy}}
 
 -- The certificate is valid for the strategy's plans, with numbers below 2^90 in size. So each bound holds for all raw plans: no raw plan of the player is
 -- paid more against the other's plan.

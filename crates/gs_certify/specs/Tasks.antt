@@ -3,10 +3,7 @@ use Rattle.gs_confirm.specs.Commands.{OfConfirmed}
 use Rattle.gs_reply.specs.Replies.{Reply}
 use Rattle.gs_strategy.specs.Values.{Strategy}
 use Rattle.gs_certificate.specs.Checks.{AreSmall}
-use Rattle.gs_certify.specs.Certificates.{SaysCertified}
-use Rattle.gs_certify.specs.Verifying.{SaysChecked}
-use Rattle.gs_certify.specs.declared.task.Task.{Task}
-use Rattle.gs_certify.specs.declared.task.Task.TheVariants.{Certify, Verify}
+use Rattle.gs_certify.specs.{Certificates.{SaysCertified}, Verifying.{SaysChecked}, declared.task.Task.{Task}, declared.task.Task.TheVariants.{Certify, Verify}}
 
 -- what each command says of a strategy that was read
 abbrev pub says_of : Task → Strategy → Reply → Type 0

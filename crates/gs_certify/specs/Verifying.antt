@@ -1,25 +1,15 @@
 -- What `verify` says of two lines: a strategy's text, and a certificate's. It does not check the numbers that the strategy states.
 use Rattle.std.specs.Prelude.{◌≡◌, ◌⊎◌, ℕ, List, ◌++◌, Err, codes}
-use Rattle.gs_certificate.specs.Checks.{AreSmall, IsFault}
-use Rattle.gs_certificate.specs.FaultTexts.{cert_fault_text, cert_text_fault_text}
-use Rattle.gs_certificate.specs.Reading.{Reads}
-use Rattle.gs_certificate.specs.Texts.{Stated, certificate_text}
-use Rattle.gs_certificate.specs.Views.{certificate_view}
-use Rattle.gs_certificate.specs.declared.certificate.Certificate.{Certificate}
-use Rattle.gs_certificate.specs.declared.fault.CertFault.{CertFault}
-use Rattle.gs_certificate.specs.declared.text_fault.CertTextFault.{CertTextFault}
-use Rattle.gs_confirm.specs.Commands.{OfStrategy}
-use Rattle.gs_confirm.specs.Troubles.{IsTooLarge}
+use Rattle.gs_certificate.specs.{Checks.{AreSmall, IsFault}, FaultTexts.{cert_fault_text, cert_text_fault_text}, Reading.{Reads}}
+use Rattle.gs_certificate.specs.{Texts.{Stated, certificate_text}, Views.{certificate_view}, declared.certificate.Certificate.{Certificate}}
+use Rattle.gs_certificate.specs.{declared.fault.CertFault.{CertFault}, declared.text_fault.CertTextFault.{CertTextFault}}
+use Rattle.gs_confirm.specs.{Commands.{OfStrategy}, Troubles.{IsTooLarge}}
 use Rattle.gs_frac.specs.Texts.{number_line}
 use Rattle.gs_json.specs.FirstLine.{first_line}
-use Rattle.gs_model.specs.Lossless.{IsLossless}
-use Rattle.gs_model.specs.Verdict.{IsValue}
-use Rattle.gs_reply.specs.Refusals.{Bad_certificate, Too_large, Unlike_pair}
-use Rattle.gs_reply.specs.Replies.{Reply, Prints, Refuses}
-use Rattle.gs_reply.specs.Troubles.{IsUnlikePair}
+use Rattle.gs_model.specs.{Lossless.{IsLossless}, Verdict.{IsValue}}
+use Rattle.gs_reply.specs.{Refusals.{Bad_certificate, Too_large, Unlike_pair}, Replies.{Reply, Prints, Refuses}, Troubles.{IsUnlikePair}}
 use Rattle.gs_seq.specs.Stops.{IsSmall}
-use Rattle.gs_strategy.specs.Confirmed.{frame_of, over, raw_plan}
-use Rattle.gs_strategy.specs.Values.{IsFractionOf, FractionParts, Strategy}
+use Rattle.gs_strategy.specs.{Confirmed.{frame_of, over, raw_plan}, Values.{IsFractionOf, FractionParts, Strategy}}
 use Rattle.gs_certify.specs.Certificates.{IsCertificateOf}
 
 -- the lines of the value of the plans and of each player's bound

@@ -1,17 +1,11 @@
 -- What the raw verdict and the hand values say of two strategies.
-use Rattle.std.proofs.Common.{◌≡◌, ℕ, ◌<◌, [], ◌∷◌, List, map, length, get_or, sym, ap, ◌∙◌, subst, arith}
-use Rattle.std.proofs.lemmas.List.{get_or-map, length-map}
+use Rattle.std.proofs.{Common.{◌≡◌, ℕ, ◌<◌, [], ◌∷◌, List, map, length, get_or, sym, ap, ◌∙◌, subst, arith}, lemmas.List.{get_or-map, length-map}}
 use Rattle.gs_best.specs.Judged.{parts}
-use Rattle.gs_frac.specs.declared.value.Fraction.{Fraction}
-use Rattle.gs_frac.specs.declared.value.Verdict.{Verdict}
-use Rattle.gs_model.specs.Frame.{Frame, signal_count}
-use Rattle.gs_model.specs.Payoff.{IsHandValue}
-use Rattle.gs_model.specs.Verdict.{IsJudgedVerdict}
+use Rattle.gs_frac.specs.{declared.value.Fraction.{Fraction}, declared.value.Verdict.{Verdict}}
+use Rattle.gs_model.specs.{Frame.{Frame, signal_count}, Payoff.{IsHandValue}, Verdict.{IsJudgedVerdict}}
 use Rattle.gs_raw.specs.Answers.{AreHandValuesOf, IsHandValueOf, IsJudgedOf}
 use Rattle.gs_seq.specs.Plans.{class_plan, lifted}
-use Rattle.gs_strategy.specs.Confirmed.{frame_of}
-use Rattle.gs_strategy.specs.Views.{numbers_of, parts_of, stored_view}
-use Rattle.gs_strategy.specs.declared.stored.Stored.{Stored}
+use Rattle.gs_strategy.specs.{Confirmed.{frame_of}, Views.{numbers_of, parts_of, stored_view}, declared.stored.Stored.{Stored}}
 use Rattle.gs_compare.specs.Judging.{AreHands, AreJudged, IsHand}
 
 pub are_judged : (f : Frame) (one two : Stored) (v : Verdict) → f ≡ frame_of (stored_view one) → f ≡ frame_of (stored_view two)

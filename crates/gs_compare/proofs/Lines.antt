@@ -1,8 +1,6 @@
 -- Lines put one behind another.
-use Rattle.std.proofs.Common.{◌≡◌, ℕ, ◌+◌, ◌++◌, [], List, sym, ap, ◌∙◌, arith}
+use Rattle.std.proofs.{Common.{◌≡◌, ℕ, ◌+◌, ◌++◌, [], List, sym, ap, ◌∙◌, arith}, lemmas.Grind.{flat_map-append}, lemmas.List.{append-nil}}
 use Rattle.std.specs.List.{flat_map, range_with_len}
-use Rattle.std.proofs.lemmas.Grind.{flat_map-append}
-use Rattle.std.proofs.lemmas.List.{append-nil}
 use Rattle.gs_model.proofs.Sparse.{range_append}
 
 -- one more line

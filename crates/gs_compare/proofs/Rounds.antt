@@ -1,6 +1,5 @@
 -- Lists whose members are the same one by one, as functions of these see them.
-use Rattle.std.proofs.Common.{◌≡◌, ℕ, ◌+◌, ◌<◌, List, length, map, get_or, sym, ap, ◌∙◌, subst, arith, ⊎_elim}
-use Rattle.std.proofs.lemmas.Bool.{cases_eq}
+use Rattle.std.proofs.{Common.{◌≡◌, ℕ, ◌+◌, ◌<◌, List, length, map, get_or, sym, ap, ◌∙◌, subst, arith, ⊎_elim}, lemmas.Bool.{cases_eq}}
 use Rattle.std.proofs.lemmas.List.{get_or-map, length-map, same_lists}
 
 module _ {X Y : Type 0} (f : X → Y) (xs ys : List X) where

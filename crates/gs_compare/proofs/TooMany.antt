@@ -1,16 +1,10 @@
 -- A game with too many raw cells is refused for them.
 use Rattle.std.proofs.Common.{◌≡◌, ◌<◌, ℕ, inr, ap, ◌∙◌, subst}
 use Rattle.gs_model.specs.Frame.{Frame}
-use Rattle.gs_raw.specs.Answers.{IsRawStopOf}
-use Rattle.gs_raw.specs.Cells.{raw_cell_count}
-use Rattle.gs_raw.specs.declared.stop.RawStop.{RawStop}
-use Rattle.gs_raw.specs.declared.stop.RawStop.TheVariants.{TooManyCells}
-use Rattle.gs_reply.specs.Refusals.{Raw_cells, Too_large}
-use Rattle.gs_reply.specs.Replies.{Answers, Reply, Refuses, Tells}
-use Rattle.gs_reply.specs.declared.answers.Answer.{Answer}
+use Rattle.gs_raw.specs.{Answers.{IsRawStopOf}, Cells.{raw_cell_count}, declared.stop.RawStop.{RawStop}, declared.stop.RawStop.TheVariants.{TooManyCells}}
+use Rattle.gs_reply.specs.{Refusals.{Raw_cells, Too_large}, Replies.{Answers, Reply, Refuses, Tells}, declared.answers.Answer.{Answer}}
 use Rattle.gs_reply.proofs.Refused.{tells_answer}
-use Rattle.gs_strategy.specs.Confirmed.{frame_of}
-use Rattle.gs_strategy.specs.Values.{Numbers, Strategy}
+use Rattle.gs_strategy.specs.{Confirmed.{frame_of}, Values.{Numbers, Strategy}}
 use Rattle.gs_compare.specs.Commands.{OnRawCards}
 
 pub too_many : (f : Frame) (one two : Strategy) (says : Numbers → Reply → Type 0) (count : ℕ) (stop : RawStop) (a : Answer) → f ≡ frame_of one

@@ -3,12 +3,9 @@ use Rattle.std.specs.Prelude.{◌≡◌, ◌≢◌, ◌⊎◌, ◌++◌, ◌<◌
 use Rattle.gs_file.specs.Reading.{rules_of}
 use Rattle.gs_json.specs.FirstLine.{first_line}
 use Rattle.gs_raw.specs.Cells.{raw_cell_count}
-use Rattle.gs_reply.specs.Refusals.{Other_game, Raw_cells, Too_large}
-use Rattle.gs_reply.specs.Replies.{OfFile, Reply, Prints, Refuses}
-use Rattle.gs_reply.specs.declared.strategies.Which.TheVariants.{Only, First, Second}
-use Rattle.gs_strategy.specs.Confirmed.{frame_of}
-use Rattle.gs_strategy.specs.Values.{Numbers, FractionParts, Strategy}
-use Rattle.gs_reply.specs.VerdictText.{verdict_text}
+use Rattle.gs_reply.specs.{Refusals.{Other_game, Raw_cells, Too_large}, Replies.{OfFile, Reply, Prints, Refuses}}
+use Rattle.gs_reply.specs.{declared.strategies.Which.TheVariants.{Only, First, Second}, VerdictText.{verdict_text}}
+use Rattle.gs_strategy.specs.{Confirmed.{frame_of}, Values.{Numbers, FractionParts, Strategy}}
 use Rattle.gs_compare.specs.Judging.{AreHands, AreJudged, hands_text}
 
 -- `says` holds of the value and gaps of two strategies and the reply, if the game has at most 16,777,216 raw cells; a game with more is refused as too large

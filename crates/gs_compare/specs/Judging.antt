@@ -1,18 +1,11 @@
 -- Two strategies judged on raw cards: player 1's plan of the first against player 2's of the second, each over the classes of its own strategy,
 -- lossless or not.
-use Rattle.std.specs.Prelude.{◌≡◌, ◌++◌, ◌<◌, ℕ, List, codes, get_or, length, pos}
-use Rattle.std.specs.List.{flat_map, range_with_len}
+use Rattle.std.specs.{Prelude.{◌≡◌, ◌++◌, ◌<◌, ℕ, List, codes, get_or, length, pos}, List.{flat_map, range_with_len}}
 use Rattle.gs_card.specs.Decks.{DeckValue}
 use Rattle.gs_frac.specs.Texts.{number_line}
-use Rattle.gs_model.specs.Frame.{signal_count}
-use Rattle.gs_model.specs.Game.{Game}
-use Rattle.gs_model.specs.Payoff.{IsHandValue}
-use Rattle.gs_model.specs.Plans.{Plan}
-use Rattle.gs_model.specs.Signals.{signal_at}
-use Rattle.gs_model.specs.Verdict.{IsJudgedVerdict}
+use Rattle.gs_model.specs.{Frame.{signal_count}, Game.{Game}, Payoff.{IsHandValue}, Plans.{Plan}, Signals.{signal_at}, Verdict.{IsJudgedVerdict}}
 use Rattle.gs_seq.specs.Slots.{plan_of}
-use Rattle.gs_strategy.specs.Confirmed.{frame_of, over, raw_plan}
-use Rattle.gs_strategy.specs.Values.{IsFractionOf, Numbers, FractionParts, Strategy, Weights}
+use Rattle.gs_strategy.specs.{Confirmed.{frame_of, over, raw_plan}, Values.{IsFractionOf, Numbers, FractionParts, Strategy, Weights}}
 use Rattle.gs_tree.specs.Texts.{signal_text}
 
 -- the weights as a plan over the strategy's classes

@@ -3,8 +3,7 @@ use Rattle.std.proofs.Common.{◌≡◌, ℕ, List, subst}
 use Rattle.gs_file.specs.Views.{valid_view}
 use Rattle.gs_game.specs.declared.valid.ValidGame.{ValidGame}
 use Rattle.gs_lift.specs.Queries as lift
-use Rattle.gs_lift.specs.declared.fault.QueryFault.{QueryFault}
-use Rattle.gs_lift.specs.declared.fault.QueryFault.TheVariants.{Line, Player, Signal, Round}
+use Rattle.gs_lift.specs.{declared.fault.QueryFault.{QueryFault}, declared.fault.QueryFault.TheVariants.{Line, Player, Signal, Round}}
 use Rattle.gs_tree.specs.declared.signals.Signals.{Signals}
 use Rattle.gs_confirm.specs.Queries.{IsBadQuery, NamesOwnPoint, NamesSignal, NamesSomeSignal}
 

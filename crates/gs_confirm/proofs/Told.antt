@@ -4,23 +4,14 @@ use Rattle.gs_best.specs.Judged.{parts}
 use Rattle.gs_filter.specs.Filter.{Filter}
 use Rattle.gs_frac.specs.declared.value.Verdict.{Verdict}
 use Rattle.gs_game.specs.declared.valid.ValidGame.{ValidGame}
-use Rattle.gs_model.specs.Lossless.{IsLossless}
-use Rattle.gs_model.specs.Verdict.{IsVerdict}
+use Rattle.gs_model.specs.{Lossless.{IsLossless}, Verdict.{IsVerdict}}
 use Rattle.gs_reply.proofs.Refused.{answers_more, tells_answer}
-use Rattle.gs_reply.specs.Refusals.{Unlike_pair, Wrong_number}
-use Rattle.gs_reply.specs.Replies.{Answers, Reply, Tells}
-use Rattle.gs_reply.specs.Troubles.{SaysLarge, SaysUnlike}
+use Rattle.gs_reply.specs.{Refusals.{Unlike_pair, Wrong_number}, Replies.{Answers, Reply, Tells}, Troubles.{SaysLarge, SaysUnlike}}
 use Rattle.gs_reply.specs.declared.answers.Answer.{Answer}
-use Rattle.gs_seq.specs.Games.{frame_in}
-use Rattle.gs_seq.specs.Plans.{lifted}
-use Rattle.gs_seq.specs.Stops.{IsSmall, IsStopOf}
-use Rattle.gs_seq.specs.declared.stop.SeqStop.{SeqStop}
-use Rattle.gs_strategy.specs.Confirmed.{AreNumbersOf, IsConfirmed, frame_of}
-use Rattle.gs_strategy.specs.Values.{FractionParts, Strategy}
-use Rattle.gs_strategy.specs.Views.{numbers_of, stored_view}
+use Rattle.gs_seq.specs.{Games.{frame_in}, Plans.{lifted}, Stops.{IsSmall, IsStopOf}, declared.stop.SeqStop.{SeqStop}}
+use Rattle.gs_strategy.specs.{Confirmed.{AreNumbersOf, IsConfirmed, frame_of}, Values.{FractionParts, Strategy}, Views.{numbers_of, stored_view}}
 use Rattle.gs_strategy.specs.declared.stored.Stored.{Stored}
-use Rattle.gs_confirm.specs.Commands.{OfConfirmed}
-use Rattle.gs_confirm.specs.Troubles.{IsFirstWrong, SaysTooLarge, SaysWrong}
+use Rattle.gs_confirm.specs.{Commands.{OfConfirmed}, Troubles.{IsFirstWrong, SaysTooLarge, SaysWrong}}
 
 -- ---- classes
 

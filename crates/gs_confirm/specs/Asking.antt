@@ -1,6 +1,5 @@
 -- What each command says of a confirmed strategy. It stands in contracts of private functions.
-use Rattle.gs_confirm.specs.Commands.{SaysNumbers, SaysQueried, SaysUpgraded}
-use Rattle.gs_confirm.specs.declared.asking.Ask.{Ask}
+use Rattle.gs_confirm.specs.{Commands.{SaysNumbers, SaysQueried, SaysUpgraded}, declared.asking.Ask.{Ask}}
 use Rattle.gs_confirm.specs.declared.asking.Ask.TheVariants.{Evaluate, Query, Upgrade}
 use Rattle.gs_reply.specs.Replies.{Reply}
 use Rattle.gs_strategy.specs.Values.{Strategy}

@@ -2,15 +2,10 @@
 use Rattle.std.specs.Prelude.{◌≡◌, ◌⊎◌, ℕ, List}
 use Rattle.gs_file.specs.declared.version.Version.TheVariants.{Two}
 use Rattle.gs_lift.specs.declared.fault.QueryFault.{QueryFault}
-use Rattle.gs_reply.specs.Refusals.{Refusal, Bad_query}
-use Rattle.gs_reply.specs.Replies.{OfFile, Reply, Prints, Refuses}
-use Rattle.gs_reply.specs.declared.strategies.Which.TheVariants.{Only}
-use Rattle.gs_strategy.specs.Confirmed.{IsConfirmed}
-use Rattle.gs_strategy.specs.Texts.{strategy_text}
-use Rattle.gs_strategy.specs.Values.{Strategy}
+use Rattle.gs_reply.specs.{Refusals.{Refusal, Bad_query}, Replies.{OfFile, Reply, Prints, Refuses}, declared.strategies.Which.TheVariants.{Only}}
 use Rattle.gs_reply.specs.VerdictText.{verdict_text}
-use Rattle.gs_confirm.specs.Queries.{IsBadQuery, IsQueried}
-use Rattle.gs_confirm.specs.Troubles.{IsTrouble}
+use Rattle.gs_strategy.specs.{Confirmed.{IsConfirmed}, Texts.{strategy_text}, Values.{Strategy}}
+use Rattle.gs_confirm.specs.{Queries.{IsBadQuery, IsQueried}, Troubles.{IsTrouble}}
 
 -- the reply to the bytes of the only strategy file of a command
 abbrev pub OfStrategy : (Strategy → Reply → Type 0) → List ℕ → Reply → Type 0

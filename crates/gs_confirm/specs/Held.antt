@@ -2,11 +2,8 @@
 use Rattle.std.specs.Prelude.{◌≡◌}
 use Rattle.gs_lossless.specs.declared.checking.Lossless.{Lossless}
 use Rattle.gs_model.specs.Lossless.{IsLossless}
-use Rattle.gs_seq.specs.Stops.{IsSmall}
-use Rattle.gs_seq.specs.declared.form.Abstract.{Abstract}
-use Rattle.gs_strategy.specs.Confirmed.{frame_of}
-use Rattle.gs_strategy.specs.Views.{stored_view}
-use Rattle.gs_strategy.specs.declared.stored.Stored.{Stored}
+use Rattle.gs_seq.specs.{Stops.{IsSmall}, declared.form.Abstract.{Abstract}}
+use Rattle.gs_strategy.specs.{Confirmed.{frame_of}, Views.{stored_view}, declared.stored.Stored.{Stored}}
 
 -- the signals are those of the strategy's game, and the classes are its classes
 pub record Holds (l : Lossless) (s : Stored) : Type 0 where

@@ -3,14 +3,9 @@ use Rattle.std.specs.Prelude.{◌≡◌, ◌≢◌, ℕ, ◌<◌, ◌≤◌, Lis
 use Rattle.gs_file.specs.Reading.{FileGame, rules_of}
 use Rattle.gs_frac.specs.declared.value.Fraction.{Fraction}
 use Rattle.gs_game.specs.Lines.{lines, text_at}
-use Rattle.gs_lift.specs.Mixtures.{IsMixture}
-use Rattle.gs_lift.specs.declared.fault.QueryFault.{QueryFault}
-use Rattle.gs_lift.specs.declared.fault.QueryFault.TheVariants.{Line, Player, Signal, Round}
-use Rattle.gs_model.specs.Frame.{last_round, player_at, point_count, round_of, signal_count, trees_of}
-use Rattle.gs_model.specs.Positions.{at_point}
-use Rattle.gs_model.specs.Signals.{signal_at}
-use Rattle.gs_strategy.specs.Confirmed.{frame_of, raw_plan}
-use Rattle.gs_strategy.specs.Values.{FractionParts, Strategy, Weights, frame_in}
+use Rattle.gs_lift.specs.{Mixtures.{IsMixture}, declared.fault.QueryFault.{QueryFault}, declared.fault.QueryFault.TheVariants.{Line, Player, Signal, Round}}
+use Rattle.gs_model.specs.{Frame.{last_round, player_at, point_count, round_of, signal_count, trees_of}, Positions.{at_point}, Signals.{signal_at}}
+use Rattle.gs_strategy.specs.{Confirmed.{frame_of, raw_plan}, Values.{FractionParts, Strategy, Weights, frame_in}}
 use Rattle.gs_reply.specs.VerdictText.{mix_text}
 use Rattle.gs_tree.specs.Texts.{signal_text}
 

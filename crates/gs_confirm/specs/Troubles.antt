@@ -1,12 +1,9 @@
 -- Why a strategy is not confirmed. The checks are made in this order: a trouble applies if no earlier one does.
 use Rattle.std.specs.Prelude.{◌≡◌, ◌≢◌, ◌⊎◌, ℕ, List, codes}
 use Rattle.gs_model.specs.Lossless.{IsLossless}
-use Rattle.gs_reply.specs.Replies.{Reply, Refuses}
-use Rattle.gs_reply.specs.Refusals.{Limit, Refusal, Unlike_pair, Too_large, Wrong_number}
-use Rattle.gs_reply.specs.Troubles.{IsUnlikePair, Passes}
+use Rattle.gs_reply.specs.{Replies.{Reply, Refuses}, Refusals.{Limit, Refusal, Unlike_pair, Too_large, Wrong_number}, Troubles.{IsUnlikePair, Passes}}
 use Rattle.gs_seq.specs.Stops.{IsSmall}
-use Rattle.gs_strategy.specs.Confirmed.{AreNumbersOf, frame_of}
-use Rattle.gs_strategy.specs.Values.{Numbers, FractionParts, Strategy}
+use Rattle.gs_strategy.specs.{Confirmed.{AreNumbersOf, frame_of}, Values.{Numbers, FractionParts, Strategy}}
 
 -- the classes are lossless, the game is too large, and this is the first limit that it passes
 pub record IsTooLarge (s : Strategy) (limit : Limit) : Type 0 where

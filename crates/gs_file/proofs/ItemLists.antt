@@ -1,10 +1,7 @@
 -- The items of an array as a list of what they are seen as.
 use Rattle.std.proofs.Common.{◌≡◌, List, [], ◌∷◌, map, Ok, refl, ap}
-use Rattle.toml.specs.Data.{Data}
-use Rattle.toml.specs.View.{view, items_view}
-use Rattle.toml.specs.declared.value.Value.{Value}
-use Rattle.gs_file.specs.declared.fault.Place.{Place}
-use Rattle.gs_file.specs.Tables.{list_of, each, array_in, table_in, whole_number, tables_in, whole_numbers_in}
+use Rattle.toml.specs.{Data.{Data}, View.{view, items_view}, declared.value.Value.{Value}}
+use Rattle.gs_file.specs.{declared.fault.Place.{Place}, Tables.{list_of, each, array_in, table_in, whole_number, tables_in, whole_numbers_in}}
 
 pub list_of-view : (vs : List Value) → list_of (items_view vs) ≡ map view vs
 list_of-view [] = refl

@@ -1,13 +1,8 @@
 -- The keys of a map beside those of the table that it stands for.
 use Rattle.std.proofs.Common.{◌≡◌, ◌&&◌, List, [], ◌∷◌, String, Global, BTreeMap, string_bytes, refl, ap}
-use Rattle.std.specs.List.{list_all}
-use Rattle.std.specs.BTreeMap.{keys}
-use Rattle.std.specs.Map.{keys_of}
-use Rattle.toml.specs.View.{members_view, table_view}
-use Rattle.toml.specs.declared.value.Value.{Value}
-use Rattle.gs_file.specs.declared.fault.Key.{Key}
-use Rattle.gs_file.specs.declared.form.Form.{Form}
-use Rattle.gs_file.specs.Keys.{is_among, has_only}
+use Rattle.std.specs.{List.{list_all}, BTreeMap.{keys}, Map.{keys_of}}
+use Rattle.toml.specs.{View.{members_view, table_view}, declared.value.Value.{Value}}
+use Rattle.gs_file.specs.{declared.fault.Key.{Key}, declared.form.Form.{Form}, Keys.{is_among, has_only}}
 
 has_only_entries : (form : Form) (known : List Key) (es : List (String Global × Value))
     → list_all (λ k. is_among form known (string_bytes k)) (keys_of es) ≡ has_only form known (members_view es)

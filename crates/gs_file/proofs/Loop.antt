@@ -1,15 +1,11 @@
 -- Reading the members of a list one after the other, as a loop does.
 use Rattle.std.proofs.Common.{◌≡◌, ℕ, ◌+◌, ◌≤◌, ◌<◌, List, [], ◌∷◌, ◌++◌, map, drop, length, get_or, Result, Ok, Err, refl, sym, ap, ◌∙◌, append_assoc, add-one}
-use Rattle.std.proofs.lemmas.List.{append-nil, drop_all}
-use Rattle.std.proofs.Math.Seq.{drop-cons}
+use Rattle.std.proofs.{lemmas.List.{append-nil, drop_all}, Math.Seq.{drop-cons}}
 use Rattle.gs_game.specs.declared.faults.GameFault.{GameFault}
 use Rattle.gs_game.specs.declared.faults.GameFault.TheVariants as rules
 use Rattle.gs_json.specs.Steps.{◌>>=◌}
-use Rattle.gs_file.specs.declared.fault.FileFault.{FileFault}
+use Rattle.gs_file.specs.{declared.fault.FileFault.{FileFault}, Faults.{Fault}, Answers.{Fails, FailsByRules}, Tables.{each}}
 use Rattle.gs_file.specs.declared.fault.FileFault.TheVariants as fault
-use Rattle.gs_file.specs.Faults.{Fault}
-use Rattle.gs_file.specs.Answers.{Fails, FailsByRules}
-use Rattle.gs_file.specs.Tables.{each}
 
 -- what was read before, and what is still read
 abbrev pub with_front : {B : Type 0} → List B → Result (List B) Fault → Result (List B) Fault

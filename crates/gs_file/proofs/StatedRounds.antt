@@ -1,26 +1,16 @@
 -- The rounds of a game file, as facts on their tables: what stands there, its ranges, and the betting.
 use Rattle.std.proofs.Common.{◌≡◌, ℕ, ◌≤◌, Bool, true, false, List, Some, None, Ok, ℤ, pos, refl, sym, ap, ap₂, ◌∙◌, subst, Ordering, Less, Equal, Greater}
-use Rattle.std.specs.Ordering.{is_eq, match_ordering, nat_cmp}
-use Rattle.std.specs.Cmp.Lexicographic.{slice_cmp}
-use Rattle.std.specs.Str.{bytes_eq}
-use Rattle.std.proofs.lemmas.Bool.{and_parts, false≢true}
-use Rattle.std.proofs.lemmas.Map.Text.{is_eq-slice_cmp}
-use Rattle.std.proofs.lemmas.Slice.Eq.{bytes_eq-Decides}
+use Rattle.std.proofs.{lemmas.Bool.{and_parts, false≢true}, lemmas.Map.Text.{is_eq-slice_cmp}, lemmas.Slice.Eq.{bytes_eq-Decides}}
+use Rattle.std.specs.{Ordering.{is_eq, match_ordering, nat_cmp}, Cmp.Lexicographic.{slice_cmp}, Str.{bytes_eq}}
 use Rattle.toml.specs.Data.{Data, Members, no_members, member, as_integer, as_str, get_member}
 use Rattle.gs_bet.specs.Limit.{limit_bet}
-use Rattle.gs_model.specs.Betting.{Bet}
-use Rattle.gs_model.specs.Game.{Round as Rules}
-use Rattle.gs_file.specs.Faults.{wrong_type, missing_key}
-use Rattle.gs_file.specs.Keys.{has_only, is_among, key_in, limit_keys, tree_keys, within_round}
+use Rattle.gs_model.specs.{Betting.{Bet}, Game.{Round as Rules}}
+use Rattle.gs_file.specs.{Faults.{wrong_type, missing_key}, Keys.{has_only, is_among, key_in, limit_keys, tree_keys, within_round}}
 use Rattle.gs_file.specs.Reading.{Play, PlayValues, Tree_text, Tree_value, Limit_of, Limit_values, Round, has_tree, play_tree, play_typed, play_values, play_within, round_at, round_built, round_keys, round_within}
-use Rattle.gs_file.specs.States.{Has, HasOnly, IsText}
-use Rattle.gs_file.specs.Tables.{only, required, text, whole_number, within}
-use Rattle.gs_file.specs.TreeTexts.{IsTextOf, IsTreeRead}
-use Rattle.gs_file.specs.declared.fault.Key.{Key}
+use Rattle.gs_file.specs.{States.{Has, HasOnly, IsText}, Tables.{only, required, text, whole_number, within}, TreeTexts.{IsTextOf, IsTreeRead}}
+use Rattle.gs_file.specs.{declared.fault.Key.{Key}, declared.form.Form.TheVariants.{File}}
 use Rattle.gs_file.specs.declared.fault.Key.TheVariants as key
-use Rattle.gs_file.specs.declared.form.Form.TheVariants.{File}
-use Rattle.gs_file.proofs.Stating.{IsWhole, after, found_ok, only_ok, same_ok, within_is, within_ok}
-use Rattle.gs_file.proofs.Trees.{is_read, reads_tree}
+use Rattle.gs_file.proofs.{Stating.{IsWhole, after, found_ok, only_ok, same_ok, within_is, within_ok}, Trees.{is_read, reads_tree}}
 
 -- ---- keys and words
 

@@ -1,26 +1,16 @@
 -- What the reader of game files accepts is what states a game, both ways.
 use Rattle.std.proofs.Common.{◌≡◌, ℕ, suc, ◌≤◌, ◌==◌, Bool, true, false, List, [], ◌∷◌, length, replicate, Option, Some, None, Ok, Err, ℤ, pos, codes, refl, sym, ap, ◌∙◌, subst, inl, inr}
-use Rattle.std.specs.Prelude.{if◌then◌else◌}
-use Rattle.std.specs.Str.{bytes_eq, is_utf8}
 use Rattle.std.proofs.lemmas.Bool.{eq-eqb, eqb-true}
-use Rattle.toml.specs.Data.{Data, Members, get_member}
-use Rattle.toml.specs.Parse.{parse_document}
-use Rattle.gs_card.specs.DeckFaults.{fault_of as deck_fault_of}
-use Rattle.gs_card.specs.Decks.{DeckValue, deck_of}
-use Rattle.gs_card.specs.declared.faults.DeckFault.{DeckFault}
+use Rattle.std.specs.{Prelude.{if◌then◌else◌}, Str.{bytes_eq, is_utf8}}
+use Rattle.toml.specs.{Data.{Data, Members, get_member}, Parse.{parse_document}}
+use Rattle.gs_card.specs.{DeckFaults.{fault_of as deck_fault_of}, Decks.{DeckValue, deck_of}, declared.faults.DeckFault.{DeckFault}}
 use Rattle.gs_game.specs.Refusals.{Refusal}
-use Rattle.gs_model.specs.Betting.{Bet}
-use Rattle.gs_model.specs.Game.{Round as Rules, Ranking, High, Pair, Three}
-use Rattle.gs_model.specs.Outcome.{categories}
-use Rattle.gs_file.specs.Faults.{range, deck, not_text, not_toml, game}
-use Rattle.gs_file.specs.JsonForm.{ranking_text}
-use Rattle.gs_file.specs.Keys.{key_in, top}
+use Rattle.gs_model.specs.{Betting.{Bet}, Game.{Round as Rules, Ranking, High, Pair, Three}, Outcome.{categories}}
+use Rattle.gs_file.specs.{Faults.{range, deck, not_text, not_toml, game}, JsonForm.{ranking_text}, Keys.{key_in, top}}
 use Rattle.gs_file.specs.Reading.{FileGame, Play, Tree_text, Limit_of, Round, Stated, Top, TopValues, bonus_at, counted, deck_at, deck_made, game_at, parsed_at, ranking_at, read_at, round_at, round_built, round_within, stated_at, text_at, typed_at, unless_refused, values_at}
 use Rattle.gs_file.specs.States.{FileStates, Has, IsNumber, IsRound, OneByOne, StatesBetting, StatesBonus, StatesCopies, StatesDeck, StatesGame, StatesRound}
-use Rattle.gs_file.specs.Tables.{each, list_of, text, within}
-use Rattle.gs_file.specs.declared.fault.Key.{Key}
+use Rattle.gs_file.specs.{Tables.{each, list_of, text, within}, declared.fault.Key.{Key}, declared.form.Form.TheVariants.{File}}
 use Rattle.gs_file.specs.declared.fault.Key.TheVariants as key
-use Rattle.gs_file.specs.declared.form.Form.TheVariants.{File}
 use Rattle.gs_file.proofs.RoundCounts.{counted_is}
 use Rattle.gs_file.proofs.Stating.{IsTable, IsWhole, after, between, each_is, each_ok, found_ok, never, same_ok, through, within_is, within_ok}
 use Rattle.gs_file.proofs.StatedRounds.{PlayHas, PlayIn, PlayMade, RoundHas, RoundIn, RoundMade, round_in_is, round_in_ok, round_is, round_made_is, round_made_ok, round_ok, same_bytes}

@@ -1,17 +1,12 @@
 -- Each check of a game file as a fact on values, with no order of checks: it passes where the fact holds, and nowhere else.
 use Rattle.std.proofs.Common.{◌≡◌, ℕ, ◌+◌, ◌≤◌, ◌&&◌, Bool, true, false, List, [], ◌∷◌, Option, Some, None, Result, Ok, Err, ℤ, pos, negsuc, nat_le, refl, ap, subst, arith}
-use Rattle.std.specs.Prelude.{◌↔◌, if◌then◌else◌}
-use Rattle.std.specs.Option.{ok_or}
 use Rattle.std.proofs.lemmas.Bool.{and_parts, le-leb, leb-true}
+use Rattle.std.specs.{Prelude.{◌↔◌, if◌then◌else◌}, Option.{ok_or}}
 use Rattle.toml.specs.Data.{Data, Members, as_array, as_table, as_integer}
 use Rattle.gs_json.specs.Steps.{◌>>=◌}
-use Rattle.gs_file.specs.Faults.{Fault, unknown_key, range, wrong_type}
-use Rattle.gs_file.specs.Keys.{has_only}
-use Rattle.gs_file.specs.States.{HasOnly, IsList, OneByOne}
-use Rattle.gs_file.specs.Tables.{each, list_of, only, table_in, array_in, tables_in, whole_number, whole_numbers_in, within}
-use Rattle.gs_file.specs.declared.fault.Key.{Key}
-use Rattle.gs_file.specs.declared.fault.Place.{Place}
-use Rattle.gs_file.specs.declared.form.Form.TheVariants.{File}
+use Rattle.gs_file.specs.{Faults.{Fault, unknown_key, range, wrong_type}, Keys.{has_only}, States.{HasOnly, IsList, OneByOne}}
+use Rattle.gs_file.specs.{Tables.{each, list_of, only, table_in, array_in, tables_in, whole_number, whole_numbers_in, within}, declared.fault.Key.{Key}}
+use Rattle.gs_file.specs.{declared.fault.Place.{Place}, declared.form.Form.TheVariants.{File}}
 
 -- ---- one step after another
 

@@ -1,21 +1,13 @@
 -- What the reader of trees answers, beside the tree or the fault of a text.
 use Rattle.std.proofs.Common.{◌≡◌, ℕ, ◌-◌, ◌<◌, List, [], ◌∷◌, length, take, Ok, Err, refl, sym, ap, ◌∙◌, arith}
 use Rattle.std.specs.Prelude.{IsTrue, slice_get}
-use Rattle.gs_bet.specs.declared.fault.Mistake.{Mistake}
-use Rattle.gs_bet.specs.declared.fault.Mistake.TheVariants.{RepeatedLetter, TooDeep, Syntax}
-use Rattle.gs_bet.specs.declared.fault.TreeFault.{TreeFault}
+use Rattle.gs_bet.specs.{declared.fault.Mistake.{Mistake}, declared.fault.Mistake.TheVariants.{RepeatedLetter, TooDeep, Syntax}}
+use Rattle.gs_bet.specs.{declared.fault.TreeFault.{TreeFault}, Cuts.{Cut}, Faults.{IsFaultOf, IsMistake, ReadsAs, fault_of, mistake_at}}
+use Rattle.gs_bet.specs.{Grammar.{is_tree, tree_text, IsLongest}, Reading.{Read, all_of, at_end, outer_at, ◌>>=◌}}
 use Rattle.gs_bet.specs.declared.fault.TreeFault.TheVariants as tree
-use Rattle.gs_bet.specs.Cuts.{Cut}
-use Rattle.gs_bet.specs.Faults.{IsFaultOf, IsMistake, ReadsAs, fault_of, mistake_at}
-use Rattle.gs_bet.specs.Grammar.{is_tree, tree_text, IsLongest}
-use Rattle.gs_bet.specs.Reading.{Read, all_of, at_end, outer_at, ◌>>=◌}
-use Rattle.gs_bet.proofs.Parsing.{found, only, refuses, mistaken}
-use Rattle.gs_bet.proofs.Whole.{one_cut}
+use Rattle.gs_bet.proofs.{Parsing.{found, only, refuses, mistaken}, Whole.{one_cut}}
 use Rattle.gs_model.specs.Betting.{Bet}
-use Rattle.gs_file.specs.Faults.{tree_text as tree_fault}
-use Rattle.gs_file.specs.Answers.{Fails, of_tree}
-use Rattle.gs_file.specs.Reading.{tree_at, tree_read}
-use Rattle.gs_file.specs.TreeTexts.{IsTreeRead}
+use Rattle.gs_file.specs.{Faults.{tree_text as tree_fault}, Answers.{Fails, of_tree}, Reading.{tree_at, tree_read}, TreeTexts.{IsTreeRead}}
 
 abbrev leftover : Read Bet → List ℕ
 leftover (Ok p) = p.1

@@ -1,15 +1,9 @@
 -- A valid game is told by each version that can tell its bonuses.
-use Rattle.std.proofs.Common.{◌≡◌, ◌≤◌, List, [], ◌∷◌, map, All, Ok}
-use Rattle.std.proofs.lemmas.List.Elements.{All-cons, All-head, All-nil, All-tail}
+use Rattle.std.proofs.{Common.{◌≡◌, ◌≤◌, List, [], ◌∷◌, map, All, Ok}, lemmas.List.Elements.{All-cons, All-head, All-nil, All-tail}}
 use Rattle.gs_card.specs.Decks.{IsDeck}
-use Rattle.gs_game.specs.Games.{round_of}
-use Rattle.gs_game.specs.declared.game.Round.{Round}
-use Rattle.gs_game.specs.declared.valid.ValidGame.{ValidGame}
+use Rattle.gs_game.specs.{Games.{round_of}, declared.game.Round.{Round}, declared.valid.ValidGame.{ValidGame}}
 use Rattle.gs_model.specs.Game.{Round as Rules}
-use Rattle.gs_file.specs.JsonForm.{game_data}
-use Rattle.gs_file.specs.JsonLaws.{IsRoundTold, IsTold, TellsBonus}
-use Rattle.gs_file.specs.JsonReading.{json_game_at}
-use Rattle.gs_file.specs.Views.{valid_view}
+use Rattle.gs_file.specs.{JsonForm.{game_data}, JsonLaws.{IsRoundTold, IsTold, TellsBonus}, JsonReading.{json_game_at}, Views.{valid_view}}
 use Rattle.gs_file.specs.declared.version.Version.{Version}
 use Rattle.gs_file.proofs.ReadsBack.{reads_back}
 

@@ -1,15 +1,9 @@
 -- The keys of a game's description, as each form writes them, and where each may stand. Source: this project's game files and strategy files.
-use Rattle.std.specs.Prelude.{ℕ, Bool, ◌&&◌, true, List, [], ◌∷◌, codes}
-use Rattle.std.specs.List.{list_any}
-use Rattle.std.specs.Str.{bytes_eq}
+use Rattle.std.specs.{Prelude.{ℕ, Bool, ◌&&◌, true, List, [], ◌∷◌, codes}, List.{list_any}, Str.{bytes_eq}}
 use Rattle.toml.specs.Data.{Members, no_members, member}
-use Rattle.gs_file.specs.declared.fault.Key.{Key}
+use Rattle.gs_file.specs.{declared.fault.Key.{Key}, declared.fault.Place.{Place}, declared.form.Form.{Form}, declared.form.Form.TheVariants.{File, Json}}
+use Rattle.gs_file.specs.{declared.version.Version.{Version}, declared.version.Version.TheVariants.{One, Two}}
 use Rattle.gs_file.specs.declared.fault.Key.TheVariants as key
-use Rattle.gs_file.specs.declared.fault.Place.{Place}
-use Rattle.gs_file.specs.declared.form.Form.{Form}
-use Rattle.gs_file.specs.declared.form.Form.TheVariants.{File, Json}
-use Rattle.gs_file.specs.declared.version.Version.{Version}
-use Rattle.gs_file.specs.declared.version.Version.TheVariants.{One, Two}
 
 -- a key as a game file writes it
 abbrev pub key_text : Key → List ℕ

@@ -1,25 +1,15 @@
 -- What a game file states, without an order of checks: the keys of its tables, with their types and ranges, and the game.
 -- Source: this project's game files.
-use Rattle.std.specs.Prelude.{ℕ, pos, ◌≡◌, ◌≤◌, ◌⊎◌, true, List, [], ◌∷◌, Some, None, length, replicate}
-use Rattle.std.specs.Str.{is_utf8}
-use Rattle.toml.specs.Data.{Data, Items, Members, get_member, as_str, as_integer, as_array, as_table}
-use Rattle.toml.specs.Parse.{parse_document}
+use Rattle.std.specs.{Prelude.{ℕ, pos, ◌≡◌, ◌≤◌, ◌⊎◌, true, List, [], ◌∷◌, Some, None, length, replicate}, Str.{is_utf8}}
+use Rattle.toml.specs.{Data.{Data, Items, Members, get_member, as_str, as_integer, as_array, as_table}, Parse.{parse_document}}
 use Rattle.gs_bet.specs.Limit.{limit_bet}
-use Rattle.gs_card.specs.DeckFaults.{fault_of as deck_fault_of}
-use Rattle.gs_card.specs.Decks.{DeckValue, deck_of}
+use Rattle.gs_card.specs.{DeckFaults.{fault_of as deck_fault_of}, Decks.{DeckValue, deck_of}}
 use Rattle.gs_game.specs.Refusals.{first_refusal}
-use Rattle.gs_model.specs.Betting.{Bet}
-use Rattle.gs_model.specs.Game.{Round, Ranking}
-use Rattle.gs_model.specs.Outcome.{categories}
-use Rattle.gs_file.specs.JsonForm.{ranking_text}
-use Rattle.gs_file.specs.Keys.{key_in, has_only, top_keys, tree_keys, limit_keys}
-use Rattle.gs_file.specs.Reading.{FileGame, rules_of}
-use Rattle.gs_file.specs.Tables.{list_of}
-use Rattle.gs_file.specs.TreeTexts.{IsTextOf}
-use Rattle.gs_file.specs.declared.fault.Key.{Key}
-use Rattle.gs_file.specs.declared.fault.Key.TheVariants as key
-use Rattle.gs_file.specs.declared.form.Form.TheVariants.{File}
+use Rattle.gs_model.specs.{Betting.{Bet}, Game.{Round, Ranking}, Outcome.{categories}}
+use Rattle.gs_file.specs.{JsonForm.{ranking_text}, Keys.{key_in, has_only, top_keys, tree_keys, limit_keys}, Reading.{FileGame, rules_of}, Tables.{list_of}}
+use Rattle.gs_file.specs.{TreeTexts.{IsTextOf}, declared.fault.Key.{Key}, declared.form.Form.TheVariants.{File}}
 use Rattle.gs_file.specs.declared.version.Version.TheVariants.{One, Two}
+use Rattle.gs_file.specs.declared.fault.Key.TheVariants as key
 
 -- the table has the key, with a value of which `P` holds
 abbrev pub Has : Members → Key → (Data → Type 0) → Type 0

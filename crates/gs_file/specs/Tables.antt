@@ -1,13 +1,9 @@
 -- The values of a table by their keys and types. Source: TOML as `toml` reads it, and this project's game files.
-use Rattle.std.specs.Prelude.{ℕ, ℤ, pos, ◌+◌, ◌&&◌, List, [], ◌∷◌, Option, Some, None, Result, Ok, Err, nat_le, if◌then◌else◌}
-use Rattle.std.specs.Option.{ok_or}
+use Rattle.std.specs.{Prelude.{ℕ, ℤ, pos, ◌+◌, ◌&&◌, List, [], ◌∷◌, Option, Some, None, Result, Ok, Err, nat_le, if◌then◌else◌}, Option.{ok_or}}
 use Rattle.toml.specs.Data.{Data, Items, no_items, item, Members, get_member, as_str, as_integer, as_array, as_table}
 use Rattle.gs_json.specs.Steps.{◌>>=◌}
-use Rattle.gs_file.specs.Faults.{Fault, missing_key, unknown_key, wrong_type, range}
-use Rattle.gs_file.specs.Keys.{key_in, has_only}
-use Rattle.gs_file.specs.declared.fault.Key.{Key}
-use Rattle.gs_file.specs.declared.fault.Place.{Place}
-use Rattle.gs_file.specs.declared.form.Form.{Form}
+use Rattle.gs_file.specs.{Faults.{Fault, missing_key, unknown_key, wrong_type, range}, Keys.{key_in, has_only}, declared.fault.Key.{Key}}
+use Rattle.gs_file.specs.{declared.fault.Place.{Place}, declared.form.Form.{Form}}
 
 -- the value of a required key, or the fault that it is missing
 abbrev pub required : Form → Members → Place → Result Data Fault

@@ -1,8 +1,6 @@
 -- What reading a tree's text gives, by the grammar of trees.
 use Rattle.std.specs.Prelude.{◌≡◌, ℕ, List, IsTrue, Result, Ok, Err}
-use Rattle.gs_bet.specs.declared.fault.Mistake.{Mistake}
-use Rattle.gs_bet.specs.Faults.{IsMistake, fault_of}
-use Rattle.gs_bet.specs.Grammar.{is_tree, tree_text}
+use Rattle.gs_bet.specs.{declared.fault.Mistake.{Mistake}, Faults.{IsMistake, fault_of}, Grammar.{is_tree, tree_text}}
 use Rattle.gs_model.specs.Betting.{Bet}
 use Rattle.gs_file.specs.Faults.{Fault, tree_text as tree_fault}
 

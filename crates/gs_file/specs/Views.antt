@@ -2,20 +2,13 @@
 use Rattle.std.specs.Prelude.{ℕ, ℤ, map, option_map}
 use Rattle.toml.specs.View.{view, table_view}
 use Rattle.gs_card.specs.Rankings.{ranking_of}
-use Rattle.gs_game.specs.Games.{round_of}
-use Rattle.gs_game.specs.declared.game.Game.{Game}
-use Rattle.gs_game.specs.declared.valid.ValidGame.{ValidGame}
+use Rattle.gs_game.specs.{Games.{round_of}, declared.game.Game.{Game}, declared.valid.ValidGame.{ValidGame}}
 use Rattle.gs_file.specs.Reading.{Play, PlayValues, Tree_text, Tree_value, Limit_of, Limit_values, Round, TopValues as TopData, Top, Stated, FileGame}
-use Rattle.gs_file.specs.declared.values.TopValues.{TopValues}
-use Rattle.gs_file.specs.declared.values.TopFields.{TopFields}
-use Rattle.gs_file.specs.declared.values.RoundFields.{RoundFields}
-use Rattle.gs_file.specs.declared.values.Betting.{Betting}
+use Rattle.gs_file.specs.{declared.values.TopValues.{TopValues}, declared.values.TopFields.{TopFields}, declared.values.RoundFields.{RoundFields}}
+use Rattle.gs_file.specs.{declared.values.Betting.{Betting}, declared.values.BettingValues.{BettingValues}, declared.values.RoundSizes.{RoundSizes}}
+use Rattle.gs_file.specs.{declared.values.Sizes.{Sizes}, declared.values.StatedGame.{StatedGame}}
 use Rattle.gs_file.specs.declared.values.Betting.TheVariants as betting
-use Rattle.gs_file.specs.declared.values.BettingValues.{BettingValues}
 use Rattle.gs_file.specs.declared.values.BettingValues.TheVariants as told
-use Rattle.gs_file.specs.declared.values.RoundSizes.{RoundSizes}
-use Rattle.gs_file.specs.declared.values.Sizes.{Sizes}
-use Rattle.gs_file.specs.declared.values.StatedGame.{StatedGame}
 use Rattle.gs_file.specs.declared.values.Sizes.TheVariants as sizes
 
 -- the values at the top of a file, as the definitions see them

@@ -1,13 +1,9 @@
 -- Members of one class and the classes of their parents.
 use Rattle.std.proofs.Common.{◌≡◌, ◌==◌, ◌+◌, ◌-◌, ◌<◌, ◌≤◌, ℕ, List, map, length, get_or, sym, ◌∙◌, ap, subst, arith, Vec, Global}
-use Rattle.std.specs.List.{position_or_len}
 use Rattle.std.proofs.lemmas.List.{get_or_default}
-use Rattle.gs_model.specs.Numbering.{greatest, IsNumbered}
-use Rattle.gs_model.specs.Classes.{ClassLists, list_of, IsClasses}
-use Rattle.gs_filter.specs.declared.tally.Tally.{Tally}
-use Rattle.gs_model.specs.Rows.{rows}
-use Rattle.gs_filter.specs.Tallies.{tallies_of, AreReady}
-use Rattle.gs_filter.specs.Filter.{AreParents}
+use Rattle.std.specs.List.{position_or_len}
+use Rattle.gs_model.specs.{Numbering.{greatest, IsNumbered}, Classes.{ClassLists, list_of, IsClasses}, Rows.{rows}}
+use Rattle.gs_filter.specs.{declared.tally.Tally.{Tally}, Tallies.{tallies_of, AreReady}, Filter.{AreParents}}
 use Rattle.gs_filter.specs.Faults.{class_above, first_beside, StaysTogether, Agree, AllNumbered, AllTogether}
 use Rattle.gs_filter.proofs.TallyLaws.{length-tallies_of, first_in, number_in, tally_read, round_tallies}
 

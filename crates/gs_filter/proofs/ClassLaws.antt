@@ -1,13 +1,10 @@
 -- What a value of classes tells, and single signals.
 use Rattle.std.proofs.Common.{◌≡◌, ◌+◌, ◌-◌, ◌<◌, ◌≤◌, ◌^◌, ℕ, zero, suc, List, [], length, take, get_or, sym, ◌∙◌, ap, subst, arith, ⊎_elim}
-use Rattle.std.specs.List.{range_with_len}
-use Rattle.std.proofs.lemmas.Bool.{cases_lt}
-use Rattle.std.proofs.lemmas.List.{get_or-map, length-map, get_or-take, length-take-le, take_more}
+use Rattle.std.proofs.{lemmas.Bool.{cases_lt}, lemmas.List.{get_or-map, length-map, get_or-take, length-take-le, take_more}}
 use Rattle.std.proofs.lemmas.List.FromFn.{length-range_with_len, get_or-range_with_len}
-use Rattle.gs_model.specs.Numbering.{greatest, IsNumbered}
-use Rattle.gs_model.specs.Classes.{list_of, class_of, class_count, first_member, IsClass, IsClasses}
-use Rattle.gs_model.proofs.Numbered.{greatest_push, whole}
-use Rattle.gs_model.proofs.Push.{le_greatest}
+use Rattle.std.specs.List.{range_with_len}
+use Rattle.gs_model.specs.{Numbering.{greatest, IsNumbered}, Classes.{list_of, class_of, class_count, first_member, IsClass, IsClasses}}
+use Rattle.gs_model.proofs.{Numbered.{greatest_push, whole}, Push.{le_greatest}}
 use Rattle.gs_filter.specs.Filter.{Filter, IsParentClass, single_classes}
 use Rattle.gs_filter.proofs.TallyLaws.{first_in, number_in, first_member_of}
 

@@ -1,10 +1,8 @@
 -- Where lists keep the rules of classes, no fault tells that one is broken.
-use Rattle.std.proofs.Common.{◌≡◌, ◌≢◌, ℕ, ◌+◌, ◌-◌, ◌<◌, ◌≤◌, ◌==◌, List, length, get_or, inl, inr, refl, subst, arith}
-use Rattle.std.proofs.lemmas.Bool.{eqb-true}
+use Rattle.std.proofs.{Common.{◌≡◌, ◌≢◌, ℕ, ◌+◌, ◌-◌, ◌<◌, ◌≤◌, ◌==◌, List, length, get_or, inl, inr, refl, subst, arith}, lemmas.Bool.{eqb-true}}
 use Rattle.std.proofs.lemmas.List.Sums.{passes_at_first}
 use Rattle.gs_filter.proofs.TallyLaws.{first_before}
-use Rattle.gs_filter.specs.Faults.{IsFaultOf, first_beside, StaysTogether}
-use Rattle.gs_filter.specs.declared.fault.ClassFault.{ClassFault}
+use Rattle.gs_filter.specs.{Faults.{IsFaultOf, first_beside, StaysTogether}, declared.fault.ClassFault.{ClassFault}}
 use Rattle.gs_filter.specs.declared.fault.ClassFault.TheVariants.{Length, NotFirstSeen, ParentsApart, Memory}
 use Rattle.gs_model.specs.Classes.{ClassLists, IsClasses, class_of, list_of}
 

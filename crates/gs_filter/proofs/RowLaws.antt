@@ -1,8 +1,7 @@
 -- Lists of lists, by rounds.
 use Rattle.std.proofs.Common.{◌≡◌, ◌+◌, ◌-◌, ◌<◌, ◌≤◌, ◌++◌, ◌∷◌, map, take, ℕ, List, [], length, get_or, sym, ◌∙◌, ap, arith, Vec, Global}
 use Rattle.std.proofs.lemmas.List.{get_or-map, length-map, map_push, map_more}
-use Rattle.gs_model.specs.Classes.{list_of}
-use Rattle.gs_model.specs.Rows.{rows}
+use Rattle.gs_model.specs.{Classes.{list_of}, Rows.{rows}}
 
 pub length-rows : {X : Type 0} (vs : List (Vec X Global)) → length (rows vs) ≡ length vs
 length-rows {X} vs = length-map vs (λ (v : Vec X Global). v.items)

@@ -1,8 +1,6 @@
 -- The texts of faults.
-use Rattle.std.specs.Prelude.{ℕ, List, ◌++◌, codes}
-use Rattle.std.specs.Fmt.{decimal}
-use Rattle.gs_filter.specs.declared.fault.ClassFault.{ClassFault}
-use Rattle.gs_filter.specs.declared.fault.ClassFault.TheVariants.{Length, NotFirstSeen, ParentsApart, Memory}
+use Rattle.std.specs.{Prelude.{ℕ, List, ◌++◌, codes}, Fmt.{decimal}}
+use Rattle.gs_filter.specs.{declared.fault.ClassFault.{ClassFault}, declared.fault.ClassFault.TheVariants.{Length, NotFirstSeen, ParentsApart, Memory}}
 
 -- the text of a fault
 abbrev pub fault_text : ClassFault → List ℕ

@@ -1,10 +1,7 @@
 -- The rules for class lists, in the order in which they are checked, and the first place that breaks a rule.
-use Rattle.std.specs.Prelude.{ℕ, ◌-◌, ◌<◌, ◌≤◌, ◌≡◌, ◌==◌, ◌⊎◌, List, length, get_or}
-use Rattle.std.specs.List.{position_or_len}
-use Rattle.gs_model.specs.Numbering.{IsNumbered}
-use Rattle.gs_model.specs.Classes.{ClassLists, list_of}
-use Rattle.gs_filter.specs.Tallies.{IsFirstUnseenIn}
-use Rattle.gs_filter.specs.declared.fault.ClassFault.{ClassFault}
+use Rattle.std.specs.{Prelude.{ℕ, ◌-◌, ◌<◌, ◌≤◌, ◌≡◌, ◌==◌, ◌⊎◌, List, length, get_or}, List.{position_or_len}}
+use Rattle.gs_model.specs.{Numbering.{IsNumbered}, Classes.{ClassLists, list_of}}
+use Rattle.gs_filter.specs.{Tallies.{IsFirstUnseenIn}, declared.fault.ClassFault.{ClassFault}}
 use Rattle.gs_filter.specs.declared.fault.ClassFault.TheVariants.{Length, NotFirstSeen, ParentsApart, Memory}
 
 -- ---- lengths

@@ -1,6 +1,5 @@
 -- An information filter: classes of signals, with the signals' parents. Source: information filters (Gilpin and Sandholm 2007).
-use Rattle.std.specs.Prelude.{ℕ, ◌-◌, ◌^◌, ◌<◌, ◌≤◌, ◌≡◌, List, length, get_or, map}
-use Rattle.std.specs.List.{range_with_len}
+use Rattle.std.specs.{Prelude.{ℕ, ◌-◌, ◌^◌, ◌<◌, ◌≤◌, ◌≡◌, List, length, get_or, map}, List.{range_with_len}}
 use Rattle.gs_model.specs.Classes.{ClassLists, list_of, class_of, IsClasses}
 
 -- each list is shorter than 2^32

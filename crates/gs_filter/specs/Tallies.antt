@@ -1,10 +1,7 @@
 -- Sizes and first members of the classes of one list.
-use Rattle.std.specs.Prelude.{ℕ, ◌+◌, ◌<◌, ◌≤◌, ◌≡◌, ◌^◌, ◌==◌, List, length, take, get_or, map, count_by}
-use Rattle.std.specs.List.{range_with_len, position_or_len}
+use Rattle.std.specs.{Prelude.{ℕ, ◌+◌, ◌<◌, ◌≤◌, ◌≡◌, ◌^◌, ◌==◌, List, length, take, get_or, map, count_by}, List.{range_with_len, position_or_len}}
 use Rattle.gs_model.specs.Numbering.{greatest, IsNumbered}
-use Rattle.gs_filter.specs.declared.tally.Tally.{Tally}
-use Rattle.gs_filter.specs.declared.tally.Stop.{Stop}
-use Rattle.gs_filter.specs.declared.tally.Stop.TheVariants.{Unseen, Memory}
+use Rattle.gs_filter.specs.{declared.tally.Tally.{Tally}, declared.tally.Stop.{Stop}, declared.tally.Stop.TheVariants.{Unseen, Memory}}
 
 -- the size of a class, and its first member
 abbrev pub tally_of : List ℕ → ℕ → Tally

@@ -1,12 +1,9 @@
 -- The fraction that two parts make.
 use Rattle.std.proofs.Common.{◌≡◌, ℕ, zero, suc, ◌^◌, ◌<◌, ◌≤◌, min, pos, List, Ok, Err, Bool, true, false, cond, eqb, ltb, ◌&&◌, inl, inr, ◌⊎◌, refl, sym, ◌∙◌, arith}
-use Rattle.std.specs.Prelude.{IsTrue}
 use Rattle.std.proofs.lemmas.Bool.{cases_Bool, cases_eq, cases_lt, and_right, lt-ltb, le-ltb, eq-eqb, ne_eqb}
-use Rattle.gs_frac.specs.declared.fault.FracFault.TheVariants.{NotFraction, TooWide, NotReduced}
-use Rattle.gs_frac.specs.Gcd.{gcd_of}
+use Rattle.std.specs.{Prelude.{IsTrue}, Int.RustNames.{unsigned_abs}, Str.Parse.{digits_value}}
+use Rattle.gs_frac.specs.{declared.fault.FracFault.TheVariants.{NotFraction, TooWide, NotReduced}, Gcd.{gcd_of}}
 use Rattle.gs_frac.specs.Texts.{limit, is_fraction, is_numeral, number_of, reduced_fraction, fraction_between}
-use Rattle.std.specs.Int.RustNames.{unsigned_abs}
-use Rattle.std.specs.Str.Parse.{digits_value}
 
 pub wide : (negative : Bool) (n d : ℕ) → (2 ^ 127 ≤ n) ⊎ (2 ^ 127 ≤ d) → reduced_fraction negative n d ≡ Err TooWide
 unfolding limit

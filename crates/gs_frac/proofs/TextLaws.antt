@@ -1,18 +1,12 @@
 -- What is read has its fraction's text, and a fraction's text is read.
 use Rattle.std.proofs.Common.{◌≡◌, ℕ, zero, suc, ◌^◌, ◌<◌, ℤ, pos, negsuc, List, [], ◌∷◌, ◌++◌, Option, Some, None, Result, Ok, Err, Bool, true, false, eqb, ltb, ◌&&◌, inl, inr, refl, sym, ap, subst, ◌∙◌, arith}
-use Rattle.std.specs.Prelude.{IsTrue, IfOk, option_map}
-use Rattle.std.specs.Fmt.{decimal, signed_decimal}
-use Rattle.std.specs.Str.{all_ascii_digits}
-use Rattle.std.specs.Str.Parse.{digits_value}
-use Rattle.std.specs.Char.{is_ascii_digit}
 use Rattle.std.proofs.lemmas.Bool.{cases_Bool, cases_lt, and_parts, lt-ltb, le-ltb, ltb-true, ne_eqb, eqb-true, false≢true}
-use Rattle.gs_frac.specs.declared.value.Fraction.{Fraction}
-use Rattle.gs_frac.specs.declared.fault.FracFault.{FracFault}
-use Rattle.gs_frac.specs.Gcd.{gcd_of}
+use Rattle.std.specs.{Prelude.{IsTrue, IfOk, option_map}, Fmt.{decimal, signed_decimal}, Str.{all_ascii_digits}, Str.Parse.{digits_value}}
+use Rattle.std.specs.Char.{is_ascii_digit}
+use Rattle.gs_frac.specs.{declared.value.Fraction.{Fraction}, declared.fault.FracFault.{FracFault}, Gcd.{gcd_of}}
 use Rattle.gs_frac.specs.Texts.{fraction_text, is_numeral, sides, signed, limit, is_fraction, number_of, reduced_fraction, fraction_between, fraction_from, fraction_of}
 use Rattle.gs_frac.specs.Views.{Gives}
-use Rattle.gs_frac.proofs.Numerals.{decimal_of_value, numeral_of_decimal, digits_of_decimal, digit_in}
-use Rattle.gs_frac.proofs.Made.{reduces}
+use Rattle.gs_frac.proofs.{Numerals.{decimal_of_value, numeral_of_decimal, digits_of_decimal, digit_in}, Made.{reduces}}
 
 -- ---- what is read
 

@@ -1,7 +1,6 @@
 -- What a fault prints.
 use Rattle.std.specs.Prelude.{ℕ, List, codes}
-use Rattle.gs_frac.specs.declared.fault.FracFault.{FracFault}
-use Rattle.gs_frac.specs.declared.fault.FracFault.TheVariants.{NotFraction, TooWide, NotReduced}
+use Rattle.gs_frac.specs.{declared.fault.FracFault.{FracFault}, declared.fault.FracFault.TheVariants.{NotFraction, TooWide, NotReduced}}
 
 -- what a fault prints
 abbrev pub fault_text : FracFault → List ℕ

@@ -1,6 +1,5 @@
 -- The greatest common divisor and the least common multiple. Source: Euclid, Elements VII.
-use Rattle.std.specs.Prelude.{ℕ, zero, suc, ◌%◌, ◌==◌, if◌then◌else◌}
-use Rattle.std.specs.Int.{◌∣◌}
+use Rattle.std.specs.{Prelude.{ℕ, zero, suc, ◌%◌, ◌==◌, if◌then◌else◌}, Int.{◌∣◌}}
 
 -- Euclid's method for at most `turns` turns: what a has become when b is 0 or the turns are used up
 abbrev pub gcd_within : ℕ → ℕ → ℕ → ℕ

@@ -1,11 +1,7 @@
 -- The texts of fractions.
 use Rattle.std.specs.Prelude.{ℕ, ◌^◌, ℤ, pos, negsuc, neg_ℤ, Bool, true, false, ◌&&◌, ◌==◌, nat_lt, if◌then◌else◌, List, [], ◌∷◌, ◌++◌, length, Option, Some, None, Result, Ok, Err, codes, option_map, unsigned_abs}
-use Rattle.std.specs.Fmt.{signed_decimal}
-use Rattle.std.specs.Str.{all_ascii_digits}
-use Rattle.std.specs.Str.Parse.{digits_value}
-use Rattle.gs_frac.specs.declared.fault.FracFault.{FracFault}
-use Rattle.gs_frac.specs.declared.fault.FracFault.TheVariants.{NotFraction, TooWide, NotReduced}
-use Rattle.gs_frac.specs.Gcd.{gcd_of}
+use Rattle.std.specs.{Fmt.{signed_decimal}, Str.{all_ascii_digits}, Str.Parse.{digits_value}}
+use Rattle.gs_frac.specs.{declared.fault.FracFault.{FracFault}, declared.fault.FracFault.TheVariants.{NotFraction, TooWide, NotReduced}, Gcd.{gcd_of}}
 
 -- `num/den`
 abbrev pub fraction_text : ℤ → ℤ → List ℕ

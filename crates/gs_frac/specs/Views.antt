@@ -1,7 +1,6 @@
 -- What a result says.
 use Rattle.std.specs.Prelude.{◌≡◌, ℤ, Result, Ok, Err}
-use Rattle.gs_frac.specs.declared.value.Fraction.{Fraction}
-use Rattle.gs_frac.specs.declared.fault.FracFault.{FracFault}
+use Rattle.gs_frac.specs.{declared.value.Fraction.{Fraction}, declared.fault.FracFault.{FracFault}}
 
 -- the result is the fraction with these parts, or this fault
 abbrev pub Gives : Result Fraction FracFault → Result (ℤ × ℤ) FracFault → Type 0

@@ -1,27 +1,17 @@
 -- The walk of one choice: its point, and its moves one at a time.
 use Rattle.std.proofs.Common.{◌≡◌, ℕ, ◌+◌, ◌<◌, ◌≤◌, List, [], ◌∷◌, ◌++◌, map, length, get_or, refl, sym, ap, ◌∙◌, arith, length-append}
-use Rattle.std.specs.Prelude.{◌==◌, slice_set, option_map, if◌then◌else◌, IfOk, Result, Ok, Err}
-use Rattle.std.specs.Global.{Vec}
 use Rattle.std.proofs.lemmas.List.{length-map, map-append}
-use Rattle.gs_model.specs.Betting.{Bet, Moves, act, none, move}
-use Rattle.gs_model.specs.Positions.{at_point, at_end, Arrow, End}
+use Rattle.std.specs.{Prelude.{◌==◌, slice_set, option_map, if◌then◌else◌, IfOk, Result, Ok, Err}, Global.{Vec}}
+use Rattle.gs_model.specs.{Betting.{Bet, Moves, act, none, move}, Positions.{at_point, at_end, Arrow, End}}
 use Rattle.gs_model.specs.Walk.{Place, Walked, WalkedMoves, after_move, walk_tree, walk_moves, walk_rounds}
-use Rattle.gs_bet.specs.TreeView.{plain_moves}
-use Rattle.gs_bet.specs.MoveLists.{count}
-use Rattle.gs_bet.specs.declared.shape.Move.{Move}
-use Rattle.gs_bet.proofs.Letters.{at_most_26}
-use Rattle.gs_bet.proofs.ReadingLaws.{count_plain}
-use Rattle.gs_game.specs.Seen.{step_of, arrow_of, target_of, own_point, OwnPoint, point_of, end_of}
-use Rattle.gs_game.specs.Walks.{Grows, IsWalkable, AreWalkable, place_of}
-use Rattle.gs_game.specs.declared.place.Place.{Place as StoredPlace}
-use Rattle.gs_game.specs.declared.positions.Arrow.{Arrow as StoredArrow}
-use Rattle.gs_game.specs.declared.positions.Point.{Point as StoredPoint}
-use Rattle.gs_game.specs.declared.positions.End.{End as StoredEnd}
+use Rattle.gs_bet.specs.{TreeView.{plain_moves}, MoveLists.{count}, declared.shape.Move.{Move}}
+use Rattle.gs_bet.proofs.{Letters.{at_most_26}, ReadingLaws.{count_plain}}
+use Rattle.gs_game.specs.{Seen.{step_of, arrow_of, target_of, own_point, OwnPoint, point_of, end_of}, Walks.{Grows, IsWalkable, AreWalkable, place_of}}
+use Rattle.gs_game.specs.{declared.place.Place.{Place as StoredPlace}, declared.positions.Arrow.{Arrow as StoredArrow}}
+use Rattle.gs_game.specs.{declared.positions.Point.{Point as StoredPoint}, declared.positions.End.{End as StoredEnd}}
 use Rattle.gs_game.specs.declared.positions.Target.{Target as StoredTarget}
 use Rattle.gs_game.specs.declared.positions.Target.TheVariants as targets
-use Rattle.gs_game.proofs.MoneyLaws.{sound_act}
-use Rattle.gs_game.proofs.WalkLaws.{at, Going, going_step, going_done, patched, grows_end}
-use Rattle.gs_game.proofs.WalkRoom.{walkable_rest}
+use Rattle.gs_game.proofs.{MoneyLaws.{sound_act}, WalkLaws.{at, Going, going_step, going_done, patched, grows_end}, WalkRoom.{walkable_rest}}
 
 -- what all moves of the choice make
 abbrev pub whole : List Bet → ℕ → Moves → StoredPlace → ℕ → ℕ → WalkedMoves

@@ -1,38 +1,20 @@
 -- What a game's tests leave, taken together.
 use Rattle.std.proofs.Common.{◌≡◌, ℕ, zero, suc, ◌+◌, ◌-◌, ◌*◌, ◌<◌, ◌≤◌, ◌^◌, min, true, nat_lt, List, [], ◌∷◌, length, map, refl, sym, ◌∙◌, inl, inr, arith}
-use Rattle.std.specs.Prelude.{Option, Some, None, All}
-use Rattle.std.specs.List.{AllByRecursion}
-use Rattle.std.proofs.lemmas.Bool.{cases_Bool, cases_eq, ltb-false}
-use Rattle.std.proofs.lemmas.List.{length-map}
-use Rattle.std.proofs.lemmas.List.Elements.{All-from_recursion, recursion_from_All}
+use Rattle.std.proofs.{lemmas.Bool.{cases_Bool, cases_eq, ltb-false}, lemmas.List.{length-map}, lemmas.List.Elements.{All-from_recursion, recursion_from_All}}
 use Rattle.std.proofs.Math.Nat.{mul-le-mul_left}
+use Rattle.std.specs.{Prelude.{Option, Some, None, All}, List.{AllByRecursion}}
 use Rattle.gs_card.specs.Rankings.{ranking_of}
-use Rattle.gs_model.specs.Deals.{deals}
-use Rattle.gs_model.specs.Frame.{frame_of, total_weight, trees_of}
-use Rattle.gs_model.specs.Game.{Game as Rules, Round as RoundRules, Ranking, High, Pair, Three, round_count}
-use Rattle.gs_model.specs.Outcome.{IsBonus, categories}
-use Rattle.gs_model.specs.Signals.{signals}
-use Rattle.gs_model.specs.Walk.{walk, walk_start, walk_rounds}
-use Rattle.gs_game.specs.declared.faults.GameFault.{GameFault}
-use Rattle.gs_game.specs.declared.game.Game.{Game}
-use Rattle.gs_game.specs.declared.game.Round.{Round}
-use Rattle.gs_game.specs.declared.positions.Point.{Point}
-use Rattle.gs_game.specs.declared.positions.End.{End}
-use Rattle.gs_game.specs.declared.positions.Target.{Target as StoredTarget}
-use Rattle.gs_game.specs.FaultOf.{IsFaultOf}
-use Rattle.gs_game.specs.Games.{HasFewCards, game_of, round_of, plain_trees}
-use Rattle.gs_game.specs.Limits.{IsDealable, IsWithinLimits}
-use Rattle.gs_game.specs.Lines.{RoundsFollow}
+use Rattle.gs_model.specs.{Deals.{deals}, Frame.{frame_of, total_weight, trees_of}}
+use Rattle.gs_model.specs.{Game.{Game as Rules, Round as RoundRules, Ranking, High, Pair, Three, round_count}, Outcome.{IsBonus, categories}, Signals.{signals}}
+use Rattle.gs_model.specs.{Walk.{walk, walk_start, walk_rounds}, Numbering.{greatest}}
+use Rattle.gs_game.specs.{declared.faults.GameFault.{GameFault}, declared.game.Game.{Game}, declared.game.Round.{Round}, declared.positions.Point.{Point}}
+use Rattle.gs_game.specs.{declared.positions.End.{End}, declared.positions.Target.{Target as StoredTarget}, FaultOf.{IsFaultOf}}
+use Rattle.gs_game.specs.{Games.{HasFewCards, game_of, round_of, plain_trees}, Limits.{IsDealable, IsWithinLimits}, Lines.{RoundsFollow}}
 use Rattle.gs_game.specs.Money.{first_of, most_in}
-use Rattle.gs_model.specs.Numbering.{greatest}
-use Rattle.gs_model.proofs.Basics.{some, some-none}
 use Rattle.gs_game.specs.Refusals.{put_too_large, too_many_lines, too_heavy, too_many_signals, too_many_deals, card_refusal, betting_refusal, even_refusal, uneven_refusal, put_refusal, lines_refusal, deal_refusal, weight_refusal, signals_from, signals_refusal, deals_refusal, first_refusal}
-use Rattle.gs_game.specs.Valid.{IsWalkOf}
-use Rattle.gs_game.specs.Walks.{Grows, RoundsWalkable}
-use Rattle.gs_game.proofs.DealChecks.{cards_pass}
-use Rattle.gs_game.proofs.Deciding.{fault_first, fault_second, trees_are, ends_are}
-use Rattle.gs_game.proofs.Evenly.{neither}
-use Rattle.gs_game.proofs.PointBound.{few_points}
+use Rattle.gs_game.specs.{Valid.{IsWalkOf}, Walks.{Grows, RoundsWalkable}}
+use Rattle.gs_model.proofs.Basics.{some, some-none}
+use Rattle.gs_game.proofs.{DealChecks.{cards_pass}, Deciding.{fault_first, fault_second, trees_are, ends_are}, Evenly.{neither}, PointBound.{few_points}}
 
 -- a test that found nothing
 not-over : {A : Type 0} (limit n : ℕ) (x : A) (r : Option A) → (nat_lt limit n ≡ true → r ≡ Some x) → r ≡ None → n ≤ limit

@@ -1,14 +1,9 @@
 -- The loop that counts sequences of groups.
 use Rattle.std.proofs.Common.{◌≡◌, ℕ, zero, suc, ◌+◌, ◌-◌, ◌<◌, ◌≤◌, ◌≢◌, cond, List, [], ◌∷◌, map, length, sum_by, refl, ap, ◌∙◌, true, false, Bool, drop, sym, arith, slice_set, slice_index, nat_lt, count_by}
-use Rattle.std.specs.Prelude.{◌==◌, flat_map}
-use Rattle.std.specs.List.{range_with_len}
-use Rattle.std.proofs.lemmas.Bool.{lt-ltb}
-use Rattle.std.proofs.lemmas.List.Sums.{sum_by-append, sum_by-cons}
-use Rattle.std.proofs.lemmas.List.{get_or-set_same, set-get_or}
-use Rattle.std.proofs.Math.ListN.{drop_of_length-le}
-use Rattle.std.proofs.Math.Seq.{drop-cons}
-use Rattle.gs_model.proofs.GroupSteps.{set-set}
-use Rattle.gs_model.proofs.Basics.{count-head, count-past}
+use Rattle.std.proofs.{lemmas.Bool.{lt-ltb}, lemmas.List.Sums.{sum_by-append, sum_by-cons}, lemmas.List.{get_or-set_same, set-get_or}}
+use Rattle.std.proofs.{Math.ListN.{drop_of_length-le}, Math.Seq.{drop-cons}}
+use Rattle.std.specs.{Prelude.{◌==◌, flat_map}, List.{range_with_len}}
+use Rattle.gs_model.proofs.{GroupSteps.{set-set}, Basics.{count-head, count-past}}
 use Rattle.gs_model.specs.Cards.{groups_above, groups_with, left_from, left_after}
 use Rattle.gs_game.specs.Sequences.{count_sequences}
 

@@ -1,28 +1,18 @@
 -- The tests of signals and deals.
 use Rattle.std.proofs.Common.{◌≡◌, ℕ, zero, suc, ◌+◌, ◌*◌, ◌<◌, ◌≤◌, min, true, false, nat_lt, List, [], ◌∷◌, ◌++◌, map, length, take, sum, refl, sym, ap, ◌∙◌, inl, inr, arith, length-append}
-use Rattle.std.specs.Prelude.{Some, None, All, ◌==◌, ◌&&◌, nat_le}
-use Rattle.std.specs.List.{AllByRecursion}
 use Rattle.std.proofs.lemmas.Bool.{cases_Bool, and_parts, leb-true, eqb-true, eqb-false, lt-ltb, le-ltb}
-use Rattle.std.proofs.lemmas.List.Elements.{recursion_from_All, All-from_recursion}
-use Rattle.std.proofs.lemmas.List.Sums.{sum_by-cons, sum_by-append, sum_by-le}
+use Rattle.std.proofs.{lemmas.List.Elements.{recursion_from_All, All-from_recursion}, lemmas.List.Sums.{sum_by-cons, sum_by-append, sum_by-le}}
 use Rattle.std.proofs.lemmas.List.{length-map}
-use Rattle.gs_model.specs.Frame.{frame_of, total_weight}
+use Rattle.std.specs.{Prelude.{Some, None, All, ◌==◌, ◌&&◌, nat_le}, List.{AllByRecursion}}
+use Rattle.gs_model.specs.{Frame.{frame_of, total_weight}, Deals.{deals}}
+use Rattle.gs_model.specs.{Game.{Game as Rules, Round as RoundRules, Ranking, High, Pair, Three, round_count, round_at}, Signals.{signals}}
 use Rattle.gs_card.specs.Rankings.{ranking_of}
-use Rattle.gs_model.specs.Deals.{deals}
-use Rattle.gs_model.specs.Game.{Game as Rules, Round as RoundRules, Ranking, High, Pair, Three, round_count, round_at}
-use Rattle.gs_model.specs.Signals.{signals}
 use Rattle.gs_model.proofs.Basics.{every-append, some, some-none}
-use Rattle.gs_game.specs.declared.game.Game.{Game}
-use Rattle.gs_game.specs.declared.game.Round.{Round}
-use Rattle.gs_game.specs.declared.faults.GameFault.{GameFault}
-use Rattle.gs_game.specs.FaultOf.{IsFaultOf}
-use Rattle.gs_game.specs.Games.{HasFewCards, game_of, round_of}
-use Rattle.gs_game.specs.Money.{first_of}
-use Rattle.gs_game.proofs.Deciding.{fault_first, fault_second}
-use Rattle.gs_game.proofs.Evenly.{neither}
+use Rattle.gs_game.specs.{declared.game.Game.{Game}, declared.game.Round.{Round}, declared.faults.GameFault.{GameFault}, FaultOf.{IsFaultOf}}
+use Rattle.gs_game.specs.{Games.{HasFewCards, game_of, round_of}, Money.{first_of}}
 use Rattle.gs_game.specs.Refusals.{rounds, no_private, ranking_cards, too_heavy, too_many_signals, too_many_deals, own_cards, public_cards, ranks, rounds_refusal, private_refusal, ranking_refusal, copies_refusal, card_refusal, weight_refusal, signals_from, signals_refusal, deals_refusal, deal_refusal}
 use Rattle.gs_game.specs.Sequences.{count_sequences, draws, seen_sizes, privates, deal_sizes}
-use Rattle.gs_game.proofs.Sequencing.{signals_counted, deals_counted, weight_drawn}
+use Rattle.gs_game.proofs.{Deciding.{fault_first, fault_second}, Evenly.{neither}, Sequencing.{signals_counted, deals_counted, weight_drawn}}
 
 seen-front : (rs : List RoundRules) (n : ℕ) (more : List ℕ) → n ≤ length rs → take (2 * n) (seen_sizes rs ++ more) ≡ seen_sizes (take n rs)
 seen-front rs zero more h = refl

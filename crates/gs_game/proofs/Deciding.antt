@@ -1,21 +1,12 @@
 -- Which refusal comes first.
 use Rattle.std.proofs.Common.{◌≡◌, ℕ, ◌-◌, ◌*◌, ◌^◌, ◌<◌, ◌≤◌, min, true, false, List, [], ◌∷◌, map, length, refl, sym, ap, arith}
-use Rattle.std.specs.Prelude.{Option, Some, None, nat_lt, Result, Ok, Err, MatchResult}
 use Rattle.std.proofs.lemmas.Bool.{lt-ltb, le-ltb}
-use Rattle.gs_model.specs.Betting.{Bet}
-use Rattle.gs_model.specs.Frame.{trees_of}
-use Rattle.gs_model.specs.Game.{Round as RoundRules}
-use Rattle.gs_model.specs.Walk.{walk, walk_start}
-use Rattle.gs_game.specs.declared.faults.GameFault.{GameFault}
-use Rattle.gs_game.specs.declared.faults.GameFault.TheVariants as faults
-use Rattle.gs_game.specs.declared.game.Game.{Game}
-use Rattle.gs_game.specs.declared.game.Round.{Round}
-use Rattle.gs_game.specs.FaultOf.{IsFaultOf}
-use Rattle.gs_game.specs.Counts.{ends_in}
-use Rattle.gs_game.specs.Games.{round_of, game_of, plain_trees}
-use Rattle.gs_game.specs.Money.{first_of, most_in}
-use Rattle.gs_model.specs.Numbering.{greatest}
+use Rattle.std.specs.Prelude.{Option, Some, None, nat_lt, Result, Ok, Err, MatchResult}
+use Rattle.gs_model.specs.{Betting.{Bet}, Frame.{trees_of}, Game.{Round as RoundRules}, Walk.{walk, walk_start}, Numbering.{greatest}}
+use Rattle.gs_game.specs.{declared.faults.GameFault.{GameFault}, declared.game.Game.{Game}, declared.game.Round.{Round}, FaultOf.{IsFaultOf}, Counts.{ends_in}}
+use Rattle.gs_game.specs.{Games.{round_of, game_of, plain_trees}, Money.{first_of, most_in}}
 use Rattle.gs_game.specs.Refusals.{Refusal, put_too_large, too_many_lines, no_even_from, uneven_from, even_refusal, uneven_refusal, put_refusal, lines_refusal, betting_refusal}
+use Rattle.gs_game.specs.declared.faults.GameFault.TheVariants as faults
 use Rattle.gs_game.proofs.EndLaws.{rounds_count}
 
 -- a fault of the first test is the fault of both

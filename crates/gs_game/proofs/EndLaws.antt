@@ -1,7 +1,6 @@
 -- Counting ends: as far as a cap holds them, and as the walk has them.
 use Rattle.std.proofs.Common.{◌≡◌, ℕ, ◌+◌, min, List, [], ◌∷◌, length, refl, arith, length-append}
-use Rattle.gs_model.specs.Betting.{Bet, Moves, act, fold, even, none, move}
-use Rattle.gs_model.specs.Walk.{Place, Walked, after_move, walk_tree, walk_moves, walk_rounds}
+use Rattle.gs_model.specs.{Betting.{Bet, Moves, act, fold, even, none, move}, Walk.{Place, Walked, after_move, walk_tree, walk_moves, walk_rounds}}
 use Rattle.gs_game.specs.Counts.{ends_of, move_ends, ends_in, points_of, move_points, points_in}
 
 mutual

@@ -1,13 +1,10 @@
 -- Each round before the last goes on, so no round has fewer points or ends than those behind it.
-use Rattle.std.proofs.Common.{◌≡◌, ℕ, ◌+◌, ◌<◌, ◌≤◌, ◌^◌, true, List, [], ◌∷◌, refl, inl, inr, arith}
+use Rattle.std.proofs.{Common.{◌≡◌, ℕ, ◌+◌, ◌<◌, ◌≤◌, ◌^◌, true, List, [], ◌∷◌, refl, inl, inr, arith}, lemmas.Bool.{cases_Bool, or_cases}}
 use Rattle.std.specs.Prelude.{None}
-use Rattle.std.proofs.lemmas.Bool.{cases_Bool, or_cases}
 use Rattle.gs_model.specs.Betting.{Bet, Moves, act, fold, even, none, move}
 use Rattle.gs_model.proofs.Basics.{some-none}
-use Rattle.gs_game.specs.Counts.{points_of, ends_of, move_points, move_ends, points_in, ends_in}
-use Rattle.gs_game.specs.Lines.{RoundsFollow, TreeFollows, MovesFollow}
-use Rattle.gs_game.specs.Money.{has_even, any_even}
-use Rattle.gs_game.specs.Refusals.{no_even, no_even_from}
+use Rattle.gs_game.specs.{Counts.{points_of, ends_of, move_points, move_ends, points_in, ends_in}, Lines.{RoundsFollow, TreeFollows, MovesFollow}}
+use Rattle.gs_game.specs.{Money.{has_even, any_even}, Refusals.{no_even, no_even_from}}
 
 -- a tree with an even leaf leads to no fewer points and ends than follow that leaf
 mutual

@@ -1,11 +1,9 @@
 -- Where each even leaf is even, what is put before a tree is added to the most that is put in it.
-use Rattle.std.proofs.Common.{◌≡◌, ℕ, ◌+◌, max, true, List, [], ◌∷◌, ◌++◌, refl, sym, ap, ◌∙◌, inl, inr, arith}
+use Rattle.std.proofs.{Common.{◌≡◌, ℕ, ◌+◌, max, true, List, [], ◌∷◌, ◌++◌, refl, sym, ap, ◌∙◌, inl, inr, arith}, lemmas.Bool.{cases_Bool, eqb-true}}
 use Rattle.std.specs.Prelude.{◌==◌, Option, Some, None, option_map}
-use Rattle.std.proofs.lemmas.Bool.{cases_Bool, eqb-true}
 use Rattle.gs_model.specs.Betting.{Bet, Moves, act, fold, even, none, move}
 use Rattle.gs_model.proofs.Basics.{some}
-use Rattle.gs_bet.specs.MoveLists.{has_move}
-use Rattle.gs_bet.specs.Grammar.{is_sound, are_sound}
+use Rattle.gs_bet.specs.{MoveLists.{has_move}, Grammar.{is_sound, are_sound}}
 use Rattle.gs_game.specs.Money.{first_of, one_after, two_after, uneven_path, uneven_move, most_put, most_moved, most_in, put_above}
 use Rattle.gs_game.specs.Refusals.{uneven, uneven_from}
 use Rattle.gs_game.proofs.MoneyLaws.{sound_act, sound_move}

@@ -1,21 +1,12 @@
 -- How many ways there are to go on after some rounds: the same for all pairs of signals.
 use Rattle.std.proofs.Common.{◌≡◌, ℕ, zero, suc, ◌+◌, ◌-◌, ◌*◌, ◌≤◌, Bool, true, false, cond, List, [], ◌∷◌, ◌++◌, map, length, get_or, take, sum, refl, sym, ap, ◌∙◌, arith, nat_lt}
-use Rattle.std.specs.Prelude.{filter, flat_map}
-use Rattle.std.specs.List.{AllByRecursion}
-use Rattle.gs_model.specs.Cards.{choose, groups, left_after, left_from, ways}
-use Rattle.gs_model.specs.Deals.{path_weight}
-use Rattle.gs_model.specs.Game.{Round}
-use Rattle.gs_model.specs.Signals.{Seen, Signal, edge, left_by}
+use Rattle.std.specs.{Prelude.{filter, flat_map}, List.{AllByRecursion}}
+use Rattle.gs_model.specs.{Cards.{choose, groups, left_after, left_from, ways}, Deals.{path_weight}, Game.{Round}, Signals.{Seen, Signal, edge, left_by}}
 use Rattle.gs_model.specs.ViewTree.{facing}
-use Rattle.gs_model.proofs.Listed.{length-after, listed, seen}
-use Rattle.gs_model.proofs.Fits.{groups_of_fewer}
-use Rattle.gs_model.proofs.Ranges.{every-flat_map}
-use Rattle.gs_model.proofs.Basics.{every-map, every-weaker}
+use Rattle.gs_model.proofs.{Listed.{length-after, listed, seen}, Fits.{groups_of_fewer}, Ranges.{every-flat_map}, Basics.{every-map, every-weaker}}
 use Rattle.gs_model.proofs.Exchanged.{left_from-swap, ways_from-swap}
-use Rattle.gs_game.specs.GoingOn.{cards_shown, own_cards_of}
-use Rattle.gs_game.specs.Sequences.{deal_sizes, draws, privates, seen_sizes}
-use Rattle.gs_game.proofs.GroupDraws.{all_ways, leaves_sum}
-use Rattle.gs_game.proofs.Sequencing.{drawn, facing_ways}
+use Rattle.gs_game.specs.{GoingOn.{cards_shown, own_cards_of}, Sequences.{deal_sizes, draws, privates, seen_sizes}}
+use Rattle.gs_game.proofs.{GroupDraws.{all_ways, leaves_sum}, Sequencing.{drawn, facing_ways}}
 use Rattle.gs_game.proofs.Totals.{total, total-flat_map, total-map, total-same, total-same_every, total-times, total-two}
 
 -- ---- the order in which groups are taken does not matter

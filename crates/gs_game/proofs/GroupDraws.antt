@@ -1,15 +1,10 @@
 -- The ways of all groups of a size, added up, and what each group leaves.
 use Rattle.std.proofs.Common.{◌≡◌, ◌≢◌, ℕ, zero, suc, ◌+◌, ◌-◌, ◌*◌, ◌<◌, ◌≤◌, List, [], ◌∷◌, ◌++◌, length, drop, drop-cons, add-one, sum, refl, sym, ap, ◌∙◌, arith, inl, inr, count_by, slice_set, slice_index, length-set, drop_of_length-le}
-use Rattle.std.specs.Prelude.{◌==◌}
-use Rattle.std.specs.List.{range_with_len, AllByRecursion}
-use Rattle.std.proofs.lemmas.Bool.{cases_lt, lt-ltb, le-ltb}
-use Rattle.std.proofs.lemmas.List.Sums.{sum_by-cons}
-use Rattle.std.proofs.lemmas.List.{get_or-set_same, drop-set-lt}
+use Rattle.std.proofs.{lemmas.Bool.{cases_lt, lt-ltb, le-ltb}, lemmas.List.Sums.{sum_by-cons}, lemmas.List.{get_or-set_same, drop-set-lt}}
+use Rattle.std.specs.{Prelude.{◌==◌}, List.{range_with_len, AllByRecursion}}
 use Rattle.gs_model.specs.Cards.{choose, groups, groups_above, groups_with, ways, ways_from, left_after}
-use Rattle.gs_model.proofs.Ranges.{every-flat_map}
-use Rattle.gs_model.proofs.Basics.{every-map, count-head, count-past, every-any}
-use Rattle.gs_game.proofs.CountSteps.{after-none, taken}
-use Rattle.gs_game.proofs.Drawing.{mixed, mixed-choose, mixed-none}
+use Rattle.gs_model.proofs.{Ranges.{every-flat_map}, Basics.{every-map, count-head, count-past, every-any}}
+use Rattle.gs_game.proofs.{CountSteps.{after-none, taken}, Drawing.{mixed, mixed-choose, mixed-none}}
 use Rattle.gs_game.proofs.Totals.{total, total-same, total-same_every, total-append, total-map, total-times}
 
 -- ---- groups from a kind on

@@ -1,20 +1,12 @@
 -- A text names the position whose text it is, and each position is named by its text.
 use Rattle.std.proofs.Common.{◌≡◌, ℕ, zero, suc, ◌+◌, ◌-◌, ◌<◌, true, false, not, ◌&&◌, List, [], ◌∷◌, ◌++◌, length, refl, sym, ap, subst, ◌∙◌, inl, inr, ◌⊎◌, eqb, arith, append_assoc, length-append}
-use Rattle.std.specs.Prelude.{Option, Some, None, slice_get, option_map, IfSome}
-use Rattle.std.proofs.lemmas.Bool.{cases_Bool, cases_lt, ne_eqb, both_ways, and_parts, not-true, eqb-true, eq-eqb}
-use Rattle.std.proofs.lemmas.List.{append-nil}
-use Rattle.std.specs.List.{AllByRecursion}
-use Rattle.gs_model.specs.Betting.{Bet, Moves, act, fold, even, none, move}
-use Rattle.gs_model.specs.Positions.{Target, at_point, at_end}
+use Rattle.std.proofs.{lemmas.Bool.{cases_Bool, cases_lt, ne_eqb, both_ways, and_parts, not-true, eqb-true, eq-eqb}, lemmas.List.{append-nil}}
+use Rattle.std.specs.{Prelude.{Option, Some, None, slice_get, option_map, IfSome}, List.{AllByRecursion}}
+use Rattle.gs_model.specs.{Betting.{Bet, Moves, act, fold, even, none, move}, Positions.{Target, at_point, at_end}}
 use Rattle.gs_model.proofs.Basics.{some}
-use Rattle.gs_bet.specs.MoveLists.{has_letter}
-use Rattle.gs_bet.specs.Grammar.{is_sound, are_sound, is_letter}
-use Rattle.gs_game.specs.Counts.{points_of, ends_of, move_points, move_ends, points_in, ends_in}
-use Rattle.gs_bet.specs.TreeView.{plain}
-use Rattle.gs_game.specs.Games.{plain_trees}
-use Rattle.gs_game.specs.Seen.{target_of}
-use Rattle.gs_game.specs.declared.game.Round.{Round}
-use Rattle.gs_game.specs.declared.positions.Target.{Target as StoredTarget}
+use Rattle.gs_bet.specs.{MoveLists.{has_letter}, Grammar.{is_sound, are_sound, is_letter}, TreeView.{plain}}
+use Rattle.gs_game.specs.{Counts.{points_of, ends_of, move_points, move_ends, points_in, ends_in}, Games.{plain_trees}, Seen.{target_of}}
+use Rattle.gs_game.specs.{declared.game.Round.{Round}, declared.positions.Target.{Target as StoredTarget}}
 use Rattle.gs_game.specs.Lines.{Texts, tree_lines, move_lines, lines_from, lines, text_at, follow, follow_moves, follow_from}
 use Rattle.gs_game.proofs.MoneyLaws.{sound_act, sound_move, tree_sound}
 

@@ -1,21 +1,12 @@
 -- Writing the text of a position: among the moves of a choice, one after the other.
 use Rattle.std.proofs.Common.{◌≡◌, ℕ, zero, suc, ◌+◌, ◌-◌, ◌<◌, ◌≤◌, true, List, [], ◌∷◌, ◌++◌, length, refl, sym, ap, ◌∙◌, arith}
-use Rattle.std.specs.Prelude.{slice_get, ◌&&◌, not, nat_le}
 use Rattle.std.proofs.lemmas.Bool.{and_parts, leb-true}
-use Rattle.gs_model.specs.Betting.{Bet, Moves, act, move}
-use Rattle.gs_model.specs.Positions.{Target, at_point, at_end}
-use Rattle.gs_bet.specs.MoveLists.{has_letter}
-use Rattle.gs_bet.specs.Grammar.{is_letter, are_sound}
-use Rattle.gs_game.specs.Counts.{points_of, ends_of, points_in, ends_in}
-use Rattle.gs_model.specs.Walk.{walk_start}
-use Rattle.gs_game.specs.declared.game.Game.{Game}
-use Rattle.gs_game.specs.Games.{game_of, plain_trees}
-use Rattle.gs_game.specs.Valid.{walk_of}
-use Rattle.gs_game.proofs.Deciding.{trees_are}
-use Rattle.gs_game.proofs.EndLaws.{rounds_count}
-use Rattle.gs_game.specs.Lines.{Texts, TreeFollows, MovesFollow, IsAmong, IsPast, tree_lines, move_lines, lines_from, text_at}
-use Rattle.gs_game.specs.declared.game.Round.{Round}
-use Rattle.gs_game.proofs.LineLaws.{rounds, all_sound, get_within, get_right, lines_counted}
+use Rattle.std.specs.Prelude.{slice_get, ◌&&◌, not, nat_le}
+use Rattle.gs_model.specs.{Betting.{Bet, Moves, act, move}, Positions.{Target, at_point, at_end}, Walk.{walk_start}}
+use Rattle.gs_bet.specs.{MoveLists.{has_letter}, Grammar.{is_letter, are_sound}}
+use Rattle.gs_game.specs.{Counts.{points_of, ends_of, points_in, ends_in}, declared.game.Game.{Game}, Games.{game_of, plain_trees}, Valid.{walk_of}}
+use Rattle.gs_game.specs.{Lines.{Texts, TreeFollows, MovesFollow, IsAmong, IsPast, tree_lines, move_lines, lines_from, text_at}, declared.game.Round.{Round}}
+use Rattle.gs_game.proofs.{Deciding.{trees_are}, EndLaws.{rounds_count}, LineLaws.{rounds, all_sound, get_within, get_right, lines_counted}}
 
 text-first : (x y : Texts) (at : Target) → IsAmong (length x.points) (length x.ends) at
     → text_at (record { points = x.points ++ y.points; ends = x.ends ++ y.ends }) at ≡ text_at x at

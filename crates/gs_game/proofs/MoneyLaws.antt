@@ -3,8 +3,7 @@ use Rattle.std.proofs.Common.{◌≡◌, ℕ, zero, suc, ◌+◌, ◌≤◌, ◌
 use Rattle.std.proofs.lemmas.Bool.{and_parts, leb-true, cases_Bool}
 use Rattle.std.specs.Prelude.{◌==◌}
 use Rattle.gs_model.specs.Betting.{Bet, Moves, act, move}
-use Rattle.gs_bet.specs.MoveLists.{has_move, has_letter}
-use Rattle.gs_bet.specs.Grammar.{is_letter, is_player, is_sound, are_sound, is_fold, is_tree}
+use Rattle.gs_bet.specs.{MoveLists.{has_move, has_letter}, Grammar.{is_letter, is_player, is_sound, are_sound, is_fold, is_tree}}
 use Rattle.gs_game.specs.Money.{Fits, MovesFit, one_after, two_after, most_put, most_moved}
 
 pub sound_act : (left p : ℕ) (ms : Moves) → is_sound left (act p ms) ≡ true → (k : ℕ) × (left ≡ suc k) × (are_sound k ms ≡ true) × (has_move ms ≡ true)

@@ -1,21 +1,14 @@
 -- What the crates above need of a valid game: its choices are players' choices, and no end has put more than the most.
-use Rattle.std.proofs.Common.{◌≡◌, ℕ, ◌+◌, ◌<◌, ◌≤◌, max, List, [], ◌∷◌, map, length, refl, inl, inr, arith}
-use Rattle.std.specs.Prelude.{◌==◌}
-use Rattle.std.specs.List.{AllByRecursion}
-use Rattle.std.proofs.lemmas.Bool.{cases_Bool}
-use Rattle.std.proofs.lemmas.List.{length-map}
-use Rattle.std.proofs.lemmas.List.Elements.{All-from_recursion}
+use Rattle.std.proofs.{Common.{◌≡◌, ℕ, ◌+◌, ◌<◌, ◌≤◌, max, List, [], ◌∷◌, map, length, refl, inl, inr, arith}, lemmas.Bool.{cases_Bool}}
+use Rattle.std.proofs.{lemmas.List.{length-map}, lemmas.List.Elements.{All-from_recursion}}
+use Rattle.std.specs.{Prelude.{◌==◌}, List.{AllByRecursion}}
 use Rattle.gs_bet.specs.TreeView.{plain}
 use Rattle.gs_bet.proofs.Players.{has_players}
-use Rattle.gs_model.specs.Betting.{Bet, Moves, act, fold, even, none, move, HasPlayers}
-use Rattle.gs_model.specs.Frame.{trees_of}
-use Rattle.gs_model.specs.Game.{Game as Rules, Round as RoundRules, IsPlayable}
-use Rattle.gs_model.specs.Positions.{End}
+use Rattle.gs_model.specs.{Betting.{Bet, Moves, act, fold, even, none, move, HasPlayers}, Frame.{trees_of}}
+use Rattle.gs_model.specs.{Game.{Game as Rules, Round as RoundRules, IsPlayable}, Positions.{End}}
 use Rattle.gs_model.specs.Walk.{Place, Walked, after_move, fold_end, walk_tree, walk_moves, walk_rounds, walk_start, walk}
 use Rattle.gs_model.proofs.Basics.{every-weaker, every-append}
-use Rattle.gs_game.specs.declared.game.Game.{Game}
-use Rattle.gs_game.specs.declared.game.Round.{Round}
-use Rattle.gs_game.specs.Games.{game_of, round_of}
+use Rattle.gs_game.specs.{declared.game.Game.{Game}, declared.game.Round.{Round}, Games.{game_of, round_of}}
 use Rattle.gs_game.specs.Money.{one_after, two_after, most_put, most_moved, most_in}
 use Rattle.gs_game.proofs.WalkRoom.{after_put_one, after_put_two}
 

@@ -1,13 +1,8 @@
 -- There are not many more points than ends.
-use Rattle.std.proofs.Common.{◌≡◌, ℕ, suc, ◌+◌, ◌*◌, ◌<◌, ◌≤◌, ◌^◌, true, List, [], ◌∷◌, length, arith}
-use Rattle.std.proofs.Math.Nat.{mul-le-mul_right}
+use Rattle.std.proofs.{Common.{◌≡◌, ℕ, suc, ◌+◌, ◌*◌, ◌<◌, ◌≤◌, ◌^◌, true, List, [], ◌∷◌, length, arith}, Math.Nat.{mul-le-mul_right}}
 use Rattle.gs_model.specs.Betting.{Bet, Moves, act, fold, even, none, move}
-use Rattle.gs_bet.specs.TreeView.{plain}
-use Rattle.gs_bet.specs.MoveLists.{has_move}
-use Rattle.gs_bet.specs.Grammar.{is_sound, are_sound}
-use Rattle.gs_game.specs.Counts.{points_of, ends_of, move_points, move_ends, points_in, ends_in}
-use Rattle.gs_game.specs.Games.{plain_trees}
-use Rattle.gs_game.specs.declared.game.Round.{Round}
+use Rattle.gs_bet.specs.{TreeView.{plain}, MoveLists.{has_move}, Grammar.{is_sound, are_sound}}
+use Rattle.gs_game.specs.{Counts.{points_of, ends_of, move_points, move_ends, points_in, ends_in}, Games.{plain_trees}, declared.game.Round.{Round}}
 use Rattle.gs_game.proofs.MoneyLaws.{sound_act, sound_move, tree_sound}
 
 -- so many points to an end at most, and some end

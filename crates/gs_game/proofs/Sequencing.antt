@@ -1,18 +1,11 @@
 -- Signals and deals, counted and weighed as sequences of groups.
 use Rattle.std.proofs.Common.{◌≡◌, ℕ, zero, suc, ◌+◌, ◌-◌, ◌*◌, ◌<◌, ◌≤◌, List, [], ◌∷◌, ◌++◌, map, length, get_or, take, sum, ℤ, refl, sym, ap, ◌∙◌, arith, append_assoc}
-use Rattle.std.specs.Prelude.{filter, ◌==◌}
-use Rattle.std.specs.List.{range_with_len, AllByRecursion}
 use Rattle.std.proofs.lemmas.List.{append-nil, take_all, take_more}
-use Rattle.gs_model.specs.Cards.{groups, ways, left_after}
-use Rattle.gs_model.specs.Deals.{Deal, deals, path_weight}
-use Rattle.gs_model.specs.Frame.{frame_of, total_weight}
-use Rattle.gs_model.specs.Game.{Game, Round, round_at, round_count}
-use Rattle.gs_model.specs.Signals.{Seen, Signal, children, edge, left_by, showings, signal_at, signals}
-use Rattle.gs_model.specs.ViewTree.{facing, signal_outcome}
-use Rattle.gs_model.specs.Betting.{even}
-use Rattle.gs_model.proofs.Ranges.{deals-below, every-flat_map}
-use Rattle.gs_model.proofs.Facing.{deals_are_facing}
-use Rattle.gs_model.proofs.Basics.{every-map, every-weaker, every-range, every-any}
+use Rattle.std.specs.{Prelude.{filter, ◌==◌}, List.{range_with_len, AllByRecursion}}
+use Rattle.gs_model.specs.{Cards.{groups, ways, left_after}, Deals.{Deal, deals, path_weight}, Frame.{frame_of, total_weight}}
+use Rattle.gs_model.specs.{Game.{Game, Round, round_at, round_count}, Signals.{Seen, Signal, children, edge, left_by, showings, signal_at, signals}}
+use Rattle.gs_model.specs.{ViewTree.{facing, signal_outcome}, Betting.{even}}
+use Rattle.gs_model.proofs.{Ranges.{deals-below, every-flat_map}, Facing.{deals_are_facing}, Basics.{every-map, every-weaker, every-range, every-any}}
 use Rattle.gs_model.proofs.Listed.{left_by-push}
 use Rattle.gs_game.specs.Sequences.{count_sequences, draws, seen_sizes, privates, deal_sizes}
 use Rattle.gs_game.proofs.GroupDraws.{all_ways, leaves_sum}

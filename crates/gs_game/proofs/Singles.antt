@@ -1,14 +1,11 @@
 -- Sequences of groups where no kind has more than one copy: each is drawn in one way.
-use Rattle.std.proofs.Common.{◌≡◌, ℕ, ◌*◌, ◌<◌, ◌≤◌, List, [], ◌∷◌, sum, length, refl, ap, ◌∙◌, arith, ⊎_elim, get_or}
-use Rattle.std.specs.List.{AllByRecursion}
-use Rattle.std.proofs.Math.ListN.{get_or-eq_default}
+use Rattle.std.proofs.{Common.{◌≡◌, ℕ, ◌*◌, ◌<◌, ◌≤◌, List, [], ◌∷◌, sum, length, refl, ap, ◌∙◌, arith, ⊎_elim, get_or}, Math.ListN.{get_or-eq_default}}
 use Rattle.std.proofs.lemmas.Bool.{cases_lt}
+use Rattle.std.specs.List.{AllByRecursion}
 use Rattle.gs_model.specs.Cards.{groups, ways, left_after}
 use Rattle.gs_model.proofs.Fits.{groups_taken}
 use Rattle.gs_game.specs.Sequences.{count_sequences, draws}
-use Rattle.gs_game.proofs.Sequencing.{counted, drawn, once, sequences}
-use Rattle.gs_game.proofs.Totals.{total-same_every}
-use Rattle.gs_game.proofs.Ways.{Single, single_after, ways_one}
+use Rattle.gs_game.proofs.{Sequencing.{counted, drawn, once, sequences}, Totals.{total-same_every}, Ways.{Single, single_after, ways_one}}
 
 each_once : (left : List ℕ) (f h : List ℕ → ℕ) → Single left → ((g : List ℕ) → f g ≡ h g) → (gs : List (List ℕ)) → AllByRecursion (λ g. 0 < ways left g) gs
     → AllByRecursion (λ g. 1 * f g ≡ ways left g * h g) gs

@@ -1,15 +1,10 @@
 -- A valid game has enough cards for its deals, so after each round there is a way to go on.
 use Rattle.std.proofs.Common.{◌≡◌, ℕ, ◌+◌, ◌-◌, ◌*◌, ◌<◌, ◌≤◌, List, [], ◌∷◌, ◌++◌, take, drop, sum, refl, sym, ap, ◌∙◌, arith, inl, inr, nat_lt}
+use Rattle.std.proofs.{lemmas.Bool.{cases_Bool, ltb-false}, lemmas.List.{take-append-drop}, lemmas.List.Sums.{sum_by-append, sum_by-cons}}
 use Rattle.std.specs.Prelude.{Some, None}
-use Rattle.std.proofs.lemmas.Bool.{cases_Bool, ltb-false}
-use Rattle.std.proofs.lemmas.List.{take-append-drop}
-use Rattle.std.proofs.lemmas.List.Sums.{sum_by-append, sum_by-cons}
-use Rattle.gs_model.specs.Cards.{choose}
-use Rattle.gs_model.specs.Game.{Game, Round}
-use Rattle.gs_model.proofs.Basics.{product_positive}
-use Rattle.gs_model.proofs.Fits.{choose-some}
-use Rattle.gs_game.specs.GoingOn.{cards_shown, own_cards_of, ways_on}
-use Rattle.gs_game.specs.Money.{first_of}
+use Rattle.gs_model.specs.{Cards.{choose}, Game.{Game, Round}}
+use Rattle.gs_model.proofs.{Basics.{product_positive}, Fits.{choose-some}}
+use Rattle.gs_game.specs.{GoingOn.{cards_shown, own_cards_of, ways_on}, Money.{first_of}}
 use Rattle.gs_game.specs.Refusals.{betting_refusal, card_refusal, copies_refusal, deal_refusal, first_refusal, not_enough_cards, own_cards, private_refusal, public_cards, ranking_refusal, rounds_refusal}
 use Rattle.gs_game.specs.Sequences.{deal_sizes, draws, privates, seen_sizes}
 use Rattle.gs_game.proofs.Evenly.{neither}

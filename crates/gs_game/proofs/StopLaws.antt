@@ -1,30 +1,17 @@
 -- What deals weigh by the signals of a round, and that it is the same where the game stops after that round, but for the ways to go on.
 use Rattle.std.proofs.Common.{◌≡◌, ℕ, zero, suc, ◌+◌, ◌-◌, ◌*◌, ◌<◌, ◌≤◌, Bool, true, false, cond, List, [], ◌∷◌, ◌++◌, map, length, get_or, take, drop, sum, refl, sym, ap, ◌∙◌, subst, arith, length-take}
-use Rattle.std.specs.Prelude.{filter, flat_map, ◌==◌, ◌&&◌}
-use Rattle.std.specs.List.{range_with_len}
-use Rattle.std.proofs.lemmas.Bool.Decides.{Decides-eqb}
-use Rattle.std.proofs.lemmas.List.{get_or-take, take-append-drop, take-take, take_all}
-use Rattle.gs_model.specs.Betting.{even}
-use Rattle.gs_model.specs.Cards.{groups, left_after, ways}
-use Rattle.gs_model.specs.Classes.{ClassLists, class_of, list_of}
-use Rattle.gs_model.specs.Deals.{Deal, deals, path_weight, same_cards}
-use Rattle.gs_model.specs.Frame.{ancestor, ancestor_up, at_round, frame_of, last_round, parents_of}
-use Rattle.gs_model.specs.Game.{Game, Round, round_at, round_count}
-use Rattle.gs_model.specs.Lossless.{weight_against}
-use Rattle.gs_model.specs.Signals.{Signal, children, left_by, parents, signal_at, signals}
-use Rattle.gs_model.specs.ViewTree.{facing}
-use Rattle.gs_model.proofs.Exchanged.{and_both, same_cards-is}
-use Rattle.gs_model.proofs.Facing.{signals_differ, same_signal, same_signal-self}
-use Rattle.gs_model.proofs.Listed.{listed, listed-all, seen}
-use Rattle.gs_model.proofs.Ranges.{deals-below, kept_pass, parents_at}
-use Rattle.gs_model.proofs.Walked.{last_round_of}
-use Rattle.gs_game.specs.GoingOn.{StopsAfter, cards_shown, own_cards_of, ways_on}
-use Rattle.gs_game.specs.Sequences.{deal_sizes, draws, seen_sizes}
-use Rattle.gs_game.proofs.GoingOn.{beside_sum, going_on, pair_sum}
-use Rattle.gs_game.proofs.Sequencing.{same_triples}
-use Rattle.gs_game.proofs.Totals.{sum-total, total, total-keys, total-places, total-same, total-same_every, total-times}
-use Rattle.gs_model.proofs.Extends.{parent_below, before_last, signal_long}
+use Rattle.std.proofs.{lemmas.Bool.Decides.{Decides-eqb}, lemmas.List.{get_or-take, take-append-drop, take-take, take_all}}
+use Rattle.std.specs.{Prelude.{filter, flat_map, ◌==◌, ◌&&◌}, List.{range_with_len}}
+use Rattle.gs_model.specs.{Betting.{even}, Cards.{groups, left_after, ways}, Classes.{ClassLists, class_of, list_of}}
+use Rattle.gs_model.specs.{Deals.{Deal, deals, path_weight, same_cards}, Frame.{ancestor, ancestor_up, at_round, frame_of, last_round, parents_of}}
+use Rattle.gs_model.specs.{Game.{Game, Round, round_at, round_count}, Lossless.{weight_against}}
+use Rattle.gs_model.specs.{Signals.{Signal, children, left_by, parents, signal_at, signals}, ViewTree.{facing}}
+use Rattle.gs_model.proofs.{Exchanged.{and_both, same_cards-is}, Facing.{signals_differ, same_signal, same_signal-self}, Listed.{listed, listed-all, seen}}
+use Rattle.gs_model.proofs.{Ranges.{deals-below, kept_pass, parents_at}, Walked.{last_round_of}, Extends.{parent_below, before_last, signal_long}}
 use Rattle.gs_model.proofs.Basics.{flat_map-same, every-weaker, every-range}
+use Rattle.gs_game.specs.{GoingOn.{StopsAfter, cards_shown, own_cards_of, ways_on}, Sequences.{deal_sizes, draws, seen_sizes}}
+use Rattle.gs_game.proofs.{GoingOn.{beside_sum, going_on, pair_sum}, Sequencing.{same_triples}}
+use Rattle.gs_game.proofs.Totals.{sum-total, total, total-keys, total-places, total-same, total-same_every, total-times}
 
 -- ---- all deals, each with a number of its two signals
 

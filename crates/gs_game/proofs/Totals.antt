@@ -1,9 +1,7 @@
 -- Sums of numbers over lists.
 use Rattle.std.proofs.Common.{◌≡◌, ℕ, zero, suc, ◌+◌, ◌*◌, ◌<◌, ◌≤◌, List, [], ◌∷◌, ◌++◌, map, length, get_or, sum_by, refl, sym, ap, arith, inl, inr, cond, eqb}
-use Rattle.std.specs.Prelude.{flat_map, filter, ◌==◌}
-use Rattle.std.specs.List.{range_with_len, AllByRecursion}
-use Rattle.std.proofs.lemmas.Bool.{cases_eq, eq-eqb, ne_eqb}
-use Rattle.std.proofs.lemmas.List.Sums.{sum_by-cons}
+use Rattle.std.proofs.{lemmas.Bool.{cases_eq, eq-eqb, ne_eqb}, lemmas.List.Sums.{sum_by-cons}}
+use Rattle.std.specs.{Prelude.{flat_map, filter, ◌==◌}, List.{range_with_len, AllByRecursion}}
 
 -- the same as sum_by, by recursion on the list
 abbrev pub total : {X : Type 0} → (X → ℕ) → List X → ℕ

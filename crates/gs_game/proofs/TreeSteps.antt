@@ -1,8 +1,7 @@
 -- The moves of a choice, one at a time.
 use Rattle.std.proofs.Common.{◌≡◌, ℕ, ◌+◌, ◌<◌, ◌≤◌, List, ◌∷◌, length, get_or, drop, drop-cons, drop_of_length-le, add-one, refl, ap, ◌∙◌, sym}
 use Rattle.gs_model.specs.Betting.{none, move}
-use Rattle.gs_bet.specs.TreeView.{plain, plain_moves}
-use Rattle.gs_bet.specs.declared.shape.Move.{Move}
+use Rattle.gs_bet.specs.{TreeView.{plain, plain_moves}, declared.shape.Move.{Move}}
 
 pub moves_step : (ms : List Move) (i : ℕ) (m : Move) → i < length ms → m ≡ get_or ms i m
     → plain_moves (drop i ms) ≡ move m.letter m.chips (plain m.next) (plain_moves (drop (i + 1) ms))

@@ -1,16 +1,11 @@
 -- A walk grows as the definitions say, a move at a time.
 use Rattle.std.proofs.Common.{◌≡◌, ℕ, ◌+◌, List, [], ◌∷◌, ◌++◌, map, length, get_or, refl, sym, ap, ◌∙◌, append_assoc, length-append}
-use Rattle.std.specs.Prelude.{slice_set}
-use Rattle.std.specs.Global.{Vec}
 use Rattle.std.proofs.lemmas.List.{append-nil, length-map, map-append}
-use Rattle.gs_model.specs.Betting.{Bet, Moves, none, move}
-use Rattle.gs_model.specs.Positions.{Target, at_end, Arrow, End}
+use Rattle.std.specs.{Prelude.{slice_set}, Global.{Vec}}
+use Rattle.gs_model.specs.{Betting.{Bet, Moves, none, move}, Positions.{Target, at_end, Arrow, End}}
 use Rattle.gs_model.specs.Walk.{Place, Walked, root, after_move, walk_tree, walk_moves}
-use Rattle.gs_game.specs.Seen.{arrow_of, target_of, own_point, OwnPoint, point_of, end_of}
-use Rattle.gs_game.specs.Walks.{Grows}
-use Rattle.gs_game.specs.declared.positions.Arrow.{Arrow as StoredArrow}
-use Rattle.gs_game.specs.declared.positions.Point.{Point as StoredPoint}
-use Rattle.gs_game.specs.declared.positions.End.{End as StoredEnd}
+use Rattle.gs_game.specs.{Seen.{arrow_of, target_of, own_point, OwnPoint, point_of, end_of}, Walks.{Grows}, declared.positions.Arrow.{Arrow as StoredArrow}}
+use Rattle.gs_game.specs.{declared.positions.Point.{Point as StoredPoint}, declared.positions.End.{End as StoredEnd}}
 use Rattle.gs_game.specs.declared.positions.Target.{Target as StoredTarget}
 
 -- a place with other numbers of points and ends before it

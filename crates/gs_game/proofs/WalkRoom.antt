@@ -1,20 +1,11 @@
 -- The numbers of a walk stay small.
-use Rattle.std.proofs.Common.{◌≡◌, ℕ, ◌+◌, ◌<◌, ◌≤◌, ◌^◌, max, true, List, [], ◌∷◌, length, refl, inl, inr, arith}
+use Rattle.std.proofs.{Common.{◌≡◌, ℕ, ◌+◌, ◌<◌, ◌≤◌, ◌^◌, max, true, List, [], ◌∷◌, length, refl, inl, inr, arith}, lemmas.Bool.{cases_Bool}}
 use Rattle.std.specs.Prelude.{◌==◌}
-use Rattle.std.proofs.lemmas.Bool.{cases_Bool}
-use Rattle.gs_model.specs.Betting.{Bet, Moves, act, fold, even, none, move}
-use Rattle.gs_model.specs.Walk.{Place, after_move, walk_tree, walk_rounds}
-use Rattle.gs_bet.specs.TreeView.{plain}
-use Rattle.gs_bet.specs.MoveLists.{has_move}
-use Rattle.gs_bet.specs.Grammar.{is_sound}
-use Rattle.gs_game.specs.Counts.{points_in, ends_in}
-use Rattle.gs_game.specs.Games.{plain_trees}
-use Rattle.gs_game.specs.Money.{one_after, two_after, most_put, most_in}
-use Rattle.gs_game.specs.Walks.{IsWalkable, AreWalkable}
+use Rattle.gs_model.specs.{Betting.{Bet, Moves, act, fold, even, none, move}, Walk.{Place, after_move, walk_tree, walk_rounds}}
+use Rattle.gs_bet.specs.{TreeView.{plain}, MoveLists.{has_move}, Grammar.{is_sound}}
+use Rattle.gs_game.specs.{Counts.{points_in, ends_in}, Games.{plain_trees}, Money.{one_after, two_after, most_put, most_in}, Walks.{IsWalkable, AreWalkable}}
 use Rattle.gs_game.specs.declared.game.Round.{Round}
-use Rattle.gs_game.proofs.MoneyLaws.{sound_act, sound_move, tree_sound}
-use Rattle.gs_game.proofs.EndLaws.{rounds_count, tree_counts}
-use Rattle.gs_game.proofs.WalkLaws.{at}
+use Rattle.gs_game.proofs.{MoneyLaws.{sound_act, sound_move, tree_sound}, EndLaws.{rounds_count, tree_counts}, WalkLaws.{at}}
 
 -- after a move nobody has put less
 more_one : (player chips one : ℕ) → one ≤ one_after player chips one

@@ -2,11 +2,8 @@
 use Rattle.std.proofs.Common.{◌≡◌, ◌+◌, ◌-◌, ◌<◌, ◌≤◌, ℕ, zero, suc, List, [], ◌∷◌, length, get_or, arith, subst}
 use Rattle.std.specs.Prelude.{count_by, ◌==◌}
 use Rattle.gs_model.specs.Cards.{choose, left_after, ways, ways_from}
-use Rattle.gs_model.proofs.Basics.{factors_positive, product_positive}
-use Rattle.gs_model.proofs.Fits.{choose-some}
-use Rattle.gs_model.proofs.Factorials.{choose_room}
-use Rattle.gs_model.proofs.SingleCards.{choose-le_one, product-le_one}
-use Rattle.gs_model.proofs.Listed.{left_at}
+use Rattle.gs_model.proofs.{Basics.{factors_positive, product_positive}, Fits.{choose-some}, Factorials.{choose_room}}
+use Rattle.gs_model.proofs.{SingleCards.{choose-le_one, product-le_one}, Listed.{left_at}}
 
 -- how often a card stands among cards
 abbrev pub times : ℕ → List ℕ → ℕ

@@ -2,10 +2,8 @@
 use Rattle.std.specs.Prelude.{◌≤◌, map, length, List}
 use Rattle.gs_bet.specs.TreeView.{plain}
 use Rattle.gs_card.specs.Rankings.{ranking_of}
-use Rattle.gs_model.specs.Betting.{Bet}
-use Rattle.gs_model.specs.Game.{Game as Rules, Round as RoundRules}
-use Rattle.gs_game.specs.declared.game.Game.{Game}
-use Rattle.gs_game.specs.declared.game.Round.{Round}
+use Rattle.gs_model.specs.{Betting.{Bet}, Game.{Game as Rules, Round as RoundRules}}
+use Rattle.gs_game.specs.{declared.game.Game.{Game}, declared.game.Round.{Round}}
 
 -- a round, with its betting tree as a plain tree
 abbrev pub round_of : Round → RoundRules

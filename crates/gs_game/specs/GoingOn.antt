@@ -1,12 +1,8 @@
 -- The ways to deal the rest of a game after some rounds.
 use Rattle.std.specs.Prelude.{ℕ, ◌+◌, ◌-◌, ◌*◌, ◌<◌, ◌≤◌, ◌≡◌, List, [], ◌∷◌, ◌++◌, None, map, take, drop, sum}
 use Rattle.gs_bet.specs.Limit.{limit_bet}
-use Rattle.gs_model.specs.Classes.{ClassLists, list_of}
-use Rattle.gs_model.specs.Frame.{frame_of}
-use Rattle.gs_model.specs.Game.{Game, Round, High, round_count}
-use Rattle.gs_model.specs.Lossless.{weight_against}
-use Rattle.gs_game.specs.Refusals.{first_refusal}
-use Rattle.gs_game.specs.Sequences.{deal_sizes, draws, seen_sizes}
+use Rattle.gs_model.specs.{Classes.{ClassLists, list_of}, Frame.{frame_of}, Game.{Game, Round, High, round_count}, Lossless.{weight_against}}
+use Rattle.gs_game.specs.{Refusals.{first_refusal}, Sequences.{deal_sizes, draws, seen_sizes}}
 
 -- the number of one player's own cards over some rounds
 abbrev pub own_cards_of : List Round → ℕ

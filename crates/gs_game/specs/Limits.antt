@@ -1,10 +1,6 @@
 -- The limits that a valid game keeps; the crates above rely on them.
 use Rattle.std.specs.Prelude.{ℕ, ◌+◌, ◌<◌, ◌≤◌, ◌≡◌, true, length, All}
-use Rattle.gs_model.specs.Deals.{deals}
-use Rattle.gs_model.specs.Frame.{frame_of, total_weight}
-use Rattle.gs_model.specs.Game.{Game, Round, round_count}
-use Rattle.gs_model.specs.Outcome.{IsBonus}
-use Rattle.gs_model.specs.Signals.{signals}
+use Rattle.gs_model.specs.{Deals.{deals}, Frame.{frame_of, total_weight}, Game.{Game, Round, round_count}, Outcome.{IsBonus}, Signals.{signals}}
 use Rattle.gs_game.specs.Refusals.{own_cards, public_cards, ranks}
 
 -- a valid game has 1 to 4 rounds, at most 200,000 raw signals in each, and at most 8,000,000 deals; these weigh at most 67,108,864 in all

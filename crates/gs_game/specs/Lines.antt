@@ -1,9 +1,7 @@
 -- The lines of a game: each position of its betting trees, in the order of the walk, with the text that leads to it. Source: this project's texts.
 use Rattle.std.specs.Prelude.{ℕ, ◌+◌, ◌-◌, ◌^◌, ◌<◌, ◌≤◌, ◌≡◌, ◌==◌, List, [], ◌∷◌, ◌++◌, Option, Some, None, slice_get, if◌then◌else◌}
-use Rattle.gs_model.specs.Betting.{Bet, Moves, act, fold, even, none, move}
-use Rattle.gs_model.specs.Positions.{Target, at_point, at_end}
-use Rattle.gs_game.specs.Counts.{points_of, ends_of, move_points, move_ends, points_in, ends_in}
-use Rattle.gs_game.specs.Refusals.{no_even_from}
+use Rattle.gs_model.specs.{Betting.{Bet, Moves, act, fold, even, none, move}, Positions.{Target, at_point, at_end}}
+use Rattle.gs_game.specs.{Counts.{points_of, ends_of, move_points, move_ends, points_in, ends_in}, Refusals.{no_even_from}}
 
 -- the texts of points and of ends, by number
 pub record Texts : Type 0 where

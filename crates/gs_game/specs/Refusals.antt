@@ -1,12 +1,7 @@
 -- Which refusal applies to a game first. Source: this project's game files.
 use Rattle.std.specs.Prelude.{ℕ, zero, suc, ◌+◌, ◌-◌, ◌*◌, ◌^◌, ◌==◌, ◌&&◌, Bool, min, List, [], ◌∷◌, length, sum, sum_by, nat_lt, nat_le, Option, Some, None, if◌then◌else◌, option_map}
-use Rattle.gs_model.specs.Betting.{Bet}
-use Rattle.gs_model.specs.Deals.{deals}
-use Rattle.gs_model.specs.Frame.{frame_of, total_weight, trees_of}
-use Rattle.gs_model.specs.Game.{Game, Round, Ranking, High, Pair, Three, round_count, round_at}
-use Rattle.gs_model.specs.Numbering.{greatest}
-use Rattle.gs_model.specs.Signals.{signals}
-use Rattle.gs_model.specs.Walk.{walk}
+use Rattle.gs_model.specs.{Betting.{Bet}, Deals.{deals}, Frame.{frame_of, total_weight, trees_of}}
+use Rattle.gs_model.specs.{Game.{Game, Round, Ranking, High, Pair, Three, round_count, round_at}, Numbering.{greatest}, Signals.{signals}, Walk.{walk}}
 use Rattle.gs_game.specs.Money.{first_of, has_even, uneven_path, most_in}
 
 -- why a game is refused, with the numbers that say it: eleven reasons, each named below by the definition that finds it

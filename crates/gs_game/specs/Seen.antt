@@ -2,14 +2,11 @@
 use Rattle.std.specs.Prelude.{ℕ, List, map, Option, option_map, ◌==◌, if◌then◌else◌}
 use Rattle.gs_model.specs.Positions.{Step, Target, at_point, at_end, Arrow, Point, EndKind, End}
 use Rattle.gs_model.specs.Positions as model
-use Rattle.gs_game.specs.declared.positions.Step.{Step as StoredStep}
-use Rattle.gs_game.specs.declared.positions.Target.{Target as StoredTarget}
+use Rattle.gs_game.specs.{declared.positions.Step.{Step as StoredStep}, declared.positions.Target.{Target as StoredTarget}}
+use Rattle.gs_game.specs.{declared.positions.Arrow.{Arrow as StoredArrow}, declared.positions.Point.{Point as StoredPoint}}
+use Rattle.gs_game.specs.{declared.positions.EndKind.{EndKind as StoredKind}, declared.positions.End.{End as StoredEnd}}
 use Rattle.gs_game.specs.declared.positions.Target.TheVariants as targets
-use Rattle.gs_game.specs.declared.positions.Arrow.{Arrow as StoredArrow}
-use Rattle.gs_game.specs.declared.positions.Point.{Point as StoredPoint}
-use Rattle.gs_game.specs.declared.positions.EndKind.{EndKind as StoredKind}
 use Rattle.gs_game.specs.declared.positions.EndKind.TheVariants as kinds
-use Rattle.gs_game.specs.declared.positions.End.{End as StoredEnd}
 
 -- a step of the program, as the definitions see it
 abbrev pub step_of : StoredStep → Step

@@ -1,7 +1,6 @@
 -- Groups of cards dealt one after another. Source: drawing without replacement.
 use Rattle.std.specs.Prelude.{ℕ, zero, suc, ◌-◌, ◌*◌, List, [], ◌∷◌, ◌++◌, sum_by, flat_map, map}
-use Rattle.gs_model.specs.Cards.{choose, groups, left_after}
-use Rattle.gs_model.specs.Game.{Round}
+use Rattle.gs_model.specs.{Cards.{choose, groups, left_after}, Game.{Round}}
 
 -- the number of sequences of groups of these sizes that the copies left allow
 abbrev pub count_sequences : List ℕ → List ℕ → ℕ

@@ -1,11 +1,7 @@
 -- What a valid game holds.
 use Rattle.std.specs.Prelude.{◌≡◌, List, map}
-use Rattle.gs_model.specs.Frame.{trees_of}
-use Rattle.gs_model.specs.Game.{Game}
-use Rattle.gs_model.specs.Walk.{walk, walk_start, root, Walked}
-use Rattle.gs_game.specs.Seen.{target_of, own_point, point_of, end_of}
-use Rattle.gs_game.specs.declared.positions.Point.{Point}
-use Rattle.gs_game.specs.declared.positions.End.{End}
+use Rattle.gs_model.specs.{Frame.{trees_of}, Game.{Game}, Walk.{walk, walk_start, root, Walked}}
+use Rattle.gs_game.specs.{Seen.{target_of, own_point, point_of, end_of}, declared.positions.Point.{Point}, declared.positions.End.{End}}
 use Rattle.gs_game.specs.declared.positions.Target.{Target as StoredTarget}
 
 -- the walk of a game's betting trees

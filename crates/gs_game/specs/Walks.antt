@@ -1,14 +1,10 @@
 -- A walk under way: what the program has so far against the walk of the definitions.
 use Rattle.std.specs.Prelude.{ℕ, ◌+◌, ◌^◌, ◌≡◌, ◌≤◌, ◌<◌, true, List, ◌++◌, map, length, option_map}
-use Rattle.gs_model.specs.Betting.{Bet, Moves}
-use Rattle.gs_model.specs.Walk.{Place, Walked, root}
+use Rattle.gs_model.specs.{Betting.{Bet, Moves}, Walk.{Place, Walked, root}}
 use Rattle.gs_bet.specs.Grammar.{is_sound, are_sound}
-use Rattle.gs_game.specs.Counts.{points_of, ends_of, move_points, move_ends, points_in, ends_in}
-use Rattle.gs_game.specs.Money.{most_put, most_moved, most_in}
-use Rattle.gs_game.specs.Seen.{step_of, target_of, own_point, point_of, end_of}
-use Rattle.gs_game.specs.declared.place.Place.{Place as StoredPlace}
-use Rattle.gs_game.specs.declared.positions.Point.{Point as StoredPoint}
-use Rattle.gs_game.specs.declared.positions.End.{End as StoredEnd}
+use Rattle.gs_game.specs.{Counts.{points_of, ends_of, move_points, move_ends, points_in, ends_in}, Money.{most_put, most_moved, most_in}}
+use Rattle.gs_game.specs.{Seen.{step_of, target_of, own_point, point_of, end_of}, declared.place.Place.{Place as StoredPlace}}
+use Rattle.gs_game.specs.{declared.positions.Point.{Point as StoredPoint}, declared.positions.End.{End as StoredEnd}}
 use Rattle.gs_game.specs.declared.positions.Target.{Target as StoredTarget}
 
 -- a place of the program, as the definitions see it; `points` and `ends` say how many are numbered so far

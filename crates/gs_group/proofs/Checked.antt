@@ -6,18 +6,12 @@ use Rattle.gs_filter.specs.Filter.{single_classes}
 use Rattle.gs_filter.proofs.ClassLaws.{single_are_classes}
 use Rattle.gs_iso.proofs.Whole.{all_parents, parents_at, parents_long}
 use Rattle.gs_lossless.proofs.Settled.{singles}
-use Rattle.gs_model.specs.Classes.{ClassLists, IsClasses, list_of}
-use Rattle.gs_model.specs.Frame.{frame_of}
-use Rattle.gs_model.specs.Game.{Game}
-use Rattle.gs_model.specs.Lossless.{IsLossless}
+use Rattle.gs_model.specs.{Classes.{ClassLists, IsClasses, list_of}, Frame.{frame_of}, Game.{Game}, Lossless.{IsLossless}}
 use Rattle.gs_model.proofs.Ranges.{length-parents}
-use Rattle.gs_reply.specs.Replies.{Prints, Refuses, Reply}
-use Rattle.gs_reply.specs.Troubles.{SaysUnlike}
+use Rattle.gs_reply.specs.{Replies.{Prints, Refuses, Reply}, Troubles.{SaysUnlike}}
 use Rattle.gs_text.specs.ClassText.{AreListsOf}
-use Rattle.gs_words.specs.declared.request.Grouping.{Grouping}
-use Rattle.gs_words.specs.declared.request.Grouping.TheVariants.{Isomorphism, Coarsest, Single}
-use Rattle.gs_group.specs.Checking.{ChecksGame, IsChecked, IsGrouping, SaysNotLossless}
-use Rattle.gs_group.specs.Shrinking.{told}
+use Rattle.gs_words.specs.{declared.request.Grouping.{Grouping}, declared.request.Grouping.TheVariants.{Isomorphism, Coarsest, Single}}
+use Rattle.gs_group.specs.{Checking.{ChecksGame, IsChecked, IsGrouping, SaysNotLossless}, Shrinking.{told}}
 
 -- classes over the parents of a game's signals have a number for each signal
 pub lists_of : (g : Game) (parents : List (List ℕ)) (lists : ClassLists) → parents ≡ all_parents g → IsClasses parents lists → AreListsOf g lists

@@ -2,17 +2,11 @@
 use Rattle.std.specs.Prelude.{◌≡◌, ℕ, List, Bool}
 use Rattle.gs_file.specs.Reading.{FileGame, read_at, rules_of}
 use Rattle.gs_filter.specs.Filter.{single_classes}
-use Rattle.gs_model.specs.Classes.{ClassLists}
-use Rattle.gs_model.specs.Frame.{frame_of}
-use Rattle.gs_model.specs.Game.{Game}
-use Rattle.gs_model.specs.Lossless.{IsLossless}
-use Rattle.gs_model.specs.Refinement.{IsCoarsestLossless}
+use Rattle.gs_model.specs.{Classes.{ClassLists}, Frame.{frame_of}, Game.{Game}, Lossless.{IsLossless}, Refinement.{IsCoarsestLossless}}
 use Rattle.gs_model.specs.SignalClasses.{IsSignalClasses}
-use Rattle.gs_words.specs.declared.request.Grouping.{Grouping}
-use Rattle.gs_words.specs.declared.request.Grouping.TheVariants.{Isomorphism, Coarsest, Single}
+use Rattle.gs_words.specs.{declared.request.Grouping.{Grouping}, declared.request.Grouping.TheVariants.{Isomorphism, Coarsest, Single}}
 use Rattle.gs_group.specs.Shrinking.{told}
-use Rattle.gs_reply.specs.Replies.{Reply, Prints, Refuses, OfReading}
-use Rattle.gs_reply.specs.Troubles.{SaysUnlike}
+use Rattle.gs_reply.specs.{Replies.{Reply, Prints, Refuses, OfReading}, Troubles.{SaysUnlike}}
 
 -- the classes of a grouping: those of recursive ordered game isomorphism, the coarsest lossless classes that refine those, or each signal by itself
 abbrev pub IsGrouping : Grouping → Game → ClassLists → Type 0

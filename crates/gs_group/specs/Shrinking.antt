@@ -2,9 +2,7 @@
 use Rattle.std.specs.Prelude.{◌≡◌, ℕ, List, Bool, true, false}
 use Rattle.gs_card.specs.Decks.{DeckValue}
 use Rattle.gs_file.specs.Reading.{FileGame, read_at, rules_of}
-use Rattle.gs_model.specs.Classes.{ClassLists}
-use Rattle.gs_model.specs.Game.{Game}
-use Rattle.gs_model.specs.SignalClasses.{IsSignalClasses}
+use Rattle.gs_model.specs.{Classes.{ClassLists}, Game.{Game}, SignalClasses.{IsSignalClasses}}
 use Rattle.gs_text.specs.ClassText.{class_text, summary_text}
 use Rattle.gs_reply.specs.Replies.{Reply, Prints, Refuses, OfReading}
 

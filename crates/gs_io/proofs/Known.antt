@@ -1,9 +1,7 @@
 -- Known bytes over several writes.
-use Rattle.std.proofs.Common.{◌≡◌, ℕ, ◌+◌, ◌-◌, List, ◌++◌, take, drop, length, Some, None, ap, ◌∙◌, append_assoc, arith}
-use Rattle.std.specs.declared.option.Option.{Option}
-use Rattle.std.specs.Io.KnownBytes.{Appends}
-use Rattle.std.proofs.lemmas.List.{take_all, length-drop}
+use Rattle.std.proofs.{Common.{◌≡◌, ℕ, ◌+◌, ◌-◌, List, ◌++◌, take, drop, length, Some, None, ap, ◌∙◌, append_assoc, arith}, lemmas.List.{take_all, length-drop}}
 use Rattle.std.proofs.Math.Seq.{take-add}
+use Rattle.std.specs.{declared.option.Option.{Option}, Io.KnownBytes.{Appends}}
 
 -- the rest of a list, as the code cuts it
 to_end : (w : ℕ) (bytes : List ℕ) → take (length bytes - w) (drop w bytes) ≡ drop w bytes

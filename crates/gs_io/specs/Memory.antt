@@ -1,8 +1,7 @@
 -- What a source and a sink in memory hold, and what one call of them does.
 use Rattle.std.specs.Prelude.{◌≡◌, ℕ, ◌+◌, ◌-◌, ◌^◌, min, List, length, take, drop, Bool, ◌==◌, ◌||◌, ◌++◌, nat_le, true, false, Result, Ok, Err}
 use Rattle.std.specs.List.{list_any}
-use Rattle.gs_io.specs.Causes.{raised}
-use Rattle.gs_io.specs.declared.Failed.{Failed}
+use Rattle.gs_io.specs.{Causes.{raised}, declared.Failed.{Failed}}
 
 -- a source: the bytes that are left, the longest piece, the numbers of the calls that fail, how many calls were made, how many failed
 pub record Reading : Type 0 where

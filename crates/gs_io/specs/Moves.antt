@@ -1,11 +1,8 @@
 -- What a read of all bytes and a write of all bytes do to a source and a sink.
-use Rattle.std.specs.Prelude.{◌≡◌, ℕ, ◌+◌, ◌<◌, ◌≤◌, List, length, take, Result, Ok, Err}
-use Rattle.std.specs.declared.option.Option.{Option}
+use Rattle.std.specs.{Prelude.{◌≡◌, ℕ, ◌+◌, ◌<◌, ◌≤◌, List, length, take, Result, Ok, Err}, declared.option.Option.{Option}}
 use Rattle.std.specs.Io.KnownBytes.{Consumes, Appends, IsAtEnd}
-use Rattle.gs_io.specs.Causes.{Rose}
-use Rattle.gs_io.specs.declared.ReadStop.{ReadStop}
+use Rattle.gs_io.specs.{Causes.{Rose}, declared.ReadStop.{ReadStop}, declared.WriteStop.{WriteStop}}
 use Rattle.gs_io.specs.declared.ReadStop.TheVariants as stop
-use Rattle.gs_io.specs.declared.WriteStop.{WriteStop}
 use Rattle.gs_io.specs.declared.WriteStop.TheVariants as write_stop
 
 -- a prefix of the bytes that were left was taken, at most `most` bytes

@@ -1,20 +1,12 @@
 -- Signals that see the same deals have the same leaves.
 use Rattle.std.proofs.Common.{◌≡◌, ◌↔◌, ◌/◌, ◌==◌, ◌<◌, ◌∙◌, ◌∷◌, [], ℕ, ℤ, List, length, map, refl, sym, ap, subst}
-use Rattle.std.specs.Prelude.{unsigned_abs}
-use Rattle.std.specs.List.{filter}
-use Rattle.std.specs.List.Sorted.{IsPermutation}
 use Rattle.std.proofs.lemmas.List.Sorted.{All-permutation, IsPermutation-map, IsPermutation-sym, IsPermutation-trans}
+use Rattle.std.specs.{Prelude.{unsigned_abs}, List.{filter}, List.Sorted.{IsPermutation}}
 use Rattle.gs_alike.specs.Alike.{AreAlike, seen, seen_by}
-use Rattle.gs_model.specs.Deals.{Deal, deals, path_weight}
-use Rattle.gs_model.specs.Game.{Game, round_count}
-use Rattle.gs_model.specs.Isomorphism.{IsomorphicFor}
-use Rattle.gs_model.specs.Signals.{signal_at, signals}
+use Rattle.gs_model.specs.{Deals.{Deal, deals, path_weight}, Game.{Game, round_count}, Isomorphism.{IsomorphicFor}, Signals.{signal_at, signals}}
 use Rattle.gs_model.specs.ViewTree.{leaves}
-use Rattle.gs_model.proofs.Bijections.{IsPermutation-from_Matched_members, Matched-from_IsPermutation_members}
-use Rattle.gs_model.proofs.Facing.{leaves_are_deals}
-use Rattle.gs_model.proofs.Order.{sorts_equal}
-use Rattle.gs_iso.specs.Numbers.{IsLeafSignature}
-use Rattle.gs_iso.specs.Orders.{leaf_mark, leaf_of, mark_lt}
+use Rattle.gs_model.proofs.{Bijections.{IsPermutation-from_Matched_members, Matched-from_IsPermutation_members}, Facing.{leaves_are_deals}, Order.{sorts_equal}}
+use Rattle.gs_iso.specs.{Numbers.{IsLeafSignature}, Orders.{leaf_mark, leaf_of, mark_lt}}
 use Rattle.gs_iso.proofs.Exact.{leaf_told, mark_order, mark_ranks}
 
 -- a leaf whose outcome is not too large for marks

@@ -1,27 +1,18 @@
 -- From the numbers of a round to those of the round before, and from the classes of a round to those of the next.
 use Rattle.std.proofs.Common.{◌≡◌, ◌↔◌, ℕ, zero, suc, ◌+◌, ◌-◌, ◌<◌, ◌≤◌, List, [], ◌∷◌, ◌++◌, length, map, take, drop, get_or, refl, sym, ap, ◌∙◌, subst, arith}
-use Rattle.std.specs.List.{All, range_with_len, slice_range}
 use Rattle.std.proofs.lemmas.List.{get_or-drop, length-drop, take_more}
-use Rattle.std.proofs.lemmas.List.FromFn.{get_or-range_with_len, length-range_with_len, map-range_with_len_more}
-use Rattle.std.proofs.lemmas.List.Sorted.{IsPermutation-sym}
-use Rattle.gs_model.specs.Game.{Game, round_at, round_count}
-use Rattle.gs_model.specs.Isomorphism.{Isomorphic, IsomorphicFor, Matched}
-use Rattle.gs_model.specs.Numbering.{IsClassesOf}
-use Rattle.gs_model.specs.SignalClasses.{SameClass}
-use Rattle.gs_model.specs.Signals.{Signal, child_count, children, first_child, last_edge, parents, signal_at, signals}
+use Rattle.std.proofs.{lemmas.List.FromFn.{get_or-range_with_len, length-range_with_len, map-range_with_len_more}, lemmas.List.Sorted.{IsPermutation-sym}}
+use Rattle.std.specs.List.{All, range_with_len, slice_range}
+use Rattle.gs_model.specs.{Game.{Game, round_at, round_count}, Isomorphism.{Isomorphic, IsomorphicFor, Matched}, Numbering.{IsClassesOf}}
+use Rattle.gs_model.specs.{SignalClasses.{SameClass}, Signals.{Signal, child_count, children, first_child, last_edge, parents, signal_at, signals}}
 use Rattle.gs_model.specs.Signatures.{IsSignature}
-use Rattle.gs_model.proofs.Bijections.{IsPermutation-from_Matched_members, Matched-from_IsPermutation_members}
-use Rattle.gs_model.proofs.Children.{children-run}
-use Rattle.gs_model.proofs.Order.{sorts_equal}
-use Rattle.gs_model.proofs.Ranges.{length-parents}
-use Rattle.gs_model.proofs.Signatures.{Matched-map, Matched-unmap}
+use Rattle.gs_model.proofs.{Bijections.{IsPermutation-from_Matched_members, Matched-from_IsPermutation_members}, Children.{children-run}, Order.{sorts_equal}}
+use Rattle.gs_model.proofs.{Ranges.{length-parents}, Signatures.{Matched-map, Matched-unmap}, Extends.{before_last, parents_below}}
+use Rattle.gs_model.proofs.SingleCards.{rounds_after, children_within}
 use Rattle.gs_numbers.specs.Numbers.{IsKeyClasses}
 use Rattle.gs_numbers.proofs.FirstSeen.{classes_like}
-use Rattle.gs_iso.specs.Numbers.{AreMarks, IsNumbering, child_part, class_key, marks_under}
-use Rattle.gs_iso.specs.Orders.{mark_lt}
+use Rattle.gs_iso.specs.{Numbers.{AreMarks, IsNumbering, child_part, class_key, marks_under}, Orders.{mark_lt}}
 use Rattle.gs_iso.proofs.Exact.{mark_order, mark_ranks, pairs}
-use Rattle.gs_model.proofs.Extends.{before_last, parents_below}
-use Rattle.gs_model.proofs.SingleCards.{rounds_after, children_within}
 
 -- ---- isomorphism before the last round
 

@@ -1,14 +1,9 @@
 -- The order of marks tells all apart, and so do the tests of leaves and children, and the marks of leaves.
 use Rattle.std.proofs.Common.{◌≡◌, ◌<◌, ◌+◌, ◌*◌, Bool, ℕ, suc, ℤ, pos, negsuc, refl, sym, ap, ◌∙◌, false, true≢false, arith, le-ltb}
-use Rattle.std.specs.Prelude.{if◌then◌else◌, int_lt, unsigned_abs}
-use Rattle.std.specs.Bool.{Decides}
-use Rattle.std.specs.Cmp.{IsStrictWeakOrder}
-use Rattle.std.specs.Ordering.{is_lt, nat_cmp, ordering_reverse}
-use Rattle.std.specs.declared.cmp.Ordering.{Ordering}
-use Rattle.std.specs.declared.cmp.Ordering.TheVariants.{Less, Equal, Greater}
-use Rattle.std.proofs.lemmas.Bool.Decides.{Decides-and, Decides-eqb, Decides-int_eq, Decides-like}
-use Rattle.std.proofs.lemmas.Cmp.{nat_cmp_total, ranked}
+use Rattle.std.proofs.{lemmas.Bool.Decides.{Decides-and, Decides-eqb, Decides-int_eq, Decides-like}, lemmas.Cmp.{nat_cmp_total, ranked}}
 use Rattle.std.proofs.lemmas.List.MinMax.{ranks_by}
+use Rattle.std.specs.{Prelude.{if◌then◌else◌, int_lt, unsigned_abs}, Bool.{Decides}, Cmp.{IsStrictWeakOrder}, Ordering.{is_lt, nat_cmp, ordering_reverse}}
+use Rattle.std.specs.{declared.cmp.Ordering.{Ordering}, declared.cmp.Ordering.TheVariants.{Less, Equal, Greater}}
 use Rattle.gs_model.specs.Signatures.{IsExactOrder}
 use Rattle.gs_iso.specs.Orders.{child_eq, leaf_eq, leaf_mark, mark_lt}
 

@@ -1,11 +1,9 @@
 -- The deals of a signal weigh little.
-use Rattle.std.proofs.Common.{◌==◌, ◌<◌, ◌≤◌, ◌^◌, ◌∷◌, [], ℕ, zero, suc, List, arith, get_or, length, sum_by}
-use Rattle.std.specs.List.{All, filter}
-use Rattle.std.proofs.lemmas.List.Elements.{All-filter}
+use Rattle.std.proofs.{Common.{◌==◌, ◌<◌, ◌≤◌, ◌^◌, ◌∷◌, [], ℕ, zero, suc, List, arith, get_or, length, sum_by}, lemmas.List.Elements.{All-filter}}
 use Rattle.std.proofs.lemmas.List.Sums.{sum_by-cons}
+use Rattle.std.specs.List.{All, filter}
 use Rattle.gs_game.specs.Limits.{IsWithinLimits}
-use Rattle.gs_model.specs.Deals.{Deal, deals}
-use Rattle.gs_model.specs.Game.{Game}
+use Rattle.gs_model.specs.{Deals.{Deal, deals}, Game.{Game}}
 
 abbrev weight : Deal → ℕ
 weight d = d.weight

@@ -1,19 +1,14 @@
 -- Lists for the rounds so far, and one more.
 use Rattle.std.proofs.Common.{◌≡◌, ◌↔◌, ℕ, zero, suc, ◌+◌, ◌-◌, ◌<◌, ◌≤◌, ◌^◌, List, [], ◌∷◌, ◌++◌, length, get_or, refl, sym, ap, ◌∙◌, subst, arith, Vec, Global}
 use Rattle.std.specs.List.{All}
-use Rattle.gs_model.specs.Classes.{list_of}
-use Rattle.gs_model.specs.Game.{Game, round_count}
-use Rattle.gs_model.specs.Numbering.{IsNumbered}
-use Rattle.gs_model.specs.SignalClasses.{IsSignalClasses}
-use Rattle.gs_model.specs.Signals.{parents, signals}
-use Rattle.gs_model.proofs.Ranges.{length-parents}
-use Rattle.gs_game.specs.Limits.{IsWithinLimits}
+use Rattle.gs_model.specs.{Classes.{list_of}, Game.{Game, round_count}, Numbering.{IsNumbered}, SignalClasses.{IsSignalClasses}, Signals.{parents, signals}}
 use Rattle.gs_model.specs.Rows.{rows}
+use Rattle.gs_model.proofs.{Ranges.{length-parents}, Extends.{parents_below}}
+use Rattle.gs_game.specs.Limits.{IsWithinLimits}
 use Rattle.gs_filter.proofs.RowLaws.{length-rows, row_read}
 use Rattle.gs_numbers.specs.Numbers.{IsKeyClasses}
 use Rattle.gs_iso.specs.Numbers.{AreNumberings, IsNumbering, class_key, classes_above}
 use Rattle.gs_iso.proofs.Below.{AreRoundClasses, next_classes}
-use Rattle.gs_model.proofs.Extends.{parents_below}
 
 -- what holds of each list and of one more
 pub rows_more : (P : ℕ → List ℕ → Type 0) (vs : List (Vec ℕ Global)) (v : Vec ℕ Global) → ((k : ℕ) → k < length vs → P k (get_or (rows vs) k []))

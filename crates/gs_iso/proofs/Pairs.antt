@@ -1,19 +1,14 @@
 -- Matchings of equal members, pairings and bijections.
 use Rattle.std.proofs.Common.{◌≡◌, ℕ, ◌+◌, ◌<◌, ◌==◌, ◌||◌, List, [], ◌∷◌, ◌++◌, length, map, get_or, refl, sym, ap, ◌∙◌, subst, arith, Bool, true, false, true≢false, cond, eqb, IsPermutation, length-append, ⊎_elim}
-use Rattle.std.specs.List.{All, range_with_len, list_any}
-use Rattle.std.proofs.lemmas.Bool.{cases_eq}
-use Rattle.std.proofs.lemmas.Bool.Decides.{Decides-eqb}
+use Rattle.std.proofs.{lemmas.Bool.{cases_eq}, lemmas.Bool.Decides.{Decides-eqb}}
 use Rattle.std.proofs.lemmas.List.{get_or-map, get_or_default, get_or_push, get_or_read, length-map, same_lists}
-use Rattle.std.proofs.lemmas.List.Elements.{All-push, AllZip-get_or, length_all_zip}
-use Rattle.std.proofs.lemmas.List.Folds.{Any-from_list_any, list_any-append, list_any_at}
+use Rattle.std.proofs.{lemmas.List.Elements.{All-push, AllZip-get_or, length_all_zip}, lemmas.List.Folds.{Any-from_list_any, list_any-append, list_any_at}}
 use Rattle.std.proofs.lemmas.List.FromFn.{get_or-map-range_with_len, length-map-range_with_len, length-range_with_len, get_or-range_with_len}
 use Rattle.std.proofs.lemmas.List.Sorted.{All-permutation, IsPermutation-map, IsPermutation-refl, IsPermutation-sym, length_permutation}
 use Rattle.std.proofs.lemmas.Map.Keys.{IsDistinct-IsPermutation, IsDistinct-from_apart, apart_from_distinct}
-use Rattle.gs_model.specs.Isomorphism.{Matched}
-use Rattle.gs_model.specs.Matching.{AllDiffer, Edges, IsPerfect}
-use Rattle.gs_model.proofs.Bijections.{AllZip-from_get_or, AllZip-permuted, AllZip-permuted'}
-use Rattle.gs_model.proofs.Graph.{places_in_order}
-use Rattle.gs_model.proofs.Order.{lifts}
+use Rattle.std.specs.List.{All, range_with_len, list_any}
+use Rattle.gs_model.specs.{Isomorphism.{Matched}, Matching.{AllDiffer, Edges, IsPerfect}}
+use Rattle.gs_model.proofs.{Bijections.{AllZip-from_get_or, AllZip-permuted, AllZip-permuted'}, Graph.{places_in_order}, Order.{lifts}}
 use Rattle.gs_iso.specs.Pairings.{AreEqualEdges, IsEqualGraph, IsPairingOf, JoinsEqual, joins}
 
 both : (p q : Bool) → cond p q false ≡ true → (p ≡ true) × (q ≡ true)

@@ -1,8 +1,6 @@
 -- The rounds that follow a round.
 use Rattle.std.proofs.Common.{◌≡◌, [], ap}
-use Rattle.gs_model.specs.Game.{Game, round_count}
-use Rattle.gs_model.specs.Isomorphism.{Isomorphic, IsomorphicFor}
-use Rattle.gs_model.specs.Signals.{Signal}
+use Rattle.gs_model.specs.{Game.{Game, round_count}, Isomorphism.{Isomorphic, IsomorphicFor}, Signals.{Signal}}
 use Rattle.gs_model.proofs.Basics.{drop-all}
 
 -- in the last round isomorphism is that of leaves

@@ -1,15 +1,12 @@
 -- The classes of all rounds together: they are an information filter over the parents of the signals.
 use Rattle.std.proofs.Common.{◌≡◌, ℕ, suc, ◌+◌, ◌-◌, ◌<◌, ◌≤◌, List, [], length, map, take, get_or, sym, ap, ◌∙◌, subst, arith}
-use Rattle.std.specs.List.{range_with_len}
 use Rattle.std.proofs.lemmas.List.FromFn.{get_or-map-range_with_len, length-map-range_with_len}
-use Rattle.gs_model.specs.Classes.{ClassLists, IsClasses, IsFilter, class_of, list_of}
-use Rattle.gs_model.specs.Game.{Game, round_count}
-use Rattle.gs_model.specs.SignalClasses.{IsSignalClasses, SameClass}
+use Rattle.std.specs.List.{range_with_len}
+use Rattle.gs_model.specs.{Classes.{ClassLists, IsClasses, IsFilter, class_of, list_of}, Game.{Game, round_count}, SignalClasses.{IsSignalClasses, SameClass}}
 use Rattle.gs_model.specs.Signals.{parents, signal_at}
-use Rattle.gs_model.proofs.Ranges.{length-parents}
+use Rattle.gs_model.proofs.{Ranges.{length-parents}, Extends.{before_last, parents_below}}
 use Rattle.gs_filter.specs.Filter.{AreParents}
 use Rattle.gs_game.specs.Limits.{IsWithinLimits}
-use Rattle.gs_model.proofs.Extends.{before_last, parents_below}
 
 -- for each round the parents of its signals
 abbrev pub all_parents : Game → List (List ℕ)

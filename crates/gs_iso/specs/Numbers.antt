@@ -1,11 +1,7 @@
 -- Numbers that tell which signals are isomorphic, and the signatures that they are made from.
-use Rattle.std.specs.Prelude.{ℕ, ℤ, ◌-◌, ◌<◌, ◌≡◌, ◌↔◌, List, [], ◌∷◌, get_or, length, map, unsigned_abs}
-use Rattle.std.specs.List.{All, range_with_len}
-use Rattle.gs_model.specs.Game.{Game, round_count}
-use Rattle.gs_model.specs.Isomorphism.{Isomorphic}
-use Rattle.gs_model.specs.Signals.{child_count, first_child, last_edge, signal_at, signals}
-use Rattle.gs_model.specs.Signatures.{IsSignature}
-use Rattle.gs_model.specs.ViewTree.{leaves}
+use Rattle.std.specs.{Prelude.{ℕ, ℤ, ◌-◌, ◌<◌, ◌≡◌, ◌↔◌, List, [], ◌∷◌, get_or, length, map, unsigned_abs}, List.{All, range_with_len}}
+use Rattle.gs_model.specs.{Game.{Game, round_count}, Isomorphism.{Isomorphic}, Signals.{child_count, first_child, last_edge, signal_at, signals}}
+use Rattle.gs_model.specs.{Signatures.{IsSignature}, ViewTree.{leaves}}
 use Rattle.gs_iso.specs.Orders.{leaf_mark, mark_lt}
 
 -- numbers of the signals of a round that are equal exactly where the signals are isomorphic

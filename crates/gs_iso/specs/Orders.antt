@@ -1,6 +1,5 @@
 -- Leaves and children as parts of signatures, and the order of their marks.
-use Rattle.std.specs.Prelude.{ℕ, ℤ, pos, ◌+◌, ◌*◌, ◌/◌, ◌==◌, ◌&&◌, Bool, if◌then◌else◌, int_lt, unsigned_abs}
-use Rattle.std.specs.Ordering.{int_eq, is_lt, nat_cmp}
+use Rattle.std.specs.{Prelude.{ℕ, ℤ, pos, ◌+◌, ◌*◌, ◌/◌, ◌==◌, ◌&&◌, Bool, if◌then◌else◌, int_lt, unsigned_abs}, Ordering.{int_eq, is_lt, nat_cmp}}
 use Rattle.gs_model.specs.Deals.{Deal}
 
 -- whether a mark is smaller than another

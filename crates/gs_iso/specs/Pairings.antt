@@ -1,9 +1,6 @@
 -- Bijections between the children of two signals, by places.
 use Rattle.std.specs.Prelude.{ℕ, ℤ, ◌<◌, ◌≡◌, Bool, true, List, [], ◌∷◌, drop, get_or, length, All, Option, None, Some}
-use Rattle.gs_model.specs.Game.{Game, Round}
-use Rattle.gs_model.specs.Isomorphism.{IsomorphicFor}
-use Rattle.gs_model.specs.Matching.{AllDiffer, Edges, has_edge}
-use Rattle.gs_model.specs.Signals.{Signal, children}
+use Rattle.gs_model.specs.{Game.{Game, Round}, Isomorphism.{IsomorphicFor}, Matching.{AllDiffer, Edges, has_edge}, Signals.{Signal, children}}
 use Rattle.gs_model.specs.ViewTree.{leaves}
 
 -- `to` names for each member of `xs`, in order, a different place of `ys`. The lists have the same length, and `R` relates each member to the one named

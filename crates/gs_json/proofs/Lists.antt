@@ -1,10 +1,7 @@
 -- The items of an array as a list, and what a loop over them has read.
 use Rattle.std.proofs.Common.{◌≡◌, List, [], ◌∷◌, ◌++◌, map, Option, Some, option_map, refl, ap}
 use Rattle.std.specs.Prelude.{option_and_then}
-use Rattle.serde_json.specs.Data.{Data}
-use Rattle.serde_json.specs.Find.{as_array}
-use Rattle.serde_json.specs.View.{items_of, items_view, view}
-use Rattle.serde_json.specs.declared.value.Value.{Value}
+use Rattle.serde_json.specs.{Data.{Data}, Find.{as_array}, View.{items_of, items_view, view}, declared.value.Value.{Value}}
 use Rattle.gs_json.specs.Lines.{list_of}
 
 -- what was read before, and what is still read

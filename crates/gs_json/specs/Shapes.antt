@@ -1,8 +1,6 @@
 -- Whole numbers, lists and keys among the values of JSON.
 use Rattle.std.specs.Prelude.{ℕ, List, [], ◌∷◌, Option, Some, option_and_then, option_map, unwrap_or}
-use Rattle.serde_json.specs.Data.{Data}
-use Rattle.serde_json.specs.Events.{members_len}
-use Rattle.serde_json.specs.Find.{as_array, as_number, as_object, as_u64}
+use Rattle.serde_json.specs.{Data.{Data}, Events.{members_len}, Find.{as_array, as_number, as_object, as_u64}}
 use Rattle.gs_json.specs.Lines.{list_of}
 
 -- an unsigned whole number of 64 bits, if the value is one

@@ -3,13 +3,8 @@ use Rattle.std.proofs.Common.{◌≡◌, ℕ, List}
 use Rattle.gs_answer.specs.Asking.{Asks}
 use Rattle.gs_reply.specs.Replies.{Reply}
 use Rattle.gs_words.specs.Tasks.{Task, Shrink, Check, Make, Evaluate, Query, Upgrade, Certify, Verify, Solve, Play, Path, Judge, Duel}
-use Rattle.gs_laws.proofs.OneCertificate.{certifies_one, verifies_one}
-use Rattle.gs_laws.proofs.OneDuel.{duels_one}
-use Rattle.gs_laws.proofs.OneGame.{checks_one, makes_one, shrinks_one}
-use Rattle.gs_laws.proofs.OnePath.{paths_one}
-use Rattle.gs_laws.proofs.OneSettled.{plays_one}
-use Rattle.gs_laws.proofs.OneSolve.{solves_one}
-use Rattle.gs_laws.proofs.OneStrategy.{evaluates_one, judges_one, queries_one, upgrades_one}
+use Rattle.gs_laws.proofs.{OneCertificate.{certifies_one, verifies_one}, OneDuel.{duels_one}, OneGame.{checks_one, makes_one, shrinks_one}, OnePath.{paths_one}}
+use Rattle.gs_laws.proofs.{OneSettled.{plays_one}, OneSolve.{solves_one}, OneStrategy.{evaluates_one, judges_one, queries_one, upgrades_one}}
 
 pub answers_one : (task : Task) (bytes : List ℕ) (one two : Reply) → Asks task bytes one → Asks task bytes two → one ≡ two
 answers_one (Shrink summary) bytes one two h k = shrinks_one summary bytes one two h k

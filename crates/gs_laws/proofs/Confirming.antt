@@ -1,31 +1,16 @@
 -- A strategy that is confirmed has no trouble.
 use Rattle.std.proofs.Common.{◌≡◌, ℕ, ◌*◌, ◌<◌, List, Ok, ap, subst, inl, inr, arith}
-use Rattle.gs_confirm.specs.Commands.{Evaluates, OfConfirmed, SaysNumbers}
-use Rattle.gs_confirm.specs.Troubles.{IsFirstWrong, IsTrouble}
-use Rattle.gs_file.specs.Reading.{FileGame, read_at}
-use Rattle.gs_file.specs.declared.version.Version.{Version}
-use Rattle.gs_file.specs.declared.version.Version.TheVariants.{Two}
-use Rattle.gs_model.specs.Classes.{ClassLists}
-use Rattle.gs_model.specs.Frame.{Frame, total_weight}
-use Rattle.gs_model.specs.Plans.{Plan as RawPlan}
-use Rattle.gs_model.specs.Verdict.{IsVerdict}
+use Rattle.gs_confirm.specs.{Commands.{Evaluates, OfConfirmed, SaysNumbers}, Troubles.{IsFirstWrong, IsTrouble}}
+use Rattle.gs_file.specs.{Reading.{FileGame, read_at}, declared.version.Version.{Version}, declared.version.Version.TheVariants.{Two}}
+use Rattle.gs_model.specs.{Classes.{ClassLists}, Frame.{Frame, total_weight}, Plans.{Plan as RawPlan}, Verdict.{IsVerdict}}
 use Rattle.gs_reply.specs.Refusals.{Limit, Refusal, Sequences, Cells, Table_numbers, Raw_cells, Bad_game, Unlike_pair, Overflows, Many_pivots, Too_large, Bad_strategy, Wrong_number, Bad_query, Other_game, Bad_certificate}
-use Rattle.gs_reply.specs.Replies.{OfRead, Reply, Prints}
-use Rattle.gs_reply.specs.Troubles.{Passes}
-use Rattle.gs_reply.specs.declared.strategies.Which.TheVariants.{Only}
-use Rattle.gs_seq.specs.Stops.{IsSmall}
-use Rattle.gs_seq.specs.declared.plan.Plan.{Plan}
+use Rattle.gs_reply.specs.{Replies.{OfRead, Reply, Prints}, Troubles.{Passes}, declared.strategies.Which.TheVariants.{Only}, VerdictText.{verdict_text}}
+use Rattle.gs_seq.specs.{Stops.{IsSmall}, declared.plan.Plan.{Plan}}
 use Rattle.gs_settle.specs.Texts.{IsTextOf}
 use Rattle.gs_strategy.proofs.Only.{only}
-use Rattle.gs_strategy.specs.Checks.{ReadResult}
-use Rattle.gs_strategy.specs.Confirmed.{AreNumbersOf, IsConfirmed, frame_of, over, raw_plan}
-use Rattle.gs_strategy.specs.Laws.{AreFractions, IsStrategy}
-use Rattle.gs_strategy.specs.Texts.{strategy_text}
-use Rattle.gs_strategy.specs.Values.{FractionParts, Numbers, Strategy, frame_in}
-use Rattle.gs_reply.specs.VerdictText.{verdict_text}
-use Rattle.gs_laws.proofs.Dealt.{told_dealt}
-use Rattle.gs_laws.proofs.Strategies.{printed_strategy}
-use Rattle.gs_laws.proofs.Verdicts.{numbers_one, scale_some}
+use Rattle.gs_strategy.specs.{Checks.{ReadResult}, Confirmed.{AreNumbersOf, IsConfirmed, frame_of, over, raw_plan}, Laws.{AreFractions, IsStrategy}}
+use Rattle.gs_strategy.specs.{Texts.{strategy_text}, Values.{FractionParts, Numbers, Strategy, frame_in}}
+use Rattle.gs_laws.proofs.{Dealt.{told_dealt}, Strategies.{printed_strategy}, Verdicts.{numbers_one, scale_some}}
 
 pub verdicts_one : (f : Frame) (x y : RawPlan) (n m : Numbers) → 0 < total_weight f * x.total * y.total → AreFractions n → AreFractions m
     → IsVerdict f x y (over n.value) (over n.gap1) (over n.gap2) → IsVerdict f x y (over m.value) (over m.gap1) (over m.gap2) → n ≡ m

@@ -1,34 +1,18 @@
 -- Each raw signal of a lawful game is dealt: it has a child in the next round, a last-round signal below it, and a deal.
 use Rattle.std.proofs.Common.{◌≡◌, ℕ, zero, suc, ◌+◌, ◌-◌, ◌*◌, ◌<◌, ◌≤◌, ◌++◌, ◌==◌, Bool, true, cond, List, [], ◌∷◌, map, length, get_or, sum, Some, None, nat_lt, ℤ, refl, sym, ap, ◌∙◌, subst, inl, inr, arith}
-use Rattle.std.specs.Prelude.{filter, flat_map}
-use Rattle.std.specs.List.{AllByRecursion}
-use Rattle.std.proofs.lemmas.Bool.{cases_Bool, eqb-true, eq-eqb, ltb-false}
-use Rattle.std.proofs.lemmas.List.{length-append, length-map, take_all}
-use Rattle.std.proofs.lemmas.List.Elements.{All-from_recursion}
-use Rattle.std.proofs.lemmas.List.Sums.{get_or-le-sum_by, sum_by-append, sum_by-cons}
-use Rattle.gs_game.proofs.Evenly.{neither}
-use Rattle.gs_game.proofs.GroupDraws.{all_ways, leaves_sum}
-use Rattle.gs_game.proofs.Sequencing.{drawn, facing_ways, first_sizes, sizes_are}
-use Rattle.gs_game.proofs.Totals.{total}
-use Rattle.gs_game.specs.GoingOn.{cards_shown, own_cards_of}
-use Rattle.gs_game.specs.Money.{first_of}
+use Rattle.std.proofs.{lemmas.Bool.{cases_Bool, eqb-true, eq-eqb, ltb-false}, lemmas.List.{length-append, length-map, take_all}}
+use Rattle.std.proofs.{lemmas.List.Elements.{All-from_recursion}, lemmas.List.Sums.{get_or-le-sum_by, sum_by-append, sum_by-cons}}
+use Rattle.std.specs.{Prelude.{filter, flat_map}, List.{AllByRecursion}}
+use Rattle.gs_game.proofs.{Evenly.{neither}, GroupDraws.{all_ways, leaves_sum}, Sequencing.{drawn, facing_ways, first_sizes, sizes_are}, Totals.{total}}
+use Rattle.gs_game.specs.{GoingOn.{cards_shown, own_cards_of}, Money.{first_of}}
 use Rattle.gs_game.specs.Refusals.{betting_refusal, card_refusal, copies_refusal, deal_refusal, first_refusal, not_enough_cards, own_cards, private_refusal, public_cards, ranking_refusal, rounds_refusal}
 use Rattle.gs_game.specs.Sequences.{draws, privates, seen_sizes}
 use Rattle.gs_lossless.proofs.Descent.{child_run, tabled}
-use Rattle.gs_model.proofs.Basics.{every-map, every-weaker, product_positive}
-use Rattle.gs_model.proofs.Extends.{signal_long}
-use Rattle.gs_model.proofs.Facing.{deals_are_facing}
-use Rattle.gs_model.proofs.Fits.{choose-some}
-use Rattle.gs_model.proofs.Listed.{left_by-push}
-use Rattle.gs_model.proofs.Ranges.{deals_weigh, every-flat_map, signal_count_is}
-use Rattle.gs_model.proofs.Walked.{last_round_of}
-use Rattle.gs_model.specs.Cards.{choose, groups, left_after, ways}
-use Rattle.gs_model.specs.Deals.{Deal, deals}
-use Rattle.gs_model.specs.Frame.{ancestor, at_round, frame_of, signal_count}
-use Rattle.gs_model.specs.Game.{Game, IsPlayable, Round, round_at, round_count}
-use Rattle.gs_model.specs.Payoff.{hand_weight}
-use Rattle.gs_model.specs.Signals.{Seen, Signal, child_count, children, edge, first_child, left_by, showings, signal_at, signals}
-use Rattle.gs_model.specs.ViewTree.{facing}
+use Rattle.gs_model.proofs.{Basics.{every-map, every-weaker, product_positive}, Extends.{signal_long}, Facing.{deals_are_facing}, Fits.{choose-some}}
+use Rattle.gs_model.proofs.{Listed.{left_by-push}, Ranges.{deals_weigh, every-flat_map, signal_count_is}, Walked.{last_round_of}}
+use Rattle.gs_model.specs.{Cards.{choose, groups, left_after, ways}, Deals.{Deal, deals}, Frame.{ancestor, at_round, frame_of, signal_count}}
+use Rattle.gs_model.specs.{Game.{Game, IsPlayable, Round, round_at, round_count}, Payoff.{hand_weight}}
+use Rattle.gs_model.specs.{Signals.{Seen, Signal, child_count, children, edge, first_child, left_by, showings, signal_at, signals}, ViewTree.{facing}}
 
 -- ---- the cards that are left
 

@@ -1,22 +1,14 @@
 -- A game that can be told is playable, has deals and keeps the limits of its signals.
 use Rattle.std.proofs.Common.{◌≡◌, ℕ, zero, suc, ◌+◌, ◌-◌, ◌<◌, ◌≤◌, ◌&&◌, List, [], ◌∷◌, length, sum, All, Some, None, Ok, ap, inl, inr, arith, nat_lt, nat_le}
-use Rattle.std.proofs.lemmas.Bool.{and_parts, cases_Bool, cases_eq, leb-true, ltb-false}
-use Rattle.std.proofs.lemmas.List.Elements.{All-cons, All-head, All-nil, All-tail}
+use Rattle.std.proofs.{lemmas.Bool.{and_parts, cases_Bool, cases_eq, leb-true, ltb-false}, lemmas.List.Elements.{All-cons, All-head, All-nil, All-tail}}
 use Rattle.gs_bet.proofs.Players.{has_players}
-use Rattle.gs_file.specs.JsonLaws.{IsRoundTold, IsTold}
-use Rattle.gs_file.specs.Reading.{FileGame, read_at, rules_of}
-use Rattle.gs_file.specs.declared.version.Version.{Version}
-use Rattle.gs_game.proofs.Evenly.{neither}
-use Rattle.gs_game.proofs.Sequencing.{weight_drawn}
-use Rattle.gs_game.proofs.SomeWays.{some_ways}
+use Rattle.gs_file.specs.{JsonLaws.{IsRoundTold, IsTold}, Reading.{FileGame, read_at, rules_of}, declared.version.Version.{Version}}
+use Rattle.gs_game.proofs.{Evenly.{neither}, Sequencing.{weight_drawn}, SomeWays.{some_ways}}
 use Rattle.gs_game.specs.Money.{first_of}
 use Rattle.gs_game.specs.Refusals.{rounds, too_many_signals, first_refusal, card_refusal, betting_refusal, deal_refusal, rounds_refusal, private_refusal, ranking_refusal, copies_refusal, weight_refusal, signals_refusal, deals_refusal, signals_from}
 use Rattle.gs_game.specs.Sequences.{deal_sizes, draws}
-use Rattle.gs_model.proofs.Ranges.{signal_count_is}
-use Rattle.gs_model.proofs.Walked.{last_round_of}
-use Rattle.gs_model.specs.Betting.{HasPlayers}
-use Rattle.gs_model.specs.Frame.{frame_of, last_round, signal_count, total_weight}
-use Rattle.gs_model.specs.Game.{Game, IsPlayable, Round, round_count}
+use Rattle.gs_model.proofs.{Ranges.{signal_count_is}, Walked.{last_round_of}}
+use Rattle.gs_model.specs.{Betting.{HasPlayers}, Frame.{frame_of, last_round, signal_count, total_weight}, Game.{Game, IsPlayable, Round, round_count}}
 use Rattle.gs_model.specs.Signals.{signals}
 use Rattle.gs_laws.specs.Lawful.{IsDealt}
 use Rattle.gs_laws.proofs.Told.{file_told}

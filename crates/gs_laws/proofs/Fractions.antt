@@ -1,11 +1,8 @@
 -- What is read as a fraction is one.
 use Rattle.std.proofs.Common.{◌≡◌, ℕ, ◌^◌, ℤ, pos, List, Option, Some, None, Result, Ok, Err, Bool, true, false, ◌&&◌, ◌==◌, nat_lt, refl, subst}
-use Rattle.std.specs.Prelude.{IsTrue, if◌then◌else◌}
-use Rattle.std.specs.Str.Parse.{digits_value}
 use Rattle.std.proofs.lemmas.Bool.{and_parts, eqb-true, ltb-true}
-use Rattle.gs_frac.specs.declared.fault.FracFault.{FracFault}
-use Rattle.gs_frac.specs.declared.fault.FracFault.TheVariants.{NotFraction, TooWide, NotReduced}
-use Rattle.gs_frac.specs.Gcd.{gcd_of}
+use Rattle.std.specs.{Prelude.{IsTrue, if◌then◌else◌}, Str.Parse.{digits_value}}
+use Rattle.gs_frac.specs.{declared.fault.FracFault.{FracFault}, declared.fault.FracFault.TheVariants.{NotFraction, TooWide, NotReduced}, Gcd.{gcd_of}}
 use Rattle.gs_frac.specs.Texts.{fraction_between, fraction_from, fraction_of, is_fraction, is_numeral, limit, number_of, reduced_fraction, sides, signed}
 use Rattle.gs_frac.proofs.Made.{fraction_is}
 

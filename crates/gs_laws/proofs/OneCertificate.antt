@@ -1,61 +1,31 @@
 -- What is said of strategies with certificates is one: `certify` and `verify`.
 use Rattle.std.proofs.Common.{◌≡◌, ◌⊎◌, ℕ, zero, suc, ◌+◌, ◌-◌, ◌*◌, ◌<◌, ◌≤◌, ◌++◌, List, get_or, Err, codes, ℤ, pos, refl, sym, ap, ◌∙◌, subst, inl, inr, arith}
-use Rattle.std.specs.Prelude.{unsigned_abs}
-use Rattle.std.specs.Fmt.{decimal}
-use Rattle.std.proofs.lemmas.Bool.{cases_lt}
-use Rattle.std.proofs.lemmas.List.{get_or_default, same_lists}
-use Rattle.gs_best.specs.Answers.{AreBestValues}
-use Rattle.gs_best.specs.Tables.{classes_at, start_of, table_of}
-use Rattle.gs_certificate.proofs.Bounds.{one_bound}
-use Rattle.gs_certificate.proofs.Holding.{faults_exclude, low_not_high, sound_no_fault}
-use Rattle.gs_certificate.proofs.OneText.{one_certificate}
+use Rattle.std.proofs.{lemmas.Bool.{cases_lt}, lemmas.List.{get_or_default, same_lists}}
+use Rattle.std.specs.{Prelude.{unsigned_abs}, Fmt.{decimal}}
+use Rattle.gs_best.specs.{Answers.{AreBestValues}, Tables.{classes_at, start_of, table_of}}
+use Rattle.gs_certificate.proofs.{Bounds.{one_bound}, Holding.{faults_exclude, low_not_high, sound_no_fault}, OneText.{one_certificate}}
 use Rattle.gs_certificate.proofs.Only.{only as read_only, stated}
-use Rattle.gs_certificate.specs.Checks.{IsFault, IsFaultOf, IsSound, IsSoundFor, sum_of}
-use Rattle.gs_certificate.specs.FaultTexts.{cert_fault_text, cert_text_fault_text}
-use Rattle.gs_certificate.specs.Numbers.{IsFirstLow, IsHigh, IsLow}
-use Rattle.gs_certificate.specs.Reading.{IsCanonical, ReadResult, Reads, stated_at}
-use Rattle.gs_certificate.specs.Texts.{Stated, certificate_text}
-use Rattle.gs_certificate.specs.Views.{certificate_view, fraction_parts}
-use Rattle.gs_certificate.specs.declared.certificate.Certificate.{Certificate}
-use Rattle.gs_certificate.specs.declared.fault.CertFault.{CertFault}
-use Rattle.gs_certificate.specs.declared.fault.CertFault.TheVariants as fault
+use Rattle.gs_certificate.specs.{Checks.{IsFault, IsFaultOf, IsSound, IsSoundFor, sum_of}, FaultTexts.{cert_fault_text, cert_text_fault_text}}
+use Rattle.gs_certificate.specs.{Numbers.{IsFirstLow, IsHigh, IsLow}, Reading.{IsCanonical, ReadResult, Reads, stated_at}, Texts.{Stated, certificate_text}}
+use Rattle.gs_certificate.specs.{Views.{certificate_view, fraction_parts}, declared.certificate.Certificate.{Certificate}, declared.fault.CertFault.{CertFault}}
 use Rattle.gs_certificate.specs.declared.text_fault.CertTextFault.{CertTextFault}
+use Rattle.gs_certificate.specs.declared.fault.CertFault.TheVariants as fault
 use Rattle.gs_certify.specs.Certificates.{Certifies, IsCertified, SaysCertified}
 use Rattle.gs_certify.specs.Verifying.{IsTextOf, IsUnsound, IsVerified, SaysChecked, SaysVerified, Verifies, bounds_text}
-use Rattle.gs_confirm.specs.Commands.{OfConfirmed}
-use Rattle.gs_confirm.specs.Troubles.{IsTooLarge}
-use Rattle.gs_file.specs.declared.version.Version.{Version}
-use Rattle.gs_file.specs.declared.version.Version.TheVariants.{Two}
-use Rattle.gs_frac.specs.Texts.{fraction_text}
-use Rattle.gs_frac.specs.declared.value.Fraction.{Fraction}
+use Rattle.gs_confirm.specs.{Commands.{OfConfirmed}, Troubles.{IsTooLarge}}
+use Rattle.gs_file.specs.{declared.version.Version.{Version}, declared.version.Version.TheVariants.{Two}, Reading.{rules_of}}
+use Rattle.gs_frac.specs.{Texts.{fraction_text}, declared.value.Fraction.{Fraction}}
 use Rattle.gs_json.proofs.Outcomes.{clash, same}
 use Rattle.gs_json.specs.FirstLine.{first_line}
-use Rattle.gs_model.proofs.Basics.{product_positive}
-use Rattle.gs_model.proofs.BestOnce.{best_values_are_one}
-use Rattle.gs_model.proofs.Walked.{walked_one, walked_two}
-use Rattle.gs_model.specs.BestAnswers.{Values}
-use Rattle.gs_model.specs.Certificate.{IsCertificate}
-use Rattle.gs_model.specs.Classes.{ClassLists, IsClass, IsClasses}
-use Rattle.gs_model.specs.Frame.{Frame, point_count, round_of, total_weight}
-use Rattle.gs_model.specs.FrameFacts.{IsWalked}
-use Rattle.gs_model.specs.Plans.{Plan}
-use Rattle.gs_model.specs.Positions.{at_point}
+use Rattle.gs_model.proofs.{Basics.{product_positive}, BestOnce.{best_values_are_one}, Walked.{walked_one, walked_two}}
+use Rattle.gs_model.specs.{BestAnswers.{Values}, Certificate.{IsCertificate}, Classes.{ClassLists, IsClass, IsClasses}}
+use Rattle.gs_model.specs.{Frame.{Frame, point_count, round_of, total_weight}, FrameFacts.{IsWalked}, Plans.{Plan}, Positions.{at_point}}
 use Rattle.gs_reply.specs.Refusals.{Limit, Bad_game, Unlike_pair, Overflows, Many_pivots, Too_large, Bad_strategy, Wrong_number, Bad_query, Other_game, Bad_certificate}
-use Rattle.gs_reply.specs.Replies.{Reply, Prints, Refuses}
-use Rattle.gs_reply.specs.Troubles.{IsUnlikePair}
-use Rattle.gs_reply.specs.declared.strategies.Which.TheVariants.{Only}
-use Rattle.gs_file.specs.Reading.{rules_of}
+use Rattle.gs_reply.specs.{Replies.{Reply, Prints, Refuses}, Troubles.{IsUnlikePair}, declared.strategies.Which.TheVariants.{Only}}
 use Rattle.gs_seq.proofs.SlotLaws.{sum_range_more}
-use Rattle.gs_strategy.specs.Confirmed.{frame_of, raw_plan}
-use Rattle.gs_strategy.specs.Laws.{IsStrategy}
-use Rattle.gs_strategy.specs.Texts.{strategy_text}
-use Rattle.gs_strategy.specs.Values.{FractionParts, Strategy}
-use Rattle.gs_laws.proofs.Confirming.{small_passes, strategy_scale}
-use Rattle.gs_laws.proofs.Dealt.{told_dealt, told_playable}
-use Rattle.gs_laws.proofs.OneGame.{unlike_pair_one}
-use Rattle.gs_laws.proofs.OneReading.{difference_one, one_least, then_one}
-use Rattle.gs_laws.proofs.OneStrategy.{confirmed_one, limit_one, over_file}
-use Rattle.gs_laws.proofs.Verdicts.{value_one}
+use Rattle.gs_strategy.specs.{Confirmed.{frame_of, raw_plan}, Laws.{IsStrategy}, Texts.{strategy_text}, Values.{FractionParts, Strategy}}
+use Rattle.gs_laws.proofs.{Confirming.{small_passes, strategy_scale}, Dealt.{told_dealt, told_playable}, OneGame.{unlike_pair_one}}
+use Rattle.gs_laws.proofs.{OneReading.{difference_one, one_least, then_one}, OneStrategy.{confirmed_one, limit_one, over_file}, Verdicts.{value_one}}
 
 -- ---- best values as a list
 

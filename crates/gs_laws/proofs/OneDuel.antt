@@ -1,25 +1,12 @@
 -- What `duel` says is one.
-use Rattle.std.proofs.Common.{◌≡◌, ℕ, ◌<◌, ◌++◌, List, get_or, sym, ap, ◌∙◌, inl, inr, arith}
-use Rattle.std.proofs.lemmas.List.{same_lists}
-use Rattle.gs_compare.specs.Commands.{Duels, SaysDuel, SaysHands}
-use Rattle.gs_compare.specs.Judging.{AreHands, hands_text, plan_in}
-use Rattle.gs_file.specs.Reading.{rules_of}
-use Rattle.gs_file.specs.declared.version.Version.{Version}
+use Rattle.std.proofs.{Common.{◌≡◌, ℕ, ◌<◌, ◌++◌, List, get_or, sym, ap, ◌∙◌, inl, inr, arith}, lemmas.List.{same_lists}}
+use Rattle.gs_compare.specs.{Commands.{Duels, SaysDuel, SaysHands}, Judging.{AreHands, hands_text, plan_in}}
+use Rattle.gs_file.specs.{Reading.{rules_of}, declared.version.Version.{Version}}
 use Rattle.gs_json.specs.FirstLine.{first_line}
-use Rattle.gs_model.specs.Frame.{signal_count, total_weight}
-use Rattle.gs_model.specs.Payoff.{hand_weight}
-use Rattle.gs_model.specs.Plans.{lift}
-use Rattle.gs_reply.specs.Replies.{OfFile, Reply, Prints}
-use Rattle.gs_reply.specs.declared.strategies.Which.TheVariants.{First, Second}
-use Rattle.gs_strategy.specs.Confirmed.{frame_of, raw_plan}
-use Rattle.gs_strategy.specs.Laws.{IsStrategy}
-use Rattle.gs_strategy.specs.Values.{FractionParts, Numbers, Strategy}
-use Rattle.gs_reply.specs.VerdictText.{verdict_text}
-use Rattle.gs_laws.proofs.Confirming.{verdicts_one}
-use Rattle.gs_laws.proofs.Dealing.{hand_some}
-use Rattle.gs_laws.proofs.Dealt.{told_dealt}
-use Rattle.gs_laws.proofs.OneStrategy.{over_file}
-use Rattle.gs_laws.proofs.Verdicts.{hand_one, scale_some}
+use Rattle.gs_model.specs.{Frame.{signal_count, total_weight}, Payoff.{hand_weight}, Plans.{lift}}
+use Rattle.gs_reply.specs.{Replies.{OfFile, Reply, Prints}, declared.strategies.Which.TheVariants.{First, Second}, VerdictText.{verdict_text}}
+use Rattle.gs_strategy.specs.{Confirmed.{frame_of, raw_plan}, Laws.{IsStrategy}, Values.{FractionParts, Numbers, Strategy}}
+use Rattle.gs_laws.proofs.{Confirming.{verdicts_one}, Dealing.{hand_some}, Dealt.{told_dealt}, OneStrategy.{over_file}, Verdicts.{hand_one, scale_some}}
 
 hands_one : (v w : Version) (one two : Strategy) (hs gs : List FractionParts) → IsStrategy v one → IsStrategy w two → AreHands one two hs → AreHands one two gs
     → hs ≡ gs

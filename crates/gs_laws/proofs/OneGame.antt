@@ -1,30 +1,17 @@
 -- What is said of a game file is one: its classes, their first unlike pair, and the answers of `shrink`, `check` and `make`.
 use Rattle.std.proofs.Common.{◌≡◌, ◌⊎◌, ℕ, ◌+◌, ◌-◌, ◌<◌, ◌≤◌, Bool, true, false, List, [], length, get_or, Result, Ok, Err, sym, ap, ◌∙◌, subst, inl, inr, arith}
-use Rattle.std.proofs.lemmas.Bool.{cases_lt}
-use Rattle.std.proofs.lemmas.List.{ext_get_or}
+use Rattle.std.proofs.{lemmas.Bool.{cases_lt}, lemmas.List.{ext_get_or}}
 use Rattle.gs_answer.specs.Making.{Makes}
-use Rattle.gs_file.specs.Faults.{Fault}
-use Rattle.gs_file.specs.Reading.{FileGame, read_at, rules_of}
-use Rattle.gs_group.specs.Checking.{Checks, ChecksGame, IsGrouping, SaysNotLossless}
-use Rattle.gs_group.specs.Shrinking.{Shrinks, ShrinksGame, told}
-use Rattle.gs_made.specs.Made.{made_game}
-use Rattle.gs_made.specs.declared.kind.Kind.{Kind}
-use Rattle.gs_model.proofs.Numbered.{numbered_once}
-use Rattle.gs_model.proofs.Unlike.{coarsest_is_one}
-use Rattle.gs_model.specs.Classes.{ClassLists, class_of, first_member, list_of}
-use Rattle.gs_model.specs.Frame.{Frame, frame_of}
-use Rattle.gs_model.specs.Game.{Game, round_count}
-use Rattle.gs_model.specs.Lossless.{Alike, IsFirstUnlike, IsLossless}
-use Rattle.gs_model.specs.Refinement.{IsCoarsestLossless}
-use Rattle.gs_model.specs.SignalClasses.{IsSignalClasses}
-use Rattle.gs_reply.specs.Refusals.{Unlike_pair}
-use Rattle.gs_reply.specs.Replies.{OfReading, Reply, Prints, Refuses}
-use Rattle.gs_reply.specs.Troubles.{IsUnlikePair, SaysUnlike}
-use Rattle.gs_model.specs.Signals.{signal_at}
+use Rattle.gs_file.specs.{Faults.{Fault}, Reading.{FileGame, read_at, rules_of}}
+use Rattle.gs_group.specs.{Checking.{Checks, ChecksGame, IsGrouping, SaysNotLossless}, Shrinking.{Shrinks, ShrinksGame, told}}
+use Rattle.gs_made.specs.{Made.{made_game}, declared.kind.Kind.{Kind}}
+use Rattle.gs_model.proofs.{Numbered.{numbered_once}, Unlike.{coarsest_is_one}}
+use Rattle.gs_model.specs.{Classes.{ClassLists, class_of, first_member, list_of}, Frame.{Frame, frame_of}, Game.{Game, round_count}}
+use Rattle.gs_model.specs.{Lossless.{Alike, IsFirstUnlike, IsLossless}, Refinement.{IsCoarsestLossless}, SignalClasses.{IsSignalClasses}, Signals.{signal_at}}
+use Rattle.gs_reply.specs.{Refusals.{Unlike_pair}, Replies.{OfReading, Reply, Prints, Refuses}, Troubles.{IsUnlikePair, SaysUnlike}}
 use Rattle.gs_strategy.specs.Values.{frame_in}
 use Rattle.gs_tree.specs.Texts.{signal_text}
-use Rattle.gs_words.specs.declared.request.Grouping.{Grouping}
-use Rattle.gs_words.specs.declared.request.Grouping.TheVariants.{Isomorphism, Coarsest, Single}
+use Rattle.gs_words.specs.{declared.request.Grouping.{Grouping}, declared.request.Grouping.TheVariants.{Isomorphism, Coarsest, Single}}
 
 -- ---- classes
 

@@ -1,32 +1,18 @@
 -- What `path` says is one.
 use Rattle.std.proofs.Common.{◌≡◌, ℕ, suc, ◌+◌, ◌<◌, ◌++◌, List, [], ◌∷◌, length, slice_index_or, codes, ℤ, pos, ◌*ℤ◌, ◌<ℤ◌, refl, sym, ap, ◌∙◌, subst, arith}
 use Rattle.std.specs.Fmt.{decimal}
-use Rattle.gs_frac.specs.Texts.{number_line}
-use Rattle.gs_frac.specs.declared.value.Fraction.{Fraction}
-use Rattle.gs_file.specs.Reading.{rules_of}
-use Rattle.gs_file.specs.declared.version.Version.TheVariants.{Two}
-use Rattle.gs_model.proofs.Ranges.{in_range}
-use Rattle.gs_model.proofs.Walked.{walked_one, walked_two}
-use Rattle.gs_reply.specs.Refusals.{Refusal}
-use Rattle.gs_reply.specs.Replies.{Reply, Prints, Refuses}
-use Rattle.gs_rows.proofs.Agree.{Agree, enters_same, leaves_same, lists_same, paths_agree}
-use Rattle.gs_rows.proofs.OneStop.{stops_agree}
-use Rattle.gs_rows.proofs.Opening.{path_trail}
-use Rattle.gs_rows.specs.Path.{IsPath, IsPivot, Leaves, States, Stops, ends}
-use Rattle.gs_rows.specs.Program.{IsOpening, IsRowsOf, Listing}
-use Rattle.gs_rows.specs.declared.Program.{Program}
-use Rattle.gs_settle.specs.Paths.{ShowsPath, path_text, turn_line, turn_lines}
-use Rattle.gs_settle.specs.Settling.{Settles}
-use Rattle.gs_simplex.specs.Trace.{IsAimValue, IsTrace, IsTraceOf}
-use Rattle.gs_simplex.specs.declared.answer.PathTrace.{PathTrace}
-use Rattle.gs_simplex.specs.declared.answer.Turn.{Turn}
+use Rattle.gs_frac.specs.{Texts.{number_line}, declared.value.Fraction.{Fraction}}
+use Rattle.gs_file.specs.{Reading.{rules_of}, declared.version.Version.TheVariants.{Two}}
+use Rattle.gs_model.proofs.{Ranges.{in_range}, Walked.{walked_one, walked_two}}
+use Rattle.gs_reply.specs.{Refusals.{Refusal}, Replies.{Reply, Prints, Refuses}}
+use Rattle.gs_rows.proofs.{Agree.{Agree, enters_same, leaves_same, lists_same, paths_agree}, OneStop.{stops_agree}, Opening.{path_trail}}
+use Rattle.gs_rows.specs.{Path.{IsPath, IsPivot, Leaves, States, Stops, ends}, Program.{IsOpening, IsRowsOf, Listing}, declared.Program.{Program}}
+use Rattle.gs_settle.specs.{Paths.{ShowsPath, path_text, turn_line, turn_lines}, Settling.{Settles}}
+use Rattle.gs_simplex.specs.{Trace.{IsAimValue, IsTrace, IsTraceOf}, declared.answer.PathTrace.{PathTrace}, declared.answer.Turn.{Turn}}
 use Rattle.gs_solve.specs.Solutions.{most_pivots}
-use Rattle.gs_strategy.specs.Values.{frame_in}
-use Rattle.gs_strategy.specs.Views.{parts_of}
+use Rattle.gs_strategy.specs.{Values.{frame_in}, Views.{parts_of}}
 use Rattle.gs_words.specs.declared.request.Grouping.{Grouping}
-use Rattle.gs_laws.proofs.Dealt.{told_playable}
-use Rattle.gs_laws.proofs.OneProgram.{Same, SameParts, ratio_one, stop_over}
-use Rattle.gs_laws.proofs.OneSettled.{SaysOne, settles_one}
+use Rattle.gs_laws.proofs.{Dealt.{told_playable}, OneProgram.{Same, SameParts, ratio_one, stop_over}, OneSettled.{SaysOne, settles_one}}
 use Rattle.gs_laws.proofs.OneSolve.{ended_or_stopped, path_one, stopped_one}
 
 -- ---- one path

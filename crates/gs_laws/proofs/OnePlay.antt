@@ -1,20 +1,13 @@
 -- What `play` says is one: the plans after so many turns have the same numbers.
 use Rattle.std.proofs.Common.{◌≡◌, ℕ, zero, suc, ◌*◌, ◌<◌, ◌==◌, Bool, cond, eqb, get_or, Option, Some, None, pos, ◌*ℤ◌, refl, sym, ap, ◌∙◌, arith}
 use Rattle.std.proofs.lemmas.Bool.{ne_eqb}
-use Rattle.gs_model.proofs.BestOnce.{best_values_are_one}
-use Rattle.gs_model.proofs.FirstBest.{one_choice, sum-same_range}
-use Rattle.gs_model.proofs.Gather.{class_before, class_in}
-use Rattle.gs_model.proofs.Tables.{kept}
+use Rattle.gs_model.proofs.{BestOnce.{best_values_are_one}, FirstBest.{one_choice, sum-same_range}, Gather.{class_before, class_in}, Tables.{kept}}
 use Rattle.gs_model.proofs.Total.{sum_z-same_all}
-use Rattle.gs_model.specs.BestAnswers.{IsBestValues, IsFirstBestPlan, Values, end_worth}
-use Rattle.gs_model.specs.Classes.{ClassLists, IsClass, IsClasses, class_of, first_member}
+use Rattle.gs_model.specs.{BestAnswers.{IsBestValues, IsFirstBestPlan, Values, end_worth}, Classes.{ClassLists, IsClass, IsClasses, class_of, first_member}}
 use Rattle.gs_model.specs.Deals.{Deal}
 use Rattle.gs_model.specs.Frame.{Frame, ancestor, at_round, end_count, last_round, last_step, move_count, other_player, payoff_to, player_at, point_count, round_of, signal_count}
-use Rattle.gs_model.specs.FrameFacts.{InRange, IsWalked}
-use Rattle.gs_model.specs.Payoff.{number_at_end}
-use Rattle.gs_model.specs.Plans.{Plan, lift, number_before}
-use Rattle.gs_model.specs.Play.{IsFictitiousPlay, IsFirstMoves, IsPlanSum}
-use Rattle.gs_model.specs.Positions.{Step, at_end, at_point}
+use Rattle.gs_model.specs.{FrameFacts.{InRange, IsWalked}, Payoff.{number_at_end}, Plans.{Plan, lift, number_before}}
+use Rattle.gs_model.specs.{Play.{IsFictitiousPlay, IsFirstMoves, IsPlanSum}, Positions.{Step, at_end, at_point}}
 
 -- two plans over classes with the same total and the same numbers
 pub record SameNumbers (f : Frame) (lists : ClassLists) (player : ℕ) (x y : Plan) : Type 0 where

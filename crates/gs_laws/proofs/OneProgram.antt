@@ -1,24 +1,15 @@
 -- Programs with the same numbers have the same paths.
 use Rattle.std.proofs.Common.{◌≡◌, ◌⊎◌, ℕ, zero, suc, ◌+◌, ◌-◌, ◌*◌, ◌<◌, ◌≤◌, false, List, [], ◌∷◌, length, slice_index_or, ℤ, pos, neg_ℤ, ◌*ℤ◌, ◌≤ℤ◌, ◌<ℤ◌, refl, sym, ap, ◌∙◌, subst, inl, inr, arith}
-use Rattle.std.specs.Vec.{vec_items}
-use Rattle.std.proofs.lemmas.List.{length-map}
-use Rattle.std.proofs.lemmas.Bool.{cases_lt, true≢false}
-use Rattle.std.proofs.Math.Path.{fun_ext}
+use Rattle.std.proofs.{lemmas.List.{length-map}, lemmas.Bool.{cases_lt, true≢false}, Math.Path.{fun_ext}}
+use Rattle.std.specs.{Vec.{vec_items}, List.{HoldsAt}}
 use Rattle.gs_rows.specs.Path.{AllNarrow, Enters, IsFirstWide, IsPath, IsPivot, IsWhole, Leaves, NoneEnters, NoneLeaves, PathStop, PathStops, States, Stops, ends, pivots, unbounded, wide}
 use Rattle.gs_rows.specs.Program.{ColListed, IsFree, IsOpening, IsRowsOf, IsShaped, Listing, RowListed, aim_of, number, rows_of}
-use Rattle.gs_rows.specs.Rows.{IsAimRow, IsListedRow, IsNarrow, IsPrimitive, IsUnlistedRow}
-use Rattle.gs_rows.specs.declared.Program.{Program}
-use Rattle.std.specs.List.{HoldsAt}
+use Rattle.gs_rows.specs.{Rows.{IsAimRow, IsListedRow, IsNarrow, IsPrimitive, IsUnlistedRow}, declared.Program.{Program}}
 use Rattle.gs_frac.proofs.OneForm.{one_form}
 use Rattle.gs_frac.specs.declared.value.Fraction.{Fraction}
-use Rattle.gs_rows.proofs.Agree.{Agree, rows_agree}
-use Rattle.gs_rows.proofs.Bases.{IsFull, col_of, from_cols, in_cols}
-use Rattle.gs_rows.proofs.OneStop.{stops_agree}
-use Rattle.gs_rows.proofs.Opening.{path_trail}
-use Rattle.gs_rows.proofs.Ring.{cancel, linear, ring, zero_times}
-use Rattle.gs_rows.proofs.Solutions.{find_col}
-use Rattle.gs_simplex.specs.Answer.{IsBest, IsBestAt}
-use Rattle.gs_simplex.specs.declared.answer.Best.{Best}
+use Rattle.gs_rows.proofs.{Agree.{Agree, rows_agree}, Bases.{IsFull, col_of, from_cols, in_cols}, OneStop.{stops_agree}, Opening.{path_trail}}
+use Rattle.gs_rows.proofs.{Ring.{cancel, linear, ring, zero_times}, Solutions.{find_col}}
+use Rattle.gs_simplex.specs.{Answer.{IsBest, IsBestAt}, declared.answer.Best.{Best}}
 use Rattle.gs_solve.specs.Programs.{IsSequenceProgram, Sizes, first_answer, first_bound, first_slack}
 
 -- two programs with the same numbers

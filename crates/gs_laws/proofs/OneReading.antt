@@ -1,30 +1,19 @@
 -- What bytes are read as is one: each rule has one first fault.
 use Rattle.std.proofs.Common.{◌≡◌, ◌≢◌, ℕ, ◌-◌, ◌<◌, ◌≤◌, List, length, get_or, Result, Ok, Err, refl, sym, ap, ◌∙◌, subst, inl, inr, arith}
-use Rattle.std.proofs.lemmas.Bool.{cases_lt}
-use Rattle.std.proofs.lemmas.List.{get_or-take}
-use Rattle.gs_file.specs.Reading.{FileGame}
-use Rattle.gs_file.specs.declared.version.Version.{Version}
+use Rattle.std.proofs.{lemmas.Bool.{cases_lt}, lemmas.List.{get_or-take}}
+use Rattle.gs_file.specs.{Reading.{FileGame}, declared.version.Version.{Version}}
 use Rattle.gs_filter.proofs.Kept.{classes_kept}
 use Rattle.gs_filter.specs.Faults.{Agree, AllNumbered, AreFirstApart, AreFirstApartIn, AreTogether, IsFaultOf as IsClassFaultOf, IsFirstLength, IsFirstUnseen, first_beside}
-use Rattle.gs_filter.specs.Tallies.{IsFirstUnseenIn}
-use Rattle.gs_filter.specs.declared.fault.ClassFault.{ClassFault}
+use Rattle.gs_filter.specs.{Tallies.{IsFirstUnseenIn}, declared.fault.ClassFault.{ClassFault}}
 use Rattle.gs_filter.specs.declared.fault.ClassFault.TheVariants as class
-use Rattle.gs_json.specs.Differences.{IsFirstDifference}
-use Rattle.gs_json.specs.Steps.{Then}
-use Rattle.gs_model.specs.Classes.{ClassLists, list_of}
-use Rattle.gs_model.specs.Frame.{Frame}
-use Rattle.gs_model.specs.Numbering.{IsNumbered}
-use Rattle.gs_model.specs.Plans.{Plan}
+use Rattle.gs_json.specs.{Differences.{IsFirstDifference}, Steps.{Then}}
+use Rattle.gs_model.specs.{Classes.{ClassLists, list_of}, Frame.{Frame}, Numbering.{IsNumbered}, Plans.{Plan}}
 use Rattle.gs_seq.proofs.Kept.{plan_kept}
-use Rattle.gs_seq.specs.Faults.{FlowsAt, IsFaultOf as IsPlanFaultOf, IsFirstLeak}
-use Rattle.gs_seq.specs.Slots.{plan_of}
-use Rattle.gs_seq.specs.declared.fault.PlanFault.{PlanFault}
+use Rattle.gs_seq.specs.{Faults.{FlowsAt, IsFaultOf as IsPlanFaultOf, IsFirstLeak}, Slots.{plan_of}, declared.fault.PlanFault.{PlanFault}}
 use Rattle.gs_seq.specs.declared.fault.PlanFault.TheVariants as slot
 use Rattle.gs_strategy.specs.Checks.{AreClasses, After, IsCanonical, IsClassFault, IsPlanFault, Reads, ReadResult, ReadsClasses, ReadsNumbers, ReadsParts, ReadsPlans, ReadsSecond, Unless}
-use Rattle.gs_strategy.specs.Faults.{Fault, classes, plan}
-use Rattle.gs_strategy.specs.Reading.{Whole, classes_at, game_at, json_at, numbers_at, parts_at, version_at, weights_at}
-use Rattle.gs_strategy.specs.Texts.{strategy_text}
-use Rattle.gs_strategy.specs.Values.{IsPlanOf, Strategy, Weights, frame_in}
+use Rattle.gs_strategy.specs.{Faults.{Fault, classes, plan}, Reading.{Whole, classes_at, game_at, json_at, numbers_at, parts_at, version_at, weights_at}}
+use Rattle.gs_strategy.specs.{Texts.{strategy_text}, Values.{IsPlanOf, Strategy, Weights, frame_in}}
 use Rattle.gs_strategy.specs.declared.fault.FilePart.TheVariants as part
 
 -- neither is less

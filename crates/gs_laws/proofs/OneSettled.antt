@@ -1,42 +1,19 @@
 -- What is said of a game over classes is one, where each of its commands says one thing; and `play` does.
 use Rattle.std.proofs.Common.{◌≡◌, ℕ, ◌≤◌, List, get_or, Result, Ok, Err, refl, sym, ap, ◌∙◌, subst, inl, inr, arith}
 use Rattle.std.proofs.lemmas.List.{get_or_default, same_lists}
-use Rattle.gs_file.specs.Faults.{Fault}
-use Rattle.gs_file.specs.JsonLaws.{IsTold}
-use Rattle.gs_file.specs.Reading.{FileGame, read_at, rules_of}
-use Rattle.gs_file.specs.declared.version.Version.TheVariants.{Two}
+use Rattle.gs_file.specs.{Faults.{Fault}, JsonLaws.{IsTold}, Reading.{FileGame, read_at, rules_of}, declared.version.Version.TheVariants.{Two}}
 use Rattle.gs_group.specs.Checking.{IsGrouping}
 use Rattle.gs_filter.proofs.ClassLaws.{single_are_classes}
-use Rattle.gs_model.proofs.Ranges.{in_range, signal_count_is}
-use Rattle.gs_model.proofs.Walked.{last_round_of, walked_one, walked_two}
-use Rattle.gs_model.specs.Classes.{ClassLists, IsClasses}
-use Rattle.gs_model.specs.Frame.{Frame, point_count, total_weight}
-use Rattle.gs_model.specs.Game.{round_count}
-use Rattle.gs_model.specs.Lossless.{IsLossless}
-use Rattle.gs_model.specs.Plans.{lift}
+use Rattle.gs_model.proofs.{Ranges.{in_range, signal_count_is}, Walked.{last_round_of, walked_one, walked_two}}
+use Rattle.gs_model.specs.{Classes.{ClassLists, IsClasses}, Frame.{Frame, point_count, total_weight}, Game.{round_count}, Lossless.{IsLossless}, Plans.{lift}}
 use Rattle.gs_model.specs.Verdict.{IsVerdict}
 use Rattle.gs_reply.specs.Replies.{OfReading, Reply, Prints, Refuses}
-use Rattle.gs_seq.specs.Plans.{class_plan}
-use Rattle.gs_seq.specs.Slots.{IsPlan, plan_of}
-use Rattle.gs_seq.specs.declared.plan.Plan.{Plan}
-use Rattle.gs_settle.specs.Playing.{Plays}
-use Rattle.gs_settle.specs.Settling.{OfForm, OfGrouping, Settles}
-use Rattle.gs_settle.specs.Texts.{IsTextOf}
-use Rattle.gs_strategy.specs.Checks.{AreClasses}
-use Rattle.gs_strategy.specs.Confirmed.{over}
-use Rattle.gs_strategy.specs.Texts.{strategy_text}
-use Rattle.gs_strategy.specs.Values.{Numbers, Strategy, Weights, frame_in}
-use Rattle.gs_strategy.specs.Views.{weights_of}
-use Rattle.gs_words.specs.declared.request.Grouping.{Grouping}
-use Rattle.gs_words.specs.declared.request.Grouping.TheVariants.{Isomorphism, Coarsest, Single}
-use Rattle.gs_laws.proofs.Confirming.{small_passes, verdicts_one}
-use Rattle.gs_laws.proofs.Dealt.{told_dealt, told_playable}
-use Rattle.gs_laws.proofs.OneGame.{groupings_one, not_both, not_lossless_one}
-use Rattle.gs_laws.proofs.OnePlay.{SameNumbers, play_one}
-use Rattle.gs_laws.proofs.OneStrategy.{limit_one}
-use Rattle.gs_laws.proofs.Slots.{place_at}
-use Rattle.gs_laws.proofs.Told.{file_told}
-use Rattle.gs_laws.proofs.Verdicts.{scale_some}
+use Rattle.gs_seq.specs.{Plans.{class_plan}, Slots.{IsPlan, plan_of}, declared.plan.Plan.{Plan}}
+use Rattle.gs_settle.specs.{Playing.{Plays}, Settling.{OfForm, OfGrouping, Settles}, Texts.{IsTextOf}}
+use Rattle.gs_strategy.specs.{Checks.{AreClasses}, Confirmed.{over}, Texts.{strategy_text}, Values.{Numbers, Strategy, Weights, frame_in}, Views.{weights_of}}
+use Rattle.gs_words.specs.{declared.request.Grouping.{Grouping}, declared.request.Grouping.TheVariants.{Isomorphism, Coarsest, Single}}
+use Rattle.gs_laws.proofs.{Confirming.{small_passes, verdicts_one}, Dealt.{told_dealt, told_playable}, OneGame.{groupings_one, not_both, not_lossless_one}}
+use Rattle.gs_laws.proofs.{OnePlay.{SameNumbers, play_one}, OneStrategy.{limit_one}, Slots.{place_at}, Told.{file_told}, Verdicts.{scale_some}}
 
 -- ---- settling
 

@@ -1,54 +1,29 @@
 -- What `solve` and `path` say is one.
 use Rattle.std.proofs.Common.{◌≡◌, ◌⊎◌, ℕ, zero, suc, ◌+◌, ◌*◌, ◌^◌, ◌<◌, ◌≤◌, ◌==◌, ◌||◌, ◌++◌, Bool, List, map, length, slice_index_or, ℤ, pos, ◌*ℤ◌, refl, sym, ap, ◌∙◌, subst, inl, inr, arith, unsigned_abs}
-use Rattle.std.specs.Prelude.{filter, not, slice_index}
-use Rattle.std.specs.Int.{◌∣◌}
-use Rattle.std.specs.List.{list_any, range_with_len}
-use Rattle.std.proofs.lemmas.List.{get_or_default, same_lists}
-use Rattle.std.proofs.lemmas.Nat.Gcd.{dvd_antisymm, le_of_dvd}
+use Rattle.std.proofs.{lemmas.List.{get_or_default, same_lists}, lemmas.Nat.Gcd.{dvd_antisymm, le_of_dvd}}
+use Rattle.std.specs.{Prelude.{filter, not, slice_index}, Int.{◌∣◌}, List.{list_any, range_with_len}}
 use Rattle.gs_frac.proofs.OneForm.{lower_of}
-use Rattle.gs_frac.specs.Gcd.{IsLcm}
-use Rattle.gs_frac.specs.declared.value.Fraction.{Fraction}
-use Rattle.gs_model.proofs.BestOnce.{best_values_are_one}
-use Rattle.gs_model.specs.Classes.{ClassLists, IsClass, IsClasses}
-use Rattle.gs_model.specs.Frame.{Frame, player_at, point_count, round_of}
-use Rattle.gs_model.specs.FrameFacts.{InRange, IsWalked}
-use Rattle.gs_model.specs.Plans.{lift}
-use Rattle.gs_model.specs.Positions.{at_point}
-use Rattle.gs_rows.specs.Path.{PathStop, PathStops, ends, pivots, unbounded, wide}
+use Rattle.gs_frac.specs.{Gcd.{IsLcm}, declared.value.Fraction.{Fraction}}
+use Rattle.gs_model.proofs.{BestOnce.{best_values_are_one}, Ranges.{in_range}, Walked.{walked_one, walked_two}}
+use Rattle.gs_model.specs.{Classes.{ClassLists, IsClass, IsClasses}, Frame.{Frame, player_at, point_count, round_of}, FrameFacts.{InRange, IsWalked}}
+use Rattle.gs_model.specs.{Plans.{lift}, Positions.{at_point}}
+use Rattle.gs_rows.specs.{Path.{PathStop, PathStops, ends, pivots, unbounded, wide}, Program.{Listing}, declared.Program.{Program}}
 use Rattle.gs_rows.proofs.OneStop.{stops_agree}
-use Rattle.gs_rows.specs.Program.{Listing}
-use Rattle.gs_rows.specs.declared.Program.{Program}
-use Rattle.gs_seq.specs.Slots.{plan_of}
-use Rattle.gs_seq.specs.declared.plan.Plan.{Plan}
-use Rattle.gs_simplex.specs.Answer.{IsBest, IsSmall}
-use Rattle.gs_simplex.specs.declared.answer.Best.{Best}
-use Rattle.gs_solve.proofs.Chosen.{filter_tests, map_same}
-use Rattle.gs_solve.proofs.GameEnd.{some_of}
-use Rattle.gs_solve.proofs.Least.{multiple_divides_totals, multiple_is_least}
-use Rattle.gs_solve.proofs.Multiples.{lcm_some}
+use Rattle.gs_seq.specs.{Slots.{plan_of}, declared.plan.Plan.{Plan}}
+use Rattle.gs_simplex.specs.{Answer.{IsBest, IsSmall}, declared.answer.Best.{Best}}
+use Rattle.gs_solve.proofs.{Chosen.{filter_tests, map_same}, GameEnd.{some_of}, Least.{multiple_divides_totals, multiple_is_least}, Multiples.{lcm_some}}
 use Rattle.gs_solve.proofs.Numbering.{set_below}
-use Rattle.gs_solve.specs.GamePrograms.{IsGameOpening, sequences_by}
-use Rattle.gs_solve.specs.Openings.{is_chosen, opening_of}
-use Rattle.gs_solve.specs.Programs.{Sizes, first_answer, first_bound, first_slack}
-use Rattle.gs_solve.specs.Sequences.{constraints, form_sizes, payoffs, sequence_of}
+use Rattle.gs_solve.specs.{GamePrograms.{IsGameOpening, sequences_by}, Openings.{is_chosen, opening_of}}
+use Rattle.gs_solve.specs.{Programs.{Sizes, first_answer, first_bound, first_slack}, Sequences.{constraints, form_sizes, payoffs, sequence_of}}
 use Rattle.gs_solve.specs.Solutions.{AreEndPlans, AreShares, IsFirstOver, IsGamePath, IsGameSolution, IsLeastPlan, IsMultiple, IsTotalOver, IsWithin, most_pivots, table_numbers}
 use Rattle.gs_solve.specs.Weights.{weight_at}
-use Rattle.gs_strategy.specs.Values.{Weights}
-use Rattle.gs_strategy.specs.Views.{weights_of}
-use Rattle.gs_laws.proofs.OnePlay.{best_same, first_moves_one}
-use Rattle.gs_laws.proofs.OneProgram.{Same, SameEnds, SameFractions, best_one, best_over, programs_same, stops_over}
-use Rattle.gs_laws.proofs.OneReading.{one_least}
-use Rattle.gs_laws.proofs.Dealt.{told_playable}
-use Rattle.gs_laws.proofs.OneSettled.{SaysOne, settles_one, text_of_one}
-use Rattle.gs_file.specs.Reading.{FileGame, rules_of}
-use Rattle.gs_file.specs.declared.version.Version.TheVariants.{Two}
-use Rattle.gs_model.proofs.Ranges.{in_range}
-use Rattle.gs_model.proofs.Walked.{walked_one, walked_two}
+use Rattle.gs_strategy.specs.{Values.{Weights}, Views.{weights_of}, Values.{frame_in}}
+use Rattle.gs_laws.proofs.{OnePlay.{best_same, first_moves_one}, OneProgram.{Same, SameEnds, SameFractions, best_one, best_over, programs_same, stops_over}}
+use Rattle.gs_laws.proofs.{OneReading.{one_least}, Dealt.{told_playable}, OneSettled.{SaysOne, settles_one, text_of_one}}
+use Rattle.gs_file.specs.{Reading.{FileGame, rules_of}, declared.version.Version.TheVariants.{Two}}
 use Rattle.gs_reply.specs.Refusals.{Refusal, Overflows, At_step, At_total, Many_pivots, Too_large, Sequences, Cells, Table_numbers, Raw_cells, Bad_game, Unlike_pair, Bad_strategy, Wrong_number, Bad_query, Other_game, Bad_certificate}
 use Rattle.gs_reply.specs.Replies.{Reply, Prints, Refuses}
-use Rattle.gs_settle.specs.Solving.{SaysStopped, SaysUnsolved, Solves}
-use Rattle.gs_settle.specs.Settling.{Settles}
-use Rattle.gs_strategy.specs.Values.{frame_in}
+use Rattle.gs_settle.specs.{Solving.{SaysStopped, SaysUnsolved, Solves}, Settling.{Settles}}
 use Rattle.gs_words.specs.declared.request.Grouping.{Grouping}
 
 -- ---- the opening

@@ -1,53 +1,30 @@
 -- What is said of strategy files is one: `evaluate`, `upgrade`, `query` and `judge`.
 use Rattle.std.proofs.Common.{◌≡◌, ◌⊎◌, ℕ, suc, ◌*◌, ◌<◌, ◌≤◌, ◌++◌, true, List, [], ◌∷◌, map, Some, Ok, Err, All, codes, pos, refl, sym, ap, ◌∙◌, subst, inl, inr, arith}
-use Rattle.std.specs.Prelude.{slice_get, sum_by}
-use Rattle.std.proofs.lemmas.Nat.Gcd.{dvd_antisymm}
-use Rattle.gs_frac.proofs.GcdLaws.{is_gcd_of}
-use Rattle.gs_frac.proofs.OneForm.{divides_factor}
-use Rattle.std.specs.List.{AllByRecursion, flat_map}
-use Rattle.std.specs.Int.{IsGcd}
-use Rattle.std.proofs.lemmas.Bool.{cases_lt}
-use Rattle.std.proofs.lemmas.List.Elements.{All-head, All-tail}
-use Rattle.gs_game.proofs.MoneyLaws.{tree_sound}
+use Rattle.std.proofs.{lemmas.Nat.Gcd.{dvd_antisymm}, lemmas.Bool.{cases_lt}, lemmas.List.Elements.{All-head, All-tail}}
+use Rattle.std.specs.{Prelude.{slice_get, sum_by}, List.{AllByRecursion, flat_map}, Int.{IsGcd}}
+use Rattle.gs_frac.proofs.{GcdLaws.{is_gcd_of}, OneForm.{divides_factor}}
+use Rattle.gs_game.proofs.{MoneyLaws.{tree_sound}, LineLaws.{named}}
 use Rattle.gs_bet.specs.Grammar.{is_sound}
 use Rattle.gs_compare.specs.Commands.{Judges, SaysJudged}
 use Rattle.gs_confirm.specs.Commands.{Evaluates, OfConfirmed, Queries, SaysNumbers, SaysQueried, SaysUpgraded, Upgrades}
 use Rattle.gs_confirm.specs.Queries.{IsBadQuery, IsQueried, IsToldAt, NamesPoint, NamesSignal, gap_of_player, weights_of_player}
 use Rattle.gs_confirm.specs.Troubles.{IsFirstWrong, IsTooLarge, IsTrouble, IsWrongNumber}
-use Rattle.gs_file.specs.JsonLaws.{IsRoundTold, IsTold}
-use Rattle.gs_file.specs.Reading.{FileGame, rules_of}
-use Rattle.gs_file.specs.declared.version.Version.{Version}
-use Rattle.gs_frac.specs.Texts.{number_line}
-use Rattle.gs_frac.specs.declared.value.Fraction.{Fraction}
-use Rattle.gs_game.proofs.LineLaws.{named}
-use Rattle.gs_lift.specs.Mixtures.{IsMixture, IsShareOf}
-use Rattle.gs_lift.specs.declared.fault.QueryFault.{QueryFault}
+use Rattle.gs_file.specs.{JsonLaws.{IsRoundTold, IsTold}, Reading.{FileGame, rules_of}, declared.version.Version.{Version}}
+use Rattle.gs_frac.specs.{Texts.{number_line}, declared.value.Fraction.{Fraction}}
+use Rattle.gs_lift.specs.{Mixtures.{IsMixture, IsShareOf}, declared.fault.QueryFault.{QueryFault}}
 use Rattle.gs_lift.specs.declared.fault.QueryFault.TheVariants as query
-use Rattle.gs_model.proofs.Ranges.{signal_count_is}
-use Rattle.gs_model.proofs.Walked.{last_round_of, walked_one}
-use Rattle.gs_model.specs.Classes.{ClassLists}
-use Rattle.gs_model.specs.Frame.{Frame, choices_at, player_at, point, point_count, round_of, total_weight, trees_of}
-use Rattle.gs_model.specs.Game.{Round, round_count}
-use Rattle.gs_model.specs.Plans.{IsShare, Plan as RawPlan}
-use Rattle.gs_model.specs.Positions.{at_point}
+use Rattle.gs_model.proofs.{Ranges.{signal_count_is}, Walked.{last_round_of, walked_one}}
+use Rattle.gs_model.specs.{Classes.{ClassLists}, Frame.{Frame, choices_at, player_at, point, point_count, round_of, total_weight, trees_of}}
+use Rattle.gs_model.specs.{Game.{Round, round_count}, Plans.{IsShare, Plan as RawPlan}, Positions.{at_point}}
 use Rattle.gs_reply.specs.Refusals.{Limit, Refusal, Sequences, Cells, Table_numbers, Raw_cells, Bad_game, Unlike_pair, Overflows, Many_pivots, Too_large, Bad_strategy, Wrong_number, Bad_query, Other_game, Bad_certificate}
-use Rattle.gs_reply.specs.Replies.{OfFile, OfRead, Reply, Prints, Refuses}
-use Rattle.gs_reply.specs.Troubles.{IsUnlikePair, Passes}
-use Rattle.gs_reply.specs.declared.strategies.Which.{Which}
-use Rattle.gs_reply.specs.declared.strategies.Which.TheVariants.{Only}
+use Rattle.gs_reply.specs.{Replies.{OfFile, OfRead, Reply, Prints, Refuses}, Troubles.{IsUnlikePair, Passes}, declared.strategies.Which.{Which}}
+use Rattle.gs_reply.specs.{declared.strategies.Which.TheVariants.{Only}, VerdictText.{mix_text, verdict_text}}
 use Rattle.gs_seq.specs.Stops.{IsSmall}
-use Rattle.gs_strategy.specs.Checks.{ReadResult, Reads}
-use Rattle.gs_strategy.specs.Confirmed.{frame_of, raw_plan}
-use Rattle.gs_strategy.specs.Laws.{IsStrategy}
+use Rattle.gs_strategy.specs.{Checks.{ReadResult, Reads}, Confirmed.{frame_of, raw_plan}, Laws.{IsStrategy}}
 use Rattle.gs_strategy.specs.Values.{FractionParts, Numbers, Strategy, frame_in}
-use Rattle.gs_reply.specs.VerdictText.{mix_text, verdict_text}
 use Rattle.gs_tree.proofs.Named.{text_once}
-use Rattle.gs_laws.proofs.Confirming.{no_trouble, small_passes, strategy_numbers, verdicts_one}
-use Rattle.gs_laws.proofs.Dealt.{told_dealt, told_playable}
-use Rattle.gs_laws.proofs.OneGame.{unlike_pair_one}
-use Rattle.gs_laws.proofs.OneReading.{reads_one}
-use Rattle.gs_laws.proofs.Strategies.{reads_strategy}
-use Rattle.gs_laws.proofs.Verdicts.{scale_some}
+use Rattle.gs_laws.proofs.{Confirming.{no_trouble, small_passes, strategy_numbers, verdicts_one}, Dealt.{told_dealt, told_playable}, OneGame.{unlike_pair_one}}
+use Rattle.gs_laws.proofs.{OneReading.{reads_one}, Strategies.{reads_strategy}, Verdicts.{scale_some}}
 
 -- ---- files
 

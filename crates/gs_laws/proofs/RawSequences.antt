@@ -1,45 +1,29 @@
 -- Over single signals a player has at most 64 sequences to a raw cell, and the empty one: a point has at most 64 points on each way to an end, and a signal is
 -- in some pair of each later round.
 use Rattle.std.proofs.Common.{◌≡◌, ℕ, zero, suc, ◌+◌, ◌-◌, ◌*◌, ◌<◌, ◌≤◌, ◌++◌, ◌==◌, ◌&&◌, Bool, true, cond, List, [], ◌∷◌, map, length, get_or, None, All, refl, sym, ap, ◌∙◌, subst, inl, inr, arith}
-use Rattle.std.specs.Prelude.{count_by, sum_by}
-use Rattle.std.specs.List.{AllByRecursion, list_any, range_with_len}
-use Rattle.std.proofs.Math.Nat.{mul-le-mul_left, mul-le-mul_right}
-use Rattle.std.proofs.lemmas.Bool.{cases_Bool, cases_lt, eq-eqb}
-use Rattle.std.proofs.lemmas.List.FromFn.{get_or-range_with_len, length-range_with_len}
-use Rattle.std.proofs.lemmas.List.Sums.{get_or-le-sum_by, sum_by-cons}
+use Rattle.std.proofs.{Math.Nat.{mul-le-mul_left, mul-le-mul_right}, lemmas.Bool.{cases_Bool, cases_lt, eq-eqb}}
+use Rattle.std.proofs.{lemmas.List.FromFn.{get_or-range_with_len, length-range_with_len}, lemmas.List.Sums.{get_or-le-sum_by, sum_by-cons}}
 use Rattle.std.proofs.lemmas.List.Elements.{All-head, All-tail}
-use Rattle.gs_bet.specs.Grammar.{are_sound, is_sound}
+use Rattle.std.specs.{Prelude.{count_by, sum_by}, List.{AllByRecursion, list_any, range_with_len}}
+use Rattle.gs_bet.specs.{Grammar.{are_sound, is_sound}, MoveLists.{count, has_move}}
 use Rattle.gs_bet.proofs.Letters.{at_most_26}
-use Rattle.gs_bet.specs.MoveLists.{count, has_move}
-use Rattle.gs_file.specs.JsonLaws.{IsRoundTold, IsTold}
-use Rattle.gs_file.specs.Reading.{FileGame, rules_of}
-use Rattle.gs_file.specs.declared.version.Version.{Version}
+use Rattle.gs_file.specs.{JsonLaws.{IsRoundTold, IsTold}, Reading.{FileGame, rules_of}, declared.version.Version.{Version}}
 use Rattle.gs_filter.proofs.ClassLaws.{greatest_within, single_are_classes, single_at}
 use Rattle.gs_filter.specs.Filter.{single_classes}
-use Rattle.gs_game.proofs.MoneyLaws.{sound_act, sound_move, tree_sound}
-use Rattle.gs_game.proofs.Totals.{sum-total, total, total-append, total-places}
+use Rattle.gs_game.proofs.{MoneyLaws.{sound_act, sound_move, tree_sound}, Totals.{sum-total, total, total-append, total-places}}
 use Rattle.gs_game.specs.Refusals.{first_refusal}
 use Rattle.gs_lossless.proofs.Descent.{first_end}
-use Rattle.gs_model.proofs.Push.{le_greatest}
-use Rattle.gs_model.proofs.Ranges.{in_range, signal_count_is}
-use Rattle.gs_model.proofs.Tables.{kept}
-use Rattle.gs_model.proofs.Walked.{last_round_of, walked_one}
-use Rattle.gs_model.specs.Betting.{Bet, Moves, act, even, fold, move, none}
-use Rattle.gs_model.specs.Classes.{ClassLists, class_count, class_of, classes_in, list_of}
+use Rattle.gs_model.proofs.{Push.{le_greatest}, Ranges.{in_range, signal_count_is}, Tables.{kept}, Walked.{last_round_of, walked_one}}
+use Rattle.gs_model.specs.{Betting.{Bet, Moves, act, even, fold, move, none}, Classes.{ClassLists, class_count, class_of, classes_in, list_of}}
 use Rattle.gs_model.specs.Deals.{Deal, deals}
 use Rattle.gs_model.specs.Frame.{at_round, frame_of, last_round, move_count, player_at, point, point_count, round_of, signal_count, trees_of}
-use Rattle.gs_model.specs.Game.{Game, IsPlayable, Round, round_count}
-use Rattle.gs_model.specs.Payoff.{hand_weight}
-use Rattle.gs_model.specs.Positions.{End, Point, at_point}
-use Rattle.gs_model.specs.Signals.{first_child, signals}
+use Rattle.gs_model.specs.{Game.{Game, IsPlayable, Round, round_count}, Payoff.{hand_weight}, Positions.{End, Point, at_point}, Signals.{first_child, signals}}
 use Rattle.gs_model.specs.Walk.{Place, Walked, WalkedMoves, after_move, fold_end, walk, walk_moves, walk_rounds, walk_start, walk_tree}
 use Rattle.gs_raw.specs.Cells.{raw_cell_count}
-use Rattle.gs_seq.specs.Cells.{meets, pair_count}
-use Rattle.gs_seq.specs.Slots.{sequence_count, slot_count, slots_at}
+use Rattle.gs_seq.specs.{Cells.{meets, pair_count}, Slots.{sequence_count, slot_count, slots_at}}
 use Rattle.gs_strategy.specs.Values.{frame_in}
 use Rattle.gs_tree.proofs.Readers.{first_next}
-use Rattle.gs_laws.proofs.Dealing.{child_some, hand_some, met}
-use Rattle.gs_laws.proofs.Dealt.{few_signals, rounds_pass, told_playable}
+use Rattle.gs_laws.proofs.{Dealing.{child_some, hand_some, met}, Dealt.{few_signals, rounds_pass, told_playable}}
 
 -- ---- signals do not get fewer
 

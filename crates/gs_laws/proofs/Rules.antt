@@ -1,18 +1,13 @@
 -- A game keeps the rules exactly where no refusal applies to it.
 use Rattle.std.proofs.Common.{◌≡◌, ℕ, zero, suc, ◌+◌, ◌*◌, ◌<◌, ◌≤◌, ◌&&◌, ◌==◌, List, [], ◌∷◌, ◌++◌, Bool, true, false, Option, Some, None, length, sum, refl, inl, inr, arith, nat_lt, nat_le}
-use Rattle.std.specs.Prelude.{if◌then◌else◌, option_map}
 use Rattle.std.proofs.lemmas.Bool.{and_from, and_parts, cases_Bool, cases_eq, eqb-false, leb-true, le-leb, ltb-false, ltb-true, ne_eqb}
+use Rattle.std.specs.Prelude.{if◌then◌else◌, option_map}
 use Rattle.gs_game.proofs.Evenly.{neither}
 use Rattle.gs_game.specs.Money.{first_of, has_even, most_in, one_after, two_after, uneven_move, uneven_path}
 use Rattle.gs_game.specs.Refusals.{Refusal, betting_refusal, card_refusal, copies_refusal, deal_refusal, deals_refusal, even_refusal, first_refusal, lines_refusal, no_even_from, own_cards, private_refusal, public_cards, put_refusal, ranking_refusal, ranks, rounds_refusal, signals_from, signals_refusal, uneven_from, uneven_refusal, weight_refusal}
 use Rattle.gs_game.specs.Refusals.{rounds, no_private, no_even, uneven, too_many_signals}
-use Rattle.gs_model.specs.Betting.{Bet, Moves, act, fold, even, none, move}
-use Rattle.gs_model.specs.Deals.{deals}
-use Rattle.gs_model.specs.Frame.{frame_of, total_weight, trees_of}
-use Rattle.gs_model.specs.Game.{Game, round_at, round_count}
-use Rattle.gs_model.specs.Numbering.{greatest}
-use Rattle.gs_model.specs.Signals.{signals}
-use Rattle.gs_model.specs.Walk.{walk}
+use Rattle.gs_model.specs.{Betting.{Bet, Moves, act, fold, even, none, move}, Deals.{deals}, Frame.{frame_of, total_weight, trees_of}}
+use Rattle.gs_model.specs.{Game.{Game, round_at, round_count}, Numbering.{greatest}, Signals.{signals}, Walk.{walk}}
 use Rattle.gs_laws.specs.Rules.{AreLevel, EachLevel, GoOn, IsLevel, KeepsRules}
 
 -- ---- tests and refusals

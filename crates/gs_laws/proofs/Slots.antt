@@ -2,10 +2,8 @@
 use Rattle.std.proofs.Common.{◌≡◌, ℕ, Bool, true, false, zero, suc, ◌+◌, ◌-◌, ◌*◌, ◌<◌, ◌≤◌, ◌==◌, List, length, get_or, refl, ap, subst, inl, inr, arith}
 use Rattle.std.proofs.lemmas.Bool.{cases_lt, eqb-true}
 use Rattle.gs_model.proofs.PlanLaws.{numbers_within}
-use Rattle.gs_model.specs.Classes.{ClassLists, IsClass, IsClasses, class_count}
-use Rattle.gs_model.specs.Frame.{Frame, move_count, player_at, point_count, round_of}
-use Rattle.gs_model.specs.FrameFacts.{InRange, IsWalked}
-use Rattle.gs_model.specs.Positions.{at_point}
+use Rattle.gs_model.specs.{Classes.{ClassLists, IsClass, IsClasses, class_count}, Frame.{Frame, move_count, player_at, point_count, round_of}}
+use Rattle.gs_model.specs.{FrameFacts.{InRange, IsWalked}, Positions.{at_point}}
 use Rattle.gs_seq.proofs.SlotLaws.{slots_more}
 use Rattle.gs_seq.specs.Slots.{IsPlan, plan_of, slot_of, slots_at, slots_before}
 

@@ -1,49 +1,28 @@
 -- What is read and what is printed is a strategy, and its plans are raw plans.
 use Rattle.std.proofs.Common.{◌≡◌, ℕ, ◌+◌, ◌^◌, ◌<◌, ◌≤◌, List, [], length, get_or, All, Result, Ok, Err, refl, sym, ap, ◌∙◌, subst, inl, inr, arith}
-use Rattle.std.specs.Option.{ok_or}
 use Rattle.std.proofs.lemmas.List.{get_or_default}
-use Rattle.serde_json.specs.Data.{Data}
-use Rattle.serde_json.specs.Find.{as_str}
-use Rattle.gs_file.specs.Faults.{Fault as GameFault}
-use Rattle.gs_file.specs.JsonLaws.{IsTold}
-use Rattle.gs_file.specs.JsonReading.{json_game_at}
-use Rattle.gs_file.specs.Reading.{FileGame, read_at, rules_of}
-use Rattle.gs_file.specs.declared.version.Version.{Version}
-use Rattle.gs_file.specs.declared.version.Version.TheVariants.{Two}
+use Rattle.std.specs.Option.{ok_or}
+use Rattle.serde_json.specs.{Data.{Data}, Find.{as_str}}
+use Rattle.gs_file.specs.{Faults.{Fault as GameFault}, JsonLaws.{IsTold}, JsonReading.{json_game_at}, Reading.{FileGame, read_at, rules_of}}
+use Rattle.gs_file.specs.{declared.version.Version.{Version}, declared.version.Version.TheVariants.{Two}}
 use Rattle.gs_filter.proofs.ClassLaws.{greatest_within}
-use Rattle.gs_frac.specs.declared.fault.FracFault.{FracFault}
-use Rattle.gs_frac.specs.Texts.{fraction_of}
+use Rattle.gs_frac.specs.{declared.fault.FracFault.{FracFault}, Texts.{fraction_of}}
 use Rattle.gs_json.proofs.Outcomes.{clash, same}
 use Rattle.gs_json.specs.Steps.{Then, ◌>>=◌}
-use Rattle.gs_model.proofs.Push.{le_greatest}
-use Rattle.gs_model.proofs.Ranges.{in_range}
-use Rattle.gs_model.proofs.Walked.{walked_one, walked_two}
-use Rattle.gs_model.proofs.Deviations.{lift_is_raw_plan}
-use Rattle.gs_model.proofs.Tables.{is_table}
-use Rattle.gs_model.proofs.Gather.{known_from, firsts_from, plan_by}
-use Rattle.gs_model.proofs.Alike.{keeps_from}
-use Rattle.gs_model.specs.Classes.{ClassLists, list_of}
-use Rattle.gs_model.specs.Frame.{Frame, last_round}
-use Rattle.gs_model.specs.FrameFacts.{InRange, IsWalked}
-use Rattle.gs_model.specs.Game.{IsPlayable}
-use Rattle.gs_model.specs.Plans.{IsRawPlan}
+use Rattle.gs_model.proofs.{Push.{le_greatest}, Ranges.{in_range}, Walked.{walked_one, walked_two}, Deviations.{lift_is_raw_plan}, Tables.{is_table}}
+use Rattle.gs_model.proofs.{Gather.{known_from, firsts_from, plan_by}, Alike.{keeps_from}}
+use Rattle.gs_model.specs.{Classes.{ClassLists, list_of}, Frame.{Frame, last_round}, FrameFacts.{InRange, IsWalked}, Game.{IsPlayable}, Plans.{IsRawPlan}}
 use Rattle.gs_seq.specs.declared.plan.Plan.{Plan}
 use Rattle.gs_settle.specs.Texts.{IsTextOf}
 use Rattle.gs_strategy.specs.Checks.{AreClasses, After, IsCanonical, IsClassFault, IsPlanFault, Reads, ReadsClasses, ReadsNumbers, ReadsParts, ReadsPlans, ReadsSecond, Unless}
-use Rattle.gs_strategy.specs.Confirmed.{raw_plan}
-use Rattle.gs_strategy.specs.Faults.{Fault, classes, fraction as no_fraction, plan, shape}
-use Rattle.gs_strategy.specs.Laws.{AreFractions, AreWeights, IsStrategy}
+use Rattle.gs_strategy.specs.{Confirmed.{raw_plan}, Faults.{Fault, classes, fraction as no_fraction, plan, shape}, Laws.{AreFractions, AreWeights, IsStrategy}}
 use Rattle.gs_strategy.specs.Reading.{Whole, classes_at, fraction_at, game_at, json_at, numbers_at, of_fraction, of_game, parts_at, version_at, weights_at}
-use Rattle.gs_strategy.specs.Texts.{strategy_data, strategy_text}
-use Rattle.gs_strategy.proofs.OneText.{classes_are, game_is, json_is, numbers_are, parts_are, parts_of, version_is, weights_are}
-use Rattle.gs_strategy.specs.Values.{FractionParts, IsFractionOf, IsPlanOf, Numbers, Strategy, Weights, frame_in}
+use Rattle.gs_strategy.specs.{Texts.{strategy_data, strategy_text}, Values.{FractionParts, IsFractionOf, IsPlanOf, Numbers, Strategy, Weights, frame_in}}
 use Rattle.gs_strategy.specs.declared.fault.FilePart.{FilePart}
+use Rattle.gs_strategy.proofs.OneText.{classes_are, game_is, json_is, numbers_are, parts_are, parts_of, version_is, weights_are}
 use Rattle.gs_strategy.specs.declared.fault.FilePart.TheVariants as part
 use Rattle.gs_laws.specs.Lawful.{AreRawPlans}
-use Rattle.gs_laws.proofs.Dealt.{few_signals, told_dealt, told_playable}
-use Rattle.gs_laws.proofs.Fractions.{read_fraction}
-use Rattle.gs_laws.proofs.Slots.{weights_within}
-use Rattle.gs_laws.proofs.Told.{file_told, json_told}
+use Rattle.gs_laws.proofs.{Dealt.{few_signals, told_dealt, told_playable}, Fractions.{read_fraction}, Slots.{weights_within}, Told.{file_told, json_told}}
 
 -- ---- a strategy from its parts
 

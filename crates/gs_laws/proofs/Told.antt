@@ -1,33 +1,21 @@
 -- What the reader accepts, in a file or in JSON, is a game that a version tells.
 use Rattle.std.proofs.Common.{◌≡◌, ℕ, zero, suc, ◌<◌, ◌≤◌, ◌==◌, Bool, true, false, List, [], ◌∷◌, length, replicate, All, Option, Some, None, Ok, Err, ℤ, pos, negsuc, refl, sym, ap, ◌∙◌, subst, arith}
+use Rattle.std.proofs.{lemmas.Bool.{eqb-true}, lemmas.List.Elements.{All-cons, All-nil}}
 use Rattle.std.specs.Prelude.{IsTrue, if◌then◌else◌}
-use Rattle.std.proofs.lemmas.Bool.{eqb-true}
-use Rattle.std.proofs.lemmas.List.Elements.{All-cons, All-nil}
 use Rattle.toml.specs.Data.{Data, Members}
 use Rattle.gs_json.specs.Steps.{◌>>=◌}
 use Rattle.gs_bet.proofs.LimitLaws.{limit_is}
 use Rattle.gs_bet.specs.Grammar.{is_tree}
 use Rattle.gs_card.proofs.DeckLaws.{sound}
-use Rattle.gs_card.specs.DeckFaults.{fault_of as deck_fault_of}
-use Rattle.gs_card.specs.Decks.{DeckValue, IsDeck, deck_of}
-use Rattle.gs_card.specs.declared.faults.DeckFault.{DeckFault}
+use Rattle.gs_card.specs.{DeckFaults.{fault_of as deck_fault_of}, Decks.{DeckValue, IsDeck, deck_of}, declared.faults.DeckFault.{DeckFault}}
 use Rattle.gs_game.specs.Refusals.{Refusal}
-use Rattle.gs_model.specs.Betting.{Bet}
-use Rattle.gs_model.specs.Game.{Round as Rules, Ranking}
-use Rattle.gs_model.specs.Outcome.{IsBonus, categories}
-use Rattle.gs_file.specs.Faults.{bad_version, deck, game, range}
-use Rattle.gs_file.specs.JsonLaws.{IsRoundTold, IsTold, TellsBonus}
-use Rattle.gs_file.specs.JsonReading.{json_game_at, table_at}
-use Rattle.gs_file.specs.Keys.{top}
+use Rattle.gs_model.specs.{Betting.{Bet}, Game.{Round as Rules, Ranking}, Outcome.{IsBonus, categories}}
+use Rattle.gs_file.specs.{Faults.{bad_version, deck, game, range}, JsonLaws.{IsRoundTold, IsTold, TellsBonus}, JsonReading.{json_game_at, table_at}, Keys.{top}}
 use Rattle.gs_file.specs.Reading.{FileGame, Limit_of, Play, Round, Stated, Top, TopValues, Tree_text, bonus_at, bonus_numbers, bonus_value, copies_value, counted, deck_at, deck_made, game_at, parsed_at, ranking_at, read_at, round_at, round_built, round_within, stated_at, text_at, typed_at, unless_refused, values_at, version_at, version_of}
-use Rattle.gs_file.specs.States.{OneByOne}
-use Rattle.gs_file.specs.Tables.{each, only, required, tables_in, text, text_or_empty, whole_number, within}
-use Rattle.gs_file.specs.Keys.{top_keys}
-use Rattle.gs_file.specs.declared.fault.Key.TheVariants as key
-use Rattle.gs_file.specs.declared.form.Form.{Form}
-use Rattle.gs_file.specs.declared.form.Form.TheVariants.{File, Json}
-use Rattle.gs_file.specs.declared.version.Version.{Version}
+use Rattle.gs_file.specs.{States.{OneByOne}, Tables.{each, only, required, tables_in, text, text_or_empty, whole_number, within}, Keys.{top_keys}}
+use Rattle.gs_file.specs.{declared.form.Form.{Form}, declared.form.Form.TheVariants.{File, Json}, declared.version.Version.{Version}}
 use Rattle.gs_file.specs.declared.version.Version.TheVariants.{One, Two}
+use Rattle.gs_file.specs.declared.fault.Key.TheVariants as key
 use Rattle.gs_file.proofs.Stating.{after, each_ok, never, same_ok, through, within_ok}
 use Rattle.gs_file.proofs.StatedRounds.{PlayIn, PlayMade, RoundIn, RoundMade, round_in_ok, round_made_ok}
 use Rattle.serde_json.specs.Data as json

@@ -1,16 +1,12 @@
 -- The verdict on two plans is one: its reduced fractions are determined.
-use Rattle.std.proofs.Common.{◌≡◌, ℕ, ◌*◌, ◌<◌, ℤ, pos, ◌+ℤ◌, ◌-ℤ◌, ◌*ℤ◌, ◌≤ℤ◌, ◌<ℤ◌, sym, ap, ◌∙◌, subst, arith}
+use Rattle.std.proofs.{Common.{◌≡◌, ℕ, ◌*◌, ◌<◌, ℤ, pos, ◌+ℤ◌, ◌-ℤ◌, ◌*ℤ◌, ◌≤ℤ◌, ◌<ℤ◌, sym, ap, ◌∙◌, subst, arith}, lemmas.Int.{ints}}
 use Rattle.std.specs.Prelude.{unsigned_abs}
-use Rattle.std.proofs.lemmas.Int.{ints}
 use Rattle.gs_frac.proofs.OneForm.{lower_of, one_form}
 use Rattle.gs_model.proofs.Basics.{product_positive}
-use Rattle.gs_model.specs.Frame.{Frame, total_weight}
-use Rattle.gs_model.specs.Payoff.{IsHandValue, hand_payoff, hand_weight, raw_payoff}
-use Rattle.gs_model.specs.Plans.{Plan}
+use Rattle.gs_model.specs.{Frame.{Frame, total_weight}, Payoff.{IsHandValue, hand_payoff, hand_weight, raw_payoff}, Plans.{Plan}}
 use Rattle.gs_model.specs.Verdict.{IsFirstGap, IsSecondGap, IsValue, IsVerdict}
 use Rattle.gs_rows.proofs.Ring.{cancel, cancel_nonneg, linear, ring, times_nonneg, times_pos}
-use Rattle.gs_strategy.specs.Confirmed.{over}
-use Rattle.gs_strategy.specs.Values.{FractionParts, IsFractionOf, Numbers}
+use Rattle.gs_strategy.specs.{Confirmed.{over}, Values.{FractionParts, IsFractionOf, Numbers}}
 
 -- ---- crosswise
 

@@ -3,10 +3,7 @@ use Rattle.std.specs.Prelude.{◌≡◌, ℕ, List, Ok}
 use Rattle.gs_answer.specs.Asking.{Asks}
 use Rattle.gs_file.specs.declared.version.Version.{Version}
 use Rattle.gs_reply.specs.Replies.{Reply}
-use Rattle.gs_strategy.specs.Checks.{ReadResult, Reads}
-use Rattle.gs_strategy.specs.Laws.{IsStrategy}
-use Rattle.gs_strategy.specs.Texts.{strategy_text}
-use Rattle.gs_strategy.specs.Values.{Strategy}
+use Rattle.gs_strategy.specs.{Checks.{ReadResult, Reads}, Laws.{IsStrategy}, Texts.{strategy_text}, Values.{Strategy}}
 use Rattle.gs_words.specs.Tasks.{Task}
 
 -- bytes have only one reading: a strategy or a first fault

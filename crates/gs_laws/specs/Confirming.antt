@@ -1,23 +1,13 @@
 -- Verdicts are unique. A confirmed strategy passes all checks, and `evaluate` prints its numbers. So it does for what `solve` and `play` print.
 use Rattle.std.specs.Prelude.{◌≡◌, ◌<◌, ◌*◌, ℕ, List, Ok}
-use Rattle.gs_confirm.specs.Commands.{Evaluates}
-use Rattle.gs_confirm.specs.Troubles.{IsTrouble}
-use Rattle.gs_file.specs.Reading.{FileGame, read_at}
-use Rattle.gs_file.specs.declared.version.Version.{Version}
-use Rattle.gs_model.specs.Classes.{ClassLists}
-use Rattle.gs_model.specs.Frame.{Frame, total_weight}
-use Rattle.gs_model.specs.Payoff.{IsHandValue, hand_weight}
-use Rattle.gs_model.specs.Plans.{Plan as RawPlan}
-use Rattle.gs_model.specs.Verdict.{IsVerdict}
-use Rattle.gs_reply.specs.Refusals.{Refusal}
-use Rattle.gs_reply.specs.Replies.{Reply, Prints}
+use Rattle.gs_confirm.specs.{Commands.{Evaluates}, Troubles.{IsTrouble}}
+use Rattle.gs_file.specs.{Reading.{FileGame, read_at}, declared.version.Version.{Version}}
+use Rattle.gs_model.specs.{Classes.{ClassLists}, Frame.{Frame, total_weight}, Payoff.{IsHandValue, hand_weight}, Plans.{Plan as RawPlan}, Verdict.{IsVerdict}}
+use Rattle.gs_reply.specs.{Refusals.{Refusal}, Replies.{Reply, Prints}, VerdictText.{verdict_text}}
 use Rattle.gs_seq.specs.declared.plan.Plan.{Plan}
 use Rattle.gs_settle.specs.Texts.{IsTextOf}
-use Rattle.gs_strategy.specs.Confirmed.{IsConfirmed, over}
-use Rattle.gs_strategy.specs.Laws.{AreFractions, IsStrategy}
-use Rattle.gs_strategy.specs.Texts.{strategy_text}
+use Rattle.gs_strategy.specs.{Confirmed.{IsConfirmed, over}, Laws.{AreFractions, IsStrategy}, Texts.{strategy_text}}
 use Rattle.gs_strategy.specs.Values.{FractionParts, IsFractionOf, Numbers, Strategy}
-use Rattle.gs_reply.specs.VerdictText.{verdict_text}
 
 -- two raw plans have only one verdict in reduced fractions, if the weight of all deals and both totals are above 0
 abbrev pub VerdictsAreOne : Type 0

@@ -1,20 +1,11 @@
 -- What is known of accepted games and strategies: the game is playable and has deals, and the strategy's plans stand for raw plans of the game.
 use Rattle.std.specs.Prelude.{◌≡◌, ◌<◌, ℕ, List, Ok}
-use Rattle.gs_file.specs.JsonLaws.{IsTold}
-use Rattle.gs_file.specs.Reading.{FileGame, read_at, rules_of}
-use Rattle.gs_file.specs.declared.version.Version.{Version}
+use Rattle.gs_file.specs.{JsonLaws.{IsTold}, Reading.{FileGame, read_at, rules_of}, declared.version.Version.{Version}}
 use Rattle.gs_file.specs.declared.version.Version.TheVariants.{Two}
-use Rattle.gs_model.specs.Classes.{ClassLists}
-use Rattle.gs_model.specs.Frame.{total_weight}
-use Rattle.gs_model.specs.Game.{IsPlayable}
-use Rattle.gs_model.specs.Plans.{IsRawPlan}
+use Rattle.gs_model.specs.{Classes.{ClassLists}, Frame.{total_weight}, Game.{IsPlayable}, Plans.{IsRawPlan}}
 use Rattle.gs_seq.specs.declared.plan.Plan.{Plan}
 use Rattle.gs_settle.specs.Texts.{IsTextOf}
-use Rattle.gs_strategy.specs.Checks.{Reads}
-use Rattle.gs_strategy.specs.Confirmed.{raw_plan}
-use Rattle.gs_strategy.specs.Laws.{IsStrategy}
-use Rattle.gs_strategy.specs.Texts.{strategy_text}
-use Rattle.gs_strategy.specs.Values.{Strategy, frame_in}
+use Rattle.gs_strategy.specs.{Checks.{Reads}, Confirmed.{raw_plan}, Laws.{IsStrategy}, Texts.{strategy_text}, Values.{Strategy, frame_in}}
 
 -- the game is playable, as the laws of games ask, and the total weight of its deals is above 0
 pub record IsDealt (g : FileGame) : Type 0 where

@@ -1,11 +1,8 @@
 -- Bounds on the number of sequences over single signals; and each hand is dealt.
 use Rattle.std.specs.Prelude.{ℕ, ◌+◌, ◌*◌, ◌<◌, ◌≤◌}
-use Rattle.gs_file.specs.JsonLaws.{IsTold}
-use Rattle.gs_file.specs.Reading.{FileGame}
-use Rattle.gs_file.specs.declared.version.Version.{Version}
+use Rattle.gs_file.specs.{JsonLaws.{IsTold}, Reading.{FileGame}, declared.version.Version.{Version}}
 use Rattle.gs_filter.specs.Filter.{single_classes}
-use Rattle.gs_model.specs.Frame.{signal_count}
-use Rattle.gs_model.specs.Payoff.{hand_weight}
+use Rattle.gs_model.specs.{Frame.{signal_count}, Payoff.{hand_weight}}
 use Rattle.gs_raw.specs.Cells.{raw_cell_count}
 use Rattle.gs_seq.specs.Slots.{sequence_count}
 use Rattle.gs_strategy.specs.Values.{frame_in}

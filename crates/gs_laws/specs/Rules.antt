@@ -1,14 +1,8 @@
 -- The eleven rules of a game, without an order and without refusals.
 use Rattle.std.specs.Prelude.{◌≡◌, ℕ, ◌+◌, ◌*◌, ◌<◌, ◌≤◌, List, [], ◌∷◌, None, true, length, sum}
-use Rattle.gs_game.specs.Money.{has_even, most_in, one_after, two_after}
-use Rattle.gs_game.specs.Refusals.{first_refusal, own_cards, public_cards, ranks}
-use Rattle.gs_model.specs.Betting.{Bet, Moves, act, fold, even, none, move}
-use Rattle.gs_model.specs.Deals.{deals}
-use Rattle.gs_model.specs.Frame.{frame_of, total_weight, trees_of}
-use Rattle.gs_model.specs.Game.{Game, round_at, round_count}
-use Rattle.gs_model.specs.Numbering.{greatest}
-use Rattle.gs_model.specs.Signals.{signals}
-use Rattle.gs_model.specs.Walk.{walk}
+use Rattle.gs_game.specs.{Money.{has_even, most_in, one_after, two_after}, Refusals.{first_refusal, own_cards, public_cards, ranks}}
+use Rattle.gs_model.specs.{Betting.{Bet, Moves, act, fold, even, none, move}, Deals.{deals}, Frame.{frame_of, total_weight, trees_of}}
+use Rattle.gs_model.specs.{Game.{Game, round_at, round_count}, Numbering.{greatest}, Signals.{signals}, Walk.{walk}}
 
 abbrev mutual
   -- at each even leaf of the tree both players have put in the same amount, if they put in these two amounts before the tree

@@ -1,19 +1,12 @@
 -- The class of a point's raw signal.
 use Rattle.std.proofs.Common.{◌≡◌, ℕ, ◌<◌, ◌≤◌, List, length, map, get_or, ap, ◌∙◌, arith}
 use Rattle.gs_filter.specs.Filter.{Filter}
-use Rattle.gs_game.specs.Seen.{own_point, point_of}
-use Rattle.gs_game.specs.declared.positions.Point.{Point as StoredPoint}
-use Rattle.gs_game.specs.declared.valid.ValidGame.{ValidGame}
+use Rattle.gs_game.specs.{Seen.{own_point, point_of}, declared.positions.Point.{Point as StoredPoint}, declared.valid.ValidGame.{ValidGame}}
 use Rattle.gs_lossless.specs.declared.checking.Lossless.{Lossless}
-use Rattle.gs_model.specs.Classes.{list_of}
-use Rattle.gs_model.specs.Frame.{frame_of as frame, last_round, parents_of, point_count, round_of, signal_count}
-use Rattle.gs_model.specs.Positions.{at_point}
-use Rattle.gs_seq.specs.Abstracts.{frame_of, lists_of}
-use Rattle.gs_seq.specs.Games.{frame_in}
-use Rattle.gs_seq.specs.declared.form.Abstract.{Abstract}
+use Rattle.gs_model.specs.{Classes.{list_of}, Frame.{frame_of as frame, last_round, parents_of, point_count, round_of, signal_count}, Positions.{at_point}}
+use Rattle.gs_seq.specs.{Abstracts.{frame_of, lists_of}, Games.{frame_in}, declared.form.Abstract.{Abstract}}
 use Rattle.gs_seq.proofs.Points.{point_reads, walked}
-use Rattle.gs_tree.specs.Trees.{rules_of}
-use Rattle.gs_tree.specs.declared.signals.Signals.{Signals}
+use Rattle.gs_tree.specs.{Trees.{rules_of}, declared.signals.Signals.{Signals}}
 use Rattle.gs_lift.proofs.Held.{classes_held, game_held}
 
 -- a point's round as the program reads it, and a signal of that round

@@ -1,15 +1,11 @@
 -- A mixture, move by move.
 use Rattle.std.proofs.Common.{◌≡◌, ℕ, ◌+◌, ◌<◌, ◌≤◌, List, [], ◌∷◌, ◌++◌, length, map, take, get_or, refl, sym, ap, ◌∙◌, subst, arith, inl, inr, length-append, Some}
+use Rattle.std.proofs.{lemmas.Bool.{cases_lt}, lemmas.List.{length-map, length-take-le, map-append, map_more, take_all}, lemmas.Option.{slice_get_within}}
 use Rattle.std.specs.Prelude.{slice_get}
-use Rattle.std.proofs.lemmas.Bool.{cases_lt}
-use Rattle.std.proofs.lemmas.List.{length-map, length-take-le, map-append, map_more, take_all}
-use Rattle.std.proofs.lemmas.Option.{slice_get_within}
 use Rattle.gs_frac.specs.declared.value.Fraction.{Fraction}
 use Rattle.gs_game.specs.declared.positions.Arrow.{Arrow as StoredArrow}
 use Rattle.gs_game.proofs.LineLaws.{get_right, get_within}
-use Rattle.gs_model.specs.Frame.{Frame, point}
-use Rattle.gs_model.specs.Plans.{Plan}
-use Rattle.gs_model.specs.Positions.{Arrow}
+use Rattle.gs_model.specs.{Frame.{Frame, point}, Plans.{Plan}, Positions.{Arrow}}
 use Rattle.gs_lift.specs.Mixtures.{IsMixture, IsShareOf}
 
 -- what holds of each member by its place, and of one more behind them

@@ -1,19 +1,11 @@
 -- The moves of a point as the program reads them: at most 26, and their letters are letters of ASCII.
-use Rattle.std.proofs.Common.{◌≡◌, ℕ, zero, suc, ◌<◌, ◌≤◌, List, [], ◌∷◌, length, map, get_or, refl, sym, ap, ◌∙◌, subst, arith}
-use Rattle.std.proofs.lemmas.List.{get_or-map}
-use Rattle.gs_game.specs.Seen.{OwnPoint, arrow_of, own_point, point_of}
-use Rattle.gs_game.specs.declared.positions.Arrow.{Arrow as StoredArrow}
-use Rattle.gs_game.specs.declared.positions.Point.{Point as StoredPoint}
-use Rattle.gs_game.specs.declared.valid.ValidGame.{ValidGame}
+use Rattle.std.proofs.{Common.{◌≡◌, ℕ, zero, suc, ◌<◌, ◌≤◌, List, [], ◌∷◌, length, map, get_or, refl, sym, ap, ◌∙◌, subst, arith}, lemmas.List.{get_or-map}}
+use Rattle.gs_game.specs.{Seen.{OwnPoint, arrow_of, own_point, point_of}, declared.positions.Arrow.{Arrow as StoredArrow}}
+use Rattle.gs_game.specs.{declared.positions.Point.{Point as StoredPoint}, declared.valid.ValidGame.{ValidGame}}
 use Rattle.gs_lossless.specs.declared.checking.Lossless.{Lossless}
-use Rattle.gs_model.specs.Frame.{Frame, move_count, point, point_count}
-use Rattle.gs_model.specs.Positions.{Arrow}
-use Rattle.gs_seq.specs.Abstracts.{frame_of}
-use Rattle.gs_seq.specs.Games.{frame_in}
-use Rattle.gs_seq.specs.declared.form.Abstract.{Abstract}
-use Rattle.gs_seq.proofs.FewMoves.{AreSmall, few_moves, moves_few}
-use Rattle.gs_seq.proofs.Points.{length-points, point_reads}
-use Rattle.gs_seq.proofs.Choices.{none_there}
+use Rattle.gs_model.specs.{Frame.{Frame, move_count, point, point_count}, Positions.{Arrow}}
+use Rattle.gs_seq.specs.{Abstracts.{frame_of}, Games.{frame_in}, declared.form.Abstract.{Abstract}}
+use Rattle.gs_seq.proofs.{FewMoves.{AreSmall, few_moves, moves_few}, Points.{length-points, point_reads}, Choices.{none_there}}
 use Rattle.gs_tree.specs.declared.signals.Signals.{Signals}
 use Rattle.gs_lift.proofs.Held.{game_held}
 

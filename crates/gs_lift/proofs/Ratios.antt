@@ -1,18 +1,10 @@
 -- A reduced fraction by what it is crosswise.
 use Rattle.std.proofs.Common.{◌≡◌, ℕ, ◌-◌, ◌*◌, ◌<◌, ℤ, pos, negsuc, ◌*ℤ◌, ltb, eqb, cond, sum_by, ◌&&◌, arith, refl, sym, ap, subst, ◌∙◌}
-use Rattle.std.specs.Prelude.{IsTrue}
-use Rattle.std.specs.Int.{IsGcd, ◌∣◌}
-use Rattle.std.specs.Int.RustNames.{unsigned_abs}
-use Rattle.std.proofs.Math.Nat.{dvd-mul_left, eq-one_of_dvd-one}
-use Rattle.std.proofs.lemmas.Nat.Gcd.{dvd_refl}
-use Rattle.std.proofs.lemmas.Bool.{and_parts, ltb-true, eqb-true, false≢true}
-use Rattle.gs_frac.specs.Gcd.{gcd_of}
-use Rattle.gs_frac.specs.Texts.{limit, is_fraction}
-use Rattle.gs_frac.specs.declared.value.Fraction.{Fraction}
-use Rattle.gs_frac.proofs.GcdLaws.{gcd_of_is}
-use Rattle.gs_frac.proofs.OneForm.{not_negative}
-use Rattle.gs_model.specs.Frame.{Frame, choices_at}
-use Rattle.gs_model.specs.Plans.{Plan}
+use Rattle.std.proofs.{Math.Nat.{dvd-mul_left, eq-one_of_dvd-one}, lemmas.Nat.Gcd.{dvd_refl}, lemmas.Bool.{and_parts, ltb-true, eqb-true, false≢true}}
+use Rattle.std.specs.{Prelude.{IsTrue}, Int.{IsGcd, ◌∣◌}, Int.RustNames.{unsigned_abs}}
+use Rattle.gs_frac.specs.{Gcd.{gcd_of}, Texts.{limit, is_fraction}, declared.value.Fraction.{Fraction}}
+use Rattle.gs_frac.proofs.{GcdLaws.{gcd_of_is}, OneForm.{not_negative}}
+use Rattle.gs_model.specs.{Frame.{Frame, choices_at}, Plans.{Plan}}
 use Rattle.gs_lift.specs.Mixtures.{IsShareOf}
 
 -- a fraction of numbers without a sign, which is w over t crosswise

@@ -1,32 +1,18 @@
 -- Lines of points, and texts of raw signals.
 use Rattle.std.proofs.Common.{◌≡◌, ℕ, ◌<◌, ◌≤◌, List, [], length, map, get_or, sym, ap, ◌∙◌, subst, arith, Option, Some, None}
-use Rattle.std.specs.Prelude.{option_map}
 use Rattle.std.proofs.lemmas.Option.{slice_get_within}
-use Rattle.gs_game.specs.Games.{game_of, plain_trees}
-use Rattle.gs_game.specs.Lines.{lines, text_at}
-use Rattle.gs_game.specs.Seen.{own_point, point_of, target_of}
-use Rattle.gs_game.specs.declared.positions.Point.{Point as StoredPoint}
-use Rattle.gs_game.specs.declared.positions.Target.{Target as StoredTarget}
-use Rattle.gs_game.specs.declared.positions.Target.TheVariants.{End}
-use Rattle.gs_game.specs.declared.valid.ValidGame.{ValidGame}
-use Rattle.gs_game.proofs.Deciding.{trees_are}
-use Rattle.gs_game.proofs.EndLaws.{rounds_count}
-use Rattle.gs_game.proofs.LineLaws.{all_sound, rounds}
-use Rattle.gs_model.specs.Betting.{Bet}
-use Rattle.gs_model.specs.Frame.{last_round, point_count, round_of, trees_of}
-use Rattle.gs_model.specs.Game.{round_count}
-use Rattle.gs_model.specs.Positions.{Target, at_end, at_point}
-use Rattle.gs_model.specs.Signals.{signal_at, signals}
-use Rattle.gs_model.specs.Walk.{walk, walk_start}
-use Rattle.gs_model.proofs.Ranges.{signal_count_is}
-use Rattle.gs_model.proofs.Walked.{last_round_of}
+use Rattle.std.specs.Prelude.{option_map}
+use Rattle.gs_game.specs.{Games.{game_of, plain_trees}, Lines.{lines, text_at}, Seen.{own_point, point_of, target_of}}
+use Rattle.gs_game.specs.{declared.positions.Point.{Point as StoredPoint}, declared.positions.Target.{Target as StoredTarget}}
+use Rattle.gs_game.specs.{declared.positions.Target.TheVariants.{End}, declared.valid.ValidGame.{ValidGame}}
+use Rattle.gs_game.proofs.{Deciding.{trees_are}, EndLaws.{rounds_count}, LineLaws.{all_sound, rounds}}
+use Rattle.gs_model.specs.{Betting.{Bet}, Frame.{last_round, point_count, round_of, trees_of}, Game.{round_count}, Positions.{Target, at_end, at_point}}
+use Rattle.gs_model.specs.{Signals.{signal_at, signals}, Walk.{walk, walk_start}}
+use Rattle.gs_model.proofs.{Ranges.{signal_count_is}, Walked.{last_round_of}}
 use Rattle.gs_seq.specs.Games.{frame_in}
 use Rattle.gs_seq.proofs.Points.{point_reads, walked}
-use Rattle.gs_tree.specs.Texts.{signal_text}
-use Rattle.gs_tree.specs.Trees.{deck_of, rules_of}
-use Rattle.gs_tree.specs.declared.signals.Signals.{Signals}
-use Rattle.gs_lift.specs.Queries.{IsFaultOf, IsPointFault, NamesOwnPoint, NamesPoint, NamesSignal}
-use Rattle.gs_lift.specs.declared.fault.QueryFault.{QueryFault}
+use Rattle.gs_tree.specs.{Texts.{signal_text}, Trees.{deck_of, rules_of}, declared.signals.Signals.{Signals}}
+use Rattle.gs_lift.specs.{Queries.{IsFaultOf, IsPointFault, NamesOwnPoint, NamesPoint, NamesSignal}, declared.fault.QueryFault.{QueryFault}}
 use Rattle.gs_lift.specs.declared.fault.QueryFault.TheVariants.{Line, Player, Signal, Round}
 
 -- a line for each point

@@ -1,6 +1,5 @@
 -- The letters of the moves of a mixture.
-use Rattle.std.specs.Prelude.{ℕ, ◌<◌, List}
-use Rattle.std.specs.List.{All}
+use Rattle.std.specs.{Prelude.{ℕ, ◌<◌, List}, List.{All}}
 use Rattle.gs_frac.specs.declared.value.Fraction.{Fraction}
 
 -- each letter is an ASCII byte

@@ -1,9 +1,7 @@
 -- Mixtures: what a raw plan does at a point and a raw signal, move by move.
 use Rattle.std.specs.Prelude.{ℕ, ◌≡◌, pos, List, map, slice_get, Some, sum_by}
 use Rattle.gs_frac.specs.declared.value.Fraction.{Fraction}
-use Rattle.gs_model.specs.Frame.{Frame, choices_at, point}
-use Rattle.gs_model.specs.Plans.{Plan, IsShare}
-use Rattle.gs_model.specs.Positions.{Arrow}
+use Rattle.gs_model.specs.{Frame.{Frame, choices_at, point}, Plans.{Plan, IsShare}, Positions.{Arrow}}
 
 -- the fraction `share` is the share of move `m` at a point and a raw signal
 pub record IsShareOf (f : Frame) (x : Plan) (q s m : ℕ) (share : Fraction) : Type 0 where

@@ -1,18 +1,10 @@
 -- What a line and a raw signal's text name. Source: this project's texts.
 use Rattle.std.specs.Prelude.{ℕ, ◌≡◌, ◌≢◌, ◌<◌, ◌≤◌, List, Some}
-use Rattle.gs_game.specs.Games.{game_of}
-use Rattle.gs_game.specs.Lines.{lines, text_at}
-use Rattle.gs_game.specs.declared.valid.ValidGame.{ValidGame}
-use Rattle.gs_model.specs.Frame.{last_round, player_at, point_count, round_of, signal_count, trees_of}
-use Rattle.gs_model.specs.Positions.{at_point}
-use Rattle.gs_model.specs.Signals.{signal_at}
-use Rattle.gs_seq.specs.Games.{frame_in}
-use Rattle.gs_seq.specs.declared.form.Abstract.{Abstract}
-use Rattle.gs_tree.specs.Texts.{signal_text}
-use Rattle.gs_tree.specs.Trees.{deck_of, rules_of}
-use Rattle.gs_tree.specs.declared.signals.Signals.{Signals}
-use Rattle.gs_lift.specs.declared.fault.QueryFault.{QueryFault}
-use Rattle.gs_lift.specs.declared.fault.QueryFault.TheVariants.{Line, Player, Signal, Round}
+use Rattle.gs_game.specs.{Games.{game_of}, Lines.{lines, text_at}, declared.valid.ValidGame.{ValidGame}}
+use Rattle.gs_model.specs.{Frame.{last_round, player_at, point_count, round_of, signal_count, trees_of}, Positions.{at_point}, Signals.{signal_at}}
+use Rattle.gs_seq.specs.{Games.{frame_in}, declared.form.Abstract.{Abstract}}
+use Rattle.gs_tree.specs.{Texts.{signal_text}, Trees.{deck_of, rules_of}, declared.signals.Signals.{Signals}}
+use Rattle.gs_lift.specs.{declared.fault.QueryFault.{QueryFault}, declared.fault.QueryFault.TheVariants.{Line, Player, Signal, Round}}
 use Rattle.gs_lift.specs.declared.spot.Spot.{Spot}
 
 -- the signals of a game in sequence form

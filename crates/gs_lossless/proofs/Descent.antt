@@ -1,30 +1,18 @@
 -- The signals that descend from a signal stand side by side.
-use Rattle.std.proofs.Common.{◌≡◌, ℕ, zero, suc, ◌+◌, ◌-◌, ◌<◌, ◌≤◌, ◌^◌, List, length, get_or, sym, ap, ◌∙◌, subst, arith, ⊎_elim}
+use Rattle.std.proofs.{Common.{◌≡◌, ℕ, zero, suc, ◌+◌, ◌-◌, ◌<◌, ◌≤◌, ◌^◌, List, length, get_or, sym, ap, ◌∙◌, subst, arith, ⊎_elim}, lemmas.Bool.{cases_lt}}
+use Rattle.std.proofs.{lemmas.List.Sums.{get_or-le-sum_by}, lemmas.List.{length-map, take_all}, lemmas.List.FromFn.{length-map-range_with_len}}
 use Rattle.std.specs.Prelude.{All, flat_map}
-use Rattle.std.proofs.lemmas.Bool.{cases_lt}
-use Rattle.std.proofs.lemmas.List.Sums.{get_or-le-sum_by}
-use Rattle.std.proofs.lemmas.List.{length-map, take_all}
-use Rattle.gs_game.specs.Games.{round_of}
-use Rattle.gs_game.specs.Limits.{IsWithinLimits}
+use Rattle.gs_game.specs.{Games.{round_of}, Limits.{IsWithinLimits}}
 use Rattle.gs_game.proofs.Playable.{is_playable}
-use Rattle.gs_model.specs.Frame.{ancestor, ancestor_up, at_round, frame_of, last_round, signal_count}
-use Rattle.gs_model.specs.Deals.{Deal, deals}
-use Rattle.gs_model.specs.Game.{Game, IsPlayable, round_at, round_count}
-use Rattle.gs_model.specs.Signals.{Signal, child_count, children, first_child, parents, signals}
-use Rattle.gs_model.proofs.Children.{child-only}
-use Rattle.gs_model.proofs.Known.{Tabled}
-use Rattle.gs_model.proofs.Ranges.{in_range, length-flat_map_map, parents_at, signal_count_is}
-use Rattle.gs_model.proofs.Tables.{is_table}
-use Rattle.gs_model.proofs.Walked.{last_round_of}
-use Rattle.gs_tree.specs.Trees.{rules_of}
-use Rattle.gs_tree.specs.declared.signals.Signals.{Signals}
-use Rattle.gs_tree.proofs.Readers.{first_next}
-use Rattle.std.proofs.lemmas.List.FromFn.{length-map-range_with_len}
-use Rattle.gs_filter.specs.Filter.{AreParents, Filter}
+use Rattle.gs_model.specs.{Frame.{ancestor, ancestor_up, at_round, frame_of, last_round, signal_count}, Deals.{Deal, deals}}
+use Rattle.gs_model.specs.{Game.{Game, IsPlayable, round_at, round_count}, Signals.{Signal, child_count, children, first_child, parents, signals}}
 use Rattle.gs_model.specs.Classes.{class_of, list_of}
-use Rattle.gs_lossless.specs.Amounts.{HasSide, IsRunIn, key_count, keys_of}
-use Rattle.gs_lossless.specs.declared.sides.Side.{Side}
-use Rattle.gs_lossless.specs.declared.sides.Side.TheVariants.{Deals, Children}
+use Rattle.gs_model.proofs.{Children.{child-only}, Known.{Tabled}, Ranges.{in_range, length-flat_map_map, parents_at, signal_count_is}, Tables.{is_table}}
+use Rattle.gs_model.proofs.Walked.{last_round_of}
+use Rattle.gs_tree.specs.{Trees.{rules_of}, declared.signals.Signals.{Signals}}
+use Rattle.gs_tree.proofs.Readers.{first_next}
+use Rattle.gs_filter.specs.Filter.{AreParents, Filter}
+use Rattle.gs_lossless.specs.{Amounts.{HasSide, IsRunIn, key_count, keys_of}, declared.sides.Side.{Side}, declared.sides.Side.TheVariants.{Deals, Children}}
 
 -- a game of signals can be played
 pub playable : (s : Signals) → IsPlayable (rules_of s)

@@ -1,22 +1,13 @@
 -- Sums by class and outcome: what joining neighbours of a sorted list gives, and that sums which agree are one list.
 use Rattle.std.proofs.Common.{take, set, append_assoc, ◌++◌, length-take, ◌≡◌, ℕ, ℤ, suc, ◌+◌, ◌-◌, ◌<◌, ◌≤◌, Bool, true, false, cond, List, [], ◌∷◌, length, get_or, refl, sym, ap, ◌∙◌, subst, arith, true≢false, sum_by, IsPermutation}
-use Rattle.std.specs.Prelude.{◌==◌, ◌&&◌}
-use Rattle.std.specs.Bool.{Decides}
-use Rattle.std.specs.Cmp.{IsTotalOrder}
-use Rattle.std.specs.List.{AllByRecursion, All}
-use Rattle.std.specs.List.Sorted.{IsSortedBy}
-use Rattle.std.specs.Ordering.{int_cmp, int_eq, is_lt, nat_cmp, ordering_then, ordering_reverse}
-use Rattle.std.specs.declared.cmp.Ordering.{Ordering}
-use Rattle.std.specs.declared.cmp.Ordering.TheVariants.{Less, Equal, Greater}
 use Rattle.std.proofs.lemmas.Bool.Decides.{Decides-and, Decides-eqb, Decides-int_eq, Decides-like}
-use Rattle.std.proofs.lemmas.Cmp.{int_cmp_total, int_ranked, nat_cmp_total, on_total, ranked, then_total, tied_itself}
-use Rattle.std.proofs.lemmas.List.{take_all, take_more}
-use Rattle.std.proofs.Math.Seq.{set-append_seam}
-use Rattle.std.proofs.lemmas.List.Elements.{recursion_from_All}
-use Rattle.std.proofs.lemmas.List.Sorted.{sum_by-IsPermutation}
+use Rattle.std.proofs.{lemmas.Cmp.{int_cmp_total, int_ranked, nat_cmp_total, on_total, ranked, then_total, tied_itself}, lemmas.List.{take_all, take_more}}
+use Rattle.std.proofs.{Math.Seq.{set-append_seam}, lemmas.List.Elements.{recursion_from_All}, lemmas.List.Sorted.{sum_by-IsPermutation}}
 use Rattle.std.proofs.lemmas.List.Sums.{sum_by-cons, sum_by-drop_more, sum_by-take-drop}
-use Rattle.gs_lossless.specs.Sums.{AreSumsOf, Rises, is_at, key_cmp, merged, put, put_last, sum_at, weight_at}
-use Rattle.gs_lossless.specs.declared.parts.Part.{Part}
+use Rattle.std.specs.{Prelude.{◌==◌, ◌&&◌}, Bool.{Decides}, Cmp.{IsTotalOrder}, List.{AllByRecursion, All}, List.Sorted.{IsSortedBy}}
+use Rattle.std.specs.{Ordering.{int_cmp, int_eq, is_lt, nat_cmp, ordering_then, ordering_reverse}, declared.cmp.Ordering.{Ordering}}
+use Rattle.std.specs.declared.cmp.Ordering.TheVariants.{Less, Equal, Greater}
+use Rattle.gs_lossless.specs.{Sums.{AreSumsOf, Rises, is_at, key_cmp, merged, put, put_last, sum_at, weight_at}, declared.parts.Part.{Part}}
 
 total : IsTotalOrder key_cmp
 total = then_total (on_total (λ (p : Part). p.class) nat_cmp_total) (on_total (λ (p : Part). p.outcome) int_cmp_total)

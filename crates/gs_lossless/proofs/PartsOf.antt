@@ -1,23 +1,12 @@
 -- What is known of the parts of a signal on one side.
 use Rattle.std.proofs.Common.{◌≡◌, ℕ, ℤ, suc, ◌+◌, ◌-◌, ◌<◌, ◌^◌, Bool, List, length, map, ap, sym, subst, ◌∙◌, arith, sum_by}
-use Rattle.std.specs.Prelude.{All, ◌==◌}
-use Rattle.std.specs.List.{range_with_len}
-use Rattle.gs_model.specs.Classes.{ClassLists}
-use Rattle.gs_model.specs.Deals.{deals}
-use Rattle.gs_model.specs.Frame.{Frame, frame_of, last_round}
-use Rattle.gs_model.specs.Game.{Game}
-use Rattle.gs_model.specs.Signals.{child_count, first_child, signals}
-use Rattle.gs_model.proofs.SingleCards.{children_within}
-use Rattle.gs_model.proofs.Walked.{last_round_of}
-use Rattle.gs_tree.specs.Trees.{rules_of}
-use Rattle.gs_tree.specs.declared.signals.Signals.{Signals}
-use Rattle.gs_lossless.specs.Amounts.{AreAmounts, HasSide, IsRun, amount, child_part, deal_parts, keys_of}
-use Rattle.gs_lossless.specs.Sums.{AreSumsOf, sum_at}
-use Rattle.gs_lossless.specs.declared.parts.Part.{Part}
-use Rattle.gs_lossless.specs.declared.sides.Side.{Side}
-use Rattle.gs_lossless.specs.declared.sides.Side.TheVariants.{Deals, Children}
-use Rattle.gs_lossless.proofs.Descent.{child_run, playable}
-use Rattle.gs_lossless.proofs.Weighed.{children_amount, children_some, children_total, deals_amount, deals_some, deals_total}
+use Rattle.std.specs.{Prelude.{All, ◌==◌}, List.{range_with_len}}
+use Rattle.gs_model.specs.{Classes.{ClassLists}, Deals.{deals}, Frame.{Frame, frame_of, last_round}, Game.{Game}, Signals.{child_count, first_child, signals}}
+use Rattle.gs_model.proofs.{SingleCards.{children_within}, Walked.{last_round_of}}
+use Rattle.gs_tree.specs.{Trees.{rules_of}, declared.signals.Signals.{Signals}}
+use Rattle.gs_lossless.specs.{Amounts.{AreAmounts, HasSide, IsRun, amount, child_part, deal_parts, keys_of}, Sums.{AreSumsOf, sum_at}}
+use Rattle.gs_lossless.specs.{declared.parts.Part.{Part}, declared.sides.Side.{Side}, declared.sides.Side.TheVariants.{Deals, Children}}
+use Rattle.gs_lossless.proofs.{Descent.{child_run, playable}, Weighed.{children_amount, children_some, children_total, deals_amount, deals_some, deals_total}}
 
 -- each part has weight, and by the keys of any classes they add up to what the side counts
 pub record ArePartsOf (g : Game) (side : Side) (round s : ℕ) (keys : List ℕ) (parts : List Part) : Type 0 where

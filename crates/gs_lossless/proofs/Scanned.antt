@@ -1,28 +1,16 @@
 -- The steps of the scans, and what their answers make of classes.
 use Rattle.std.proofs.Common.{◌≡◌, ◌≢◌, ℕ, ◌+◌, ◌-◌, ◌<◌, ◌≤◌, false, List, length, get_or, set, refl, sym, ap, ◌∙◌, subst, arith, ⊎_elim, true≢false, Option, Some, None, Vec, Global}
-use Rattle.std.specs.Option.{option_or}
-use Rattle.std.specs.Prelude.{is_some, unwrap_or}
-use Rattle.std.proofs.lemmas.Bool.{cases_eq, cases_lt}
-use Rattle.std.proofs.lemmas.List.{get_or-set_other, get_or-set_same}
+use Rattle.std.proofs.{lemmas.Bool.{cases_eq, cases_lt}, lemmas.List.{get_or-set_other, get_or-set_same}}
+use Rattle.std.specs.{Option.{option_or}, Prelude.{is_some, unwrap_or}}
 use Rattle.gs_filter.specs.Filter.{Filter, single_classes}
-use Rattle.gs_filter.proofs.ClassLaws.{single_are_classes}
-use Rattle.gs_filter.proofs.TallyLaws.{first_member_of}
-use Rattle.gs_model.specs.Classes.{ClassLists, class_count, class_of, class_size, first_member, list_of}
-use Rattle.gs_model.specs.Frame.{Frame, frame_of, last_round, signal_count}
-use Rattle.gs_model.specs.Game.{Game, round_count}
-use Rattle.gs_model.specs.Lossless.{Alike, IsFirstUnlike, IsLossless}
-use Rattle.gs_model.specs.Numbering.{IsNumbered}
-use Rattle.gs_model.specs.Signals.{signals}
-use Rattle.gs_model.proofs.Ranges.{signal_count_is}
-use Rattle.gs_model.proofs.Walked.{last_round_of}
-use Rattle.gs_lossless.specs.Amounts.{Agree, AgreesWithFirst, AreAmounts, AreSideFirsts, HasSide}
-use Rattle.gs_lossless.specs.Scans.{AgreeBelow, IsFirstApart, StoredBelow}
-use Rattle.gs_lossless.specs.Stops.{AreAlikeBelow, IsChildrenApart, MatchUnlike}
-use Rattle.gs_lossless.specs.declared.parts.Part.{Part}
-use Rattle.gs_lossless.specs.declared.sides.Side.{Side}
+use Rattle.gs_filter.proofs.{ClassLaws.{single_are_classes}, TallyLaws.{first_member_of}}
+use Rattle.gs_model.specs.{Classes.{ClassLists, class_count, class_of, class_size, first_member, list_of}, Frame.{Frame, frame_of, last_round, signal_count}}
+use Rattle.gs_model.specs.{Game.{Game, round_count}, Lossless.{Alike, IsFirstUnlike, IsLossless}, Numbering.{IsNumbered}, Signals.{signals}}
+use Rattle.gs_model.proofs.{Ranges.{signal_count_is}, Walked.{last_round_of}}
+use Rattle.gs_lossless.specs.{Amounts.{Agree, AgreesWithFirst, AreAmounts, AreSideFirsts, HasSide}, Scans.{AgreeBelow, IsFirstApart, StoredBelow}}
+use Rattle.gs_lossless.specs.{Stops.{AreAlikeBelow, IsChildrenApart, MatchUnlike}, declared.parts.Part.{Part}, declared.sides.Side.{Side}}
 use Rattle.gs_lossless.specs.declared.sides.Side.TheVariants.{Deals, Children}
-use Rattle.gs_lossless.proofs.Descent.{list_long}
-use Rattle.gs_lossless.proofs.Settled.{agree_children, agree_deals, alike_from, first_le, not_lossless, over, singles}
+use Rattle.gs_lossless.proofs.{Descent.{list_long}, Settled.{agree_children, agree_deals, alike_from, first_le, not_lossless, over, singles}}
 
 pub side_in : (f : Frame) (side : Side) (round : ℕ) → HasSide f side round → (0 < round) × (round ≤ last_round f)
 side_in f Deals round h = h

@@ -1,30 +1,18 @@
 -- From agreement with first members to lossless classes, and back.
 use Rattle.std.proofs.Common.{◌≡◌, ℕ, ℤ, pos, zero, suc, ◌+◌, ◌-◌, ◌<◌, ◌≤◌, Bool, true, false, cond, List, [], ◌∷◌, length, get_or, refl, sym, ap, ◌∙◌, subst, arith, ⊎_elim, count_by, true≢false, Result, Ok, Err}
-use Rattle.std.specs.Prelude.{◌==◌, IfOk}
-use Rattle.std.specs.List.{position_or_len}
-use Rattle.std.specs.Ordering.{int_eq}
-use Rattle.std.proofs.lemmas.Bool.{cases_lt}
-use Rattle.std.proofs.lemmas.Bool.Decides.{Decides-eqb}
-use Rattle.std.proofs.lemmas.List.{get_or_past}
-use Rattle.std.proofs.lemmas.List.FromFn.{get_or-range_with_len}
+use Rattle.std.proofs.{lemmas.Bool.{cases_lt}, lemmas.Bool.Decides.{Decides-eqb}, lemmas.List.{get_or_past}, lemmas.List.FromFn.{get_or-range_with_len}}
 use Rattle.std.proofs.lemmas.List.Sums.{get_or-le-sum_by, passes_at_first, sum_by-cons}
+use Rattle.std.specs.{Prelude.{◌==◌, IfOk}, List.{position_or_len}, Ordering.{int_eq}}
 use Rattle.gs_filter.specs.Filter.{Filter, single_classes}
-use Rattle.gs_filter.proofs.ClassLaws.{single_at}
-use Rattle.gs_filter.proofs.TallyLaws.{first_before}
+use Rattle.gs_filter.proofs.{ClassLaws.{single_at}, TallyLaws.{first_before}}
 use Rattle.gs_model.specs.Classes.{ClassLists, InOneClass, IsClasses, IsFilter, class_of, class_size, first_member, list_of}
-use Rattle.gs_model.specs.Frame.{Frame, last_round, signal_count}
-use Rattle.gs_model.specs.FrameFacts.{InRange}
+use Rattle.gs_model.specs.{Frame.{Frame, last_round, signal_count}, FrameFacts.{InRange}}
 use Rattle.gs_model.specs.Lossless.{Alike, IsFirstUnlike, IsLossless, children_in, weight_against, weight_with}
-use Rattle.gs_model.proofs.Alike.{fair_everywhere, fair_from_outcomes, keeps_from}
-use Rattle.gs_model.proofs.Gather.{firsts_from}
-use Rattle.gs_model.proofs.Tables.{is_table}
+use Rattle.gs_model.proofs.{Alike.{fair_everywhere, fair_from_outcomes, keeps_from}, Gather.{firsts_from}, Tables.{is_table}}
 use Rattle.gs_model.proofs.Unlike.{single_signals_are_lossless, unlike_is_not_lossless}
-use Rattle.gs_lossless.specs.Amounts.{Agree, AgreesWithFirst, AreAmounts, amount}
-use Rattle.gs_lossless.specs.Sums.{sum_at}
-use Rattle.gs_lossless.specs.declared.parts.Part.{Part}
-use Rattle.gs_lossless.proofs.Merge.{one_list}
-use Rattle.gs_lossless.specs.declared.sides.Side.{Side}
+use Rattle.gs_lossless.specs.{Amounts.{Agree, AgreesWithFirst, AreAmounts, amount}, Sums.{sum_at}, declared.parts.Part.{Part}, declared.sides.Side.{Side}}
 use Rattle.gs_lossless.specs.declared.sides.Side.TheVariants.{Deals, Children}
+use Rattle.gs_lossless.proofs.Merge.{one_list}
 
 pub if_ok : {T E : Type 0} (r : Result T E) (P Q : T → Type 0) → ((x : T) → P x → Q x) → IfOk r P → IfOk r Q
 if_ok (Ok x) P Q h p = h x p

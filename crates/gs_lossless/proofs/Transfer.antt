@@ -1,21 +1,13 @@
 -- The first signal whose deals weigh otherwise is the same where the game stops after the round.
-use Rattle.std.proofs.Common.{◌≡◌, ◌≢◌, ℕ, ℤ, pos, ◌*◌, ◌<◌, ◌≤◌, Bool, cond, List, [], ◌∷◌, sym, ap, ◌∙◌, arith}
-use Rattle.std.specs.Prelude.{◌/◌, None, Option, Some}
-use Rattle.std.specs.Ordering.{int_eq}
-use Rattle.std.proofs.lemmas.Bool.{ne_eqb}
+use Rattle.std.proofs.{Common.{◌≡◌, ◌≢◌, ℕ, ℤ, pos, ◌*◌, ◌<◌, ◌≤◌, Bool, cond, List, [], ◌∷◌, sym, ap, ◌∙◌, arith}, lemmas.Bool.{ne_eqb}}
 use Rattle.std.proofs.Math.Nat.{mul-div_cancel_left}
-use Rattle.gs_game.specs.GoingOn.{StopsAfter, ways_on}
-use Rattle.gs_game.specs.Refusals.{first_refusal}
-use Rattle.gs_game.proofs.SomeWays.{some_ways}
-use Rattle.gs_game.proofs.StopLaws.{against_stopped, stops_later}
-use Rattle.gs_model.specs.Classes.{ClassLists, class_of, first_member, list_of}
-use Rattle.gs_model.specs.Frame.{Frame, frame_of, last_round}
-use Rattle.gs_model.specs.Game.{Game, round_count}
+use Rattle.std.specs.{Prelude.{◌/◌, None, Option, Some}, Ordering.{int_eq}}
+use Rattle.gs_game.specs.{GoingOn.{StopsAfter, ways_on}, Refusals.{first_refusal}}
+use Rattle.gs_game.proofs.{SomeWays.{some_ways}, StopLaws.{against_stopped, stops_later}}
+use Rattle.gs_model.specs.{Classes.{ClassLists, class_of, first_member, list_of}, Frame.{Frame, frame_of, last_round}, Game.{Game, round_count}}
 use Rattle.gs_model.specs.Lossless.{weight_against, weight_with}
 use Rattle.gs_model.proofs.Walked.{last_round_of}
-use Rattle.gs_lossless.specs.Amounts.{AgreesWithFirst, amount}
-use Rattle.gs_lossless.specs.Scans.{IsFirstApart}
-use Rattle.gs_lossless.specs.declared.sides.Side.TheVariants.{Deals}
+use Rattle.gs_lossless.specs.{Amounts.{AgreesWithFirst, amount}, Scans.{IsFirstApart}, declared.sides.Side.TheVariants.{Deals}}
 
 -- before the last round no outcome counts
 pub amount_before_last : (f : Frame) (lists : ClassLists) (round x c : ℕ) (o : ℤ) → round < last_round f

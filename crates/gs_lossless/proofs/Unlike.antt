@@ -1,12 +1,7 @@
 -- The two signals of a first unlike pair are signals of the game.
 use Rattle.std.proofs.Common.{ℕ, ◌<◌, ◌≤◌, length, arith}
-use Rattle.gs_model.specs.Classes.{ClassLists}
-use Rattle.gs_model.specs.Frame.{frame_of, last_round}
-use Rattle.gs_model.specs.Game.{Game, round_count}
-use Rattle.gs_model.specs.Lossless.{IsFirstUnlike}
-use Rattle.gs_model.specs.Signals.{signals}
-use Rattle.gs_model.proofs.Ranges.{signal_count_is}
-use Rattle.gs_model.proofs.Walked.{last_round_of}
+use Rattle.gs_model.specs.{Classes.{ClassLists}, Frame.{frame_of, last_round}, Game.{Game, round_count}, Lossless.{IsFirstUnlike}, Signals.{signals}}
+use Rattle.gs_model.proofs.{Ranges.{signal_count_is}, Walked.{last_round_of}}
 use Rattle.gs_lossless.proofs.Settled.{first_le}
 
 -- two signals of one round of a game

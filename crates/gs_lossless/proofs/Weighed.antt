@@ -1,26 +1,16 @@
 -- What the parts of a signal add up to, by class and outcome.
 use Rattle.std.proofs.Common.{◌≡◌, ℕ, ℤ, pos, zero, suc, ◌+◌, ◌-◌, ◌<◌, ◌≤◌, Bool, true, false, cond, ltb, List, [], ◌∷◌, map, get_or, refl, sym, ap, ◌∙◌, arith, sum_by}
-use Rattle.std.specs.Prelude.{All, filter, flat_map, ◌==◌}
-use Rattle.std.specs.List.{AllByRecursion, range_with_len}
-use Rattle.std.specs.Ordering.{int_eq}
-use Rattle.std.proofs.lemmas.Bool.Decides.{Decides-eqb, nat_tests, same_from_decides}
-use Rattle.std.proofs.lemmas.Grind.{flat_map-append}
-use Rattle.std.proofs.lemmas.List.{append-nil}
+use Rattle.std.proofs.{lemmas.Bool.Decides.{Decides-eqb, nat_tests, same_from_decides}, lemmas.Grind.{flat_map-append}, lemmas.List.{append-nil}}
 use Rattle.std.proofs.lemmas.List.Elements.{All-filter, All-from_recursion, recursion_from_All}
 use Rattle.std.proofs.lemmas.List.FromFn.{get_or-map-range_with_len, length-map-range_with_len}
 use Rattle.std.proofs.lemmas.List.Sums.{sum_by-append, sum_by-cons, sum_by-le, sum_by-le-sum_by}
-use Rattle.gs_model.specs.Classes.{ClassLists, class_of}
-use Rattle.gs_model.specs.Deals.{Deal, deals}
-use Rattle.gs_model.specs.Frame.{ancestor, at_round, frame_of, last_round, signal_count, total_weight}
-use Rattle.gs_model.specs.Game.{Game, IsPlayable}
-use Rattle.gs_model.specs.Lossless.{weight_against, weight_with}
-use Rattle.gs_model.proofs.Ranges.{deals_weigh, every-flat_map, in_range}
-use Rattle.gs_model.proofs.Sparse.{range_append}
+use Rattle.std.specs.{Prelude.{All, filter, flat_map, ◌==◌}, List.{AllByRecursion, range_with_len}, Ordering.{int_eq}}
+use Rattle.gs_model.specs.{Classes.{ClassLists, class_of}, Deals.{Deal, deals}, Frame.{ancestor, at_round, frame_of, last_round, signal_count, total_weight}}
+use Rattle.gs_model.specs.{Game.{Game, IsPlayable}, Lossless.{weight_against, weight_with}}
+use Rattle.gs_model.proofs.{Ranges.{deals_weigh, every-flat_map, in_range}, Sparse.{range_append}}
 use Rattle.gs_model.proofs.Basics.{false_from_not, every-map, every-range, cond_le, sum_by-map, sum-cond, every-any}
-use Rattle.gs_lossless.specs.Amounts.{IsRun, IsRunIn, amount, child_part, deal_part, deal_parts, keys_of}
-use Rattle.gs_lossless.specs.Sums.{sum_at, weight_at}
-use Rattle.gs_lossless.specs.declared.parts.Part.{Part}
-use Rattle.gs_lossless.specs.declared.sides.Side.TheVariants.{Deals, Children}
+use Rattle.gs_lossless.specs.{Amounts.{IsRun, IsRunIn, amount, child_part, deal_part, deal_parts, keys_of}, Sums.{sum_at, weight_at}}
+use Rattle.gs_lossless.specs.{declared.parts.Part.{Part}, declared.sides.Side.TheVariants.{Deals, Children}}
 
 -- ---- sums
 

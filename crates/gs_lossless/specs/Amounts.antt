@@ -1,17 +1,10 @@
 -- What members of a class must agree in, as weights by class and outcome.
 use Rattle.std.specs.Prelude.{ℕ, ◌+◌, ◌-◌, ◌<◌, ◌≤◌, ◌≡◌, ◌==◌, ℤ, pos, Bool, List, map, length, get_or, if◌then◌else◌, filter, flat_map}
-use Rattle.std.specs.List.{range_with_len}
-use Rattle.std.specs.Ordering.{int_eq}
-use Rattle.gs_model.specs.Classes.{ClassLists, class_of, first_member, list_of}
-use Rattle.gs_model.specs.Deals.{Deal}
-use Rattle.gs_model.specs.Frame.{Frame, ancestor, last_round, signal_count, signals_in, at_round}
-use Rattle.gs_model.specs.Game.{Game, round_count}
-use Rattle.gs_model.specs.Lossless.{children_in, weight_against, weight_with}
-use Rattle.gs_model.specs.Signals.{signals}
-use Rattle.gs_lossless.specs.declared.parts.Part.{Part}
-use Rattle.gs_lossless.specs.declared.sides.Side.{Side}
-use Rattle.gs_lossless.specs.declared.sides.Side.TheVariants.{Deals, Children}
-use Rattle.gs_lossless.specs.Sums.{Rises, sum_at}
+use Rattle.std.specs.{List.{range_with_len}, Ordering.{int_eq}}
+use Rattle.gs_model.specs.{Classes.{ClassLists, class_of, first_member, list_of}, Deals.{Deal}}
+use Rattle.gs_model.specs.{Frame.{Frame, ancestor, last_round, signal_count, signals_in, at_round}, Game.{Game, round_count}}
+use Rattle.gs_model.specs.{Lossless.{children_in, weight_against, weight_with}, Signals.{signals}}
+use Rattle.gs_lossless.specs.{declared.parts.Part.{Part}, declared.sides.Side.{Side}, declared.sides.Side.TheVariants.{Deals, Children}, Sums.{Rises, sum_at}}
 
 -- what counts for a signal at a class and an outcome: the weight of its deals, or the number of its children.
 -- Only the deals of the last round are told apart by outcome; every other amount stands at outcome 0

@@ -1,11 +1,7 @@
 -- The first signal of a round that differs from the first member of its class.
-use Rattle.std.specs.Prelude.{ℕ, ◌-◌, ◌<◌, ◌≤◌, ◌≡◌, ◌≢◌, List, Option, Some, None, Vec, get_or, length}
-use Rattle.std.specs.declared.alloc.Global.{Global}
-use Rattle.gs_model.specs.Classes.{ClassLists, class_count, class_of, class_size, first_member}
-use Rattle.gs_model.specs.Frame.{Frame}
-use Rattle.gs_lossless.specs.Amounts.{AgreesWithFirst, AreAmounts, AreSideFirsts}
-use Rattle.gs_lossless.specs.declared.parts.Part.{Part}
-use Rattle.gs_lossless.specs.declared.sides.Side.{Side}
+use Rattle.std.specs.{Prelude.{ℕ, ◌-◌, ◌<◌, ◌≤◌, ◌≡◌, ◌≢◌, List, Option, Some, None, Vec, get_or, length}, declared.alloc.Global.{Global}}
+use Rattle.gs_model.specs.{Classes.{ClassLists, class_count, class_of, class_size, first_member}, Frame.{Frame}}
+use Rattle.gs_lossless.specs.{Amounts.{AgreesWithFirst, AreAmounts, AreSideFirsts}, declared.parts.Part.{Part}, declared.sides.Side.{Side}}
 
 -- the signals of a round before `end` agree with the first members of their classes
 abbrev pub AgreeBelow : Frame → ClassLists → Side → ℕ → ℕ → Type 0

@@ -1,12 +1,7 @@
 -- What a failed check says about the classes, and its text.
-use Rattle.std.specs.Prelude.{ℕ, ◌<◌, ◌++◌, List, Option, Some, None, codes}
-use Rattle.std.specs.Fmt.{decimal}
-use Rattle.gs_model.specs.Classes.{ClassLists, class_of, first_member}
-use Rattle.gs_model.specs.Frame.{Frame, last_round, signal_count}
-use Rattle.gs_model.specs.Lossless.{Alike, IsFirstUnlike}
-use Rattle.gs_lossless.specs.Scans.{AgreeBelow, IsFirstApart}
-use Rattle.gs_lossless.specs.declared.sides.Side.TheVariants.{Children}
-use Rattle.gs_lossless.specs.declared.stop.CheckStop.{CheckStop}
+use Rattle.std.specs.{Prelude.{ℕ, ◌<◌, ◌++◌, List, Option, Some, None, codes}, Fmt.{decimal}}
+use Rattle.gs_model.specs.{Classes.{ClassLists, class_of, first_member}, Frame.{Frame, last_round, signal_count}, Lossless.{Alike, IsFirstUnlike}}
+use Rattle.gs_lossless.specs.{Scans.{AgreeBelow, IsFirstApart}, declared.sides.Side.TheVariants.{Children}, declared.stop.CheckStop.{CheckStop}}
 use Rattle.gs_lossless.specs.declared.stop.CheckStop.TheVariants.{Unlike, Memory}
 
 -- the stop names the first unlike pair; `Memory` says nothing about the classes

@@ -1,9 +1,6 @@
 -- Weights added up by class and outcome.
-use Rattle.std.specs.Prelude.{ℕ, ◌+◌, ◌<◌, ◌≡◌, ◌==◌, ◌&&◌, ℤ, Bool, List, [], ◌∷◌, if◌then◌else◌, sum_by}
-use Rattle.std.specs.List.{AllByRecursion}
-use Rattle.std.specs.Ordering.{int_cmp, int_eq, nat_cmp, ordering_then}
-use Rattle.std.specs.declared.cmp.Ordering.{Ordering}
-use Rattle.std.specs.declared.cmp.Ordering.TheVariants.{Less}
+use Rattle.std.specs.{Prelude.{ℕ, ◌+◌, ◌<◌, ◌≡◌, ◌==◌, ◌&&◌, ℤ, Bool, List, [], ◌∷◌, if◌then◌else◌, sum_by}, List.{AllByRecursion}}
+use Rattle.std.specs.{Ordering.{int_cmp, int_eq, nat_cmp, ordering_then}, declared.cmp.Ordering.{Ordering}, declared.cmp.Ordering.TheVariants.{Less}}
 use Rattle.gs_lossless.specs.declared.parts.Part.{Part}
 
 -- the weight of a part if it has this class and this outcome, else 0

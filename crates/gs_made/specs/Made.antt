@@ -1,9 +1,6 @@
 -- The game files of well-known games.
-use Rattle.std.specs.Prelude.{ℕ, ◌-◌, List, [], ◌∷◌, ◌++◌, length, take, drop, flat_map, codes}
-use Rattle.std.specs.Fmt.{decimal}
-use Rattle.gs_made.specs.declared.kind.Kind.{Kind}
-use Rattle.gs_made.specs.declared.kind.Kind.TheVariants.{Kuhn, Leduc, Rhode}
-use Rattle.gs_made.specs.declared.kind.Round.{Round}
+use Rattle.std.specs.{Prelude.{ℕ, ◌-◌, List, [], ◌∷◌, ◌++◌, length, take, drop, flat_map, codes}, Fmt.{decimal}}
+use Rattle.gs_made.specs.{declared.kind.Kind.{Kind}, declared.kind.Kind.TheVariants.{Kuhn, Leduc, Rhode}, declared.kind.Round.{Round}}
 
 -- the last n characters of a text
 abbrev pub last : ℕ → List ℕ → List ℕ

@@ -1,10 +1,7 @@
 -- Changing a matching along a path.
 use Rattle.std.proofs.Common.{◌≡◌, ◌≢◌, ◌+◌, ◌<◌, ◌≤◌, ℕ, Bool, Option, Some, None, List, length, set, sym, ◌∙◌, ap, subst, arith, ⊎_elim}
-use Rattle.std.proofs.lemmas.Bool.{cases_eq}
-use Rattle.std.proofs.lemmas.List.{get_or-set_same, get_or-set_other, length-set}
-use Rattle.gs_match.specs.declared.search.Visit.{Visit}
-use Rattle.gs_match.specs.Adjacency.{Near}
-use Rattle.gs_match.specs.Search.{holder, IsMatchingBut, IsMatching, visit, IsTree, IsPath}
+use Rattle.std.proofs.{lemmas.Bool.{cases_eq}, lemmas.List.{get_or-set_same, get_or-set_other, length-set}}
+use Rattle.gs_match.specs.{declared.search.Visit.{Visit}, Adjacency.{Near}, Search.{holder, IsMatchingBut, IsMatching, visit, IsTree, IsPath}}
 use Rattle.gs_match.proofs.SearchLaws.{held_in, held_not_last, same_some, none_some}
 
 -- the way back from a visit whose left node is to be given `right`: the visits before it hold what they held

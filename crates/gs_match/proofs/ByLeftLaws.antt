@@ -1,6 +1,5 @@
 -- From the left node of each right node to the right node of each left node.
-use Rattle.std.proofs.Common.{◌≡◌, ◌+◌, ◌<◌, ℕ, Option, Some, None, List, length, get_or, set, sym, ◌∙◌, ap, arith, ⊎_elim}
-use Rattle.std.proofs.lemmas.Bool.{cases_eq}
+use Rattle.std.proofs.{Common.{◌≡◌, ◌+◌, ◌<◌, ℕ, Option, Some, None, List, length, get_or, set, sym, ◌∙◌, ap, arith, ⊎_elim}, lemmas.Bool.{cases_eq}}
 use Rattle.std.proofs.lemmas.List.{get_or-set_same, get_or-set_other}
 use Rattle.gs_match.specs.Search.{holder}
 use Rattle.gs_match.proofs.SearchLaws.{same_some, none_some}

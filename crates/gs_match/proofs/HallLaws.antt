@@ -1,19 +1,13 @@
 -- A closed search gives a set with too few neighbours.
 use Rattle.std.proofs.Common.{◌≡◌, ◌+◌, ◌<◌, ◌≤◌, ℕ, zero, suc, Bool, true, false, cond, eqb, Option, List, [], ◌∷◌, length, get_or, sym, ◌∙◌, ap, subst, arith, ⊎_elim, count_by, IsPermutation, refl}
-use Rattle.std.specs.List.{range_with_len}
-use Rattle.std.specs.List.Sorted.{IsNonDecreasing}
-use Rattle.std.proofs.lemmas.Bool.{cases_lt, cases_eq, cases_Bool, eq-eqb, cond-true, cond-false}
-use Rattle.std.proofs.lemmas.List.{get_or-map, length-map}
-use Rattle.std.proofs.lemmas.List.Sums.{sum_by-cons}
-use Rattle.std.proofs.lemmas.List.Elements.{All-from_get_or}
+use Rattle.std.proofs.{lemmas.Bool.{cases_lt, cases_eq, cases_Bool, eq-eqb, cond-true, cond-false}, lemmas.List.{get_or-map, length-map}}
+use Rattle.std.proofs.{lemmas.List.Sums.{sum_by-cons}, lemmas.List.Elements.{All-from_get_or}}
 use Rattle.std.proofs.lemmas.List.Sorted.{length_permutation, All-permutation, sum_by-IsPermutation, list_any-IsPermutation}
+use Rattle.std.specs.{List.{range_with_len}, List.Sorted.{IsNonDecreasing}}
 use Rattle.gs_model.specs.Matching.{Edges, AllDiffer, IsHall, has_edge, is_neighbour}
 use Rattle.gs_model.proofs.Graph.{differ_once}
-use Rattle.gs_match.specs.declared.search.Visit.{Visit}
-use Rattle.gs_match.specs.Adjacency.{AreNeighbours}
-use Rattle.gs_match.specs.Search.{IsMatching, visit, is_reached, lefts, IsTree, HasClosed}
-use Rattle.gs_match.proofs.SearchLaws.{held_not_last}
-use Rattle.gs_match.proofs.AdjacencyLaws.{stands, near_from_edge}
+use Rattle.gs_match.specs.{declared.search.Visit.{Visit}, Adjacency.{AreNeighbours}, Search.{IsMatching, visit, is_reached, lefts, IsTree, HasClosed}}
+use Rattle.gs_match.proofs.{SearchLaws.{held_not_last}, AdjacencyLaws.{stands, near_from_edge}}
 
 -- two equal neighbours in a list are counted twice
 counted_twice : (xs : List ℕ) (k : ℕ) → k + 1 < length xs → get_or xs k 0 ≡ get_or xs (k + 1) 0 → 2 ≤ count_by (eqb (get_or xs k 0)) xs

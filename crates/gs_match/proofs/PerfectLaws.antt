@@ -1,11 +1,8 @@
 -- A matching of all left nodes is perfect.
-use Rattle.std.proofs.Common.{◌≡◌, ◌<◌, ℕ, Option, Some, None, List, length, get_or, sym, ◌∙◌, ap, subst, arith, true}
-use Rattle.std.proofs.lemmas.List.Elements.{All-from_get_or}
+use Rattle.std.proofs.{Common.{◌≡◌, ◌<◌, ℕ, Option, Some, None, List, length, get_or, sym, ◌∙◌, ap, subst, arith, true}, lemmas.List.Elements.{All-from_get_or}}
 use Rattle.gs_model.specs.Matching.{Edges, IsPerfect, has_edge}
-use Rattle.gs_match.specs.Adjacency.{AreNeighbours}
-use Rattle.gs_match.specs.Search.{holder, IsMatching}
-use Rattle.gs_match.proofs.SearchLaws.{held_in, held_not_last, same_some, none_some}
-use Rattle.gs_match.proofs.AdjacencyLaws.{edge_from_near}
+use Rattle.gs_match.specs.{Adjacency.{AreNeighbours}, Search.{holder, IsMatching}}
+use Rattle.gs_match.proofs.{SearchLaws.{held_in, held_not_last, same_some, none_some}, AdjacencyLaws.{edge_from_near}}
 
 -- nothing is matched at first
 pub matching_none : (adjacent : List (List ℕ)) (holders : List (Option ℕ)) → ((b : ℕ) → holder holders b ≡ None) → IsMatching adjacent holders 0

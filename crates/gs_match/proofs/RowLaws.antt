@@ -1,10 +1,8 @@
 -- A turn over the neighbours of a visit's left node.
 use Rattle.std.proofs.Common.{◌≡◌, ◌+◌, ◌<◌, ◌++◌, ℕ, Bool, true, false, Option, Some, List, [], ◌∷◌, length, get_or, set, sym, ◌∙◌, ap, subst, arith, Vec, Global, below_more}
 use Rattle.std.proofs.lemmas.List.{get_or-map, get_or_default}
-use Rattle.gs_match.specs.declared.search.Visit.{Visit}
+use Rattle.gs_match.specs.{declared.search.Visit.{Visit}, Adjacency.{row_of, AreRowsIn, Near}, Search.{holder, IsMatching, visit, is_reached, IsTree, Extends}}
 use Rattle.gs_model.specs.Rows.{rows}
-use Rattle.gs_match.specs.Adjacency.{row_of, AreRowsIn, Near}
-use Rattle.gs_match.specs.Search.{holder, IsMatching, visit, is_reached, IsTree, Extends}
 use Rattle.gs_match.proofs.SearchLaws.{tree_more, extends_more, marked_more, mark_kept, extends_trans}
 
 -- what a read of a list of lists gives

@@ -3,8 +3,7 @@ use Rattle.std.proofs.Common.{◌≡◌, ◌≢◌, ◌+◌, ◌<◌, ◌≤◌,
 use Rattle.std.proofs.lemmas.Bool.{cases_eq, cases_lt}
 use Rattle.std.proofs.lemmas.List.{get_or_append_left, get_or_push, get_or_past, get_or-set_same, get_or-set_other, length-set, length_push}
 use Rattle.std.proofs.lemmas.List.Sums.{sum_by-set, count_by-le-length}
-use Rattle.gs_match.specs.declared.search.Visit.{Visit}
-use Rattle.gs_match.specs.Adjacency.{Near}
+use Rattle.gs_match.specs.{declared.search.Visit.{Visit}, Adjacency.{Near}}
 use Rattle.gs_match.specs.Search.{holder, IsMatching, visit, is_reached, IsLinked, IsTree, Extends, AreExplored}
 
 -- what a place holds is one thing or nothing

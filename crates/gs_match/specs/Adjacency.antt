@@ -1,6 +1,5 @@
 -- Adjacency lists of a bipartite graph: for each left node its neighbours.
-use Rattle.std.specs.Prelude.{ℕ, ◌<◌, ◌≡◌, ◌==◌, List, [], length, get_or, All}
-use Rattle.std.specs.List.{list_any}
+use Rattle.std.specs.{Prelude.{ℕ, ◌<◌, ◌≡◌, ◌==◌, List, [], length, get_or, All}, List.{list_any}}
 use Rattle.gs_model.specs.Matching.{Edges, has_edge}
 
 -- every edge joins a left node and a right node

@@ -1,8 +1,7 @@
 -- Why there is no perfect matching.
 use Rattle.std.specs.Prelude.{◌≡◌, ◌≢◌, List, ℕ}
 use Rattle.gs_model.specs.Matching.{Edges, IsHall, IsPerfect}
-use Rattle.gs_match.specs.declared.graph.NoMatch.{NoMatch}
-use Rattle.gs_match.specs.declared.graph.NoMatch.TheVariants.{Sides, Hall, Memory}
+use Rattle.gs_match.specs.{declared.graph.NoMatch.{NoMatch}, declared.graph.NoMatch.TheVariants.{Sides, Hall, Memory}}
 
 -- the sides have different sizes, `left` and `right`; or they have the same size, and `set` is a Hall violator. `Memory` may be reported for any graph
 abbrev pub IsRefusalOf : Edges → NoMatch → Type 0

@@ -1,9 +1,6 @@
 -- Matchings by right node, and the search for an augmenting path. Source: the augmenting paths of Kuhn (1955) and Hall (1935).
 use Rattle.std.specs.Prelude.{ℕ, ◌+◌, ◌<◌, ◌≤◌, ◌≡◌, ◌≢◌, true, false, Bool, List, length, get_or, Option, Some, None, map, count_by}
-use Rattle.gs_match.specs.declared.search.Visit.{Visit}
-use Rattle.gs_match.specs.declared.search.Found.{Found}
-use Rattle.gs_match.specs.declared.search.Found.TheVariants.{Free, Closed}
-use Rattle.gs_match.specs.Adjacency.{Near}
+use Rattle.gs_match.specs.{declared.search.Visit.{Visit}, declared.search.Found.{Found}, declared.search.Found.TheVariants.{Free, Closed}, Adjacency.{Near}}
 
 -- the left node that a right node is matched with
 abbrev pub holder : List (Option ℕ) → ℕ → Option ℕ

@@ -1,13 +1,10 @@
 -- A signal of a round is its parent with what one more round shows: as long as there are rounds, and without its last round its parent.
 use Rattle.std.proofs.Common.{◌≡◌, ℕ, zero, suc, ◌+◌, ◌-◌, ◌<◌, List, [], ◌∷◌, ◌++◌, map, length, get_or, take, refl, ap, ◌∙◌, subst, arith, length-append}
+use Rattle.std.proofs.{lemmas.List.{take-append-le, take_all}, lemmas.List.Elements.{All-from_recursion}, lemmas.List.FromFn.{get_or-map-range_with_len}}
 use Rattle.std.specs.List.{All, AllByRecursion}
-use Rattle.std.proofs.lemmas.List.{take-append-le, take_all}
-use Rattle.std.proofs.lemmas.List.Elements.{All-from_recursion}
-use Rattle.std.proofs.lemmas.List.FromFn.{get_or-map-range_with_len}
 use Rattle.gs_model.specs.Game.{Game, round_at}
 use Rattle.gs_model.specs.Signals.{Seen, Signal, child_count, children, edge, first_child, last_edge, left_by, parents, showings, signal_at, signals}
-use Rattle.gs_model.proofs.Children.{child-only, children-run}
-use Rattle.gs_model.proofs.Ranges.{length-parents, owners-below}
+use Rattle.gs_model.proofs.{Children.{child-only, children-run}, Ranges.{length-parents, owners-below}}
 
 pub parents_below : (g : Game) (round : ℕ) → All (λ p. p < length (signals g round)) (parents g (suc round))
 parents_below g round k d l =

@@ -1,18 +1,11 @@
 -- The last-round signals by recursion from the first round, in order; a group stands once in a list of groups.
 use Rattle.std.proofs.Common.{◌≡◌, ◌≢◌, ℕ, zero, suc, ◌+◌, ◌-◌, ◌<◌, ◌≤◌, List, [], ◌∷◌, ◌++◌, length, map, get_or, refl, sym, ap, ◌∙◌, subst, arith, append_assoc, append-nil, Bool, true, false, cond, eqb, ⊎_elim, slice_set, slice_index, nat_lt}
-use Rattle.std.specs.Prelude.{flat_map, filter, ◌&&◌, ◌==◌, count_by}
-use Rattle.std.specs.List.{range_with_len, AllByRecursion}
-use Rattle.std.proofs.lemmas.Bool.{cases_eq, cases_lt}
-use Rattle.std.proofs.lemmas.Bool.Decides.{Decides-eqb}
-use Rattle.std.proofs.lemmas.Grind.{flat_map-append}
-use Rattle.std.proofs.lemmas.List.Folds.{flat_map-map}
-use Rattle.gs_model.specs.Cards.{groups, groups_above, groups_with, ways, left_after, left_from}
-use Rattle.gs_model.specs.Deals.{same_cards}
-use Rattle.gs_model.specs.Game.{Game, Round, round_at, round_count}
-use Rattle.gs_model.specs.Signals.{Signal, Seen, signals, children, showings, edge, left_by}
+use Rattle.std.proofs.{lemmas.Bool.{cases_eq, cases_lt}, lemmas.Bool.Decides.{Decides-eqb}, lemmas.Grind.{flat_map-append}, lemmas.List.Folds.{flat_map-map}}
+use Rattle.std.specs.{Prelude.{flat_map, filter, ◌&&◌, ◌==◌, count_by}, List.{range_with_len, AllByRecursion}}
+use Rattle.gs_model.specs.{Cards.{groups, groups_above, groups_with, ways, left_after, left_from}, Deals.{same_cards}}
+use Rattle.gs_model.specs.{Game.{Game, Round, round_at, round_count}, Signals.{Signal, Seen, signals, children, showings, edge, left_by}}
 use Rattle.gs_model.proofs.Exchanged.{and_both, filter-flat_map, map-flat_map}
-use Rattle.gs_model.proofs.Fits.{fits_from, fits-ways, fits-one, fits-none, length-set, pred_of, none_filter, map-same_filter}
-use Rattle.gs_model.proofs.Ranges.{every-flat_map}
+use Rattle.gs_model.proofs.{Fits.{fits_from, fits-ways, fits-one, fits-none, length-set, pred_of, none_filter, map-same_filter}, Ranges.{every-flat_map}}
 use Rattle.gs_model.proofs.Basics.{map-map, map-same, flat_map-same, every-range, every-map, every-weaker}
 
 -- ---- lists

@@ -1,14 +1,10 @@
 -- Classes by first sight of a key are the classes of equal keys.
 use Rattle.std.proofs.Common.{◌≡◌, ◌↔◌, ℕ, ◌+◌, ◌-◌, ◌<◌, ◌≤◌, List, [], ◌∷◌, ◌++◌, length, get_or, refl, sym, ap, ◌∙◌, subst, arith, Bool, true, false, cond, max, Some, ⊎_elim, length-append}
-use Rattle.std.specs.Bool.{Decides}
-use Rattle.std.specs.List.{IsDistinct, slice_get, list_any}
-use Rattle.std.proofs.lemmas.Bool.{cases_eq}
-use Rattle.std.proofs.lemmas.Option.{slice_get_within}
-use Rattle.std.proofs.lemmas.Grind.{elements}
+use Rattle.std.proofs.{lemmas.Bool.{cases_eq}, lemmas.Option.{slice_get_within}, lemmas.Grind.{elements}}
+use Rattle.std.specs.{Bool.{Decides}, List.{IsDistinct, slice_get, list_any}}
 use Rattle.indexmap.specs.IndexSet.{insert_key}
 use Rattle.gs_model.specs.Numbering.{IsClassesOf, greatest}
-use Rattle.gs_model.proofs.Numbered.{greatest_push}
-use Rattle.gs_model.proofs.Push.{classes_push}
+use Rattle.gs_model.proofs.{Numbered.{greatest_push}, Push.{classes_push}}
 use Rattle.gs_numbers.specs.Numbers.{HasClassOf}
 use Rattle.gs_numbers.proofs.Numbered.{one_place, slice_get-insert, at_new}
 

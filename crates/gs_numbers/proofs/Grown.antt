@@ -1,7 +1,6 @@
 -- The parts of the lists that were seen, after one more list.
-use Rattle.std.proofs.Common.{◌≡◌, List, [], ◌∷◌, ◌++◌, refl, sym, ap, ◌∙◌, Bool, true, false, cond, ◌||◌, Vec, Global}
+use Rattle.std.proofs.{Common.{◌≡◌, List, [], ◌∷◌, ◌++◌, refl, sym, ap, ◌∙◌, Bool, true, false, cond, ◌||◌, Vec, Global}, lemmas.List.{map-append}}
 use Rattle.std.specs.List.{list_any}
-use Rattle.std.proofs.lemmas.List.{map-append}
 use lib.Pointwise.{pointwise}
 use Rattle.indexmap.specs.IndexSet.{insert_key}
 use Rattle.gs_model.specs.Rows.{rows}

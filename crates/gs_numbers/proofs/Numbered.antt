@@ -1,12 +1,8 @@
 -- Numbers by first sight: equal numbers are equal keys.
 use Rattle.std.proofs.Common.{◌≡◌, ◌↔◌, ℕ, zero, suc, ◌+◌, ◌-◌, ◌<◌, ◌≤◌, List, [], ◌∷◌, ◌++◌, length, get_or, refl, sym, ap, ◌∙◌, subst, arith, Bool, true, false, cond, true≢false, Some, Vec, Global, ⊎_elim, length-append}
-use Rattle.std.specs.List.{AllByRecursion, IsDistinct, find, list_any, slice_get}
-use Rattle.std.proofs.lemmas.Bool.{cases_eq}
-use Rattle.std.specs.Bool.{Decides}
-use Rattle.std.proofs.lemmas.Slice.Eq.{slice_eq-Decides}
-use Rattle.std.proofs.lemmas.Map.Keys.{IsDistinct-head, IsDistinct-tail}
-use Rattle.std.proofs.lemmas.Grind.{elements}
+use Rattle.std.proofs.{lemmas.Bool.{cases_eq}, lemmas.Slice.Eq.{slice_eq-Decides}, lemmas.Map.Keys.{IsDistinct-head, IsDistinct-tail}, lemmas.Grind.{elements}}
 use Rattle.std.proofs.lemmas.List.{get_or_read}
+use Rattle.std.specs.{List.{AllByRecursion, IsDistinct, find, list_any, slice_get}, Bool.{Decides}}
 use lib.Pointwise.{pointwise}
 use Rattle.indexmap.specs.IndexSet.{insert_key}
 use Rattle.gs_numbers.specs.Numbers.{HasKey, IsNumberOf, LeadToKeys, StayIn, same_parts}

@@ -1,6 +1,5 @@
 -- Numbers in order of first occurrence, and the keys that they stand for.
-use Rattle.std.specs.Prelude.{ℕ, ◌-◌, ◌<◌, ◌≡◌, Bool, true, List, Some, Vec, get_or, length, slice_get}
-use Rattle.std.specs.declared.alloc.Global.{Global}
+use Rattle.std.specs.{Prelude.{ℕ, ◌-◌, ◌<◌, ◌≡◌, Bool, true, List, Some, Vec, get_or, length, slice_get}, declared.alloc.Global.{Global}}
 use lib.Pointwise.{pointwise}
 use Rattle.gs_model.specs.Numbering.{IsClassesOf}
 

@@ -1,23 +1,14 @@
 -- The plan that puts all on the moves of best totals is a plan.
 use Rattle.std.proofs.Common.{◌≡◌, ℕ, List, length, refl, sym, ap, ◌∙◌, subst, Vec}
-use Rattle.std.specs.Prelude.{ℤ}
-use Rattle.std.specs.declared.alloc.Global.{Global}
-use Rattle.gs_model.specs.BestAnswers.{IsFirstBestPlan, Values}
-use Rattle.gs_model.specs.Classes.{ClassLists, IsClasses}
-use Rattle.gs_model.specs.Frame.{Frame, point_count}
-use Rattle.gs_model.specs.FrameFacts.{InRange, IsWalked}
-use Rattle.gs_model.specs.Lossless.{IsLossless}
-use Rattle.gs_model.specs.Plans.{Plan, lift}
-use Rattle.gs_seq.specs.Slots.{IsPlan, plan_of, slot_count}
-use Rattle.gs_seq.specs.declared.plan.Plan.{Plan as KeptPlan}
-use Rattle.gs_best.specs.Puts.{ArePutBefore}
-use Rattle.gs_best.specs.Tables.{moves_of}
+use Rattle.std.specs.{Prelude.{ℤ}, declared.alloc.Global.{Global}}
+use Rattle.gs_model.specs.{BestAnswers.{IsFirstBestPlan, Values}, Classes.{ClassLists, IsClasses}, Frame.{Frame, point_count}, FrameFacts.{InRange, IsWalked}}
+use Rattle.gs_model.specs.{Lossless.{IsLossless}, Plans.{Plan, lift}}
+use Rattle.gs_seq.specs.{Slots.{IsPlan, plan_of, slot_count}, declared.plan.Plan.{Plan as KeptPlan}}
+use Rattle.gs_best.specs.{Puts.{ArePutBefore}, Tables.{moves_of}}
 use Rattle.gs_best.proofs.AllOn.{put_is_plan}
-use Rattle.gs_totals.specs.ClassTotals.{AreBestTotals}
-use Rattle.gs_totals.specs.Places.{AreEndSums, totals_of}
+use Rattle.gs_totals.specs.{ClassTotals.{AreBestTotals}, Places.{AreEndSums, totals_of}}
 use Rattle.gs_totals.proofs.TotalAnswers.{chosen_is_best}
-use Rattle.gs_play.specs.Seats.{HasAnswered}
-use Rattle.gs_play.specs.declared.seats.Seat.{Seat}
+use Rattle.gs_play.specs.{Seats.{HasAnswered}, declared.seats.Seat.{Seat}}
 
 pub put_best : (f : Frame) → InRange f → (lists : ClassLists) → IsClasses f.parents lists → IsLossless f lists → (player : ℕ) → IsWalked f player
     → (y : Plan) (v : Values) (move : ℕ → ℕ → ℕ) (weights : List ℕ)

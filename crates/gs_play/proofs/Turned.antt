@@ -1,23 +1,15 @@
 -- For how many turns an answer stays, as long as the best totals choose it; and what ends pay after so many turns.
-use Rattle.std.proofs.Common.{◌≡◌, ℕ, ◌+◌, ◌-◌, ◌<◌, ◌≤◌, List, get_or, sym, ap, ◌∙◌, subst, arith}
+use Rattle.std.proofs.{Common.{◌≡◌, ℕ, ◌+◌, ◌-◌, ◌<◌, ◌≤◌, List, get_or, sym, ap, ◌∙◌, subst, arith}, Math.Nat.{le-min, min-le_left, min-le_right}}
 use Rattle.std.specs.Prelude.{◌==◌, min, ℤ, pos, ◌+ℤ◌, ◌*ℤ◌, if◌then◌else◌}
-use Rattle.std.proofs.Math.Nat.{le-min, min-le_left, min-le_right}
-use Rattle.gs_model.specs.BestAnswers.{Values}
-use Rattle.gs_model.specs.Classes.{ClassLists, IsClass, IsClasses, first_member}
+use Rattle.gs_model.specs.{BestAnswers.{Values}, Classes.{ClassLists, IsClass, IsClasses, first_member}}
 use Rattle.gs_model.specs.Frame.{Frame, last_step, move_count, other_player, payoff_to, player_at, point_count, round_of}
-use Rattle.gs_model.specs.FrameFacts.{InRange, IsInside, IsWalked}
-use Rattle.gs_model.specs.Lossless.{IsLossless}
-use Rattle.gs_model.specs.Plans.{Plan, lift, number_before}
+use Rattle.gs_model.specs.{FrameFacts.{InRange, IsInside, IsWalked}, Lossless.{IsLossless}, Plans.{Plan, lift, number_before}}
 use Rattle.gs_model.specs.Positions.{Target, at_end, at_point}
-use Rattle.gs_seq.specs.Payoffs.{end_sum}
-use Rattle.gs_seq.specs.Slots.{plan_of, slot_of}
+use Rattle.gs_seq.specs.{Payoffs.{end_sum}, Slots.{plan_of, slot_of}}
 use Rattle.gs_best.specs.Puts.{ArePutBefore}
-use Rattle.gs_totals.specs.ClassTotals.{AreBestTotals, IsFollowed}
-use Rattle.gs_totals.specs.Jumps.{AreBeforeChange, tables_after}
-use Rattle.gs_totals.specs.PlanSums.{AreAlike, plus_times}
+use Rattle.gs_totals.specs.{ClassTotals.{AreBestTotals, IsFollowed}, Jumps.{AreBeforeChange, tables_after}, PlanSums.{AreAlike, plus_times}}
 use Rattle.gs_totals.specs.Places.{AreEndLines, AreEndSums, ArePointLines, end_start, totals_of}
-use Rattle.gs_totals.proofs.JumpLaws.{best_alike, best_same, choices_stay}
-use Rattle.gs_totals.proofs.SumLaws.{end_plus, kept_alike}
+use Rattle.gs_totals.proofs.{JumpLaws.{best_alike, best_same, choices_stay}, SumLaws.{end_plus, kept_alike}}
 use Rattle.gs_play.specs.Staying.{AnswerStays}
 use Rattle.gs_play.proofs.Jumps.{answer_stays, answer_stays_once}
 

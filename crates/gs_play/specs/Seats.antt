@@ -1,17 +1,9 @@
 -- What a player holds from turn to turn. For private functions.
 use Rattle.std.specs.Prelude.{ℕ, ◌-◌, ◌≤◌, ◌≡◌, IsTrue, false, List, length}
-use Rattle.gs_model.specs.Classes.{ClassLists}
-use Rattle.gs_model.specs.Frame.{Frame, point_count}
-use Rattle.gs_model.specs.Plans.{Plan as ModelPlan}
-use Rattle.gs_model.specs.Play.{IsFictitiousPlay, IsFirstMoves}
-use Rattle.gs_seq.specs.Plans.{IsPlanOf, class_plan}
-use Rattle.gs_seq.specs.Slots.{slot_count}
-use Rattle.gs_best.specs.Puts.{ArePutBefore}
-use Rattle.gs_best.specs.Tables.{moves_of, start_of}
-use Rattle.gs_totals.specs.ClassTotals.{AreBestTotals, IsFollowed}
-use Rattle.gs_totals.specs.Places.{AreEndSums, totals_of}
-use Rattle.gs_totals.specs.Room.{HasRows}
-use Rattle.gs_totals.specs.declared.places.Totals.{Totals}
+use Rattle.gs_model.specs.{Classes.{ClassLists}, Frame.{Frame, point_count}, Plans.{Plan as ModelPlan}, Play.{IsFictitiousPlay, IsFirstMoves}}
+use Rattle.gs_seq.specs.{Plans.{IsPlanOf, class_plan}, Slots.{slot_count}}
+use Rattle.gs_best.specs.{Puts.{ArePutBefore}, Tables.{moves_of, start_of}}
+use Rattle.gs_totals.specs.{ClassTotals.{AreBestTotals, IsFollowed}, Places.{AreEndSums, totals_of}, Room.{HasRows}, declared.places.Totals.{Totals}}
 use Rattle.gs_play.specs.declared.seats.Seat.{Seat}
 
 -- there is room for a player's totals and choices, and the player has an answer of total 1

@@ -1,14 +1,8 @@
 -- An answer that stays for some turns. For private functions.
 use Rattle.std.specs.Prelude.{ℕ, ◌<◌}
-use Rattle.gs_model.specs.BestAnswers.{IsFirstBestPlan}
-use Rattle.gs_model.specs.Classes.{ClassLists}
-use Rattle.gs_model.specs.Frame.{Frame, other_player}
-use Rattle.gs_model.specs.Plans.{Plan, lift}
-use Rattle.gs_totals.specs.Jumps.{AreBeforeChange}
-use Rattle.gs_totals.specs.PlanSums.{AreAlike, plus_times}
-use Rattle.gs_totals.specs.declared.places.Totals.{Totals}
-use Rattle.gs_totals.specs.Roles.{frame_in, lists_in, moves_in, totals_in}
-use Rattle.gs_totals.specs.declared.role.Role.{Role}
+use Rattle.gs_model.specs.{BestAnswers.{IsFirstBestPlan}, Classes.{ClassLists}, Frame.{Frame, other_player}, Plans.{Plan, lift}}
+use Rattle.gs_totals.specs.{Jumps.{AreBeforeChange}, PlanSums.{AreAlike, plus_times}, declared.places.Totals.{Totals}}
+use Rattle.gs_totals.specs.{Roles.{frame_in, lists_in, moves_in, totals_in}, declared.role.Role.{Role}}
 use Rattle.gs_play.specs.declared.seats.Seat.{Seat}
 
 -- after fewer than `times` turns, each of which adds `more` to the other's plan y, the answer is still the first best one

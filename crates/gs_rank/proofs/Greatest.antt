@@ -1,10 +1,8 @@
 -- The category of three cards is the greatest that applies.
 use Rattle.std.proofs.Common.{◌≡◌, ◌≢◌, ℕ, ◌+◌, ◌-◌, ◌*◌, ◌/◌, ◌<◌, ◌≤◌, max, min, refl, sym, ap, ◌∙◌, suc, arith, Bool, true, false, cond, ⊎_elim, inl, inr}
+use Rattle.std.proofs.{Math.Bool.{or-true}, lemmas.Bool.{eqb-true, eq-eqb, and_parts, and_from, or_cases, cases_eq}}
 use Rattle.std.specs.Prelude.{◌==◌, ◌&&◌, ◌||◌, ◌⊎◌, nat_lt}
-use Rattle.std.proofs.Math.Bool.{or-true}
-use Rattle.std.proofs.lemmas.Bool.{eqb-true, eq-eqb, and_parts, and_from, or_cases, cases_eq}
-use Rattle.gs_model.specs.Game.{Three}
-use Rattle.gs_model.specs.Outcome.{rank_of, suit_of, three_strength, category}
+use Rattle.gs_model.specs.{Game.{Three}, Outcome.{rank_of, suit_of, three_strength, category}}
 use Rattle.gs_rank.specs.ThreeCards.{Cards, Category, HighCard, OnePair, Flush, Straight, ThreeOfAKind, StraightFlush, number, Applies, IsPair, IsFlush, IsStraight, IsThreeOfAKind, IsGreatest}
 
 -- the category by the tests: straight, flush, three of a kind, a high pair, a low pair

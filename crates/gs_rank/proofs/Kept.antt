@@ -1,9 +1,7 @@
 -- Lists that keep a number for each kind.
-use Rattle.std.proofs.Common.{◌≡◌, ℕ, ◌+◌, ◌<◌, ◌≤◌, ◌++◌, ◌∷◌, [], List, get_or, length, map, ap, sym, ◌∙◌, arith}
+use Rattle.std.proofs.{Common.{◌≡◌, ℕ, ◌+◌, ◌<◌, ◌≤◌, ◌++◌, ◌∷◌, [], List, get_or, length, map, ap, sym, ◌∙◌, arith}, Math.Nat.{div-le_self}}
+use Rattle.std.proofs.{lemmas.List.{length-map}, lemmas.List.FromFn.{get_or-map-range_with_len, length-range_with_len, map-range_with_len_more}}
 use Rattle.std.specs.List.{range_with_len}
-use Rattle.std.proofs.Math.Nat.{div-le_self}
-use Rattle.std.proofs.lemmas.List.{length-map}
-use Rattle.std.proofs.lemmas.List.FromFn.{get_or-map-range_with_len, length-range_with_len, map-range_with_len_more}
 use Rattle.gs_model.specs.Outcome.{rank_of}
 
 -- as many as there are kinds

@@ -1,8 +1,7 @@
 -- The hands and strengths that a ranking compares. Source: the rules of Kuhn's, Leduc and Rhode Island hold'em (Gilpin and Sandholm 2007).
 use Rattle.std.specs.Prelude.{ℕ, ◌+◌, ◌<◌, ◌≡◌, List, length, All}
 use Rattle.gs_card.specs.Decks.{DeckValue, kinds}
-use Rattle.gs_model.specs.Game.{Ranking, High, Pair, Three}
-use Rattle.gs_model.specs.Outcome.{categories, category}
+use Rattle.gs_model.specs.{Game.{Ranking, High, Pair, Three}, Outcome.{categories, category}}
 
 -- how many own and public cards a hand has: by the own card and by a pair one own card, by three cards three in all
 abbrev pub IsSized : Ranking → ℕ → ℕ → Type 0

@@ -1,7 +1,6 @@
 -- The category of three cards, by their ranks and suits, in any order. Source: the rules of Rhode Island hold'em (Gilpin and Sandholm 2007).
 use Rattle.std.specs.Prelude.{ℕ, ◌+◌, ◌<◌, ◌≤◌, ◌≡◌, ◌⊎◌}
-use Rattle.gs_model.specs.Game.{Three}
-use Rattle.gs_model.specs.Outcome.{rank_of, suit_of, three_strength, category}
+use Rattle.gs_model.specs.{Game.{Three}, Outcome.{rank_of, suit_of, three_strength, category}}
 
 -- three cards, by the numbers of their kinds
 pub record Cards : Type 0 where

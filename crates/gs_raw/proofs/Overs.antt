@@ -2,24 +2,17 @@
 use Rattle.std.proofs.Common.{◌≡◌, ℕ, List, get_or, ap, sym, ◌∙◌, subst, arith, Result, Err}
 use Rattle.std.specs.Prelude.{IfErr}
 use Rattle.gs_filter.specs.Filter.{Filter, single_classes}
-use Rattle.gs_frac.specs.declared.value.Fraction.{Fraction}
-use Rattle.gs_frac.specs.declared.value.Verdict.{Verdict}
+use Rattle.gs_frac.specs.{declared.value.Fraction.{Fraction}, declared.value.Verdict.{Verdict}}
 use Rattle.gs_game.specs.Games.{game_of}
 use Rattle.gs_lossless.specs.declared.checking.Lossless.{Lossless}
-use Rattle.gs_model.specs.Classes.{ClassLists}
-use Rattle.gs_model.specs.Frame.{Frame}
+use Rattle.gs_model.specs.{Classes.{ClassLists}, Frame.{Frame}}
 use Rattle.gs_model.proofs.Ranges.{in_range}
 use Rattle.gs_best.specs.Judged.{parts}
-use Rattle.gs_seq.specs.Abstracts.{frame_of, lists_of}
-use Rattle.gs_seq.specs.Games.{frame_in}
-use Rattle.gs_seq.specs.Plans.{IsPlanOf, lifted}
-use Rattle.gs_seq.specs.declared.form.Abstract.{Abstract}
+use Rattle.gs_seq.specs.{Abstracts.{frame_of, lists_of}, Games.{frame_in}, Plans.{IsPlanOf, lifted}, declared.form.Abstract.{Abstract}}
 use Rattle.gs_seq.specs.declared.plan.Plan.{Plan}
 use Rattle.gs_tree.specs.declared.signals.Signals.{Signals}
 use Rattle.gs_seq.proofs.Points.{playable, walked}
-use Rattle.gs_raw.specs.Answers.{AreHandValuesOf, IsJudgedOf, IsRawStopOf}
-use Rattle.gs_raw.specs.Lifts.{AreSame}
-use Rattle.gs_raw.specs.declared.stop.RawStop.{RawStop}
+use Rattle.gs_raw.specs.{Answers.{AreHandValuesOf, IsJudgedOf, IsRawStopOf}, Lifts.{AreSame}, declared.stop.RawStop.{RawStop}}
 use Rattle.gs_raw.proofs.Same.{hand_same, verdict_same}
 
 same_frame : (a : Abstract) (l : Lossless) (s : Signals) → a.lossless.now ≡ l → l.signals.now ≡ s → frame_of a ≡ frame_in s.game.now

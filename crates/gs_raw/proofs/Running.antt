@@ -1,15 +1,12 @@
 -- A running sum that stays within a bound fits 128 bits.
-use Rattle.std.proofs.Common.{◌≡◌, ℕ, ℤ, ◌+◌, ◌-◌, ◌*◌, ◌<◌, ◌≤◌, ◌^◌, ap, sym, ◌∙◌, arith, of_z, sum_by}
-use Rattle.std.specs.Prelude.{unsigned_abs, ◌+ℤ◌}
-use Rattle.std.specs.List.{range_with_len}
-use Rattle.std.proofs.Math.Nat.{mul-add, mul-le-mul_left}
+use Rattle.std.proofs.{Common.{◌≡◌, ℕ, ℤ, ◌+◌, ◌-◌, ◌*◌, ◌<◌, ◌≤◌, ◌^◌, ap, sym, ◌∙◌, arith, of_z, sum_by}, Math.Nat.{mul-add, mul-le-mul_left}}
+use Rattle.std.specs.{Prelude.{unsigned_abs, ◌+ℤ◌}, List.{range_with_len}}
 use mir.Syntax.{w128}
 use mir.Val.{to_z}
 use Rattle.gs_model.specs.Sums.{sum_z}
 use Rattle.gs_model.proofs.Sparse.{abs_sum}
 use Rattle.gs_seq.proofs.EndTotals.{from_zero, range_put}
-use Rattle.gs_raw.proofs.Numbers.{kept}
-use Rattle.gs_raw.proofs.Sums.{range_more as run_more, weight_more}
+use Rattle.gs_raw.proofs.{Numbers.{kept}, Sums.{range_more as run_more, weight_more}}
 
 -- a sum and one more part: it fits, is this, and stays within a bound
 pub record IsAdded (sum part to : ℤ) (bound : ℕ) : Type 0 where

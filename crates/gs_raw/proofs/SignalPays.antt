@@ -1,41 +1,22 @@
 -- What the deals of signals pay at an end, from the plan of player 1 and what the end is worth there.
 use Rattle.std.proofs.Common.{◌≡◌, ℕ, ℤ, pos, ◌+◌, ◌-◌, ◌*◌, ◌<◌, ◌≤◌, ◌^◌, ◌++◌, ◌∷◌, [], List, Bool, true, false, cond, length, get_or, refl, sym, ap, ◌∙◌, subst, arith, sum_by, mul_left_comm, length-append, ⊎_elim}
+use Rattle.std.proofs.{Math.IntN.{*ℤ-zero}, Math.Nat.{mul-le-mul_left}, lemmas.Bool.Decides.{Decides-eqb}, lemmas.Bool.{cases_eq, false≢true}}
+use Rattle.std.proofs.{lemmas.List.{get_or_append_left, get_or_at}, lemmas.List.Elements.{All-filter}}
 use Rattle.std.specs.Prelude.{◌==◌, ◌*ℤ◌, All, filter, unsigned_abs}
-use Rattle.std.proofs.Math.IntN.{*ℤ-zero}
-use Rattle.std.proofs.Math.Nat.{mul-le-mul_left}
-use Rattle.std.proofs.lemmas.Bool.Decides.{Decides-eqb}
-use Rattle.std.proofs.lemmas.Bool.{cases_eq, false≢true}
-use Rattle.std.proofs.lemmas.List.{get_or_append_left, get_or_at}
-use Rattle.std.proofs.lemmas.List.Elements.{All-filter}
 use Rattle.gs_filter.specs.Filter.{single_classes}
 use Rattle.gs_filter.proofs.ClassLaws.{single_are_classes}
 use Rattle.gs_lossless.specs.Amounts.{IsRunIn}
-use Rattle.gs_model.specs.BestAnswers.{end_worth}
-use Rattle.gs_model.specs.Classes.{ClassLists, IsClass, first_member}
-use Rattle.gs_model.specs.Deals.{Deal}
-use Rattle.gs_model.specs.Frame.{Frame, at_round, end_count, last_round, payoff_to, round_of, signal_count}
-use Rattle.gs_model.specs.FrameFacts.{InRange, IsWalked}
-use Rattle.gs_model.specs.Payoff.{number_at_end}
-use Rattle.gs_model.specs.Plans.{IsClassPlan, Plan, lift}
-use Rattle.gs_model.specs.Positions.{at_end}
-use Rattle.gs_model.proofs.Tables.{is_table}
-use Rattle.gs_model.proofs.Total.{mul_assoc_z, sum_z-mul, sum_z-same}
-use Rattle.gs_model.proofs.Basics.{product_le}
-use Rattle.gs_best.proofs.Chips.{IsModest}
-use Rattle.gs_best.proofs.Forms.{form_in_range, form_modest, form_walked, form_signals}
-use Rattle.gs_best.proofs.Rooms.{pos-product}
+use Rattle.gs_model.specs.{BestAnswers.{end_worth}, Classes.{ClassLists, IsClass, first_member}, Deals.{Deal}}
+use Rattle.gs_model.specs.{Frame.{Frame, at_round, end_count, last_round, payoff_to, round_of, signal_count}, FrameFacts.{InRange, IsWalked}}
+use Rattle.gs_model.specs.{Payoff.{number_at_end}, Plans.{IsClassPlan, Plan, lift}, Positions.{at_end}}
+use Rattle.gs_model.proofs.{Tables.{is_table}, Total.{mul_assoc_z, sum_z-mul, sum_z-same}, Basics.{product_le}}
+use Rattle.gs_best.proofs.{Chips.{IsModest}, Forms.{form_in_range, form_modest, form_walked, form_signals}, Rooms.{pos-product}}
 use Rattle.gs_frac.specs.declared.value.Fraction.{Fraction}
-use Rattle.gs_seq.specs.Abstracts.{frame_of, lists_of}
-use Rattle.gs_seq.specs.Plans.{IsPlanOf, class_plan, lifted}
-use Rattle.gs_seq.specs.declared.form.Abstract.{Abstract}
+use Rattle.gs_seq.specs.{Abstracts.{frame_of, lists_of}, Plans.{IsPlanOf, class_plan, lifted}, declared.form.Abstract.{Abstract}}
 use Rattle.gs_seq.specs.declared.plan.Plan.{Plan as StoredPlan}
-use Rattle.gs_seq.proofs.Ends.{number_few}
-use Rattle.gs_seq.proofs.RowFacts.{abs_all, sum-times}
-use Rattle.gs_raw.specs.Answers.{IsHandValueOf}
-use Rattle.gs_raw.specs.Hands.{deal_pays, hand_pays_at, number_of, signal_pays, signal_weighs, signals_pay, signals_weigh}
-use Rattle.gs_raw.proofs.Numbers.{abs_scaled}
-use Rattle.gs_raw.proofs.Spread.{single_class, single_member}
-use Rattle.gs_raw.proofs.Sums.{IsInRun, filter_le, filter_sum, run_sum, run_weight_le}
+use Rattle.gs_seq.proofs.{Ends.{number_few}, RowFacts.{abs_all, sum-times}}
+use Rattle.gs_raw.specs.{Answers.{IsHandValueOf}, Hands.{deal_pays, hand_pays_at, number_of, signal_pays, signal_weighs, signals_pay, signals_weigh}}
+use Rattle.gs_raw.proofs.{Numbers.{abs_scaled}, Spread.{single_class, single_member}, Sums.{IsInRun, filter_le, filter_sum, run_sum, run_weight_le}}
 
 -- ---- one signal
 

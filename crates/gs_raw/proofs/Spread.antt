@@ -1,33 +1,18 @@
 -- Plans over classes spread over raw signals: the weights, one signal and one point after another, and that they are a plan of the same numbers.
 use Rattle.std.proofs.Common.{◌≡◌, ℕ, ◌+◌, ◌-◌, ◌*◌, ◌<◌, ◌≤◌, ◌++◌, List, length, map, take, drop, get_or, refl, sym, ap, ◌∙◌, subst, arith, ⊎_elim, length-append, length-drop, Option, Some, None, true}
+use Rattle.std.proofs.{Math.Nat.{mul-le-mul_right}, lemmas.Bool.{cases_eq, cases_lt}, lemmas.Bool.Decides.{Decides-eqb}}
+use Rattle.std.proofs.{lemmas.List.{get_or-append-add, get_or-drop, get_or-take, get_or_append_left, length-take}, lemmas.List.FromFn.{get_or-range_with_len}}
 use Rattle.std.specs.Prelude.{◌==◌}
-use Rattle.std.proofs.Math.Nat.{mul-le-mul_right}
-use Rattle.std.proofs.lemmas.Bool.{cases_eq, cases_lt}
-use Rattle.std.proofs.lemmas.Bool.Decides.{Decides-eqb}
-use Rattle.std.proofs.lemmas.List.{get_or-append-add, get_or-drop, get_or-take, get_or_append_left, length-take}
-use Rattle.std.proofs.lemmas.List.FromFn.{get_or-range_with_len}
 use Rattle.gs_filter.specs.Filter.{Filter, single_classes}
-use Rattle.gs_filter.proofs.ClassLaws.{single_are_classes, single_at}
-use Rattle.gs_filter.proofs.TallyLaws.{first_in, first_member_of}
-use Rattle.gs_game.specs.Seen.{own_point, point_of}
-use Rattle.gs_game.specs.declared.positions.Point.{Point as StoredPoint}
-use Rattle.gs_game.specs.declared.valid.ValidGame.{ValidGame}
+use Rattle.gs_filter.proofs.{ClassLaws.{single_are_classes, single_at}, TallyLaws.{first_in, first_member_of}}
+use Rattle.gs_game.specs.{Seen.{own_point, point_of}, declared.positions.Point.{Point as StoredPoint}, declared.valid.ValidGame.{ValidGame}}
 use Rattle.gs_model.specs.Classes.{ClassLists, IsClass, IsClasses, class_count, class_of, first_member, list_of}
 use Rattle.gs_model.specs.Frame.{Frame, ancestor, last_round, last_step, move_count, player_at, point_count, round_of, signal_count}
-use Rattle.gs_model.specs.FrameFacts.{InRange, IsWalked}
-use Rattle.gs_model.specs.Plans.{IsRawPlan, lift, number_before}
-use Rattle.gs_model.specs.Positions.{Step, at_point}
-use Rattle.gs_model.proofs.Alike.{keeps_from}
-use Rattle.gs_model.proofs.Deviations.{lift_is_raw_plan}
-use Rattle.gs_model.proofs.FirstBest.{sum-same_range}
-use Rattle.gs_model.proofs.Gather.{class_in, firsts_from, known_from, plan_by}
+use Rattle.gs_model.specs.{FrameFacts.{InRange, IsWalked}, Plans.{IsRawPlan, lift, number_before}, Positions.{Step, at_point}}
+use Rattle.gs_model.proofs.{Alike.{keeps_from}, Deviations.{lift_is_raw_plan}, FirstBest.{sum-same_range}, Gather.{class_in, firsts_from, known_from, plan_by}}
 use Rattle.gs_model.proofs.Tables.{is_table}
-use Rattle.gs_seq.specs.Slots.{IsPlan, plan_of, slot_count, slot_of, slots_at, slots_before}
-use Rattle.gs_seq.proofs.Coming.{slot_before}
-use Rattle.gs_seq.specs.Games.{frame_in}
-use Rattle.gs_seq.proofs.Leaks.{row_room, slots_none}
-use Rattle.gs_seq.proofs.Points.{point_reads, walked}
-use Rattle.gs_seq.proofs.SlotLaws.{over, slots_more}
+use Rattle.gs_seq.specs.{Slots.{IsPlan, plan_of, slot_count, slot_of, slots_at, slots_before}, Games.{frame_in}}
+use Rattle.gs_seq.proofs.{Coming.{slot_before}, Leaks.{row_room, slots_none}, Points.{point_reads, walked}, SlotLaws.{over, slots_more}}
 use Rattle.gs_raw.specs.Lifts.{AreSame, AreSpreadBefore, IsSpreadBehind}
 
 -- ---- the signals of a point

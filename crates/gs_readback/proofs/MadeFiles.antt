@@ -1,26 +1,15 @@
 -- Made files are read back: their lines make a table, and the table states the game.
 use Rattle.std.proofs.Common.{◌≡◌, ℕ, suc, ◌≤◌, true, false, List, [], ◌∷◌, ◌++◌, length, codes, Some, None, pos, refl, ap, ◌∙◌, subst, inl, inr, arith, append_assoc, option_map, map, Option}
-use Rattle.std.specs.Prelude.{flat_map}
-use Rattle.std.specs.Fmt.{decimal}
-use Rattle.std.specs.Str.{IsAscii}
-use Rattle.std.proofs.lemmas.Fmt.{IsAscii-decimal}
-use Rattle.std.proofs.lemmas.Str.{IsAscii-append, IsUtf8-from_ascii, is_utf8-from_IsUtf8}
-use Rattle.toml.specs.Data.{Data, string, integer, array, table, Items, no_items, item, Members, no_members, member}
-use Rattle.toml.specs.Parse.{lines, parse_document, skip_bom}
-use Rattle.std.proofs.lemmas.Option.{same_Some}
-use Rattle.toml.specs.Tables.{Document, Expression, no_nodes, define, at_key, along_dots, along_header, close}
-use Rattle.toml.specs.Text.{IsLinesText}
-use Rattle.toml.proofs.ReadLines.{AllPrinted, read_lines, run}
-use Rattle.toml.proofs.Turns.{document_some}
-use Rattle.gs_file.specs.Reading.{rules_of}
-use Rattle.gs_file.specs.JsonForm.{ranking_text}
-use Rattle.gs_file.specs.States.{IsRound, OneByOne, StatesGame}
-use Rattle.gs_file.specs.Tables.{list_of}
+use Rattle.std.proofs.{lemmas.Fmt.{IsAscii-decimal}, lemmas.Str.{IsAscii-append, IsUtf8-from_ascii, is_utf8-from_IsUtf8}, lemmas.Option.{same_Some}}
+use Rattle.std.specs.{Prelude.{flat_map}, Fmt.{decimal}, Str.{IsAscii}}
+use Rattle.toml.specs.{Data.{Data, string, integer, array, table, Items, no_items, item, Members, no_members, member}, Parse.{lines, parse_document, skip_bom}}
+use Rattle.toml.specs.{Tables.{Document, Expression, no_nodes, define, at_key, along_dots, along_header, close}, Text.{IsLinesText}}
+use Rattle.toml.proofs.{ReadLines.{AllPrinted, read_lines, run}, Turns.{document_some}}
+use Rattle.gs_file.specs.{Reading.{rules_of}, JsonForm.{ranking_text}, States.{IsRound, OneByOne, StatesGame}, Tables.{list_of}}
 use Rattle.gs_file.proofs.States.{states_is}
 use Rattle.gs_game.specs.Refusals.{first_refusal}
 use Rattle.gs_made.proofs.Ascii.{ascii}
-use Rattle.gs_made.specs.Made.{ante_of, head_text, ranking_of, round_text, rounds_of}
-use Rattle.gs_made.specs.declared.kind.Kind.{Kind}
+use Rattle.gs_made.specs.{Made.{ante_of, head_text, ranking_of, round_text, rounds_of}, declared.kind.Kind.{Kind}}
 use Rattle.gs_made.specs.declared.kind.Kind.TheVariants.{Kuhn, Leduc, Rhode}
 use Rattle.gs_readback.specs.MadeGames.{MadeFilesAreReadBack, game_for, ranking_for, round_for}
 use Rattle.gs_readback.proofs.Texts.{IsInRange, head_lines, head_written, round_lines, round_written}

@@ -1,11 +1,9 @@
 -- The lines of a made file as the lines that the writer of TOML gives, and what the reader makes of them.
 use Rattle.std.proofs.Common.{◌≡◌, ℕ, ◌≤◌, ◌<◌, ◌^◌, Bool, true, false, List, [], ◌∷◌, ◌++◌, codes, pos, refl, sym, ap, ◌∙◌, subst, arith, append_assoc}
-use Rattle.std.specs.Fmt.{decimal, signed_decimal}
 use Rattle.std.proofs.lemmas.Fmt.{decimal_digit}
+use Rattle.std.specs.Fmt.{decimal, signed_decimal}
 use Rattle.toml_writer.specs.Text.{key_text, string_text}
-use Rattle.toml.specs.Data.{Data, string, integer}
-use Rattle.toml.specs.Tables.{Expression, key_value, array_table}
-use Rattle.toml.specs.Text.{IsLinesText, IsValueText}
+use Rattle.toml.specs.{Data.{Data, string, integer}, Tables.{Expression, key_value, array_table}, Text.{IsLinesText, IsValueText}}
 use Rattle.gs_made.specs.Made.{head_text, round_text}
 use Rattle.gs_readback.proofs.Words.{IsPlain}
 

@@ -1,19 +1,12 @@
 -- The letters of ranks and suits, and the words that stand in a made file.
-use Rattle.std.proofs.Common.{◌≡◌, ℕ, zero, suc, ◌*◌, ◌≤◌, true, false, List, [], ◌∷◌, ◌++◌, length, take, codes, refl, arith}
-use Rattle.std.specs.Prelude.{None}
-use Rattle.std.specs.Char.{is_ascii_alphanumeric}
-use Rattle.std.specs.List.{list_all}
-use Rattle.std.proofs.lemmas.Bool.{le-ltb, ne_eqb}
+use Rattle.std.proofs.{Common.{◌≡◌, ℕ, zero, suc, ◌*◌, ◌≤◌, true, false, List, [], ◌∷◌, ◌++◌, length, take, codes, refl, arith}, lemmas.Bool.{le-ltb, ne_eqb}}
 use Rattle.std.proofs.Math.Nat.{mul-le-mul_left, mul-le-mul_right}
-use Rattle.std.specs.Str.{IsAscii}
+use Rattle.std.specs.{Prelude.{None}, Char.{is_ascii_alphanumeric}, List.{list_all}, Str.{IsAscii}}
 use Rattle.toml_writer.specs.Text.{string_text, encoding_of, escaped, needs_escape, quotes_after}
 use Rattle.gs_model.proofs.Few.{from_one_to_four}
-use Rattle.gs_card.specs.DeckFaults.{fault_of}
-use Rattle.gs_card.specs.Decks.{repeats}
+use Rattle.gs_card.specs.{DeckFaults.{fault_of}, Decks.{repeats}}
 use Rattle.gs_made.proofs.Ascii.{ascii}
-use Rattle.gs_made.specs.Made.{last, ranking_of}
-use Rattle.gs_made.specs.declared.kind.Kind.{Kind}
-use Rattle.gs_made.specs.declared.kind.Kind.TheVariants.{Kuhn, Leduc, Rhode}
+use Rattle.gs_made.specs.{Made.{last, ranking_of}, declared.kind.Kind.{Kind}, declared.kind.Kind.TheVariants.{Kuhn, Leduc, Rhode}}
 
 -- a word that is written between quotes as it is
 pub record IsPlain (word : List ℕ) : Type 0 where

@@ -4,11 +4,8 @@ use Rattle.gs_bet.specs.Limit.{limit_bet}
 use Rattle.gs_card.specs.Decks.{deck_of}
 use Rattle.gs_file.specs.Reading.{FileGame, read_at, rules_of}
 use Rattle.gs_game.specs.Refusals.{first_refusal}
-use Rattle.gs_made.specs.Made.{ante_of, last, made_game, rounds_of}
-use Rattle.gs_made.specs.declared.kind.Kind.{Kind}
-use Rattle.gs_made.specs.declared.kind.Kind.TheVariants.{Kuhn, Leduc, Rhode}
-use Rattle.gs_model.specs.Game.{Round, Ranking, High, Pair, Three}
-use Rattle.gs_model.specs.Outcome.{categories}
+use Rattle.gs_made.specs.{Made.{ante_of, last, made_game, rounds_of}, declared.kind.Kind.{Kind}, declared.kind.Kind.TheVariants.{Kuhn, Leduc, Rhode}}
+use Rattle.gs_model.specs.{Game.{Round, Ranking, High, Pair, Three}, Outcome.{categories}}
 
 -- the ranking of hands in a kind of game
 abbrev pub ranking_for : Kind → Ranking

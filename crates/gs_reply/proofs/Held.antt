@@ -1,13 +1,8 @@
 -- What is said of the strategy that a file holds is said of the file; one that holds none is refused for its first fault.
 use Rattle.std.proofs.Common.{◌≢◌, ℕ, List, Ok, Err, refl}
-use Rattle.gs_reply.specs.Refusals.{Bad_strategy}
-use Rattle.gs_reply.specs.Replies.{Answers, IsBadStrategy, OfFile, Reply, Tells}
-use Rattle.gs_reply.specs.declared.answers.Answer.{Answer}
+use Rattle.gs_reply.specs.{Refusals.{Bad_strategy}, Replies.{Answers, IsBadStrategy, OfFile, Reply, Tells}, declared.answers.Answer.{Answer}}
 use Rattle.gs_reply.specs.declared.strategies.Which.{Which}
-use Rattle.gs_strategy.specs.Checks.{ReadResult, Reads}
-use Rattle.gs_strategy.specs.Faults.{FailsSo, Fault, IsFault}
-use Rattle.gs_strategy.specs.Values.{Strategy}
-use Rattle.gs_strategy.specs.declared.fault.StoreFault.{StoreFault}
+use Rattle.gs_strategy.specs.{Checks.{ReadResult, Reads}, Faults.{FailsSo, Fault, IsFault}, Values.{Strategy}, declared.fault.StoreFault.{StoreFault}}
 use Rattle.gs_strategy.specs.declared.fault.StoreFault.TheVariants as fault
 use Rattle.gs_reply.proofs.Refused.{answers_more, tells_answer}
 

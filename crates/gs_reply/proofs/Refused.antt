@@ -1,15 +1,10 @@
 -- A fault of the program is the one that reading meets first; answers that tell a refusal, and answers of which more is said.
 use Rattle.std.proofs.Common.{◌≡◌, ◌≢◌, Result, Ok, Err, refl, sym, subst}
-use Rattle.gs_file.specs.Answers.{Fails}
-use Rattle.gs_file.specs.Faults.{Fault}
-use Rattle.gs_file.specs.Reading.{FileGame}
-use Rattle.gs_file.specs.declared.fault.FileFault.{FileFault}
+use Rattle.gs_file.specs.{Answers.{Fails}, Faults.{Fault}, Reading.{FileGame}, declared.fault.FileFault.{FileFault}, Answers.{FailsByRules}}
 use Rattle.gs_file.specs.declared.fault.FileFault.TheVariants as fault
 use Rattle.gs_game.specs.declared.faults.GameFault.{GameFault}
 use Rattle.gs_game.specs.declared.faults.GameFault.TheVariants as rules
-use Rattle.gs_file.specs.Answers.{FailsByRules}
-use Rattle.gs_reply.specs.Refusals.{Refusal, Bad_game}
-use Rattle.gs_reply.specs.Replies.{Answers, IsBadGame, OfReading, Reply, Prints, Refuses, Tells}
+use Rattle.gs_reply.specs.{Refusals.{Refusal, Bad_game}, Replies.{Answers, IsBadGame, OfReading, Reply, Prints, Refuses, Tells}}
 use Rattle.gs_reply.specs.declared.answers.Answer.{Answer}
 use Rattle.gs_reply.specs.declared.answers.Answer.TheVariants as answer
 

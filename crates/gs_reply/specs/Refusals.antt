@@ -1,17 +1,14 @@
 -- Why an input is refused, and the line of each refusal.
-use Rattle.std.specs.Prelude.{ℕ, ℤ, List, [], ◌++◌, codes}
-use Rattle.std.specs.Fmt.{decimal, signed_decimal}
+use Rattle.std.specs.{Prelude.{ℕ, ℤ, List, [], ◌++◌, codes}, Fmt.{decimal, signed_decimal}}
 use Rattle.gs_file.specs.Faults.{Fault}
 use Rattle.gs_frac.specs.Texts.{fraction_text}
 use Rattle.gs_lift.specs.declared.fault.QueryFault.{QueryFault}
 use Rattle.gs_lift.specs.declared.fault.QueryFault.TheVariants as query
 use Rattle.gs_strategy.specs.Faults.{Fault as StrategyFault}
 use Rattle.gs_text.specs.FaultText.{fault_text}
-use Rattle.gs_reply.specs.StoreText.{store_text}
-use Rattle.gs_reply.specs.declared.answers.Cause.{Cause}
-use Rattle.gs_reply.specs.declared.answers.Cause.TheVariants as cause
-use Rattle.gs_reply.specs.declared.strategies.Which.{Which}
+use Rattle.gs_reply.specs.{StoreText.{store_text}, declared.answers.Cause.{Cause}, declared.strategies.Which.{Which}}
 use Rattle.gs_reply.specs.declared.strategies.Which.TheVariants.{Only, First, Second}
+use Rattle.gs_reply.specs.declared.answers.Cause.TheVariants as cause
 
 -- what there is too much of, and how much: sequences of a player, pairs of classes over all ends, numbers of a program's table, pairs of raw signals
 -- over all ends

@@ -1,14 +1,9 @@
 -- What is printed for an input, or why it is refused.
 use Rattle.std.specs.Prelude.{◌≡◌, ℕ, List, Result, Ok, Err}
-use Rattle.gs_file.specs.Faults.{Fault}
-use Rattle.gs_file.specs.Reading.{FileGame}
-use Rattle.gs_strategy.specs.Checks.{ReadResult, Reads}
-use Rattle.gs_strategy.specs.Faults.{Fault as StrategyFault}
-use Rattle.gs_strategy.specs.Values.{Strategy}
-use Rattle.gs_reply.specs.Refusals.{Refusal, Bad_game, Bad_strategy, cause_of, line_of}
-use Rattle.gs_reply.specs.declared.answers.Answer.{Answer}
+use Rattle.gs_file.specs.{Faults.{Fault}, Reading.{FileGame}}
+use Rattle.gs_strategy.specs.{Checks.{ReadResult, Reads}, Faults.{Fault as StrategyFault}, Values.{Strategy}}
+use Rattle.gs_reply.specs.{Refusals.{Refusal, Bad_game, Bad_strategy, cause_of, line_of}, declared.answers.Answer.{Answer}, declared.strategies.Which.{Which}}
 use Rattle.gs_reply.specs.declared.answers.Answer.TheVariants as answer
-use Rattle.gs_reply.specs.declared.strategies.Which.{Which}
 
 -- a text to print, or a refusal
 pub data Reply : Type 0 where

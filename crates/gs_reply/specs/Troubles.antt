@@ -1,15 +1,11 @@
 -- Why a game over classes is refused: the classes are not lossless, or the game in sequence form is too large.
 use Rattle.std.specs.Prelude.{◌≡◌, ℕ, List}
 use Rattle.gs_file.specs.Reading.{FileGame, rules_of}
-use Rattle.gs_model.specs.Classes.{ClassLists}
-use Rattle.gs_model.specs.Lossless.{IsFirstUnlike, IsLossless}
-use Rattle.gs_model.specs.Signals.{signal_at}
-use Rattle.gs_seq.specs.Stops.{IsStopOf}
-use Rattle.gs_seq.specs.declared.stop.SeqStop.TheVariants.{TooManySequences, TooManyCells}
+use Rattle.gs_model.specs.{Classes.{ClassLists}, Lossless.{IsFirstUnlike, IsLossless}, Signals.{signal_at}}
+use Rattle.gs_seq.specs.{Stops.{IsStopOf}, declared.stop.SeqStop.TheVariants.{TooManySequences, TooManyCells}}
 use Rattle.gs_strategy.specs.Values.{frame_in}
 use Rattle.gs_tree.specs.Texts.{signal_text}
-use Rattle.gs_reply.specs.Refusals.{Limit, Sequences, Cells, Table_numbers, Raw_cells, Unlike_pair, Too_large}
-use Rattle.gs_reply.specs.Replies.{Reply, Refuses}
+use Rattle.gs_reply.specs.{Refusals.{Limit, Sequences, Cells, Table_numbers, Raw_cells, Unlike_pair, Too_large}, Replies.{Reply, Refuses}}
 
 -- the classes are not lossless, and this is their first unlike pair, by its round and the texts of the two signals
 pub record IsUnlikePair (g : FileGame) (lists : ClassLists) (round : ℕ) (one two : List ℕ) : Type 0 where

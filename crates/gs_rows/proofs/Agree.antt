@@ -1,15 +1,8 @@
 -- Two paths of one opening have the same lists and the same rows as far as both go.
 use Rattle.std.proofs.Common.{◌≡◌, ℕ, zero, suc, ◌+◌, ◌<◌, ◌≤◌, ◌⊎◌, inl, inr, length, slice_set, ℤ, pos, ◌*ℤ◌, ◌≤ℤ◌, ◌<ℤ◌, sym, ap, subst, ◌∙◌, arith}
 use Rattle.std.proofs.lemmas.Bool.{cases_order, cases_lt}
-use Rattle.gs_rows.specs.declared.Program.{Program}
-use Rattle.gs_rows.specs.Program.{Listing, IsListed, RowListed, IsRowsOf, IsOpening}
-use Rattle.gs_rows.specs.Path.{Enters, Leaves, IsPivot, IsPath}
-use Rattle.gs_rows.proofs.States.{states}
-use Rattle.gs_rows.proofs.Ring.{linear}
-use Rattle.gs_rows.proofs.Steps.{IsList, rows_same}
-use Rattle.gs_rows.proofs.Pivots.{IsOnce}
-use Rattle.gs_rows.proofs.Bases.{IsFull}
-use Rattle.gs_rows.proofs.Opening.{path_trail}
+use Rattle.gs_rows.specs.{declared.Program.{Program}, Program.{Listing, IsListed, RowListed, IsRowsOf, IsOpening}, Path.{Enters, Leaves, IsPivot, IsPath}}
+use Rattle.gs_rows.proofs.{States.{states}, Ring.{linear}, Steps.{IsList, rows_same}, Pivots.{IsOnce}, Bases.{IsFull}, Opening.{path_trail}}
 
 -- two tables that agree where the path looks
 pub record Agree (p : Program) (R S : ℕ → ℕ → ℤ) (a b : ℕ → ℤ) : Type 0 where

@@ -1,16 +1,11 @@
 -- From the end of the opening on every list gives each row a column, a pivot keeps it so and the rows feasible, and no basis comes twice.
 use Rattle.std.proofs.Common.{◌≡◌, ℕ, suc, ◌+◌, ◌<◌, ◌≤◌, ◌⊎◌, inl, inr, length, slice_index_or, slice_set, ℤ, pos, ◌≤ℤ◌, sym, ap, subst, ◌∙◌, arith, get_or-set_other, get_or-set_same}
-use Rattle.std.proofs.lemmas.Bool.{cases_eq, cases_lt}
-use Rattle.std.proofs.lemmas.List.{length-set}
-use Rattle.gs_rows.specs.declared.Program.{Program}
-use Rattle.gs_rows.specs.Program.{number, aim_of, IsFree, Listing, IsListed, RowListed, ColListed, IsRowsOf, IsRegularList}
+use Rattle.std.proofs.{lemmas.Bool.{cases_eq, cases_lt}, lemmas.List.{length-set}}
+use Rattle.gs_rows.specs.{declared.Program.{Program}, Program.{number, aim_of, IsFree, Listing, IsListed, RowListed, ColListed, IsRowsOf, IsRegularList}}
 use Rattle.gs_rows.specs.Path.{Enters, Leaves, IsPivot}
-use Rattle.gs_rows.proofs.Steps.{IsList}
-use Rattle.gs_rows.proofs.Pivots.{IsOnce, listed_set_here, listed_set_old, listed_set_cases, turn_changes, turn_is_regular}
-use Rattle.gs_rows.proofs.Solutions.{InCols, IsTable}
-use Rattle.gs_rows.proofs.Turns.{IsState, next_feasible}
+use Rattle.gs_rows.proofs.{Steps.{IsList}, Pivots.{IsOnce, listed_set_here, listed_set_old, listed_set_cases, turn_changes, turn_is_regular}}
+use Rattle.gs_rows.proofs.{Solutions.{InCols, IsTable}, Turns.{IsState, next_feasible}, Circle.{IsRun, no_circle}}
 use Rattle.gs_rows.proofs.Turns as Turns
-use Rattle.gs_rows.proofs.Circle.{IsRun, no_circle}
 
 -- what holds of every list from the end of the opening on
 pub record IsFull (p : Program) (l : Listing) : Type 0 where

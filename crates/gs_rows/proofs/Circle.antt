@@ -1,7 +1,7 @@
 -- No run of pivots by Bland's rule comes back to the listed columns that it began with.
 use Rattle.std.proofs.Common.{◌≡◌, ◌≢◌, ℕ, zero, suc, ◌+◌, ◌-◌, ◌<◌, ◌≤◌, ◌⊎◌, inl, inr, ℤ, pos, ◌+ℤ◌, ◌-ℤ◌, ◌*ℤ◌, neg_ℤ, ◌≤ℤ◌, ◌<ℤ◌, refl, sym, ap, subst, ◌∙◌, arith}
-use Rattle.gs_rows.specs.Sums.{sum_to}
 use Rattle.std.proofs.lemmas.Bool.{cases_eq, cases_lt}
+use Rattle.gs_rows.specs.Sums.{sum_to}
 use Rattle.gs_rows.proofs.Ring.{ring, linear, sign_of, times_zero, zero_times, times_nonneg, times_pos, cancel, cancel_zero, cancel_pos, cancel_nonneg, times_left, times_neg}
 use Rattle.gs_rows.proofs.Sums.{cases_last}
 use Rattle.gs_rows.proofs.Solutions.{IsKilled, AllRows, InCols, IsTable, IsBasic, find_col, row_at_basic, basic_exists, aim_dot, aim_at_two, aim_at_basic, table_solves, sum_two, common_values}

@@ -1,23 +1,12 @@
 -- What a pivot computes exists, and so do the rows of every list whose pairs can be taken in turn.
 use Rattle.std.proofs.Common.{◌≡◌, ◌≢◌, ℕ, zero, suc, ◌+◌, ◌<◌, ◌≤◌, ◌⊎◌, inl, inr, [], ◌∷◌, ◌++◌, length, slice_index_or, take, ℤ, pos, ◌+ℤ◌, ◌-ℤ◌, ◌*ℤ◌, neg_ℤ, ◌<ℤ◌, unsigned_abs, refl, sym, ap, subst, ◌∙◌, arith}
+use Rattle.std.proofs.{lemmas.Bool.{cases_eq, cases_lt}, lemmas.Int.{ints}, lemmas.List.{take_more}, Math.Nat.{eq-one_of_dvd-one}}
 use Prim.Native.Nat.{◌∣◌}
-use Rattle.std.proofs.lemmas.Bool.{cases_eq, cases_lt}
-use Rattle.std.proofs.lemmas.Int.{ints}
-use Rattle.std.proofs.lemmas.List.{take_more}
-use Rattle.std.proofs.Math.Nat.{eq-one_of_dvd-one}
-use Rattle.gs_rows.specs.declared.Program.{Program}
-use Rattle.gs_rows.specs.Sums.{sum_to}
-use Rattle.gs_rows.specs.Rows.{IsUnlistedRow, IsPrimitive}
-use Rattle.gs_rows.specs.Elimination.{IsEliminated}
+use Rattle.gs_rows.specs.{declared.Program.{Program}, Sums.{sum_to}, Rows.{IsUnlistedRow, IsPrimitive}, Elimination.{IsEliminated}}
 use Rattle.gs_rows.specs.Program.{number, aim_of, Listing, RowListed, ColListed, IsRowsOf, CanTake, IsTakenInTurn, IsRegularList}
-use Rattle.gs_rows.proofs.Ring.{ring, linear, sign_of, times_zero, zero_times, times_pos, cancel_zero}
-use Rattle.gs_rows.proofs.Sums.{sum_single, sum_zero}
-use Rattle.gs_rows.proofs.Pivot.{combination_divided}
-use Rattle.gs_rows.proofs.Primitive.{primitive_exists}
-use Rattle.gs_rows.proofs.Solutions.{only_at, only_at_same, only_at_other, program_row}
-use Rattle.gs_rows.proofs.Steps.{IsList, take_rows}
-use Rattle.gs_rows.proofs.Rows.{unlisted_proportional}
-use Rattle.gs_rows.proofs.Opening.{opened}
+use Rattle.gs_rows.proofs.{Ring.{ring, linear, sign_of, times_zero, zero_times, times_pos, cancel_zero}, Sums.{sum_single, sum_zero}}
+use Rattle.gs_rows.proofs.{Pivot.{combination_divided}, Primitive.{primitive_exists}, Solutions.{only_at, only_at_same, only_at_other, program_row}}
+use Rattle.gs_rows.proofs.{Steps.{IsList, take_rows}, Rows.{unlisted_proportional}, Opening.{opened}}
 
 neg_primitive : (n : ℕ) (R : ℕ → ℤ) → IsPrimitive n R → IsPrimitive n (λ j. neg_ℤ (R j))
 neg_primitive n R u = elim u.form [

@@ -1,10 +1,7 @@
 -- A path made one step longer, by a pair of the opening or by a pivot.
-use Rattle.std.proofs.Common.{◌≡◌, ℕ, suc, ◌<◌, ◌≤◌, inl, inr, length, take, ℤ, refl, sym, subst, ◌∙◌, arith}
-use Rattle.std.proofs.lemmas.Bool.{cases_eq, cases_order, cases_lt}
-use Rattle.gs_rows.specs.declared.Program.{Program}
-use Rattle.gs_rows.specs.Program.{Listing, IsRowsOf}
+use Rattle.std.proofs.{Common.{◌≡◌, ℕ, suc, ◌<◌, ◌≤◌, inl, inr, length, take, ℤ, refl, sym, subst, ◌∙◌, arith}, lemmas.Bool.{cases_eq, cases_order, cases_lt}}
+use Rattle.gs_rows.specs.{declared.Program.{Program}, Program.{Listing, IsRowsOf}, Path.{IsPivot, IsPath, AllNarrow}}
 use Rattle.gs_rows.proofs.States.{states}
-use Rattle.gs_rows.specs.Path.{IsPivot, IsPath, AllNarrow}
 
 -- f up to t, and x after it
 abbrev pub upto : {X : Type 0} → ℕ → (ℕ → X) → X → ℕ → X

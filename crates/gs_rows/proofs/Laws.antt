@@ -1,14 +1,10 @@
 -- The rows' right sides tell that the basic vector is feasible, and where no row bounds the entering column the aim has no bound.
 use Rattle.std.proofs.Common.{◌≡◌, ℕ, suc, ◌+◌, ◌<◌, ◌≤◌, inl, inr, ℤ, pos, ◌+ℤ◌, ◌-ℤ◌, ◌*ℤ◌, neg_ℤ, ◌≤ℤ◌, ◌<ℤ◌, unsigned_abs, sym, ap, subst, ◌∙◌, arith}
-use Rattle.gs_rows.specs.Rows.{IsRegular, IsAimRow}
-use Rattle.gs_rows.specs.Sums.{sum_to}
-use Rattle.std.proofs.lemmas.Bool.{cases_eq}
-use Rattle.std.proofs.lemmas.Int.{ints}
+use Rattle.std.proofs.{lemmas.Bool.{cases_eq}, lemmas.Int.{ints}}
+use Rattle.gs_rows.specs.{Rows.{IsRegular, IsAimRow}, Sums.{sum_to}}
 use Rattle.gs_rows.proofs.Ring.{ring, linear, times_zero, zero_times, times_nonneg, times_pos, cancel_zero, cancel_pos, cancel_nonneg, times_neg}
-use Rattle.gs_rows.proofs.Sums.{sum_same, sum_zero, sum_add, sum_scale}
-use Rattle.gs_rows.proofs.Rows.{sum_mix}
-use Rattle.gs_rows.proofs.Solutions.{dot, IsKilled, AllRows, IsBasic, find_col, row_at_basic, basic_exists, aim_at_two}
-use Rattle.gs_rows.proofs.Turns.{IsState}
+use Rattle.gs_rows.proofs.{Sums.{sum_same, sum_zero, sum_add, sum_scale}, Rows.{sum_mix}}
+use Rattle.gs_rows.proofs.{Solutions.{dot, IsKilled, AllRows, IsBasic, find_col, row_at_basic, basic_exists, aim_at_two}, Turns.{IsState}}
 use Rattle.gs_rows.proofs.Circle.{IsDirection, direction_exists}
 use lib.IntN.{*ℤ_comm}
 

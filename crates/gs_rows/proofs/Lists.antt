@@ -1,13 +1,9 @@
 -- What is listed after a push, and that an elimination makes the rows of the next list from those of the list before.
 use Rattle.std.proofs.Common.{◌≡◌, ◌≢◌, ℕ, suc, ◌+◌, ◌<◌, ◌≤◌, ◌⊎◌, inl, inr, [], ◌∷◌, ◌++◌, ℤ, pos, ◌-ℤ◌, ◌*ℤ◌, neg_ℤ, ◌<ℤ◌, sym, ap, subst, ◌∙◌, arith}
-use Rattle.std.proofs.lemmas.Bool.{cases_eq}
-use Rattle.std.proofs.lemmas.List.Elements.{Contains-push, Contains-push_cases, Contains-append_left}
-use Rattle.gs_rows.specs.declared.Program.{Program}
-use Rattle.gs_rows.specs.Rows.{IsCombination, IsUnlistedRow, IsListedRow, IsAimRow}
-use Rattle.gs_rows.specs.Elimination.{IsEliminated}
+use Rattle.std.proofs.{lemmas.Bool.{cases_eq}, lemmas.List.Elements.{Contains-push, Contains-push_cases, Contains-append_left}}
+use Rattle.gs_rows.specs.{declared.Program.{Program}, Rows.{IsCombination, IsUnlistedRow, IsListedRow, IsAimRow}, Elimination.{IsEliminated}}
 use Rattle.gs_rows.specs.Program.{number, aim_of, Listing, IsListed, RowListed, ColListed, IsRowsOf}
-use Rattle.gs_rows.proofs.Ring.{ring, linear, sign_of, times_zero, cancel_zero}
-use Rattle.gs_rows.proofs.Pivot.{pivot_unlisted, pivot_listed, pivot_aim, combination_divided}
+use Rattle.gs_rows.proofs.{Ring.{ring, linear, sign_of, times_zero, cancel_zero}, Pivot.{pivot_unlisted, pivot_listed, pivot_aim, combination_divided}}
 
 -- ---- what is listed after a push
 pub listed_push : (l : Listing) (r c : ℕ) → IsListed (l ++ (r + 1, c + 1) ∷ []) r c

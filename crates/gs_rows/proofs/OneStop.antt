@@ -1,18 +1,10 @@
 -- The path of a program from an opening stops in one way only.
 use Rattle.std.proofs.Common.{◌≡◌, ℕ, ◌+◌, ◌-◌, ◌<◌, ◌≤◌, ◌⊎◌, inl, inr, length, slice_index_or, take, ℤ, pos, ◌≤ℤ◌, ◌<ℤ◌, refl, sym, ap, subst, ◌∙◌, arith}
 use Rattle.std.proofs.lemmas.Bool.{cases_order, cases_lt}
-use Rattle.gs_rows.specs.declared.Program.{Program}
-use Rattle.gs_rows.specs.Rows.{IsNarrow}
-use Rattle.gs_rows.specs.Program.{Listing, IsListed, RowListed, IsRowsOf, IsOpening}
+use Rattle.gs_rows.specs.{declared.Program.{Program}, Rows.{IsNarrow}, Program.{Listing, IsListed, RowListed, IsRowsOf, IsOpening}}
 use Rattle.gs_rows.specs.Path.{Enters, Leaves, IsPath, NoneEnters, NoneLeaves, AllNarrow, IsFirstWide, PathStop, ends, wide, pivots, unbounded, Stops, PathStops}
-use Rattle.gs_rows.proofs.States.{states}
-use Rattle.gs_rows.proofs.Ring.{linear}
-use Rattle.gs_rows.proofs.Steps.{rows_same}
-use Rattle.gs_rows.proofs.Pivots.{any_default}
-use Rattle.gs_rows.proofs.Solutions.{find_col}
-use Rattle.gs_rows.proofs.Bases.{IsFull}
-use Rattle.gs_rows.proofs.Opening.{IsOpened, opened, path_trail}
-use Rattle.gs_rows.proofs.Agree.{Agree, enters_same, lists_same, paths_agree}
+use Rattle.gs_rows.proofs.{States.{states}, Ring.{linear}, Steps.{rows_same}, Pivots.{any_default}, Solutions.{find_col}, Bases.{IsFull}}
+use Rattle.gs_rows.proofs.{Opening.{IsOpened, opened, path_trail}, Agree.{Agree, enters_same, lists_same, paths_agree}}
 
 named_or_not : (p : Program) (l : Listing) → IsOpened p l → (i : ℕ) → (RowListed l i) ⊎ (RowListed l i → ⊥)
 named_or_not p l w i = elim (find_col (length l) (λ k. (slice_index_or l k (0, 0)).0) (i + 1)) [

@@ -1,18 +1,11 @@
 -- The lists of an opening are regular, the whole opening is full and feasible, and no path from there on has a basis twice.
 use Rattle.std.proofs.Common.{◌≡◌, ℕ, zero, suc, ◌+◌, ◌-◌, ◌<◌, ◌≤◌, ◌⊎◌, inl, inr, [], ◌∷◌, ◌++◌, length, slice_index_or, take, ℤ, pos, ◌*ℤ◌, neg_ℤ, ◌≤ℤ◌, ◌<ℤ◌, refl, sym, ap, subst, ◌∙◌, arith}
-use Rattle.std.proofs.lemmas.Bool.{cases_eq, cases_lt}
-use Rattle.std.proofs.Math.Seq.{take-length}
-use Rattle.std.proofs.lemmas.List.{take_more, length_push, get_or_append_left, get_or_push}
-use Rattle.gs_rows.specs.declared.Program.{Program}
-use Rattle.gs_rows.specs.Sums.{sum_to}
+use Rattle.std.proofs.{lemmas.Bool.{cases_eq, cases_lt}, Math.Seq.{take-length}, lemmas.List.{take_more, length_push, get_or_append_left, get_or_push}}
+use Rattle.gs_rows.specs.{declared.Program.{Program}, Sums.{sum_to}}
 use Rattle.gs_rows.specs.Program.{number, Listing, IsListed, RowListed, ColListed, IsRowsOf, CanTake, IsTakenInTurn, IsOpening, IsRegularList}
 use Rattle.gs_rows.specs.Path.{IsPivot, IsPath}
-use Rattle.gs_rows.proofs.States.{states}
-use Rattle.gs_rows.proofs.Ring.{ring, linear, times_nonneg, cancel_nonneg}
-use Rattle.gs_rows.proofs.Sums.{sum_same}
-use Rattle.gs_rows.proofs.Steps.{IsList, take_is_list, take_is_regular}
-use Rattle.gs_rows.proofs.Pivots.{IsOnce, any_default}
-use Rattle.gs_rows.proofs.Solutions.{IsBasic, row_at_basic}
+use Rattle.gs_rows.proofs.{States.{states}, Ring.{ring, linear, times_nonneg, cancel_nonneg}, Sums.{sum_same}, Steps.{IsList, take_is_list, take_is_regular}}
+use Rattle.gs_rows.proofs.{Pivots.{IsOnce, any_default}, Solutions.{IsBasic, row_at_basic}}
 use Rattle.gs_rows.proofs.Bases.{IsFull, IsTrail, RowsFeasible, col_of, col_is, in_cols, table_of, turn_is_full, turn_is_feasible, trail_columns_differ}
 
 -- what stands at a place after a push

@@ -1,18 +1,11 @@
 -- Lists of basic pairs: what stands in them, their rows, that a pivot keeps them regular, and that the aim's last number is its value.
 use Rattle.std.proofs.Common.{◌≡◌, ◌≢◌, ℕ, suc, ◌+◌, ◌<◌, ◌≤◌, ◌⊎◌, inl, inr, length, slice_index_or, slice_set, ℤ, pos, ◌-ℤ◌, ◌*ℤ◌, neg_ℤ, refl, sym, ap, subst, ◌∙◌, arith, get_or-set_other, get_or-set_same}
-use Rattle.std.proofs.lemmas.Bool.{cases_eq}
-use Rattle.std.proofs.lemmas.List.{length-set}
-use Rattle.std.proofs.Math.Seq.{take-length}
-use Rattle.gs_rows.specs.declared.Program.{Program}
-use Rattle.gs_rows.specs.Sums.{sum_to}
+use Rattle.std.proofs.{lemmas.Bool.{cases_eq}, lemmas.List.{length-set}, Math.Seq.{take-length}}
+use Rattle.gs_rows.specs.{declared.Program.{Program}, Sums.{sum_to}}
 use Rattle.gs_rows.specs.Program.{number, aim_of, Listing, IsListed, RowListed, ColListed, IsPairList, IsRowsOf, IsRegularList, IsTakenInTurn, IsSolution}
 use Rattle.gs_rows.specs.Path.{IsPivot}
-use Rattle.gs_rows.proofs.Ring.{ring, linear, times_zero, zero_times}
-use Rattle.gs_rows.proofs.Sums.{sum_same, sum_zero}
-use Rattle.gs_rows.proofs.Steps.{IsList, rows_same}
-use Rattle.gs_rows.proofs.Pivots.{IsOnce, any_default, turn_is_regular}
-use Rattle.gs_rows.proofs.Solutions.{find_col, IsKilled, aim_dot}
-use Rattle.gs_rows.proofs.Opening.{IsOpened, opened}
+use Rattle.gs_rows.proofs.{Ring.{ring, linear, times_zero, zero_times}, Sums.{sum_same, sum_zero}, Steps.{IsList, rows_same}}
+use Rattle.gs_rows.proofs.{Pivots.{IsOnce, any_default, turn_is_regular}, Solutions.{find_col, IsKilled, aim_dot}, Opening.{IsOpened, opened}}
 use Rattle.gs_rows.proofs.Exists.{rows_exist}
 
 -- the pair at the place where row i and column j stand

@@ -1,9 +1,7 @@
 -- Rows times multipliers against columns times values, sums in blocks, and the prices that the multipliers of the aim's row give.
 use Rattle.std.proofs.Common.{◌≡◌, ℕ, zero, suc, ◌+◌, ◌<◌, ℤ, pos, ◌+ℤ◌, ◌-ℤ◌, ◌*ℤ◌, neg_ℤ, ◌≤ℤ◌, sym, ap, ◌∙◌, arith}
-use Rattle.gs_rows.specs.Sums.{sum_to}
-use Rattle.gs_rows.specs.Rows.{IsAimRow}
-use Rattle.gs_rows.proofs.Ring.{ring, linear, times_times}
-use Rattle.gs_rows.proofs.Sums.{sum_same, sum_scale, sum_swap}
+use Rattle.gs_rows.specs.{Sums.{sum_to}, Rows.{IsAimRow}}
+use Rattle.gs_rows.proofs.{Ring.{ring, linear, times_times}, Sums.{sum_same, sum_scale, sum_swap}}
 use lib.IntN.{*ℤ_comm, +ℤ_assoc}
 
 -- rows times multipliers against columns times values

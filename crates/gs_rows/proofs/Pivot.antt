@@ -1,13 +1,9 @@
 -- What each row is after a pivot, the pivot row, the others and the aim's, and that proportional primitive rows are one row.
 use Rattle.std.proofs.Common.{◌≡◌, ◌≢◌, ℕ, zero, suc, ◌+◌, ◌-◌, ◌*◌, ◌<◌, ◌≤◌, inl, inr, ℤ, pos, negsuc, ◌+ℤ◌, ◌-ℤ◌, ◌*ℤ◌, neg_ℤ, ◌<ℤ◌, unsigned_abs, sym, ap, ◌∙◌, arith}
-use Rattle.gs_rows.specs.Rows.{IsCombination, IsUnlistedRow, IsListedRow, IsAimRow, IsPrimitive}
-use Rattle.gs_rows.specs.Sums.{sum_to}
-use Rattle.std.proofs.lemmas.Bool.{cases_eq, cases_order}
-use Rattle.std.proofs.lemmas.Int.{ints, unsigned_abs-mul}
+use Rattle.std.proofs.{lemmas.Bool.{cases_eq, cases_order}, lemmas.Int.{ints, unsigned_abs-mul}, Math.Nat.{dvd-mul_right}}
+use Rattle.gs_rows.specs.{Rows.{IsCombination, IsUnlistedRow, IsListedRow, IsAimRow, IsPrimitive}, Sums.{sum_to}}
 use Prim.Native.Nat.{◌∣◌}
-use Rattle.std.proofs.Math.Nat.{dvd-mul_right}
-use Rattle.gs_rows.proofs.Ring.{ring, linear, times_zero, sum_times, times_pos, cancel, cancel_zero}
-use Rattle.gs_rows.proofs.Sums.{sum_same, sum_scale}
+use Rattle.gs_rows.proofs.{Ring.{ring, linear, times_zero, sum_times, times_pos, cancel, cancel_zero}, Sums.{sum_same, sum_scale}}
 use Rattle.gs_rows.proofs.Rows.{sum_mix, combination_mix}
 
 -- the pivot row as the row of its new pair: it was unlisted

@@ -1,15 +1,9 @@
 -- The list after a turn, with one pair changed: what is listed there, its rows after the elimination, and that it stays regular.
 use Rattle.std.proofs.Common.{◌≡◌, ◌≢◌, ℕ, ◌+◌, ◌<◌, ◌≤◌, ◌⊎◌, inl, inr, length, slice_index_or, slice_set, ℤ, pos, ◌<ℤ◌, refl, sym, ap, subst, ◌∙◌, arith, get_or-set_other, get_or-set_same}
-use Rattle.std.proofs.lemmas.Bool.{cases_eq}
-use Rattle.std.proofs.lemmas.List.{length-set, get_or_default}
-use Rattle.gs_rows.specs.declared.Program.{Program}
-use Rattle.gs_rows.specs.Elimination.{IsEliminated}
+use Rattle.std.proofs.{lemmas.Bool.{cases_eq}, lemmas.List.{length-set, get_or_default}}
+use Rattle.gs_rows.specs.{declared.Program.{Program}, Elimination.{IsEliminated}}
 use Rattle.gs_rows.specs.Program.{number, Listing, IsListed, RowListed, ColListed, IsRowsOf, IsRegularList}
-use Rattle.gs_rows.proofs.Ring.{linear}
-use Rattle.gs_rows.proofs.Rows.{regular_swap}
-use Rattle.gs_rows.proofs.Pivot.{pivot_self_listed}
-use Rattle.gs_rows.proofs.Lists.{IsChange, rows_after, listed_renamed}
-use Rattle.gs_rows.proofs.Steps.{IsList}
+use Rattle.gs_rows.proofs.{Ring.{linear}, Rows.{regular_swap}, Pivot.{pivot_self_listed}, Lists.{IsChange, rows_after, listed_renamed}, Steps.{IsList}}
 
 -- no row is named at two places
 pub record IsOnce (l : Listing) : Type 0 where

@@ -1,14 +1,11 @@
 -- Each row of whole numbers is a positive multiple of a primitive row.
 use Rattle.std.proofs.Common.{◌≡◌, ℕ, zero, suc, ◌*◌, ◌/◌, ◌%◌, ◌<◌, ◌≤◌, inl, inr, ℤ, pos, negsuc, ◌*ℤ◌, neg_ℤ, ◌<ℤ◌, unsigned_abs, sym, ap, subst, ◌∙◌, arith}
+use Rattle.std.proofs.{lemmas.Bool.{cases_eq}, lemmas.Int.{ints}, lemmas.Nat.Gcd.{IsGcd-from_zero, IsGcd-from_mod, dvd-zero, dvd_trans}}
+use Rattle.std.proofs.Math.Nat.{mod-lt, mul-div_cancel', dvd_of_mul-dvd-mul_left, mul-dvd-mul_left, eq-one_of_dvd-one, eq-zero_of_zero-dvd}
 use Prim.Native.Nat.{◌∣◌}
 use Rattle.std.specs.Int.{IsGcd}
-use Rattle.std.proofs.lemmas.Bool.{cases_eq}
-use Rattle.std.proofs.lemmas.Int.{ints}
-use Rattle.std.proofs.lemmas.Nat.Gcd.{IsGcd-from_zero, IsGcd-from_mod, dvd-zero, dvd_trans}
-use Rattle.std.proofs.Math.Nat.{mod-lt, mul-div_cancel', dvd_of_mul-dvd-mul_left, mul-dvd-mul_left, eq-one_of_dvd-one, eq-zero_of_zero-dvd}
 use Rattle.gs_rows.specs.Rows.{IsPrimitive}
-use Rattle.gs_rows.proofs.Ring.{linear, one_times, times_neg}
-use Rattle.gs_rows.proofs.Sums.{cases_last}
+use Rattle.gs_rows.proofs.{Ring.{linear, one_times, times_neg}, Sums.{cases_last}}
 
 -- Euclid, with a bound on the second number
 pub gcd_exists : (k a b : ℕ) → b ≤ k → (g : ℕ) × IsGcd a b g

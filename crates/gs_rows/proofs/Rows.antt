@@ -1,10 +1,7 @@
 -- Rows mixed are combinations again, lists stay regular as columns enter and leave, and two rows of one place are proportional.
-use Rattle.std.proofs.Common.{◌≡◌, ◌≢◌, ℕ, zero, suc, ◌<◌, ◌≤◌, inl, inr, ℤ, pos, ◌+ℤ◌, ◌-ℤ◌, ◌*ℤ◌, sym, ap, ◌∙◌, arith}
-use Rattle.gs_rows.specs.Rows.{IsCombination, IsRegular, IsUnlistedRow, IsListedRow}
-use Rattle.gs_rows.specs.Sums.{sum_to}
-use Rattle.std.proofs.lemmas.Bool.{cases_eq}
-use Rattle.gs_rows.proofs.Ring.{ring, linear, times_zero, zero_times, times_pos, cancel_zero, cancel_nonzero}
-use Rattle.gs_rows.proofs.Sums.{sum_zero}
+use Rattle.std.proofs.{Common.{◌≡◌, ◌≢◌, ℕ, zero, suc, ◌<◌, ◌≤◌, inl, inr, ℤ, pos, ◌+ℤ◌, ◌-ℤ◌, ◌*ℤ◌, sym, ap, ◌∙◌, arith}, lemmas.Bool.{cases_eq}}
+use Rattle.gs_rows.specs.{Rows.{IsCombination, IsRegular, IsUnlistedRow, IsListedRow}, Sums.{sum_to}}
+use Rattle.gs_rows.proofs.{Ring.{ring, linear, times_zero, zero_times, times_pos, cancel_zero, cancel_nonzero}, Sums.{sum_zero}}
 
 -- sum of (a z - b y) A
 pub sum_mix : (m : ℕ) (a b : ℤ) (z y g : ℕ → ℤ) → sum_to m (λ i. (a *ℤ z i -ℤ b *ℤ y i) *ℤ g i)

@@ -1,11 +1,9 @@
 -- A table where every row is listed: what solves it solves the program, its basic solution exists, and what the aim is there.
 use Rattle.std.proofs.Common.{◌≡◌, ◌≢◌, ℕ, zero, suc, ◌<◌, ◌≤◌, ◌⊎◌, inl, inr, ℤ, pos, ◌+ℤ◌, ◌-ℤ◌, ◌*ℤ◌, neg_ℤ, ◌<ℤ◌, refl, sym, ap, subst, ◌∙◌, arith}
-use Rattle.gs_rows.specs.Rows.{IsCombination, IsRegular, IsListedRow, IsAimRow}
-use Rattle.gs_rows.specs.Sums.{sum_to}
 use Rattle.std.proofs.lemmas.Bool.{cases_eq}
+use Rattle.gs_rows.specs.{Rows.{IsCombination, IsRegular, IsListedRow, IsAimRow}, Sums.{sum_to}}
 use Rattle.gs_rows.proofs.Ring.{ring, linear, times_zero, zero_times, times_pos, cancel_zero, one_times, times_times}
-use Rattle.gs_rows.proofs.Sums.{sum_same, sum_zero, sum_scale, sum_swap, sum_single, cases_last}
-use Rattle.gs_rows.proofs.Rows.{sum_mix, combination_mix}
+use Rattle.gs_rows.proofs.{Sums.{sum_same, sum_zero, sum_scale, sum_swap, sum_single, cases_last}, Rows.{sum_mix, combination_mix}}
 use lib.IntN.{*ℤ_comm}
 
 -- row times vector, the right side included

@@ -1,13 +1,10 @@
 -- The rows are determined by the list, and an opening step gives a list again, with its rows.
 use Rattle.std.proofs.Common.{◌≡◌, ◌≢◌, ℕ, suc, ◌+◌, ◌<◌, ◌≤◌, ◌⊎◌, inl, inr, [], ◌∷◌, ◌++◌, ℤ, pos, ◌*ℤ◌, neg_ℤ, ◌<ℤ◌, sym, subst, ◌∙◌, arith}
 use Rattle.std.proofs.lemmas.Bool.{cases_eq}
-use Rattle.gs_rows.specs.declared.Program.{Program}
-use Rattle.gs_rows.specs.Elimination.{IsEliminated}
+use Rattle.gs_rows.specs.{declared.Program.{Program}, Elimination.{IsEliminated}}
 use Rattle.gs_rows.specs.Program.{number, aim_of, Listing, IsListed, RowListed, ColListed, IsRowsOf, CanTake, IsRegularList}
-use Rattle.gs_rows.proofs.Ring.{linear, times_pos}
-use Rattle.gs_rows.proofs.Rows.{regular_take, listed_proportional, unlisted_proportional}
-use Rattle.gs_rows.proofs.Pivot.{pivot_self_unlisted, pivot_self_negated, primitive_same}
-use Rattle.gs_rows.proofs.Laws.{aim_proportional}
+use Rattle.gs_rows.proofs.{Ring.{linear, times_pos}, Rows.{regular_take, listed_proportional, unlisted_proportional}}
+use Rattle.gs_rows.proofs.{Pivot.{pivot_self_unlisted, pivot_self_negated, primitive_same}, Laws.{aim_proportional}}
 use Rattle.gs_rows.proofs.Lists.{IsChange, rows_after, listed_push, listed_push_old, listed_push_cases}
 
 -- different rows, different columns, all in range

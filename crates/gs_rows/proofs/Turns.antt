@@ -1,8 +1,7 @@
 -- What a pivot keeps: the next table is feasible, the aim's value does not fall, and where it stays, what the next basis gives here.
 use Rattle.std.proofs.Common.{◌≡◌, ◌≢◌, ℕ, suc, ◌<◌, ◌≤◌, inl, inr, ℤ, pos, ◌+ℤ◌, ◌-ℤ◌, ◌*ℤ◌, neg_ℤ, ◌≤ℤ◌, ◌<ℤ◌, sym, ap, subst, ◌∙◌, arith}
-use Rattle.gs_rows.specs.Rows.{IsAimRow}
-use Rattle.gs_rows.specs.Sums.{sum_to}
 use Rattle.std.proofs.lemmas.Bool.{cases_eq}
+use Rattle.gs_rows.specs.{Rows.{IsAimRow}, Sums.{sum_to}}
 use Rattle.gs_rows.proofs.Ring.{ring, linear, sign_of, times_zero, times_sum, times_nonneg, times_pos, cancel_pos, cancel_nonneg, times_left}
 use Rattle.gs_rows.proofs.Solutions.{AllRows, InCols, IsTable, IsBasic, row_at_two, row_at_basic, basic_exists, aim_at_two, aim_at_basic}
 use lib.IntN.{*ℤ_comm}

@@ -1,7 +1,6 @@
 -- One pivot in whole numbers: what the rows become when row r is listed with column c.
 use Rattle.std.specs.Prelude.{◌≡◌, ◌≢◌, ℕ, suc, ◌+◌, ◌<◌, ◌≤◌, ◌⊎◌, ℤ, pos, ◌+ℤ◌, ◌-ℤ◌, ◌*ℤ◌, neg_ℤ, ◌<ℤ◌}
-use Rattle.gs_rows.specs.declared.Program.{Program}
-use Rattle.gs_rows.specs.Rows.{IsPrimitive}
+use Rattle.gs_rows.specs.{declared.Program.{Program}, Rows.{IsPrimitive}}
 
 -- Row r stays or is negated, so that its number in column c, the pivot, is above 0. Each other row becomes the pivot times the row, less the row's
 -- number in column c times row r. The aim's row becomes the same, but its last number adds that product and its multiple is only multiplied by the pivot.

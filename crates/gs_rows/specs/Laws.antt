@@ -1,7 +1,6 @@
 -- What follows from the definitions, for every program.
 use Rattle.std.specs.Prelude.{◌≡◌, ℕ, suc, ◌+◌, ◌<◌, ◌≤◌, ◌↔◌, length, ℤ, pos, ◌*ℤ◌}
-use Rattle.gs_rows.specs.declared.Program.{Program}
-use Rattle.gs_rows.specs.Sums.{sum_to}
+use Rattle.gs_rows.specs.{declared.Program.{Program}, Sums.{sum_to}}
 use Rattle.gs_rows.specs.Program.{aim_of, Listing, ColListed, IsPairList, IsRowsOf, IsRegularList, IsTakenInTurn, IsSolution, IsOpening}
 use Rattle.gs_rows.specs.Path.{IsPivot, States, IsPath, PathStop, PathStops}
 

@@ -1,9 +1,7 @@
 -- The steps of a path, and what stops it. The rows at each step are those of the step's list. Bland's rule (Bland 1977, "New finite pivoting rules for
 -- the simplex method") chooses the pivots. The column of least index enters, and among equal ratios the column of least index leaves.
 use Rattle.std.specs.Prelude.{◌≡◌, ℕ, suc, ◌+◌, ◌<◌, ◌≤◌, ◌⊎◌, length, take, slice_index_or, slice_set, ℤ, pos, ◌*ℤ◌, ◌≤ℤ◌, ◌<ℤ◌}
-use Rattle.gs_rows.specs.declared.Program.{Program}
-use Rattle.gs_rows.specs.Rows.{IsNarrow}
-use Rattle.gs_rows.specs.Program.{Listing, IsListed, ColListed, IsFree, IsRowsOf}
+use Rattle.gs_rows.specs.{declared.Program.{Program}, Rows.{IsNarrow}, Program.{Listing, IsListed, ColListed, IsFree, IsRowsOf}}
 
 -- column e enters: it is the unlisted column of least index with a number above 0 in the aim's row
 pub record Enters (p : Program) (l : Listing) (aim : ℕ → ℤ) (e : ℕ) : Type 0 where

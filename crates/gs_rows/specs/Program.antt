@@ -1,9 +1,7 @@
 -- A linear program in whole numbers, lists of basic pairs, and the rows that a list determines.
 use Rattle.std.specs.Prelude.{◌≡◌, ◌≢◌, ℕ, ◌+◌, ◌<◌, ◌≤◌, false, List, [], length, map, take, slice_index_or, ℤ, pos, ◌*ℤ◌, ◌<ℤ◌, ◌≤ℤ◌, IsTrue, Contains}
 use Rattle.std.specs.Vec.{vec_items}
-use Rattle.gs_rows.specs.declared.Program.{Program}
-use Rattle.gs_rows.specs.Sums.{sum_to}
-use Rattle.gs_rows.specs.Rows.{IsUnlistedRow, IsListedRow, IsAimRow, IsPrimitive, IsRegular, IsNarrow}
+use Rattle.gs_rows.specs.{declared.Program.{Program}, Sums.{sum_to}, Rows.{IsUnlistedRow, IsListedRow, IsAimRow, IsPrimitive, IsRegular, IsNarrow}}
 
 -- the rows as lists, each with its right side at the end
 abbrev pub rows_of : Program → List (List ℤ)

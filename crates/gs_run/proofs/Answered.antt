@@ -4,12 +4,9 @@ use Rattle.std.proofs.lemmas.List.{append-nil, length-append}
 use Rattle.std.specs.Io.KnownBytes.{Consumes, IsAtEnd}
 use Rattle.gs_answer.specs.Asking.{Asks, reads}
 use Rattle.gs_reply.specs.Replies.{Reply, Prints, Refuses}
-use Rattle.gs_words.specs.Requests.{request_of}
-use Rattle.gs_words.specs.Tasks.{Task, Shrink, Check, Make, Evaluate, Query, Upgrade, Certify, Verify, Solve, Play, Path, Judge, Duel}
-use Rattle.gs_run.specs.Deciding.{Holds}
-use Rattle.gs_run.specs.Endings.{EndsSo}
-use Rattle.gs_run.specs.Running.{Asked, Ends, Inputs, IsAnswered, IsRefused, NothingFailed, ReadsWhole, RunsTo, most_bytes}
-use Rattle.gs_run.specs.declared.status.Status.{Status}
+use Rattle.gs_words.specs.{Requests.{request_of}, Tasks.{Task, Shrink, Check, Make, Evaluate, Query, Upgrade, Certify, Verify, Solve, Play, Path, Judge, Duel}}
+use Rattle.gs_run.specs.{Deciding.{Holds}, Endings.{EndsSo}}
+use Rattle.gs_run.specs.{Running.{Asked, Ends, Inputs, IsAnswered, IsRefused, NothingFailed, ReadsWhole, RunsTo, most_bytes}, declared.status.Status.{Status}}
 use Rattle.gs_run.specs.declared.status.Status.TheVariants as status
 
 -- ---- tasks and inputs

@@ -1,8 +1,6 @@
 -- What a line that is told leaves at the errors' end.
-use Rattle.std.proofs.Common.{ℕ, List, length, Result, Ok, Err, Option, arith}
-use Rattle.std.proofs.Math.Seq.{take-length}
-use Rattle.gs_io.specs.Moves.{WritesAll}
-use Rattle.gs_io.specs.declared.WriteStop.{WriteStop}
+use Rattle.std.proofs.{Common.{ℕ, List, length, Result, Ok, Err, Option, arith}, Math.Seq.{take-length}}
+use Rattle.gs_io.specs.{Moves.{WritesAll}, declared.WriteStop.{WriteStop}}
 use Rattle.gs_io.specs.declared.WriteStop.TheVariants as write_stop
 use Rattle.gs_run.specs.Told.{TellsTo}
 

@@ -4,15 +4,9 @@ use Rattle.gs_answer.specs.Asking.{Asks, reads}
 use Rattle.gs_laws.proofs.Answering.{answers_one}
 use Rattle.gs_reply.specs.Refusals.{Refusal, Bad_game, Unlike_pair, Overflows, Many_pivots, Too_large, Bad_strategy, Wrong_number, Bad_query, Other_game, Bad_certificate, cause_of, line_of}
 use Rattle.gs_reply.specs.Replies.{Reply, Prints, Refuses}
-use Rattle.gs_words.specs.Requests.{request_of}
-use Rattle.gs_words.specs.Tasks.{Task, Solve}
-use Rattle.gs_run.proofs.Answered.{one_task}
-use Rattle.gs_run.proofs.Concluded.{concludes}
-use Rattle.gs_run.proofs.Meant.{means_of, solution_of}
-use Rattle.gs_run.proofs.Theorem.{asked_for}
-use Rattle.gs_run.specs.InMemory.{DoesInMemory, Fits, GivesReply, GivesSo}
-use Rattle.gs_run.specs.Running.{long_line, most_bytes, usage_line}
-use Rattle.gs_run.specs.Statuses.{status_of}
+use Rattle.gs_words.specs.{Requests.{request_of}, Tasks.{Task, Solve}}
+use Rattle.gs_run.proofs.{Answered.{one_task}, Concluded.{concludes}, Meant.{means_of, solution_of}, Theorem.{asked_for}}
+use Rattle.gs_run.specs.{InMemory.{DoesInMemory, Fits, GivesReply, GivesSo}, Running.{long_line, most_bytes, usage_line}, Statuses.{status_of}}
 use Rattle.gs_run.specs.declared.status.Status.{Status}
 use Rattle.gs_run.specs.declared.status.Status.TheVariants as status
 

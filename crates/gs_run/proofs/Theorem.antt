@@ -3,15 +3,9 @@ use Rattle.std.proofs.Common.{◌≡◌, ◌≢◌, ℕ, List, Some, refl, ap, �
 use Rattle.gs_answer.specs.Asking.{Asks, reads}
 use Rattle.gs_reply.specs.Replies.{Prints}
 use Rattle.gs_words.proofs.Plain.{plain_meant}
-use Rattle.gs_words.specs.Requests.{request_of}
-use Rattle.gs_words.specs.Tasks.{Task, Solve}
-use Rattle.gs_run.proofs.Answered.{answer_of, replied}
-use Rattle.gs_run.proofs.Concluded.{concludes}
-use Rattle.gs_run.proofs.Decided.{decided}
-use Rattle.gs_run.proofs.Meant.{means_of, solution_of}
-use Rattle.gs_run.specs.Meanings.{AskFor, Means, ShowsSolution}
-use Rattle.gs_run.specs.Running.{Ends, Quiet, RunsTo}
-use Rattle.gs_run.specs.Theorem.{CutShort, Does, Printed, Run}
+use Rattle.gs_words.specs.{Requests.{request_of}, Tasks.{Task, Solve}}
+use Rattle.gs_run.proofs.{Answered.{answer_of, replied}, Concluded.{concludes}, Decided.{decided}, Meant.{means_of, solution_of}}
+use Rattle.gs_run.specs.{Meanings.{AskFor, Means, ShowsSolution}, Running.{Ends, Quiet, RunsTo}, Theorem.{CutShort, Does, Printed, Run}}
 use Rattle.gs_run.specs.declared.status.Status.{Status}
 use Rattle.gs_run.specs.declared.status.Status.TheVariants as status
 

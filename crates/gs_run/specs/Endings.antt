@@ -1,37 +1,19 @@
 -- How each command ends over valid input, if no read or write fails: well, out of memory, or with a refusal that its definition gives.
 use Rattle.std.specs.Prelude.{◌≡◌, ◌⊎◌, ℕ, ◌++◌, List, false, true}
-use Rattle.gs_certificate.specs.TextLaws.{IsStated}
-use Rattle.gs_certificate.specs.Texts.{Stated, certificate_text}
-use Rattle.gs_certificate.specs.Views.{certificate_view}
+use Rattle.gs_certificate.specs.{TextLaws.{IsStated}, Texts.{Stated, certificate_text}, Views.{certificate_view}}
 use Rattle.gs_certificate.specs.declared.certificate.Certificate.{Certificate}
-use Rattle.gs_certify.specs.Certificates.{SaysCertified}
-use Rattle.gs_certify.specs.Verifying.{SaysChecked}
+use Rattle.gs_certify.specs.{Certificates.{SaysCertified}, Verifying.{SaysChecked}}
 use Rattle.gs_compare.specs.Commands.{SaysDuel, SaysJudged}
 use Rattle.gs_confirm.specs.Commands.{OfConfirmed, SaysNumbers, SaysQueried, SaysUpgraded}
-use Rattle.gs_file.specs.Reading.{FileGame, rules_of}
-use Rattle.gs_file.specs.States.{FileStates}
-use Rattle.gs_file.specs.declared.version.Version.{Version}
+use Rattle.gs_file.specs.{Reading.{FileGame, rules_of}, States.{FileStates}, declared.version.Version.{Version}}
 use Rattle.gs_made.specs.Made.{made_game}
-use Rattle.gs_model.specs.Classes.{ClassLists}
-use Rattle.gs_model.specs.Frame.{frame_of}
-use Rattle.gs_model.specs.Lossless.{IsLossless}
-use Rattle.gs_model.specs.SignalClasses.{IsSignalClasses}
-use Rattle.gs_reply.specs.Refusals.{Refusal, cause_of}
-use Rattle.gs_reply.specs.Replies.{Reply, Prints, Refuses}
-use Rattle.gs_settle.specs.Paths.{ShowsPath}
-use Rattle.gs_settle.specs.Playing.{Plays}
-use Rattle.gs_settle.specs.Settling.{OfGrouping}
-use Rattle.gs_settle.specs.Solving.{Solves}
-use Rattle.gs_strategy.specs.Confirmed.{IsConfirmed}
-use Rattle.gs_strategy.specs.Laws.{IsStrategy}
-use Rattle.gs_strategy.specs.Texts.{strategy_text}
-use Rattle.gs_strategy.specs.Values.{Strategy}
+use Rattle.gs_model.specs.{Classes.{ClassLists}, Frame.{frame_of}, Lossless.{IsLossless}, SignalClasses.{IsSignalClasses}}
+use Rattle.gs_reply.specs.{Refusals.{Refusal, cause_of}, Replies.{Reply, Prints, Refuses}}
+use Rattle.gs_settle.specs.{Paths.{ShowsPath}, Playing.{Plays}, Settling.{OfGrouping}, Solving.{Solves}}
+use Rattle.gs_strategy.specs.{Confirmed.{IsConfirmed}, Laws.{IsStrategy}, Texts.{strategy_text}, Values.{Strategy}}
 use Rattle.gs_words.specs.Tasks.{Task, Shrink, Check, Make, Evaluate, Query, Upgrade, Judge, Duel, Certify, Verify, Solve, Play, Path}
-use Rattle.gs_words.specs.declared.request.Grouping.{Grouping}
-use Rattle.gs_words.specs.declared.request.Grouping.TheVariants.{Isomorphism}
-use Rattle.gs_run.specs.Meanings.{Means}
-use Rattle.gs_run.specs.Statuses.{status_of}
-use Rattle.gs_run.specs.declared.status.Status.{Status}
+use Rattle.gs_words.specs.{declared.request.Grouping.{Grouping}, declared.request.Grouping.TheVariants.{Isomorphism}}
+use Rattle.gs_run.specs.{Meanings.{Means}, Statuses.{status_of}, declared.status.Status.{Status}}
 use Rattle.gs_run.specs.declared.status.Status.TheVariants as status
 
 -- the run ends well, and `says` holds of some text; or out of memory; or `says` holds of some refusal, and the run ends with its status

@@ -1,42 +1,24 @@
 -- What each command prints for the bytes that it reads, in terms of games and strategies. No order of checks is fixed here.
 use Rattle.std.specs.Prelude.{◌≡◌, ℕ, ◌<◌, ◌≤◌, ◌++◌, ◌∷◌, List, pos, Some, false, true, IsTrue}
-use Rattle.gs_certificate.specs.Texts.{certificate_text}
-use Rattle.gs_certificate.specs.Views.{certificate_view}
-use Rattle.gs_certificate.specs.declared.certificate.Certificate.{Certificate}
-use Rattle.gs_certify.specs.Certificates.{IsCertified}
-use Rattle.gs_certify.specs.Verifying.{IsVerified}
+use Rattle.gs_certificate.specs.{Texts.{certificate_text}, Views.{certificate_view}, declared.certificate.Certificate.{Certificate}}
+use Rattle.gs_certify.specs.{Certificates.{IsCertified}, Verifying.{IsVerified}}
 use Rattle.gs_compare.specs.Judging.{AreHands, hands_text}
 use Rattle.gs_confirm.specs.Queries.{IsQueried}
-use Rattle.gs_file.specs.Reading.{FileGame, rules_of}
-use Rattle.gs_file.specs.States.{FileStates}
-use Rattle.gs_file.specs.declared.version.Version.{Version}
-use Rattle.gs_file.specs.declared.version.Version.TheVariants.{Two}
-use Rattle.gs_group.specs.Checking.{IsChecked, IsGrouping}
-use Rattle.gs_group.specs.Shrinking.{IsShrunk}
+use Rattle.gs_file.specs.{Reading.{FileGame, rules_of}, States.{FileStates}, declared.version.Version.{Version}, declared.version.Version.TheVariants.{Two}}
+use Rattle.gs_group.specs.{Checking.{IsChecked, IsGrouping}, Shrinking.{IsShrunk}}
 use Rattle.gs_laws.specs.Lawful.{AreRawPlans}
 use Rattle.gs_made.specs.Made.{made_game}
-use Rattle.gs_model.specs.Classes.{ClassLists}
-use Rattle.gs_model.specs.Frame.{signal_count}
-use Rattle.gs_model.specs.Lossless.{IsLossless}
-use Rattle.gs_model.specs.Payoff.{hand_weight}
-use Rattle.gs_model.specs.Play.{IsFictitiousPlay}
+use Rattle.gs_model.specs.{Classes.{ClassLists}, Frame.{signal_count}, Lossless.{IsLossless}, Payoff.{hand_weight}, Play.{IsFictitiousPlay}}
 use Rattle.gs_model.specs.Verdict.{IsVerdict}
 use Rattle.gs_raw.specs.Cells.{raw_cell_count}
-use Rattle.gs_seq.specs.Slots.{plan_of}
-use Rattle.gs_seq.specs.Stops.{IsSmall}
-use Rattle.gs_settle.specs.Paths.{IsPathShown}
-use Rattle.gs_settle.specs.Solving.{IsSolved}
-use Rattle.gs_strategy.specs.Confirmed.{IsConfirmed, over, raw_plan}
-use Rattle.gs_strategy.specs.Laws.{AreFractions, IsStrategy}
-use Rattle.gs_strategy.specs.Texts.{strategy_text}
+use Rattle.gs_seq.specs.{Slots.{plan_of}, Stops.{IsSmall}}
+use Rattle.gs_settle.specs.{Paths.{IsPathShown}, Solving.{IsSolved}}
+use Rattle.gs_strategy.specs.{Confirmed.{IsConfirmed, over, raw_plan}, Laws.{AreFractions, IsStrategy}, Texts.{strategy_text}}
 use Rattle.gs_strategy.specs.Values.{FractionParts, Numbers, Strategy, frame_in}
 use Rattle.gs_reply.specs.VerdictText.{verdict_text}
-use Rattle.gs_words.specs.Commands.{entry_of}
-use Rattle.gs_words.specs.Plain.{Given, are_plain, given_for, option_words}
-use Rattle.gs_words.specs.Requests.{task_for}
+use Rattle.gs_words.specs.{Commands.{entry_of}, Plain.{Given, are_plain, given_for, option_words}, Requests.{task_for}}
 use Rattle.gs_words.specs.Tasks.{Task, Shrink, Check, Make, Evaluate, Query, Upgrade, Judge, Duel, Certify, Verify, Solve, Play, Path}
-use Rattle.gs_words.specs.declared.names.CommandName.{CommandName}
-use Rattle.gs_words.specs.declared.request.Grouping.{Grouping}
+use Rattle.gs_words.specs.{declared.names.CommandName.{CommandName}, declared.request.Grouping.{Grouping}}
 
 -- ---- words
 

@@ -1,7 +1,5 @@
 -- What a sink received of a line.
-use Rattle.std.specs.Prelude.{ℕ, ◌<◌, ◌≤◌, List, length, take}
-use Rattle.std.specs.declared.option.Option.{Option}
-use Rattle.std.specs.Io.KnownBytes.{Appends}
+use Rattle.std.specs.{Prelude.{ℕ, ◌<◌, ◌≤◌, List, length, take}, declared.option.Option.{Option}, Io.KnownBytes.{Appends}}
 use Rattle.gs_io.specs.Causes.{Rose}
 
 -- the sink received the line, or a prefix of it if a write failed

@@ -2,8 +2,7 @@
 use Rattle.std.proofs.Common.{◌≡◌, ℕ, ◌-◌, ◌<◌, ◌≤◌, List, length, get_or, sym, ap, ◌∙◌, arith}
 use Rattle.gs_filter.specs.Filter.{Filter, IsParentClass}
 use Rattle.gs_filter.proofs.TallyLaws.{first_in, first_member_of}
-use Rattle.gs_model.specs.Classes.{IsClass, class_of, first_member, list_of}
-use Rattle.gs_model.specs.Frame.{Frame, ancestor, ancestor_up, parents_of, signal_count}
+use Rattle.gs_model.specs.{Classes.{IsClass, class_of, first_member, list_of}, Frame.{Frame, ancestor, ancestor_up, parents_of, signal_count}}
 use Rattle.gs_model.proofs.Tables.{is_table}
 use Rattle.gs_seq.specs.Sources.{IsClassAbove}
 

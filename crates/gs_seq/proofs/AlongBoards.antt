@@ -1,31 +1,16 @@
 -- What an end of the last round pays a class of one signal is a sum over the signal's deals.
-use Rattle.std.proofs.Common.{◌≡◌, ℕ, ℤ, List, pos, ◌+◌, ◌-◌, ◌<◌, ◌≤◌, get_or, map, sym, ap, ◌∙◌, subst, arith, ⊎_elim}
+use Rattle.std.proofs.{Common.{◌≡◌, ℕ, ℤ, List, pos, ◌+◌, ◌-◌, ◌<◌, ◌≤◌, get_or, map, sym, ap, ◌∙◌, subst, arith, ⊎_elim}, lemmas.Bool.{cases_lt}}
 use Rattle.std.specs.Prelude.{◌*ℤ◌, ◌⊎◌, slice_index}
-use Rattle.std.proofs.lemmas.Bool.{cases_lt}
-use Rattle.gs_boards.specs.Boards.{deal_sum, paid}
-use Rattle.gs_boards.specs.declared.pays.Pays.{Pays}
+use Rattle.gs_boards.specs.{Boards.{deal_sum, paid}, declared.pays.Pays.{Pays}}
 use Rattle.gs_filter.specs.Filter.{Filter}
 use Rattle.gs_filter.proofs.ClassLaws.{greatest_within}
-use Rattle.gs_game.specs.Games.{game_of}
-use Rattle.gs_game.specs.declared.valid.ValidGame.{ValidGame}
-use Rattle.gs_model.specs.Classes.{IsClasses, class_count, list_of}
-use Rattle.gs_model.specs.Deals.{Deal}
-use Rattle.gs_model.specs.Frame.{end_at, end_count, last_round, round_of, signal_count}
-use Rattle.gs_model.specs.FrameFacts.{InRange, IsWalked}
-use Rattle.gs_model.specs.Positions.{at_end}
-use Rattle.gs_model.proofs.Gather.{class_in}
-use Rattle.gs_model.proofs.RawBound.{sum_z-map}
-use Rattle.gs_model.proofs.Total.{sum_z-same}
-use Rattle.gs_model.proofs.Walked.{last_round_of}
+use Rattle.gs_game.specs.{Games.{game_of}, declared.valid.ValidGame.{ValidGame}}
+use Rattle.gs_model.specs.{Classes.{IsClasses, class_count, list_of}, Deals.{Deal}, Frame.{end_at, end_count, last_round, round_of, signal_count}}
+use Rattle.gs_model.specs.{FrameFacts.{InRange, IsWalked}, Positions.{at_end}}
+use Rattle.gs_model.proofs.{Gather.{class_in}, RawBound.{sum_z-map}, Total.{sum_z-same}, Walked.{last_round_of}}
 use Rattle.gs_tree.specs.Walk.{last_count}
-use Rattle.gs_seq.specs.Games.{frame_in}
-use Rattle.gs_seq.specs.Payoffs.{number_sum, pair_pays}
-use Rattle.gs_seq.specs.Rows.{IsRow, IsSingleIn}
-use Rattle.gs_seq.specs.Singles.{deal_pair}
-use Rattle.gs_seq.specs.declared.pair.Pair.{Pair}
-use Rattle.gs_seq.proofs.EndSums.{row_sum}
-use Rattle.gs_seq.proofs.Singles.{count_is, deals_of, made_row}
-use Rattle.gs_seq.proofs.SlotLaws.{over}
+use Rattle.gs_seq.specs.{Games.{frame_in}, Payoffs.{number_sum, pair_pays}, Rows.{IsRow, IsSingleIn}, Singles.{deal_pair}, declared.pair.Pair.{Pair}}
+use Rattle.gs_seq.proofs.{EndSums.{row_sum}, Singles.{count_is, deals_of, made_row}, SlotLaws.{over}}
 
 -- each of the last round's signals is a class, and there are no more
 pub single_count : (g : ValidGame) (c : Filter) → c.parents ≡ (frame_in g).parents → IsSingleIn c.lists (last_round (frame_in g))

@@ -3,8 +3,7 @@ use Rattle.std.proofs.Common.{◌≡◌, ap, subst, sym}
 use Rattle.gs_filter.specs.Filter.{Filter}
 use Rattle.gs_game.specs.declared.valid.ValidGame.{ValidGame}
 use Rattle.gs_lossless.specs.declared.checking.Lossless.{Lossless}
-use Rattle.gs_model.specs.Classes.{ClassLists}
-use Rattle.gs_model.specs.Frame.{Frame}
+use Rattle.gs_model.specs.{Classes.{ClassLists}, Frame.{Frame}}
 use Rattle.gs_seq.specs.Games.{frame_in}
 use Rattle.gs_tree.specs.declared.signals.Signals.{Signals}
 

@@ -1,33 +1,15 @@
 -- The pairs of each end's round, and how many there can be.
 use Rattle.std.proofs.Common.{◌≡◌, ℕ, zero, suc, ◌+◌, ◌-◌, ◌*◌, ◌<◌, ◌≤◌, ◌^◌, List, [], ◌∷◌, ◌++◌, length, get_or, map, take, sym, ap, ◌∙◌, subst, arith, sum_by, count_by, Vec, ⊎_elim}
-use Rattle.std.specs.Prelude.{All}
-use Rattle.std.specs.declared.alloc.Global.{Global}
-use Rattle.std.proofs.Math.Nat.{mul-le-mul_right}
-use Rattle.std.proofs.lemmas.Bool.{cases_lt}
-use Rattle.std.proofs.lemmas.List.{get_or_append_left, get_or_push, get_or_read, length-map, length_push}
-use Rattle.std.proofs.lemmas.List.FromFn.{length-range_with_len}
-use Rattle.std.proofs.lemmas.List.Sums.{count_by-le-length, sum_by-le, sum_by_more}
+use Rattle.std.proofs.{Math.Nat.{mul-le-mul_right}, lemmas.Bool.{cases_lt}, lemmas.List.{get_or_append_left, get_or_push, get_or_read, length-map, length_push}}
+use Rattle.std.proofs.{lemmas.List.FromFn.{length-range_with_len}, lemmas.List.Sums.{count_by-le-length, sum_by-le, sum_by_more}}
+use Rattle.std.specs.{Prelude.{All}, declared.alloc.Global.{Global}}
 use Rattle.gs_filter.specs.Filter.{Filter}
-use Rattle.gs_game.specs.Games.{game_of}
-use Rattle.gs_game.specs.Seen.{end_of}
-use Rattle.gs_game.specs.declared.positions.End.{End as StoredEnd}
-use Rattle.gs_game.specs.declared.valid.ValidGame.{ValidGame}
+use Rattle.gs_game.specs.{Games.{game_of}, Seen.{end_of}, declared.positions.End.{End as StoredEnd}, declared.valid.ValidGame.{ValidGame}}
 use Rattle.gs_lossless.specs.declared.checking.Lossless.{Lossless}
-use Rattle.gs_model.specs.Classes.{class_count, classes_in}
-use Rattle.gs_model.specs.Deals.{deals}
-use Rattle.gs_model.specs.Frame.{end_count, last_round, round_of}
-use Rattle.gs_model.specs.Positions.{End, at_end}
-use Rattle.gs_model.proofs.Ranges.{deals_weigh}
-use Rattle.gs_model.proofs.Basics.{sum_by-map}
-use Rattle.gs_seq.specs.Cells.{AreCounts, cell_count, meets, pair_count}
-use Rattle.gs_seq.specs.Games.{frame_in}
-use Rattle.gs_seq.specs.Rows.{AreRows, AreRowsIn, pairs_of}
-use Rattle.gs_seq.specs.declared.pair.Pair.{Pair}
-use Rattle.gs_seq.proofs.Ends.{end_reads, end_round, length-ends}
-use Rattle.gs_seq.proofs.Meeting.{rows_long}
-use Rattle.gs_seq.proofs.Points.{walked}
-use Rattle.gs_seq.proofs.RowRoom.{table}
-use Rattle.gs_seq.proofs.Singles.{made_count}
+use Rattle.gs_model.specs.{Classes.{class_count, classes_in}, Deals.{deals}, Frame.{end_count, last_round, round_of}, Positions.{End, at_end}}
+use Rattle.gs_model.proofs.{Ranges.{deals_weigh}, Basics.{sum_by-map}}
+use Rattle.gs_seq.specs.{Cells.{AreCounts, cell_count, meets, pair_count}, Games.{frame_in}, Rows.{AreRows, AreRowsIn, pairs_of}, declared.pair.Pair.{Pair}}
+use Rattle.gs_seq.proofs.{Ends.{end_reads, end_round, length-ends}, Meeting.{rows_long}, Points.{walked}, RowRoom.{table}, Singles.{made_count}}
 use Rattle.gs_seq.proofs.SlotLaws.{class_few, over}
 
 -- the rows of a round of a game with lossless classes

@@ -1,20 +1,10 @@
 -- Each point of a valid game has a move.
-use Rattle.std.proofs.Common.{◌≡◌, ℕ, ◌+◌, ◌<◌, List, [], ◌∷◌, length, true, arith, None}
-use Rattle.std.specs.Prelude.{not}
-use Rattle.std.specs.List.{AllByRecursion}
-use Rattle.std.proofs.lemmas.Bool.{and_parts}
-use Rattle.std.proofs.lemmas.List.Elements.{All-from_recursion}
-use Rattle.gs_bet.specs.Grammar.{is_sound, are_sound, is_fold}
-use Rattle.gs_bet.specs.MoveLists.{has_move}
-use Rattle.gs_bet.specs.TreeView.{plain}
-use Rattle.gs_game.specs.Games.{game_of, plain_trees}
-use Rattle.gs_game.specs.declared.game.Round.{Round}
-use Rattle.gs_game.specs.declared.valid.ValidGame.{ValidGame}
-use Rattle.gs_game.proofs.Deciding.{trees_are}
-use Rattle.gs_game.proofs.MoneyLaws.{sound_act, sound_move}
-use Rattle.gs_model.specs.Betting.{Bet, Moves, act, fold, even, none, move}
-use Rattle.gs_model.specs.Frame.{move_count, point_count, trees_of}
-use Rattle.gs_model.specs.Positions.{Point}
+use Rattle.std.proofs.{Common.{◌≡◌, ℕ, ◌+◌, ◌<◌, List, [], ◌∷◌, length, true, arith, None}, lemmas.Bool.{and_parts}, lemmas.List.Elements.{All-from_recursion}}
+use Rattle.std.specs.{Prelude.{not}, List.{AllByRecursion}}
+use Rattle.gs_bet.specs.{Grammar.{is_sound, are_sound, is_fold}, MoveLists.{has_move}, TreeView.{plain}}
+use Rattle.gs_game.specs.{Games.{game_of, plain_trees}, declared.game.Round.{Round}, declared.valid.ValidGame.{ValidGame}}
+use Rattle.gs_game.proofs.{Deciding.{trees_are}, MoneyLaws.{sound_act, sound_move}}
+use Rattle.gs_model.specs.{Betting.{Bet, Moves, act, fold, even, none, move}, Frame.{move_count, point_count, trees_of}, Positions.{Point}}
 use Rattle.gs_model.specs.Walk.{Place, Walked, after_move, walk_tree, walk_moves, walk_rounds, walk_start, walk}
 use Rattle.gs_model.proofs.Basics.{every-append}
 use Rattle.gs_seq.specs.Games.{frame_in}

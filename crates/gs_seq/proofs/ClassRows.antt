@@ -1,15 +1,9 @@
 -- The row of a class, from the sums of its first member.
 use Rattle.std.proofs.Common.{◌≡◌, ℕ, ℤ, pos, ◌+◌, Bool, true, false, cond, List, [], ◌∷◌, ◌++◌, map, refl, sym, ap, ◌∙◌, arith, sum_by}
+use Rattle.std.proofs.{Math.IntN.{+ℤ_idl, +ℤ_idr}, lemmas.Int.{ints}, lemmas.List.Sums.{sum_by-append, sum_by-cons}}
 use Rattle.std.specs.Prelude.{◌+ℤ◌, ◌*ℤ◌}
-use Rattle.std.proofs.Math.IntN.{+ℤ_idl, +ℤ_idr}
-use Rattle.std.proofs.lemmas.Int.{ints}
-use Rattle.std.proofs.lemmas.List.Sums.{sum_by-append, sum_by-cons}
 use borrow.Author.Differences.{product_is}
-use Rattle.gs_model.proofs.Keys.{IsExact}
-use Rattle.gs_model.proofs.RawBound.{sum_z-map}
-use Rattle.gs_model.proofs.Regroup.{alike_total}
-use Rattle.gs_model.proofs.Total.{sum_z-append, sum_z-same, sum_z-zero}
-use Rattle.gs_model.proofs.Basics.{sum_by-map}
+use Rattle.gs_model.proofs.{Keys.{IsExact}, RawBound.{sum_z-map}, Regroup.{alike_total}, Total.{sum_z-append, sum_z-same, sum_z-zero}, Basics.{sum_by-map}}
 use Rattle.gs_model.specs.Sums.{sum_z}
 
 -- an item of one of two lists

@@ -1,28 +1,13 @@
 -- The sums by pairs of classes, from the sums of one member of the first class: all members of a lossless class have the same.
-use Rattle.std.proofs.Common.{◌≡◌, ℕ, ℤ, pos, ◌<◌, ◌≤◌, Bool, true, false, cond, List, get_or, refl, sym, ap, ◌∙◌, arith, sum_by, eqb}
-use Rattle.std.specs.Prelude.{◌==◌, ◌*ℤ◌}
-use Rattle.std.specs.Ordering.{int_eq}
-use Rattle.std.proofs.Math.IntN.{*ℤ-zero}
-use Rattle.std.proofs.lemmas.Bool.Decides.{Decides-eqb}
-use Rattle.std.proofs.lemmas.Int.{ints}
+use Rattle.std.proofs.{Common.{◌≡◌, ℕ, ℤ, pos, ◌<◌, ◌≤◌, Bool, true, false, cond, List, get_or, refl, sym, ap, ◌∙◌, arith, sum_by, eqb}, Math.IntN.{*ℤ-zero}}
+use Rattle.std.proofs.{lemmas.Bool.Decides.{Decides-eqb}, lemmas.Int.{ints}}
+use Rattle.std.specs.{Prelude.{◌==◌, ◌*ℤ◌}, Ordering.{int_eq}}
 use borrow.Author.Differences.{product_is}
-use Rattle.gs_lossless.specs.Amounts.{AreAmounts, amount}
-use Rattle.gs_lossless.specs.Sums.{weight_at}
-use Rattle.gs_lossless.specs.declared.parts.Part.{Part}
-use Rattle.gs_lossless.specs.declared.sides.Side.TheVariants.{Deals}
-use Rattle.gs_model.specs.Classes.{ClassLists, InOneClass, class_of}
-use Rattle.gs_model.specs.Deals.{Deal}
-use Rattle.gs_model.specs.Frame.{Frame, at_round, last_round, signal_count, signals_in}
-use Rattle.gs_model.specs.Lossless.{IsLossless, weight_against, weight_with}
-use Rattle.gs_model.specs.Pairs.{pair_sum}
-use Rattle.gs_model.specs.Sums.{sum_z}
-use Rattle.gs_model.proofs.ClassTotals.{class_size_of, class_total, class_total_is}
-use Rattle.gs_model.proofs.Flow.{by_ancestor}
-use Rattle.gs_model.proofs.Known.{Tabled}
-use Rattle.gs_model.proofs.Lift.{both_out, one_guard, pair_exact, pair_test}
-use Rattle.gs_model.proofs.RawBound.{range_once}
-use Rattle.gs_model.proofs.Regroup.{alike_total}
-use Rattle.gs_model.proofs.Total.{sum_z-same}
+use Rattle.gs_lossless.specs.{Amounts.{AreAmounts, amount}, Sums.{weight_at}, declared.parts.Part.{Part}, declared.sides.Side.TheVariants.{Deals}}
+use Rattle.gs_model.specs.{Classes.{ClassLists, InOneClass, class_of}, Deals.{Deal}, Frame.{Frame, at_round, last_round, signal_count, signals_in}}
+use Rattle.gs_model.specs.{Lossless.{IsLossless, weight_against, weight_with}, Pairs.{pair_sum}, Sums.{sum_z}}
+use Rattle.gs_model.proofs.{ClassTotals.{class_size_of, class_total, class_total_is}, Flow.{by_ancestor}, Known.{Tabled}}
+use Rattle.gs_model.proofs.{Lift.{both_out, one_guard, pair_exact, pair_test}, RawBound.{range_once}, Regroup.{alike_total}, Total.{sum_z-same}}
 use Rattle.gs_model.proofs.Basics.{sum-same, sum-cond}
 use Rattle.gs_seq.proofs.ClassRows.{alike_lists}
 

@@ -1,22 +1,15 @@
 -- What comes to a class of a point.
 use Rattle.std.proofs.Common.{◌≡◌, ℕ, suc, ◌+◌, ◌-◌, ◌*◌, ◌<◌, ◌≤◌, List, get_or, refl, sym, ap, ◌∙◌, subst, arith, true, Option, Some, None}
+use Rattle.std.proofs.{Math.Nat.{mul-le-mul_right}, lemmas.Bool.Decides.{Decides-eqb}}
 use Rattle.std.specs.Prelude.{◌==◌, option_map}
-use Rattle.std.proofs.Math.Nat.{mul-le-mul_right}
-use Rattle.std.proofs.lemmas.Bool.Decides.{Decides-eqb}
 use Rattle.gs_filter.specs.Filter.{Filter}
-use Rattle.gs_game.specs.Seen.{step_of}
-use Rattle.gs_game.specs.declared.positions.Point.{Point as StoredPoint}
-use Rattle.gs_game.specs.declared.positions.Step.{Step as StoredStep}
+use Rattle.gs_game.specs.{Seen.{step_of}, declared.positions.Point.{Point as StoredPoint}, declared.positions.Step.{Step as StoredStep}}
 use Rattle.gs_model.specs.Classes.{ClassLists, IsClass, class_count, class_of, first_member}
-use Rattle.gs_model.specs.Frame.{Frame, ancestor, end_count, last_step, move_count, player_at, point_count, round_of}
-use Rattle.gs_model.specs.FrameFacts.{InRange, IsWalked}
-use Rattle.gs_model.specs.Plans.{lift, number_before}
-use Rattle.gs_model.specs.Positions.{Step, Target, at_end, at_point}
-use Rattle.gs_seq.specs.Slots.{plan_of, slot_count, slot_of, slots_at, slots_before}
-use Rattle.gs_seq.specs.Sources.{IsSource, IsWeightAbove, slot_above}
+use Rattle.gs_model.specs.{Frame.{Frame, ancestor, end_count, last_step, move_count, player_at, point_count, round_of}, FrameFacts.{InRange, IsWalked}}
+use Rattle.gs_model.specs.{Plans.{lift, number_before}, Positions.{Step, Target, at_end, at_point}}
+use Rattle.gs_seq.specs.{Slots.{plan_of, slot_count, slot_of, slots_at, slots_before}, Sources.{IsSource, IsWeightAbove, slot_above}}
 use Rattle.gs_seq.specs.declared.flows.StepSource.{StepSource}
-use Rattle.gs_seq.proofs.Points.{Reads}
-use Rattle.gs_seq.proofs.SlotLaws.{slots_le, slots_more}
+use Rattle.gs_seq.proofs.{Points.{Reads}, SlotLaws.{slots_le, slots_more}}
 
 -- the step that a point of the program names
 pub made : (f : Frame) (player q : ℕ) (p : StoredPoint) (u : StoredStep) → Reads f q p → player_at f q ≡ player → p.own ≡ Some u

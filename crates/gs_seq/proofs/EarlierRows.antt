@@ -1,48 +1,28 @@
 -- The row of a class from the rows of the next round: what the pairs of the classes below it add up to.
 use Rattle.std.proofs.Common.{⊎_elim, set, append-nil, ◌≡◌, ◌≢◌, ℕ, ℤ, pos, zero, suc, ◌+◌, ◌-◌, ◌<◌, ◌≤◌, Bool, true, false, true≢false, cond, not, List, [], ◌∷◌, ◌++◌, length, get_or, map, refl, sym, ap, ◌∙◌, subst, arith, sum_by, eqb, Vec, IsPermutation}
-use Rattle.std.specs.Prelude.{◌==◌, ◌*ℤ◌, All, filter, flat_map}
-use Rattle.std.specs.List.{AllByRecursion, range_with_len}
-use Rattle.std.specs.List.Sorted.{IsSortedBy}
-use Rattle.std.specs.Ordering.{int_cmp, is_lt, nat_cmp, ordering_then}
-use Rattle.std.specs.declared.alloc.Global.{Global}
-use Rattle.std.specs.declared.cmp.Ordering.{Ordering}
-use Rattle.std.specs.declared.cmp.Ordering.TheVariants.{Less, Equal, Greater}
-use Rattle.std.proofs.Math.IntN.{*ℤ-zero}
-use Rattle.std.proofs.lemmas.Bool.{cases_eq}
-use Rattle.std.proofs.lemmas.Bool.Decides.{Decides-eqb}
-use Rattle.std.proofs.lemmas.Cmp.{ranked}
-use Rattle.std.proofs.lemmas.Int.{ints}
-use Rattle.std.proofs.lemmas.List.{get_or-set_other, get_or-set_same, length-set}
-use Rattle.std.proofs.lemmas.List.Elements.{All-filter, All-from_recursion, recursion_from_All}
+use Rattle.std.proofs.{Math.IntN.{*ℤ-zero}, lemmas.Bool.{cases_eq}, lemmas.Bool.Decides.{Decides-eqb}, lemmas.Cmp.{ranked}, lemmas.Int.{ints}}
+use Rattle.std.proofs.{lemmas.List.{get_or-set_other, get_or-set_same, length-set}, lemmas.List.Elements.{All-filter, All-from_recursion, recursion_from_All}}
 use Rattle.std.proofs.lemmas.List.FromFn.{filter_of_map_range_with_len_more, get_or-range_with_len, length-range_with_len}
-use Rattle.std.proofs.lemmas.List.Filters.{sum_by-filter_both}
-use Rattle.std.proofs.lemmas.List.Sorted.{All-permutation, sum_by-IsPermutation}
+use Rattle.std.proofs.{lemmas.List.Filters.{sum_by-filter_both}, lemmas.List.Sorted.{All-permutation, sum_by-IsPermutation}}
 use Rattle.std.proofs.lemmas.List.Sums.{sum_by-append, sum_by-cons}
+use Rattle.std.specs.{Prelude.{◌==◌, ◌*ℤ◌, All, filter, flat_map}, List.{AllByRecursion, range_with_len}, List.Sorted.{IsSortedBy}}
+use Rattle.std.specs.{Ordering.{int_cmp, is_lt, nat_cmp, ordering_then}, declared.alloc.Global.{Global}, declared.cmp.Ordering.{Ordering}}
+use Rattle.std.specs.declared.cmp.Ordering.TheVariants.{Less, Equal, Greater}
 use borrow.Author.Differences.{product_is}
 use Rattle.gs_filter.specs.Filter.{Filter, IsParentClass}
 use Rattle.gs_filter.proofs.TallyLaws.{first_in, first_member_of}
 use Rattle.gs_game.specs.declared.valid.ValidGame.{ValidGame}
 use Rattle.gs_lossless.specs.declared.parts.Part.{Part}
 use Rattle.gs_lossless.proofs.Merge.{part_lt}
-use Rattle.gs_model.specs.Classes.{IsClass, IsClasses, class_count, class_of, first_member, list_of}
-use Rattle.gs_model.specs.Deals.{Deal}
-use Rattle.gs_model.specs.Frame.{ancestor, ancestor_up, at_round, last_round, signal_count}
-use Rattle.gs_model.proofs.Gather.{class_in, firsts_from}
-use Rattle.gs_model.proofs.Regroup.{sum_z-pos}
-use Rattle.gs_model.proofs.Total.{sum_z-same}
-use Rattle.gs_model.proofs.Basics.{pos-injective, every-append, sum-same, not_eq, sum_by-map}
-use Rattle.gs_model.proofs.Alike.{ancestor-parent}
-use Rattle.gs_model.specs.Pairs.{pair_sum}
-use Rattle.gs_seq.specs.Games.{frame_in}
-use Rattle.gs_seq.specs.Rows.{AreBelow, AreRowsIn, IsRow, below_class, class_up, gathered, pair_of, part_up, row_at, weight_in}
+use Rattle.gs_model.specs.{Classes.{IsClass, IsClasses, class_count, class_of, first_member, list_of}, Deals.{Deal}}
+use Rattle.gs_model.specs.{Frame.{ancestor, ancestor_up, at_round, last_round, signal_count}, Pairs.{pair_sum}}
+use Rattle.gs_model.proofs.{Gather.{class_in, firsts_from}, Regroup.{sum_z-pos}, Total.{sum_z-same}}
+use Rattle.gs_model.proofs.{Basics.{pos-injective, every-append, sum-same, not_eq, sum_by-map}, Alike.{ancestor-parent}}
+use Rattle.gs_seq.specs.{Games.{frame_in}, Rows.{AreBelow, AreRowsIn, IsRow, below_class, class_up, gathered, pair_of, part_up, row_at, weight_in}}
 use Rattle.gs_seq.specs.declared.pair.Pair.{Pair}
-use Rattle.gs_seq.proofs.ClassRows.{alike_lists}
-use Rattle.gs_seq.proofs.Gathered.{StartsFrom, gathered-signed, gathered-weight, head_from, part_signed, part_weight}
+use Rattle.gs_seq.proofs.{ClassRows.{alike_lists}, Gathered.{StartsFrom, gathered-signed, gathered-weight, head_from, part_signed, part_weight}}
 use Rattle.gs_seq.proofs.RowFacts.{both_weight, class_weight, classes_weigh, pair_weight_is, row_class, row_weighs, sum-add, weight_both}
-use Rattle.gs_seq.proofs.RowLaws.{RisesBy, by_index, join_rises}
-use Rattle.gs_seq.proofs.RowRoom.{table}
-use Rattle.gs_seq.proofs.SlotLaws.{over}
-use Rattle.gs_seq.proofs.Singles.{once}
+use Rattle.gs_seq.proofs.{RowLaws.{RisesBy, by_index, join_rises}, RowRoom.{table}, SlotLaws.{over}, Singles.{once}}
 
 -- ---- parts whose classes do not fall
 

@@ -1,34 +1,17 @@
 -- What an end pays at a class, over the pairs of its row.
 use Rattle.std.proofs.Common.{◌≡◌, ◌≢◌, ℕ, ℤ, pos, neg_ℤ, ◌+◌, ◌-◌, ◌*◌, ◌<◌, ◌≤◌, ◌^◌, Bool, true, false, cond, List, [], length, get_or, refl, sym, ap, ◌∙◌, arith, eqb, take, ⊎_elim}
-use Rattle.std.specs.Prelude.{◌==◌, ◌*ℤ◌, ◌⊎◌, All, unsigned_abs}
-use Rattle.std.proofs.Math.Nat.{mul-le-mul_left, mul-le-mul_right}
-use Rattle.std.proofs.Math.IntN.{*ℤ_comm, *ℤ-zero}
-use Rattle.std.proofs.lemmas.Bool.Decides.{Decides-eqb}
-use Rattle.std.proofs.lemmas.Int.{ints, unsigned_abs-mul}
-use Rattle.std.proofs.lemmas.List.Elements.{All-take}
-use Rattle.std.specs.List.{range_with_len}
-use Rattle.std.proofs.lemmas.List.FromFn.{get_or-range_with_len, length-range_with_len}
+use Rattle.std.proofs.{Math.Nat.{mul-le-mul_left, mul-le-mul_right}, Math.IntN.{*ℤ_comm, *ℤ-zero}, lemmas.Bool.Decides.{Decides-eqb}}
+use Rattle.std.proofs.{lemmas.Int.{ints, unsigned_abs-mul}, lemmas.List.Elements.{All-take}, lemmas.List.FromFn.{get_or-range_with_len, length-range_with_len}}
 use Rattle.std.proofs.lemmas.List.Sums.{get_or-le-sum_by, sum_by-cons, sum_by-take-le}
+use Rattle.std.specs.{Prelude.{◌==◌, ◌*ℤ◌, ◌⊎◌, All, unsigned_abs}, List.{range_with_len}}
 use borrow.Author.Differences.{abs_is, neg_is, product_is}
 use Rattle.gs_model.specs.Classes.{ClassLists, IsClass, IsClasses, class_count, classes_in}
-use Rattle.gs_model.specs.Frame.{Frame, end_at, end_count, last_round, other_player, payoff_to, round_of}
-use Rattle.gs_model.specs.FrameFacts.{InRange, IsWalked}
-use Rattle.gs_model.specs.Pairs.{class_number, pair_sum}
-use Rattle.gs_model.specs.Plans.{Plan}
-use Rattle.gs_model.specs.Positions.{End, EndKind, Folded1, Folded2, Show, at_end}
-use Rattle.gs_model.specs.Sums.{sum_z}
-use Rattle.gs_model.proofs.Flow.{by_ancestor}
-use Rattle.gs_model.proofs.Payoff.{pair_constant, pair_signed as pair_times}
-use Rattle.gs_model.proofs.RawBound.{range_once}
-use Rattle.gs_model.proofs.Regroup.{sum_z-pos}
-use Rattle.gs_model.proofs.Tables.{is_table}
-use Rattle.gs_model.proofs.Total.{sum_z-mul, sum_z-same, sum_z-same_all}
-use Rattle.gs_model.proofs.Basics.{neg-neg, pos-cond, not_eq}
-use Rattle.gs_seq.specs.Payoffs.{AreNumbersAt, end_sum, number_sum, pair_pays, stake}
-use Rattle.gs_seq.specs.Rows.{IsRow, signed_in, weight_in}
-use Rattle.gs_seq.specs.declared.pair.Pair.{Pair}
-use Rattle.gs_seq.proofs.RowFacts.{abs_all, class_weight, classes_weigh, row_class, row_signed, row_weighs, sum-times}
-use Rattle.gs_seq.proofs.Sizes.{AreModest}
+use Rattle.gs_model.specs.{Frame.{Frame, end_at, end_count, last_round, other_player, payoff_to, round_of}, FrameFacts.{InRange, IsWalked}}
+use Rattle.gs_model.specs.{Pairs.{class_number, pair_sum}, Plans.{Plan}, Positions.{End, EndKind, Folded1, Folded2, Show, at_end}, Sums.{sum_z}}
+use Rattle.gs_model.proofs.{Flow.{by_ancestor}, Payoff.{pair_constant, pair_signed as pair_times}, RawBound.{range_once}, Regroup.{sum_z-pos}}
+use Rattle.gs_model.proofs.{Tables.{is_table}, Total.{sum_z-mul, sum_z-same, sum_z-same_all}, Basics.{neg-neg, pos-cond, not_eq}}
+use Rattle.gs_seq.specs.{Payoffs.{AreNumbersAt, end_sum, number_sum, pair_pays, stake}, Rows.{IsRow, signed_in, weight_in}, declared.pair.Pair.{Pair}}
+use Rattle.gs_seq.proofs.{RowFacts.{abs_all, class_weight, classes_weigh, row_class, row_signed, row_weighs, sum-times}, Sizes.{AreModest}}
 
 -- ---- what ends pay
 

@@ -1,32 +1,16 @@
 -- What two plans pay at an end, over the classes of player 1, and at all ends.
 use Rattle.std.proofs.Common.{◌≡◌, ℕ, ℤ, pos, zero, suc, ◌+◌, ◌*◌, ◌<◌, ◌≤◌, ◌^◌, [], get_or, refl, inl, sym, ap, ◌∙◌, arith, sum_by}
-use Rattle.std.specs.Prelude.{◌⊎◌, ◌+ℤ◌, ◌*ℤ◌, unsigned_abs}
-use Rattle.std.specs.List.{range_with_len}
-use Rattle.std.proofs.Math.Nat.{mul-le-mul_left, mul-le-mul_right}
-use Rattle.std.proofs.lemmas.Int.{ints, unsigned_abs-mul}
-use Rattle.std.proofs.lemmas.List.Sums.{sum_by-cons}
-use Rattle.std.proofs.Math.IntN.{+ℤ_idr}
+use Rattle.std.proofs.{Math.Nat.{mul-le-mul_left, mul-le-mul_right}, lemmas.Int.{ints, unsigned_abs-mul}, lemmas.List.Sums.{sum_by-cons}, Math.IntN.{+ℤ_idr}}
+use Rattle.std.specs.{Prelude.{◌⊎◌, ◌+ℤ◌, ◌*ℤ◌, unsigned_abs}, List.{range_with_len}}
 use borrow.Author.Differences.{abs_is}
-use Rattle.gs_model.specs.Classes.{ClassLists, IsClass, IsClasses, class_count}
-use Rattle.gs_model.specs.Frame.{Frame, end_at, end_count, other_player, payoff_to, round_of}
-use Rattle.gs_model.specs.FrameFacts.{InRange, IsWalked}
-use Rattle.gs_model.specs.Pairs.{class_number, pair_sum}
-use Rattle.gs_model.specs.Payoff.{raw_payoff}
-use Rattle.gs_model.specs.Plans.{IsClassPlan, Plan, lift}
-use Rattle.gs_model.specs.Positions.{EndKind, Folded1, Folded2, Show, at_end}
-use Rattle.gs_model.specs.Sums.{sum_z}
-use Rattle.gs_model.proofs.Exchange.{raw_payoff_is_gain}
-use Rattle.gs_model.proofs.Gather.{grouping_from, known_from}
-use Rattle.gs_model.proofs.Payoff.{gain_by_pairs}
-use Rattle.gs_model.proofs.Sparse.{abs_sum, range_append}
-use Rattle.gs_model.proofs.Tables.{is_table}
-use Rattle.gs_model.proofs.Total.{sum_z-append}
+use Rattle.gs_model.specs.{Classes.{ClassLists, IsClass, IsClasses, class_count}, Frame.{Frame, end_at, end_count, other_player, payoff_to, round_of}}
+use Rattle.gs_model.specs.{FrameFacts.{InRange, IsWalked}, Pairs.{class_number, pair_sum}, Payoff.{raw_payoff}, Plans.{IsClassPlan, Plan, lift}}
+use Rattle.gs_model.specs.{Positions.{EndKind, Folded1, Folded2, Show, at_end}, Sums.{sum_z}}
+use Rattle.gs_model.proofs.{Exchange.{raw_payoff_is_gain}, Gather.{grouping_from, known_from}, Payoff.{gain_by_pairs}, Sparse.{abs_sum, range_append}}
+use Rattle.gs_model.proofs.{Tables.{is_table}, Total.{sum_z-append}}
 use Rattle.gs_seq.specs.Payoffs.{end_sum, payoff_at}
-use Rattle.gs_seq.proofs.Ends.{number_few}
-use Rattle.gs_seq.proofs.EndSums.{folded, folded_other, scaled_few, shown, stake_size}
-use Rattle.gs_seq.proofs.Forms.{AreGiven}
-use Rattle.gs_seq.proofs.RowFacts.{beside_weigh, both_weight, class_weight, classes_weigh, pair_few, sum-times}
-use Rattle.gs_seq.proofs.Sizes.{AreModest}
+use Rattle.gs_seq.proofs.{Ends.{number_few}, EndSums.{folded, folded_other, scaled_few, shown, stake_size}, Forms.{AreGiven}}
+use Rattle.gs_seq.proofs.{RowFacts.{beside_weigh, both_weight, class_weight, classes_weigh, pair_few, sum-times}, Sizes.{AreModest}}
 
 -- what a class of player 1 adds at an end
 abbrev pub class_term : Frame → ClassLists → Plan → Plan → ℕ → ℕ → ℤ

@@ -1,22 +1,13 @@
 -- What the ends of a valid game say of its frame, and the numbers of plans there.
 use Rattle.std.proofs.Common.{◌≡◌, ℕ, ◌<◌, ◌≤◌, List, length, map, get_or, refl, sym, ap, ◌∙◌, arith, true, false, Option, Some, None}
+use Rattle.std.proofs.{lemmas.Bool.Decides.{Decides-eqb}, lemmas.List.{get_or-map, length-map}}
 use Rattle.std.specs.Prelude.{◌==◌, option_map}
-use Rattle.std.proofs.lemmas.Bool.Decides.{Decides-eqb}
-use Rattle.std.proofs.lemmas.List.{get_or-map, length-map}
-use Rattle.gs_game.specs.Seen.{end_of, step_of}
-use Rattle.gs_game.specs.declared.positions.End.{End as StoredEnd}
+use Rattle.gs_game.specs.{Seen.{end_of, step_of}, declared.positions.End.{End as StoredEnd}, declared.valid.ValidGame.{ValidGame}}
 use Rattle.gs_game.specs.declared.positions.EndKind.TheVariants as kinds
-use Rattle.gs_game.specs.declared.valid.ValidGame.{ValidGame}
-use Rattle.gs_model.specs.Classes.{ClassLists, IsClass, IsClasses, class_of, first_member}
-use Rattle.gs_model.specs.Frame.{Frame, ancestor, end_at, end_count, last_step, round_of}
-use Rattle.gs_model.specs.FrameFacts.{InRange, IsWalked}
-use Rattle.gs_model.specs.Pairs.{class_number}
-use Rattle.gs_model.specs.Plans.{IsClassPlan, Plan, lift, number_before}
+use Rattle.gs_model.specs.{Classes.{ClassLists, IsClass, IsClasses, class_of, first_member}, Frame.{Frame, ancestor, end_at, end_count, last_step, round_of}}
+use Rattle.gs_model.specs.{FrameFacts.{InRange, IsWalked}, Pairs.{class_number}, Plans.{IsClassPlan, Plan, lift, number_before}}
 use Rattle.gs_model.specs.Positions.{End, Show, Step, at_end, at_point}
-use Rattle.gs_model.proofs.Gather.{class_in, member_in}
-use Rattle.gs_model.proofs.PlanLaws.{numbers_within}
-use Rattle.gs_model.proofs.Tables.{is_table}
-use Rattle.gs_model.proofs.Basics.{not_eq}
+use Rattle.gs_model.proofs.{Gather.{class_in, member_in}, PlanLaws.{numbers_within}, Tables.{is_table}, Basics.{not_eq}}
 use Rattle.gs_seq.specs.Games.{frame_in}
 
 -- what is read where no end stands

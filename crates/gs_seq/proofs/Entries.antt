@@ -1,18 +1,11 @@
 -- The pairs of a row one by one, and the first one behind a class.
 use Rattle.std.proofs.Common.{◌≡◌, ℕ, pos, suc, ◌<◌, ◌≤◌, cond, List, [], ◌∷◌, length, get_or, refl, sym, ap, ◌∙◌, arith, sum_by, ⊎_elim, subst, nat_lt}
+use Rattle.std.proofs.{lemmas.Bool.{cases_lt, lt-ltb}, lemmas.List.Sums.{sum_by-cons}}
 use Rattle.std.specs.Prelude.{◌==◌, All, MatchOption, Option, Some, None}
-use Rattle.std.proofs.lemmas.Bool.{cases_lt, lt-ltb}
-use Rattle.std.proofs.lemmas.List.Sums.{sum_by-cons}
-use Rattle.gs_model.specs.Classes.{ClassLists}
-use Rattle.gs_model.specs.Deals.{Deal}
-use Rattle.gs_model.specs.Frame.{Frame}
+use Rattle.gs_model.specs.{Classes.{ClassLists}, Deals.{Deal}, Frame.{Frame}}
 use Rattle.gs_model.proofs.Basics.{not_eq}
-use Rattle.gs_seq.specs.Cells.{IsPairAfter, MeetsNoneAfter}
-use Rattle.gs_seq.specs.Rows.{IsRow, signed_in, weight_in}
-use Rattle.gs_seq.specs.Singles.{IsFirstAfter}
-use Rattle.gs_seq.proofs.Meeting.{meets_at}
-use Rattle.gs_seq.proofs.RowFacts.{signed_at_pair, weight_at_pair}
-use Rattle.gs_seq.specs.declared.pair.Pair.{Pair}
+use Rattle.gs_seq.specs.{Cells.{IsPairAfter, MeetsNoneAfter}, Rows.{IsRow, signed_in, weight_in}, Singles.{IsFirstAfter}, declared.pair.Pair.{Pair}}
+use Rattle.gs_seq.proofs.{Meeting.{meets_at}, RowFacts.{signed_at_pair, weight_at_pair}}
 
 -- ---- entries of a row
 

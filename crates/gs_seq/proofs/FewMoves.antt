@@ -1,19 +1,11 @@
 -- The moves of a valid game's points: some and at most 26 at each, and their letters are letters of ASCII.
-use Rattle.std.proofs.Common.{◌≡◌, ℕ, ◌+◌, ◌<◌, ◌≤◌, true, List, [], ◌∷◌, length, map, refl, sym, subst, arith}
+use Rattle.std.proofs.{Common.{◌≡◌, ℕ, ◌+◌, ◌<◌, ◌≤◌, true, List, [], ◌∷◌, length, map, refl, sym, subst, arith}, lemmas.List.Elements.{All-from_recursion}}
 use Rattle.std.specs.List.{AllByRecursion}
-use Rattle.std.proofs.lemmas.List.Elements.{All-from_recursion}
-use Rattle.gs_bet.specs.Grammar.{are_sound, is_sound}
-use Rattle.gs_bet.specs.MoveLists.{count}
+use Rattle.gs_bet.specs.{Grammar.{are_sound, is_sound}, MoveLists.{count}}
 use Rattle.gs_bet.proofs.Letters.{at_most_26}
-use Rattle.gs_game.specs.Games.{plain_trees}
-use Rattle.gs_game.specs.declared.valid.ValidGame.{ValidGame}
-use Rattle.gs_game.proofs.Deciding.{trees_are}
-use Rattle.gs_game.proofs.LineLaws.{all_sound}
-use Rattle.gs_game.proofs.LineWriting.{small_letter}
-use Rattle.gs_game.proofs.MoneyLaws.{sound_act, sound_move}
-use Rattle.gs_model.specs.Betting.{Bet, Moves as TreeMoves, act, fold, even, none, move}
-use Rattle.gs_model.specs.Frame.{move_count, point, point_count}
-use Rattle.gs_model.specs.Positions.{Arrow, Point}
+use Rattle.gs_game.specs.{Games.{plain_trees}, declared.valid.ValidGame.{ValidGame}}
+use Rattle.gs_game.proofs.{Deciding.{trees_are}, LineLaws.{all_sound}, LineWriting.{small_letter}, MoneyLaws.{sound_act, sound_move}}
+use Rattle.gs_model.specs.{Betting.{Bet, Moves as TreeMoves, act, fold, even, none, move}, Frame.{move_count, point, point_count}, Positions.{Arrow, Point}}
 use Rattle.gs_model.specs.Walk.{Place, Walked, after_move, walk, walk_moves, walk_rounds, walk_start, walk_tree}
 use Rattle.gs_model.proofs.Basics.{every-append}
 use Rattle.gs_seq.specs.Games.{frame_in}

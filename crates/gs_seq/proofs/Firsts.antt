@@ -1,22 +1,13 @@
 -- Weights of the first moves, class by class.
 use Rattle.std.proofs.Common.{◌≡◌, ℕ, zero, suc, ◌+◌, ◌-◌, ◌*◌, ◌<◌, ◌≤◌, List, length, get_or, set, sum_by, refl, true, sym, ap, ◌∙◌, subst, arith, Option, Some, None, ⊎_elim, get_or-set_other, get_or-set_same}
-use Rattle.std.specs.List.{range_with_len}
-use Rattle.std.proofs.Math.Nat.{mul-le-mul_right}
-use Rattle.std.specs.Prelude.{◌==◌}
-use Rattle.std.proofs.lemmas.Bool.{cases_eq}
-use Rattle.std.proofs.lemmas.Bool.Decides.{Decides-eqb}
-use Rattle.std.proofs.lemmas.List.Sums.{sum_by-cons}
+use Rattle.std.proofs.{Math.Nat.{mul-le-mul_right}, lemmas.Bool.{cases_eq}, lemmas.Bool.Decides.{Decides-eqb}, lemmas.List.Sums.{sum_by-cons}}
+use Rattle.std.specs.{List.{range_with_len}, Prelude.{◌==◌}}
 use Rattle.gs_model.specs.Classes.{ClassLists, IsClass, IsClasses, class_count, class_of, first_member}
-use Rattle.gs_model.specs.Frame.{Frame, ancestor, last_step, move_count, player_at, point_count, round_of}
-use Rattle.gs_model.specs.FrameFacts.{InRange, IsWalked}
-use Rattle.gs_model.specs.Plans.{IsClassPlan, lift, number_before}
-use Rattle.gs_model.specs.Positions.{Step, at_point}
-use Rattle.gs_model.proofs.Gather.{class_in, member_in}
-use Rattle.gs_model.proofs.Tables.{is_table}
-use Rattle.gs_seq.specs.Firsts.{Agree, AreFirstBefore, IsClear, IsFirstAt}
-use Rattle.gs_seq.specs.Slots.{plan_of, slot_of, slots_at, slots_before}
-use Rattle.gs_seq.proofs.Coming.{slot_before}
-use Rattle.gs_seq.proofs.SlotLaws.{slots_le, slots_more}
+use Rattle.gs_model.specs.{Frame.{Frame, ancestor, last_step, move_count, player_at, point_count, round_of}, FrameFacts.{InRange, IsWalked}}
+use Rattle.gs_model.specs.{Plans.{IsClassPlan, lift, number_before}, Positions.{Step, at_point}}
+use Rattle.gs_model.proofs.{Gather.{class_in, member_in}, Tables.{is_table}}
+use Rattle.gs_seq.specs.{Firsts.{Agree, AreFirstBefore, IsClear, IsFirstAt}, Slots.{plan_of, slot_of, slots_at, slots_before}}
+use Rattle.gs_seq.proofs.{Coming.{slot_before}, SlotLaws.{slots_le, slots_more}}
 
 pub slot_under : (c k m : ℕ) → 0 < c → m < k → (c - 1) * k + m < c * k
 slot_under c k m some l = let e : c ≡ suc (c - 1) = omega arith in omega (arith, ap (λ i. i * k) e, l)

@@ -1,22 +1,11 @@
 -- What a game in sequence form reads of its game and classes.
-use Rattle.std.proofs.Common.{◌≡◌, ℕ, ◌<◌, ◌≤◌, List, map, get_or, refl, ap, ◌∙◌, sym, subst, inl, inr, ⊎_elim, arith}
+use Rattle.std.proofs.{Common.{◌≡◌, ℕ, ◌<◌, ◌≤◌, List, map, get_or, refl, ap, ◌∙◌, sym, subst, inl, inr, ⊎_elim, arith}, lemmas.Bool.{cases_eq}}
 use Rattle.std.specs.Prelude.{◌⊎◌}
-use Rattle.std.proofs.lemmas.Bool.{cases_eq}
-use Rattle.gs_game.specs.Games.{game_of}
-use Rattle.gs_game.specs.Seen.{end_of}
-use Rattle.gs_game.specs.declared.positions.End.{End as StoredEnd}
-use Rattle.gs_game.specs.declared.valid.ValidGame.{ValidGame}
-use Rattle.gs_model.specs.Classes.{ClassLists, IsClasses}
-use Rattle.gs_model.specs.Frame.{Frame, end_at, end_count, round_of}
-use Rattle.gs_model.specs.FrameFacts.{InRange, IsWalked}
-use Rattle.gs_model.specs.Positions.{at_end}
+use Rattle.gs_game.specs.{Games.{game_of}, Seen.{end_of}, declared.positions.End.{End as StoredEnd}, declared.valid.ValidGame.{ValidGame}}
+use Rattle.gs_model.specs.{Classes.{ClassLists, IsClasses}, Frame.{Frame, end_at, end_count, round_of}, FrameFacts.{InRange, IsWalked}, Positions.{at_end}}
 use Rattle.gs_model.proofs.Ranges.{in_range as in_range_of}
-use Rattle.gs_seq.specs.Abstracts.{frame_of, lists_of}
-use Rattle.gs_seq.specs.Games.{frame_in}
-use Rattle.gs_seq.specs.declared.form.Abstract.{Abstract}
-use Rattle.gs_seq.proofs.Ends.{end_reads, end_round}
-use Rattle.gs_seq.proofs.Points.{playable, walked as walked_by}
-use Rattle.gs_seq.proofs.Sizes.{AreModest, modest}
+use Rattle.gs_seq.specs.{Abstracts.{frame_of, lists_of}, Games.{frame_in}, declared.form.Abstract.{Abstract}}
+use Rattle.gs_seq.proofs.{Ends.{end_reads, end_round}, Points.{playable, walked as walked_by}, Sizes.{AreModest, modest}}
 
 -- what holds of one frame and classes holds of the same
 pub carried : {f g : Frame} {ls ms : ClassLists} (P : Frame → ClassLists → Type 0) → f ≡ g → ls ≡ ms → P f ls → P g ms

@@ -1,28 +1,17 @@
 -- Rows from the sums of one member of a class: what they hold for a class, and that their classes ascend.
 use Rattle.std.proofs.Common.{◌⊎◌, ⊎_elim, ◌≡◌, ℕ, ℤ, pos, ◌+◌, ◌-◌, ◌*◌, ◌<◌, ◌≤◌, Bool, true, false, cond, List, [], ◌∷◌, ◌++◌, length, length-take, get_or, set, take, reverse, refl, sym, ap, ◌∙◌, arith, sum_by, FitsSigned, ◌^◌}
-use Rattle.std.specs.Prelude.{◌==◌, ◌+ℤ◌, ◌*ℤ◌, unsigned_abs}
-use Rattle.std.specs.Ordering.{nat_cmp, ordering_then, int_cmp}
-use Rattle.std.specs.declared.cmp.Ordering.{Ordering}
-use Rattle.std.specs.declared.cmp.Ordering.TheVariants.{Less, Equal, Greater}
-use Rattle.std.proofs.lemmas.Bool.{cases_eq}
-use Rattle.std.proofs.lemmas.Bool.Decides.{Decides-eqb}
-use Rattle.std.proofs.lemmas.Cmp.{ranked}
-use Rattle.std.specs.Int.{w8}
-use Rattle.std.proofs.Math.Nat.{mul-le-mul_left, mul-le-mul_right}
-use Rattle.std.proofs.Math.Seq.{set-append_seam}
-use Rattle.std.proofs.lemmas.Int.{ints, unsigned_abs-mul}
-use Rattle.std.proofs.lemmas.List.{length-reverse, reverse-append, reverse-reverse, take_more}
-use Rattle.std.proofs.lemmas.List.Sums.{sum_by-cons, sum_by_more_le}
-use Rattle.gs_lossless.specs.Sums.{key_cmp}
-use Rattle.gs_lossless.proofs.Merge.{front_last}
-use Rattle.gs_lossless.specs.declared.parts.Part.{Part}
-use Rattle.gs_model.specs.Sums.{sum_z}
+use Rattle.std.proofs.{lemmas.Bool.{cases_eq}, lemmas.Bool.Decides.{Decides-eqb}, lemmas.Cmp.{ranked}, Math.Nat.{mul-le-mul_left, mul-le-mul_right}}
+use Rattle.std.proofs.{Math.Seq.{set-append_seam}, lemmas.Int.{ints, unsigned_abs-mul}}
+use Rattle.std.proofs.{lemmas.List.{length-reverse, reverse-append, reverse-reverse, take_more}, lemmas.List.Sums.{sum_by-cons, sum_by_more_le}}
 use Rattle.std.proofs.Math.IntN.{*ℤ-zero}
+use Rattle.std.specs.{Prelude.{◌==◌, ◌+ℤ◌, ◌*ℤ◌, unsigned_abs}, Ordering.{nat_cmp, ordering_then, int_cmp}, declared.cmp.Ordering.{Ordering}}
+use Rattle.std.specs.{declared.cmp.Ordering.TheVariants.{Less, Equal, Greater}, Int.{w8}}
+use Rattle.gs_lossless.specs.{Sums.{key_cmp}, declared.parts.Part.{Part}}
+use Rattle.gs_lossless.proofs.Merge.{front_last}
+use Rattle.gs_model.specs.Sums.{sum_z}
 use borrow.Author.Differences.{product_is}
-use Rattle.gs_model.proofs.Total.{mul-add_right, mul_assoc_z}
-use Rattle.gs_model.proofs.Basics.{not_eq}
-use Rattle.gs_seq.specs.Rows.{gathered, join, pair_of, signed_in, together, weight_in}
-use Rattle.gs_seq.specs.declared.pair.Pair.{Pair}
+use Rattle.gs_model.proofs.{Total.{mul-add_right, mul_assoc_z}, Basics.{not_eq}}
+use Rattle.gs_seq.specs.{Rows.{gathered, join, pair_of, signed_in, together, weight_in}, declared.pair.Pair.{Pair}}
 
 -- what parts hold for a class
 abbrev pub part_weight : List Part → ℕ → ℕ

@@ -1,11 +1,7 @@
 -- Where a total and weights keep the rules of plans, no fault tells that one is broken.
 use Rattle.std.proofs.Common.{ℕ, List, inl, inr, sym, ◌∙◌, arith}
-use Rattle.gs_model.specs.Classes.{ClassLists}
-use Rattle.gs_model.specs.Frame.{Frame}
-use Rattle.gs_seq.specs.Faults.{IsFaultOf}
-use Rattle.gs_seq.specs.Slots.{IsPlan}
-use Rattle.gs_seq.specs.declared.fault.PlanFault.{PlanFault}
-use Rattle.gs_seq.specs.declared.fault.PlanFault.TheVariants.{Length, Total, Flow}
+use Rattle.gs_model.specs.{Classes.{ClassLists}, Frame.{Frame}}
+use Rattle.gs_seq.specs.{Faults.{IsFaultOf}, Slots.{IsPlan}, declared.fault.PlanFault.{PlanFault}, declared.fault.PlanFault.TheVariants.{Length, Total, Flow}}
 
 pub plan_kept : (f : Frame) (lists : ClassLists) (player total : ℕ) (weights : List ℕ) (why : PlanFault) → IsPlan f lists player total weights
     → IsFaultOf f lists player total weights why → ⊥

@@ -1,27 +1,15 @@
 -- Sums of weights side by side, and the first place where they do not add up.
 use Rattle.std.proofs.Common.{◌≡◌, ℕ, ◌+◌, ◌-◌, ◌*◌, ◌<◌, ◌≤◌, ◌^◌, List, length, take, drop, get_or, sum, sum_by, refl, sym, ap, ◌∙◌, subst, arith, length-drop, true, false, ⊎_elim}
-use Rattle.std.specs.Prelude.{◌==◌}
-use Rattle.std.proofs.Math.Nat.{mul-le-mul_right}
-use Rattle.std.proofs.lemmas.Bool.Decides.{Decides-eqb}
-use Rattle.std.specs.List.{range_with_len}
-use Rattle.std.proofs.lemmas.Bool.{cases_eq}
-use Rattle.std.proofs.lemmas.List.{get_or-drop, get_or-take, length-take}
-use Rattle.std.proofs.lemmas.List.FromFn.{fill_by_all}
-use Rattle.std.proofs.lemmas.List.Sums.{sum-map}
+use Rattle.std.proofs.{Math.Nat.{mul-le-mul_right}, lemmas.Bool.Decides.{Decides-eqb}, lemmas.Bool.{cases_eq}}
+use Rattle.std.proofs.{lemmas.List.{get_or-drop, get_or-take, length-take}, lemmas.List.FromFn.{fill_by_all}, lemmas.List.Sums.{sum-map}}
+use Rattle.std.specs.{Prelude.{◌==◌}, List.{range_with_len}}
 use Rattle.gs_filter.specs.Filter.{Filter}
-use Rattle.gs_game.specs.declared.positions.Point.{Point as StoredPoint}
-use Rattle.gs_game.specs.declared.valid.ValidGame.{ValidGame}
-use Rattle.gs_model.specs.Classes.{ClassLists, IsClass, class_count}
-use Rattle.gs_model.specs.Frame.{Frame, choices_at, move_count, player_at, point_count, round_of}
-use Rattle.gs_model.specs.Plans.{Plan}
+use Rattle.gs_game.specs.{declared.positions.Point.{Point as StoredPoint}, declared.valid.ValidGame.{ValidGame}}
+use Rattle.gs_model.specs.{Classes.{ClassLists, IsClass, class_count}, Frame.{Frame, choices_at, move_count, player_at, point_count, round_of}, Plans.{Plan}}
 use Rattle.gs_model.specs.Positions.{at_point}
-use Rattle.gs_model.proofs.FirstBest.{sum-same_range}
-use Rattle.gs_model.proofs.Basics.{not_eq}
-use Rattle.gs_seq.specs.Faults.{FlowsAt, FlowsBefore}
-use Rattle.gs_seq.specs.Games.{frame_in}
-use Rattle.gs_seq.specs.Slots.{plan_of, slot_count, slots_at, slots_before}
-use Rattle.gs_seq.proofs.Points.{Reads}
-use Rattle.gs_seq.proofs.SlotLaws.{slots_few, slots_le, slots_more}
+use Rattle.gs_model.proofs.{FirstBest.{sum-same_range}, Basics.{not_eq}}
+use Rattle.gs_seq.specs.{Faults.{FlowsAt, FlowsBefore}, Games.{frame_in}, Slots.{plan_of, slot_count, slots_at, slots_before}}
+use Rattle.gs_seq.proofs.{Points.{Reads}, SlotLaws.{slots_few, slots_le, slots_more}}
 
 -- some weights side by side
 pub slice_sum : (ws : List ℕ) (a n : ℕ) → a + n ≤ length ws → sum (take n (drop a ws)) ≡ sum_by (λ m. get_or ws (a + m) 0) (range_with_len 0 n)

@@ -1,25 +1,12 @@
 -- A row has one pair for each class that its class meets.
 use Rattle.std.proofs.Common.{◌≡◌, ℕ, pos, zero, suc, ◌+◌, ◌-◌, ◌<◌, ◌≤◌, Bool, true, false, cond, List, [], ◌∷◌, length, get_or, refl, sym, ap, ◌∙◌, subst, arith, sum_by, count_by, eqb, nat_lt, Vec}
-use Rattle.std.specs.Prelude.{◌==◌, ◌&&◌, ◌||◌, ◌*ℤ◌, All}
-use Rattle.std.specs.List.{AllByRecursion, list_any, range_with_len}
-use Rattle.std.specs.declared.alloc.Global.{Global}
-use Rattle.std.proofs.lemmas.Bool.{lt-ltb}
-use Rattle.std.proofs.lemmas.Bool.Decides.{Decides-eqb}
-use Rattle.std.proofs.lemmas.Int.{ints}
-use Rattle.std.proofs.lemmas.List.Elements.{recursion_from_All}
+use Rattle.std.proofs.{lemmas.Bool.{lt-ltb}, lemmas.Bool.Decides.{Decides-eqb}, lemmas.Int.{ints}, lemmas.List.Elements.{recursion_from_All}}
 use Rattle.std.proofs.lemmas.List.Sums.{sum_by-cons}
+use Rattle.std.specs.{Prelude.{◌==◌, ◌&&◌, ◌||◌, ◌*ℤ◌, All}, List.{AllByRecursion, list_any, range_with_len}, declared.alloc.Global.{Global}}
 use borrow.Author.Differences.{product_is}
-use Rattle.gs_model.specs.Classes.{ClassLists, IsClass, IsClasses, class_count, class_of, classes_in}
-use Rattle.gs_model.specs.Deals.{Deal}
-use Rattle.gs_model.specs.Frame.{Frame, at_round, last_round}
-use Rattle.gs_model.proofs.Known.{Tabled}
-use Rattle.gs_model.proofs.RawBound.{range_once}
-use Rattle.gs_model.proofs.Regroup.{sum_z-pos}
-use Rattle.gs_model.proofs.Total.{sum_z-same}
-use Rattle.gs_model.proofs.Basics.{pos-injective, sum-same, not_eq}
-use Rattle.gs_seq.specs.Cells.{meets, pair_count, pair_weight}
-use Rattle.gs_seq.specs.Rows.{AreRowsIn, IsRow, Rises, weight_in}
-use Rattle.gs_seq.specs.declared.pair.Pair.{Pair}
+use Rattle.gs_model.specs.{Classes.{ClassLists, IsClass, IsClasses, class_count, class_of, classes_in}, Deals.{Deal}, Frame.{Frame, at_round, last_round}}
+use Rattle.gs_model.proofs.{Known.{Tabled}, RawBound.{range_once}, Regroup.{sum_z-pos}, Total.{sum_z-same}, Basics.{pos-injective, sum-same, not_eq}}
+use Rattle.gs_seq.specs.{Cells.{meets, pair_count, pair_weight}, Rows.{AreRowsIn, IsRow, Rises, weight_in}, declared.pair.Pair.{Pair}}
 use Rattle.gs_seq.proofs.RowFacts.{row_class, sum-add}
 
 -- ---- deals that count

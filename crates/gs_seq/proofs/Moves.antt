@@ -1,18 +1,10 @@
 -- The slots of a game in sequence form.
 use Rattle.std.proofs.Common.{◌≡◌, ℕ, ◌+◌, ◌-◌, ◌*◌, ◌<◌, ◌≤◌, ◌^◌, List, length, map, get_or, refl, sym, ap, ◌∙◌, subst, arith, ⊎_elim}
-use Rattle.gs_game.specs.Seen.{own_point, point_of}
-use Rattle.gs_game.specs.declared.positions.Point.{Point as StoredPoint}
-use Rattle.gs_game.specs.declared.valid.ValidGame.{ValidGame}
-use Rattle.gs_model.specs.Classes.{ClassLists, IsClass}
-use Rattle.gs_model.specs.Frame.{Frame, move_count, player_at, point_count, round_of}
-use Rattle.gs_model.specs.Positions.{at_point}
-use Rattle.gs_seq.specs.Abstracts.{frame_of, lists_of}
-use Rattle.gs_seq.specs.Games.{frame_in}
-use Rattle.gs_seq.specs.Slots.{sequence_count, slot_of, slots_before}
-use Rattle.gs_seq.specs.Stops.{HasSequencesWithin}
+use Rattle.gs_game.specs.{Seen.{own_point, point_of}, declared.positions.Point.{Point as StoredPoint}, declared.valid.ValidGame.{ValidGame}}
+use Rattle.gs_model.specs.{Classes.{ClassLists, IsClass}, Frame.{Frame, move_count, player_at, point_count, round_of}, Positions.{at_point}}
+use Rattle.gs_seq.specs.{Abstracts.{frame_of, lists_of}, Games.{frame_in}, Slots.{sequence_count, slot_of, slots_before}, Stops.{HasSequencesWithin}}
 use Rattle.gs_seq.specs.declared.form.Abstract.{Abstract}
-use Rattle.gs_seq.proofs.Coming.{slot_before}
-use Rattle.gs_seq.proofs.Points.{players, point_reads}
+use Rattle.gs_seq.proofs.{Coming.{slot_before}, Points.{players, point_reads}}
 
 -- where a move of a point stands, and that its slot is small
 pub record SlotFacts (f : Frame) (lists : ClassLists) (q c m base moves : ℕ) : Type 0 where

@@ -1,29 +1,14 @@
 -- What the points of a valid game say of its frame, and how many there are.
 use Rattle.std.proofs.Common.{◌≡◌, ℕ, ◌+◌, ◌<◌, ◌≤◌, ◌^◌, List, [], ◌∷◌, ◌++◌, length, map, get_or, refl, sym, ap, ◌∙◌, arith, length-append, Option, None, Some, sum_by, subst, ⊎_elim}
-use Rattle.std.proofs.lemmas.Bool.{cases_eq}
-use Rattle.std.specs.Prelude.{◌⊎◌, flat_map, option_map}
-use Rattle.std.specs.List.{range_with_len}
-use Rattle.std.proofs.lemmas.List.{get_or-map, length-map}
-use Rattle.std.proofs.lemmas.List.FromFn.{length-range_with_len}
-use Rattle.std.proofs.lemmas.List.Sorted.{sum_by-IsPermutation}
-use Rattle.std.proofs.lemmas.List.Sums.{sum_by-cons}
-use Rattle.gs_game.specs.Games.{game_of, plain_trees, round_of}
-use Rattle.gs_game.specs.Seen.{OwnPoint, own_point, point_of, step_of}
-use Rattle.gs_game.specs.declared.positions.Point.{Point as StoredPoint}
-use Rattle.gs_game.specs.declared.positions.Step.{Step as StoredStep}
-use Rattle.gs_game.specs.declared.valid.ValidGame.{ValidGame}
-use Rattle.gs_game.proofs.Checked.{lines_follow}
-use Rattle.gs_game.proofs.Deciding.{trees_are}
-use Rattle.gs_game.proofs.EndLaws.{rounds_count}
-use Rattle.gs_game.proofs.Playable.{is_playable}
+use Rattle.std.proofs.{lemmas.Bool.{cases_eq}, lemmas.List.{get_or-map, length-map}, lemmas.List.FromFn.{length-range_with_len}}
+use Rattle.std.proofs.{lemmas.List.Sorted.{sum_by-IsPermutation}, lemmas.List.Sums.{sum_by-cons}}
+use Rattle.std.specs.{Prelude.{◌⊎◌, flat_map, option_map}, List.{range_with_len}}
+use Rattle.gs_game.specs.{Games.{game_of, plain_trees, round_of}, Seen.{OwnPoint, own_point, point_of, step_of}}
+use Rattle.gs_game.specs.{declared.positions.Point.{Point as StoredPoint}, declared.positions.Step.{Step as StoredStep}, declared.valid.ValidGame.{ValidGame}}
+use Rattle.gs_game.proofs.{Checked.{lines_follow}, Deciding.{trees_are}, EndLaws.{rounds_count}, Playable.{is_playable}}
 use Rattle.gs_model.specs.Frame.{Frame, end_count, last_round, last_step, leads_to, move_count, player_at, point, point_count, round_of as round_at}
-use Rattle.gs_model.specs.FrameFacts.{IsWalked, ends_of, next_of, points_of}
-use Rattle.gs_model.specs.Game.{IsPlayable}
-use Rattle.gs_model.specs.Positions.{Point, at_end, at_point}
-use Rattle.gs_model.specs.Walk.{walk_start}
-use Rattle.gs_model.proofs.Positions.{AllFrom-at0, GoodPoint}
-use Rattle.gs_model.proofs.Walked.{frame_good, walked_one, walked_two}
-use Rattle.gs_model.proofs.Basics.{sum-ones}
+use Rattle.gs_model.specs.{FrameFacts.{IsWalked, ends_of, next_of, points_of}, Game.{IsPlayable}, Positions.{Point, at_end, at_point}, Walk.{walk_start}}
+use Rattle.gs_model.proofs.{Positions.{AllFrom-at0, GoodPoint}, Walked.{frame_good, walked_one, walked_two}, Basics.{sum-ones}}
 use Rattle.gs_seq.specs.Games.{frame_in}
 
 -- a point of the program is the frame's point of a number

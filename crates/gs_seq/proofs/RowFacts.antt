@@ -1,28 +1,14 @@
 -- What a row holds, pair by pair: its classes, weights and signed weights, and how much they weigh.
 use Rattle.std.proofs.Common.{◌≡◌, ℕ, ℤ, pos, zero, suc, ◌+◌, ◌*◌, ◌<◌, ◌≤◌, Bool, true, false, cond, List, [], ◌∷◌, length, get_or, refl, sym, ap, ◌∙◌, arith, sum_by, eqb, ⊎_elim}
-use Rattle.std.specs.Prelude.{◌==◌, ◌+ℤ◌, ◌*ℤ◌, All, unsigned_abs}
-use Rattle.std.specs.List.{range_with_len}
-use Rattle.std.proofs.Math.Nat.{mul-le-mul_left}
-use Rattle.std.proofs.Math.IntN.{+ℤ_idl, +ℤ_idr}
-use Rattle.std.proofs.lemmas.Bool.{cases_lt}
-use Rattle.std.proofs.lemmas.Bool.Decides.{Decides-eqb}
-use Rattle.std.proofs.lemmas.Int.{ints, unsigned_abs-mul}
-use Rattle.std.proofs.lemmas.List.Sums.{sum_by-cons}
+use Rattle.std.proofs.{Math.Nat.{mul-le-mul_left}, Math.IntN.{+ℤ_idl, +ℤ_idr}, lemmas.Bool.{cases_lt}, lemmas.Bool.Decides.{Decides-eqb}}
+use Rattle.std.proofs.{lemmas.Int.{ints, unsigned_abs-mul}, lemmas.List.Sums.{sum_by-cons}}
+use Rattle.std.specs.{Prelude.{◌==◌, ◌+ℤ◌, ◌*ℤ◌, All, unsigned_abs}, List.{range_with_len}}
 use borrow.Author.Differences.{abs_is, product_is}
-use Rattle.gs_model.specs.Classes.{ClassLists, IsClass, IsClasses, class_count, class_of}
-use Rattle.gs_model.specs.Deals.{Deal}
-use Rattle.gs_model.specs.Frame.{Frame, at_round, last_round, total_weight}
-use Rattle.gs_model.specs.Pairs.{pair_sum}
-use Rattle.gs_model.specs.Sums.{sum_z}
-use Rattle.gs_model.proofs.Gather.{class_in}
-use Rattle.gs_model.proofs.Known.{Tabled}
-use Rattle.gs_model.proofs.Regroup.{sum_z-pos}
-use Rattle.gs_model.proofs.Sparse.{abs_sum}
-use Rattle.gs_model.proofs.Total.{sum_z-same, sum_z-same_all, sum_z-zero}
+use Rattle.gs_model.specs.{Classes.{ClassLists, IsClass, IsClasses, class_count, class_of}, Deals.{Deal}, Frame.{Frame, at_round, last_round, total_weight}}
+use Rattle.gs_model.specs.{Pairs.{pair_sum}, Sums.{sum_z}}
+use Rattle.gs_model.proofs.{Gather.{class_in}, Known.{Tabled}, Regroup.{sum_z-pos}, Sparse.{abs_sum}, Total.{sum_z-same, sum_z-same_all, sum_z-zero}}
 use Rattle.gs_model.proofs.Basics.{pos-injective, pos-cond, sum-same, not_eq}
-use Rattle.gs_seq.specs.Cells.{pair_signed, pair_weight}
-use Rattle.gs_seq.specs.Rows.{IsRow, Rises, signed_in, weight_in}
-use Rattle.gs_seq.specs.declared.pair.Pair.{Pair}
+use Rattle.gs_seq.specs.{Cells.{pair_signed, pair_weight}, Rows.{IsRow, Rises, signed_in, weight_in}, declared.pair.Pair.{Pair}}
 use Rattle.gs_seq.proofs.ClassRows.{alike_lists}
 
 -- ---- lists

@@ -1,33 +1,14 @@
 -- The row of a class is its row by definition.
 use Rattle.std.proofs.Common.{◌≡◌, ℕ, ℤ, pos, zero, suc, ◌*◌, ◌<◌, ◌≤◌, Bool, true, false, cond, List, [], ◌∷◌, length, get_or, refl, sym, ap, ◌∙◌, arith, count_by, eqb}
-use Rattle.std.specs.Prelude.{◌==◌, ◌*ℤ◌}
-use Rattle.std.specs.List.{AllByRecursion, range_with_len}
-use Rattle.std.proofs.Math.IntN.{*ℤ_comm, *ℤ-zero}
-use Rattle.std.proofs.Math.Nat.{mul-le-mul_right}
-use Rattle.std.specs.declared.cmp.Ordering.TheVariants.{Less}
-use Rattle.std.proofs.lemmas.Bool.Decides.{Decides-eqb}
-use Rattle.std.proofs.lemmas.Int.{ints}
-use Rattle.std.proofs.lemmas.List.Elements.{All-from_recursion}
-use Rattle.std.proofs.lemmas.List.FromFn.{fill_by_all}
-use Rattle.std.proofs.lemmas.List.Sums.{get_or-le-sum_by}
+use Rattle.std.proofs.{Math.IntN.{*ℤ_comm, *ℤ-zero}, Math.Nat.{mul-le-mul_right}, lemmas.Bool.Decides.{Decides-eqb}, lemmas.Int.{ints}}
+use Rattle.std.proofs.{lemmas.List.Elements.{All-from_recursion}, lemmas.List.FromFn.{fill_by_all}, lemmas.List.Sums.{get_or-le-sum_by}}
+use Rattle.std.specs.{Prelude.{◌==◌, ◌*ℤ◌}, List.{AllByRecursion, range_with_len}, declared.cmp.Ordering.TheVariants.{Less}}
 use borrow.Author.Differences.{product_is}
-use Rattle.gs_lossless.specs.Amounts.{AreAmounts}
-use Rattle.gs_lossless.specs.Sums.{Rises as Ascends, key_cmp}
-use Rattle.gs_lossless.specs.declared.parts.Part.{Part}
-use Rattle.gs_lossless.specs.declared.sides.Side.TheVariants.{Deals}
-use Rattle.gs_model.specs.Classes.{ClassLists, class_of, class_size, list_of}
-use Rattle.gs_model.specs.Deals.{Deal}
-use Rattle.gs_model.specs.Frame.{Frame, at_round, last_round, signal_count}
-use Rattle.gs_model.specs.Lossless.{IsLossless}
-use Rattle.gs_model.specs.Pairs.{pair_sum}
-use Rattle.gs_model.specs.Sums.{sum_z}
-use Rattle.gs_model.proofs.ClassTotals.{class_size_of}
-use Rattle.gs_model.proofs.Known.{Tabled}
-use Rattle.gs_model.proofs.Regroup.{sum_z-pos}
-use Rattle.gs_model.proofs.Total.{sum_z-same, sum_z-zero}
-use Rattle.gs_model.proofs.Basics.{sum_by-map}
-use Rattle.gs_seq.specs.Cells.{pair_signed, pair_weight}
-use Rattle.gs_seq.specs.Rows.{IsRow, Rises, gathered, join, pair_of, signed_in, together, weight_in}
+use Rattle.gs_lossless.specs.{Amounts.{AreAmounts}, Sums.{Rises as Ascends, key_cmp}, declared.parts.Part.{Part}, declared.sides.Side.TheVariants.{Deals}}
+use Rattle.gs_model.specs.{Classes.{ClassLists, class_of, class_size, list_of}, Deals.{Deal}, Frame.{Frame, at_round, last_round, signal_count}}
+use Rattle.gs_model.specs.{Lossless.{IsLossless}, Pairs.{pair_sum}, Sums.{sum_z}}
+use Rattle.gs_model.proofs.{ClassTotals.{class_size_of}, Known.{Tabled}, Regroup.{sum_z-pos}, Total.{sum_z-same, sum_z-zero}, Basics.{sum_by-map}}
+use Rattle.gs_seq.specs.{Cells.{pair_signed, pair_weight}, Rows.{IsRow, Rises, gathered, join, pair_of, signed_in, together, weight_in}}
 use Rattle.gs_seq.specs.declared.pair.Pair.{Pair}
 use Rattle.gs_seq.proofs.ClassSums.{near, near_parts, pair_is}
 use Rattle.gs_seq.proofs.Gathered.{StartsFrom, class_le, gathered-signed, gathered-weight, head_from, part_signed, part_weight}

@@ -1,24 +1,14 @@
 -- The row of a class of a valid game: that it fits, and that it is the row of the class.
-use Rattle.std.proofs.Common.{◌≡◌, ℕ, ◌*◌, ◌<◌, ◌≤◌, ◌^◌, List, [], length, ◌∙◌, arith, sum_by}
-use Rattle.std.proofs.lemmas.List.Sums.{sum_by-cons}
+use Rattle.std.proofs.{Common.{◌≡◌, ℕ, ◌*◌, ◌<◌, ◌≤◌, ◌^◌, List, [], length, ◌∙◌, arith, sum_by}, lemmas.List.Sums.{sum_by-cons}}
 use Rattle.gs_filter.specs.Filter.{Filter}
-use Rattle.gs_game.specs.Games.{game_of}
-use Rattle.gs_game.specs.declared.valid.ValidGame.{ValidGame}
-use Rattle.gs_lossless.specs.Amounts.{AreAmounts}
-use Rattle.gs_lossless.specs.declared.parts.Part.{Part}
-use Rattle.gs_lossless.specs.declared.sides.Side.TheVariants.{Deals}
+use Rattle.gs_game.specs.{Games.{game_of}, declared.valid.ValidGame.{ValidGame}}
+use Rattle.gs_lossless.specs.{Amounts.{AreAmounts}, declared.parts.Part.{Part}, declared.sides.Side.TheVariants.{Deals}}
 use Rattle.gs_lossless.proofs.Descent.{tabled}
-use Rattle.gs_model.specs.Classes.{class_of, class_size, list_of}
-use Rattle.gs_model.specs.Frame.{last_round, signal_count}
-use Rattle.gs_model.specs.Lossless.{IsLossless}
+use Rattle.gs_model.specs.{Classes.{class_of, class_size, list_of}, Frame.{last_round, signal_count}, Lossless.{IsLossless}}
 use Rattle.gs_model.proofs.Known.{Tabled}
-use Rattle.gs_seq.specs.Games.{frame_in}
-use Rattle.gs_seq.specs.Rows.{IsRow, gathered}
-use Rattle.gs_seq.proofs.Gathered.{gathered-total}
-use Rattle.gs_seq.proofs.Points.{playable}
-use Rattle.gs_seq.proofs.RowFacts.{class_weight, classes_weigh, row_weighs}
-use Rattle.gs_seq.proofs.RowLaws.{is_row, size_is, size_some}
-use Rattle.gs_seq.proofs.SlotLaws.{over}
+use Rattle.gs_seq.specs.{Games.{frame_in}, Rows.{IsRow, gathered}}
+use Rattle.gs_seq.proofs.{Gathered.{gathered-total}, Points.{playable}, RowFacts.{class_weight, classes_weigh, row_weighs}}
+use Rattle.gs_seq.proofs.{RowLaws.{is_row, size_is, size_some}, SlotLaws.{over}}
 
 pub table : (g : ValidGame) → Tabled (frame_in g)
 table g = tabled (game_of g.game) (playable g)

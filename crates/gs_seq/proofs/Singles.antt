@@ -1,44 +1,20 @@
 -- The row of a class of one signal is made of the signal's deals, and as many pairs are made as there are deals.
 use Rattle.std.proofs.Common.{◌≡◌, ℕ, ℤ, pos, zero, suc, ◌+◌, ◌*◌, ◌<◌, ◌≤◌, Bool, true, false, cond, List, [], ◌∷◌, length, get_or, map, refl, sym, ap, ◌∙◌, subst, arith, sum_by, count_by, eqb, nat_lt, ⊎_elim}
-use Rattle.std.specs.Prelude.{◌==◌, ◌+ℤ◌, ◌*ℤ◌, All, filter}
-use Rattle.std.specs.List.{AllByRecursion, range_with_len}
-use Rattle.std.proofs.Math.IntN.{+ℤ_idl}
-use Rattle.std.proofs.lemmas.Bool.{cases_lt}
-use Rattle.std.proofs.lemmas.Bool.Decides.{Decides-eqb}
-use Rattle.std.proofs.lemmas.Int.{ints}
-use Rattle.std.proofs.lemmas.List.{length-map}
-use Rattle.std.proofs.lemmas.List.Elements.{All-from_recursion, All-head, All-tail, recursion_from_All}
-use Rattle.std.proofs.lemmas.List.Sums.{get_or-le-sum_by, sum_by-cons}
+use Rattle.std.proofs.{Math.IntN.{+ℤ_idl}, lemmas.Bool.{cases_lt}, lemmas.Bool.Decides.{Decides-eqb}, lemmas.Int.{ints}, lemmas.List.{length-map}}
+use Rattle.std.proofs.{lemmas.List.Elements.{All-from_recursion, All-head, All-tail, recursion_from_All}, lemmas.List.Sums.{get_or-le-sum_by, sum_by-cons}}
+use Rattle.std.specs.{Prelude.{◌==◌, ◌+ℤ◌, ◌*ℤ◌, All, filter}, List.{AllByRecursion, range_with_len}}
 use borrow.Author.Differences.{product_is}
 use borrow.Author.Tests.{ltb-true}
 use Rattle.gs_filter.specs.Filter.{Filter}
-use Rattle.gs_game.specs.Games.{game_of}
-use Rattle.gs_game.specs.declared.valid.ValidGame.{ValidGame}
-use Rattle.gs_model.specs.Classes.{class_count, class_of, classes_in}
-use Rattle.gs_model.specs.Deals.{Deal, deals}
-use Rattle.gs_model.specs.Frame.{at_round, last_round, signal_count}
-use Rattle.gs_model.specs.Game.{Game, round_count}
-use Rattle.gs_model.specs.Pairs.{pair_sum}
-use Rattle.gs_model.specs.Sums.{sum_z}
-use Rattle.gs_model.proofs.Gather.{class_in}
-use Rattle.gs_model.proofs.Ranges.{deals_weigh, every-kept, signal_count_is}
-use Rattle.gs_model.proofs.RawBound.{range_once}
-use Rattle.gs_model.proofs.Regroup.{sum_z-pos}
-use Rattle.gs_model.proofs.Total.{sum_z-same}
-use Rattle.gs_model.proofs.Walked.{last_round_of}
-use Rattle.gs_model.proofs.Basics.{pos-cond, sum-same, not_eq}
+use Rattle.gs_game.specs.{Games.{game_of}, declared.valid.ValidGame.{ValidGame}}
+use Rattle.gs_model.specs.{Classes.{class_count, class_of, classes_in}, Deals.{Deal, deals}, Frame.{at_round, last_round, signal_count}}
+use Rattle.gs_model.specs.{Game.{Game, round_count}, Pairs.{pair_sum}, Sums.{sum_z}}
+use Rattle.gs_model.proofs.{Gather.{class_in}, Ranges.{deals_weigh, every-kept, signal_count_is}, RawBound.{range_once}, Regroup.{sum_z-pos}}
+use Rattle.gs_model.proofs.{Total.{sum_z-same}, Walked.{last_round_of}, Basics.{pos-cond, sum-same, not_eq}}
 use Rattle.gs_tree.specs.Walk.{deal_at, last_count}
 use Rattle.gs_tree.proofs.Pairs.{row_deals}
-use Rattle.gs_seq.specs.Cells.{meets, pair_count}
-use Rattle.gs_seq.specs.Games.{frame_in}
-use Rattle.gs_seq.specs.Rows.{IsRow, IsSingleIn}
-use Rattle.gs_seq.specs.Singles.{IsSlight, deal_pair}
-use Rattle.gs_seq.specs.declared.pair.Pair.{Pair}
-use Rattle.gs_seq.proofs.Meeting.{row_long}
-use Rattle.gs_seq.proofs.RowFacts.{sum-add, sum-times}
-use Rattle.gs_seq.proofs.RowLaws.{RisesBy, by_index, further}
-use Rattle.gs_seq.proofs.RowRoom.{table}
-use Rattle.gs_seq.proofs.SlotLaws.{over}
+use Rattle.gs_seq.specs.{Cells.{meets, pair_count}, Games.{frame_in}, Rows.{IsRow, IsSingleIn}, Singles.{IsSlight, deal_pair}, declared.pair.Pair.{Pair}}
+use Rattle.gs_seq.proofs.{Meeting.{row_long}, RowFacts.{sum-add, sum-times}, RowLaws.{RisesBy, by_index, further}, RowRoom.{table}, SlotLaws.{over}}
 
 -- ---- sums by keys
 

@@ -1,29 +1,16 @@
 -- How large the numbers of a valid game are.
 use Rattle.std.proofs.Common.{◌≡◌, ℕ, zero, suc, ◌-◌, ◌*◌, ◌<◌, ◌≤◌, ◌^◌, min, List, [], ◌∷◌, length, map, refl, sym, ◌∙◌, arith, Bool, true, false, cond, Option, Some, None, inl, inr}
-use Rattle.std.specs.Prelude.{All, pos, neg_ℤ, nat_lt, slice_index, unsigned_abs}
-use Rattle.std.specs.List.{enumerate_from}
-use Rattle.std.proofs.Math.Nat.{mul-le-mul_left}
-use Rattle.std.proofs.lemmas.Bool.{cases_Bool}
-use Rattle.std.proofs.lemmas.Int.{ints}
-use Rattle.std.proofs.lemmas.List.Elements.{All-from_recursion}
+use Rattle.std.proofs.{Math.Nat.{mul-le-mul_left}, lemmas.Bool.{cases_Bool}, lemmas.Int.{ints}, lemmas.List.Elements.{All-from_recursion}}
+use Rattle.std.specs.{Prelude.{All, pos, neg_ℤ, nat_lt, slice_index, unsigned_abs}, List.{enumerate_from}}
 use borrow.Author.Differences.{abs_is}
 use borrow.Author.Tests.{ltb-false}
-use Rattle.gs_game.specs.Games.{game_of}
-use Rattle.gs_game.specs.Money.{first_of, most_in}
-use Rattle.gs_model.specs.Numbering.{greatest}
+use Rattle.gs_game.specs.{Games.{game_of}, Money.{first_of, most_in}}
 use Rattle.gs_game.specs.Refusals.{Refusal, betting_refusal, card_refusal, deal_refusal, even_refusal, first_refusal, lines_refusal, put_refusal, put_too_large, too_many_lines, uneven_refusal}
 use Rattle.gs_game.specs.declared.valid.ValidGame.{ValidGame}
-use Rattle.gs_game.proofs.Evenly.{neither}
-use Rattle.gs_game.proofs.Playable.{puts_within}
-use Rattle.gs_game.proofs.Checked.{some-category}
-use Rattle.gs_model.specs.Deals.{Deal, deal_of, deals, pairings}
-use Rattle.gs_model.specs.Frame.{Frame, end_at, end_count, total_weight, trees_of}
-use Rattle.gs_model.specs.Game.{Game, round_count}
-use Rattle.gs_model.specs.Positions.{End, Show}
-use Rattle.gs_model.specs.Signals.{Signal, signals}
-use Rattle.gs_model.specs.Walk.{walk}
-use Rattle.gs_model.proofs.Ranges.{every-flat_map, every-kept}
-use Rattle.gs_model.proofs.Basics.{every-map, every-any}
+use Rattle.gs_model.specs.{Numbering.{greatest}, Deals.{Deal, deal_of, deals, pairings}, Frame.{Frame, end_at, end_count, total_weight, trees_of}}
+use Rattle.gs_model.specs.{Game.{Game, round_count}, Positions.{End, Show}, Signals.{Signal, signals}, Walk.{walk}}
+use Rattle.gs_game.proofs.{Evenly.{neither}, Playable.{puts_within}, Checked.{some-category}}
+use Rattle.gs_model.proofs.{Ranges.{every-flat_map, every-kept}, Basics.{every-map, every-any}}
 use Rattle.gs_seq.specs.Games.{frame_in}
 
 -- ---- outcomes are at most the greatest bonus, and that is at most 9

@@ -1,21 +1,14 @@
 -- Slots one point after another, and that they are few.
 use Rattle.std.proofs.Common.{◌≡◌, ℕ, zero, suc, ◌+◌, ◌-◌, ◌*◌, ◌<◌, ◌≤◌, ◌^◌, List, [], ap, subst, arith, Bool, true, false, cond, sum_by}
-use Rattle.std.specs.Prelude.{◌==◌}
-use Rattle.std.specs.List.{range_with_len}
-use Rattle.std.proofs.Math.Nat.{mul-le-mul_right}
-use Rattle.std.proofs.lemmas.List.Sums.{sum_by-append, sum_by-cons}
+use Rattle.std.proofs.{Math.Nat.{mul-le-mul_right}, lemmas.List.Sums.{sum_by-append, sum_by-cons}}
+use Rattle.std.specs.{Prelude.{◌==◌}, List.{range_with_len}}
 use Rattle.gs_filter.specs.Filter.{Filter}
 use Rattle.gs_filter.proofs.ClassLaws.{greatest_within}
-use Rattle.gs_game.specs.Games.{game_of}
-use Rattle.gs_game.specs.declared.valid.ValidGame.{ValidGame}
-use Rattle.gs_model.specs.Classes.{ClassLists, IsClasses, class_count, list_of}
-use Rattle.gs_model.specs.Frame.{Frame, last_round, move_count, player_at, point_count, round_of}
+use Rattle.gs_game.specs.{Games.{game_of}, declared.valid.ValidGame.{ValidGame}}
+use Rattle.gs_model.specs.{Classes.{ClassLists, IsClasses, class_count, list_of}, Frame.{Frame, last_round, move_count, player_at, point_count, round_of}}
 use Rattle.gs_model.specs.Positions.{at_point}
-use Rattle.gs_model.proofs.Ranges.{signal_count_is}
-use Rattle.gs_model.proofs.Sparse.{range_append}
-use Rattle.gs_model.proofs.Walked.{last_round_of}
-use Rattle.gs_seq.specs.Games.{frame_in}
-use Rattle.gs_seq.specs.Slots.{slot_count, slots_at, slots_before}
+use Rattle.gs_model.proofs.{Ranges.{signal_count_is}, Sparse.{range_append}, Walked.{last_round_of}}
+use Rattle.gs_seq.specs.{Games.{frame_in}, Slots.{slot_count, slots_at, slots_before}}
 use Rattle.gs_seq.proofs.Points.{few, moves_total, walked}
 
 -- ---- sums over a range

@@ -1,10 +1,7 @@
 -- A valid game has deals: all of them together weigh something.
 use Rattle.std.proofs.Common.{◌≡◌, ◌-◌, ◌<◌, sum, ap, arith}
-use Rattle.gs_game.specs.Games.{game_of}
-use Rattle.gs_game.specs.Sequences.{deal_sizes, draws}
-use Rattle.gs_game.specs.declared.valid.ValidGame.{ValidGame}
-use Rattle.gs_game.proofs.Sequencing.{weight_drawn}
-use Rattle.gs_game.proofs.SomeWays.{some_ways}
+use Rattle.gs_game.specs.{Games.{game_of}, Sequences.{deal_sizes, draws}, declared.valid.ValidGame.{ValidGame}}
+use Rattle.gs_game.proofs.{Sequencing.{weight_drawn}, SomeWays.{some_ways}}
 use Rattle.gs_model.specs.Frame.{total_weight}
 use Rattle.gs_seq.specs.Games.{frame_in}
 

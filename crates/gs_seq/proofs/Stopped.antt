@@ -1,42 +1,20 @@
 -- The row of a class of a round before the last, from the deals of its first member where the game stops after the round.
 use Rattle.std.proofs.Common.{◌≡◌, ℕ, ℤ, pos, ◌+◌, ◌*◌, ◌<◌, ◌≤◌, ◌^◌, Bool, true, false, cond, List, [], ◌∷◌, length, get_or, map, refl, sym, ap, ◌∙◌, subst, arith, sum_by}
-use Rattle.std.specs.Prelude.{◌==◌, ◌/◌, ◌*ℤ◌}
-use Rattle.std.specs.List.{AllByRecursion, range_with_len}
-use Rattle.std.specs.Ordering.{int_eq}
-use Rattle.std.specs.declared.cmp.Ordering.TheVariants.{Less}
-use Rattle.std.proofs.Math.Nat.{mul-div_cancel_left, mul-le-mul_right, mul-le-mul_left}
-use Rattle.std.proofs.lemmas.List.Elements.{recursion_from_All}
+use Rattle.std.proofs.{Math.Nat.{mul-div_cancel_left, mul-le-mul_right, mul-le-mul_left}, lemmas.List.Elements.{recursion_from_All}}
 use Rattle.std.proofs.lemmas.List.Sums.{sum_by-cons}
+use Rattle.std.specs.{Prelude.{◌==◌, ◌/◌, ◌*ℤ◌}, List.{AllByRecursion, range_with_len}, Ordering.{int_eq}, declared.cmp.Ordering.TheVariants.{Less}}
 use Rattle.gs_filter.specs.Filter.{Filter}
-use Rattle.gs_game.specs.Games.{game_of}
-use Rattle.gs_game.specs.GoingOn.{StopsAfter, ways_on}
-use Rattle.gs_game.specs.declared.valid.ValidGame.{ValidGame}
-use Rattle.gs_game.proofs.SomeWays.{some_ways}
-use Rattle.gs_game.proofs.StopLaws.{against_stopped, stops_later, stops_signals}
-use Rattle.gs_lossless.specs.Amounts.{AreAmounts}
-use Rattle.gs_lossless.specs.Sums.{Rises, key_cmp, sum_at, weight_at}
-use Rattle.gs_lossless.specs.declared.parts.Part.{Part}
+use Rattle.gs_game.specs.{Games.{game_of}, GoingOn.{StopsAfter, ways_on}, declared.valid.ValidGame.{ValidGame}}
+use Rattle.gs_game.proofs.{SomeWays.{some_ways}, StopLaws.{against_stopped, stops_later, stops_signals}}
+use Rattle.gs_lossless.specs.{Amounts.{AreAmounts}, Sums.{Rises, key_cmp, sum_at, weight_at}, declared.parts.Part.{Part}}
 use Rattle.gs_lossless.specs.declared.sides.Side.TheVariants.{Deals}
 use Rattle.gs_lossless.proofs.Transfer.{amount_before_last}
-use Rattle.gs_model.specs.Classes.{ClassLists, class_of, class_size, list_of}
-use Rattle.gs_model.specs.Deals.{Deal}
-use Rattle.gs_model.specs.Frame.{at_round, last_round, signal_count, total_weight}
-use Rattle.gs_model.specs.Game.{round_count}
-use Rattle.gs_model.specs.Lossless.{IsLossless, weight_against}
-use Rattle.gs_model.specs.Signals.{Signal, signals}
-use Rattle.gs_model.proofs.Ranges.{signal_count_is}
-use Rattle.gs_model.proofs.Walked.{last_round_of}
-use Rattle.gs_model.proofs.Basics.{sum-same, sum_by-map}
-use Rattle.gs_seq.specs.Games.{frame_in}
-use Rattle.gs_seq.specs.Rows.{IsRow, gathered, join, pair_of}
-use Rattle.gs_seq.specs.declared.pair.Pair.{Pair}
-use Rattle.gs_seq.proofs.Gathered.{gathered-total}
-use Rattle.gs_seq.proofs.RowFacts.{class_weight, classes_weigh, row_weighs, sum-times}
-use Rattle.gs_seq.proofs.RowLaws.{is_row, size_is, size_some}
-use Rattle.gs_seq.proofs.RowRoom.{table}
-use Rattle.gs_seq.proofs.Singles.{by_keys}
-use Rattle.gs_seq.proofs.SlotLaws.{over}
-use Rattle.gs_seq.proofs.SomeDeal.{some_deal}
+use Rattle.gs_model.specs.{Classes.{ClassLists, class_of, class_size, list_of}, Deals.{Deal}, Frame.{at_round, last_round, signal_count, total_weight}}
+use Rattle.gs_model.specs.{Game.{round_count}, Lossless.{IsLossless, weight_against}, Signals.{Signal, signals}}
+use Rattle.gs_model.proofs.{Ranges.{signal_count_is}, Walked.{last_round_of}, Basics.{sum-same, sum_by-map}}
+use Rattle.gs_seq.specs.{Games.{frame_in}, Rows.{IsRow, gathered, join, pair_of}, declared.pair.Pair.{Pair}}
+use Rattle.gs_seq.proofs.{Gathered.{gathered-total}, RowFacts.{class_weight, classes_weigh, row_weighs, sum-times}, RowLaws.{is_row, size_is, size_some}}
+use Rattle.gs_seq.proofs.{RowRoom.{table}, Singles.{by_keys}, SlotLaws.{over}, SomeDeal.{some_deal}}
 
 -- ---- sums that are so many times as large
 

@@ -1,17 +1,9 @@
 -- Sums by pairs of classes, with the players exchanged.
 use Rattle.std.proofs.Common.{◌≡◌, ℕ, ℤ, pos, Bool, true, false, cond, map, refl, sym, ◌∙◌}
 use Rattle.std.specs.Prelude.{◌==◌, ◌*ℤ◌, neg_ℤ}
-use Rattle.gs_model.specs.Classes.{ClassLists, class_of}
-use Rattle.gs_model.specs.Deals.{Deal, exchanged}
-use Rattle.gs_model.specs.Frame.{Frame, at_round, frame_of, last_round}
-use Rattle.gs_model.specs.FrameFacts.{IsExchanged}
-use Rattle.gs_model.specs.Game.{Game}
-use Rattle.gs_model.specs.Pairs.{pair_sum}
-use Rattle.gs_model.proofs.Exchange.{neg_out}
-use Rattle.gs_model.proofs.Exchanged.{exchanged_one}
-use Rattle.gs_model.proofs.RawBound.{sum_z-map}
-use Rattle.gs_model.proofs.Total.{sum_z-IsPermutation, sum_z-same}
-use Rattle.gs_model.proofs.Basics.{sum_z-neg}
+use Rattle.gs_model.specs.{Classes.{ClassLists, class_of}, Deals.{Deal, exchanged}, Frame.{Frame, at_round, frame_of, last_round}, FrameFacts.{IsExchanged}}
+use Rattle.gs_model.specs.{Game.{Game}, Pairs.{pair_sum}}
+use Rattle.gs_model.proofs.{Exchange.{neg_out}, Exchanged.{exchanged_one}, RawBound.{sum_z-map}, Total.{sum_z-IsPermutation, sum_z-same}, Basics.{sum_z-neg}}
 use Rattle.gs_seq.specs.Cells.{pair_signed, pair_weight}
 
 swap : (a b : Bool) (z : ℤ) → cond a (cond b z (pos 0)) (pos 0) ≡ cond b (cond a z (pos 0)) (pos 0)

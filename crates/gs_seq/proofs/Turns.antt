@@ -1,24 +1,13 @@
 -- A walk over a row, pair by pair: where it stands, and what is known of the pair there.
 use Rattle.std.proofs.Common.{◌≡◌, ℕ, zero, suc, ◌+◌, ◌-◌, ◌*◌, ◌<◌, ◌≤◌, ◌^◌, List, [], ◌∷◌, length, get_or, drop, take, sym, ap, ◌∙◌, subst, arith}
-use Rattle.std.specs.Prelude.{ℤ, pos, ◌+ℤ◌, ◌*ℤ◌, unsigned_abs}
 use Rattle.std.proofs.lemmas.List.{length-drop, take_all}
-use Rattle.gs_model.specs.Classes.{ClassLists, IsClass, IsClasses, classes_in}
-use Rattle.gs_model.specs.Frame.{Frame, end_at, end_count, payoff_to, round_of}
-use Rattle.gs_model.specs.FrameFacts.{InRange, IsWalked}
-use Rattle.gs_model.specs.Pairs.{pair_sum}
-use Rattle.gs_model.specs.Positions.{End, at_end}
-use Rattle.gs_model.specs.Sums.{sum_z}
-use Rattle.gs_model.proofs.Sparse.{sum_z-more}
-use Rattle.gs_model.proofs.Tables.{is_table}
-use Rattle.gs_seq.specs.Abstracts.{frame_of, lists_of}
-use Rattle.gs_seq.specs.Payoffs.{pair_pays}
-use Rattle.gs_seq.specs.Rows.{IsRow}
-use Rattle.gs_seq.specs.declared.form.Abstract.{Abstract}
-use Rattle.gs_seq.specs.declared.pair.Pair.{Pair}
+use Rattle.std.specs.Prelude.{ℤ, pos, ◌+ℤ◌, ◌*ℤ◌, unsigned_abs}
+use Rattle.gs_model.specs.{Classes.{ClassLists, IsClass, IsClasses, classes_in}, Frame.{Frame, end_at, end_count, payoff_to, round_of}}
+use Rattle.gs_model.specs.{FrameFacts.{InRange, IsWalked}, Pairs.{pair_sum}, Positions.{End, at_end}, Sums.{sum_z}}
+use Rattle.gs_model.proofs.{Sparse.{sum_z-more}, Tables.{is_table}}
+use Rattle.gs_seq.specs.{Abstracts.{frame_of, lists_of}, Payoffs.{pair_pays}, Rows.{IsRow}, declared.form.Abstract.{Abstract}, declared.pair.Pair.{Pair}}
 use Rattle.gs_seq.proofs.EndSums.{class_few_weight, pays_few, prefix_small, product_few, row_sum, signed_few, weight_few}
-use Rattle.gs_seq.proofs.Forms.{AreGiven, given_in, one_or_two}
-use Rattle.gs_seq.proofs.RowFacts.{row_class}
-use Rattle.gs_seq.proofs.Sizes.{AreModest}
+use Rattle.gs_seq.proofs.{Forms.{AreGiven, given_in, one_or_two}, RowFacts.{row_class}, Sizes.{AreModest}}
 
 -- how many items the walk has passed where so many are left
 abbrev pub passed : {X : Type 0} → List X → List X → ℕ

@@ -1,8 +1,6 @@
 -- The game and the classes of a game in sequence form.
-use Rattle.gs_model.specs.Classes.{ClassLists}
-use Rattle.gs_model.specs.Frame.{Frame}
-use Rattle.gs_seq.specs.Games.{frame_in}
-use Rattle.gs_seq.specs.declared.form.Abstract.{Abstract}
+use Rattle.gs_model.specs.{Classes.{ClassLists}, Frame.{Frame}}
+use Rattle.gs_seq.specs.{Games.{frame_in}, declared.form.Abstract.{Abstract}}
 
 -- the frame of the game
 abbrev pub frame_of : Abstract → Frame

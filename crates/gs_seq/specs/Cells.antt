@@ -1,11 +1,7 @@
 -- Pairs of classes that meet in some deal, and how many of them the ends have.
 use Rattle.std.specs.Prelude.{ℕ, ◌-◌, ◌<◌, ◌≤◌, ◌≡◌, ◌==◌, ◌&&◌, Bool, true, false, List, length, get_or, ℤ, pos, if◌then◌else◌, sum_by, count_by}
 use Rattle.std.specs.List.{list_any}
-use Rattle.gs_model.specs.Classes.{ClassLists, class_of, classes_in}
-use Rattle.gs_model.specs.Deals.{Deal}
-use Rattle.gs_model.specs.Frame.{Frame, at_round, last_round}
-use Rattle.gs_model.specs.Pairs.{pair_sum}
-use Rattle.gs_model.specs.Positions.{End}
+use Rattle.gs_model.specs.{Classes.{ClassLists, class_of, classes_in}, Deals.{Deal}, Frame.{Frame, at_round, last_round}, Pairs.{pair_sum}, Positions.{End}}
 use Rattle.gs_seq.specs.declared.pair.Pair.{Pair}
 
 -- whether in some deal player 1's signal of the round is in class `c` and player 2's is in class `e`

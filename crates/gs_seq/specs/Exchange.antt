@@ -1,8 +1,6 @@
 -- The pairs of classes, seen from the other player's side.
 use Rattle.std.specs.Prelude.{ℕ, ◌≡◌, neg_ℤ}
-use Rattle.gs_model.specs.Classes.{ClassLists}
-use Rattle.gs_model.specs.Frame.{frame_of}
-use Rattle.gs_model.specs.Game.{Game}
+use Rattle.gs_model.specs.{Classes.{ClassLists}, Frame.{frame_of}, Game.{Game}}
 use Rattle.gs_seq.specs.Cells.{pair_signed, pair_weight}
 
 -- exchanging the players keeps the weight of a pair of classes and negates its signed weight

@@ -1,12 +1,8 @@
 -- Why a total and weights do not form a plan of a player.
 use Rattle.std.specs.Prelude.{ℕ, ◌^◌, ◌<◌, ◌≤◌, ◌≡◌, ◌≢◌, ◌⊎◌, List, length, sum_by}
-use Rattle.gs_model.specs.Classes.{ClassLists, first_member, IsClass}
-use Rattle.gs_model.specs.Frame.{Frame, point_count, player_at, round_of, choices_at, last_step}
-use Rattle.gs_model.specs.Plans.{Plan, lift, number_before}
-use Rattle.gs_model.specs.Positions.{at_point}
-use Rattle.gs_seq.specs.Slots.{slot_count, plan_of}
-use Rattle.gs_seq.specs.declared.fault.PlanFault.{PlanFault}
-use Rattle.gs_seq.specs.declared.fault.PlanFault.TheVariants.{Length, Total, Flow}
+use Rattle.gs_model.specs.{Classes.{ClassLists, first_member, IsClass}, Frame.{Frame, point_count, player_at, round_of, choices_at, last_step}}
+use Rattle.gs_model.specs.{Plans.{Plan, lift, number_before}, Positions.{at_point}}
+use Rattle.gs_seq.specs.{Slots.{slot_count, plan_of}, declared.fault.PlanFault.{PlanFault}, declared.fault.PlanFault.TheVariants.{Length, Total, Flow}}
 
 -- at a point and a class the numbers of the choices add up to the number of the player's last step before the point.
 -- If there is no such step, they add up to the total

@@ -1,8 +1,6 @@
 -- Weights of the plan that takes the first move everywhere, while they are being written, and the weight that comes to a class.
 use Rattle.std.specs.Prelude.{ℕ, ◌≡◌, ◌<◌, ◌≤◌, List, slice_index}
-use Rattle.gs_model.specs.Classes.{ClassLists, IsClass, first_member}
-use Rattle.gs_model.specs.Frame.{Frame, last_step, move_count, player_at, round_of}
-use Rattle.gs_model.specs.Plans.{lift, number_before}
+use Rattle.gs_model.specs.{Classes.{ClassLists, IsClass, first_member}, Frame.{Frame, last_step, move_count, player_at, round_of}, Plans.{lift, number_before}}
 use Rattle.gs_model.specs.Positions.{at_point}
 use Rattle.gs_seq.specs.Slots.{plan_of, slot_of}
 

@@ -1,6 +1,5 @@
 -- A valid game as the definitions see it.
-use Rattle.gs_game.specs.Games.{game_of}
-use Rattle.gs_game.specs.declared.valid.ValidGame.{ValidGame}
+use Rattle.gs_game.specs.{Games.{game_of}, declared.valid.ValidGame.{ValidGame}}
 use Rattle.gs_model.specs.Frame.{Frame, frame_of}
 
 -- the frame of a valid game

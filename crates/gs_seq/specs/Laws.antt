@@ -1,10 +1,7 @@
 -- Laws of plans.
 use Rattle.std.specs.Prelude.{ℕ, List}
-use Rattle.gs_model.specs.Classes.{ClassLists}
-use Rattle.gs_model.specs.Frame.{Frame}
-use Rattle.gs_seq.specs.Faults.{IsFaultOf}
-use Rattle.gs_seq.specs.Slots.{IsPlan}
-use Rattle.gs_seq.specs.declared.fault.PlanFault.{PlanFault}
+use Rattle.gs_model.specs.{Classes.{ClassLists}, Frame.{Frame}}
+use Rattle.gs_seq.specs.{Faults.{IsFaultOf}, Slots.{IsPlan}, declared.fault.PlanFault.{PlanFault}}
 
 -- a total and weights that form a plan have no fault
 abbrev pub PlansHaveNoFault : Type 0

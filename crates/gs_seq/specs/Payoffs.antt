@@ -1,11 +1,7 @@
 -- What an end pays in the deals of pairs of classes.
 use Rattle.std.specs.Prelude.{ℕ, ◌-◌, ◌<◌, ◌≤◌, ◌≡◌, ◌==◌, ◌^◌, List, ℤ, pos, neg_ℤ, ◌*ℤ◌, if◌then◌else◌, slice_index}
-use Rattle.gs_model.specs.Classes.{ClassLists, IsClass, class_count, classes_in}
-use Rattle.gs_model.specs.Frame.{Frame, other_player, payoff_to, round_of}
-use Rattle.gs_model.specs.Pairs.{class_number, pair_sum}
-use Rattle.gs_model.specs.Plans.{Plan}
-use Rattle.gs_model.specs.Positions.{End, EndKind, Folded1, Folded2, Show, at_end}
-use Rattle.gs_model.specs.Sums.{sum_z}
+use Rattle.gs_model.specs.{Classes.{ClassLists, IsClass, class_count, classes_in}, Frame.{Frame, other_player, payoff_to, round_of}}
+use Rattle.gs_model.specs.{Pairs.{class_number, pair_sum}, Plans.{Plan}, Positions.{End, EndKind, Folded1, Folded2, Show, at_end}, Sums.{sum_z}}
 use Rattle.gs_seq.specs.declared.pair.Pair.{Pair}
 
 -- what an end pays a player at the player's class `c` against a plan of the other player:

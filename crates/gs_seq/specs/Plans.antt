@@ -1,10 +1,7 @@
 -- Plans as the program holds them.
 use Rattle.std.specs.Prelude.{ℕ, ◌≡◌}
-use Rattle.gs_model.specs.Classes.{ClassLists}
-use Rattle.gs_model.specs.Frame.{Frame}
-use Rattle.gs_model.specs.Plans.{Plan as ModelPlan, lift}
-use Rattle.gs_seq.specs.Slots.{IsPlan, plan_of}
-use Rattle.gs_seq.specs.declared.plan.Plan.{Plan}
+use Rattle.gs_model.specs.{Classes.{ClassLists}, Frame.{Frame}, Plans.{Plan as ModelPlan, lift}}
+use Rattle.gs_seq.specs.{Slots.{IsPlan, plan_of}, declared.plan.Plan.{Plan}}
 
 -- `p` is a plan of the player over these classes
 pub record IsPlanOf (f : Frame) (lists : ClassLists) (player : ℕ) (p : Plan) : Type 0 where

@@ -1,14 +1,10 @@
 -- The pairs of a class as a list, one for each class of the other player that it meets.
 use Rattle.std.specs.Prelude.{All, map, filter, ℕ, ◌+◌, ◌-◌, ◌*◌, ◌<◌, ◌≤◌, ◌≡◌, ◌==◌, List, [], ◌∷◌, length, ℤ, pos, ◌+ℤ◌, ◌*ℤ◌, unsigned_abs, get_or, if◌then◌else◌, sum_by, Vec, vec_len}
-use Rattle.std.specs.declared.alloc.Global.{Global}
-use Rattle.std.specs.List.{range_with_len}
+use Rattle.std.specs.{declared.alloc.Global.{Global}, List.{range_with_len}}
 use Rattle.gs_filter.specs.Filter.{Filter}
-use Rattle.gs_model.specs.Classes.{ClassLists, class_count, class_of, first_member, IsClass, list_of}
-use Rattle.gs_model.specs.Frame.{Frame, last_round}
-use Rattle.gs_model.specs.Sums.{sum_z}
+use Rattle.gs_model.specs.{Classes.{ClassLists, class_count, class_of, first_member, IsClass, list_of}, Frame.{Frame, last_round}, Sums.{sum_z}}
 use Rattle.gs_lossless.specs.declared.parts.Part.{Part}
-use Rattle.gs_seq.specs.Cells.{pair_weight, pair_signed}
-use Rattle.gs_seq.specs.declared.pair.Pair.{Pair}
+use Rattle.gs_seq.specs.{Cells.{pair_weight, pair_signed}, declared.pair.Pair.{Pair}}
 
 -- player 2's classes ascend, and each pair has a weight above 0
 pub record Rises (row : List Pair) : Type 0 where

@@ -1,8 +1,7 @@
 -- The pairs of a class with one signal, made from the deals of that signal.
 use Rattle.std.specs.Prelude.{ℕ, ℤ, ◌+◌, ◌<◌, ◌≤◌, ◌≡◌, List, [], length, get_or, Option, None, Some, pos, ◌*ℤ◌}
 use Rattle.gs_boards.specs.Boards.{deal_sum}
-use Rattle.gs_model.specs.Deals.{Deal}
-use Rattle.gs_model.specs.Game.{Game}
+use Rattle.gs_model.specs.{Deals.{Deal}, Game.{Game}}
 use Rattle.gs_tree.specs.Walk.{last_count}
 use Rattle.gs_seq.specs.declared.pair.Pair.{Pair}
 

@@ -1,10 +1,7 @@
 -- Plans over classes as lists of weights in slot order: a player's points in order, for each point the classes of its round, for each class the moves.
 -- Source: the sequences of the sequence form (von Stengel 1996).
-use Rattle.std.specs.Prelude.{ℕ, ◌+◌, ◌-◌, ◌*◌, ◌==◌, ◌≡◌, ◌<◌, List, length, slice_index, if◌then◌else◌, sum_by}
-use Rattle.std.specs.List.{range_with_len}
-use Rattle.gs_model.specs.Classes.{ClassLists, class_count}
-use Rattle.gs_model.specs.Frame.{Frame, point_count, player_at, move_count, round_of}
-use Rattle.gs_model.specs.Plans.{Plan, IsClassPlan}
+use Rattle.std.specs.{Prelude.{ℕ, ◌+◌, ◌-◌, ◌*◌, ◌==◌, ◌≡◌, ◌<◌, List, length, slice_index, if◌then◌else◌, sum_by}, List.{range_with_len}}
+use Rattle.gs_model.specs.{Classes.{ClassLists, class_count}, Frame.{Frame, point_count, player_at, move_count, round_of}, Plans.{Plan, IsClassPlan}}
 use Rattle.gs_model.specs.Positions.{at_point}
 
 -- how many slots a player has at a point: one for each class of its round and each move, or 0 if the other player chooses there

@@ -1,14 +1,9 @@
 -- A player's last step before a position, and the first place where the numbers of a plan do not add up.
 use Rattle.std.specs.Prelude.{ℕ, ◌+◌, ◌-◌, ◌*◌, ◌≡◌, List, get_or, Option, Some, None}
 use Rattle.gs_filter.specs.Filter.{Filter}
-use Rattle.gs_model.specs.Classes.{ClassLists, class_of, first_member, IsClass}
-use Rattle.gs_model.specs.Frame.{Frame, ancestor, point_count, move_count, round_of, last_step}
-use Rattle.gs_model.specs.FrameFacts.{InRange}
-use Rattle.gs_model.specs.Plans.{Plan}
-use Rattle.gs_model.specs.Positions.{Step, Target, at_point}
-use Rattle.gs_seq.specs.Faults.{FlowsAt, FlowsBefore, FlowsBelow, IsFirstLeak}
-use Rattle.gs_seq.specs.Slots.{slots_before}
-use Rattle.gs_seq.specs.declared.flows.StepSource.{StepSource}
+use Rattle.gs_model.specs.{Classes.{ClassLists, class_of, first_member, IsClass}, Frame.{Frame, ancestor, point_count, move_count, round_of, last_step}}
+use Rattle.gs_model.specs.{FrameFacts.{InRange}, Plans.{Plan}, Positions.{Step, Target, at_point}}
+use Rattle.gs_seq.specs.{Faults.{FlowsAt, FlowsBefore, FlowsBelow, IsFirstLeak}, Slots.{slots_before}, declared.flows.StepSource.{StepSource}}
 
 -- `above` is the class of round `to` from which a class descends: the class of its first member's ancestor, in each frame with these parents
 abbrev pub IsClassAbove : Filter → ℕ → ℕ → ℕ → ℕ → Type 0

@@ -1,11 +1,7 @@
 -- Why a game with its classes is too large.
 use Rattle.std.specs.Prelude.{ℕ, ◌<◌, ◌≤◌, ◌≡◌, ◌⊎◌}
-use Rattle.gs_model.specs.Classes.{ClassLists}
-use Rattle.gs_model.specs.Frame.{Frame}
-use Rattle.gs_seq.specs.Cells.{cell_count}
-use Rattle.gs_seq.specs.Slots.{sequence_count}
-use Rattle.gs_seq.specs.declared.limits.Limits.{Limits}
-use Rattle.gs_seq.specs.declared.stop.SeqStop.{SeqStop}
+use Rattle.gs_model.specs.{Classes.{ClassLists}, Frame.{Frame}}
+use Rattle.gs_seq.specs.{Cells.{cell_count}, Slots.{sequence_count}, declared.limits.Limits.{Limits}, declared.stop.SeqStop.{SeqStop}}
 use Rattle.gs_seq.specs.declared.stop.SeqStop.TheVariants.{TooManySequences, TooManyCells, Memory}
 
 -- each player has at most `most` sequences

@@ -1,9 +1,7 @@
 -- Answers that tell a number of a path that is too large.
 use Rattle.std.proofs.Common.{ℕ, ℤ, FitsSigned, subst, to_z, of_z, to_z-of_z}
 use Rattle.std.specs.Int.{w128}
-use Rattle.gs_reply.specs.Refusals.{Overflows, At_step}
-use Rattle.gs_reply.specs.Replies.{Answers, Reply, Refuses, Tells}
-use Rattle.gs_reply.specs.declared.answers.Answer.{Answer}
+use Rattle.gs_reply.specs.{Refusals.{Overflows, At_step}, Replies.{Answers, Reply, Refuses, Tells}, declared.answers.Answer.{Answer}}
 use Rattle.gs_reply.proofs.Refused.{tells_answer}
 
 -- the number that fits is the one that is told

@@ -1,16 +1,10 @@
 -- Where no raw plan gains anything, each fraction that is the gap is 0, and a reduced one is 0 over 1.
-use Rattle.std.proofs.Common.{◌≡◌, ℕ, ◌*◌, ◌<◌, false, ℤ, pos, ◌+ℤ◌, ◌-ℤ◌, ◌*ℤ◌, neg_ℤ, ◌≤ℤ◌, ◌<ℤ◌, refl, sym, ap, ◌∙◌, subst, arith}
+use Rattle.std.proofs.{Common.{◌≡◌, ℕ, ◌*◌, ◌<◌, false, ℤ, pos, ◌+ℤ◌, ◌-ℤ◌, ◌*ℤ◌, neg_ℤ, ◌≤ℤ◌, ◌<ℤ◌, refl, sym, ap, ◌∙◌, subst, arith}, lemmas.Int.{ints}}
 use Rattle.std.specs.Prelude.{IsTrue}
 use borrow.Author.Differences.{product_is}
-use Rattle.std.proofs.lemmas.Int.{ints}
-use Rattle.gs_frac.specs.Gcd.{gcd_of}
-use Rattle.gs_frac.specs.Texts.{is_fraction}
-use Rattle.gs_frac.proofs.Made.{fraction_is}
-use Rattle.gs_frac.proofs.OneForm.{one_form}
-use Rattle.gs_model.specs.Frame.{Frame, total_weight}
-use Rattle.gs_model.specs.Payoff.{raw_payoff}
-use Rattle.gs_model.specs.Plans.{Plan}
-use Rattle.gs_model.specs.Verdict.{IsFirstGap, IsSecondGap}
+use Rattle.gs_frac.specs.{Gcd.{gcd_of}, Texts.{is_fraction}}
+use Rattle.gs_frac.proofs.{Made.{fraction_is}, OneForm.{one_form}}
+use Rattle.gs_model.specs.{Frame.{Frame, total_weight}, Payoff.{raw_payoff}, Plans.{Plan}, Verdict.{IsFirstGap, IsSecondGap}}
 use Rattle.gs_model.proofs.Basics.{product_positive}
 use Rattle.gs_rows.proofs.Ring.{cancel_nonneg, linear, ring, times_nonneg, times_pos, zero_times}
 

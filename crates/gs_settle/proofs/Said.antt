@@ -5,20 +5,12 @@ use Rattle.gs_filter.specs.Filter.{Filter}
 use Rattle.gs_game.specs.declared.valid.ValidGame.{ValidGame}
 use Rattle.gs_group.specs.Checking.{IsGrouping}
 use Rattle.gs_lossless.specs.declared.Lossless.{Lossless}
-use Rattle.gs_model.specs.Frame.{frame_of}
-use Rattle.gs_model.specs.Lossless.{IsLossless}
-use Rattle.gs_reply.specs.Replies.{Answers}
-use Rattle.gs_reply.specs.Troubles.{SaysLarge}
-use Rattle.gs_reply.specs.declared.answers.Answer.{Answer}
-use Rattle.gs_seq.specs.Abstracts.{frame_of as frame_in, lists_of}
-use Rattle.gs_seq.specs.Stops.{IsSmall}
-use Rattle.gs_seq.specs.declared.form.Abstract.{Abstract}
-use Rattle.gs_tree.specs.Trees.{rules_of}
-use Rattle.gs_tree.specs.declared.signals.Signals.{Signals}
+use Rattle.gs_model.specs.{Frame.{frame_of}, Lossless.{IsLossless}}
+use Rattle.gs_reply.specs.{Replies.{Answers}, Troubles.{SaysLarge}, declared.answers.Answer.{Answer}}
+use Rattle.gs_seq.specs.{Abstracts.{frame_of as frame_in, lists_of}, Stops.{IsSmall}, declared.form.Abstract.{Abstract}}
+use Rattle.gs_tree.specs.{Trees.{rules_of}, declared.signals.Signals.{Signals}}
 use Rattle.gs_words.specs.declared.request.Grouping.{Grouping}
-use Rattle.gs_settle.specs.Settling.{OfForm, OfGrouping, game_in}
-use Rattle.gs_settle.specs.Tasks.{Says}
-use Rattle.gs_settle.specs.declared.tasks.Task.{Task}
+use Rattle.gs_settle.specs.{Settling.{OfForm, OfGrouping, game_in}, Tasks.{Says}, declared.tasks.Task.{Task}}
 use Rattle.gs_reply.proofs.Refused.{answers_more}
 
 -- of a game in sequence form it is said of the lossless classes

@@ -1,18 +1,11 @@
 -- The gaps that are printed of a solution.
 use Rattle.std.proofs.Common.{ℕ, ◌<◌, List, subst}
 use Rattle.gs_file.specs.Reading.{FileGame}
-use Rattle.gs_model.specs.Classes.{ClassLists}
-use Rattle.gs_model.specs.Frame.{total_weight}
-use Rattle.gs_model.specs.Plans.{lift}
-use Rattle.gs_model.specs.Verdict.{IsVerdict}
-use Rattle.gs_seq.specs.Plans.{lifted}
-use Rattle.gs_seq.specs.Slots.{plan_of}
-use Rattle.gs_seq.specs.declared.plan.Plan.{Plan}
+use Rattle.gs_model.specs.{Classes.{ClassLists}, Frame.{total_weight}, Plans.{lift}, Verdict.{IsVerdict}}
+use Rattle.gs_seq.specs.{Plans.{lifted}, Slots.{plan_of}, declared.plan.Plan.{Plan}}
 use Rattle.gs_solve.specs.Solutions.{IsGameSolution}
-use Rattle.gs_strategy.specs.Confirmed.{over}
-use Rattle.gs_strategy.specs.Values.{Weights, frame_in}
-use Rattle.gs_settle.specs.Solving.{IsSolved}
-use Rattle.gs_settle.specs.Texts.{IsTextOf}
+use Rattle.gs_strategy.specs.{Confirmed.{over}, Values.{Weights, frame_in}}
+use Rattle.gs_settle.specs.{Solving.{IsSolved}, Texts.{IsTextOf}}
 use Rattle.gs_settle.proofs.NoGaps.{no_first_gap, no_second_gap, zero_over_one}
 
 -- the raw plan of weights

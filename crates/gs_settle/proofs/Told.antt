@@ -1,24 +1,15 @@
 -- The strategy of a game, its classes, two plans and the verdict on them.
 use Rattle.std.proofs.Common.{◌≡◌, ◌∙◌, ℕ, List, refl, ap}
 use Rattle.gs_best.specs.Judged.{parts}
-use Rattle.gs_file.specs.Views.{valid_view}
-use Rattle.gs_file.specs.declared.version.Version.TheVariants.{Two}
+use Rattle.gs_file.specs.{Views.{valid_view}, declared.version.Version.TheVariants.{Two}}
 use Rattle.gs_filter.specs.Filter.{Filter}
 use Rattle.gs_frac.specs.declared.value.Verdict.{Verdict}
 use Rattle.gs_game.specs.declared.valid.ValidGame.{ValidGame}
-use Rattle.gs_model.specs.Classes.{IsClasses}
-use Rattle.gs_model.specs.Lossless.{IsLossless}
-use Rattle.gs_model.specs.Verdict.{IsVerdict}
-use Rattle.gs_seq.specs.Abstracts.{frame_of, lists_of}
-use Rattle.gs_seq.specs.Games.{frame_in}
-use Rattle.gs_seq.specs.Plans.{IsPlanOf, lifted}
-use Rattle.gs_seq.specs.Stops.{IsSmall}
-use Rattle.gs_seq.specs.declared.form.Abstract.{Abstract}
+use Rattle.gs_model.specs.{Classes.{IsClasses}, Lossless.{IsLossless}, Verdict.{IsVerdict}}
+use Rattle.gs_seq.specs.{Abstracts.{frame_of, lists_of}, Games.{frame_in}, Plans.{IsPlanOf, lifted}, Stops.{IsSmall}, declared.form.Abstract.{Abstract}}
 use Rattle.gs_seq.specs.declared.plan.Plan.{Plan}
-use Rattle.gs_strategy.specs.Texts.{strategy_text}
-use Rattle.gs_strategy.specs.Views.{strategy_of}
-use Rattle.gs_settle.specs.Settling.{game_in}
-use Rattle.gs_settle.specs.Texts.{IsTextOf}
+use Rattle.gs_strategy.specs.{Texts.{strategy_text}, Views.{strategy_of}}
+use Rattle.gs_settle.specs.{Settling.{game_in}, Texts.{IsTextOf}}
 
 pub told : (game : ValidGame) (classes : Filter) (one two : Plan) (found : Verdict) (text : List ℕ) → IsClasses (frame_in game).parents classes.lists
     → IsLossless (frame_in game) classes.lists → IsSmall (frame_in game) classes.lists

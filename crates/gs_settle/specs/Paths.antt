@@ -1,18 +1,13 @@
 -- What `path` says of a game over classes.
-use Rattle.std.specs.Prelude.{◌≡◌, ℕ, ◌+◌, List, [], ◌∷◌, ◌++◌, codes}
-use Rattle.std.specs.Fmt.{decimal}
+use Rattle.std.specs.{Prelude.{◌≡◌, ℕ, ◌+◌, List, [], ◌∷◌, ◌++◌, codes}, Fmt.{decimal}}
 use Rattle.gs_file.specs.Reading.{FileGame}
 use Rattle.gs_frac.specs.Texts.{number_line}
 use Rattle.gs_model.specs.Classes.{ClassLists}
 use Rattle.gs_reply.specs.Replies.{Reply, Prints, Refuses}
-use Rattle.gs_rows.specs.Program.{Listing}
-use Rattle.gs_rows.specs.declared.Program.{Program}
-use Rattle.gs_simplex.specs.Trace.{IsTrace}
-use Rattle.gs_simplex.specs.declared.answer.PathTrace.{PathTrace}
-use Rattle.gs_simplex.specs.declared.answer.Turn.{Turn}
+use Rattle.gs_rows.specs.{Program.{Listing}, declared.Program.{Program}}
+use Rattle.gs_simplex.specs.{Trace.{IsTrace}, declared.answer.PathTrace.{PathTrace}, declared.answer.Turn.{Turn}}
 use Rattle.gs_solve.specs.Solutions.{IsGamePath, most_pivots}
-use Rattle.gs_strategy.specs.Values.{frame_in}
-use Rattle.gs_strategy.specs.Views.{parts_of}
+use Rattle.gs_strategy.specs.{Values.{frame_in}, Views.{parts_of}}
 use Rattle.gs_settle.specs.Solving.{SaysStopped}
 
 -- the line of a pivot: its number, the column that enters, and the one that leaves

@@ -1,11 +1,9 @@
 -- What `play` says of a game over classes.
 use Rattle.std.specs.Prelude.{ℕ, List}
 use Rattle.gs_file.specs.Reading.{FileGame}
-use Rattle.gs_model.specs.Classes.{ClassLists}
-use Rattle.gs_model.specs.Play.{IsFictitiousPlay}
+use Rattle.gs_model.specs.{Classes.{ClassLists}, Play.{IsFictitiousPlay}}
 use Rattle.gs_reply.specs.Replies.{Reply, Prints, Refuses}
-use Rattle.gs_seq.specs.Plans.{class_plan}
-use Rattle.gs_seq.specs.declared.plan.Plan.{Plan}
+use Rattle.gs_seq.specs.{Plans.{class_plan}, declared.plan.Plan.{Plan}}
 use Rattle.gs_strategy.specs.Values.{frame_in}
 use Rattle.gs_settle.specs.Texts.{IsTextOf}
 

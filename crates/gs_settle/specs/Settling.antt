@@ -1,15 +1,11 @@
 -- What is said of an input before a game over classes is played, solved or shown. The game file is read, then the classes of the grouping are checked, then
 -- the sizes of the game over them. The refusals have this order.
 use Rattle.std.specs.Prelude.{◌⊎◌, ℕ, List}
-use Rattle.gs_file.specs.Reading.{FileGame, read_at, rules_of}
-use Rattle.gs_file.specs.Views.{valid_view}
+use Rattle.gs_file.specs.{Reading.{FileGame, read_at, rules_of}, Views.{valid_view}}
 use Rattle.gs_group.specs.Checking.{IsGrouping, SaysNotLossless}
-use Rattle.gs_model.specs.Classes.{ClassLists}
-use Rattle.gs_model.specs.Lossless.{IsLossless}
-use Rattle.gs_reply.specs.Replies.{OfReading, Reply}
-use Rattle.gs_reply.specs.Troubles.{SaysLarge}
-use Rattle.gs_seq.specs.Stops.{IsSmall}
-use Rattle.gs_seq.specs.declared.form.Abstract.{Abstract}
+use Rattle.gs_model.specs.{Classes.{ClassLists}, Lossless.{IsLossless}}
+use Rattle.gs_reply.specs.{Replies.{OfReading, Reply}, Troubles.{SaysLarge}}
+use Rattle.gs_seq.specs.{Stops.{IsSmall}, declared.form.Abstract.{Abstract}}
 use Rattle.gs_strategy.specs.Values.{frame_in}
 use Rattle.gs_words.specs.declared.request.Grouping.{Grouping}
 

@@ -2,11 +2,9 @@
 use Rattle.std.specs.Prelude.{◌≡◌, ℕ, List, pos}
 use Rattle.gs_file.specs.Reading.{FileGame}
 use Rattle.gs_model.specs.Classes.{ClassLists}
-use Rattle.gs_reply.specs.Refusals.{Refusal, Overflows, At_step, At_total, Many_pivots, Too_large, Table_numbers}
-use Rattle.gs_reply.specs.Replies.{Reply, Prints, Refuses}
+use Rattle.gs_reply.specs.{Refusals.{Refusal, Overflows, At_step, At_total, Many_pivots, Too_large, Table_numbers}, Replies.{Reply, Prints, Refuses}}
 use Rattle.gs_seq.specs.declared.plan.Plan.{Plan}
-use Rattle.gs_solve.specs.Solutions.{IsGameSolution, IsSolveStop}
-use Rattle.gs_solve.specs.declared.stop.SolveStop.TheVariants.{TableTooLarge, Wide, Pivots, Total}
+use Rattle.gs_solve.specs.{Solutions.{IsGameSolution, IsSolveStop}, declared.stop.SolveStop.TheVariants.{TableTooLarge, Wide, Pivots, Total}}
 use Rattle.gs_strategy.specs.Values.{frame_in}
 use Rattle.gs_settle.specs.Texts.{IsTextOf}
 

@@ -3,10 +3,7 @@ use Rattle.std.specs.Prelude.{◌≤◌}
 use Rattle.gs_file.specs.Reading.{FileGame}
 use Rattle.gs_model.specs.Classes.{ClassLists}
 use Rattle.gs_reply.specs.Replies.{Reply}
-use Rattle.gs_settle.specs.Paths.{ShowsPath}
-use Rattle.gs_settle.specs.Playing.{Plays}
-use Rattle.gs_settle.specs.Solving.{Solves}
-use Rattle.gs_settle.specs.declared.tasks.Task.{Task}
+use Rattle.gs_settle.specs.{Paths.{ShowsPath}, Playing.{Plays}, Solving.{Solves}, declared.tasks.Task.{Task}}
 use Rattle.gs_settle.specs.declared.tasks.Task.TheVariants.{Play, Solve, Path}
 
 -- what the command of a task says of a game over classes

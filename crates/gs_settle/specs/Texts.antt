@@ -1,14 +1,9 @@
 -- The text of a strategy from two plans.
 use Rattle.std.specs.Prelude.{◌≡◌, ℕ, List}
-use Rattle.gs_file.specs.Reading.{FileGame}
-use Rattle.gs_file.specs.declared.version.Version.TheVariants.{Two}
+use Rattle.gs_file.specs.{Reading.{FileGame}, declared.version.Version.TheVariants.{Two}}
 use Rattle.gs_model.specs.Classes.{ClassLists}
 use Rattle.gs_seq.specs.declared.plan.Plan.{Plan}
-use Rattle.gs_strategy.specs.Confirmed.{IsConfirmed}
-use Rattle.gs_strategy.specs.Checks.{AreClasses}
-use Rattle.gs_strategy.specs.Texts.{strategy_text}
-use Rattle.gs_strategy.specs.Values.{IsPlanOf, Strategy}
-use Rattle.gs_strategy.specs.Views.{weights_of}
+use Rattle.gs_strategy.specs.{Confirmed.{IsConfirmed}, Checks.{AreClasses}, Texts.{strategy_text}, Values.{IsPlanOf, Strategy}, Views.{weights_of}}
 
 -- The text is that, in version 2, of the strategy of a game, its classes and two plans. The strategy is confirmed: its numbers are the value of these plans
 -- and what each player could still gain by any raw plan.

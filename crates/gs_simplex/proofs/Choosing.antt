@@ -1,11 +1,7 @@
 -- The least ratio, found place by place, tells the row that leaves; where no place has a ratio, no row leaves.
 use Rattle.std.proofs.Common.{◌≡◌, ℕ, ◌+◌, ◌<◌, ◌≤◌, ◌⊎◌, inl, inr, Option, Some, None, length, slice_index_or, ℤ, pos, ◌+ℤ◌, ◌-ℤ◌, ◌*ℤ◌, ◌≤ℤ◌, ◌<ℤ◌, refl, sym, ap, subst, ◌∙◌, arith, below_more}
-use Rattle.gs_rows.specs.declared.Program.{Program}
-use Rattle.gs_rows.specs.Program.{Listing, IsListed, IsFree}
-use Rattle.gs_rows.specs.Path.{NoneLeaves}
-use Rattle.gs_rows.proofs.Ring.{ring, linear, times_pos, cancel, cancel_pos}
-use Rattle.gs_rows.proofs.Circle.{cross_trans}
-use Rattle.gs_rows.proofs.PairLists.{less_one, place_of, listed_at}
+use Rattle.gs_rows.specs.{declared.Program.{Program}, Program.{Listing, IsListed, IsFree}, Path.{NoneLeaves}}
+use Rattle.gs_rows.proofs.{Ring.{ring, linear, times_pos, cancel, cancel_pos}, Circle.{cross_trans}, PairLists.{less_one, place_of, listed_at}}
 use Rattle.gs_simplex.specs.declared.choice.Ratio.{Ratio}
 use Rattle.gs_simplex.specs.Choice.{Before, NotAfter, IsRatio, IsNoRatio, IsRatioAt, IsBetter, IsLeast, IsLeastSoFar, IsLeaving}
 

@@ -1,13 +1,11 @@
 -- Products, differences and quotients of narrow numbers fit their bits, so that the machine's numbers are the whole numbers meant.
 use Rattle.std.proofs.Common.{◌≡◌, ℕ, ◌+◌, ◌*◌, ◌<◌, ◌≤◌, ◌^◌, ℤ, pos, negsuc, ◌-ℤ◌, ◌*ℤ◌, neg_ℤ, unsigned_abs, FitsSigned, to_z, of_z, w64, Bool, true, false, not, ◌<ℤ◌, ◌≤ℤ◌, refl, sym, ap, subst, ◌∙◌, arith}
+use Rattle.std.proofs.{Math.Nat.{mul-div_cancel'}, lemmas.Int.{ints, to_z_pos, to_z-of_z, fits_signed_from_abs, unsigned_abs-mul}, lemmas.Nat.{mul-le}}
 use mir.Syntax.{w128}
 use lib.Signed.{quot_z}
 use lib.Dec.{T}
 use Rattle.std.specs.Int.Signed.{lt_z, lt_z_yes, lt_z_no, le_z, le_z_yes}
 use Prim.Native.Nat.{◌∣◌, zero, suc, ◌/◌}
-use Rattle.std.proofs.Math.Nat.{mul-div_cancel'}
-use Rattle.std.proofs.lemmas.Int.{ints, to_z_pos, to_z-of_z, fits_signed_from_abs, unsigned_abs-mul}
-use Rattle.std.proofs.lemmas.Nat.{mul-le}
 
 -- a number of fewer than 62 bits, passed or widened, is itself
 pub kept_64 : (a : ℤ) → unsigned_abs a < 2 ^ 62 → to_z w64 (of_z w64 a) ≡ a

@@ -1,9 +1,7 @@
 -- Quotients that are guessed and multiplied back.
-use Rattle.std.proofs.Common.{◌≡◌, ℕ, ◌*◌, ◌<◌, ◌≤◌, ◌^◌, ℤ, pos, ◌*ℤ◌, unsigned_abs, sym, ap, subst, ◌∙◌, arith}
+use Rattle.std.proofs.{Common.{◌≡◌, ℕ, ◌*◌, ◌<◌, ◌≤◌, ◌^◌, ℤ, pos, ◌*ℤ◌, unsigned_abs, sym, ap, subst, ◌∙◌, arith}, Math.Nat.{dvd-mul_right, le_of_dvd}}
+use Rattle.std.proofs.{lemmas.Int.{unsigned_abs-mul}, lemmas.Nat.{mul-le}}
 use Prim.Native.Nat.{◌∣◌}
-use Rattle.std.proofs.Math.Nat.{dvd-mul_right, le_of_dvd}
-use Rattle.std.proofs.lemmas.Int.{unsigned_abs-mul}
-use Rattle.std.proofs.lemmas.Nat.{mul-le}
 
 -- the size of a product
 product_size : (z d q : ℤ) → z ≡ d *ℤ q → unsigned_abs z ≡ unsigned_abs d * unsigned_abs q

@@ -3,8 +3,7 @@ use Rattle.std.proofs.Common.{◌≡◌, ℕ, ◌+◌, ◌<◌, ◌≤◌, ◌^�
 use Rattle.std.proofs.lemmas.Int.{ints}
 use Rattle.gs_rows.specs.Rows.{IsPrimitive}
 use Rattle.gs_rows.proofs.Ring.{ring, linear, times_zero, times_neg, times_times, times_left, one_times, times_pos, cancel, cancel_zero, cancel_pos, cancel_nonneg}
-use Rattle.gs_rows.proofs.Pivot.{primitive_same}
-use Rattle.gs_rows.proofs.Primitive.{primitive_exists}
+use Rattle.gs_rows.proofs.{Pivot.{primitive_same}, Primitive.{primitive_exists}}
 use Rattle.gs_simplex.specs.Numbers.{IsMultiple}
 use Rattle.gs_simplex.proofs.Guesses.{quotient_narrow}
 

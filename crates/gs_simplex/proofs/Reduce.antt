@@ -1,14 +1,11 @@
 -- A row divided by the greatest common divisor of its numbers: it is primitive, and after a pivot it is the row reduced by the lead.
 use Rattle.std.proofs.Common.{◌≡◌, ℕ, zero, suc, ◌+◌, ◌-◌, ◌*◌, ◌/◌, ◌<◌, ◌≤◌, ◌^◌, ◌⊎◌, inl, inr, List, length, ℤ, pos, ◌-ℤ◌, ◌*ℤ◌, ◌<ℤ◌, unsigned_abs, max, sym, ap, subst, ◌∙◌, arith, below_more}
-use Prim.Native.Nat.{◌∣◌}
-use Rattle.std.proofs.lemmas.Bool.{cases_eq}
-use Rattle.std.proofs.lemmas.Int.{ints, unsigned_abs-mul}
-use Rattle.std.specs.Int.{IsGcd}
-use Rattle.std.proofs.lemmas.Nat.Gcd.{dvd_refl, dvd-zero, dvd_trans}
+use Rattle.std.proofs.{lemmas.Bool.{cases_eq}, lemmas.Int.{ints, unsigned_abs-mul}, lemmas.Nat.Gcd.{dvd_refl, dvd-zero, dvd_trans}}
 use Rattle.std.proofs.Math.Nat.{eq-one_of_dvd-one, one-dvd, eq-zero_of_zero-dvd, mul-dvd-mul_left, dvd_of_mul-dvd-mul_left, le_of_dvd, le-div_iff_mul-le}
+use Prim.Native.Nat.{◌∣◌}
+use Rattle.std.specs.Int.{IsGcd}
 use Rattle.gs_rows.specs.Rows.{IsNarrow, IsPrimitive}
-use Rattle.gs_rows.proofs.Ring.{ring, linear, one_times, times_pos, times_times, cancel, cancel_zero}
-use Rattle.gs_rows.proofs.Sums.{cases_last}
+use Rattle.gs_rows.proofs.{Ring.{ring, linear, one_times, times_pos, times_times, cancel, cancel_zero}, Sums.{cases_last}}
 use Rattle.gs_rows.proofs.Primitive.{over, over_times, zero_abs}
 use Rattle.gs_simplex.specs.Numbers.{at, AllNarrow, AllAtMost, IsAtMost, IsDivisor, IsShared, IsQuotient, IsWideQuotient, IsMultiple, IsDivided, IsMixed, IsReduced, IsReducedTo}
 

@@ -1,16 +1,9 @@
 -- A pivot on a whole table: the table after it where all numbers are narrow, and else the first number that is not.
 use Rattle.std.proofs.Common.{◌≡◌, ◌≢◌, ℕ, suc, ◌+◌, ◌-◌, ◌*◌, ◌<◌, ◌≤◌, ◌^◌, ◌⊎◌, inl, inr, cond, nat_eq, List, length, ℤ, pos, ◌+ℤ◌, ◌-ℤ◌, ◌*ℤ◌, neg_ℤ, ◌≤ℤ◌, ◌<ℤ◌, unsigned_abs, refl, sym, ap, subst, ◌∙◌, arith}
+use Rattle.std.proofs.{lemmas.Bool.{cases_eq, cases_lt}, lemmas.Int.{ints}, lemmas.Nat.Gcd.{dvd-zero}}
 use Prim.Native.Nat.{◌∣◌}
-use Rattle.std.proofs.lemmas.Bool.{cases_eq, cases_lt}
-use Rattle.std.proofs.lemmas.Int.{ints}
-use Rattle.std.proofs.lemmas.Nat.Gcd.{dvd-zero}
-use Rattle.gs_rows.specs.declared.Program.{Program}
-use Rattle.gs_rows.specs.Rows.{IsNarrow, IsPrimitive}
-use Rattle.gs_rows.specs.Elimination.{IsEliminated}
-use Rattle.gs_rows.specs.Path.{IsFirstWide}
-use Rattle.gs_rows.proofs.Ring.{linear, times_zero, times_neg, times_pos, cancel_zero}
-use Rattle.gs_rows.proofs.Pivot.{primitive_same}
-use Rattle.gs_rows.proofs.Exists.{elimination_exists}
+use Rattle.gs_rows.specs.{declared.Program.{Program}, Rows.{IsNarrow, IsPrimitive}, Elimination.{IsEliminated}, Path.{IsFirstWide}}
+use Rattle.gs_rows.proofs.{Ring.{linear, times_zero, times_neg, times_pos, cancel_zero}, Pivot.{primitive_same}, Exists.{elimination_exists}}
 use Rattle.gs_rows.proofs.Primitive.{zero_abs}
 use Rattle.gs_simplex.specs.Numbers.{at, cell, IsMultiple, IsReduced, IsMixed, IsLeadOf, IsCleared, IsClearedTo}
 use Rattle.gs_simplex.specs.Table.{table_rows, IsTable, IsKept, IsTableAfter, stated, IsWideAfter}

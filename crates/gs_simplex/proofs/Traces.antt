@@ -1,24 +1,14 @@
 -- The pivots and bases noted on the way, with the aim's value at both ends, are the trace of the path; no basis comes twice.
 use Rattle.std.proofs.Common.{◌≡◌, ℕ, ◌+◌, ◌<◌, ◌≤◌, List, Vec, Global, inl, inr, [], ◌∷◌, ◌++◌, length, slice_index, slice_index_or, ℤ, ◌*ℤ◌, refl, sym, ap, subst, ◌∙◌, arith}
-use Rattle.std.specs.Prelude.{Contains}
-use Rattle.std.specs.List.{HoldsAt}
-use Rattle.std.proofs.lemmas.Bool.{cases_lt}
-use Rattle.std.proofs.lemmas.List.{length_push, get_or_append_left, get_or_push, get_or_default}
-use Rattle.gs_rows.specs.declared.Program.{Program}
-use Rattle.gs_rows.specs.Program.{Listing, ColListed, IsPairList, IsOpening}
+use Rattle.std.proofs.{lemmas.Bool.{cases_lt}, lemmas.List.{length_push, get_or_append_left, get_or_push, get_or_default}}
+use Rattle.std.specs.{Prelude.{Contains}, List.{HoldsAt}}
+use Rattle.gs_rows.specs.{declared.Program.{Program}, Program.{Listing, ColListed, IsPairList, IsOpening}}
 use Rattle.gs_rows.specs.Path.{States, IsPath, NoneEnters, ends, Stops, PathStops}
-use Rattle.gs_rows.proofs.Opening.{path_trail, bases_differ}
-use Rattle.gs_rows.proofs.PairLists.{pair_list_is_list}
-use Rattle.gs_rows.proofs.Agree.{Agree, lists_same, paths_agree}
+use Rattle.gs_rows.proofs.{Opening.{path_trail, bases_differ}, PairLists.{pair_list_is_list}, Agree.{Agree, lists_same, paths_agree}}
 use Rattle.gs_frac.specs.declared.value.Fraction.{Fraction}
-use Rattle.gs_simplex.specs.declared.answer.Turn.{Turn}
-use Rattle.gs_simplex.specs.declared.answer.PathTrace.{PathTrace}
-use Rattle.gs_simplex.specs.Table.{table_aim, IsTable}
-use Rattle.gs_simplex.specs.State.{IsSoFar, IsTurnAt}
-use Rattle.gs_simplex.specs.Answer.{IsSmall}
-use Rattle.gs_simplex.specs.Trace.{IsBasis, IsBasisBelow, IsBasisAt, IsAimValue, IsTurnOf, IsTrace, IsNoted}
-use Rattle.gs_simplex.proofs.Multiples.{down_fraction}
-use Rattle.gs_simplex.proofs.Paths.{turn_same_as, ends_stops}
+use Rattle.gs_simplex.specs.{declared.answer.Turn.{Turn}, declared.answer.PathTrace.{PathTrace}, Table.{table_aim, IsTable}, State.{IsSoFar, IsTurnAt}}
+use Rattle.gs_simplex.specs.{Answer.{IsSmall}, Trace.{IsBasis, IsBasisBelow, IsBasisAt, IsAimValue, IsTurnOf, IsTrace, IsNoted}}
+use Rattle.gs_simplex.proofs.{Multiples.{down_fraction}, Paths.{turn_same_as, ends_stops}}
 
 -- what holds of each element after a push
 pub holds_push : {X : Type 0} (P : ℕ → X → Type 0) (xs : List X) (x : X) (n : ℕ) → length xs ≡ n → ((k : ℕ) → k < n → HoldsAt (P k) xs k) → P n x → (k : ℕ)

@@ -1,12 +1,8 @@
 -- What the simplex method answers.
-use Rattle.std.specs.Prelude.{◌≡◌, ℕ, ◌+◌, ◌*◌, ◌<◌, ◌≤◌, Result, Ok, Err, List, ℤ, pos, neg_ℤ, ◌*ℤ◌, length}
-use Rattle.std.specs.List.{HoldsAt}
-use Rattle.gs_rows.specs.declared.Program.{Program}
-use Rattle.gs_rows.specs.Program.{Listing, IsListed, ColListed, IsRowsOf}
-use Rattle.gs_rows.specs.Path.{ends, wide, pivots, unbounded, PathStops}
+use Rattle.std.specs.{Prelude.{◌≡◌, ℕ, ◌+◌, ◌*◌, ◌<◌, ◌≤◌, Result, Ok, Err, List, ℤ, pos, neg_ℤ, ◌*ℤ◌, length}, List.{HoldsAt}}
+use Rattle.gs_rows.specs.{declared.Program.{Program}, Program.{Listing, IsListed, ColListed, IsRowsOf}, Path.{ends, wide, pivots, unbounded, PathStops}}
 use Rattle.gs_frac.specs.declared.value.Fraction.{Fraction}
-use Rattle.gs_simplex.specs.declared.answer.Best.{Best}
-use Rattle.gs_simplex.specs.declared.answer.Stop.{Stop}
+use Rattle.gs_simplex.specs.{declared.answer.Best.{Best}, declared.answer.Stop.{Stop}}
 use Rattle.gs_simplex.specs.declared.answer.Stop.TheVariants.{TableTooLarge, Wide, Pivots, Unbounded, Memory}
 
 -- the table is within the limit of 1,048,576 numbers

@@ -1,9 +1,7 @@
 -- What the tests check of a program and an opening before they call `run`.
 use Rattle.std.specs.Prelude.{◌≡◌, ◌≢◌, ℕ, ◌+◌, ◌<◌, List, length, take, slice_index_or, ℤ, pos, ◌≤ℤ◌}
-use Rattle.gs_rows.specs.declared.Program.{Program}
-use Rattle.gs_rows.specs.Program.{Listing, IsListed, IsFree, CanTake}
-use Rattle.gs_simplex.specs.Numbers.{AllNarrow}
-use Rattle.gs_simplex.specs.Table.{IsTable, IsTableOf}
+use Rattle.gs_rows.specs.{declared.Program.{Program}, Program.{Listing, IsListed, IsFree, CanTake}}
+use Rattle.gs_simplex.specs.{Numbers.{AllNarrow}, Table.{IsTable, IsTableOf}}
 
 -- a row has this width and narrow numbers
 pub record IsWideRow (width : ℕ) (row : List ℤ) : Type 0 where

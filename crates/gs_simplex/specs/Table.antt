@@ -2,11 +2,7 @@
 -- program row. The aim's row comes last, with its multiple in the further place and its last number negated, so that a pivot treats all rows alike.
 -- The table holds a positive multiple of each row, which need not be divided by its greatest common divisor.
 use Rattle.std.specs.Prelude.{◌≡◌, ℕ, ◌+◌, ◌*◌, ◌^◌, ◌<◌, ◌≤◌, ℤ, pos, neg_ℤ, List, length, unsigned_abs, nat_eq, ◌&&◌, if◌then◌else◌}
-use Rattle.gs_rows.specs.declared.Program.{Program}
-use Rattle.gs_rows.specs.Rows.{IsPrimitive}
-use Rattle.gs_rows.specs.Elimination.{IsEliminated}
-use Rattle.gs_rows.specs.Path.{IsFirstWide}
-use Rattle.gs_rows.specs.Program.{Listing, IsRowsOf}
+use Rattle.gs_rows.specs.{declared.Program.{Program}, Rows.{IsPrimitive}, Elimination.{IsEliminated}, Path.{IsFirstWide}, Program.{Listing, IsRowsOf}}
 use Rattle.gs_simplex.specs.Numbers.{cell, AllNarrow, AreTops, IsMultiple}
 
 -- the number in row i and column j of the table

@@ -1,19 +1,10 @@
 -- The trace of a path: its pivots, its bases, and the aim's value at both ends.
-use Rattle.std.specs.Prelude.{◌≡◌, ℕ, ◌+◌, ◌<◌, ◌≤◌, ◌^◌, Result, Ok, Err, List, length, slice_index, ℤ, ◌*ℤ◌, Contains, Vec}
-use Rattle.std.specs.List.{HoldsAt}
+use Rattle.std.specs.{Prelude.{◌≡◌, ℕ, ◌+◌, ◌<◌, ◌≤◌, ◌^◌, Result, Ok, Err, List, length, slice_index, ℤ, ◌*ℤ◌, Contains, Vec}, List.{HoldsAt}}
 use Rattle.std.specs.declared.alloc.Global.{Global}
-use Rattle.gs_rows.specs.declared.Program.{Program}
-use Rattle.gs_rows.specs.Program.{Listing, ColListed, IsShaped, IsOpening}
-use Rattle.gs_rows.specs.Path.{States, IsPath, ends, Stops}
+use Rattle.gs_rows.specs.{declared.Program.{Program}, Program.{Listing, ColListed, IsShaped, IsOpening}, Path.{States, IsPath, ends, Stops}}
 use Rattle.gs_frac.specs.declared.value.Fraction.{Fraction}
-use Rattle.gs_simplex.specs.declared.answer.Turn.{Turn}
-use Rattle.gs_simplex.specs.declared.answer.PathTrace.{PathTrace}
-use Rattle.gs_simplex.specs.declared.answer.Stop.{Stop}
-use Rattle.gs_simplex.specs.declared.tracing.Log.{Log}
-use Rattle.gs_simplex.specs.declared.path.Position.{Position}
-use Rattle.gs_simplex.specs.declared.table.Table.{Table}
-use Rattle.gs_simplex.specs.State.{IsState, IsTurnAt}
-use Rattle.gs_simplex.specs.Answer.{IsSmall, IsStop}
+use Rattle.gs_simplex.specs.{declared.answer.Turn.{Turn}, declared.answer.PathTrace.{PathTrace}, declared.answer.Stop.{Stop}, declared.tracing.Log.{Log}}
+use Rattle.gs_simplex.specs.{declared.path.Position.{Position}, declared.table.Table.{Table}, State.{IsState, IsTurnAt}, Answer.{IsSmall, IsStop}}
 
 -- the listed columns, counted from 1, in rising order
 pub record IsBasis (l : Listing) (columns : List ℕ) : Type 0 where

@@ -1,18 +1,11 @@
 -- Sums of one signal and of another, and the numbers that they get.
 use Rattle.std.proofs.Common.{◌≡◌, ◌↔◌, ℕ, ℤ, pos, ◌-◌, ◌<◌, ◌≤◌, Bool, true, false, true≢false, cond, List, [], length, get_or, refl, sym, ap, ◌∙◌, subst, arith}
-use Rattle.std.specs.Prelude.{◌==◌}
-use Rattle.std.specs.Bool.{Decides}
-use Rattle.std.specs.Ordering.{int_eq}
 use Rattle.std.proofs.lemmas.Bool.Decides.{Decides-and, Decides-eqb, Decides-like}
-use Rattle.gs_model.specs.Classes.{ClassLists, class_of, first_member}
-use Rattle.gs_model.specs.Frame.{Frame, frame_of, last_round}
-use Rattle.gs_model.specs.Game.{Game, round_count}
-use Rattle.gs_model.specs.Lossless.{weight_against, weight_with}
-use Rattle.gs_model.specs.Signals.{signals}
+use Rattle.std.specs.{Prelude.{◌==◌}, Bool.{Decides}, Ordering.{int_eq}}
+use Rattle.gs_model.specs.{Classes.{ClassLists, class_of, first_member}, Frame.{Frame, frame_of, last_round}, Game.{Game, round_count}}
+use Rattle.gs_model.specs.{Lossless.{weight_against, weight_with}, Signals.{signals}}
 use Rattle.gs_model.proofs.Ranges.{signal_count_is}
-use Rattle.gs_lossless.specs.Amounts.{Agree, AgreesWithFirst, AreAmounts, AreSideFirsts, amount}
-use Rattle.gs_lossless.specs.declared.parts.Part.{Part}
-use Rattle.gs_lossless.specs.declared.sides.Side.{Side}
+use Rattle.gs_lossless.specs.{Amounts.{Agree, AgreesWithFirst, AreAmounts, AreSideFirsts, amount}, declared.parts.Part.{Part}, declared.sides.Side.{Side}}
 use Rattle.gs_lossless.specs.declared.sides.Side.TheVariants.{Deals, Children}
 use Rattle.gs_lossless.proofs.Settled.{agree_if_same, same_if_agree}
 use Rattle.gs_split.specs.Turns.{AreClassSums, AreSettled, AreSideNumbers, AreTurnNumbers, HaveSameSums, IsSettled, key_eq}

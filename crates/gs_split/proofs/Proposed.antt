@@ -1,38 +1,19 @@
 -- What is parted by fair numbers is a proposal; the mixed sums of deals and of children are fair.
 use Rattle.std.proofs.Common.{◌≡◌, ◌+◌, ◌-◌, ◌*◌, ◌<◌, ◌≤◌, ◌++◌, ℕ, ℤ, zero, suc, pos, Bool, true, false, cond, eqb, List, [], ◌∷◌, length, get_or, map, refl, replicate, sym, ap, ◌∙◌, subst, arith, slice_set, sum_by, ⊎_elim}
-use Rattle.std.specs.Prelude.{◌==◌, ◌%◌, ◌/◌, ◌^◌, ◌+ℤ◌, ◌*ℤ◌, All, filter, slice_index}
-use Rattle.std.specs.Int.{int_rem_euclid}
-use Rattle.std.specs.List.{range_with_len}
-use Rattle.std.proofs.Math.IntN.{*ℤ_comm, +ℤ_idl}
-use Rattle.std.proofs.lemmas.Bool.{cases_eq}
-use Rattle.std.proofs.lemmas.Bool.Decides.{Decides-eqb}
-use Rattle.std.proofs.lemmas.Int.{ints}
+use Rattle.std.proofs.{Math.IntN.{*ℤ_comm, +ℤ_idl}, lemmas.Bool.{cases_eq}, lemmas.Bool.Decides.{Decides-eqb}, lemmas.Int.{ints}}
 use Rattle.std.proofs.lemmas.List.{get_or-map, get_or-replicate, get_or-set_other, get_or-set_same, length-replicate, map-id}
-use Rattle.std.proofs.lemmas.List.FromFn.{map-range_with_len_more}
-use Rattle.std.proofs.lemmas.List.Sums.{sum_by-append, sum_by-cons}
+use Rattle.std.proofs.{lemmas.List.FromFn.{map-range_with_len_more}, lemmas.List.Sums.{sum_by-append, sum_by-cons}}
+use Rattle.std.specs.{Prelude.{◌==◌, ◌%◌, ◌/◌, ◌^◌, ◌+ℤ◌, ◌*ℤ◌, All, filter, slice_index}, Int.{int_rem_euclid}, List.{range_with_len}}
 use borrow.Author.Differences.{product_is}
-use Rattle.gs_boards.specs.Boards.{deal_sum, paid}
-use Rattle.gs_boards.specs.declared.pays.Pays.TheVariants.{Showdown}
-use Rattle.gs_model.specs.Classes.{ClassLists, InOneClass, class_of, list_of}
-use Rattle.gs_model.specs.Deals.{Deal, deals}
-use Rattle.gs_model.specs.Frame.{Frame, ancestor, frame_of, last_round, parents_of, signal_count, signals_in}
-use Rattle.gs_model.specs.FrameFacts.{InRange}
-use Rattle.gs_model.specs.Game.{Game, IsPlayable, round_count}
-use Rattle.gs_model.specs.Lossless.{IsLossless}
-use Rattle.gs_model.specs.Refinement.{IsCoarsestLossless, Refines}
-use Rattle.gs_model.specs.Signals.{parents}
+use Rattle.gs_boards.specs.{Boards.{deal_sum, paid}, declared.pays.Pays.TheVariants.{Showdown}}
+use Rattle.gs_model.specs.{Classes.{ClassLists, InOneClass, class_of, list_of}, Deals.{Deal, deals}}
+use Rattle.gs_model.specs.{Frame.{Frame, ancestor, frame_of, last_round, parents_of, signal_count, signals_in}, FrameFacts.{InRange}}
+use Rattle.gs_model.specs.{Game.{Game, IsPlayable, round_count}, Lossless.{IsLossless}, Refinement.{IsCoarsestLossless, Refines}, Signals.{parents}}
 use Rattle.gs_model.specs.Sums.{sum_z}
-use Rattle.gs_model.proofs.Alike.{alike_items, fair_children, fair_last}
-use Rattle.gs_model.proofs.Lift.{by_pair, pair_exact, pair_test}
-use Rattle.gs_model.proofs.Ranges.{parents_at}
-use Rattle.gs_model.proofs.RawBound.{All-range}
-use Rattle.gs_model.proofs.Regroup.{sum_z-pos}
-use Rattle.gs_model.proofs.Total.{mul_assoc_z, sum_z-same}
-use Rattle.gs_model.proofs.Basics.{pos-injective, not_eq}
-use Rattle.gs_model.proofs.Walked.{last_round_of}
+use Rattle.gs_model.proofs.{Alike.{alike_items, fair_children, fair_last}, Lift.{by_pair, pair_exact, pair_test}, Ranges.{parents_at}, RawBound.{All-range}}
+use Rattle.gs_model.proofs.{Regroup.{sum_z-pos}, Total.{mul_assoc_z, sum_z-same}, Basics.{pos-injective, not_eq}, Walked.{last_round_of}}
 use Rattle.gs_lossless.proofs.Descent.{parent_is, tabled}
-use Rattle.gs_split.specs.Proposal.{AreFair, AreFairFrom, IsProposal, child_number, child_term, deal_number, mixed}
-use Rattle.gs_split.specs.Turns.{AreParted, HaveNumbers}
+use Rattle.gs_split.specs.{Proposal.{AreFair, AreFairFrom, IsProposal, child_number, child_term, deal_number, mixed}, Turns.{AreParted, HaveNumbers}}
 
 -- ---- what fair numbers part
 

@@ -1,18 +1,9 @@
 -- Turns until nothing is parted.
 use Rattle.std.proofs.Common.{◌≡◌, ℕ, zero, suc, ◌+◌, ◌-◌, ◌<◌, ◌≤◌, List, [], ◌∷◌, length, get_or, sym, ap, ◌∙◌, subst, arith, sum_by}
-use Rattle.std.proofs.lemmas.List.{get_or_default, same_lists}
-use Rattle.std.proofs.lemmas.List.Sums.{sum_by-cons}
-use Rattle.std.proofs.lemmas.Grind.{same_number_lists}
-use Rattle.gs_model.specs.Classes.{ClassLists, IsClasses, class_of}
-use Rattle.gs_model.specs.Frame.{Frame, last_round, signal_count}
-use Rattle.gs_model.specs.FrameFacts.{InRange}
-use Rattle.gs_model.specs.Lossless.{IsLossless}
-use Rattle.gs_model.specs.Numbering.{IsFinerList, IsNumbered, greatest}
-use Rattle.gs_model.specs.Refinement.{IsCoarsestLossless, Refines}
-use Rattle.gs_model.specs.RefinementTurn.{IsTurn}
-use Rattle.gs_model.proofs.Numbered.{finer_and_no_more}
-use Rattle.gs_model.proofs.Split.{coarsest_at_end, turn_invariant}
-use Rattle.gs_model.proofs.Tables.{is_table}
+use Rattle.std.proofs.{lemmas.List.{get_or_default, same_lists}, lemmas.List.Sums.{sum_by-cons}, lemmas.Grind.{same_number_lists}}
+use Rattle.gs_model.specs.{Classes.{ClassLists, IsClasses, class_of}, Frame.{Frame, last_round, signal_count}, FrameFacts.{InRange}, Lossless.{IsLossless}}
+use Rattle.gs_model.specs.{Numbering.{IsFinerList, IsNumbered, greatest}, Refinement.{IsCoarsestLossless, Refines}, RefinementTurn.{IsTurn}}
+use Rattle.gs_model.proofs.{Numbered.{finer_and_no_more}, Split.{coarsest_at_end, turn_invariant}, Tables.{is_table}}
 
 -- ---- a turn that adds no class changes nothing
 

@@ -1,15 +1,8 @@
 -- The proposal, which splits classes before the exact turns, and the numbers that it splits by.
-use Rattle.std.specs.Prelude.{ℕ, ◌+◌, ◌*◌, ◌/◌, ◌%◌, ◌^◌, ◌<◌, ◌≡◌, ◌==◌, ℤ, pos, List, [], get_or, length, map, sum_by, if◌then◌else◌}
-use Rattle.std.specs.Int.{int_rem_euclid}
-use Rattle.std.specs.Int.Bits.{bit_xor}
-use Rattle.std.specs.List.{range_with_len}
-use Rattle.gs_boards.specs.Boards.{deal_sum, paid}
-use Rattle.gs_boards.specs.declared.pays.Pays.TheVariants.{Showdown}
-use Rattle.gs_model.specs.Classes.{ClassLists, InOneClass}
-use Rattle.gs_model.specs.Frame.{Frame, last_round, signal_count}
-use Rattle.gs_model.specs.Game.{Game}
-use Rattle.gs_model.specs.Lossless.{IsLossless}
-use Rattle.gs_model.specs.Refinement.{Refines}
+use Rattle.std.specs.{Prelude.{ℕ, ◌+◌, ◌*◌, ◌/◌, ◌%◌, ◌^◌, ◌<◌, ◌≡◌, ◌==◌, ℤ, pos, List, [], get_or, length, map, sum_by, if◌then◌else◌}, Int.{int_rem_euclid}}
+use Rattle.std.specs.{Int.Bits.{bit_xor}, List.{range_with_len}}
+use Rattle.gs_boards.specs.{Boards.{deal_sum, paid}, declared.pays.Pays.TheVariants.{Showdown}}
+use Rattle.gs_model.specs.{Classes.{ClassLists, InOneClass}, Frame.{Frame, last_round, signal_count}, Game.{Game}, Lossless.{IsLossless}, Refinement.{Refines}}
 
 -- a hash: a number spread over 64 bits. Nothing is claimed of it but that it depends on the number alone
 unfoldable pub mixed : ℕ → ℕ

@@ -1,13 +1,8 @@
 -- What a turn of the refinement compares, round by round.
-use Rattle.std.specs.Prelude.{ℕ, ◌-◌, ◌<◌, ◌≤◌, ◌≡◌, ◌↔◌, ◌==◌, ◌&&◌, ℤ, Bool, true, false, List, [], ◌∷◌, get_or, length}
-use Rattle.std.specs.Ordering.{int_eq}
-use Rattle.gs_model.specs.Classes.{ClassLists, InOneClass, class_count, class_of, first_member, list_of}
-use Rattle.gs_model.specs.Frame.{Frame, last_round, parents_of, signal_count}
-use Rattle.gs_model.specs.Lossless.{children_in, weight_with}
-use Rattle.gs_model.specs.Numbering.{IsClassesOf}
-use Rattle.gs_lossless.specs.Amounts.{Agree, AreAmounts}
-use Rattle.gs_lossless.specs.declared.parts.Part.{Part}
-use Rattle.gs_lossless.specs.declared.sides.Side.{Side}
+use Rattle.std.specs.{Prelude.{ℕ, ◌-◌, ◌<◌, ◌≤◌, ◌≡◌, ◌↔◌, ◌==◌, ◌&&◌, ℤ, Bool, true, false, List, [], ◌∷◌, get_or, length}, Ordering.{int_eq}}
+use Rattle.gs_model.specs.{Classes.{ClassLists, InOneClass, class_count, class_of, first_member, list_of}, Frame.{Frame, last_round, parents_of, signal_count}}
+use Rattle.gs_model.specs.{Lossless.{children_in, weight_with}, Numbering.{IsClassesOf}}
+use Rattle.gs_lossless.specs.{Amounts.{Agree, AreAmounts}, declared.parts.Part.{Part}, declared.sides.Side.{Side}}
 
 -- ---- sums
 

@@ -1,11 +1,7 @@
 -- Strategies that are confirmed: the classes are lossless, the game in sequence form keeps its limits, and the numbers are the verdict on the plans.
 use Rattle.std.specs.Prelude.{ℕ, ℤ, unsigned_abs}
-use Rattle.gs_model.specs.Frame.{Frame}
-use Rattle.gs_model.specs.Lossless.{IsLossless}
-use Rattle.gs_model.specs.Plans.{Plan, lift}
-use Rattle.gs_model.specs.Verdict.{IsVerdict}
-use Rattle.gs_seq.specs.Slots.{plan_of}
-use Rattle.gs_seq.specs.Stops.{IsSmall}
+use Rattle.gs_model.specs.{Frame.{Frame}, Lossless.{IsLossless}, Plans.{Plan, lift}, Verdict.{IsVerdict}}
+use Rattle.gs_seq.specs.{Slots.{plan_of}, Stops.{IsSmall}}
 use Rattle.gs_strategy.specs.Values.{IsFractionOf, Numbers, FractionParts, Strategy, Weights, frame_in}
 
 -- the frame of a strategy's game

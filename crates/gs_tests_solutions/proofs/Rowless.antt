@@ -1,7 +1,6 @@
 -- A program with no row is well shaped, and the empty list is an opening of it.
 use Rattle.std.proofs.Common.{◌≡◌, ℕ, ◌<◌, ◌^◌, [], Bool, true, false, IsTrue, ℤ, pos, unsigned_abs, length, refl, sym, ap, subst, ◌∙◌, arith}
-use Rattle.gs_rows.specs.declared.Program.{Program}
-use Rattle.gs_rows.specs.Program.{IsShaped, IsOpening}
+use Rattle.gs_rows.specs.{declared.Program.{Program}, Program.{IsShaped, IsOpening}}
 use Rattle.gs_rows.proofs.Ring.{linear}
 use Rattle.gs_tests_solutions.specs.Programs.{IsRowless}
 

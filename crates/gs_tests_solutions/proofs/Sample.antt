@@ -1,12 +1,9 @@
 -- The program of two rows whose first step has a wide number is well shaped, and its two pairs are an opening.
 use Rattle.std.proofs.Common.{◌≡◌, ℕ, zero, suc, ◌+◌, ◌<◌, ◌⊎◌, inl, inr, List, [], ◌∷◌, Bool, false, IsTrue, length, vec_items, slice_index_or, take, ℤ, pos, negsuc, ◌+ℤ◌, ◌*ℤ◌, ◌≤ℤ◌, refl, sym, ap, subst, ◌∙◌, arith}
 use Rattle.std.proofs.lemmas.List.{length-map}
-use Rattle.gs_rows.specs.declared.Program.{Program}
-use Rattle.gs_rows.specs.Sums.{sum_to}
-use Rattle.gs_rows.specs.Rows.{IsNarrow, IsUnlistedRow}
+use Rattle.gs_rows.specs.{declared.Program.{Program}, Sums.{sum_to}, Rows.{IsNarrow, IsUnlistedRow}}
 use Rattle.gs_rows.specs.Program.{number, IsFree, IsShaped, Listing, IsListed, RowListed, ColListed, CanTake, IsOpening}
-use Rattle.gs_rows.proofs.Ring.{linear}
-use Rattle.gs_rows.proofs.Solutions.{only_at, only_at_same, only_at_other, program_row}
+use Rattle.gs_rows.proofs.{Ring.{linear}, Solutions.{only_at, only_at_same, only_at_other, program_row}}
 use Rattle.gs_tests_solutions.specs.Programs.{IsWideSample}
 
 abbrev listed : List (List ℤ)

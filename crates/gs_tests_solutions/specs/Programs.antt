@@ -1,7 +1,6 @@
 -- Programs that the tests make.
 use Rattle.std.specs.Prelude.{◌≡◌, ℕ, false, [], ◌∷◌, length, slice_index_or, pos}
-use Rattle.gs_rows.specs.declared.Program.{Program}
-use Rattle.gs_rows.specs.Program.{rows_of}
+use Rattle.gs_rows.specs.{declared.Program.{Program}, Program.{rows_of}}
 
 -- the program of two rows whose first step has a number of 2^62 + 1
 pub record IsWideSample (p : Program) : Type 0 where

@@ -1,13 +1,7 @@
 -- The text of classes. Source: this project's printed texts.
-use Rattle.std.specs.Prelude.{ℕ, ◌≡◌, ◌<◌, ◌≤◌, ◌==◌, ◌++◌, List, [], map, length, flat_map, codes, if◌then◌else◌}
-use Rattle.std.specs.List.{range_with_len, zip}
-use Rattle.std.specs.Fmt.{decimal}
-use Rattle.gs_model.specs.Classes.{ClassLists, class_count, list_of}
-use Rattle.gs_model.specs.Deals.{deals}
-use Rattle.gs_model.specs.Frame.{frame_of, total_weight}
-use Rattle.gs_model.specs.Game.{Game, round_count}
-use Rattle.gs_model.specs.Numbering.{greatest}
-use Rattle.gs_model.specs.Signals.{signals}
+use Rattle.std.specs.{Prelude.{ℕ, ◌≡◌, ◌<◌, ◌≤◌, ◌==◌, ◌++◌, List, [], map, length, flat_map, codes, if◌then◌else◌}, List.{range_with_len, zip}, Fmt.{decimal}}
+use Rattle.gs_model.specs.{Classes.{ClassLists, class_count, list_of}, Deals.{deals}, Frame.{frame_of, total_weight}, Game.{Game, round_count}}
+use Rattle.gs_model.specs.{Numbering.{greatest}, Signals.{signals}}
 use Rattle.gs_card.specs.Decks.{DeckValue}
 use Rattle.gs_tree.specs.Texts.{signal_text}
 

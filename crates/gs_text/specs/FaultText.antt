@@ -1,6 +1,5 @@
 -- The text of each fault of a game file. Source: this project's printed texts.
-use Rattle.std.specs.Prelude.{ℕ, ◌==◌, List, [], ◌++◌, codes, Err, if◌then◌else◌}
-use Rattle.std.specs.Fmt.{decimal, signed_decimal}
+use Rattle.std.specs.{Prelude.{ℕ, ◌==◌, List, [], ◌++◌, codes, Err, if◌then◌else◌}, Fmt.{decimal, signed_decimal}}
 use Rattle.gs_bet.specs.declared.fault.TreeFault.{TreeFault}
 use Rattle.gs_bet.specs.declared.fault.TreeFault.TheVariants as tree
 use Rattle.gs_card.specs.declared.faults.DeckFault.{DeckFault}
@@ -8,10 +7,7 @@ use Rattle.gs_card.specs.declared.faults.DeckFault.TheVariants as cards
 use Rattle.gs_game.specs.Refusals.{Refusal, rounds, no_private, ranking_cards, not_enough_cards, no_even, uneven, put_too_large, too_many_lines, too_heavy, too_many_signals, too_many_deals}
 use Rattle.gs_file.specs.Answers.{Fails}
 use Rattle.gs_file.specs.Faults.{Fault, not_text, not_toml, missing_key, unknown_key, wrong_type, bad_version, range, deck, tree_text as tree_in, game}
-use Rattle.gs_file.specs.Keys.{key_text}
-use Rattle.gs_file.specs.Reading.{FileGame}
-use Rattle.gs_file.specs.declared.fault.FileFault.{FileFault}
-use Rattle.gs_file.specs.declared.fault.Place.{Place}
+use Rattle.gs_file.specs.{Keys.{key_text}, Reading.{FileGame}, declared.fault.FileFault.{FileFault}, declared.fault.Place.{Place}}
 
 -- the round of a key, unless the key stands outside the rounds
 abbrev pub in_round : ℕ → List ℕ

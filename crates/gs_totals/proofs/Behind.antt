@@ -1,17 +1,10 @@
 -- What holds for all of some turns holds for fewer, and choices stay just as long as each move stays behind.
-use Rattle.std.proofs.Common.{◌≡◌, ◌≢◌, ℕ, ◌+◌, ◌<◌, ◌≤◌, Bool, true, List, get_or, sym, ap, ◌∙◌, subst, arith, ⊎_elim}
-use Rattle.std.specs.Prelude.{ℤ, pos, IsTrue, ◌<ℤ◌, nat_lt, slice_index}
-use Rattle.std.proofs.lemmas.Bool.{cases_eq, cases_lt}
+use Rattle.std.proofs.{Common.{◌≡◌, ◌≢◌, ℕ, ◌+◌, ◌<◌, ◌≤◌, Bool, true, List, get_or, sym, ap, ◌∙◌, subst, arith, ⊎_elim}, lemmas.Bool.{cases_eq, cases_lt}}
 use Rattle.std.proofs.lemmas.Int.{ints}
-use Rattle.gs_model.specs.Classes.{IsClass}
-use Rattle.gs_model.specs.Frame.{move_count, player_at, point_count, round_of}
-use Rattle.gs_model.specs.Positions.{at_point}
-use Rattle.gs_totals.specs.ClassTotals.{total_worth}
-use Rattle.gs_totals.specs.Courses.{LastsAt, StaysBehind, moves_chosen, totals_added, totals_now}
-use Rattle.gs_totals.specs.Jumps.{line}
-use Rattle.gs_totals.specs.Lasting.{AreBehind, IsBehind, IsNotAhead}
-use Rattle.gs_totals.specs.Roles.{frame_in, lists_in}
-use Rattle.gs_totals.specs.declared.course.Course.{Course}
+use Rattle.std.specs.Prelude.{ℤ, pos, IsTrue, ◌<ℤ◌, nat_lt, slice_index}
+use Rattle.gs_model.specs.{Classes.{IsClass}, Frame.{move_count, player_at, point_count, round_of}, Positions.{at_point}}
+use Rattle.gs_totals.specs.{ClassTotals.{total_worth}, Courses.{LastsAt, StaysBehind, moves_chosen, totals_added, totals_now}, Jumps.{line}}
+use Rattle.gs_totals.specs.{Lasting.{AreBehind, IsBehind, IsNotAhead}, Roles.{frame_in, lists_in}, declared.course.Course.{Course}}
 
 -- ---- fewer turns
 

@@ -1,17 +1,11 @@
 -- The worth of the move that a class has chosen, one move more at a time.
-use Rattle.std.proofs.Common.{◌≡◌, ℕ, ◌+◌, ◌-◌, ◌<◌, cond, List, get_or, sym, ap, ◌∙◌, arith, ⊎_elim}
-use Rattle.std.specs.Prelude.{◌==◌, ℤ, pos}
-use Rattle.std.proofs.lemmas.Bool.{cases_eq}
+use Rattle.std.proofs.{Common.{◌≡◌, ℕ, ◌+◌, ◌-◌, ◌<◌, cond, List, get_or, sym, ap, ◌∙◌, arith, ⊎_elim}, lemmas.Bool.{cases_eq}}
 use Rattle.std.proofs.lemmas.Bool.Decides.{Decides-eqb}
-use Rattle.gs_model.specs.BestAnswers.{Values}
-use Rattle.gs_model.specs.Classes.{ClassLists, class_count}
-use Rattle.gs_model.specs.Frame.{Frame, round_of}
-use Rattle.gs_model.specs.Positions.{at_point}
+use Rattle.std.specs.Prelude.{◌==◌, ℤ, pos}
+use Rattle.gs_model.specs.{BestAnswers.{Values}, Classes.{ClassLists, class_count}, Frame.{Frame, round_of}, Positions.{at_point}}
 use Rattle.gs_model.proofs.Basics.{not_eq}
-use Rattle.gs_best.specs.Rows.{AreWorths}
-use Rattle.gs_best.specs.Tables.{moves_of, start_of}
-use Rattle.gs_totals.specs.ClassTotals.{total_worth}
-use Rattle.gs_totals.specs.Merged.{AreChosen, AreTaken}
+use Rattle.gs_best.specs.{Rows.{AreWorths}, Tables.{moves_of, start_of}}
+use Rattle.gs_totals.specs.{ClassTotals.{total_worth}, Merged.{AreChosen, AreTaken}}
 
 module _ (f : Frame) (lists : ClassLists) (v : Values) (q n count : ℕ) (all : count
     ≡ class_count lists (round_of f (at_point q))) (worths : List ℤ) (new : AreWorths f lists (total_worth f lists v) q n worths) where

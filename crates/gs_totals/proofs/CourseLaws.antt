@@ -1,24 +1,13 @@
 -- What a course holds: its totals and steps are small, and no move is ahead of the chosen one.
-use Rattle.std.proofs.Common.{◌≡◌, ◌≢◌, ℕ, ◌+◌, ◌-◌, ◌^◌, ◌<◌, ◌≤◌, List, get_or, sym, ap, ◌∙◌, subst, arith}
+use Rattle.std.proofs.{Common.{◌≡◌, ◌≢◌, ℕ, ◌+◌, ◌-◌, ◌^◌, ◌<◌, ◌≤◌, List, get_or, sym, ap, ◌∙◌, subst, arith}, lemmas.Int.{ints}}
 use Rattle.std.specs.Prelude.{ℤ, pos, ◌-ℤ◌, nat_lt, slice_index, unsigned_abs}
-use Rattle.std.proofs.lemmas.Int.{ints}
 use borrow.Author.Differences.{abs_is}
-use Rattle.gs_model.specs.Classes.{IsClass}
-use Rattle.gs_model.specs.Frame.{move_count, player_at, point_count, round_of}
-use Rattle.gs_model.specs.Positions.{at_point}
-use Rattle.gs_best.specs.Rows.{AreWorths}
-use Rattle.gs_best.specs.Tables.{classes_at, start_of}
+use Rattle.gs_model.specs.{Classes.{IsClass}, Frame.{move_count, player_at, point_count, round_of}, Positions.{at_point}}
+use Rattle.gs_best.specs.{Rows.{AreWorths}, Tables.{classes_at, start_of}}
 use Rattle.gs_best.proofs.Placed.{IsRow}
-use Rattle.gs_totals.specs.ClassTotals.{total_worth}
-use Rattle.gs_totals.specs.Courses.{StaysBehind, moves_chosen, totals_added, totals_now}
-use Rattle.gs_totals.specs.Jumps.{line}
-use Rattle.gs_totals.specs.Lasting.{AreBehind, IsBehind, IsNotAhead}
-use Rattle.gs_totals.specs.Merged.{AreModestFrom}
-use Rattle.gs_totals.specs.Roles.{frame_in, lists_in}
-use Rattle.gs_totals.specs.declared.course.Course.{Course}
-use Rattle.gs_totals.proofs.Behind.{BehindAt, before_from, behind_same}
-use Rattle.gs_totals.proofs.Known.{known_modest, worth_modest}
-use Rattle.gs_totals.proofs.Stepping.{from_some}
+use Rattle.gs_totals.specs.{ClassTotals.{total_worth}, Courses.{StaysBehind, moves_chosen, totals_added, totals_now}, Jumps.{line}}
+use Rattle.gs_totals.specs.{Lasting.{AreBehind, IsBehind, IsNotAhead}, Merged.{AreModestFrom}, Roles.{frame_in, lists_in}, declared.course.Course.{Course}}
+use Rattle.gs_totals.proofs.{Behind.{BehindAt, before_from, behind_same}, Known.{known_modest, worth_modest}, Stepping.{from_some}}
 
 apart : (a b : ℤ) → unsigned_abs a < 2 ^ 110 → unsigned_abs b < 2 ^ 110 → unsigned_abs (a -ℤ b) < 2 ^ 120
 apart a b h g = omega (arith, ints, abs_is a, abs_is b, abs_is (a -ℤ b), h, g)

@@ -1,20 +1,13 @@
 -- One class more of a later round in a row that gathers it.
 use Rattle.std.proofs.Common.{◌≡◌, ℕ, ◌+◌, ◌-◌, ◌*◌, ◌^◌, ◌<◌, ◌≤◌, Bool, true, false, cond, List, length, get_or, set, sym, ap, ◌∙◌, arith, ⊎_elim, get_or-set_other, get_or-set_same}
-use Rattle.std.specs.Prelude.{◌==◌, ℤ, pos, ◌+ℤ◌, unsigned_abs}
-use Rattle.std.specs.List.{range_with_len}
-use Rattle.std.proofs.Math.IntN.{+ℤ_idr}
-use Rattle.std.proofs.lemmas.Bool.{cases_eq}
-use Rattle.std.proofs.lemmas.Bool.Decides.{Decides-eqb}
-use Rattle.std.proofs.lemmas.Int.{ints}
+use Rattle.std.proofs.{Math.IntN.{+ℤ_idr}, lemmas.Bool.{cases_eq}, lemmas.Bool.Decides.{Decides-eqb}, lemmas.Int.{ints}}
+use Rattle.std.specs.{Prelude.{◌==◌, ℤ, pos, ◌+ℤ◌, unsigned_abs}, List.{range_with_len}}
 use borrow.Author.Differences.{abs_is}
-use Rattle.gs_model.specs.Classes.{ClassLists, IsClass, class_count}
-use Rattle.gs_model.specs.Frame.{Frame}
-use Rattle.gs_model.specs.Sums.{sum_z}
+use Rattle.gs_model.specs.{Classes.{ClassLists, IsClass, class_count}, Frame.{Frame}, Sums.{sum_z}}
 use Rattle.gs_model.proofs.Basics.{not_eq}
 use Rattle.gs_best.specs.Rows.{AreModest}
 use Rattle.gs_best.proofs.Ranges.{range_abs, sum_same}
-use Rattle.gs_totals.specs.ClassTotals.{class_above, gathered}
-use Rattle.gs_totals.specs.Merged.{row_from}
+use Rattle.gs_totals.specs.{ClassTotals.{class_above, gathered}, Merged.{row_from}}
 use Rattle.gs_seq.proofs.EndTotals.{range_more}
 
 -- what the first classes of a round hold below a class

@@ -1,19 +1,12 @@
 -- In its own round a class gathers itself alone.
 use Rattle.std.proofs.Common.{◌≡◌, ℕ, ◌+◌, ◌-◌, ◌<◌, ◌≤◌, Bool, true, false, cond, List, drop, take, refl, sym, ap, ◌∙◌, arith, eqb}
+use Rattle.std.proofs.{lemmas.Bool.Decides.{Decides-eqb}, lemmas.List.{get_or-drop, get_or-take}}
 use Rattle.std.specs.Prelude.{◌==◌, ℤ, pos}
-use Rattle.std.proofs.lemmas.Bool.Decides.{Decides-eqb}
-use Rattle.std.proofs.lemmas.List.{get_or-drop, get_or-take}
-use Rattle.gs_model.specs.Classes.{ClassLists, IsClass, IsClasses, class_count, class_of, classes_in, first_member}
-use Rattle.gs_model.specs.Frame.{Frame, last_round}
+use Rattle.gs_model.specs.{Classes.{ClassLists, IsClass, IsClasses, class_count, class_of, classes_in, first_member}, Frame.{Frame, last_round}}
 use Rattle.gs_model.specs.FrameFacts.{InRange}
-use Rattle.gs_model.proofs.RawBound.{range_once}
-use Rattle.gs_model.proofs.Tables.{is_table}
-use Rattle.gs_model.proofs.Total.{pick_one}
-use Rattle.gs_model.proofs.Basics.{eqb-turn}
-use Rattle.gs_best.proofs.Ranges.{sum_same}
-use Rattle.gs_best.proofs.Shares.{first_class}
-use Rattle.gs_totals.specs.ClassTotals.{class_above, gathered}
-use Rattle.gs_totals.specs.Merged.{AreGathered, row_from}
+use Rattle.gs_model.proofs.{RawBound.{range_once}, Tables.{is_table}, Total.{pick_one}, Basics.{eqb-turn}}
+use Rattle.gs_best.proofs.{Ranges.{sum_same}, Shares.{first_class}}
+use Rattle.gs_totals.specs.{ClassTotals.{class_above, gathered}, Merged.{AreGathered, row_from}}
 
 picked : (b : Bool) (x y : ℤ) → (b ≡ true → x ≡ y) → cond b x (pos 0) ≡ cond b y (pos 0)
 picked true x y h = h refl

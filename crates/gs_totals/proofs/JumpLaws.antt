@@ -1,22 +1,15 @@
 -- Choices that stay: totals at fixed choices move on straight lines, and a choice stays while no move overtakes it.
-use Rattle.std.proofs.Common.{◌≡◌, ℕ, ◌<◌, ◌≤◌, Bool, true, false, cond, refl, sym, ap, ◌∙◌, subst, arith, ⊎_elim}
+use Rattle.std.proofs.{Common.{◌≡◌, ℕ, ◌<◌, ◌≤◌, Bool, true, false, cond, refl, sym, ap, ◌∙◌, subst, arith, ⊎_elim}, Math.IntN.{*ℤ-zero}}
+use Rattle.std.proofs.{lemmas.Bool.{cases_eq, cases_lt}, lemmas.Int.{ints}}
 use Rattle.std.specs.Prelude.{◌==◌, ℤ, pos, ◌+ℤ◌, ◌*ℤ◌, ◌≤ℤ◌, ◌<ℤ◌}
-use Rattle.std.proofs.Math.IntN.{*ℤ-zero}
-use Rattle.std.proofs.lemmas.Bool.{cases_eq, cases_lt}
-use Rattle.std.proofs.lemmas.Int.{ints}
-use Rattle.gs_model.specs.BestAnswers.{Values}
-use Rattle.gs_model.specs.Classes.{ClassLists, IsClass, IsClasses, class_count, classes_in}
+use Rattle.gs_model.specs.{BestAnswers.{Values}, Classes.{ClassLists, IsClass, IsClasses, class_count, classes_in}}
 use Rattle.gs_model.specs.Frame.{Frame, choices_at, leads_to, move_count, other_player, payoff_to, point_count, round_of}
-use Rattle.gs_model.specs.FrameFacts.{InRange, IsInside, IsWalked}
-use Rattle.gs_model.specs.Plans.{Plan}
-use Rattle.gs_model.specs.Positions.{Target, at_end, at_point}
-use Rattle.gs_model.specs.Sums.{sum_z}
+use Rattle.gs_model.specs.{FrameFacts.{InRange, IsInside, IsWalked}, Plans.{Plan}, Positions.{Target, at_end, at_point}, Sums.{sum_z}}
 use Rattle.gs_model.proofs.Total.{sum_z-add, sum_z-mul, sum_z-same}
 use Rattle.gs_seq.specs.Payoffs.{end_sum}
 use Rattle.gs_best.proofs.Ranges.{sum_same}
 use Rattle.gs_totals.specs.ClassTotals.{AreBestTotals, IsFollowed, class_above, gathered, total_worth}
-use Rattle.gs_totals.specs.Jumps.{AreBeforeChange, IsBeforeChange, line, tables_after}
-use Rattle.gs_totals.specs.PlanSums.{AreAlike, plus_times}
+use Rattle.gs_totals.specs.{Jumps.{AreBeforeChange, IsBeforeChange, line, tables_after}, PlanSums.{AreAlike, plus_times}}
 use Rattle.gs_totals.proofs.SumLaws.{end_plus, kept_alike}
 
 -- ---- one choice

@@ -1,24 +1,14 @@
 -- What holds of a player's class totals: they are small.
 use Rattle.std.proofs.Common.{ℕ, ◌+◌, ◌*◌, ◌^◌, ◌<◌, ◌≤◌, cond, List, refl, arith}
-use Rattle.std.specs.Prelude.{◌==◌, ℤ, pos, unsigned_abs}
-use Rattle.std.specs.List.{range_with_len}
-use Rattle.gs_model.specs.BestAnswers.{Values}
-use Rattle.gs_model.specs.Classes.{IsClass, class_count}
-use Rattle.gs_model.specs.Frame.{leads_to, move_count, point_count, round_of}
-use Rattle.gs_model.specs.Positions.{at_point}
+use Rattle.std.specs.{Prelude.{◌==◌, ℤ, pos, unsigned_abs}, List.{range_with_len}}
+use Rattle.gs_model.specs.{BestAnswers.{Values}, Classes.{IsClass, class_count}, Frame.{leads_to, move_count, point_count, round_of}, Positions.{at_point}}
 use Rattle.gs_model.specs.Sums.{sum_z}
 use Rattle.gs_model.proofs.Basics.{product_le}
 use Rattle.gs_seq.specs.declared.plan.Plan.{Plan}
-use Rattle.gs_best.proofs.Forms.{form_class_few, form_classes, form_in_range, form_modest, form_moves}
-use Rattle.gs_best.proofs.Ranges.{range_abs}
-use Rattle.gs_totals.specs.ClassTotals.{class_above, total_worth}
-use Rattle.gs_totals.specs.Merged.{AreModestFrom}
-use Rattle.gs_totals.specs.Places.{IsFollowedFrom}
-use Rattle.gs_totals.specs.Roles.{IsOthers, frame_in, lists_in, plan_in, totals_in}
-use Rattle.gs_totals.specs.declared.role.Role.{Role}
-use Rattle.gs_totals.proofs.Gathers.{tested_small}
-use Rattle.gs_totals.proofs.Sides.{apart, either_player, other_walked, walked}
-use Rattle.gs_totals.proofs.TotalBounds.{totals_few}
+use Rattle.gs_best.proofs.{Forms.{form_class_few, form_classes, form_in_range, form_modest, form_moves}, Ranges.{range_abs}}
+use Rattle.gs_totals.specs.{ClassTotals.{class_above, total_worth}, Merged.{AreModestFrom}, Places.{IsFollowedFrom}}
+use Rattle.gs_totals.specs.{Roles.{IsOthers, frame_in, lists_in, plan_in, totals_in}, declared.role.Role.{Role}}
+use Rattle.gs_totals.proofs.{Gathers.{tested_small}, Sides.{apart, either_player, other_walked, walked}, TotalBounds.{totals_few}}
 
 pub figures : (total weight : ℕ) → total ≤ 2 ^ 36 → weight ≤ 67108864 → 4096 * (total * weight) ≤ 2 ^ 74
 figures total weight l m = let p = product_le total weight (2 ^ 36) 67108864 l m in omega (arith, p)

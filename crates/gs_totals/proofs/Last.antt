@@ -1,8 +1,6 @@
 -- Positions as the last ones of a game, for inductions backwards.
 use Rattle.std.proofs.Common.{ℕ, suc, ◌+◌, ◌≤◌, arith}
-use Rattle.gs_model.specs.Frame.{Frame, point_count}
-use Rattle.gs_model.specs.FrameFacts.{IsFrom}
-use Rattle.gs_model.specs.Positions.{Target, at_end, at_point}
+use Rattle.gs_model.specs.{Frame.{Frame, point_count}, FrameFacts.{IsFrom}, Positions.{Target, at_end, at_point}}
 
 -- a position is an end, or one of the last n points
 abbrev pub IsLast : Frame → ℕ → Target → Type 0

@@ -1,18 +1,11 @@
 -- The rows of a point and of an end, where places are known, and what ends pay, one end more.
-use Rattle.std.proofs.Common.{◌≡◌, ℕ, ◌+◌, ◌-◌, ◌<◌, List, get_or, refl, sym, ap, ◌∙◌, subst, arith, ⊎_elim}
+use Rattle.std.proofs.{Common.{◌≡◌, ℕ, ◌+◌, ◌-◌, ◌<◌, List, get_or, refl, sym, ap, ◌∙◌, subst, arith, ⊎_elim}, lemmas.Bool.{cases_eq}}
 use Rattle.std.specs.Prelude.{ℤ, pos}
-use Rattle.std.proofs.lemmas.Bool.{cases_eq}
-use Rattle.gs_model.specs.Classes.{ClassLists, IsClass}
-use Rattle.gs_model.specs.Frame.{Frame, end_count, point_count, round_of}
-use Rattle.gs_model.specs.Positions.{at_end}
+use Rattle.gs_model.specs.{Classes.{ClassLists, IsClass}, Frame.{Frame, end_count, point_count, round_of}, Positions.{at_end}}
 use Rattle.gs_seq.specs.Payoffs.{end_classes, end_sum}
 use Rattle.gs_best.specs.Tables.{classes_at}
 use Rattle.gs_best.proofs.Placed.{IsRow, row_read}
-use Rattle.gs_totals.specs.Ledgers.{IsPaidAt}
-use Rattle.gs_totals.specs.Places.{end_start}
-use Rattle.gs_totals.specs.Roles.{frame_in, lists_in, plan_in}
-use Rattle.gs_totals.specs.Room.{IsPlaced}
-use Rattle.gs_totals.specs.declared.ledger.Ledger.{Ledger}
+use Rattle.gs_totals.specs.{Ledgers.{IsPaidAt}, Places.{end_start}, Roles.{frame_in, lists_in, plan_in}, Room.{IsPlaced}, declared.ledger.Ledger.{Ledger}}
 use Rattle.gs_totals.specs.declared.places.Places.{Places}
 use Rattle.gs_totals.proofs.EndStarts.{end_before}
 

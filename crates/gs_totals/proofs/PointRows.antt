@@ -1,21 +1,12 @@
 -- What holds of a point whose moves are read: its row lies within the list, and the rows at the targets of its moves are modest.
 use Rattle.std.proofs.Common.{◌≡◌, ℕ, ◌+◌, ◌-◌, ◌<◌, ◌≤◌, length, get_or, sym, ap, ◌∙◌, subst, arith}
 use Rattle.std.specs.Prelude.{pos, unsigned_abs}
-use Rattle.gs_model.specs.Classes.{IsClass, class_count}
-use Rattle.gs_model.specs.Frame.{end_count, leads_to, move_count, point_count, round_of}
-use Rattle.gs_model.specs.Positions.{Target, at_end, at_point}
+use Rattle.gs_model.specs.{Classes.{IsClass, class_count}, Frame.{end_count, leads_to, move_count, point_count, round_of}, Positions.{Target, at_end, at_point}}
 use Rattle.gs_seq.proofs.SlotLaws.{sum_range_le}
-use Rattle.gs_best.specs.Sizes.{IsWide}
-use Rattle.gs_best.specs.Tables.{classes_at, start_of}
+use Rattle.gs_best.specs.{Sizes.{IsWide}, Tables.{classes_at, start_of}}
 use Rattle.gs_best.proofs.Placed.{IsRow, row_next}
-use Rattle.gs_totals.specs.Places.{end_start}
-use Rattle.gs_totals.specs.PointRows.{totals_at}
-use Rattle.gs_totals.specs.Roles.{frame_in, lists_in}
-use Rattle.gs_totals.specs.Rows.{IsLaterRow, IsRowOf}
-use Rattle.gs_totals.specs.declared.ledger.Ledger.{Ledger}
-use Rattle.gs_totals.specs.declared.places.Totals.{Totals}
-use Rattle.gs_totals.specs.declared.point_row.PointRow.{PointRow}
-use Rattle.gs_totals.specs.declared.rows.Row.{Row}
+use Rattle.gs_totals.specs.{Places.{end_start}, PointRows.{totals_at}, Roles.{frame_in, lists_in}, Rows.{IsLaterRow, IsRowOf}, declared.ledger.Ledger.{Ledger}}
+use Rattle.gs_totals.specs.{declared.places.Totals.{Totals}, declared.point_row.PointRow.{PointRow}, declared.rows.Row.{Row}}
 use Rattle.gs_totals.proofs.Sides.{walked}
 
 pub row_at : (at : PointRow) → let k = at.ledger.role in IsRow (classes_at (frame_in k) (lists_in k)) (point_count (frame_in k)) at.point at.start at.count

@@ -2,15 +2,10 @@
 use Rattle.std.proofs.Common.{◌≡◌, ℕ, ◌<◌, List, sym, ap, ◌∙◌, arith, Some, None}
 use Rattle.std.specs.Prelude.{pos, ◌*ℤ◌}
 use Rattle.gs_model.specs.Classes.{ClassLists, IsClass, IsClasses, class_count, class_of, first_member}
-use Rattle.gs_model.specs.Frame.{Frame, ancestor, end_count, last_step, other_player, payoff_to, round_of}
-use Rattle.gs_model.specs.FrameFacts.{InRange, IsWalked}
-use Rattle.gs_model.specs.Pairs.{class_number, pair_sum}
-use Rattle.gs_model.specs.Plans.{Plan, lift, number_before}
-use Rattle.gs_model.specs.Positions.{Step, at_end, at_point}
-use Rattle.gs_model.proofs.Gather.{class_in, member_in}
-use Rattle.gs_model.proofs.Tables.{is_table}
-use Rattle.gs_seq.specs.Payoffs.{end_sum}
-use Rattle.gs_seq.specs.Slots.{plan_of}
+use Rattle.gs_model.specs.{Frame.{Frame, ancestor, end_count, last_step, other_player, payoff_to, round_of}, FrameFacts.{InRange, IsWalked}}
+use Rattle.gs_model.specs.{Pairs.{class_number, pair_sum}, Plans.{Plan, lift, number_before}, Positions.{Step, at_end, at_point}}
+use Rattle.gs_model.proofs.{Gather.{class_in, member_in}, Tables.{is_table}}
+use Rattle.gs_seq.specs.{Payoffs.{end_sum}, Slots.{plan_of}}
 use Rattle.gs_best.proofs.Ranges.{sum_same}
 use Rattle.gs_totals.specs.Renewed.{AgreeAt, AreSameAt}
 

@@ -1,17 +1,11 @@
 -- What holds of a player and of the other player.
-use Rattle.std.proofs.Common.{◌≡◌, ◌≢◌, ℕ, ◌<◌, ◌≤◌, sym, ◌∙◌, arith, ⊎_elim}
-use Rattle.std.proofs.lemmas.Bool.{cases_eq}
-use Rattle.gs_model.specs.Frame.{other_player, player_at, point_count}
-use Rattle.gs_model.specs.FrameFacts.{IsWalked}
-use Rattle.gs_seq.specs.Abstracts.{frame_of}
-use Rattle.gs_seq.specs.declared.form.Abstract.{Abstract}
+use Rattle.std.proofs.{Common.{◌≡◌, ◌≢◌, ℕ, ◌<◌, ◌≤◌, sym, ◌∙◌, arith, ⊎_elim}, lemmas.Bool.{cases_eq}}
+use Rattle.gs_model.specs.{Frame.{other_player, player_at, point_count}, FrameFacts.{IsWalked}}
+use Rattle.gs_seq.specs.{Abstracts.{frame_of}, declared.form.Abstract.{Abstract}}
 use Rattle.gs_seq.proofs.Points.{players}
-use Rattle.gs_best.specs.Forms.{game_in}
-use Rattle.gs_best.specs.declared.deviator.Deviator.{Deviator}
+use Rattle.gs_best.specs.{Forms.{game_in}, declared.deviator.Deviator.{Deviator}}
 use Rattle.gs_best.proofs.Forms.{form_walked}
-use Rattle.gs_totals.specs.Roles.{frame_in}
-use Rattle.gs_totals.specs.declared.ledger.Ledger.{Ledger}
-use Rattle.gs_totals.specs.declared.role.Role.{Role}
+use Rattle.gs_totals.specs.{Roles.{frame_in}, declared.ledger.Ledger.{Ledger}, declared.role.Role.{Role}}
 
 pub walked : (k : Role) → IsWalked (frame_in k) k.player
 walked k = form_walked k.form.now k.player k.some k.two

@@ -1,8 +1,7 @@
 -- A list that was written through a slice of it.
 use Rattle.std.proofs.Common.{◌≡◌, ℕ, ◌≤◌, ◌++◌, List, length, drop, take, sym, ap, ◌∙◌, subst, Vec}
 use Rattle.std.specs.declared.alloc.Global.{Global}
-use Rattle.gs_model.specs.Classes.{ClassLists}
-use Rattle.gs_model.specs.Frame.{Frame}
+use Rattle.gs_model.specs.{Classes.{ClassLists}, Frame.{Frame}}
 use Rattle.gs_best.specs.Sizes.{IsWide}
 use Rattle.gs_best.proofs.Filled.{written}
 

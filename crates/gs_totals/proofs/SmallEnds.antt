@@ -1,20 +1,11 @@
 -- What ends pay against a plan is small, and so are class totals against it.
 use Rattle.std.proofs.Common.{ℕ, ◌^◌, ◌<◌, ◌≤◌, List, [], refl, sym, subst, arith}
 use Rattle.std.specs.Prelude.{ℤ, unsigned_abs}
-use Rattle.gs_model.specs.Frame.{other_player, point_count}
-use Rattle.gs_model.specs.FrameFacts.{IsFrom}
-use Rattle.gs_model.specs.Positions.{at_end, at_point}
-use Rattle.gs_seq.specs.Abstracts.{frame_of, lists_of}
-use Rattle.gs_seq.specs.Plans.{IsPlanOf, class_plan}
-use Rattle.gs_seq.specs.declared.form.Abstract.{Abstract}
-use Rattle.gs_seq.specs.declared.plan.Plan.{Plan}
+use Rattle.gs_model.specs.{Frame.{other_player, point_count}, FrameFacts.{IsFrom}, Positions.{at_end, at_point}}
+use Rattle.gs_seq.specs.{Abstracts.{frame_of, lists_of}, Plans.{IsPlanOf, class_plan}, declared.form.Abstract.{Abstract}, declared.plan.Plan.{Plan}}
 use Rattle.gs_best.proofs.Forms.{form_classes, form_in_range, form_modest, form_walked}
-use Rattle.gs_totals.specs.ClassTotals.{IsFollowed}
-use Rattle.gs_totals.specs.Places.{AreEndSums, AreSmallPoints, AreSmallRows, totals_of}
-use Rattle.gs_totals.proofs.Known.{figures}
-use Rattle.gs_totals.proofs.Sides.{apart, either_player}
-use Rattle.gs_totals.proofs.Stepping.{from_some, none_followed}
-use Rattle.gs_totals.proofs.TotalBounds.{totals_few}
+use Rattle.gs_totals.specs.{ClassTotals.{IsFollowed}, Places.{AreEndSums, AreSmallPoints, AreSmallRows, totals_of}}
+use Rattle.gs_totals.proofs.{Known.{figures}, Sides.{apart, either_player}, Stepping.{from_some, none_followed}, TotalBounds.{totals_few}}
 
 module _ (a : Abstract) (player : ℕ) (some : 0 < player) (two : player
     ≤ 2) (p : Plan) (h : IsPlanOf (frame_of a) (lists_of a) (other_player player) p) where

@@ -1,18 +1,11 @@
 -- One step of the induction backwards: the class totals of a point from those of all later points.
 use Rattle.std.proofs.Common.{◌≡◌, ℕ, ◌+◌, ◌-◌, ◌<◌, ◌≤◌, List, get_or, refl, arith}
 use Rattle.std.specs.Prelude.{ℤ, pos}
-use Rattle.gs_model.specs.BestAnswers.{Values}
-use Rattle.gs_model.specs.Classes.{ClassLists, IsClass}
-use Rattle.gs_model.specs.Frame.{Frame, leads_to, move_count, player_at, point_count, round_of}
-use Rattle.gs_model.specs.FrameFacts.{IsFrom, IsWalked}
-use Rattle.gs_model.specs.Plans.{Plan}
-use Rattle.gs_model.specs.Positions.{Target, at_end, at_point}
-use Rattle.gs_best.specs.Rows.{IsCopied, IsMerged}
-use Rattle.gs_best.specs.Tables.{classes_at, start_of}
+use Rattle.gs_model.specs.{BestAnswers.{Values}, Classes.{ClassLists, IsClass}, Frame.{Frame, leads_to, move_count, player_at, point_count, round_of}}
+use Rattle.gs_model.specs.{FrameFacts.{IsFrom, IsWalked}, Plans.{Plan}, Positions.{Target, at_end, at_point}}
+use Rattle.gs_best.specs.{Rows.{IsCopied, IsMerged}, Tables.{classes_at, start_of}}
 use Rattle.gs_best.proofs.Stepping.{best_back as best_back_by, copied_here, followed_back, kept_later, later_on}
-use Rattle.gs_totals.specs.ClassTotals.{AreBestTotals, IsFollowed, total_worth}
-use Rattle.gs_totals.specs.Merged.{IsFollowing}
-use Rattle.gs_totals.specs.Places.{AreBestFrom, IsFollowedFrom, totals_of}
+use Rattle.gs_totals.specs.{ClassTotals.{AreBestTotals, IsFollowed, total_worth}, Merged.{IsFollowing}, Places.{AreBestFrom, IsFollowedFrom, totals_of}}
 use Rattle.gs_totals.proofs.Gathers.{gathered_same}
 
 -- no point is known yet

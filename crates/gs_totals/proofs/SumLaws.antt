@@ -1,20 +1,12 @@
 -- What ends pay by the other player's plan so far: it adds up as plans do.
-use Rattle.std.proofs.Common.{◌≡◌, ℕ, ◌+◌, ◌*◌, ◌<◌, refl, sym, ap, ◌∙◌, arith, Option, Some, None}
+use Rattle.std.proofs.{Common.{◌≡◌, ℕ, ◌+◌, ◌*◌, ◌<◌, refl, sym, ap, ◌∙◌, arith, Option, Some, None}, Math.IntN.{*ℤ_comm, pos-*ℤ-pos}, lemmas.Int.{ints}}
 use Rattle.std.specs.Prelude.{ℤ, pos, ◌+ℤ◌, ◌*ℤ◌}
-use Rattle.std.proofs.Math.IntN.{*ℤ_comm, pos-*ℤ-pos}
-use Rattle.std.proofs.lemmas.Int.{ints}
 use Rattle.gs_model.specs.Classes.{ClassLists, IsClass, IsClasses, class_count, classes_in, first_member}
-use Rattle.gs_model.specs.Frame.{Frame, ancestor, end_count, last_step, other_player, payoff_to, round_of}
-use Rattle.gs_model.specs.FrameFacts.{InRange, IsWalked}
-use Rattle.gs_model.specs.Pairs.{pair_sum}
-use Rattle.gs_model.specs.Plans.{Plan, lift, number_before}
-use Rattle.gs_model.specs.Positions.{Step, at_end, at_point}
-use Rattle.gs_model.specs.Sums.{sum_z}
-use Rattle.gs_model.proofs.Gather.{class_in, known_from, member_in}
-use Rattle.gs_model.proofs.Total.{mul-add_right, mul_assoc_z, sum_z-add, sum_z-mul, sum_z-same}
+use Rattle.gs_model.specs.{Frame.{Frame, ancestor, end_count, last_step, other_player, payoff_to, round_of}, FrameFacts.{InRange, IsWalked}, Pairs.{pair_sum}}
+use Rattle.gs_model.specs.{Plans.{Plan, lift, number_before}, Positions.{Step, at_end, at_point}, Sums.{sum_z}}
+use Rattle.gs_model.proofs.{Gather.{class_in, known_from, member_in}, Total.{mul-add_right, mul_assoc_z, sum_z-add, sum_z-mul, sum_z-same}}
 use Rattle.gs_seq.specs.Payoffs.{end_sum}
-use Rattle.gs_totals.specs.ClassTotals.{class_above}
-use Rattle.gs_totals.specs.PlanSums.{AreAlike, plus_times}
+use Rattle.gs_totals.specs.{ClassTotals.{class_above}, PlanSums.{AreAlike, plus_times}}
 use Rattle.gs_best.proofs.Ranges.{sum_same}
 
 -- ---- the sums

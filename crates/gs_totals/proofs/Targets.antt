@@ -1,15 +1,9 @@
 -- What a move is worth, from the row at its target.
 use Rattle.std.proofs.Common.{◌≡◌, ℕ, List, sym, ap, ◌∙◌, subst}
 use Rattle.std.specs.Prelude.{ℤ}
-use Rattle.gs_model.specs.BestAnswers.{Values}
-use Rattle.gs_model.specs.Classes.{ClassLists, IsClass}
-use Rattle.gs_model.specs.Frame.{Frame, leads_to, round_of}
-use Rattle.gs_model.specs.Positions.{at_point}
+use Rattle.gs_model.specs.{BestAnswers.{Values}, Classes.{ClassLists, IsClass}, Frame.{Frame, leads_to, round_of}, Positions.{at_point}}
 use Rattle.gs_best.specs.Rows.{AreWorths}
-use Rattle.gs_totals.specs.ClassTotals.{gathered, total_worth}
-use Rattle.gs_totals.specs.Merged.{AreGathered, row_from}
-use Rattle.gs_totals.specs.Rows.{IsRowOf}
-use Rattle.gs_totals.specs.declared.rows.Row.{Row}
+use Rattle.gs_totals.specs.{ClassTotals.{gathered, total_worth}, Merged.{AreGathered, row_from}, Rows.{IsRowOf}, declared.rows.Row.{Row}}
 use Rattle.gs_totals.proofs.Gathers.{gathered_same}
 
 pub worths_by : (f : Frame) (lists : ClassLists) (v : Values) (q m to : ℕ) → to ≡ round_of f (at_point q) → (r : Row) → IsRowOf f lists v (leads_to f q m) r

@@ -1,23 +1,12 @@
 -- From class totals to answers: a plan that puts all on the chosen moves is the first best plan, and the best total is the sum of the totals at the start.
-use Rattle.std.proofs.Common.{◌≡◌, ℕ, ◌<◌, ◌≤◌, cond, sym, ap, ◌∙◌, arith, eqb}
-use Rattle.std.specs.Prelude.{◌==◌, ℤ, pos, ◌*ℤ◌, sum_by, if◌then◌else◌}
-use Rattle.std.specs.List.{count_by}
-use Rattle.std.proofs.Math.IntN.{*ℤ_comm}
-use Rattle.std.proofs.lemmas.Bool.Decides.{Decides-eqb}
-use Rattle.std.proofs.lemmas.Int.{ints}
+use Rattle.std.proofs.{Common.{◌≡◌, ℕ, ◌<◌, ◌≤◌, cond, sym, ap, ◌∙◌, arith, eqb}, Math.IntN.{*ℤ_comm}, lemmas.Bool.Decides.{Decides-eqb}, lemmas.Int.{ints}}
+use Rattle.std.specs.{Prelude.{◌==◌, ℤ, pos, ◌*ℤ◌, sum_by, if◌then◌else◌}, List.{count_by}}
 use borrow.Author.Differences.{product_is}
 use Rattle.gs_model.specs.BestAnswers.{IsBestValues, IsFirstBestPlan, Values}
 use Rattle.gs_model.specs.Classes.{ClassLists, IsClass, IsClasses, class_count, class_of, class_size, classes_in, first_member}
 use Rattle.gs_model.specs.Frame.{Frame, last_step, move_count, player_at, point_count, round_of, signal_count, signals_in, last_round}
-use Rattle.gs_model.specs.FrameFacts.{InRange, IsWalked}
-use Rattle.gs_model.specs.Lossless.{IsLossless}
-use Rattle.gs_model.specs.Plans.{Plan, lift, number_before}
-use Rattle.gs_model.specs.Positions.{at_point}
-use Rattle.gs_model.specs.Sums.{sum_z}
-use Rattle.gs_model.proofs.Gather.{grouping_from}
-use Rattle.gs_model.proofs.RawBound.{All-range}
-use Rattle.gs_model.proofs.Regroup.{regroup_weights}
-use Rattle.gs_model.proofs.Total.{sum_z-same}
+use Rattle.gs_model.specs.{FrameFacts.{InRange, IsWalked}, Lossless.{IsLossless}, Plans.{Plan, lift, number_before}, Positions.{at_point}, Sums.{sum_z}}
+use Rattle.gs_model.proofs.{Gather.{grouping_from}, RawBound.{All-range}, Regroup.{regroup_weights}, Total.{sum_z-same}}
 use Rattle.gs_seq.proofs.RowLaws.{size_is}
 use Rattle.gs_best.specs.Answers.{IsBestTotal}
 use Rattle.gs_totals.specs.ClassTotals.{AreBestTotals}

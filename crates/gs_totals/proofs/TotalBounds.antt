@@ -1,44 +1,22 @@
 -- Class totals are small: at most the greatest payoff times the other player's total times the weight of all deals.
 use Rattle.std.proofs.Common.{◌≡◌, ◌≢◌, ℕ, zero, suc, ◌+◌, ◌-◌, ◌*◌, ◌<◌, ◌≤◌, Bool, true, false, cond, List, [], ◌∷◌, length, get_or, refl, sym, ap, ◌∙◌, arith, eqb, ⊎_elim, Option, Some, None}
-use Rattle.std.specs.Prelude.{◌==◌, if◌then◌else◌, ℤ, pos, ◌*ℤ◌, unsigned_abs, sum_by, All}
-use Rattle.std.specs.List.{range_with_len}
-use Rattle.std.proofs.Math.Nat.{mul-le-mul_left}
-use Rattle.std.proofs.lemmas.Bool.{cases_eq}
-use Rattle.std.proofs.lemmas.Bool.Decides.{Decides-eqb}
-use Rattle.std.proofs.lemmas.Int.{ints, unsigned_abs-mul}
-use Rattle.std.proofs.lemmas.List.Elements.{All-head, All-tail}
-use Rattle.std.proofs.lemmas.List.Sums.{sum_by-cons}
+use Rattle.std.proofs.{Math.Nat.{mul-le-mul_left}, lemmas.Bool.{cases_eq}, lemmas.Bool.Decides.{Decides-eqb}, lemmas.Int.{ints, unsigned_abs-mul}}
+use Rattle.std.proofs.{lemmas.List.Elements.{All-head, All-tail}, lemmas.List.Sums.{sum_by-cons}}
+use Rattle.std.specs.{Prelude.{◌==◌, if◌then◌else◌, ℤ, pos, ◌*ℤ◌, unsigned_abs, sum_by, All}, List.{range_with_len}}
 use borrow.Author.Differences.{abs_is}
-use Rattle.gs_model.specs.BestAnswers.{Values, end_worth}
-use Rattle.gs_model.specs.Classes.{ClassLists, IsClass, IsClasses, class_count, class_of, classes_in, first_member}
+use Rattle.gs_model.specs.{BestAnswers.{Values, end_worth}, Classes.{ClassLists, IsClass, IsClasses, class_count, class_of, classes_in, first_member}}
 use Rattle.gs_model.specs.Deals.{Deal}
 use Rattle.gs_model.specs.Frame.{Frame, ancestor, at_round, choices_at, end_count, last_round, last_step, leads_to, move_count, other_player, payoff_to, player_at, point_count, round_of, signal_count, signals_in, total_weight}
-use Rattle.gs_model.specs.FrameFacts.{InRange, IsFrom, IsInside, IsWalked}
-use Rattle.gs_model.specs.Plans.{IsClassPlan, IsRawPlan, Plan, lift, number_before}
-use Rattle.gs_model.specs.Positions.{Step, Target, at_end, at_point}
-use Rattle.gs_model.specs.Sums.{sum_z}
-use Rattle.gs_model.proofs.Alike.{keeps_from, kin_above}
-use Rattle.gs_model.proofs.ClassTotals.{end_total_by_pairs}
-use Rattle.gs_model.proofs.Deviations.{lift_is_raw_plan}
-use Rattle.gs_model.proofs.FirstBest.{sum-same_range}
-use Rattle.gs_model.proofs.Flow.{by_ancestor}
-use Rattle.gs_model.proofs.Gather.{class_in, firsts_from, grouping_from, known_from, member_in, plan_by}
-use Rattle.gs_model.proofs.Lift.{one_guard}
-use Rattle.gs_model.proofs.PlanLaws.{numbers_within}
-use Rattle.gs_model.proofs.RawBound.{range_once}
-use Rattle.gs_model.proofs.Regroup.{sum_z-pos}
-use Rattle.gs_model.proofs.Tables.{is_table}
-use Rattle.gs_model.proofs.Total.{sum_z-regroup, sum_z-same, sum_z-same_all}
-use Rattle.gs_model.proofs.Basics.{pos-injective, sum-cond}
+use Rattle.gs_model.specs.{FrameFacts.{InRange, IsFrom, IsInside, IsWalked}, Plans.{IsClassPlan, IsRawPlan, Plan, lift, number_before}}
+use Rattle.gs_model.specs.{Positions.{Step, Target, at_end, at_point}, Sums.{sum_z}}
+use Rattle.gs_model.proofs.{Alike.{keeps_from, kin_above}, ClassTotals.{end_total_by_pairs}, Deviations.{lift_is_raw_plan}, FirstBest.{sum-same_range}}
+use Rattle.gs_model.proofs.{Flow.{by_ancestor}, Gather.{class_in, firsts_from, grouping_from, known_from, member_in, plan_by}, Lift.{one_guard}}
+use Rattle.gs_model.proofs.{PlanLaws.{numbers_within}, RawBound.{range_once}, Regroup.{sum_z-pos}, Tables.{is_table}}
+use Rattle.gs_model.proofs.{Total.{sum_z-regroup, sum_z-same, sum_z-same_all}, Basics.{pos-injective, sum-cond}}
 use Rattle.gs_seq.specs.Payoffs.{end_sum}
-use Rattle.gs_seq.proofs.RowFacts.{abs_all, sum-times}
-use Rattle.gs_seq.proofs.EndTotals.{abs_range}
-use Rattle.gs_seq.proofs.EarlierRows.{sum-same_all}
-use Rattle.gs_totals.specs.ClassTotals.{class_above, total_worth}
-use Rattle.gs_totals.specs.Places.{IsFollowedFrom}
-use Rattle.gs_best.proofs.Below.{range_add}
-use Rattle.gs_best.proofs.Ranges.{sum_same}
-use Rattle.gs_best.proofs.Shares.{first_class}
+use Rattle.gs_seq.proofs.{RowFacts.{abs_all, sum-times}, EndTotals.{abs_range}, EarlierRows.{sum-same_all}}
+use Rattle.gs_totals.specs.{ClassTotals.{class_above, total_worth}, Places.{IsFollowedFrom}}
+use Rattle.gs_best.proofs.{Below.{range_add}, Ranges.{sum_same}, Shares.{first_class}}
 use Rattle.gs_totals.proofs.Last.{IsLast, all_last, next_last}
 
 -- what the members of a class face at a position: over their deals the weight times the other's number before

@@ -1,25 +1,16 @@
 -- Best class totals are best values times sizes: with them come the same first best moves.
-use Rattle.std.proofs.Common.{◌≡◌, ℕ, zero, suc, ◌+◌, ◌*◌, ◌/◌, ◌<◌, ◌≤◌, sym, ap, ◌∙◌, subst, arith, ⊎_elim}
+use Rattle.std.proofs.{Common.{◌≡◌, ℕ, zero, suc, ◌+◌, ◌*◌, ◌/◌, ◌<◌, ◌≤◌, sym, ap, ◌∙◌, subst, arith, ⊎_elim}, Math.IntN.{*ℤ_comm, pos-*ℤ-pos}}
+use Rattle.std.proofs.{Math.Nat.{mul-div_cancel_left, mul-le-mul_left}, lemmas.Bool.{cases_eq, cases_lt}, lemmas.Int.{ints}}
 use Rattle.std.specs.Prelude.{ℤ, pos, negsuc, neg_ℤ, ◌*ℤ◌, ◌≤ℤ◌, ◌<ℤ◌}
-use Rattle.std.proofs.Math.IntN.{*ℤ_comm, pos-*ℤ-pos}
-use Rattle.std.proofs.Math.Nat.{mul-div_cancel_left, mul-le-mul_left}
-use Rattle.std.proofs.lemmas.Bool.{cases_eq, cases_lt}
-use Rattle.std.proofs.lemmas.Int.{ints}
 use borrow.Author.Differences.{up, down, product_is, le_out, lt_out}
-use Rattle.gs_model.specs.BestAnswers.{IsBestValues, Values, class_worth, end_worth}
-use Rattle.gs_model.specs.Classes.{ClassLists, IsClass, IsClasses, class_size, first_member}
+use Rattle.gs_model.specs.{BestAnswers.{IsBestValues, Values, class_worth, end_worth}, Classes.{ClassLists, IsClass, IsClasses, class_size, first_member}}
 use Rattle.gs_model.specs.Frame.{Frame, choices_at, end_count, leads_to, move_count, player_at, point_count, round_of}
-use Rattle.gs_model.specs.FrameFacts.{InRange, IsInside, IsWalked}
-use Rattle.gs_model.specs.Lossless.{IsLossless}
-use Rattle.gs_model.specs.Plans.{Plan, lift}
-use Rattle.gs_model.specs.Positions.{Target, at_end, at_point}
+use Rattle.gs_model.specs.{FrameFacts.{InRange, IsInside, IsWalked}, Lossless.{IsLossless}, Plans.{Plan, lift}, Positions.{Target, at_end, at_point}}
 use Rattle.gs_model.specs.Sums.{sum_z}
 use Rattle.gs_model.proofs.Total.{sum_z-mul}
 use Rattle.gs_totals.specs.ClassTotals.{AreFirstGreatest, AreTimesSizes, IsFollowed, total_worth}
-use Rattle.gs_best.proofs.Ranges.{sum_same}
-use Rattle.gs_best.proofs.Shares.{end_share, some_member}
-use Rattle.gs_totals.proofs.Last.{IsLast, all_last, next_last}
-use Rattle.gs_totals.proofs.WorthTotals.{worth_total}
+use Rattle.gs_best.proofs.{Ranges.{sum_same}, Shares.{end_share, some_member}}
+use Rattle.gs_totals.proofs.{Last.{IsLast, all_last, next_last}, WorthTotals.{worth_total}}
 
 -- ---- division by a size
 

@@ -1,30 +1,17 @@
 -- Over lossless classes the total of a class is its size times what its first member has: at moves, and so at all positions.
-use Rattle.std.proofs.Common.{◌≡◌, ℕ, zero, suc, ◌+◌, ◌-◌, ◌<◌, ◌≤◌, Bool, true, false, cond, refl, sym, ap, ◌∙◌, arith, eqb}
-use Rattle.std.specs.Prelude.{◌==◌, ℤ, pos, ◌*ℤ◌, sum_by}
-use Rattle.std.specs.List.{count_by, range_with_len}
-use Rattle.std.proofs.Math.IntN.{*ℤ_comm, *ℤ-zero}
-use Rattle.std.proofs.lemmas.Bool.Decides.{Decides-eqb}
-use Rattle.std.proofs.lemmas.List.Sums.{sum_by-cons}
+use Rattle.std.proofs.{Common.{◌≡◌, ℕ, zero, suc, ◌+◌, ◌-◌, ◌<◌, ◌≤◌, Bool, true, false, cond, refl, sym, ap, ◌∙◌, arith, eqb}, Math.IntN.{*ℤ_comm, *ℤ-zero}}
+use Rattle.std.proofs.{lemmas.Bool.Decides.{Decides-eqb}, lemmas.List.Sums.{sum_by-cons}}
+use Rattle.std.specs.{Prelude.{◌==◌, ℤ, pos, ◌*ℤ◌, sum_by}, List.{count_by, range_with_len}}
 use Rattle.gs_model.specs.BestAnswers.{Values, class_worth, move_worth, spread}
 use Rattle.gs_model.specs.Classes.{ClassLists, IsClass, IsClasses, class_count, class_of, class_size, classes_in, first_member}
 use Rattle.gs_model.specs.Frame.{Frame, ancestor, last_round, leads_to, move_count, point_count, round_of, signal_count, signals_in}
-use Rattle.gs_model.specs.FrameFacts.{InRange, IsWalked}
-use Rattle.gs_model.specs.Lossless.{IsLossless}
-use Rattle.gs_model.specs.Positions.{at_point}
-use Rattle.gs_model.specs.Sums.{sum_z}
-use Rattle.gs_model.proofs.Alike.{kin_above}
-use Rattle.gs_model.proofs.ClassTotals.{class_size_of, class_total_is, class_total_up}
-use Rattle.gs_model.proofs.FirstBest.{sum-same_range}
-use Rattle.gs_model.proofs.Gather.{grouping_from, member_in}
-use Rattle.gs_model.proofs.Lift.{move_alike, one_guard}
-use Rattle.gs_model.proofs.RawBound.{All-range}
-use Rattle.gs_model.proofs.Regroup.{regroup_weights}
-use Rattle.gs_model.proofs.Tables.{is_table}
+use Rattle.gs_model.specs.{FrameFacts.{InRange, IsWalked}, Lossless.{IsLossless}, Positions.{at_point}, Sums.{sum_z}}
+use Rattle.gs_model.proofs.{Alike.{kin_above}, ClassTotals.{class_size_of, class_total_is, class_total_up}, FirstBest.{sum-same_range}}
+use Rattle.gs_model.proofs.{Gather.{grouping_from, member_in}, Lift.{move_alike, one_guard}, RawBound.{All-range}, Regroup.{regroup_weights}, Tables.{is_table}}
 use Rattle.gs_model.proofs.Total.{sum_z-same}
 use Rattle.gs_seq.proofs.RowLaws.{size_is}
 use Rattle.gs_totals.specs.ClassTotals.{class_above, gathered, total_worth}
-use Rattle.gs_best.proofs.Ranges.{sum_same}
-use Rattle.gs_best.proofs.Shares.{first_class}
+use Rattle.gs_best.proofs.{Ranges.{sum_same}, Shares.{first_class}}
 
 -- ---- tests in sums
 

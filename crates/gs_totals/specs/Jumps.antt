@@ -1,9 +1,7 @@
 -- Turns in which no choice changes. While both players' choices stay, each turn adds the same answers, so all totals move on straight lines.
 -- A choice stays as long as no move overtakes it.
 use Rattle.std.specs.Prelude.{ℕ, ◌<◌, ◌≡◌, ℤ, pos, ◌+ℤ◌, ◌*ℤ◌, ◌≤ℤ◌, ◌<ℤ◌}
-use Rattle.gs_model.specs.BestAnswers.{Values}
-use Rattle.gs_model.specs.Classes.{ClassLists, IsClass}
-use Rattle.gs_model.specs.Frame.{Frame, move_count, player_at, point_count, round_of}
+use Rattle.gs_model.specs.{BestAnswers.{Values}, Classes.{ClassLists, IsClass}, Frame.{Frame, move_count, player_at, point_count, round_of}}
 use Rattle.gs_model.specs.Positions.{at_point}
 use Rattle.gs_totals.specs.ClassTotals.{total_worth}
 

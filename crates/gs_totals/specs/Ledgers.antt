@@ -1,16 +1,10 @@
 -- A player's class totals against a plan of the other player, as they are kept in lists.
 use Rattle.std.specs.Prelude.{ℕ, ◌+◌, ◌-◌, ◌<◌, ◌≤◌, ◌≡◌, List, get_or, length, ℤ, pos}
-use Rattle.gs_model.specs.Classes.{IsClass}
-use Rattle.gs_model.specs.Frame.{point_count, round_of}
-use Rattle.gs_model.specs.Positions.{at_end}
+use Rattle.gs_model.specs.{Classes.{IsClass}, Frame.{point_count, round_of}, Positions.{at_end}}
 use Rattle.gs_seq.specs.Payoffs.{end_classes, end_sum}
 use Rattle.gs_best.specs.Tables.{AreInMoves, start_of}
-use Rattle.gs_totals.specs.Places.{AreBestFrom, IsFollowedFrom}
-use Rattle.gs_totals.specs.Roles.{ArePaid, frame_in, lists_in, moves_in, plan_in, totals_in}
-use Rattle.gs_totals.specs.Room.{HasRows, HasScratch}
-use Rattle.gs_totals.specs.declared.ledger.Ledger.{Ledger}
-use Rattle.gs_totals.specs.declared.places.Scratch.{Scratch}
-use Rattle.gs_totals.specs.declared.places.Totals.{Totals}
+use Rattle.gs_totals.specs.{Places.{AreBestFrom, IsFollowedFrom}, Roles.{ArePaid, frame_in, lists_in, moves_in, plan_in, totals_in}, Room.{HasRows, HasScratch}}
+use Rattle.gs_totals.specs.{declared.ledger.Ledger.{Ledger}, declared.places.Scratch.{Scratch}, declared.places.Totals.{Totals}}
 
 -- there is room for class totals, moves and scratch rows, and the totals have what ends pay
 pub record IsReady (k : Ledger) (t : Totals) (picks : List ℕ) (s : Scratch) : Type 0 where

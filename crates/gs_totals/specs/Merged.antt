@@ -1,9 +1,6 @@
 -- Rows with what the moves of a point are worth to all members of a class together, and the point's class totals by them.
 use Rattle.std.specs.Prelude.{ℕ, ◌+◌, ◌-◌, ◌^◌, ◌<◌, ◌≡◌, ◌≢◌, ◌==◌, List, get_or, slice_index, ℤ, pos, unsigned_abs, if◌then◌else◌}
-use Rattle.gs_model.specs.BestAnswers.{Values}
-use Rattle.gs_model.specs.Classes.{ClassLists, IsClass}
-use Rattle.gs_model.specs.Frame.{Frame, move_count, player_at, round_of}
-use Rattle.gs_model.specs.FrameFacts.{IsFrom, IsInside}
+use Rattle.gs_model.specs.{BestAnswers.{Values}, Classes.{ClassLists, IsClass}, Frame.{Frame, move_count, player_at, round_of}, FrameFacts.{IsFrom, IsInside}}
 use Rattle.gs_model.specs.Positions.{Target, at_point}
 use Rattle.gs_best.specs.Rows.{AreSums}
 use Rattle.gs_totals.specs.ClassTotals.{gathered, total_worth}

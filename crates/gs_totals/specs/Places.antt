@@ -1,15 +1,10 @@
 -- Class totals kept in lists: a row for each end and a row for each point, one after the other. A row has a number for each class.
-use Rattle.std.specs.Prelude.{ℕ, ◌+◌, ◌-◌, ◌^◌, ◌<◌, ◌≡◌, List, get_or, slice_index, ℤ, pos, sum_by, unsigned_abs}
-use Rattle.std.specs.List.{range_with_len}
-use Rattle.gs_model.specs.BestAnswers.{Values}
-use Rattle.gs_model.specs.Classes.{ClassLists, IsClass}
-use Rattle.gs_model.specs.Frame.{Frame, end_count, point_count, round_of}
-use Rattle.gs_model.specs.Plans.{Plan}
+use Rattle.std.specs.{Prelude.{ℕ, ◌+◌, ◌-◌, ◌^◌, ◌<◌, ◌≡◌, List, get_or, slice_index, ℤ, pos, sum_by, unsigned_abs}, List.{range_with_len}}
+use Rattle.gs_model.specs.{BestAnswers.{Values}, Classes.{ClassLists, IsClass}, Frame.{Frame, end_count, point_count, round_of}, Plans.{Plan}}
 use Rattle.gs_model.specs.Positions.{at_end, at_point}
 use Rattle.gs_seq.specs.Payoffs.{end_classes, end_sum}
 use Rattle.gs_best.specs.Tables.{AreFirstBy, IsFollowedBy, start_of}
-use Rattle.gs_totals.specs.ClassTotals.{total_worth}
-use Rattle.gs_totals.specs.Jumps.{line}
+use Rattle.gs_totals.specs.{ClassTotals.{total_worth}, Jumps.{line}}
 
 -- the place of an end's first class
 abbrev pub end_start : Frame → ClassLists → ℕ → ℕ

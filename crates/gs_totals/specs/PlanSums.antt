@@ -1,9 +1,6 @@
 -- Plans that are added up from turn to turn, and plans that are alike.
 use Rattle.std.specs.Prelude.{ℕ, ◌+◌, ◌*◌, ◌<◌, ◌≡◌}
-use Rattle.gs_model.specs.Classes.{ClassLists, IsClass}
-use Rattle.gs_model.specs.Frame.{Frame, move_count, player_at, point_count, round_of}
-use Rattle.gs_model.specs.Plans.{Plan}
-use Rattle.gs_model.specs.Positions.{at_point}
+use Rattle.gs_model.specs.{Classes.{ClassLists, IsClass}, Frame.{Frame, move_count, player_at, point_count, round_of}, Plans.{Plan}, Positions.{at_point}}
 
 -- plan x plus k times plan b
 abbrev pub plus_times : Plan → ℕ → Plan → Plan

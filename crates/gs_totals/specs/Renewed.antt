@@ -1,10 +1,6 @@
 -- Two plans of a player, and where they agree.
 use Rattle.std.specs.Prelude.{ℕ, ◌≡◌, List, slice_index}
-use Rattle.gs_model.specs.Classes.{ClassLists, IsClass}
-use Rattle.gs_model.specs.Frame.{Frame, round_of}
-use Rattle.gs_model.specs.Pairs.{class_number}
-use Rattle.gs_model.specs.Plans.{Plan}
-use Rattle.gs_model.specs.Positions.{Step, at_end, at_point}
+use Rattle.gs_model.specs.{Classes.{ClassLists, IsClass}, Frame.{Frame, round_of}, Pairs.{class_number}, Plans.{Plan}, Positions.{Step, at_end, at_point}}
 use Rattle.gs_seq.specs.Slots.{slot_of}
 
 -- two lists of weights agree at a step, at each class of the step's point

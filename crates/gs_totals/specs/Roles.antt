@@ -1,16 +1,9 @@
 -- A player's plans, moves and class totals in a game.
 use Rattle.std.specs.Prelude.{ℕ, List, ℤ}
-use Rattle.gs_model.specs.BestAnswers.{Values}
-use Rattle.gs_model.specs.Classes.{ClassLists}
-use Rattle.gs_model.specs.Frame.{Frame, other_player}
-use Rattle.gs_model.specs.Plans.{Plan as ModelPlan}
-use Rattle.gs_seq.specs.Abstracts.{frame_of, lists_of}
-use Rattle.gs_seq.specs.Plans.{IsPlanOf, class_plan}
-use Rattle.gs_seq.specs.declared.plan.Plan.{Plan}
+use Rattle.gs_model.specs.{BestAnswers.{Values}, Classes.{ClassLists}, Frame.{Frame, other_player}, Plans.{Plan as ModelPlan}}
+use Rattle.gs_seq.specs.{Abstracts.{frame_of, lists_of}, Plans.{IsPlanOf, class_plan}, declared.plan.Plan.{Plan}}
 use Rattle.gs_best.specs.Tables.{moves_of}
-use Rattle.gs_totals.specs.Places.{AreEndSums, totals_of}
-use Rattle.gs_totals.specs.declared.places.Totals.{Totals}
-use Rattle.gs_totals.specs.declared.role.Role.{Role}
+use Rattle.gs_totals.specs.{Places.{AreEndSums, totals_of}, declared.places.Totals.{Totals}, declared.role.Role.{Role}}
 
 -- the frame of a player's game
 abbrev pub frame_in : Role → Frame

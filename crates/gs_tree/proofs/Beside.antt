@@ -1,10 +1,7 @@
 -- The groups of one player beside the signal of another.
-use Rattle.std.proofs.Common.{◌≡◌, ℕ, suc, ◌+◌, ◌-◌, ◌*◌, ◌++◌, List, [], ◌∷◌, get_or, refl, sym, ap, ◌∙◌, arith, cond, eqb}
+use Rattle.std.proofs.{Common.{◌≡◌, ℕ, suc, ◌+◌, ◌-◌, ◌*◌, ◌++◌, List, [], ◌∷◌, get_or, refl, sym, ap, ◌∙◌, arith, cond, eqb}, lemmas.List.Sums.{sum_by-append}}
 use Rattle.std.specs.Prelude.{count_by, ◌==◌}
-use Rattle.std.proofs.lemmas.List.Sums.{sum_by-append}
-use Rattle.gs_model.specs.Cards.{ways, left_after, left_from}
-use Rattle.gs_model.specs.Deals.{own_ways}
-use Rattle.gs_model.specs.Signals.{Seen, Signal, left_by, own_cards, public_cards}
+use Rattle.gs_model.specs.{Cards.{ways, left_after, left_from}, Deals.{own_ways}, Signals.{Seen, Signal, left_by, own_cards, public_cards}}
 use Rattle.gs_model.proofs.Listed.{left_at}
 use Rattle.gs_tree.proofs.Taken.{taken_none}
 

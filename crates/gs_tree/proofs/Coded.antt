@@ -1,22 +1,15 @@
 -- Numbers of lists of cards, and a table of the last place with each list.
 use Rattle.std.proofs.Common.{◌≡◌, ◌≢◌, ℕ, zero, suc, ◌+◌, ◌*◌, ◌^◌, ◌<◌, ◌≤◌, ◌++◌, List, [], ◌∷◌, length, take, get_or, set, replicate, refl, sym, ap, ◌∙◌, arith, subst, ⊎_elim, Bool, true, false, cond, Some, None, All, get_or-set_same, get_or-set_other, length-set}
-use Rattle.std.specs.List.{AllByRecursion}
-use Rattle.std.specs.Prelude.{nat_eq, nat_lt}
-use Rattle.std.proofs.lemmas.Bool.{cases_lt, lt-ltb, ltb-true}
-use Rattle.std.proofs.lemmas.Grind.{get_or_default_zero}
-use Rattle.std.proofs.lemmas.List.{get_or-replicate, length-replicate, length-take-le}
-use Rattle.std.proofs.lemmas.List.Elements.{All-take, recursion_from_All}
+use Rattle.std.proofs.{lemmas.Bool.{cases_lt, lt-ltb, ltb-true}, lemmas.Grind.{get_or_default_zero}}
+use Rattle.std.proofs.{lemmas.List.{get_or-replicate, length-replicate, length-take-le}, lemmas.List.Elements.{All-take, recursion_from_All}}
 use Rattle.std.proofs.Math.Nat.{pow-zero, pow-succ'}
+use Rattle.std.specs.{List.{AllByRecursion}, Prelude.{nat_eq, nat_lt}}
 use lib.Pointwise.{pointwise}
 use Rattle.gs_card.specs.Decks.{DeckValue, IsDeck, kinds}
-use Rattle.gs_model.specs.Game.{Game, round_count}
-use Rattle.gs_model.specs.Signals.{public_cards, signal_at}
+use Rattle.gs_model.specs.{Game.{Game, round_count}, Signals.{public_cards, signal_at}}
 use Rattle.gs_model.proofs.Basics.{product_le}
-use Rattle.gs_tree.specs.Boards.{code_behind, seen_last}
-use Rattle.gs_tree.specs.Kept.{AreHands}
-use Rattle.gs_tree.specs.Walk.{last_count}
-use Rattle.gs_tree.proofs.Hands.{dealt}
-use Rattle.gs_tree.proofs.Linked.{equal, unequal, last_place}
+use Rattle.gs_tree.specs.{Boards.{code_behind, seen_last}, Kept.{AreHands}, Walk.{last_count}}
+use Rattle.gs_tree.proofs.{Hands.{dealt}, Linked.{equal, unequal, last_place}}
 
 -- one digit more
 pub code_push : (k a : ℕ) (xs : List ℕ) (c : ℕ) → code_behind k a (xs ++ c ∷ []) ≡ code_behind k a xs * k + c

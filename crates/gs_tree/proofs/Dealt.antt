@@ -1,16 +1,9 @@
 -- What a signal shows last: cards of the deck, as many as the round gives.
-use Rattle.std.proofs.Common.{◌≡◌, ℕ, zero, suc, ◌<◌, List, [], ◌∷◌, length, map, sym, arith, subst, All}
-use Rattle.std.specs.Prelude.{flat_map}
-use Rattle.std.specs.List.{AllByRecursion}
-use Rattle.std.proofs.lemmas.List.{length-map, get_or-map}
+use Rattle.std.proofs.{Common.{◌≡◌, ℕ, zero, suc, ◌<◌, List, [], ◌∷◌, length, map, sym, arith, subst, All}, lemmas.List.{length-map, get_or-map}}
 use Rattle.std.proofs.lemmas.List.Elements.{All-from_recursion, recursion_from_All}
-use Rattle.gs_model.specs.Cards.{groups, left_after}
-use Rattle.gs_model.specs.Game.{Game, Round, round_at}
-use Rattle.gs_model.specs.Signals.{Seen, Signal, signals, signal_at, showings, left_by}
-use Rattle.gs_model.proofs.Ranges.{every-flat_map}
-use Rattle.gs_model.proofs.Basics.{every-map, every-weaker}
-use Rattle.gs_model.proofs.Listed.{length-after}
-use Rattle.gs_model.proofs.Beside.{length-left_by}
+use Rattle.std.specs.{Prelude.{flat_map}, List.{AllByRecursion}}
+use Rattle.gs_model.specs.{Cards.{groups, left_after}, Game.{Game, Round, round_at}, Signals.{Seen, Signal, signals, signal_at, showings, left_by}}
+use Rattle.gs_model.proofs.{Ranges.{every-flat_map}, Basics.{every-map, every-weaker}, Listed.{length-after}, Beside.{length-left_by}}
 use Rattle.gs_card.specs.Groups.{IsGroup}
 use Rattle.gs_card.proofs.GroupLaws.{groups_are_groups, cards_within}
 use Rattle.gs_tree.specs.Layers.{last_seen, showing}

@@ -1,20 +1,14 @@
 -- The hand of a signal: cards of the deck, as many as its rounds give.
 use Rattle.std.proofs.Common.{◌≡◌, ℕ, zero, suc, ◌+◌, ◌-◌, ◌<◌, ◌≤◌, ◌++◌, List, [], ◌∷◌, length, take, take_all, get_or, refl, sym, ap, ◌∙◌, arith, subst, All, append-nil, length-append}
+use Rattle.std.proofs.{lemmas.Bool.{eqb-true}, lemmas.List.Concat.{flat_map-append}, lemmas.List.Elements.{All-append}, lemmas.List.Sums.{sum_by_more}}
 use Rattle.std.specs.Prelude.{true}
-use Rattle.std.proofs.lemmas.Bool.{eqb-true}
-use Rattle.std.proofs.lemmas.List.Concat.{flat_map-append}
-use Rattle.std.proofs.lemmas.List.Elements.{All-append}
-use Rattle.std.proofs.lemmas.List.Sums.{sum_by_more}
 use Rattle.gs_card.specs.Decks.{DeckValue, kinds}
-use Rattle.gs_game.specs.Limits.{IsDealable}
-use Rattle.gs_game.specs.Refusals.{ranks, own_cards as own_count, public_cards as public_count}
-use Rattle.gs_model.specs.Betting.{even}
-use Rattle.gs_model.specs.Game.{Game, Round, Ranking, High, Pair, Three, round_at, round_count}
+use Rattle.gs_game.specs.{Limits.{IsDealable}, Refusals.{ranks, own_cards as own_count, public_cards as public_count}}
+use Rattle.gs_model.specs.{Betting.{even}, Game.{Game, Round, Ranking, High, Pair, Three, round_at, round_count}}
 use Rattle.gs_model.specs.Signals.{Seen, Signal, signals, signal_at, parents, own_cards, public_cards}
 use Rattle.gs_rank.specs.Hands.{IsHand, IsSized}
 use Rattle.gs_tree.specs.Layers.{last_seen}
-use Rattle.gs_tree.proofs.Dealt.{last_is_shown}
-use Rattle.gs_tree.proofs.Lookups.{grown_from}
+use Rattle.gs_tree.proofs.{Dealt.{last_is_shown}, Lookups.{grown_from}}
 
 pub own_cards-push : (s : Signal) (p : Seen) → own_cards (s ++ p ∷ []) ≡ own_cards s ++ p.own
 own_cards-push s p = flat_map-append (λ (q : Seen). q.own) s (p ∷ []) ∙ ap (λ x. own_cards s ++ x) (append-nil p.own)

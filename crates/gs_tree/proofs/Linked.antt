@@ -1,17 +1,12 @@
 -- Tables of equal keys: for each place the first one with its key and the next one, made place by place.
 use Rattle.std.proofs.Common.{◌≡◌, ◌≢◌, ◌⊎◌, inl, inr, ⊎_elim, ℕ, zero, suc, ◌+◌, ◌<◌, ◌≤◌, ◌++◌, List, [], ◌∷◌, length, take, take_all, get_or, set, replicate, refl, sym, ap, ◌∙◌, arith, subst, Bool, true, false, cond, Option, Some, None, length-append, length-set, get_or-set_same, get_or-set_other, get_or-take}
-use Rattle.std.proofs.lemmas.Bool.{cases_eq, cases_lt, true≢false}
-use Rattle.std.proofs.lemmas.Bool.Decides.{Decides-eqb}
-use Rattle.std.proofs.lemmas.List.{get_or_append_left, get_or-replicate, length-replicate, take_more, take_more_set}
-use Rattle.std.proofs.lemmas.Slice.Eq.{slice_eq-Decides}
+use Rattle.std.proofs.{lemmas.Bool.{cases_eq, cases_lt, true≢false}, lemmas.Bool.Decides.{Decides-eqb}}
+use Rattle.std.proofs.{lemmas.List.{get_or_append_left, get_or-replicate, length-replicate, take_more, take_more_set}, lemmas.Slice.Eq.{slice_eq-Decides}}
 use Rattle.std.proofs.Math.Seq.{get_or-append_seam}
-use Rattle.std.specs.Bool.{Decides}
-use Rattle.std.specs.Prelude.{IfSome, nat_eq, slice_set}
+use Rattle.std.specs.{Bool.{Decides}, Prelude.{IfSome, nat_eq, slice_set}}
 use lib.Pointwise.{pointwise}
-use Rattle.gs_model.specs.Game.{Game, round_count}
-use Rattle.gs_model.specs.Signals.{public_cards, signal_at}
-use Rattle.gs_tree.specs.Boards.{AreBoards, first_beside, linked}
-use Rattle.gs_tree.specs.Walk.{last_count}
+use Rattle.gs_model.specs.{Game.{Game, round_count}, Signals.{public_cards, signal_at}}
+use Rattle.gs_tree.specs.{Boards.{AreBoards, first_beside, linked}, Walk.{last_count}}
 use Rattle.gs_tree.proofs.Same.{same_list, other_list}
 
 -- the last place below n with this key

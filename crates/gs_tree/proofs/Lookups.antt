@@ -1,26 +1,15 @@
 -- What the tables say of one signal.
 use Rattle.std.proofs.Common.{◌≡◌, ℕ, zero, suc, ◌+◌, ◌-◌, ◌<◌, ◌≤◌, List, [], ◌∷◌, ◌++◌, length, map, get_or, refl, sym, ap, ◌∙◌, arith, subst, ⊎_elim, length-append, All, append-nil, append_assoc, vec_len}
-use Rattle.std.specs.Prelude.{flat_map}
-use Rattle.std.specs.Global.{Vec}
-use Rattle.std.proofs.lemmas.Bool.{cases_lt}
-use Rattle.std.proofs.lemmas.List.{length-map, get_or-map, get_or_append_left, get_or-append_right}
-use Rattle.std.proofs.Math.Seq.{get_or-append_seam}
-use Rattle.gs_game.specs.Games.{round_of}
-use Rattle.gs_game.specs.declared.game.Round.{Round as GameRound}
-use Rattle.gs_model.specs.Game.{Game, Round, round_at}
-use Rattle.gs_model.specs.Signals.{Seen, Signal, edge, last_edge, left_by, owners, showings, signals, signal_at, parents}
-use Rattle.gs_card.specs.Decks.{DeckValue}
-use Rattle.gs_tree.specs.Texts.{signal_text, rounds_text, seen_text}
-use Rattle.gs_tree.specs.Layers.{last_seen}
-use Rattle.gs_tree.specs.Shown.{seen_of, cards_of}
-use Rattle.gs_tree.specs.Tables.{IsLayer, AreTables}
-use Rattle.gs_tree.specs.declared.layer.Layer.{Layer}
-use Rattle.gs_tree.specs.declared.layer.Shown.{Shown}
+use Rattle.std.proofs.{lemmas.Bool.{cases_lt}, lemmas.List.{length-map, get_or-map, get_or_append_left, get_or-append_right}, Math.Seq.{get_or-append_seam}}
+use Rattle.std.specs.{Prelude.{flat_map}, Global.{Vec}}
+use Rattle.gs_game.specs.{Games.{round_of}, declared.game.Round.{Round as GameRound}}
+use Rattle.gs_model.specs.{Game.{Game, Round, round_at}, Signals.{Seen, Signal, edge, last_edge, left_by, owners, showings, signals, signal_at, parents}}
 use Rattle.gs_model.specs.Cards.{left_after}
-use Rattle.gs_model.proofs.Ranges.{length-parents}
-use Rattle.gs_model.proofs.Listed.{left_by-push}
-use Rattle.gs_tree.proofs.Grown.{last_seen-push, nothing_seen}
-use Rattle.gs_tree.proofs.Dealt.{last_is_shown}
+use Rattle.gs_card.specs.Decks.{DeckValue}
+use Rattle.gs_tree.specs.{Texts.{signal_text, rounds_text, seen_text}, Layers.{last_seen}, Shown.{seen_of, cards_of}, Tables.{IsLayer, AreTables}}
+use Rattle.gs_tree.specs.{declared.layer.Layer.{Layer}, declared.layer.Shown.{Shown}}
+use Rattle.gs_model.proofs.{Ranges.{length-parents}, Listed.{left_by-push}}
+use Rattle.gs_tree.proofs.{Grown.{last_seen-push, nothing_seen}, Dealt.{last_is_shown}}
 
 -- a signal, its owner and what it adds
 record Child (ss : List Signal) (n owner : ℕ) (s : Signal) : Type 0 where

@@ -2,16 +2,11 @@
 use Rattle.std.proofs.Common.{◌≡◌, ℕ, zero, suc, ◌/◌, ◌%◌, ◌<◌, ◌≤◌, List, [], ◌∷◌, ◌++◌, length, get_or, refl, sym, ap, ◌∙◌, arith, subst, All, ⊎_elim, length-append}
 use Rattle.std.proofs.lemmas.Bool.{cases_lt}
 use Rattle.gs_card.specs.Decks.{DeckValue, IsDeck, card_text, kinds}
-use Rattle.gs_card.proofs.KindLaws.{number_of_places, some_suits, row_below}
-use Rattle.gs_card.proofs.Letters.{one_place}
-use Rattle.gs_model.specs.Game.{Game}
-use Rattle.gs_model.specs.Signals.{Seen, Signal, signals, signal_at, parents}
+use Rattle.gs_card.proofs.{KindLaws.{number_of_places, some_suits, row_below}, Letters.{one_place}}
+use Rattle.gs_model.specs.{Game.{Game}, Signals.{Seen, Signal, signals, signal_at, parents}}
 use Rattle.gs_model.proofs.Facing.{signals_differ}
-use Rattle.gs_tree.specs.Layers.{last_seen}
-use Rattle.gs_tree.specs.Texts.{group_text, public_text, seen_text, rounds_text, signal_text}
-use Rattle.gs_tree.proofs.Dealt.{last_is_shown}
-use Rattle.gs_tree.proofs.Lookups.{grown_from}
-use Rattle.gs_tree.proofs.Same.{parted, shapes, shaped}
+use Rattle.gs_tree.specs.{Layers.{last_seen}, Texts.{group_text, public_text, seen_text, rounds_text, signal_text}}
+use Rattle.gs_tree.proofs.{Dealt.{last_is_shown}, Lookups.{grown_from}, Same.{parted, shapes, shaped}}
 
 -- two letters tell a card
 card_once : (d : DeckValue) (a b : ℕ) → IsDeck d → a < kinds d → b < kinds d → card_text d a ≡ card_text d b → a ≡ b

@@ -1,20 +1,11 @@
 -- The pairs of last-round signals by number: row by row, all of them, one row, one step.
 use Rattle.std.proofs.Common.{◌≡◌, ◌≢◌, ℕ, zero, suc, ◌+◌, ◌-◌, ◌*◌, ◌/◌, ◌%◌, ◌<◌, ◌≤◌, List, [], ◌∷◌, ◌++◌, length, map, get_or, refl, sym, ap, ◌∙◌, arith, Bool, true, false, cond, nat_lt, eqb, ⊎_elim}
-use Rattle.std.specs.Prelude.{filter, flat_map, ◌==◌}
-use Rattle.std.specs.List.{range_with_len, enumerate_from}
-use Rattle.std.proofs.lemmas.Bool.{cases_eq}
-use Rattle.std.proofs.lemmas.List.{map-append, append-nil}
-use Rattle.std.proofs.lemmas.List.Folds.{flat_map-map}
-use Rattle.std.proofs.lemmas.List.FromFn.{fill_by_all, length-enumerate_from, get_or-enumerate_from}
-use Rattle.std.proofs.lemmas.Bool.Decides.{Decides-eqb}
-use Rattle.std.proofs.lemmas.Nat.{div-mul-add, mod-mul-add}
-use Rattle.std.proofs.lemmas.Simd.{map-map}
-use Rattle.gs_model.specs.Deals.{Deal, deal_of, deals, pairings}
-use Rattle.gs_model.specs.Game.{Game, round_count}
-use Rattle.gs_model.specs.Signals.{Signal, signal_at, signals}
-use Rattle.gs_model.proofs.Exchanged.{filter-flat_map}
-use Rattle.gs_model.proofs.Basics.{flat_map-same, range_step, range_end}
-use Rattle.gs_model.proofs.Sparse.{range_append}
+use Rattle.std.proofs.{lemmas.Bool.{cases_eq}, lemmas.List.{map-append, append-nil}, lemmas.List.Folds.{flat_map-map}}
+use Rattle.std.proofs.{lemmas.List.FromFn.{fill_by_all, length-enumerate_from, get_or-enumerate_from}, lemmas.Bool.Decides.{Decides-eqb}}
+use Rattle.std.proofs.{lemmas.Nat.{div-mul-add, mod-mul-add}, lemmas.Simd.{map-map}}
+use Rattle.std.specs.{Prelude.{filter, flat_map, ◌==◌}, List.{range_with_len, enumerate_from}}
+use Rattle.gs_model.specs.{Deals.{Deal, deal_of, deals, pairings}, Game.{Game, round_count}, Signals.{Signal, signal_at, signals}}
+use Rattle.gs_model.proofs.{Exchanged.{filter-flat_map}, Basics.{flat_map-same, range_step, range_end}, Sparse.{range_append}}
 use Rattle.gs_tree.specs.Walk.{deal_at, deals_between, last_count, pair_at}
 
 -- ---- one step

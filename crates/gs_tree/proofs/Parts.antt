@@ -1,10 +1,7 @@
 -- The cards of a signal, kept behind those of the one before.
-use Rattle.std.proofs.Common.{◌≡◌, ◌+◌, ◌*◌, ◌<◌, ◌≤◌, ◌∙◌, ℕ, List, [], length, take, drop, get_or, ap, arith}
+use Rattle.std.proofs.{Common.{◌≡◌, ◌+◌, ◌*◌, ◌<◌, ◌≤◌, ◌∙◌, ℕ, List, [], length, take, drop, get_or, ap, arith}, lemmas.List.{length-map}}
 use Rattle.std.specs.Prelude.{flat_map}
-use Rattle.std.proofs.lemmas.List.{length-map}
-use Rattle.gs_model.specs.Deals.{path_weight}
-use Rattle.gs_model.specs.Game.{Game}
-use Rattle.gs_model.specs.Signals.{Signal, own_cards, public_cards, signal_at, signals}
+use Rattle.gs_model.specs.{Deals.{path_weight}, Game.{Game}, Signals.{Signal, own_cards, public_cards, signal_at, signals}}
 use Rattle.gs_tree.specs.Kept.{AreHands}
 use Rattle.gs_tree.proofs.Rows.{part_in, part_is, parts_length}
 

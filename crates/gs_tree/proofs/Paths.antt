@@ -1,20 +1,12 @@
 -- The weights of edges and of the way to a signal.
 use Rattle.std.proofs.Common.{◌≡◌, ℕ, zero, suc, ◌-◌, ◌*◌, ◌^◌, ◌<◌, ◌≤◌, List, [], ◌∷◌, length, get_or, refl, sym, ap, ◌∙◌, arith, subst, All}
 use Rattle.std.proofs.Math.Nat.{pow-succ'}
-use Rattle.gs_model.specs.Cards.{ways, left_after}
-use Rattle.gs_model.specs.Deals.{path_weight}
-use Rattle.gs_model.specs.Game.{Game, Round, round_at, round_count}
-use Rattle.gs_model.specs.Signals.{Seen, Signal, signals, signal_at, parents, last_edge, edge, left_by}
-use Rattle.gs_model.specs.Betting.{even}
-use Rattle.gs_model.proofs.Children.{last_edge-push, path_weight-push}
-use Rattle.gs_model.proofs.Basics.{product_le}
-use Rattle.gs_model.proofs.Listed.{length-after}
-use Rattle.gs_model.proofs.Beside.{length-left_by}
+use Rattle.gs_model.specs.{Cards.{ways, left_after}, Deals.{path_weight}, Game.{Game, Round, round_at, round_count}}
+use Rattle.gs_model.specs.{Signals.{Seen, Signal, signals, signal_at, parents, last_edge, edge, left_by}, Betting.{even}}
+use Rattle.gs_model.proofs.{Children.{last_edge-push, path_weight-push}, Basics.{product_le}, Listed.{length-after}, Beside.{length-left_by}}
 use Rattle.gs_game.specs.Limits.{IsDealable}
 use Rattle.gs_tree.specs.Layers.{last_seen}
-use Rattle.gs_tree.proofs.Taken.{ways_power, few_left}
-use Rattle.gs_tree.proofs.Dealt.{IsShown, last_is_shown}
-use Rattle.gs_tree.proofs.Lookups.{IsChild, is_child}
+use Rattle.gs_tree.proofs.{Taken.{ways_power, few_left}, Dealt.{IsShown, last_is_shown}, Lookups.{IsChild, is_child}}
 
 left_small : (left : List ℕ) (s : Signal) → All (λ c. c ≤ 9) left → All (λ c. c ≤ 9) (left_by left s)
 left_small left [] h = h

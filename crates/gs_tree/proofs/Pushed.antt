@@ -1,11 +1,10 @@
 -- Lists that grow by what the members of another list give.
 use Rattle.std.proofs.Common.{◌≡◌, ℕ, ◌+◌, ◌*◌, ◌<◌, List, [], ◌∷◌, ◌++◌, length, map, take, get_or, refl, sym, ap, ◌∙◌, append_assoc}
+use Rattle.std.proofs.lemmas.List.{take_more, map-append, flat_map_more}
 use Rattle.std.specs.Prelude.{flat_map}
-use Rattle.gs_model.specs.Cards.{groups, ways, left_after}
-use Rattle.gs_model.specs.Signals.{edge}
+use Rattle.gs_model.specs.{Cards.{groups, ways, left_after}, Signals.{edge}}
 use Rattle.gs_model.proofs.Basics.{map-map}
 use Rattle.gs_tree.specs.Layers.{showing}
-use Rattle.std.proofs.lemmas.List.{take_more, map-append, flat_map_more}
 
 -- one more member
 pub mapped_more : {X Y : Type 0} (f : X → Y) (start now : List Y) (xs : List X) (i : ℕ) (d : X) (y : Y) → i < length xs → now ≡ start ++ map f (take i xs)

@@ -1,15 +1,9 @@
 -- What the readers of the tables give.
 use Rattle.std.proofs.Common.{◌≡◌, ℕ, zero, suc, ◌+◌, ◌<◌, ◌≤◌, List, [], ◌∷◌, length, map, take, get_or, refl, sym, ap, ◌∙◌, arith, subst, length-append}
-use Rattle.std.specs.Prelude.{flat_map}
-use Rattle.std.specs.List.{range_with_len}
-use Rattle.std.specs.Global.{Vec}
-use Rattle.std.proofs.lemmas.List.{take_more, length-map}
-use Rattle.std.proofs.lemmas.List.Concat.{flat_map-append}
-use Rattle.std.proofs.lemmas.List.FromFn.{get_or-map-range_with_len, fill_by_all}
-use Rattle.gs_model.specs.Game.{Game, round_at}
-use Rattle.gs_model.specs.Signals.{Signal, signals, parents, children, first_child, child_count}
-use Rattle.gs_tree.specs.Tables.{AreTables}
-use Rattle.gs_tree.specs.declared.layer.Layer.{Layer}
+use Rattle.std.proofs.{lemmas.List.{take_more, length-map}, lemmas.List.Concat.{flat_map-append}, lemmas.List.FromFn.{get_or-map-range_with_len, fill_by_all}}
+use Rattle.std.specs.{Prelude.{flat_map}, List.{range_with_len}, Global.{Vec}}
+use Rattle.gs_model.specs.{Game.{Game, round_at}, Signals.{Signal, signals, parents, children, first_child, child_count}}
+use Rattle.gs_tree.specs.{Tables.{AreTables}, declared.layer.Layer.{Layer}}
 
 -- the children of one signal more
 pub first_next : (g : Game) (round i : ℕ) → i < length (signals g round) → first_child g round (i + 1) ≡ first_child g round i + child_count g round i

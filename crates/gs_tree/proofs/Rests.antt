@@ -1,15 +1,10 @@
 -- What follows the beginning of a text.
 use Rattle.std.proofs.Common.{◌≡◌, ℕ, ◌-◌, ◌<◌, List, [], ◌∷◌, ◌++◌, length, get_or, refl, sym, ap, ◌∙◌, append_assoc, arith, Option, Some, None, Bor, false}
+use Rattle.std.proofs.{lemmas.Bool.{false≢true}, lemmas.List.{append_cancel_left}}
 use Rattle.std.specs.Prelude.{◌==◌}
-use Rattle.std.proofs.lemmas.Bool.{false≢true}
-use Rattle.std.proofs.lemmas.List.{append_cancel_left}
 use Rattle.gs_card.specs.Decks.{DeckValue}
-use Rattle.gs_model.specs.Game.{Game}
-use Rattle.gs_model.specs.Signals.{Seen, signals, signal_at, parents}
-use Rattle.gs_tree.specs.Layers.{last_seen}
-use Rattle.gs_tree.specs.Shown.{seen_of}
-use Rattle.gs_tree.specs.Texts.{IsRest, group_text, public_text, seen_text, signal_text}
-use Rattle.gs_tree.specs.declared.layer.Shown.{Shown}
+use Rattle.gs_model.specs.{Game.{Game}, Signals.{Seen, signals, signal_at, parents}}
+use Rattle.gs_tree.specs.{Layers.{last_seen}, Shown.{seen_of}, Texts.{IsRest, group_text, public_text, seen_text, signal_text}, declared.layer.Shown.{Shown}}
 use Rattle.gs_tree.proofs.Lookups.{is_child, text_later}
 
 -- what follows two parts is what follows the second behind the first

@@ -1,21 +1,13 @@
 -- What the tables tell of the signals of the next round, and what is kept of these from the round before.
 use Rattle.std.proofs.Common.{◌≡◌, ℕ, zero, suc, ◌-◌, ◌*◌, ◌^◌, ◌<◌, ◌≤◌, ◌++◌, List, [], ◌∷◌, length, map, get_or, replicate, refl, sym, ap, ◌∙◌, arith, subst, All}
-use Rattle.std.proofs.lemmas.Grind.{get_or_default_zero}
-use Rattle.std.proofs.lemmas.List.{get_or-map, get_or-replicate, length-map, length-replicate}
+use Rattle.std.proofs.{lemmas.Grind.{get_or_default_zero}, lemmas.List.{get_or-map, get_or-replicate, length-map, length-replicate}}
 use Rattle.std.specs.Global.{Vec}
 use Rattle.gs_game.specs.Limits.{IsDealable}
-use Rattle.gs_model.specs.Deals.{path_weight}
-use Rattle.gs_model.specs.Game.{Game, round_count}
+use Rattle.gs_model.specs.{Deals.{path_weight}, Game.{Game, round_count}}
 use Rattle.gs_model.specs.Signals.{Seen, Signal, last_edge, own_cards, parents, public_cards, signal_at, signals}
 use Rattle.gs_model.proofs.Ranges.{length-parents}
-use Rattle.gs_tree.specs.Kept.{AreHands}
-use Rattle.gs_tree.specs.Layers.{last_seen}
-use Rattle.gs_tree.specs.Shown.{seen_of}
-use Rattle.gs_tree.specs.Tables.{AreTables}
-use Rattle.gs_tree.specs.declared.layer.Layer.{Layer}
-use Rattle.gs_tree.specs.declared.layer.Shown.{Shown}
-use Rattle.gs_tree.proofs.Lookups.{is_child, layer_of}
-use Rattle.gs_tree.proofs.Paths.{last_edge_small, path_small, path_step, power_fits, power_step}
+use Rattle.gs_tree.specs.{Kept.{AreHands}, Layers.{last_seen}, Shown.{seen_of}, Tables.{AreTables}, declared.layer.Layer.{Layer}, declared.layer.Shown.{Shown}}
+use Rattle.gs_tree.proofs.{Lookups.{is_child, layer_of}, Paths.{last_edge_small, path_small, path_step, power_fits, power_step}}
 
 -- what the tables hold of a signal of the round after the first n
 pub record IsTold (g : Game) (n i p : ℕ) (row : List ℕ) (l : Layer) : Type 0 where

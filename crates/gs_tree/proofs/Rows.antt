@@ -1,28 +1,15 @@
 -- Lists of equal parts, and the rounds of a signal.
 use Rattle.std.proofs.Common.{◌≡◌, ℕ, zero, suc, ◌+◌, ◌-◌, ◌*◌, ◌^◌, ◌/◌, ◌<◌, ◌≤◌, ◌++◌, List, [], ◌∷◌, length, map, take, drop, get_or, refl, sym, ap, ◌∙◌, arith, subst, length-append, ⊎_elim, All}
-use Rattle.std.specs.Prelude.{flat_map, max}
-use Rattle.std.specs.List.{between}
 use Rattle.std.proofs.lemmas.Bool.{cases_lt}
 use Rattle.std.proofs.lemmas.List.{take_at, drop_at, take_more, drop_more, take-append-drop, get_or_append_left, get_or_push, get_or-map, length-map, length_push}
-use Rattle.std.proofs.lemmas.List.Concat.{flat_map-append}
-use Rattle.std.proofs.lemmas.Slice.{between_from_start}
-use Rattle.std.proofs.Math.Nat.{pow-succ', mul-div_cancel_left}
-use Rattle.gs_model.specs.Cards.{ways, left_after}
-use Rattle.gs_model.specs.Deals.{own_ways}
-use Rattle.gs_game.specs.Games.{round_of}
-use Rattle.gs_game.specs.declared.game.Round.{Round as GameRound}
-use Rattle.gs_model.specs.Betting.{even}
-use Rattle.gs_game.specs.Limits.{IsDealable}
-use Rattle.gs_model.specs.Game.{Game, Round, round_at, round_count}
+use Rattle.std.proofs.{lemmas.List.Concat.{flat_map-append}, lemmas.Slice.{between_from_start}, Math.Nat.{pow-succ', mul-div_cancel_left}}
+use Rattle.std.specs.{Prelude.{flat_map, max}, List.{between}}
+use Rattle.gs_model.specs.{Cards.{ways, left_after}, Deals.{own_ways}, Betting.{even}, Game.{Game, Round, round_at, round_count}}
 use Rattle.gs_model.specs.Signals.{Seen, Signal, own_cards, parents, signal_at, signals}
+use Rattle.gs_game.specs.{Games.{round_of}, declared.game.Round.{Round as GameRound}, Limits.{IsDealable}}
 use Rattle.gs_model.proofs.Basics.{product_le}
-use Rattle.gs_tree.specs.Layers.{last_seen}
-use Rattle.gs_tree.specs.Walk.{last_count}
-use Rattle.gs_tree.proofs.Beside.{own_ways-push}
-use Rattle.gs_tree.proofs.Dealt.{IsShown, last_is_shown}
-use Rattle.gs_tree.proofs.Hands.{own_cards-push}
-use Rattle.gs_tree.proofs.Lookups.{grown_from}
-use Rattle.gs_tree.proofs.Grown.{nothing_seen}
+use Rattle.gs_tree.specs.{Layers.{last_seen}, Walk.{last_count}}
+use Rattle.gs_tree.proofs.{Beside.{own_ways-push}, Dealt.{IsShown, last_is_shown}, Hands.{own_cards-push}, Lookups.{grown_from}, Grown.{nothing_seen}}
 
 -- ---- lists of equal parts
 

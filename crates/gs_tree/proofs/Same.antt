@@ -1,14 +1,10 @@
 -- Signals of one round that show the same public cards.
 use Rattle.std.proofs.Common.{◌≡◌, ℕ, zero, suc, ◌<◌, ◌++◌, List, [], ◌∷◌, length, get_or, refl, sym, ap, ◌∙◌, arith, Bool, true, false}
 use Rattle.std.specs.Prelude.{◌&&◌}
-use Rattle.gs_model.specs.Deals.{same_cards, same_public}
-use Rattle.gs_model.specs.Game.{Game, round_at}
-use Rattle.gs_model.specs.Signals.{Seen, Signal, signals, signal_at, parents, public_cards}
-use Rattle.gs_model.proofs.Children.{same_cards-self}
-use Rattle.gs_model.proofs.Exchanged.{and_both, same_cards-is}
+use Rattle.gs_model.specs.{Deals.{same_cards, same_public}, Game.{Game, round_at}, Signals.{Seen, Signal, signals, signal_at, parents, public_cards}}
+use Rattle.gs_model.proofs.{Children.{same_cards-self}, Exchanged.{and_both, same_cards-is}}
 use Rattle.gs_tree.specs.Layers.{last_seen}
-use Rattle.gs_tree.proofs.Dealt.{last_is_shown}
-use Rattle.gs_tree.proofs.Lookups.{grown_from}
+use Rattle.gs_tree.proofs.{Dealt.{last_is_shown}, Lookups.{grown_from}}
 
 pub public_self : (s : Signal) → same_public s s ≡ true
 public_self [] = refl

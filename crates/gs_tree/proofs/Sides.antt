@@ -1,18 +1,11 @@
 -- The cards of signals on one side, round by round.
 use Rattle.std.proofs.Common.{◌≡◌, ℕ, suc, ◌-◌, ◌*◌, ◌<◌, ◌++◌, List, [], ◌∷◌, length, map, drop, take, get_or, refl, sym, ap, ◌∙◌, append-nil, arith}
-use Rattle.std.specs.Prelude.{flat_map}
 use Rattle.std.proofs.lemmas.List.{drop_more, get_or-map}
-use Rattle.gs_game.specs.Games.{round_of}
-use Rattle.gs_game.specs.declared.game.Round.{Round as GameRound}
-use Rattle.gs_model.specs.Betting.{even}
-use Rattle.gs_model.specs.Game.{Game, Round, round_at}
-use Rattle.gs_model.specs.Signals.{Seen, Signal, own_cards, public_cards, signal_at, signals}
-use Rattle.gs_tree.specs.Layers.{last_seen}
-use Rattle.gs_tree.specs.Shown.{cards_on, seen_on, shown_by}
-use Rattle.gs_tree.specs.declared.layer.Side.{Side}
-use Rattle.gs_tree.specs.declared.layer.Side.TheVariants.{Own, Public}
-use Rattle.gs_tree.proofs.Dealt.{last_is_shown}
-use Rattle.gs_tree.proofs.Hands.{own_cards-push, public_cards-push}
+use Rattle.std.specs.Prelude.{flat_map}
+use Rattle.gs_game.specs.{Games.{round_of}, declared.game.Round.{Round as GameRound}}
+use Rattle.gs_model.specs.{Betting.{even}, Game.{Game, Round, round_at}, Signals.{Seen, Signal, own_cards, public_cards, signal_at, signals}}
+use Rattle.gs_tree.specs.{Layers.{last_seen}, Shown.{cards_on, seen_on, shown_by}, declared.layer.Side.{Side}, declared.layer.Side.TheVariants.{Own, Public}}
+use Rattle.gs_tree.proofs.{Dealt.{last_is_shown}, Hands.{own_cards-push, public_cards-push}}
 
 -- the cards of a signal: its parent's, and those that it shows last
 own_hand : (s front : Signal) (last : Seen) (part cards : List ℕ) → s ≡ front ++ last ∷ [] → part ≡ own_cards front → cards ≡ last.own

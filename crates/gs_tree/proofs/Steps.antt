@@ -1,15 +1,10 @@
 -- Steps of the walk: pairs that are passed over weigh nothing.
 use Rattle.std.proofs.Common.{◌≡◌, ⊎_elim, ℕ, zero, suc, ◌+◌, ◌-◌, ◌*◌, ◌%◌, ◌<◌, ◌≤◌, List, [], ◌∷◌, get_or, sym, ap, ◌∙◌, arith, true, false, cond, nat_lt, subst}
-use Rattle.std.proofs.lemmas.Bool.{cases_lt, lt-ltb}
-use Rattle.std.proofs.lemmas.Nat.{div-mul-add, mod-mul-add, mul-add-lt}
-use Rattle.gs_model.specs.Deals.{Deal, path_weight, own_ways}
-use Rattle.gs_model.specs.Game.{Game, round_count}
-use Rattle.gs_model.specs.Signals.{signal_at, left_by}
+use Rattle.std.proofs.{lemmas.Bool.{cases_lt, lt-ltb}, lemmas.Nat.{div-mul-add, mod-mul-add, mul-add-lt}}
+use Rattle.gs_model.specs.{Deals.{Deal, path_weight, own_ways}, Game.{Game, round_count}, Signals.{signal_at, left_by}}
 use Rattle.gs_model.proofs.Basics.{product_le}
-use Rattle.gs_tree.specs.Boards.{AreBoards}
-use Rattle.gs_tree.specs.Walk.{deal_at, deals_between, last_count, pair_at, number_of, shows_same, IsOnWalk, IsRowStart, IsNextPair}
-use Rattle.gs_tree.proofs.Pairs.{between_step, between_end}
-use Rattle.gs_tree.proofs.Same.{public_alike}
+use Rattle.gs_tree.specs.{Boards.{AreBoards}, Walk.{deal_at, deals_between, last_count, pair_at, number_of, shows_same, IsOnWalk, IsRowStart, IsNextPair}}
+use Rattle.gs_tree.proofs.{Pairs.{between_step, between_end}, Same.{public_alike}}
 
 skip : (g : Game) (m from to : ℕ) → ((k : ℕ) → from ≤ k → k < from + m → (pair_at g k).weight ≡ 0) → deals_between g from to ≡ deals_between g (from + m) to
 skip g zero from to h = let e : from ≡ from + zero = omega arith in ap (λ n. deals_between g n to) e

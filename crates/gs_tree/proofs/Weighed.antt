@@ -1,23 +1,13 @@
 -- What the deals of a plain game weigh: one for each two signals on a board.
 use Rattle.std.proofs.Common.{◌≡◌, ◌+◌, ◌-◌, ◌*◌, ◌<◌, ◌≤◌, ℕ, List, [], ◌∷◌, length, get_or, refl, sym, ap, ◌∙◌, arith, subst, Bool, true, false, cond, eqb, ⊎_elim}
+use Rattle.std.proofs.{lemmas.Bool.{cases_eq, cases_lt}, lemmas.Grind.{common_steps}}
 use Rattle.std.specs.Prelude.{◌&&◌}
-use Rattle.std.proofs.lemmas.Bool.{cases_eq, cases_lt}
-use Rattle.std.proofs.lemmas.Grind.{common_steps}
-use Rattle.gs_model.specs.Cards.{left_after, ways}
-use Rattle.gs_model.specs.Deals.{own_ways, path_weight, same_cards, same_public}
-use Rattle.gs_model.specs.Game.{Game, round_count}
+use Rattle.gs_model.specs.{Cards.{left_after, ways}, Deals.{own_ways, path_weight, same_cards, same_public}, Game.{Game, round_count}}
 use Rattle.gs_model.specs.Signals.{Seen, Signal, edge, left_by, own_cards, public_cards, signal_at}
-use Rattle.gs_model.proofs.Exchanged.{and_both, same_cards-is}
-use Rattle.gs_model.proofs.Facing.{leaves_are_deals, signals_differ}
-use Rattle.gs_model.proofs.Basics.{factors_positive, product_positive}
-use Rattle.gs_model.proofs.Listed.{length-after, left_at}
-use Rattle.gs_model.proofs.Beside.{length-left_by}
-use Rattle.gs_model.proofs.SingleCards.{product-le_one}
-use Rattle.gs_tree.specs.Walk.{deal_at, last_count, shows_same}
-use Rattle.gs_tree.proofs.Beside.{left_by_cards, times-append}
-use Rattle.gs_tree.proofs.Hands.{dealt}
-use Rattle.gs_tree.proofs.Same.{one_list, parted, shaped, shapes}
-use Rattle.gs_tree.specs.Plain.{IsPlain}
+use Rattle.gs_model.proofs.{Exchanged.{and_both, same_cards-is}, Facing.{leaves_are_deals, signals_differ}, Basics.{factors_positive, product_positive}}
+use Rattle.gs_model.proofs.{Listed.{length-after, left_at}, Beside.{length-left_by}, SingleCards.{product-le_one}}
+use Rattle.gs_tree.specs.{Walk.{deal_at, last_count, shows_same}, Plain.{IsPlain}}
+use Rattle.gs_tree.proofs.{Beside.{left_by_cards, times-append}, Hands.{dealt}, Same.{one_list, parted, shaped, shapes}}
 use Rattle.gs_game.proofs.Ways.{Single, single_after, times, ways_one, ways_room, ways_some}
 
 -- the ways to a signal and to own groups are one at most

@@ -1,14 +1,9 @@
 -- A deal weighs no more than all deals.
 use Rattle.std.proofs.Common.{◌≡◌, ℕ, zero, suc, ◌+◌, ◌-◌, ◌*◌, ◌/◌, ◌%◌, ◌<◌, ◌≤◌, List, [], ◌∷◌, length, map, get_or, sym, ap, ◌∙◌, arith, subst, Bool, true, false, cond, nat_lt, ⊎_elim}
-use Rattle.std.specs.Prelude.{filter, sum_by}
-use Rattle.std.specs.List.{range_with_len}
-use Rattle.std.proofs.lemmas.Bool.{cases_lt, lt-ltb}
-use Rattle.std.proofs.lemmas.List.FromFn.{get_or-map-range_with_len, length-map-range_with_len}
-use Rattle.std.proofs.lemmas.List.Sums.{sum_by-cons}
-use Rattle.std.proofs.lemmas.Nat.{div-mul-add, mod-mul-add, mul-add-lt}
-use Rattle.gs_model.specs.Deals.{Deal}
-use Rattle.gs_model.specs.Frame.{frame_of, total_weight}
-use Rattle.gs_model.specs.Game.{Game}
+use Rattle.std.proofs.{lemmas.Bool.{cases_lt, lt-ltb}, lemmas.List.FromFn.{get_or-map-range_with_len, length-map-range_with_len}}
+use Rattle.std.proofs.{lemmas.List.Sums.{sum_by-cons}, lemmas.Nat.{div-mul-add, mod-mul-add, mul-add-lt}}
+use Rattle.std.specs.{Prelude.{filter, sum_by}, List.{range_with_len}}
+use Rattle.gs_model.specs.{Deals.{Deal}, Frame.{frame_of, total_weight}, Game.{Game}}
 use Rattle.gs_tree.specs.Walk.{deal_at, last_count, pair_at}
 use Rattle.gs_tree.proofs.Pairs.{all_pairs}
 

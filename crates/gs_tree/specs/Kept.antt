@@ -1,9 +1,7 @@
 -- What is kept of the last-round signals to weigh deals: the ways to take what each shows, and its own and public cards, one signal after the other. It is
 -- made round by round.
 use Rattle.std.specs.Prelude.{ℕ, ◌≡◌, ◌<◌, List, length, map, flat_map}
-use Rattle.gs_model.specs.Deals.{path_weight}
-use Rattle.gs_model.specs.Game.{Game}
-use Rattle.gs_model.specs.Signals.{own_cards, public_cards, signal_at, signals}
+use Rattle.gs_model.specs.{Deals.{path_weight}, Game.{Game}, Signals.{own_cards, public_cards, signal_at, signals}}
 
 -- for each signal of a round the ways to take what it shows, its own cards and its public cards; each signal has `own` own and `public` public cards
 pub record AreHands (g : Game) (round : ℕ) (paths owns publics : List ℕ) (own public : ℕ) : Type 0 where

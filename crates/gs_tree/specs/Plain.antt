@@ -1,7 +1,6 @@
 -- Games in which any two different last-round signals with the same public cards are equally likely.
 use Rattle.std.specs.Prelude.{ℕ, ◌≡◌, ◌<◌, ◌≤◌, length, slice_index}
-use Rattle.gs_model.specs.Game.{Game, round_count}
-use Rattle.gs_model.specs.Signals.{own_cards, signal_at}
+use Rattle.gs_model.specs.{Game.{Game, round_count}, Signals.{own_cards, signal_at}}
 use Rattle.gs_tree.specs.Walk.{last_count}
 
 -- no kind of card has more than one copy, and each player is dealt one private card

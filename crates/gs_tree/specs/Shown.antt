@@ -1,10 +1,7 @@
 -- What the tables of signals keep for each signal: the groups that its last round shows.
 use Rattle.std.specs.Prelude.{ℕ, List, take}
-use Rattle.gs_model.specs.Game.{Round}
-use Rattle.gs_model.specs.Signals.{Seen, Signal, own_cards, public_cards}
-use Rattle.gs_tree.specs.declared.few.FewCards.{FewCards}
-use Rattle.gs_tree.specs.declared.layer.Shown.{Shown}
-use Rattle.gs_tree.specs.declared.layer.Side.{Side}
+use Rattle.gs_model.specs.{Game.{Round}, Signals.{Seen, Signal, own_cards, public_cards}}
+use Rattle.gs_tree.specs.{declared.few.FewCards.{FewCards}, declared.layer.Shown.{Shown}, declared.layer.Side.{Side}}
 use Rattle.gs_tree.specs.declared.layer.Side.TheVariants.{Own, Public}
 
 -- the cards of a small group

@@ -1,12 +1,7 @@
 -- What the tables of signals hold, round by round.
-use Rattle.std.specs.Prelude.{ℕ, suc, ◌≡◌, ◌<◌, ◌+◌, List, length, map, slice_index_or}
-use Rattle.std.specs.List.{range_with_len}
-use Rattle.std.specs.Global.{Vec}
-use Rattle.gs_model.specs.Game.{Game}
-use Rattle.gs_model.specs.Signals.{Seen, signals, parents, last_edge, first_child}
-use Rattle.gs_tree.specs.Layers.{last_seen}
-use Rattle.gs_tree.specs.Shown.{seen_of}
-use Rattle.gs_tree.specs.declared.layer.Layer.{Layer}
+use Rattle.std.specs.{Prelude.{ℕ, suc, ◌≡◌, ◌<◌, ◌+◌, List, length, map, slice_index_or}, List.{range_with_len}, Global.{Vec}}
+use Rattle.gs_model.specs.{Game.{Game}, Signals.{Seen, signals, parents, last_edge, first_child}}
+use Rattle.gs_tree.specs.{Layers.{last_seen}, Shown.{seen_of}, declared.layer.Layer.{Layer}}
 
 -- what the last rounds of a layer's signals show
 abbrev pub shown_in : Layer → List Seen

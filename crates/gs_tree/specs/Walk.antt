@@ -1,9 +1,6 @@
 -- The walk over the deals of a game: pairs of last-round signals in order. Pairs that no deal has are passed over.
-use Rattle.std.specs.Prelude.{ℕ, ◌≡◌, ◌<◌, ◌≤◌, ◌+◌, ◌-◌, ◌*◌, ◌/◌, ◌%◌, Bool, true, List, filter, map, length, nat_lt}
-use Rattle.std.specs.List.{range_with_len}
-use Rattle.gs_model.specs.Deals.{Deal, deal_of, same_public}
-use Rattle.gs_model.specs.Game.{Game, round_count}
-use Rattle.gs_model.specs.Signals.{signal_at, signals}
+use Rattle.std.specs.{Prelude.{ℕ, ◌≡◌, ◌<◌, ◌≤◌, ◌+◌, ◌-◌, ◌*◌, ◌/◌, ◌%◌, Bool, true, List, filter, map, length, nat_lt}, List.{range_with_len}}
+use Rattle.gs_model.specs.{Deals.{Deal, deal_of, same_public}, Game.{Game, round_count}, Signals.{signal_at, signals}}
 
 -- the number of last-round signals
 abbrev pub last_count : Game → ℕ

@@ -1,13 +1,9 @@
 -- One option more, and one command more.
 use Rattle.std.proofs.Common.{◌≡◌, ◌++◌, ◌||◌, ℕ, ◌+◌, ◌<◌, List, [], ◌∷◌, Bool, false, refl, ap, sym, subst, ◌∙◌, length, take, get_or, add-one}
-use Rattle.std.proofs.Math.Seq.{take-length, take-suc}
-use Rattle.std.proofs.lemmas.List.Sums.{fold-append}
-use Rattle.clap.specs.Words.{AddsArg, AddsSubcommand, App, Rule, rule_of, shape_of, with_rule, with_subcommand}
-use Rattle.clap.specs.declared.builder.arg.Arg.{Arg}
+use Rattle.std.proofs.{Math.Seq.{take-length, take-suc}, lemmas.List.Sums.{fold-append}}
+use Rattle.clap.specs.{Words.{AddsArg, AddsSubcommand, App, Rule, rule_of, shape_of, with_rule, with_subcommand}, declared.builder.arg.Arg.{Arg}}
 use Rattle.clap.specs.declared.builder.command.Command.{Command}
-use Rattle.gs_words.specs.Commands.{OptionOf}
-use Rattle.gs_words.specs.Program.{Is, app_for, bare, rule_for, with_commands}
-use Rattle.gs_words.specs.declared.names.CommandName.{CommandName}
+use Rattle.gs_words.specs.{Commands.{OptionOf}, Program.{Is, app_for, bare, rule_for, with_commands}, declared.names.CommandName.{CommandName}}
 
 neither : (a b : Bool) → a ≡ false → b ≡ false → (a || b) ≡ false
 neither a b e f = rw (e, f) refl

@@ -1,15 +1,11 @@
 -- Options in any order, as a parse of a command reads them.
 use Rattle.std.proofs.Common.{◌≡◌, ◌==◌, ◌++◌, ◌||◌, not, Bool, true, false, refl, List, [], ◌∷◌, fold, codes, if◌then◌else◌, ap, ◌∙◌, sym, append_assoc, append-nil, inl, inr}
-use Rattle.std.specs.List.{list_all}
-use Rattle.std.specs.Str.{bytes_eq}
-use Rattle.std.proofs.lemmas.Bool.{and_parts, cases_Bool}
+use Rattle.std.proofs.{lemmas.Bool.{and_parts, cases_Bool}, lemmas.Bool.Decides.{nat_tests}, Common.{arith}}
+use Rattle.std.specs.{List.{list_all}, Str.{bytes_eq}}
 use Rattle.clap.specs.Walk.{Held, Row, Rule, Text, finished, has_row, is_empty, nothing_held, reacted, settled, used, walk_from, walked, with_default}
-use Rattle.clap.specs.Simple.{Shape}
-use Rattle.clap.specs.Faults.{check_fault, default_fault, defaults_fault, given_default_fault, level_fault, settle_fault, walk_fault}
+use Rattle.clap.specs.{Simple.{Shape}, Faults.{check_fault, default_fault, defaults_fault, given_default_fault, level_fault, settle_fault, walk_fault}}
 use Rattle.clap.specs.Kinds.{Kinds}
 use Rattle.clap.proofs.FaultLemmas.{past}
-use Rattle.std.proofs.lemmas.Bool.Decides.{nat_tests}
-use Rattle.std.proofs.Common.{arith}
 use Rattle.gs_words.specs.Plain.{Given, valued, flagged, is_plain_value, name_of, option_words, stand_once}
 use Rattle.gs_words.proofs.Options.{IsValued, IsFlag, row_with, has_got, value_walk, value_clean, value_rows, value_settles, flag_walk, flag_clean, flag_rows, flag_uses}
 

@@ -1,12 +1,8 @@
 -- Digits whose number is too large.
 use Rattle.std.proofs.Common.{◌≡◌, ℕ, ◌<◌, ◌^◌, Bool, true, false, ◌&&◌, List, [], ◌∷◌, length, Some, None, Result, Ok, if◌then◌else◌, inl, inr, refl, arith}
-use Rattle.std.specs.Result.{result_ok}
-use Rattle.std.specs.Str.{all_ascii_digits}
-use Rattle.std.specs.Str.Parse.{digits_value, ParsesUnsigned}
 use Rattle.std.proofs.lemmas.Str.Parse.{numerals_by_value, tells_all_ascii_digits, parse_gives}
-use Rattle.std.proofs.lemmas.Bool.{cases_eq, eq-eqb, ne_eqb, eqb-true, lt-leb, false≢true}
-use Rattle.std.proofs.lemmas.Bool.Decides.{leb_tells}
-use Rattle.std.proofs.lemmas.List.{nil_from_length}
+use Rattle.std.proofs.{lemmas.Bool.{cases_eq, eq-eqb, ne_eqb, eqb-true, lt-leb, false≢true}, lemmas.Bool.Decides.{leb_tells}, lemmas.List.{nil_from_length}}
+use Rattle.std.specs.{Result.{result_ok}, Str.{all_ascii_digits}, Str.Parse.{digits_value, ParsesUnsigned}}
 use Rattle.gs_frac.specs.Texts.{is_numeral}
 use Rattle.gs_words.specs.Values.{number_in}
 

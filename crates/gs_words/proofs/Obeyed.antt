@@ -1,14 +1,10 @@
 -- Options that a command has, in their form.
 use Rattle.std.proofs.Common.{◌≡◌, ◌&&◌, Bool, true, false, refl, List, [], ◌∷◌, Option, Some, None, subst, ◌∙◌, sym, inl, inr, is_none}
-use Rattle.std.specs.List.{list_all, list_any}
-use Rattle.std.specs.Str.{bytes_eq}
-use Rattle.std.proofs.lemmas.Bool.{and_parts, cases_Bool, false≢true}
-use Rattle.std.proofs.lemmas.Slice.Eq.{bytes_eq-Decides}
+use Rattle.std.proofs.{lemmas.Bool.{and_parts, cases_Bool, false≢true}, lemmas.Slice.Eq.{bytes_eq-Decides}}
+use Rattle.std.specs.{List.{list_all, list_any}, Str.{bytes_eq}}
 use Rattle.clap.specs.Walk.{Rule, Text}
-use Rattle.gs_words.specs.Commands.{OptionOf}
-use Rattle.gs_words.specs.Plain.{Given, valued, flagged, given_for, is_given_as, is_plain_value, name_of, obeys}
-use Rattle.gs_words.proofs.Options.{IsValued, IsFlag}
-use Rattle.gs_words.proofs.AnyOrder.{AreGiven, IsGiven}
+use Rattle.gs_words.specs.{Commands.{OptionOf}, Plain.{Given, valued, flagged, given_for, is_given_as, is_plain_value, name_of, obeys}}
+use Rattle.gs_words.proofs.{Options.{IsValued, IsFlag}, AnyOrder.{AreGiven, IsGiven}}
 
 -- R has each of the options, in its form
 abbrev pub IsKnown : List Rule → Text → Option (Text → Bool) → Type 0

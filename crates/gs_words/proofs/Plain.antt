@@ -1,27 +1,16 @@
 -- Plain words are a request.
 use Rattle.std.proofs.Common.{◌≡◌, ◌&&◌, ◌||◌, not, ℕ, Bool, true, false, refl, List, [], ◌∷◌, Option, Some, None, is_some, IsTrue, IsSome, codes, ap, ◌∙◌, inl, inr}
-use Rattle.std.specs.Prelude.{option_and_then, option_map}
-use Rattle.std.specs.List.{list_all, list_any}
-use Rattle.std.specs.Str.{bytes_eq}
 use Rattle.std.proofs.lemmas.Bool.{and_parts, cases_Bool, false≢true}
-use Rattle.clap.specs.Words.{Row, Text, built, first_of}
-use Rattle.clap.specs.Takes.{is_given}
-use Rattle.clap.specs.Walk.{finished}
-use Rattle.clap.specs.Faults.{check_fault}
-use Rattle.gs_words.specs.Commands.{OptionOf, command_word, options_of}
-use Rattle.gs_words.specs.Plain.{Given, are_plain, given_for, name_of, option_words, stand_once}
-use Rattle.gs_words.specs.Program.{program}
-use Rattle.gs_words.specs.Requests.{grouping_in, is_set, make_with, play_with, query_with, request_of, task_for, task_in}
-use Rattle.gs_words.specs.Tasks.{Task}
-use Rattle.gs_words.specs.Values.{grouping_of, kind_of, number_in}
-use Rattle.gs_made.specs.declared.kind.Kind.{Kind}
-use Rattle.gs_words.specs.declared.names.CommandName.{CommandName}
+use Rattle.std.specs.{Prelude.{option_and_then, option_map}, List.{list_all, list_any}, Str.{bytes_eq}}
+use Rattle.clap.specs.{Words.{Row, Text, built, first_of}, Takes.{is_given}, Walk.{finished}, Faults.{check_fault}}
+use Rattle.gs_words.specs.{Commands.{OptionOf, command_word, options_of}, Plain.{Given, are_plain, given_for, name_of, option_words, stand_once}}
+use Rattle.gs_words.specs.{Program.{program}, Requests.{grouping_in, is_set, make_with, play_with, query_with, request_of, task_for, task_in}, Tasks.{Task}}
+use Rattle.gs_words.specs.{Values.{grouping_of, kind_of, number_in}, declared.names.CommandName.{CommandName}}
 use Rattle.gs_words.specs.declared.names.CommandName.TheVariants.{Shrink, Check, Solve, Play, Evaluate, Query, Make, Upgrade, Judge, Duel, Certify, Verify, Path}
 use Rattle.gs_words.specs.declared.request.Grouping.{Grouping}
-use Rattle.gs_words.proofs.AnyOrder.{AreGiven, all_rows, taken_in_any_order}
-use Rattle.gs_words.proofs.Rows.{is_there, same_flag, same_value}
-use Rattle.gs_words.proofs.Obeyed.{RuleIs, absent, all_given, are_given_as, passed}
-use Rattle.gs_words.proofs.Levels.{asked, is_command, opens, rows, shape_of, taken}
+use Rattle.gs_made.specs.declared.kind.Kind.{Kind}
+use Rattle.gs_words.proofs.{AnyOrder.{AreGiven, all_rows, taken_in_any_order}, Rows.{is_there, same_flag, same_value}}
+use Rattle.gs_words.proofs.{Obeyed.{RuleIs, absent, all_given, are_given_as, passed}, Levels.{asked, is_command, opens, rows, shape_of, taken}}
 
 -- ---- what is given
 

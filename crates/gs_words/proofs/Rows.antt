@@ -1,18 +1,11 @@
 -- What the rows of options and defaults say of an option.
 use Rattle.std.proofs.Common.{◌≡◌, ◌++◌, ◌||◌, not, Bool, true, false, refl, List, [], ◌∷◌, Some, None, fold, codes, if◌then◌else◌, ap, ◌∙◌, arith, inl, inr}
-use Rattle.std.specs.Prelude.{slice_get}
-use Rattle.std.specs.List.{list_all, list_any}
-use Rattle.std.specs.Str.{bytes_eq}
-use Rattle.std.proofs.lemmas.Bool.{and_parts, cases_Bool}
-use Rattle.std.proofs.lemmas.Bool.Decides.{nat_tests}
-use Rattle.std.proofs.lemmas.Slice.Eq.{bytes_eq-Decides}
-use Rattle.clap.specs.Walk.{Row, Rule, Text, default_rows, first_of, has_row, is_empty, more_values, reading_by, with_default}
-use Rattle.clap.specs.Takes.{is_given}
+use Rattle.std.proofs.{lemmas.Bool.{and_parts, cases_Bool}, lemmas.Bool.Decides.{nat_tests}, lemmas.Slice.Eq.{bytes_eq-Decides}}
+use Rattle.std.specs.{Prelude.{slice_get}, List.{list_all, list_any}, Str.{bytes_eq}}
+use Rattle.clap.specs.{Walk.{Row, Rule, Text, default_rows, first_of, has_row, is_empty, more_values, reading_by, with_default}, Takes.{is_given}}
 use Rattle.clap.specs.declared.parser.matches.ValueSource.TheVariants.{DefaultValue}
-use Rattle.gs_words.specs.Plain.{Given, valued, flagged, given_for, name_of}
-use Rattle.gs_words.specs.Requests.{is_set}
-use Rattle.gs_words.proofs.Options.{absent_row}
-use Rattle.gs_words.proofs.AnyOrder.{AreGiven, all_rows, not_true, rows_for}
+use Rattle.gs_words.specs.{Plain.{Given, valued, flagged, given_for, name_of}, Requests.{is_set}}
+use Rattle.gs_words.proofs.{Options.{absent_row}, AnyOrder.{AreGiven, all_rows, not_true, rows_for}}
 
 -- ---- the options alone
 

@@ -1,17 +1,10 @@
 -- The program's command is one whose words the crate decides by a function.
-use Rattle.std.proofs.Common.{◌≡◌, ◌⊎◌, Err, true, false, refl, List, [], ◌∷◌, ap, sym, ◌∙◌, arith, inl, inr}
-use Rattle.clap.specs.Words.{HasMatchesOf, is_simple, is_simple_and_free}
+use Rattle.std.proofs.{Common.{◌≡◌, ◌⊎◌, Err, true, false, refl, List, [], ◌∷◌, ap, sym, ◌∙◌, arith, inl, inr}, lemmas.Bool.Decides.{nat_tests}}
+use Rattle.clap.specs.{Words.{HasMatchesOf, is_simple, is_simple_and_free}, Words.{IsAmong, Kinds, Text, App, fault_of}}
+use Rattle.clap.specs.{Words.{subcommand_of, subcommand_rows_of}, Walk.{is_empty}, declared.parser.matches.ArgMatches.{ArgMatches}}
+use Rattle.clap.specs.{declared.error.kind.ErrorKind.{ErrorKind}, declared.error.kind.ErrorKind.TheVariants.{OutOfMemory}}
 use Rattle.clap.proofs.OnLiterals.{clap_on_literals}
-use Rattle.clap.specs.Words.{IsAmong, Kinds, Text, App, fault_of}
-use Rattle.clap.specs.Words.{subcommand_of, subcommand_rows_of}
-use Rattle.clap.specs.Walk.{is_empty}
-use Rattle.clap.specs.declared.parser.matches.ArgMatches.{ArgMatches}
-use Rattle.clap.specs.declared.error.kind.ErrorKind.{ErrorKind}
-use Rattle.clap.specs.declared.error.kind.ErrorKind.TheVariants.{OutOfMemory}
-use Rattle.std.proofs.lemmas.Bool.Decides.{nat_tests}
-use Rattle.gs_words.specs.Program.{program}
-use Rattle.gs_words.specs.Requests.{IsStopFor, TakesWords, is_taken}
-use Rattle.gs_words.specs.declared.request.WordsStop.{WordsStop}
+use Rattle.gs_words.specs.{Program.{program}, Requests.{IsStopFor, TakesWords, is_taken}, declared.request.WordsStop.{WordsStop}}
 use Rattle.gs_words.specs.declared.request.WordsStop.TheVariants as stop
 
 pub program_is_simple : is_simple program ≡ true

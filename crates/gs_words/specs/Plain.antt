@@ -1,9 +1,7 @@
 -- Plain words: a command, and options of it in their long form.
 use Rattle.std.specs.Prelude.{ℕ, Bool, true, false, not, ◌&&◌, ◌||◌, ◌==◌, List, [], ◌∷◌, Option, Some, None, is_none, codes, if◌then◌else◌}
-use Rattle.std.specs.List.{list_all, list_any}
-use Rattle.std.specs.Str.{bytes_eq}
-use Rattle.gs_words.specs.Commands.{OptionOf, options_of}
-use Rattle.gs_words.specs.declared.names.CommandName.{CommandName}
+use Rattle.std.specs.{List.{list_all, list_any}, Str.{bytes_eq}}
+use Rattle.gs_words.specs.{Commands.{OptionOf, options_of}, declared.names.CommandName.{CommandName}}
 
 -- an option as it is given, with its value or as a flag
 pub data Given : Type 0 where

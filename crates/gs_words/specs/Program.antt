@@ -1,13 +1,9 @@
 -- The command of `clap` that parses the words.
 use Rattle.std.specs.Prelude.{◌≡◌, ℕ, List, Bool, Option, Some, None, true, false, codes, fold, map}
-use Rattle.clap.specs.Words.{App, Rule, new_app, new_rule, app_of, with_rule, with_subcommand}
-use Rattle.clap.specs.Simple.{on_top}
-use Rattle.clap.specs.declared.builder.command.Command.{Command}
-use Rattle.clap.specs.declared.builder.command.Command.TheViews.{out-Command}
-use Rattle.clap.specs.declared.builder.ArgAction.{ArgAction}
+use Rattle.clap.specs.{Words.{App, Rule, new_app, new_rule, app_of, with_rule, with_subcommand}, Simple.{on_top}, declared.builder.command.Command.{Command}}
+use Rattle.clap.specs.{declared.builder.command.Command.TheViews.{out-Command}, declared.builder.ArgAction.{ArgAction}}
 use Rattle.clap.specs.declared.builder.ArgAction.TheVariants.{SetTrue}
-use Rattle.gs_words.specs.Commands.{OptionOf, command_word, commands, options_of}
-use Rattle.gs_words.specs.declared.names.CommandName.{CommandName}
+use Rattle.gs_words.specs.{Commands.{OptionOf, command_word, commands, options_of}, declared.names.CommandName.{CommandName}}
 
 -- the command is this one, and no argument of it is global
 abbrev pub Is : App → Command → Type 0

@@ -1,22 +1,14 @@
 -- What words ask for.
 use Rattle.std.specs.Prelude.{◌≡◌, ℕ, Bool, true, false, List, Option, Some, None, codes, option_and_then, option_map, if◌then◌else◌, Result, Ok, Err}
 use Rattle.std.specs.Str.{bytes_eq}
-use Rattle.clap.specs.Words.{Row, Text, fault_of, first_of, subcommand_of, subcommand_rows_of}
-use Rattle.clap.specs.Walk.{is_empty}
-use Rattle.clap.specs.declared.error.kind.ErrorKind.{ErrorKind}
-use Rattle.clap.specs.declared.error.kind.ErrorKind.TheVariants.{OutOfMemory}
-use Rattle.clap.specs.declared.parser.matches.ArgMatches.{ArgMatches}
+use Rattle.clap.specs.{Words.{Row, Text, fault_of, first_of, subcommand_of, subcommand_rows_of}, Walk.{is_empty}, declared.error.kind.ErrorKind.{ErrorKind}}
+use Rattle.clap.specs.{declared.error.kind.ErrorKind.TheVariants.{OutOfMemory}, declared.parser.matches.ArgMatches.{ArgMatches}}
 use Rattle.gs_made.specs.declared.kind.Kind.{Kind}
-use Rattle.gs_words.specs.Commands.{command_of}
-use Rattle.gs_words.specs.Program.{program}
+use Rattle.gs_words.specs.{Commands.{command_of}, Program.{program}}
 use Rattle.gs_words.specs.Tasks.{Task, task_of, Shrink, Check, Solve, Play, Evaluate, Query, Make, Upgrade, Judge, Duel, Certify, Verify, Path}
-use Rattle.gs_words.specs.Values.{grouping_of, kind_of, number_in}
-use Rattle.gs_words.specs.declared.names.CommandName.{CommandName}
+use Rattle.gs_words.specs.{Values.{grouping_of, kind_of, number_in}, declared.names.CommandName.{CommandName}, declared.request.Grouping.{Grouping}}
+use Rattle.gs_words.specs.{declared.request.Grouping.TheVariants.{Coarsest}, declared.request.Request.{Request}, declared.request.WordsStop.{WordsStop}}
 use Rattle.gs_words.specs.declared.names.CommandName.TheVariants as command
-use Rattle.gs_words.specs.declared.request.Grouping.{Grouping}
-use Rattle.gs_words.specs.declared.request.Grouping.TheVariants.{Coarsest}
-use Rattle.gs_words.specs.declared.request.Request.{Request}
-use Rattle.gs_words.specs.declared.request.WordsStop.{WordsStop}
 use Rattle.gs_words.specs.declared.request.WordsStop.TheVariants as stop
 
 -- the flag is given

@@ -1,15 +1,9 @@
 -- One turn of fictitious play in Kuhn's game: both players' first best plans against the first moves, added to the first moves.
-use Rattle.std.proofs.Common.{◌≡◌, ◌≢◌, ℕ, zero, suc, ◌+◌, ◌-◌, ◌<◌, [], ◌∷◌, ◌==◌, List, get_or, refl, arith}
+use Rattle.std.proofs.{Common.{◌≡◌, ◌≢◌, ℕ, zero, suc, ◌+◌, ◌-◌, ◌<◌, [], ◌∷◌, ◌==◌, List, get_or, refl, arith}, lemmas.Bool.{ne_eqb}, lemmas.Int.{ints}}
 use Rattle.std.specs.Prelude.{ℤ, pos, ◌≤ℤ◌, ◌<ℤ◌, sum_by, if◌then◌else◌}
-use Rattle.std.proofs.lemmas.Bool.{ne_eqb}
-use Rattle.std.proofs.lemmas.Int.{ints}
-use Rattle.gs_model.specs.BestAnswers.{IsBestValues, Values, class_worth, end_worth}
-use Rattle.gs_model.specs.Classes.{IsClass, first_member}
+use Rattle.gs_model.specs.{BestAnswers.{IsBestValues, Values, class_worth, end_worth}, Classes.{IsClass, first_member}}
 use Rattle.gs_model.specs.Frame.{ancestor, choices_at, frame_of, last_step, leads_to, move_count, payoff_to, player_at, point_count, round_of}
-use Rattle.gs_model.specs.Plans.{Plan, lift, number_before}
-use Rattle.gs_model.specs.Play.{IsFirstMoves}
-use Rattle.gs_model.specs.Positions.{at_end, at_point}
-use Rattle.gs_model.specs.Sums.{sum_z}
+use Rattle.gs_model.specs.{Plans.{Plan, lift, number_before}, Play.{IsFirstMoves}, Positions.{at_end, at_point}, Sums.{sum_z}}
 use Rattle.gs_worked.proofs.Kuhn.{firsts, kuhn_best, kuhn_move, kuhn_values}
 use Rattle.gs_worked.specs.Kuhn.{KuhnPlay, apart, kuhn, turn_one, turn_two}
 

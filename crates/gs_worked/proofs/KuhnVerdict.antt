@@ -1,23 +1,12 @@
 -- The verdict on Kuhn's game after one turn of play: best values of both players, case by case, and what follows from them.
-use Rattle.std.proofs.Common.{◌≡◌, ◌≢◌, ℕ, zero, suc, ◌-◌, ◌<◌, ◌≤◌, [], ◌∷◌, List, get_or, length, refl, arith, inl, inr, All}
+use Rattle.std.proofs.{Common.{◌≡◌, ◌≢◌, ℕ, zero, suc, ◌-◌, ◌<◌, ◌≤◌, [], ◌∷◌, List, get_or, length, refl, arith, inl, inr, All}, lemmas.Int.{ints}}
 use Rattle.std.specs.Prelude.{ℤ, pos, negsuc, ◌≤ℤ◌, ◌<ℤ◌}
-use Rattle.std.proofs.lemmas.Int.{ints}
-use Rattle.gs_model.specs.BestAnswers.{IsBestValues, Values, class_worth, end_worth}
-use Rattle.gs_model.specs.Classes.{InOneClass, IsClass, IsClasses, first_member, list_of}
+use Rattle.gs_model.specs.{BestAnswers.{IsBestValues, Values, class_worth, end_worth}, Classes.{InOneClass, IsClass, IsClasses, first_member, list_of}}
 use Rattle.gs_model.specs.Frame.{choices_at, frame_of, leads_to, move_count, payoff_to, player_at, point_count, round_of, last_step, ancestor, signal_count}
-use Rattle.gs_model.specs.Game.{IsPlayable, Round}
-use Rattle.gs_model.specs.Betting.{HasPlayers}
-use Rattle.gs_model.specs.Lossless.{IsLossless}
-use Rattle.gs_model.specs.Numbering.{IsNumbered}
-use Rattle.gs_model.specs.Plans.{lift}
-use Rattle.gs_model.specs.Positions.{at_end, at_point}
-use Rattle.gs_model.specs.Sums.{sum_z}
-use Rattle.gs_model.proofs.Exchanged.{exchanged_one}
-use Rattle.gs_model.proofs.Few.{IsNumberedAt, below_three, from_one_to_one}
-use Rattle.gs_model.proofs.FirstBest.{verdict_from}
-use Rattle.gs_model.proofs.Ranges.{in_range}
-use Rattle.gs_model.proofs.Unlike.{single_signals_are_lossless}
-use Rattle.gs_model.proofs.Walked.{walked_one, walked_two}
+use Rattle.gs_model.specs.{Game.{IsPlayable, Round}, Betting.{HasPlayers}, Lossless.{IsLossless}, Numbering.{IsNumbered}, Plans.{lift}}
+use Rattle.gs_model.specs.{Positions.{at_end, at_point}, Sums.{sum_z}}
+use Rattle.gs_model.proofs.{Exchanged.{exchanged_one}, Few.{IsNumberedAt, below_three, from_one_to_one}, FirstBest.{verdict_from}, Ranges.{in_range}}
+use Rattle.gs_model.proofs.{Unlike.{single_signals_are_lossless}, Walked.{walked_one, walked_two}}
 use Rattle.gs_worked.specs.Kuhn.{KuhnVerdict, apart, kuhn, kuhn_tree, turn_one, turn_two}
 
 -- ---- player 1 against player 2's plan

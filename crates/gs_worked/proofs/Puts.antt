@@ -1,10 +1,7 @@
 -- The walk keeps what each player has put: the ante and the chips of the moves so far.
-use Rattle.std.proofs.Common.{ℕ, ◌≡◌, ◌+◌, ◌==◌, [], ◌∷◌, ◌++◌, List, inl, inr, refl, arith}
-use Rattle.std.proofs.lemmas.Bool.{cases_Bool}
-use Rattle.std.proofs.lemmas.List.Sums.{sum_by_push}
+use Rattle.std.proofs.{Common.{ℕ, ◌≡◌, ◌+◌, ◌==◌, [], ◌∷◌, ◌++◌, List, inl, inr, refl, arith}, lemmas.Bool.{cases_Bool}, lemmas.List.Sums.{sum_by_push}}
 use Rattle.std.specs.Prelude.{if◌then◌else◌}
-use Rattle.gs_model.specs.Betting.{Bet, Moves, act, fold, even, none, move}
-use Rattle.gs_model.specs.Positions.{End}
+use Rattle.gs_model.specs.{Betting.{Bet, Moves, act, fold, even, none, move}, Positions.{End}}
 use Rattle.gs_model.specs.Walk.{Place, Walked, after_move, fold_end, walk_moves, walk_rounds, walk_start, walk_tree}
 use Rattle.gs_worked.specs.Puts.{Paid, PutChips, chips_one, chips_two, ways, ways_from, ways_of}
 

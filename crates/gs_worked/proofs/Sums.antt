@@ -1,11 +1,7 @@
 -- Isomorphic hands of the last round have the same sum of outcomes, and hands with the same leaves are isomorphic.
 use Rattle.std.proofs.Common.{◌≡◌, ℕ, ℤ, List, [], ◌∷◌, refl, sym, ap, ◌∙◌}
 use Rattle.std.specs.List.{AllZip}
-use Rattle.gs_model.specs.Game.{Game}
-use Rattle.gs_model.specs.Isomorphism.{IsomorphicFor}
-use Rattle.gs_model.specs.Signals.{Signal}
-use Rattle.gs_model.specs.Sums.{sum_z}
-use Rattle.gs_model.specs.ViewTree.{leaves}
+use Rattle.gs_model.specs.{Game.{Game}, Isomorphism.{IsomorphicFor}, Signals.{Signal}, Sums.{sum_z}, ViewTree.{leaves}}
 use Rattle.gs_model.proofs.Total.{sum_z-IsPermutation}
 
 zip_equal : {X : Type 0} (xs ys : List X) → AllZip (λ (x : X) (y : X). x ≡ y) xs ys → xs ≡ ys

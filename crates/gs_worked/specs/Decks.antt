@@ -1,10 +1,6 @@
 -- Worked values: Kuhn poker with two suits, and one rank in four suits. The expected numbers are counted by hand.
 use Rattle.std.specs.Prelude.{ℕ, ◌≡◌, [], ◌∷◌, pos, negsuc, length, replicate, sum_by}
-use Rattle.gs_model.specs.Betting.{even}
-use Rattle.gs_model.specs.Deals.{Deal, deals}
-use Rattle.gs_model.specs.Game.{Game, High}
-use Rattle.gs_model.specs.SignalClasses.{SameClass}
-use Rattle.gs_model.specs.Signals.{Signal, signal_at, signals}
+use Rattle.gs_model.specs.{Betting.{even}, Deals.{Deal, deals}, Game.{Game, High}, SignalClasses.{SameClass}, Signals.{Signal, signal_at, signals}}
 use Rattle.gs_model.specs.ViewTree.{leaves}
 
 -- one round without moves, one private card each, one copy of each of `kinds` kinds of card in `suits` suits

@@ -1,13 +1,8 @@
 -- Kuhn's game: three cards, one each, one round of a check or a bet of 1; and the verdict on its players' plans after one turn of play.
 -- Source: the plans and the verdict by an independent program that tries every pure raw plan.
 use Rattle.std.specs.Prelude.{ℕ, ◌-◌, [], ◌∷◌, List, get_or, pos}
-use Rattle.gs_model.specs.Betting.{Bet, act, fold, even, none, move}
-use Rattle.gs_model.specs.Classes.{ClassLists}
-use Rattle.gs_model.specs.Frame.{frame_of}
-use Rattle.gs_model.specs.Game.{Game, High}
-use Rattle.gs_model.specs.Plans.{Plan, lift}
-use Rattle.gs_model.specs.Play.{IsFictitiousPlay}
-use Rattle.gs_model.specs.Verdict.{IsVerdict}
+use Rattle.gs_model.specs.{Betting.{Bet, act, fold, even, none, move}, Classes.{ClassLists}, Frame.{frame_of}, Game.{Game, High}, Plans.{Plan, lift}}
+use Rattle.gs_model.specs.{Play.{IsFictitiousPlay}, Verdict.{IsVerdict}}
 
 -- 1[k:2[k:=,b1:1[f:!,c1:=]],b1:2[f:!,c1:=]]
 abbrev pub kuhn_tree : Bet

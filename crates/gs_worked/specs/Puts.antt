@@ -1,8 +1,6 @@
 -- What an end puts, stated along its line: the ante and the chips of the moves on the way to it.
 use Rattle.std.specs.Prelude.{ℕ, ◌≡◌, ◌+◌, ◌==◌, [], ◌∷◌, ◌++◌, List, sum_by, if◌then◌else◌}
-use Rattle.gs_model.specs.Betting.{Bet, Moves, act, fold, even, none, move}
-use Rattle.gs_model.specs.Positions.{End, EndKind, Folded1, Folded2, Show}
-use Rattle.gs_model.specs.Walk.{walk}
+use Rattle.gs_model.specs.{Betting.{Bet, Moves, act, fold, even, none, move}, Positions.{End, EndKind, Folded1, Folded2, Show}, Walk.{walk}}
 
 -- a move on the way to an end: whose it is, and the chips that it puts
 pub record Paid : Type 0 where

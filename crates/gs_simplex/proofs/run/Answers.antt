@@ -1,15 +1,8 @@
-use Rattle.std.proofs.Common.{Result, Ok, Err, ◌≡◌, ℕ, ◌+◌, List, ◌++◌, ℤ, length, take, drop, sym, subst, ◌∙◌, arith}
-use Rattle.std.proofs.lemmas.List.{take_at}
-use Rattle.gs_rows.specs.declared.Program.{Program}
-use Rattle.gs_rows.specs.Program.{Listing}
-use Rattle.gs_rows.specs.Path.{PathStops, ends}
-use Rattle.gs_simplex.specs.declared.answer.Best.{Best}
-use Rattle.gs_simplex.specs.declared.table.Table.{Table}
-use Rattle.gs_simplex.specs.Table.{IsTableOf}
-use Rattle.gs_simplex.specs.State.{IsEnd}
-use Rattle.gs_simplex.specs.Answer.{IsSmall, IsStop, IsAnswer, IsBest, IsBestAt, IsBestTable}
+use Rattle.std.proofs.{Common.{Result, Ok, Err, ◌≡◌, ℕ, ◌+◌, List, ◌++◌, ℤ, length, take, drop, sym, subst, ◌∙◌, arith}, lemmas.List.{take_at}}
+use Rattle.gs_rows.specs.{declared.Program.{Program}, Program.{Listing}, Path.{PathStops, ends}}
+use Rattle.gs_simplex.specs.{declared.answer.Best.{Best}, declared.table.Table.{Table}, Table.{IsTableOf}, State.{IsEnd}}
+use Rattle.gs_simplex.specs.{Answer.{IsSmall, IsStop, IsAnswer, IsBest, IsBestAt, IsBestTable}, declared.answer.Stop.{Stop}}
 use Rattle.std.specs.Result.{IsErrAnd}
-use Rattle.gs_simplex.specs.declared.answer.Stop.{Stop}
 use Rattle.gs_simplex.proofs.Paths.{rows_of_so_far, ends_stops}
 use Rattle.gs_simplex.proofs.run.Goals as goal
 

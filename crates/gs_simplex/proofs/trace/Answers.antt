@@ -1,17 +1,9 @@
 use Rattle.std.proofs.Common.{Result, Ok, Err, ◌≡◌, ℕ, ◌+◌, List, ℤ, pos, ◌<ℤ◌, length, sym, subst}
-use Rattle.gs_rows.specs.declared.Program.{Program}
-use Rattle.gs_rows.specs.Program.{Listing}
-use Rattle.gs_rows.specs.Path.{NoneEnters}
-use Rattle.gs_simplex.specs.declared.answer.PathTrace.{PathTrace}
-use Rattle.gs_simplex.specs.declared.answer.Stop.{Stop}
-use Rattle.gs_simplex.specs.Table.{table_aim, IsTable}
-use Rattle.gs_simplex.specs.State.{IsSoFar}
-use Rattle.gs_simplex.specs.Answer.{IsStop}
+use Rattle.gs_rows.specs.{declared.Program.{Program}, Program.{Listing}, Path.{NoneEnters}}
+use Rattle.gs_simplex.specs.{declared.answer.PathTrace.{PathTrace}, declared.answer.Stop.{Stop}, Table.{table_aim, IsTable}, State.{IsSoFar}, Answer.{IsStop}}
 use Rattle.gs_simplex.specs.Trace.{IsTraceAnswer}
 use Rattle.std.specs.Result.{IsErrAnd}
-use Rattle.gs_simplex.proofs.Paths.{rows_at}
-use Rattle.gs_simplex.proofs.Kept.{multiple_kept}
-use Rattle.gs_simplex.proofs.Traces.{trace_of}
+use Rattle.gs_simplex.proofs.{Paths.{rows_at}, Kept.{multiple_kept}, Traces.{trace_of}}
 use Rattle.gs_simplex.proofs.trace.Goals as goal
 
 err_answer : (p : Program) (o : Listing) (limit : ℕ) (r : Result PathTrace Stop) (s : Stop) → IsErrAnd r (λ x. x ≡ s) → IsStop p o limit s → IsTraceAnswer p o limit r

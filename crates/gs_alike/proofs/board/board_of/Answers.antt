@@ -1,14 +1,10 @@
 use Rattle.std.proofs.Common.{◌≡◌, ◌≤◌, ◌∙◌, Bool, List, cond, length, map, subst, sym, ap, arith}
-use Rattle.std.specs.Global.{Vec}
-use Rattle.std.specs.List.Sorted.{IsPermutation}
+use Rattle.std.specs.{Global.{Vec}, List.Sorted.{IsPermutation}}
 use Rattle.gs_model.specs.Game.{Game, round_count}
-use Rattle.gs_tree.specs.Trees.{rules_of}
-use Rattle.gs_tree.specs.Walk.{last_count}
-use Rattle.gs_alike.specs.Boards.{ranked, seat_of, signals_on}
-use Rattle.gs_alike.specs.declared.board.Seat.{Seat}
-use Rattle.gs_alike.proofs.Seats.{board_is, seats_few}
+use Rattle.gs_tree.specs.{Trees.{rules_of}, Walk.{last_count}}
+use Rattle.gs_alike.specs.{Boards.{ranked, seat_of, signals_on}, declared.board.Seat.{Seat}}
+use Rattle.gs_alike.proofs.{Seats.{board_is, seats_few}, board.board_of.Goals.{then-by_rank, else-by_rank}}
 use Rattle.gs_alike.proofs.board.board_of.Goals as goal
-use Rattle.gs_alike.proofs.board.board_of.Goals.{then-by_rank, else-by_rank}
 
 pub rank-requires-clause-few : goal.rank-requires-clause-few
 rank-requires-clause-few c =

@@ -1,10 +1,7 @@
-use Rattle.std.proofs.Common.{◌∙◌, List, ap, subst, sym}
-use Rattle.std.specs.Global.{Vec}
-use Rattle.std.specs.List.{All}
-use Rattle.std.proofs.lemmas.List.Elements.{All-push}
+use Rattle.std.proofs.{Common.{◌∙◌, List, ap, subst, sym}, lemmas.List.Elements.{All-push}}
+use Rattle.std.specs.{Global.{Vec}, List.{All}}
 use Rattle.gs_tree.specs.Trees.{rules_of}
-use Rattle.gs_alike.specs.Boards.{IsBoard}
-use Rattle.gs_alike.specs.declared.board.Board.{Board}
+use Rattle.gs_alike.specs.{Boards.{IsBoard}, declared.board.Board.{Board}}
 use Rattle.gs_alike.proofs.board.boards_of.Goals as goal
 use Rattle.gs_alike.proofs.board.boards_of.Goals.{then-first-signal+in_ok-board+in_ok-push, else-first-signal}
 

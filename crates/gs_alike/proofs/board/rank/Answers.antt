@@ -1,11 +1,8 @@
-use Rattle.std.proofs.Common.{◌≡◌, ◌+◌, ◌<◌, ◌∙◌, ℕ, List, ap, arith, get_or, length, set, subst, sym}
-use Rattle.std.proofs.lemmas.List.{get_or_default}
-use Rattle.gs_alike.specs.Boards.{levels_in}
-use Rattle.gs_alike.specs.declared.board.Seat.{Seat}
-use Rattle.gs_alike.proofs.Ranked.{AreRanked, all_ranked, level_is, more_again, more_ranked, start_ranked}
-use Rattle.gs_alike.proofs.Seats.{none}
-use Rattle.gs_alike.proofs.board.rank.Goals as goal
+use Rattle.std.proofs.{Common.{◌≡◌, ◌+◌, ◌<◌, ◌∙◌, ℕ, List, ap, arith, get_or, length, set, subst, sym}, lemmas.List.{get_or_default}}
+use Rattle.gs_alike.specs.{Boards.{levels_in}, declared.board.Seat.{Seat}}
+use Rattle.gs_alike.proofs.{Ranked.{AreRanked, all_ranked, level_is, more_again, more_ranked, start_ranked}, Seats.{none}}
 use Rattle.gs_alike.proofs.board.rank.Goals.{then-above-level, else-above-level}
+use Rattle.gs_alike.proofs.board.rank.Goals as goal
 
 pub loop-place-init : goal.loop-place-init
 loop-place-init c = start_ranked c.args.seats.now.items

@@ -1,9 +1,7 @@
 use Rattle.std.proofs.Common.{◌-◌, ◌<◌, ◌∙◌, ◌++◌, ◌∷◌, [], ◌≡◌, ℕ, List, length, subst, sym, ap, arith, get_or}
 use Rattle.gs_model.specs.Game.{Game}
-use Rattle.gs_tree.specs.Trees.{rules_of}
-use Rattle.gs_tree.specs.Walk.{last_count}
-use Rattle.gs_alike.specs.Boards.{seat_of}
-use Rattle.gs_alike.specs.declared.board.Seat.{Seat}
+use Rattle.gs_tree.specs.{Trees.{rules_of}, Walk.{last_count}}
+use Rattle.gs_alike.specs.{Boards.{seat_of}, declared.board.Seat.{Seat}}
 use Rattle.gs_alike.proofs.Chain.{IsOnChain, chain_end, chain_more, chain_start}
 use Rattle.gs_alike.proofs.board.seats_beside.Goals as goal
 

@@ -1,6 +1,5 @@
 use Rattle.std.proofs.Common.{◌≡◌, ◌+◌, ◌⊎◌, ◌<◌, ◌∙◌, ◌++◌, ℕ, List, ap, arith, drop, get_or, length, replicate, rules, set, subst, sym, take, length-set, ⊎_elim}
-use Rattle.gs_alike.proofs.Items.{AreMade, all_made, get_or-in, none_made, one_made}
-use Rattle.gs_alike.proofs.Marked.{whole}
+use Rattle.gs_alike.proofs.{Items.{AreMade, all_made, get_or-in, none_made, one_made}, Marked.{whole}}
 use Rattle.gs_alike.proofs.firsts.first_items.Goals as goal
 
 pub loop-item-init : goal.loop-item-init

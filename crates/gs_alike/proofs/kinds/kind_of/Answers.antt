@@ -1,8 +1,6 @@
 use Rattle.std.proofs.Common.{◌∙◌, ◌++◌, ℕ, List, inr, refl, ap, subst, sym, arith}
-use Rattle.std.specs.Global.{Vec}
-use Rattle.std.specs.List.Sorted.{IsPermutation}
-use Rattle.gs_alike.specs.Hands.{KeepsKinds}
-use Rattle.gs_alike.specs.declared.kinds.Kind.{Kind}
+use Rattle.std.specs.{Global.{Vec}, List.Sorted.{IsPermutation}}
+use Rattle.gs_alike.specs.{Hands.{KeepsKinds}, declared.kinds.Kind.{Kind}}
 use Rattle.gs_alike.proofs.Kept.{kept_more, kind_moved}
 use Rattle.gs_alike.proofs.kinds.kind_of.Goals as goal
 

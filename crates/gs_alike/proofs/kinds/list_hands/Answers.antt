@@ -1,9 +1,6 @@
-use Rattle.std.proofs.Common.{◌≡◌, ◌+◌, ◌*◌, ◌<◌, ◌∙◌, ℕ, List, ap, arith, get_or, length, subst, sym}
-use Rattle.std.proofs.lemmas.List.{get_or-map}
-use Rattle.gs_alike.specs.Boards.{levels_in, signals_in}
-use Rattle.gs_alike.specs.declared.board.Seat.{Seat}
-use Rattle.gs_alike.proofs.Filled.{hand_of, none_filled, one_filled}
-use Rattle.gs_alike.proofs.Seats.{none}
+use Rattle.std.proofs.{Common.{◌≡◌, ◌+◌, ◌*◌, ◌<◌, ◌∙◌, ℕ, List, ap, arith, get_or, length, subst, sym}, lemmas.List.{get_or-map}}
+use Rattle.gs_alike.specs.{Boards.{levels_in, signals_in}, declared.board.Seat.{Seat}}
+use Rattle.gs_alike.proofs.{Filled.{hand_of, none_filled, one_filled}, Seats.{none}}
 use Rattle.gs_alike.proofs.kinds.list_hands.Goals as goal
 
 pub loop-place-init : goal.loop-place-init

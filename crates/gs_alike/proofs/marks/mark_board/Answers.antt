@@ -1,10 +1,7 @@
 use Rattle.std.proofs.Common.{◌<◌, ℕ, List, arith, get_or, length, subst, sym}
-use Rattle.gs_alike.specs.Boards.{signals_in}
-use Rattle.gs_alike.specs.declared.board.Seat.{Seat}
-use Rattle.gs_alike.proofs.Marked.{MayMark, may_none, may_seat}
-use Rattle.gs_alike.proofs.Seats.{none}
+use Rattle.gs_alike.specs.{Boards.{signals_in}, declared.board.Seat.{Seat}}
+use Rattle.gs_alike.proofs.{Marked.{MayMark, may_none, may_seat}, Seats.{none}, marks.mark_board.Goals.{in-Some, in_default}}
 use Rattle.gs_alike.proofs.marks.mark_board.Goals as goal
-use Rattle.gs_alike.proofs.marks.mark_board.Goals.{in-Some, in_default}
 
 pub loop-place-init : goal.loop-place-init
 loop-place-init c = may_none (signals_in c.args.seats.now) c.args.hands.now (signals_in c.args.others.now) c.args.other_hands.now c.args.marks.now

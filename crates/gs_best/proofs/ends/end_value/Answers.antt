@@ -1,18 +1,11 @@
-use Rattle.std.proofs.Common.{◌≡◌, ap, sym, ◌∙◌, subst, arith}
+use Rattle.std.proofs.{Common.{◌≡◌, ap, sym, ◌∙◌, subst, arith}, lemmas.Int.{to_z-of_z}}
 use Rattle.std.specs.Prelude.{pos, ◌*ℤ◌}
-use Rattle.std.proofs.lemmas.Int.{to_z-of_z}
 use mir.Syntax.{w128}
 use Rattle.gs_filter.specs.Filter.{Filter}
 use Rattle.gs_lossless.specs.declared.checking.Lossless.{Lossless}
-use Rattle.gs_model.specs.BestAnswers.{end_worth}
-use Rattle.gs_model.specs.Classes.{IsClass, class_size, first_member}
-use Rattle.gs_model.specs.Frame.{round_of}
-use Rattle.gs_model.specs.Positions.{at_end}
-use Rattle.gs_seq.specs.Abstracts.{frame_of, lists_of}
-use Rattle.gs_seq.specs.Plans.{class_plan, lifted}
-use Rattle.gs_best.proofs.Shares.{end_share, some_member}
-use Rattle.gs_best.proofs.Forms.{form_classes, form_in_range, form_lossless, form_walked}
-use Rattle.gs_best.proofs.Sides.{frame, lists}
+use Rattle.gs_model.specs.{BestAnswers.{end_worth}, Classes.{IsClass, class_size, first_member}, Frame.{round_of}, Positions.{at_end}}
+use Rattle.gs_seq.specs.{Abstracts.{frame_of, lists_of}, Plans.{class_plan, lifted}}
+use Rattle.gs_best.proofs.{Shares.{end_share, some_member}, Forms.{form_classes, form_in_range, form_lossless, form_walked}, Sides.{frame, lists}}
 use Rattle.gs_best.proofs.ends.end_value.Goals as goal
 
 pub over-requires : goal.over-requires

@@ -1,11 +1,8 @@
 use Rattle.std.proofs.Common.{List, ℕ, length, drop, sym, ap, subst, arith}
 use Rattle.std.specs.Prelude.{ℤ}
-use Rattle.gs_model.specs.Frame.{round_of}
-use Rattle.gs_model.specs.Positions.{at_end}
+use Rattle.gs_model.specs.{Frame.{round_of}, Positions.{at_end}}
 use Rattle.gs_best.specs.Ends.{IsEndRow}
-use Rattle.gs_best.proofs.Filled.{written}
-use Rattle.gs_best.proofs.Rooms.{written_wide}
-use Rattle.gs_best.proofs.Sides.{against, frame, lists, side_walked}
+use Rattle.gs_best.proofs.{Filled.{written}, Rooms.{written_wide}, Sides.{against, frame, lists, side_walked}}
 use Rattle.gs_best.proofs.ends.read_end.Goals as goal
 
 pub read_row-requires-clause-room : goal.read_row-requires-clause-room

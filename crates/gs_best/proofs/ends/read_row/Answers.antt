@@ -1,13 +1,8 @@
 use Rattle.std.proofs.Common.{◌≡◌, ◌+◌, ◌-◌, ◌∙◌, ap, sym, arith, get_or}
 use Rattle.std.specs.Prelude.{pos, ◌*ℤ◌}
-use Rattle.gs_model.specs.BestAnswers.{end_worth}
-use Rattle.gs_model.specs.Classes.{class_count, class_size, first_member}
-use Rattle.gs_model.specs.Frame.{round_of}
-use Rattle.gs_model.specs.Positions.{at_end}
+use Rattle.gs_model.specs.{BestAnswers.{end_worth}, Classes.{class_count, class_size, first_member}, Frame.{round_of}, Positions.{at_end}}
 use Rattle.gs_seq.specs.Plans.{class_plan}
-use Rattle.gs_best.proofs.Forms.{form_in_range, form_lossless}
-use Rattle.gs_best.proofs.Shares.{end_share}
-use Rattle.gs_best.proofs.Sides.{against, classes, frame, lists, side_walked}
+use Rattle.gs_best.proofs.{Forms.{form_in_range, form_lossless}, Shares.{end_share}, Sides.{against, classes, frame, lists, side_walked}}
 use Rattle.gs_best.proofs.ends.read_row.Goals as goal
 
 pub returns : goal.returns

@@ -1,13 +1,11 @@
-use Rattle.std.proofs.Common.{◌≡◌, ap, ◌∙◌, sym, arith}
+use Rattle.std.proofs.{Common.{◌≡◌, ap, ◌∙◌, sym, arith}, lemmas.Int.{to_z-of_z}}
 use Rattle.std.specs.Prelude.{pos, ◌*ℤ◌}
-use Rattle.std.proofs.lemmas.Int.{to_z-of_z}
 use mir.Syntax.{w128}
 use Rattle.gs_filter.specs.Filter.{Filter}
 use Rattle.gs_lossless.specs.declared.checking.Lossless.{Lossless}
 use Rattle.gs_model.specs.Classes.{class_size}
 use Rattle.gs_seq.specs.Abstracts.{frame_of, lists_of}
-use Rattle.gs_best.proofs.Forms.{form_classes}
-use Rattle.gs_best.proofs.Shares.{some_member}
+use Rattle.gs_best.proofs.{Forms.{form_classes}, Shares.{some_member}}
 use Rattle.gs_best.proofs.ends.share.Goals as goal
 
 pub over-requires : goal.over-requires

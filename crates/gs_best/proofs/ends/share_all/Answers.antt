@@ -1,8 +1,6 @@
-use Rattle.std.proofs.Common.{rules, ◌∙◌, ◌<◌, get_or, length, arith}
-use Rattle.std.specs.Prelude.{pos}
-use Rattle.std.proofs.lemmas.Int.{to_z-of_z}
+use Rattle.std.proofs.{Common.{rules, ◌∙◌, ◌<◌, get_or, length, arith}, lemmas.Int.{to_z-of_z}}
+use Rattle.std.specs.{Prelude.{pos}, Int.RustNames.{FitsSigned}}
 use mir.Syntax.{w128}
-use Rattle.std.specs.Int.RustNames.{FitsSigned}
 use Rattle.gs_model.specs.Classes.{class_size}
 use Rattle.gs_seq.specs.Abstracts.{lists_of}
 use Rattle.gs_best.proofs.Filled.{rest_more, shares_more}

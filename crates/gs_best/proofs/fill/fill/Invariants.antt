@@ -1,9 +1,7 @@
 use Rattle.std.proofs.Common.{◌≤◌}
 use Rattle.gs_model.specs.Frame.{point_count}
-use Rattle.gs_seq.specs.Abstracts.{frame_of, lists_of}
-use Rattle.gs_seq.specs.Plans.{lifted}
-use Rattle.gs_best.specs.Sizes.{HasRoom, IsLaidOut}
-use Rattle.gs_best.specs.Tables.{IsBestFrom, moves_of, table_of}
+use Rattle.gs_seq.specs.{Abstracts.{frame_of, lists_of}, Plans.{lifted}}
+use Rattle.gs_best.specs.{Sizes.{HasRoom, IsLaidOut}, Tables.{IsBestFrom, moves_of, table_of}}
 use Rattle.gs_best.proofs.fill.fill.Given as goal
 
 abbrev pub invariant-loop-point : goal.invariant-loop-point

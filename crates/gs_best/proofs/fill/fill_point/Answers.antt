@@ -1,14 +1,9 @@
 use Rattle.std.proofs.Common.{ℕ, ◌+◌, List, ◌++◌, length, take, drop, sym, ap, ◌∙◌, subst, arith}
 use Rattle.std.specs.Prelude.{ℤ}
-use Rattle.gs_model.specs.Classes.{class_count}
-use Rattle.gs_model.specs.Frame.{point_count}
-use Rattle.gs_best.specs.Rows.{IsMerged}
-use Rattle.gs_best.specs.Tables.{IsBestFrom, classes_at, moves_of}
-use Rattle.gs_best.proofs.Backwards.{step_back}
-use Rattle.gs_best.proofs.Filled.{written}
-use Rattle.gs_best.proofs.Placed.{IsRow, row_read}
-use Rattle.gs_best.proofs.Sides.{against, classes, frame, lists, side_walked, values_in, worths_in}
-use Rattle.gs_best.proofs.fill.fill_point.Goals.{After-class_total-count}
+use Rattle.gs_model.specs.{Classes.{class_count}, Frame.{point_count}}
+use Rattle.gs_best.specs.{Rows.{IsMerged}, Tables.{IsBestFrom, classes_at, moves_of}}
+use Rattle.gs_best.proofs.{Backwards.{step_back}, Filled.{written}, Placed.{IsRow, row_read}}
+use Rattle.gs_best.proofs.{Sides.{against, classes, frame, lists, side_walked, values_in, worths_in}, fill.fill_point.Goals.{After-class_total-count}}
 use Rattle.gs_best.proofs.fill.fill_point.Goals as goal
 
 -- where the point's values stand

@@ -1,7 +1,6 @@
 use Rattle.std.proofs.Common.{◌≡◌, sym, ◌∙◌, subst, ap}
 use Rattle.gs_lossless.specs.declared.checking.Lossless.{Lossless}
-use Rattle.gs_seq.specs.Abstracts.{frame_of}
-use Rattle.gs_seq.specs.Sources.{IsClassAbove}
+use Rattle.gs_seq.specs.{Abstracts.{frame_of}, Sources.{IsClassAbove}}
 use Rattle.gs_best.proofs.Forms.{form_in_range}
 use Rattle.gs_best.proofs.form.class_above.Goals as goal
 

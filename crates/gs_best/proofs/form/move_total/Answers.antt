@@ -2,8 +2,7 @@ use Rattle.std.proofs.Common.{◌≡◌, ap, arith, vec_len}
 use Rattle.gs_game.specs.declared.positions.Point.{Point}
 use Rattle.gs_model.specs.Frame.{move_count}
 use Rattle.gs_seq.specs.Abstracts.{frame_of}
-use Rattle.gs_best.proofs.Forms.{form_moves, form_reads}
-use Rattle.gs_best.proofs.form.move_total.Goals.{After-len}
+use Rattle.gs_best.proofs.{Forms.{form_moves, form_reads}, form.move_total.Goals.{After-len}}
 use Rattle.gs_best.proofs.form.move_total.Goals as goal
 
 counted : (c : After-len) → c.len.result ≡ move_count (frame_of c.args.form.now) c.args.point

@@ -1,19 +1,11 @@
-use Rattle.std.proofs.Common.{◌≡◌, ◌-◌, ◌<◌, List, length, refl, sym, ap, ◌∙◌, subst, arith, to_z, of_z}
+use Rattle.std.proofs.{Common.{◌≡◌, ◌-◌, ◌<◌, List, length, refl, sym, ap, ◌∙◌, subst, arith, to_z, of_z}, lemmas.Int.{to_z-of_z}}
 use Rattle.std.specs.Prelude.{ℤ, unsigned_abs}
-use Rattle.std.proofs.lemmas.Int.{to_z-of_z}
 use mir.Syntax.{w128}
 use Rattle.gs_game.specs.Seen.{target_of}
-use Rattle.gs_model.specs.BestAnswers.{spread, start_sum}
-use Rattle.gs_model.specs.Classes.{class_count}
-use Rattle.gs_model.specs.Frame.{end_count, point_count, signals_in}
-use Rattle.gs_model.specs.FrameFacts.{IsInside}
-use Rattle.gs_model.specs.Positions.{at_end, at_point}
-use Rattle.gs_model.specs.Sums.{sum_z}
-use Rattle.gs_best.specs.Answers.{IsBestTotal}
-use Rattle.gs_best.specs.Rows.{value_at}
-use Rattle.gs_best.specs.Tables.{classes_at, moves_of, start_of}
-use Rattle.gs_best.proofs.Backwards.{from_best}
-use Rattle.gs_best.proofs.Placed.{IsRow, row_read}
+use Rattle.gs_model.specs.{BestAnswers.{spread, start_sum}, Classes.{class_count}, Frame.{end_count, point_count, signals_in}, FrameFacts.{IsInside}}
+use Rattle.gs_model.specs.{Positions.{at_end, at_point}, Sums.{sum_z}}
+use Rattle.gs_best.specs.{Answers.{IsBestTotal}, Rows.{value_at}, Tables.{classes_at, moves_of, start_of}}
+use Rattle.gs_best.proofs.{Backwards.{from_best}, Placed.{IsRow, row_read}}
 use Rattle.gs_best.proofs.Sides.{IsKnown, against, classes, end_modest, frame, known_start, lists, point_modest, side_walked, values_in}
 use Rattle.gs_best.proofs.Totals.{starts_at_end, starts_at_point}
 use Rattle.gs_best.proofs.judging.start_total.Goals.{Start, In-Point, In-End, After-round_at, After-round_sum, After-round_sum-in-End}

@@ -1,22 +1,12 @@
-use Rattle.std.proofs.Common.{◌≡◌, ◌*◌, sym, ap, ◌∙◌, subst, arith, to_z, of_z}
+use Rattle.std.proofs.{Common.{◌≡◌, ◌*◌, sym, ap, ◌∙◌, subst, arith, to_z, of_z}, lemmas.Int.{to_z-of_z}}
 use Rattle.std.specs.Prelude.{ℤ, pos, ◌+ℤ◌, ◌-ℤ◌, ◌*ℤ◌, unsigned_abs}
-use Rattle.std.proofs.lemmas.Int.{to_z-of_z}
 use mir.Syntax.{w128}
 use Rattle.gs_game.specs.Games.{game_of}
-use Rattle.gs_model.specs.BestAnswers.{spread, start_sum}
-use Rattle.gs_model.specs.Frame.{total_weight}
-use Rattle.gs_model.specs.Payoff.{raw_payoff}
-use Rattle.gs_model.specs.Plans.{lift}
-use Rattle.gs_model.proofs.Exchanged.{exchanged_one}
-use Rattle.gs_model.proofs.FirstBest.{verdict_from}
-use Rattle.gs_seq.specs.Abstracts.{frame_of, lists_of}
-use Rattle.gs_seq.specs.Plans.{class_plan}
-use Rattle.gs_best.specs.Forms.{game_in}
-use Rattle.gs_best.specs.Judged.{parts}
-use Rattle.gs_best.specs.Sizes.{IsRoomy}
-use Rattle.gs_best.proofs.Forms.{form_classes, form_in_range, form_lossless, form_walked}
-use Rattle.gs_best.proofs.Rooms.{has_room, holds_all, roomy}
-use Rattle.gs_best.proofs.Totals.{paid_small}
+use Rattle.gs_model.specs.{BestAnswers.{spread, start_sum}, Frame.{total_weight}, Payoff.{raw_payoff}, Plans.{lift}}
+use Rattle.gs_model.proofs.{Exchanged.{exchanged_one}, FirstBest.{verdict_from}}
+use Rattle.gs_seq.specs.{Abstracts.{frame_of, lists_of}, Plans.{class_plan}}
+use Rattle.gs_best.specs.{Forms.{game_in}, Judged.{parts}, Sizes.{IsRoomy}}
+use Rattle.gs_best.proofs.{Forms.{form_classes, form_in_range, form_lossless, form_walked}, Rooms.{has_room, holds_all, roomy}, Totals.{paid_small}}
 use Rattle.gs_best.proofs.judging.verdict.Goals.{After-plans_pay-paid}
 use Rattle.gs_best.proofs.judging.verdict.Goals as goal
 

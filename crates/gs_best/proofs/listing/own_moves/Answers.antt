@@ -1,15 +1,10 @@
-use Rattle.std.proofs.Common.{◌≡◌, ◌+◌, ◌<◌, ◌≤◌, ◌++◌, ℕ, List, drop, take, length, ap, sym, ◌∙◌, subst, arith, Vec}
+use Rattle.std.proofs.{Common.{◌≡◌, ◌+◌, ◌<◌, ◌≤◌, ◌++◌, ℕ, List, drop, take, length, ap, sym, ◌∙◌, subst, arith, Vec}, lemmas.List.{get_or_read}}
 use Rattle.std.specs.declared.alloc.Global.{Global}
-use Rattle.std.proofs.lemmas.List.{get_or_read}
-use Rattle.gs_model.specs.Classes.{class_count}
-use Rattle.gs_model.specs.Frame.{player_at, point_count}
-use Rattle.gs_best.specs.Answers.{choices_before}
-use Rattle.gs_best.specs.Tables.{classes_at, moves_of, start_of, table_of}
-use Rattle.gs_best.proofs.Listed.{AreListed, choices_none, listed_more, listed_same, longer}
-use Rattle.gs_best.proofs.Sides.{against, frame, lists}
-use Rattle.gs_best.proofs.Starts.{starts_le, starts_more}
-use Rattle.gs_best.proofs.listing.own_moves.Goals as goal
+use Rattle.gs_model.specs.{Classes.{class_count}, Frame.{player_at, point_count}}
+use Rattle.gs_best.specs.{Answers.{choices_before}, Tables.{classes_at, moves_of, start_of, table_of}}
+use Rattle.gs_best.proofs.{Listed.{AreListed, choices_none, listed_more, listed_same, longer}, Sides.{against, frame, lists}, Starts.{starts_le, starts_more}}
 use Rattle.gs_best.proofs.listing.own_moves.Goals.{then-chooser-side+in_ok-push_row, else-chooser-side}
+use Rattle.gs_best.proofs.listing.own_moves.Goals as goal
 
 pub push_row-requires : goal.push_row-requires
 push_row-requires c =

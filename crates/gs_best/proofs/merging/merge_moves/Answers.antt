@@ -1,18 +1,10 @@
 use Rattle.std.proofs.Common.{◌≡◌, ◌≢◌, ◌+◌, ◌^◌, ◌<◌, ◌≤◌, ℕ, List, ◌++◌, length, take, drop, sym, ap, ◌∙◌, subst, arith, Vec}
-use Rattle.std.specs.Prelude.{ℤ}
-use Rattle.std.specs.declared.alloc.Global.{Global}
-use Rattle.gs_model.specs.Classes.{ClassLists, class_count}
-use Rattle.gs_model.specs.Frame.{Frame, move_count, player_at, round_of}
-use Rattle.gs_model.specs.Positions.{at_point}
-use Rattle.gs_best.specs.Rows.{AreGreatest, AreSums, AreWorths, IsMergedBy}
-use Rattle.gs_best.specs.Sizes.{HasRoom, IsWide}
-use Rattle.gs_best.specs.declared.deviator.Deviator.{Deviator}
+use Rattle.std.specs.{Prelude.{ℤ}, declared.alloc.Global.{Global}}
+use Rattle.gs_model.specs.{Classes.{ClassLists, class_count}, Frame.{Frame, move_count, player_at, round_of}, Positions.{at_point}}
+use Rattle.gs_best.specs.{Rows.{AreGreatest, AreSums, AreWorths, IsMergedBy}, Sizes.{HasRoom, IsWide}, declared.deviator.Deviator.{Deviator}}
 use Rattle.gs_best.specs.declared.room.Scratch.{Scratch}
-use Rattle.gs_best.proofs.Filled.{written}
-use Rattle.gs_best.proofs.Greatest.{greatest_step, sum_fits, sum_step}
-use Rattle.gs_best.proofs.Rooms.{written_wide}
-use Rattle.gs_best.proofs.Sides.{frame, known_worth, known_worths, lists, worths_in}
-use Rattle.gs_best.proofs.merging.merge_moves.Goals.{After-class_total-count, then-own, else-own}
+use Rattle.gs_best.proofs.{Filled.{written}, Greatest.{greatest_step, sum_fits, sum_step}, Rooms.{written_wide}}
+use Rattle.gs_best.proofs.{Sides.{frame, known_worth, known_worths, lists, worths_in}, merging.merge_moves.Goals.{After-class_total-count, then-own, else-own}}
 use Rattle.gs_best.proofs.merging.merge_moves.Goals as goal
 
 all : (c : After-class_total-count) → c.class_total-count.result ≡ class_count (lists c.args.side.now) (round_of (frame c.args.side.now) (at_point c.args.point))

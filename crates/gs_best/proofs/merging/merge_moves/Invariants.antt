@@ -1,10 +1,7 @@
 use Rattle.std.proofs.Common.{◌<◌}
 use Rattle.gs_model.specs.BestAnswers.{class_worth}
-use Rattle.gs_seq.specs.Abstracts.{frame_of, lists_of}
-use Rattle.gs_seq.specs.Plans.{lifted}
-use Rattle.gs_best.specs.Rows.{IsMergedBy}
-use Rattle.gs_best.specs.Sizes.{HasRoom}
-use Rattle.gs_best.specs.Tables.{table_of}
+use Rattle.gs_seq.specs.{Abstracts.{frame_of, lists_of}, Plans.{lifted}}
+use Rattle.gs_best.specs.{Rows.{IsMergedBy}, Sizes.{HasRoom}, Tables.{table_of}}
 use Rattle.gs_best.proofs.merging.merge_moves.Given as goal
 
 abbrev pub invariant-loop-choice : goal.invariant-loop-choice

@@ -1,12 +1,9 @@
-use Rattle.std.proofs.Common.{◌≡◌, ℕ, true, false, cond, get_or, sym, ap, ◌∙◌, arith, rules}
-use Rattle.std.specs.Prelude.{ℤ, pos}
-use Rattle.std.specs.Int.RustNames.{FitsSigned}
-use Rattle.std.proofs.lemmas.Int.{to_z-of_z}
+use Rattle.std.proofs.{Common.{◌≡◌, ℕ, true, false, cond, get_or, sym, ap, ◌∙◌, arith, rules}, lemmas.Int.{to_z-of_z}}
+use Rattle.std.specs.{Prelude.{ℤ, pos}, Int.RustNames.{FitsSigned}}
 use mir.Syntax.{w128}
 use Rattle.gs_best.specs.Rows.{raises}
-use Rattle.gs_best.proofs.Filled.{rest_more, row_keeps, row_more}
+use Rattle.gs_best.proofs.{Filled.{rest_more, row_keeps, row_more}, merging.raise.Goals.{then-is_raised, else-is_raised}}
 use Rattle.gs_best.proofs.merging.raise.Goals as goal
-use Rattle.gs_best.proofs.merging.raise.Goals.{then-is_raised, else-is_raised}
 
 pub loop-class-preserved : goal.loop-class-preserved
 loop-class-preserved c =

@@ -1,7 +1,5 @@
-use Rattle.std.proofs.Common.{sym, ap, ◌∙◌}
+use Rattle.std.proofs.{Common.{sym, ap, ◌∙◌}, Math.IntN.{*ℤ_comm}, lemmas.Int.{to_z-of_z}}
 use Rattle.std.specs.Prelude.{◌*ℤ◌}
-use Rattle.std.proofs.Math.IntN.{*ℤ_comm}
-use Rattle.std.proofs.lemmas.Int.{to_z-of_z}
 use mir.Syntax.{w128}
 use Rattle.gs_best.proofs.Fractions.{bottom}
 use Rattle.gs_best.proofs.numbers.fraction.Goals as goal

@@ -1,12 +1,9 @@
-use Rattle.std.proofs.Common.{◌≡◌, ◌*◌, ap, ◌∙◌, arith, to_z, of_z}
+use Rattle.std.proofs.{Common.{◌≡◌, ◌*◌, ap, ◌∙◌, arith, to_z, of_z}, lemmas.Int.{fits_signed_from_abs, ints, to_z-of_z}}
 use Rattle.std.specs.Prelude.{pos, ◌+ℤ◌, ◌-ℤ◌, ◌*ℤ◌, ◌<ℤ◌, unsigned_abs}
-use Rattle.std.proofs.lemmas.Int.{fits_signed_from_abs, ints, to_z-of_z}
 use borrow.Author.Differences.{abs_is}
 use mir.Syntax.{w128}
-use Rattle.gs_model.proofs.Sparse.{abs_sum}
-use Rattle.gs_model.proofs.Choose.{products_positive}
-use Rattle.gs_best.proofs.Fractions.{over_scale, over_turn, turned_sum}
-use Rattle.gs_best.proofs.Totals.{scaled_small}
+use Rattle.gs_model.proofs.{Sparse.{abs_sum}, Choose.{products_positive}}
+use Rattle.gs_best.proofs.{Fractions.{over_scale, over_turn, turned_sum}, Totals.{scaled_small}}
 use Rattle.gs_best.proofs.numbers.judged.Goals.{After-scaled-scale, After-scaled, After-minus-gap1, After-scaled-2, After-plus-gap2}
 use Rattle.gs_best.proofs.numbers.judged.Goals as goal
 

@@ -1,7 +1,5 @@
-use Rattle.std.proofs.Common.{ap, ◌∙◌, arith}
-use Rattle.std.specs.Prelude.{pos, ◌<ℤ◌}
-use Rattle.std.specs.Int.RustNames.{FitsSigned, int_div}
-use Rattle.std.proofs.lemmas.Int.{ints, quot_fits, quot_is}
+use Rattle.std.proofs.{Common.{ap, ◌∙◌, arith}, lemmas.Int.{ints, quot_fits, quot_is}}
+use Rattle.std.specs.{Prelude.{pos, ◌<ℤ◌}, Int.RustNames.{FitsSigned, int_div}}
 use mir.Syntax.{w128}
 use Rattle.gs_best.proofs.Quotients.{exact}
 use Rattle.gs_best.proofs.numbers.over.Goals as goal

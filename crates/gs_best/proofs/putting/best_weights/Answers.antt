@@ -1,9 +1,7 @@
 use Rattle.std.proofs.Common.{◌≡◌, ℕ, List, length, drop, sym, ap, subst, arith}
 use Rattle.gs_model.specs.Frame.{point_count}
-use Rattle.gs_best.specs.Puts.{ArePutBefore}
-use Rattle.gs_best.specs.Tables.{moves_of}
-use Rattle.gs_best.proofs.Filled.{written}
-use Rattle.gs_best.proofs.Sides.{frame, lists}
+use Rattle.gs_best.specs.{Puts.{ArePutBefore}, Tables.{moves_of}}
+use Rattle.gs_best.proofs.{Filled.{written}, Sides.{frame, lists}}
 use Rattle.gs_best.proofs.putting.best_weights.Goals as goal
 
 pub returns-clause-puts : goal.returns-clause-puts

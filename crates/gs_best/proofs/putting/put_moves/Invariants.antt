@@ -1,9 +1,6 @@
 use Rattle.std.proofs.Common.{◌≡◌, length}
-use Rattle.gs_seq.specs.Abstracts.{frame_of, lists_of}
-use Rattle.gs_seq.specs.Firsts.{IsClear}
-use Rattle.gs_seq.specs.Slots.{slot_count, slots_before}
-use Rattle.gs_best.specs.Puts.{ArePutBefore}
-use Rattle.gs_best.specs.Tables.{moves_of}
+use Rattle.gs_seq.specs.{Abstracts.{frame_of, lists_of}, Firsts.{IsClear}, Slots.{slot_count, slots_before}}
+use Rattle.gs_best.specs.{Puts.{ArePutBefore}, Tables.{moves_of}}
 use Rattle.gs_best.proofs.putting.put_moves.Given as goal
 
 abbrev pub invariant-loop-point : goal.invariant-loop-point

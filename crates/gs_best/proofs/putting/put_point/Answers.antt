@@ -1,20 +1,11 @@
 use Rattle.std.proofs.Common.{◌≡◌, ◌+◌, ◌-◌, ◌*◌, ◌<◌, ◌≤◌, length, get_or, set, sym, ap, ◌∙◌, subst, arith, ⊎_elim, get_or-set_other}
-use Rattle.std.proofs.Math.Nat.{mul-le-mul_right}
-use Rattle.std.proofs.lemmas.Bool.{cases_eq}
-use Rattle.gs_model.specs.Classes.{IsClass, class_count, first_member}
-use Rattle.gs_model.specs.Frame.{last_step, move_count, point_count, round_of}
-use Rattle.gs_model.specs.Plans.{lift, number_before}
+use Rattle.std.proofs.{Math.Nat.{mul-le-mul_right}, lemmas.Bool.{cases_eq}}
+use Rattle.gs_model.specs.{Classes.{IsClass, class_count, first_member}, Frame.{last_step, move_count, point_count, round_of}, Plans.{lift, number_before}}
 use Rattle.gs_model.specs.Positions.{at_point}
-use Rattle.gs_seq.specs.Abstracts.{frame_of, lists_of}
-use Rattle.gs_seq.specs.Firsts.{Agree, IsClear}
-use Rattle.gs_seq.specs.Slots.{plan_of, slot_of, slots_before}
-use Rattle.gs_seq.proofs.Firsts.{slots_own}
-use Rattle.gs_seq.proofs.SlotLaws.{slots_le}
-use Rattle.gs_best.specs.Puts.{IsPutAt}
-use Rattle.gs_best.specs.Tables.{moves_of, start_of}
-use Rattle.gs_best.proofs.AllOn.{put_here, put_kept}
-use Rattle.gs_best.proofs.Forms.{form_classes, form_in_range, form_walked}
-use Rattle.gs_best.proofs.Starts.{place_before}
+use Rattle.gs_seq.specs.{Abstracts.{frame_of, lists_of}, Firsts.{Agree, IsClear}, Slots.{plan_of, slot_of, slots_before}}
+use Rattle.gs_seq.proofs.{Firsts.{slots_own}, SlotLaws.{slots_le}}
+use Rattle.gs_best.specs.{Puts.{IsPutAt}, Tables.{moves_of, start_of}}
+use Rattle.gs_best.proofs.{AllOn.{put_here, put_kept}, Forms.{form_classes, form_in_range, form_walked}, Starts.{place_before}}
 use Rattle.gs_best.proofs.putting.put_point.Goals.{After-class_total-before-end, In-loop-before}
 use Rattle.gs_best.proofs.putting.put_point.Goals as goal
 

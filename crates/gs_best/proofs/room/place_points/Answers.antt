@@ -2,10 +2,7 @@ use Rattle.std.proofs.Common.{◌≡◌, ◌+◌, ap, ◌∙◌, arith}
 use Rattle.gs_model.specs.Classes.{class_count}
 use Rattle.gs_seq.specs.Abstracts.{frame_of, lists_of}
 use Rattle.gs_best.specs.Tables.{classes_at, start_of}
-use Rattle.gs_best.proofs.Filled.{rest_more, row_more}
-use Rattle.gs_best.proofs.Placed.{row_next}
-use Rattle.gs_best.proofs.Starts.{starts_few}
-use Rattle.gs_best.proofs.room.place_points.Goals.{After-class_total-start}
+use Rattle.gs_best.proofs.{Filled.{rest_more, row_more}, Placed.{row_next}, Starts.{starts_few}, room.place_points.Goals.{After-class_total-start}}
 use Rattle.gs_best.proofs.room.place_points.Goals as goal
 
 next : (c : After-class_total-start) → c.loop-point.start + c.class_total-start.result ≡ start_of (frame_of c.args.form.now) (lists_of c.args.form.now) (c.loop-point.point + 1)

@@ -1,16 +1,11 @@
 use Rattle.std.proofs.Common.{◌≡◌, ◌+◌, ◌-◌, List, length, drop, sym, ap, ◌∙◌, subst, arith}
 use Rattle.std.specs.Prelude.{ℤ}
 use Rattle.gs_game.specs.Seen.{target_of}
-use Rattle.gs_model.specs.Classes.{class_count}
-use Rattle.gs_model.specs.Frame.{leads_to, point_count}
-use Rattle.gs_model.specs.Positions.{at_end, at_point}
-use Rattle.gs_best.specs.Rows.{AreSumsBelow, AreWorths}
-use Rattle.gs_best.specs.Tables.{classes_at}
-use Rattle.gs_best.proofs.Filled.{written}
-use Rattle.gs_best.proofs.Placed.{IsRow, row_read}
+use Rattle.gs_model.specs.{Classes.{class_count}, Frame.{leads_to, point_count}, Positions.{at_end, at_point}}
+use Rattle.gs_best.specs.{Rows.{AreSumsBelow, AreWorths}, Tables.{classes_at}}
+use Rattle.gs_best.proofs.{Filled.{written}, Placed.{IsRow, row_read}}
 use Rattle.gs_best.proofs.Sides.{IsNextEnd, IsNextPoint, against, classes, end_modest, frame, lists, next_end, next_point, point_modest, worths_in}
-use Rattle.gs_best.proofs.Worths.{worths_at_end, worths_at_point}
-use Rattle.gs_best.proofs.rows.read_worths.Goals.{In-Point, In-End, After-index}
+use Rattle.gs_best.proofs.{Worths.{worths_at_end, worths_at_point}, rows.read_worths.Goals.{In-Point, In-End, After-index}}
 use Rattle.gs_best.proofs.rows.read_worths.Goals as goal
 
 -- the point to which the move leads

@@ -1,14 +1,10 @@
-use Rattle.std.proofs.Common.{ℕ, ◌+◌, cond, sym, ◌∙◌, arith}
+use Rattle.std.proofs.{Common.{ℕ, ◌+◌, cond, sym, ◌∙◌, arith}, lemmas.Int.{to_z-of_z}}
 use Rattle.std.specs.Prelude.{◌==◌, ℤ, pos}
-use Rattle.std.proofs.lemmas.Int.{to_z-of_z}
 use mir.Syntax.{w128}
-use Rattle.gs_model.specs.Classes.{first_member}
-use Rattle.gs_model.specs.Frame.{ancestor, signals_in}
-use Rattle.gs_model.specs.Sums.{sum_z}
+use Rattle.gs_model.specs.{Classes.{first_member}, Frame.{ancestor, signals_in}, Sums.{sum_z}}
 use Rattle.gs_seq.specs.Abstracts.{frame_of, lists_of}
 use Rattle.gs_best.specs.Rows.{value_at}
-use Rattle.gs_best.proofs.Filled.{by_class, row_more}
-use Rattle.gs_best.proofs.Ranges.{run_is}
+use Rattle.gs_best.proofs.{Filled.{by_class, row_more}, Ranges.{run_is}}
 use Rattle.gs_best.proofs.rows.sum_below.Goals as goal
 
 pub loop-class-preserved : goal.loop-class-preserved

@@ -1,8 +1,6 @@
 use Rattle.std.proofs.Common.{◌≡◌, ℕ, ◌+◌, ◌<◌, get_or}
 use Rattle.std.specs.Prelude.{◌==◌, pos, if◌then◌else◌}
-use Rattle.gs_model.specs.Classes.{first_member}
-use Rattle.gs_model.specs.Frame.{ancestor, signals_in}
-use Rattle.gs_model.specs.Sums.{sum_z}
+use Rattle.gs_model.specs.{Classes.{first_member}, Frame.{ancestor, signals_in}, Sums.{sum_z}}
 use Rattle.gs_seq.specs.Abstracts.{frame_of, lists_of}
 use Rattle.gs_best.specs.Rows.{value_at}
 use Rattle.gs_best.proofs.rows.sum_below.Given as goal

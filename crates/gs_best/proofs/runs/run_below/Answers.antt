@@ -1,10 +1,8 @@
 use Rattle.std.proofs.Common.{◌≡◌, ap, ◌∙◌, subst, arith}
-use Rattle.gs_lossless.specs.Amounts.{IsRunIn}
-use Rattle.gs_lossless.specs.declared.checking.Lossless.{Lossless}
+use Rattle.gs_lossless.specs.{Amounts.{IsRunIn}, declared.checking.Lossless.{Lossless}}
 use Rattle.gs_model.specs.Frame.{frame_of}
 use Rattle.gs_seq.specs.Abstracts.{frame_of as form_frame}
-use Rattle.gs_tree.specs.Trees.{rules_of}
-use Rattle.gs_tree.specs.declared.signals.Signals.{Signals}
+use Rattle.gs_tree.specs.{Trees.{rules_of}, declared.signals.Signals.{Signals}}
 use Rattle.gs_best.proofs.Forms.{form_count, form_rounds}
 use Rattle.gs_best.proofs.runs.run_below.Goals as goal
 

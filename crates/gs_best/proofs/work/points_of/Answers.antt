@@ -1,8 +1,6 @@
-use Rattle.std.proofs.Common.{ℕ, cond, ap, sym, ◌∙◌, arith}
+use Rattle.std.proofs.{Common.{ℕ, cond, ap, sym, ◌∙◌, arith}, lemmas.Bool.Decides.{Decides-eqb}}
 use Rattle.std.specs.Prelude.{◌==◌}
-use Rattle.std.proofs.lemmas.Bool.Decides.{Decides-eqb}
-use Rattle.gs_model.specs.Frame.{round_of}
-use Rattle.gs_model.specs.Positions.{at_point}
+use Rattle.gs_model.specs.{Frame.{round_of}, Positions.{at_point}}
 use Rattle.gs_model.proofs.Basics.{not_eq}
 use Rattle.gs_seq.specs.Abstracts.{frame_of}
 use Rattle.gs_seq.proofs.SlotLaws.{sum_range_more}

@@ -1,8 +1,6 @@
 use Rattle.std.proofs.Common.{◌≡◌, ◌≤◌, count_by}
-use Rattle.std.specs.Prelude.{◌==◌}
-use Rattle.std.specs.List.{range_with_len}
-use Rattle.gs_model.specs.Frame.{round_of}
-use Rattle.gs_model.specs.Positions.{at_point}
+use Rattle.std.specs.{Prelude.{◌==◌}, List.{range_with_len}}
+use Rattle.gs_model.specs.{Frame.{round_of}, Positions.{at_point}}
 use Rattle.gs_seq.specs.Abstracts.{frame_of}
 use Rattle.gs_best.proofs.work.points_of.Given as goal
 

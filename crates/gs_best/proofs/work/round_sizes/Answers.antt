@@ -1,12 +1,9 @@
-use Rattle.std.proofs.Common.{◌≡◌, ◌+◌, ◌++◌, ◌∷◌, [], List, ℕ, map, ap, sym, ◌∙◌, arith}
+use Rattle.std.proofs.{Common.{◌≡◌, ◌+◌, ◌++◌, ◌∷◌, [], List, ℕ, map, ap, sym, ◌∙◌, arith}, lemmas.List.{map-append}}
 use Rattle.std.specs.List.{range_with_len}
-use Rattle.std.proofs.lemmas.List.{map-append}
 use Rattle.gs_model.specs.Classes.{class_count}
 use Rattle.gs_model.proofs.Sparse.{range_append}
 use Rattle.gs_seq.specs.Abstracts.{frame_of, lists_of}
-use Rattle.gs_best.specs.Rounds.{size_of}
-use Rattle.gs_best.specs.Sizes.{points_in}
-use Rattle.gs_best.specs.declared.work.RoundSize.{RoundSize}
+use Rattle.gs_best.specs.{Rounds.{size_of}, Sizes.{points_in}, declared.work.RoundSize.{RoundSize}}
 use Rattle.gs_best.proofs.work.round_sizes.Goals as goal
 
 pub loop-before-preserved : goal.loop-before-preserved

@@ -2,8 +2,7 @@ use Rattle.std.proofs.Common.{◌≡◌, ℕ, map}
 use Rattle.std.specs.List.{range_with_len}
 use Rattle.gs_model.specs.Classes.{class_count}
 use Rattle.gs_seq.specs.Abstracts.{frame_of, lists_of}
-use Rattle.gs_best.specs.Rounds.{size_of}
-use Rattle.gs_best.specs.Sizes.{points_in}
+use Rattle.gs_best.specs.{Rounds.{size_of}, Sizes.{points_in}}
 use Rattle.gs_best.proofs.work.round_sizes.Given as goal
 
 abbrev pub invariant-loop-before : goal.invariant-loop-before

@@ -1,5 +1,4 @@
-use Rattle.std.proofs.Common.{◌≡◌, ◌+◌, ap, arith, ⊎_elim}
-use Rattle.std.proofs.lemmas.Bool.{cases_eq}
+use Rattle.std.proofs.{Common.{◌≡◌, ◌+◌, ap, arith, ⊎_elim}, lemmas.Bool.{cases_eq}}
 use Rattle.gs_model.specs.Classes.{class_count}
 use Rattle.gs_seq.specs.Abstracts.{lists_of}
 use Rattle.gs_best.proofs.work.widest.Goals as goal

@@ -1,7 +1,6 @@
 use Rattle.std.proofs.Common.{◌≡◌, ◌+◌, ◌*◌, ◌-◌, ◌<◌, length}
 use Rattle.gs_model.specs.Betting.{none}
-use Rattle.gs_bet.specs.TreeView.{plain_moves}
-use Rattle.gs_bet.specs.Reading.{moves_at, inner_at, act_at}
+use Rattle.gs_bet.specs.{TreeView.{plain_moves}, Reading.{moves_at, inner_at, act_at}}
 use Rattle.gs_bet.proofs.reading.+reader.Given as goal
 
 abbrev pub decreases-move_of : goal.decreases-move_of

@@ -1,6 +1,5 @@
 use Rattle.std.proofs.Common.{◌≡◌, drop}
-use Rattle.gs_bet.specs.MoveLists.{has_letter}
-use Rattle.gs_bet.specs.TreeView.{plain_moves}
+use Rattle.gs_bet.specs.{MoveLists.{has_letter}, TreeView.{plain_moves}}
 use Rattle.gs_bet.proofs.reading.has.Given as goal
 
 abbrev pub invariant-loop-next : goal.invariant-loop-next

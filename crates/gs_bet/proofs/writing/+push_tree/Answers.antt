@@ -1,12 +1,8 @@
 use Rattle.std.proofs.Common.{◌≡◌, ℕ, List, ◌++◌, ◌∷◌, [], ◌<◌, ◌+◌, ap, ◌∙◌, arith, append_assoc}
-use Rattle.std.specs.String.{string_bytes}
-use Rattle.std.specs.Prelude.{encode_utf8}
+use Rattle.std.specs.{String.{string_bytes}, Prelude.{encode_utf8}}
 use Rattle.gs_model.specs.Betting.{act}
-use Rattle.gs_bet.specs.Grammar.{Prints}
-use Rattle.gs_bet.specs.TreeView.{plain, plain_moves}
-use Rattle.gs_bet.specs.declared.shape.Act.{out-Act}
-use Rattle.gs_bet.proofs.TreeLaws.{plain-act, plain_act-out}
-use Rattle.gs_bet.proofs.Printing.{small_player, sound_moves}
+use Rattle.gs_bet.specs.{Grammar.{Prints}, TreeView.{plain, plain_moves}, declared.shape.Act.{out-Act}}
+use Rattle.gs_bet.proofs.{TreeLaws.{plain-act, plain_act-out}, Printing.{small_player, sound_moves}}
 use Rattle.gs_bet.proofs.writing.+push_tree.Goals as goal
 
 pub loop-next-init : goal.loop-next-init

@@ -1,13 +1,10 @@
-use Rattle.std.proofs.Common.{◌≡◌, ◌<◌, ◌^◌, ◌+◌, ◌∙◌, ◌++◌, ◌∷◌, [], ℕ, List, ap, arith, map, subst, sym}
-use Rattle.std.specs.List.{range_with_len}
-use Rattle.std.specs.Prelude.{All}
-use Rattle.std.proofs.lemmas.List.{map-append}
+use Rattle.std.proofs.{Common.{◌≡◌, ◌<◌, ◌^◌, ◌+◌, ◌∙◌, ◌++◌, ◌∷◌, [], ℕ, List, ap, arith, map, subst, sym}, lemmas.List.{map-append}}
 use Rattle.std.proofs.lemmas.List.Elements.{All-push}
+use Rattle.std.specs.{List.{range_with_len}, Prelude.{All}}
 use Rattle.gs_model.proofs.Sparse.{range_append}
 use Rattle.gs_model.specs.Game.{Game}
 use Rattle.gs_tree.specs.Trees.{rules_of}
-use Rattle.gs_boards.specs.Boards.{IsPlace}
-use Rattle.gs_boards.specs.declared.place.Place.{Place}
+use Rattle.gs_boards.specs.{Boards.{IsPlace}, declared.place.Place.{Place}}
 use Rattle.gs_boards.proofs.place.places_of.Goals as goal
 
 pub loop-signal-preserved : goal.loop-signal-preserved

@@ -1,9 +1,7 @@
 use Rattle.std.proofs.Common.{◌≡◌, ◌<◌, ◌^◌, map}
-use Rattle.std.specs.List.{range_with_len}
-use Rattle.std.specs.Prelude.{All}
+use Rattle.std.specs.{List.{range_with_len}, Prelude.{All}}
 use Rattle.gs_tree.specs.Trees.{rules_of}
-use Rattle.gs_boards.specs.Boards.{IsPlace}
-use Rattle.gs_boards.specs.declared.place.Place.{Place}
+use Rattle.gs_boards.specs.{Boards.{IsPlace}, declared.place.Place.{Place}}
 use Rattle.gs_boards.proofs.place.places_of.Given as goal
 
 abbrev pub invariant-loop-signal : goal.invariant-loop-signal

@@ -1,5 +1,4 @@
-use Rattle.std.proofs.Common.{rules}
-use Rattle.std.proofs.lemmas.List.Sorted.{IsNonDecreasingBy-from_sort_by_key}
+use Rattle.std.proofs.{Common.{rules}, lemmas.List.Sorted.{IsNonDecreasingBy-from_sort_by_key}}
 use Rattle.gs_boards.specs.Places.{rank_of}
 use Rattle.gs_boards.proofs.Sorted.{in_order}
 use Rattle.gs_boards.proofs.place.sort_places.Goals as goal

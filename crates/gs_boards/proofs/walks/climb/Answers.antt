@@ -1,12 +1,8 @@
-use Rattle.std.proofs.Common.{◌≡◌, ◌<◌, ◌^◌, ◌∙◌, ℕ, List, arith, get_or, length, rules, subst, sym, take, to_z, of_z}
-use Rattle.std.specs.Int.{w128}
-use Rattle.std.specs.Prelude.{All, unsigned_abs}
-use Rattle.std.proofs.lemmas.Int.{to_z-of_z}
+use Rattle.std.proofs.{Common.{◌≡◌, ◌<◌, ◌^◌, ◌∙◌, ℕ, List, arith, get_or, length, rules, subst, sym, take, to_z, of_z}, lemmas.Int.{to_z-of_z}}
+use Rattle.std.specs.{Int.{w128}, Prelude.{All, unsigned_abs}}
 use mir.Val.{SFits}
-use Rattle.gs_boards.specs.Runs.{number_at, paid_by}
-use Rattle.gs_boards.specs.declared.place.Place.{Place}
-use Rattle.gs_boards.proofs.Payments.{won_is}
-use Rattle.gs_boards.proofs.Steps.{come_up, come_within, go_up, weaker_before, written}
+use Rattle.gs_boards.specs.{Runs.{number_at, paid_by}, declared.place.Place.{Place}}
+use Rattle.gs_boards.proofs.{Payments.{won_is}, Steps.{come_up, come_within, go_up, weaker_before, written}}
 use Rattle.gs_boards.proofs.walks.climb.Goals as goal
 
 pub won-requires-clause-within : goal.won-requires-clause-within

@@ -1,7 +1,6 @@
 use Rattle.std.proofs.Common.{◌≡◌, ◌*◌, ◌<◌, ◌≤◌, ◌^◌, ℕ, get_or, pos, take}
 use Rattle.std.specs.Prelude.{unsigned_abs}
-use Rattle.gs_boards.specs.Runs.{number_at, paid_by}
-use Rattle.gs_boards.specs.declared.place.Place.{Place}
+use Rattle.gs_boards.specs.{Runs.{number_at, paid_by}, declared.place.Place.{Place}}
 use Rattle.gs_boards.proofs.Steps.{HasClimbed}
 use Rattle.gs_boards.proofs.walks.climb.Given as goal
 

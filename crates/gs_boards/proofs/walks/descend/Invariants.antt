@@ -1,6 +1,5 @@
 use Rattle.std.proofs.Common.{◌≡◌, ◌+◌, ◌-◌, ◌*◌, ◌<◌, ◌≤◌, ◌^◌, ◌+ℤ◌, ℕ, drop, get_or, length, pos}
-use Rattle.gs_boards.specs.Runs.{paid_by, worth_at}
-use Rattle.gs_boards.specs.declared.place.Place.{Place}
+use Rattle.gs_boards.specs.{Runs.{paid_by, worth_at}, declared.place.Place.{Place}}
 use Rattle.gs_boards.proofs.Steps.{HasDescended}
 use Rattle.gs_boards.proofs.walks.descend.Given as goal
 

@@ -1,5 +1,4 @@
-use Rattle.std.proofs.Common.{rules}
-use Rattle.std.proofs.lemmas.Int.{ints}
+use Rattle.std.proofs.{Common.{rules}, lemmas.Int.{ints}}
 use Rattle.gs_certificate.proofs.checking.bound_of.Goals as goal
 
 pub returns : goal.returns

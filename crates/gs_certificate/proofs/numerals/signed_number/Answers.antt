@@ -1,5 +1,4 @@
-use Rattle.std.proofs.Common.{rules, tests}
-use Rattle.std.proofs.lemmas.Int.{ints}
+use Rattle.std.proofs.{Common.{rules, tests}, lemmas.Int.{ints}}
 use Rattle.gs_certificate.proofs.numerals.signed_number.Goals as goal
 
 pub returns : goal.returns

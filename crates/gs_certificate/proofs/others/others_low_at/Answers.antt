@@ -1,13 +1,10 @@
-use Rattle.std.proofs.Common.{◌≡◌, ℕ, ◌+◌, sym, subst, arith, of_z, to_z, Bool, ⊎_elim}
-use Rattle.std.specs.Int.{w128}
-use Rattle.std.specs.Int.Signed.{lt_z}
-use Rattle.std.proofs.lemmas.Bool.{cases_eq}
+use Rattle.std.proofs.{Common.{◌≡◌, ℕ, ◌+◌, sym, subst, arith, of_z, to_z, Bool, ⊎_elim}, lemmas.Bool.{cases_eq}}
+use Rattle.std.specs.{Int.{w128}, Int.Signed.{lt_z}}
 use Rattle.gs_model.specs.Classes.{IsClass}
 use Rattle.gs_seq.proofs.Signed.{read_back}
 use Rattle.gs_best.proofs.Sides.{frame, lists, values_in}
 use Rattle.gs_certificate.specs.Numbers.{IsHighForSum, IsLowForSum, Tells}
-use Rattle.gs_certificate.proofs.Shares.{compared}
-use Rattle.gs_certificate.proofs.others.others_low_at.Goals.{After-number_at}
+use Rattle.gs_certificate.proofs.{Shares.{compared}, others.others_low_at.Goals.{After-number_at}}
 use Rattle.gs_certificate.proofs.others.others_low_at.Goals as goal
 
 -- what the test of the next class tells

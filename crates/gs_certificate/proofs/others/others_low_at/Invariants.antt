@@ -1,7 +1,6 @@
 use Rattle.std.proofs.Common.{ℕ, ◌≤◌}
 use Rattle.gs_model.specs.Classes.{IsClass}
-use Rattle.gs_certificate.specs.Claims.{frame_in, lists_in, table_in}
-use Rattle.gs_certificate.specs.Numbers.{IsHighForSum}
+use Rattle.gs_certificate.specs.{Claims.{frame_in, lists_in, table_in}, Numbers.{IsHighForSum}}
 use Rattle.gs_certificate.proofs.others.others_low_at.Given as goal
 
 abbrev pub invariant-loop-before : goal.invariant-loop-before

@@ -1,15 +1,11 @@
 use Rattle.std.proofs.Common.{◌≡◌, ap, sym, subst, ◌∙◌, of_z, to_z}
 use Rattle.std.specs.Int.{w128}
 use Rattle.gs_game.specs.Seen.{target_of}
-use Rattle.gs_model.specs.Frame.{round_of}
-use Rattle.gs_model.specs.FrameFacts.{IsInside}
-use Rattle.gs_model.specs.Positions.{at_point}
+use Rattle.gs_model.specs.{Frame.{round_of}, FrameFacts.{IsInside}, Positions.{at_point}}
 use Rattle.gs_seq.proofs.Signed.{read_back}
 use Rattle.gs_best.proofs.Sides.{against, frame, lists, values_in}
 use Rattle.gs_certificate.specs.Worths.{target_worth}
-use Rattle.gs_certificate.proofs.Runs.{end_own, end_worth_is}
-use Rattle.gs_certificate.proofs.Shares.{compared, tells_same}
-use Rattle.gs_certificate.proofs.own.is_below.Goals.{After-number_at-number}
+use Rattle.gs_certificate.proofs.{Runs.{end_own, end_worth_is}, Shares.{compared, tells_same}, own.is_below.Goals.{After-number_at-number}}
 use Rattle.gs_certificate.proofs.own.is_below.Goals as goal
 
 -- the number of the class

@@ -1,6 +1,4 @@
-use Rattle.std.proofs.Common.{Some}
-use Rattle.std.proofs.lemmas.Bool.Decides.{Decides-eqb}
-use Rattle.std.proofs.lemmas.Slice.Eq.{strip_prefix_is}
+use Rattle.std.proofs.{Common.{Some}, lemmas.Bool.Decides.{Decides-eqb}, lemmas.Slice.Eq.{strip_prefix_is}}
 use Rattle.gs_certificate.proofs.straight.behind.Goals as goal
 
 pub returns-in-Some : goal.returns-in-Some

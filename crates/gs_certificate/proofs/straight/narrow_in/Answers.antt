@@ -1,7 +1,6 @@
 use Rattle.std.proofs.Common.{◌≡◌, ◌==◌, ◌&&◌, ◌<◌, ◌-◌, ◌^◌, ◌++◌, ◌∙◌, ℕ, Bool, List, length, take, drop, ap, sym, refl, subst, arith}
-use Rattle.std.specs.Prelude.{ℤ, unsigned_abs}
-use Rattle.std.specs.Fmt.{signed_decimal}
 use Rattle.std.proofs.lemmas.List.{length-drop, take_all}
+use Rattle.std.specs.{Prelude.{ℤ, unsigned_abs}, Fmt.{signed_decimal}}
 use mir.Syntax.{w128}
 use mir.Val.{of_z, to_z}
 use Rattle.gs_frac.specs.Texts.{number_of}

@@ -1,6 +1,5 @@
-use Rattle.std.proofs.Common.{◌≡◌, ◌∷◌, [], ◌++◌, ◌<◌, ◌^◌, All, List, ℕ, sym, ap, subst, ◌∙◌}
+use Rattle.std.proofs.{Common.{◌≡◌, ◌∷◌, [], ◌++◌, ◌<◌, ◌^◌, All, List, ℕ, sym, ap, subst, ◌∙◌}, lemmas.List.Elements.{All-push}}
 use Rattle.std.specs.Prelude.{ℤ, unsigned_abs}
-use Rattle.std.proofs.lemmas.List.Elements.{All-push}
 use Rattle.gs_certificate.specs.Straight.{opened}
 use Rattle.gs_certificate.proofs.PlainTexts.{goes_on, kept}
 use Rattle.gs_certificate.proofs.straight.numbers_in.Goals as goal

@@ -1,6 +1,4 @@
-use Rattle.std.proofs.Common.{sym, ◌∙◌}
-use Rattle.std.proofs.lemmas.Bool.{eqb-true}
-use Rattle.std.proofs.lemmas.List.{nil_from_length}
+use Rattle.std.proofs.{Common.{sym, ◌∙◌}, lemmas.Bool.{eqb-true}, lemmas.List.{nil_from_length}}
 use Rattle.gs_certificate.specs.Views.{fraction_parts}
 use Rattle.gs_certificate.proofs.PlainTexts.{stands}
 use Rattle.gs_certificate.proofs.straight.straight.Goals as goal

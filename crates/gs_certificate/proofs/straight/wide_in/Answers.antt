@@ -1,6 +1,5 @@
 use Rattle.std.proofs.Common.{◌<◌, ◌^◌, List, ℕ, ◌++◌, sym, ap, subst, ◌∙◌}
-use Rattle.std.specs.Prelude.{ℤ, unsigned_abs}
-use Rattle.std.specs.Fmt.{signed_decimal}
+use Rattle.std.specs.{Prelude.{ℤ, unsigned_abs}, Fmt.{signed_decimal}}
 use Rattle.gs_certificate.proofs.PlainTexts.{kept, number_is}
 use Rattle.gs_certificate.proofs.straight.wide_in.Goals as goal
 

@@ -1,8 +1,7 @@
 use Rattle.std.proofs.Common.{◌≡◌}
 use Rattle.std.specs.List.{range_with_len}
 use Rattle.gs_model.specs.Sums.{sum_z}
-use Rattle.gs_seq.specs.Abstracts.{frame_of, lists_of}
-use Rattle.gs_seq.specs.Plans.{class_plan}
+use Rattle.gs_seq.specs.{Abstracts.{frame_of, lists_of}, Plans.{class_plan}}
 use Rattle.gs_seq.proofs.EndTotals.{class_term}
 use Rattle.gs_certificate.proofs.tables.end_paid.Given as goal
 

@@ -1,16 +1,10 @@
 use Rattle.std.proofs.Common.{◌≡◌, ◌+◌, ◌≤◌, ap, ◌∙◌, arith, of_z, to_z}
-use Rattle.std.specs.Int.{w128}
-use Rattle.std.specs.List.{range_with_len}
-use Rattle.std.specs.Prelude.{◌+ℤ◌}
-use Rattle.gs_model.specs.Frame.{end_count}
-use Rattle.gs_model.specs.Sums.{sum_z}
-use Rattle.gs_seq.specs.Payoffs.{payoff_at}
-use Rattle.gs_seq.specs.Plans.{class_plan}
-use Rattle.gs_seq.proofs.EndTotals.{ends_are_all, ends_within, from_zero, range_put}
-use Rattle.gs_seq.proofs.Signed.{read_back}
+use Rattle.std.specs.{Int.{w128}, List.{range_with_len}, Prelude.{◌+ℤ◌}}
+use Rattle.gs_model.specs.{Frame.{end_count}, Sums.{sum_z}}
+use Rattle.gs_seq.specs.{Payoffs.{payoff_at}, Plans.{class_plan}}
+use Rattle.gs_seq.proofs.{EndTotals.{ends_are_all, ends_within, from_zero, range_put}, Signed.{read_back}}
 use Rattle.gs_best.proofs.Sides.{frame, lists}
-use Rattle.gs_certificate.proofs.Kept.{other_plan, side_given}
-use Rattle.gs_certificate.proofs.tables.plans_pay.Goals.{After-end_paid}
+use Rattle.gs_certificate.proofs.{Kept.{other_plan, side_given}, tables.plans_pay.Goals.{After-end_paid}}
 use Rattle.gs_certificate.proofs.tables.plans_pay.Goals as goal
 
 -- the sum with the end's part

@@ -1,15 +1,12 @@
 use Rattle.std.proofs.Common.{◌≡◌, ℕ, ◌+◌, ◌-◌, ◌<◌, ◌≤◌, ◌∷◌, [], ◌++◌, length, take, get_or, sym, ap, ◌∙◌, subst, arith}
-use Rattle.std.specs.Prelude.{pos}
 use Rattle.std.proofs.lemmas.List.{get_or-take, length-take-le}
-use Rattle.gs_model.specs.Classes.{class_count}
-use Rattle.gs_model.specs.Frame.{end_count, round_of}
-use Rattle.gs_model.specs.Positions.{at_end}
+use Rattle.std.specs.Prelude.{pos}
+use Rattle.gs_model.specs.{Classes.{class_count}, Frame.{end_count, round_of}, Positions.{at_end}}
 use Rattle.gs_seq.specs.Plans.{class_plan}
 use Rattle.gs_best.specs.Sizes.{IsWide}
 use Rattle.gs_best.proofs.Sides.{frame, lists, side_walked}
 use Rattle.gs_certificate.specs.Paid.{AreKept}
-use Rattle.gs_certificate.proofs.Kept.{kept_more, none_kept}
-use Rattle.gs_certificate.proofs.tables.sums_in.Goals.{In-loop-end}
+use Rattle.gs_certificate.proofs.{Kept.{kept_more, none_kept}, tables.sums_in.Goals.{In-loop-end}}
 use Rattle.gs_certificate.proofs.tables.sums_in.Goals as goal
 
 -- the end of a turn is one of the game's, and what is wide has room for the classes of its round

@@ -1,5 +1,4 @@
-use Rattle.gs_seq.specs.Abstracts.{frame_of, lists_of}
-use Rattle.gs_seq.specs.Plans.{class_plan}
+use Rattle.gs_seq.specs.{Abstracts.{frame_of, lists_of}, Plans.{class_plan}}
 use Rattle.gs_certificate.specs.Paid.{AreKept}
 use Rattle.gs_certificate.proofs.tables.sums_in.Given as goal
 

@@ -1,13 +1,9 @@
-use Rattle.std.proofs.Common.{◌≡◌, ◌+◌, ◌-◌, get_or, ap, subst, ◌∙◌, arith, rules}
-use Rattle.std.specs.Prelude.{pos, unsigned_abs}
-use Rattle.std.specs.Int.RustNames.{FitsSigned}
-use Rattle.std.proofs.lemmas.Int.{to_z-of_z}
+use Rattle.std.proofs.{Common.{◌≡◌, ◌+◌, ◌-◌, get_or, ap, subst, ◌∙◌, arith, rules}, lemmas.Int.{to_z-of_z}}
+use Rattle.std.specs.{Prelude.{pos, unsigned_abs}, Int.RustNames.{FitsSigned}}
 use mir.Syntax.{w128}
-use Rattle.gs_model.specs.Classes.{IsClass}
-use Rattle.gs_model.specs.Frame.{point_count}
+use Rattle.gs_model.specs.{Classes.{IsClass}, Frame.{point_count}}
 use Rattle.gs_best.specs.Tables.{start_of}
-use Rattle.gs_best.proofs.Sides.{frame, lists}
-use Rattle.gs_best.proofs.Starts.{place_before}
+use Rattle.gs_best.proofs.{Sides.{frame, lists}, Starts.{place_before}}
 use Rattle.gs_certificate.proofs.worths.number_at.Goals as goal
 
 pub bounds-values-spot : goal.bounds-values-spot

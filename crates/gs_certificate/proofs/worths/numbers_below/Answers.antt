@@ -1,18 +1,9 @@
-use Rattle.std.proofs.Common.{◌≡◌, ℕ, ◌+◌, ◌-◌, ◌<◌, get_or, sym, ap, subst, ◌∙◌, arith, rules}
-use Rattle.std.specs.Prelude.{pos, unsigned_abs}
-use Rattle.std.specs.Int.RustNames.{FitsSigned}
-use Rattle.std.proofs.lemmas.Int.{to_z-of_z}
+use Rattle.std.proofs.{Common.{◌≡◌, ℕ, ◌+◌, ◌-◌, ◌<◌, get_or, sym, ap, subst, ◌∙◌, arith, rules}, lemmas.Int.{to_z-of_z}}
+use Rattle.std.specs.{Prelude.{pos, unsigned_abs}, Int.RustNames.{FitsSigned}}
 use mir.Syntax.{w128}
-use Rattle.gs_model.specs.Classes.{IsClass, class_count, first_member}
-use Rattle.gs_model.specs.Frame.{point_count, round_of, signal_count}
-use Rattle.gs_model.specs.Positions.{at_point}
-use Rattle.gs_best.specs.Rows.{value_at}
-use Rattle.gs_best.specs.Tables.{start_of}
-use Rattle.gs_best.specs.declared.deviator.Deviator.{Deviator}
-use Rattle.gs_best.proofs.Forms.{form_signals}
-use Rattle.gs_best.proofs.Ranges.{run_is}
-use Rattle.gs_best.proofs.Sides.{frame, lists}
-use Rattle.gs_best.proofs.Starts.{place_before, starts_le, starts_more}
+use Rattle.gs_model.specs.{Classes.{IsClass, class_count, first_member}, Frame.{point_count, round_of, signal_count}, Positions.{at_point}}
+use Rattle.gs_best.specs.{Rows.{value_at}, Tables.{start_of}, declared.deviator.Deviator.{Deviator}}
+use Rattle.gs_best.proofs.{Forms.{form_signals}, Ranges.{run_is}, Sides.{frame, lists}, Starts.{place_before, starts_le, starts_more}}
 use Rattle.gs_certificate.specs.Worths.{sum_below}
 use Rattle.gs_certificate.proofs.Runs.{number_own, run_small, value_small}
 use Rattle.gs_certificate.proofs.worths.numbers_below.Goals as goal

@@ -1,10 +1,8 @@
 use Rattle.std.proofs.Common.{◌≡◌, ◌+◌, ◌<◌, ◌++◌, ◌∷◌, [], ℕ, List, length, get_or, map, take, sym, ap, ◌∙◌, rules}
-use Rattle.std.specs.Prelude.{ℤ, pos}
 use Rattle.std.proofs.lemmas.List.{map-append, take_all, take_more}
-use Rattle.serde_json.specs.Data.{array}
-use Rattle.serde_json.specs.View.{items_of, view}
+use Rattle.std.specs.Prelude.{ℤ, pos}
+use Rattle.serde_json.specs.{Data.{array}, View.{items_of, view}, declared.value.Value.{Value}}
 use Rattle.serde_json.proofs.Views.{view-Array}
-use Rattle.serde_json.specs.declared.value.Value.{Value}
 use Rattle.gs_certificate.specs.Texts.{number_data}
 use Rattle.gs_certificate.proofs.writing.numbers_value.Goals as goal
 

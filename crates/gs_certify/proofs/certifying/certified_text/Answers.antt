@@ -1,13 +1,10 @@
 use Rattle.std.proofs.Common.{◌++◌, ap, ◌∙◌}
 use Rattle.gs_best.specs.Answers.{AreBestValues}
-use Rattle.gs_certificate.specs.Checks.{IsSound}
-use Rattle.gs_certificate.specs.Promises.{AreReached, BoundsAll}
+use Rattle.gs_certificate.specs.{Checks.{IsSound}, Promises.{AreReached, BoundsAll}}
 use Rattle.gs_certificate.proofs.Promised.{bounds_all}
-use Rattle.gs_seq.specs.Abstracts.{frame_of, lists_of}
-use Rattle.gs_seq.specs.Plans.{class_plan, lifted}
+use Rattle.gs_seq.specs.{Abstracts.{frame_of, lists_of}, Plans.{class_plan, lifted}}
 use Rattle.gs_file.specs.declared.version.Version.TheVariants.{Two}
-use Rattle.gs_strategy.specs.Texts.{strategy_text}
-use Rattle.gs_strategy.specs.Views.{stored_view}
+use Rattle.gs_strategy.specs.{Texts.{strategy_text}, Views.{stored_view}}
 use Rattle.gs_certify.proofs.Moved.{moved}
 use Rattle.gs_certify.proofs.certifying.certified_text.Goals as goal
 

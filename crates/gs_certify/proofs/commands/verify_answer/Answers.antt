@@ -1,9 +1,7 @@
-use Rattle.std.proofs.Common.{subst}
-use Rattle.std.proofs.lemmas.Result.{IfOk-weaker}
+use Rattle.std.proofs.{Common.{subst}, lemmas.Result.{IfOk-weaker}}
 use Rattle.gs_reply.proofs.Held.{held, not_held}
 use Rattle.gs_confirm.specs.Commands.{OfStrategy}
-use Rattle.gs_reply.specs.Replies.{Answers}
-use Rattle.gs_reply.specs.declared.strategies.Which.TheVariants.{Only}
+use Rattle.gs_reply.specs.{Replies.{Answers}, declared.strategies.Which.TheVariants.{Only}}
 use Rattle.gs_strategy.specs.Views.{stored_view}
 use Rattle.gs_certify.specs.Verifying.{SaysVerified}
 use Rattle.gs_certify.proofs.commands.verify_answer.Goals as goal

@@ -1,11 +1,7 @@
-use Rattle.std.proofs.Common.{◌≢◌, inl, inr, refl, rules}
-use Rattle.std.proofs.lemmas.Result.{IfOk-weaker}
-use Rattle.gs_certificate.specs.FaultTexts.{cert_text_fault_text}
-use Rattle.gs_certificate.specs.Reading.{Reads}
-use Rattle.gs_certificate.specs.declared.text_fault.CertTextFault.TheVariants.{Memory}
+use Rattle.std.proofs.{Common.{◌≢◌, inl, inr, refl, rules}, lemmas.Result.{IfOk-weaker}}
+use Rattle.gs_certificate.specs.{FaultTexts.{cert_text_fault_text}, Reading.{Reads}, declared.text_fault.CertTextFault.TheVariants.{Memory}}
 use Rattle.gs_reply.proofs.Refused.{answers_more, tells_answer}
-use Rattle.gs_reply.specs.Refusals.{Bad_certificate}
-use Rattle.gs_reply.specs.Replies.{Refuses}
+use Rattle.gs_reply.specs.{Refusals.{Bad_certificate}, Replies.{Refuses}}
 use Rattle.gs_strategy.specs.Views.{stored_view}
 use Rattle.gs_certify.specs.Verifying.{IsNoText, SaysChecked, SaysVerified}
 use Rattle.gs_certify.proofs.Moved.{fault_is}

@@ -1,14 +1,10 @@
-use Rattle.std.proofs.Common.{◌≡◌, ◌*◌, ◌<◌, ◌^◌, refl, sym, ap, ◌∙◌, arith}
+use Rattle.std.proofs.{Common.{◌≡◌, ◌*◌, ◌<◌, ◌^◌, refl, sym, ap, ◌∙◌, arith}, lemmas.Int.{to_z-of_z, to_z_pos}}
 use Rattle.std.specs.Prelude.{pos, ◌*ℤ◌, unsigned_abs}
-use Rattle.std.proofs.lemmas.Int.{to_z-of_z, to_z_pos}
 use mir.Syntax.{w128}
 use Rattle.gs_model.specs.Frame.{end_count, total_weight}
-use Rattle.gs_seq.specs.Abstracts.{frame_of, lists_of}
-use Rattle.gs_seq.specs.Plans.{class_plan}
-use Rattle.gs_seq.proofs.EndTotals.{ends_few, payoff_is}
-use Rattle.gs_seq.proofs.Forms.{given}
-use Rattle.gs_best.specs.Forms.{game_in}
-use Rattle.gs_best.specs.Judged.{parts}
+use Rattle.gs_seq.specs.{Abstracts.{frame_of, lists_of}, Plans.{class_plan}}
+use Rattle.gs_seq.proofs.{EndTotals.{ends_few, payoff_is}, Forms.{given}}
+use Rattle.gs_best.specs.{Forms.{game_in}, Judged.{parts}}
 use Rattle.gs_best.proofs.Forms.{form_classes}
 use Rattle.gs_certify.proofs.value.value_of.Goals as goal
 

@@ -1,5 +1,4 @@
-use Rattle.std.proofs.Common.{refl}
-use Rattle.std.proofs.lemmas.Result.{IfOk-weaker}
+use Rattle.std.proofs.{Common.{refl}, lemmas.Result.{IfOk-weaker}}
 use Rattle.gs_best.specs.Judged.{parts}
 use Rattle.gs_certificate.specs.FaultTexts.{cert_fault_text}
 use Rattle.gs_model.specs.Verdict.{IsValue}

@@ -1,10 +1,7 @@
-use Rattle.std.proofs.Common.{ℕ, List, subst}
-use Rattle.std.proofs.lemmas.Result.{IfOk-weaker}
+use Rattle.std.proofs.{Common.{ℕ, List, subst}, lemmas.Result.{IfOk-weaker}}
 use Rattle.std.specs.Prelude.{IfOk}
-use Rattle.gs_reply.specs.Replies.{Answers, OfFile, Reply}
-use Rattle.gs_reply.specs.declared.strategies.Which.TheVariants.{First, Second}
-use Rattle.gs_strategy.specs.Values.{Strategy}
-use Rattle.gs_strategy.specs.Views.{stored_view}
+use Rattle.gs_reply.specs.{Replies.{Answers, OfFile, Reply}, declared.strategies.Which.TheVariants.{First, Second}}
+use Rattle.gs_strategy.specs.{Values.{Strategy}, Views.{stored_view}}
 use Rattle.gs_compare.specs.Commands.{SaysDuel}
 use Rattle.gs_reply.proofs.Held.{held, not_held}
 use Rattle.gs_compare.proofs.commands.duel_answer.Goals as goal

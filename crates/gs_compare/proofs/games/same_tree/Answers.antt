@@ -1,6 +1,5 @@
 use Rattle.std.proofs.Common.{◌≡◌, ◌↔◌, IsTrue, rules, sym, ap, ◌∙◌}
-use Rattle.gs_bet.specs.Grammar.{tree_text}
-use Rattle.gs_bet.specs.TreeView.{plain}
+use Rattle.gs_bet.specs.{Grammar.{tree_text}, TreeView.{plain}}
 use Rattle.gs_bet.proofs.Parsing.{same_tree}
 use Rattle.gs_compare.proofs.games.same_tree.Goals as goal
 

@@ -1,7 +1,5 @@
-use Rattle.std.proofs.Common.{◌≡◌, ◌<◌, ◌++◌, get_or, length, map, pos, string_bytes, sym, ap, ◌∙◌, arith}
-use Rattle.std.proofs.lemmas.List.{get_or-map}
-use Rattle.gs_strategy.specs.Values.{FractionParts}
-use Rattle.gs_strategy.specs.Views.{parts_of}
+use Rattle.std.proofs.{Common.{◌≡◌, ◌<◌, ◌++◌, get_or, length, map, pos, string_bytes, sym, ap, ◌∙◌, arith}, lemmas.List.{get_or-map}}
+use Rattle.gs_strategy.specs.{Values.{FractionParts}, Views.{parts_of}}
 use Rattle.gs_tree.specs.Trees.{deck_of, rules_of}
 use Rattle.gs_compare.specs.Judging.{hand_line}
 use Rattle.gs_compare.proofs.Lines.{lines_more}

@@ -1,5 +1,4 @@
-use Rattle.std.proofs.Common.{◌≡◌, inl, inr, refl, sym, ◌∙◌, true≢false}
-use Rattle.std.proofs.lemmas.Result.{IfOk-weaker}
+use Rattle.std.proofs.{Common.{◌≡◌, inl, inr, refl, sym, ◌∙◌, true≢false}, lemmas.Result.{IfOk-weaker}}
 use Rattle.gs_file.specs.Views.{valid_view}
 use Rattle.gs_reply.specs.Refusals.{Other_game}
 use Rattle.gs_reply.proofs.Refused.{answers_more, tells_answer}

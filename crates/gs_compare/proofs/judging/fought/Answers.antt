@@ -1,24 +1,17 @@
-use Rattle.std.proofs.Common.{◌≡◌, ◌≤◌, ◌++◌, List, map, length, inl, sym, ap, ◌∙◌, subst, arith}
-use Rattle.std.proofs.lemmas.Result.{IfOk-weaker}
+use Rattle.std.proofs.{Common.{◌≡◌, ◌≤◌, ◌++◌, List, map, length, inl, sym, ap, ◌∙◌, subst, arith}, lemmas.Result.{IfOk-weaker}}
 use Rattle.gs_card.specs.Decks.{DeckValue}
 use Rattle.gs_file.specs.Reading.{FileGame, rules_of as rules_in}
 use Rattle.gs_frac.specs.declared.value.Fraction.{Fraction}
-use Rattle.gs_game.specs.Games.{game_of}
-use Rattle.gs_game.specs.declared.valid.ValidGame.{ValidGame}
-use Rattle.gs_model.specs.Frame.{Frame, frame_of as frame}
-use Rattle.gs_model.specs.Game.{Game}
+use Rattle.gs_game.specs.{Games.{game_of}, declared.valid.ValidGame.{ValidGame}}
+use Rattle.gs_model.specs.{Frame.{Frame, frame_of as frame}, Game.{Game}}
 use Rattle.gs_model.proofs.Ranges.{signal_count_is}
 use Rattle.gs_raw.specs.Cells.{raw_cell_count}
-use Rattle.gs_reply.specs.Replies.{Prints}
-use Rattle.gs_seq.specs.Games.{frame_in}
-use Rattle.gs_seq.specs.Plans.{IsPlanOf}
-use Rattle.gs_strategy.specs.Values.{FractionParts}
-use Rattle.gs_strategy.specs.Views.{numbers_of, parts_of, stored_view}
-use Rattle.gs_reply.specs.VerdictText.{verdict_text}
+use Rattle.gs_reply.specs.{Replies.{Prints}, VerdictText.{verdict_text}}
+use Rattle.gs_seq.specs.{Games.{frame_in}, Plans.{IsPlanOf}}
+use Rattle.gs_strategy.specs.{Values.{FractionParts}, Views.{numbers_of, parts_of, stored_view}}
 use Rattle.gs_tree.specs.Trees.{deck_of, rules_of}
 use Rattle.gs_compare.specs.Judging.{AreHands, hands_text}
-use Rattle.gs_compare.proofs.Judged.{are_hands, are_judged}
-use Rattle.gs_compare.proofs.TooMany.{too_many}
+use Rattle.gs_compare.proofs.{Judged.{are_hands, are_judged}, TooMany.{too_many}}
 use Rattle.gs_compare.proofs.judging.fought.Goals as goal
 
 pub invariant_of-facing : goal.invariant_of-facing

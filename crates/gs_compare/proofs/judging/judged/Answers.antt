@@ -1,14 +1,10 @@
-use Rattle.std.proofs.Common.{◌≡◌, ◌≤◌, inl, sym, ap, subst}
-use Rattle.std.proofs.lemmas.Result.{IfOk-weaker}
+use Rattle.std.proofs.{Common.{◌≡◌, ◌≤◌, inl, sym, ap, subst}, lemmas.Result.{IfOk-weaker}}
 use Rattle.gs_game.specs.declared.valid.ValidGame.{ValidGame}
 use Rattle.gs_raw.specs.Cells.{raw_cell_count}
-use Rattle.gs_reply.specs.Replies.{Prints}
-use Rattle.gs_seq.specs.Games.{frame_in}
-use Rattle.gs_seq.specs.Plans.{IsPlanOf}
+use Rattle.gs_reply.specs.{Replies.{Prints}, VerdictText.{verdict_text}}
+use Rattle.gs_seq.specs.{Games.{frame_in}, Plans.{IsPlanOf}}
 use Rattle.gs_strategy.specs.Views.{numbers_of, stored_view}
-use Rattle.gs_reply.specs.VerdictText.{verdict_text}
-use Rattle.gs_compare.proofs.Judged.{are_judged}
-use Rattle.gs_compare.proofs.TooMany.{too_many}
+use Rattle.gs_compare.proofs.{Judged.{are_judged}, TooMany.{too_many}}
 use Rattle.gs_compare.proofs.judging.judged.Goals as goal
 
 pub raw_verdict-requires-clause-first : goal.raw_verdict-requires-clause-first

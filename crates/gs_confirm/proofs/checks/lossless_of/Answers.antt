@@ -1,8 +1,7 @@
 use Rattle.std.proofs.Common.{subst}
 use Rattle.gs_file.specs.Views.{valid_view}
 use Rattle.gs_game.specs.declared.valid.ValidGame.{ValidGame}
-use Rattle.gs_reply.specs.Replies.{Answers}
-use Rattle.gs_reply.specs.Troubles.{SaysUnlike}
+use Rattle.gs_reply.specs.{Replies.{Answers}, Troubles.{SaysUnlike}}
 use Rattle.gs_confirm.proofs.checks.lossless_of.Goals as goal
 
 pub not_lossless-requires : goal.not_lossless-requires

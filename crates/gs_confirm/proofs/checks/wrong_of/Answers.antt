@@ -1,8 +1,6 @@
-use Rattle.gs_confirm.proofs.Told.{confirmed, numbers_are, wrong_told}
-use Rattle.gs_strategy.specs.Confirmed.{AreNumbersOf}
-use Rattle.gs_strategy.specs.Views.{numbers_of, parts_of, stored_view}
+use Rattle.gs_confirm.proofs.{Told.{confirmed, numbers_are, wrong_told}, checks.wrong_of.Goals.{After-verdict-found}}
+use Rattle.gs_strategy.specs.{Confirmed.{AreNumbersOf}, Views.{numbers_of, parts_of, stored_view}}
 use Rattle.gs_confirm.proofs.checks.wrong_of.Goals as goal
-use Rattle.gs_confirm.proofs.checks.wrong_of.Goals.{After-verdict-found}
 
 -- the numbers that were found are those of the strategy's plans
 found : (c : After-verdict-found) → AreNumbersOf (stored_view c.args.stored.now) (numbers_of c.verdict-found.result)

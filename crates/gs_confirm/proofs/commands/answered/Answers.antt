@@ -1,6 +1,5 @@
 use Rattle.std.proofs.lemmas.Result.{IfOk-weaker}
-use Rattle.gs_confirm.specs.Asking.{says_of}
-use Rattle.gs_confirm.specs.Commands.{OfConfirmed}
+use Rattle.gs_confirm.specs.{Asking.{says_of}, Commands.{OfConfirmed}}
 use Rattle.gs_reply.proofs.Held.{held, not_held}
 use Rattle.gs_reply.specs.declared.strategies.Which.TheVariants.{Only}
 use Rattle.gs_strategy.specs.Views.{stored_view}

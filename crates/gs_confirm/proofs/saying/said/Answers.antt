@@ -1,14 +1,10 @@
-use Rattle.std.proofs.Common.{inr, refl, sym, subst}
+use Rattle.std.proofs.{Common.{inr, refl, sym, subst}, lemmas.Result.{IfOk-weaker}}
 use Rattle.std.specs.Prelude.{IfOk}
-use Rattle.std.proofs.lemmas.Result.{IfOk-weaker}
 use Rattle.gs_confirm.proofs.Spots.{bad_query_is}
-use Rattle.gs_confirm.specs.Asking.{says_of}
-use Rattle.gs_confirm.specs.Commands.{SaysQueried}
-use Rattle.gs_confirm.specs.declared.asking.Ask.{Ask}
+use Rattle.gs_confirm.specs.{Asking.{says_of}, Commands.{SaysQueried}, declared.asking.Ask.{Ask}}
 use Rattle.gs_lift.specs.Queries.{signals_of}
 use Rattle.gs_reply.proofs.Refused.{tells_answer}
-use Rattle.gs_reply.specs.Refusals.{Bad_query}
-use Rattle.gs_reply.specs.Replies.{Answers}
+use Rattle.gs_reply.specs.{Refusals.{Bad_query}, Replies.{Answers}}
 use Rattle.gs_strategy.specs.Views.{stored_view}
 use Rattle.gs_confirm.proofs.saying.said.Goals as goal
 

@@ -1,12 +1,7 @@
-use Rattle.std.proofs.Common.{◌≡◌, ◌+◌, map, ◌++◌, ◌∷◌, [], subst, sym, ap, ◌∙◌, All}
-use Rattle.std.proofs.lemmas.List.{map-append}
-use Rattle.std.proofs.lemmas.List.Elements.{All-push}
+use Rattle.std.proofs.{Common.{◌≡◌, ◌+◌, map, ◌++◌, ◌∷◌, [], subst, sym, ap, ◌∙◌, All}, lemmas.List.{map-append}, lemmas.List.Elements.{All-push}}
 use Rattle.std.proofs.lemmas.Result.{err_from_is_err_and}
 use Rattle.gs_game.specs.Games.{HasFewCards, round_of}
-use Rattle.gs_file.specs.Answers.{Fails}
-use Rattle.gs_file.specs.Reading.{round_built}
-use Rattle.gs_file.specs.Tables.{each}
-use Rattle.gs_file.specs.Views.{ranged_view}
+use Rattle.gs_file.specs.{Answers.{Fails}, Reading.{round_built}, Tables.{each}, Views.{ranged_view}}
 use Rattle.gs_file.proofs.Loop.{goes_on, breaks_off, is_done}
 use Rattle.gs_file.proofs.build.rounds_built.Goals as goal
 

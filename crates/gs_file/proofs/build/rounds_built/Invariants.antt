@@ -1,8 +1,6 @@
 use Rattle.std.proofs.Common.{◌≡◌, ◌+◌, All, map, drop}
 use Rattle.gs_game.specs.Games.{HasFewCards, round_of}
-use Rattle.gs_file.specs.Reading.{round_built}
-use Rattle.gs_file.specs.Tables.{each}
-use Rattle.gs_file.specs.Views.{ranged_view}
+use Rattle.gs_file.specs.{Reading.{round_built}, Tables.{each}, Views.{ranged_view}}
 use Rattle.gs_file.proofs.Loop.{with_front}
 use Rattle.gs_file.proofs.build.rounds_built.Given as goal
 

@@ -1,8 +1,6 @@
-use Rattle.std.proofs.Common.{◌≡◌, ◌+◌, map, ◌++◌, ◌∷◌, [], subst, sym, ap, ◌∙◌, rules}
-use Rattle.std.proofs.lemmas.Result.{err_from_is_err_and}
+use Rattle.std.proofs.{Common.{◌≡◌, ◌+◌, map, ◌++◌, ◌∷◌, [], subst, sym, ap, ◌∙◌, rules}, lemmas.Result.{err_from_is_err_and}}
 use Rattle.toml.specs.View.{view}
-use Rattle.gs_file.specs.Answers.{Fails}
-use Rattle.gs_file.specs.Tables.{each, whole_number}
+use Rattle.gs_file.specs.{Answers.{Fails}, Tables.{each, whole_number}}
 use Rattle.gs_file.proofs.Loop.{goes_on, breaks_off, is_done}
 use Rattle.gs_file.proofs.lists.each_whole_number.Goals as goal
 

@@ -1,13 +1,8 @@
 use Rattle.std.proofs.Common.{◌≡◌, ◌+◌, ◌<◌, ◌≤◌, ℕ, pos, get_or, length, length-append, ◌++◌, ◌∷◌, [], subst, sym, ap, ◌∙◌, Ok, rules, arith, All}
+use Rattle.std.proofs.{lemmas.Int.{to_z-of_z}, lemmas.List.Elements.{All-push}, lemmas.Result.{err_from_is_err_and}}
 use Rattle.std.specs.Int.RustNames.{FitsSigned}
-use Rattle.std.proofs.lemmas.Int.{to_z-of_z}
-use Rattle.std.proofs.lemmas.List.Elements.{All-push}
-use Rattle.std.proofs.lemmas.Result.{err_from_is_err_and}
 use mir.Syntax.{w64}
-use Rattle.gs_file.specs.Answers.{Fails}
-use Rattle.gs_file.specs.Keys.{top}
-use Rattle.gs_file.specs.Tables.{each, within}
-use Rattle.gs_file.specs.declared.fault.Key.TheVariants.{Bonus}
+use Rattle.gs_file.specs.{Answers.{Fails}, Keys.{top}, Tables.{each, within}, declared.fault.Key.TheVariants.{Bonus}}
 use Rattle.gs_file.proofs.Loop.{goes_on, breaks_off, is_done}
 use Rattle.gs_file.proofs.ranges.each_bonus.Goals as goal
 

@@ -1,7 +1,5 @@
 use Rattle.std.proofs.Common.{◌≡◌, ◌+◌, ◌<◌, ◌≤◌, All, length, map, drop}
-use Rattle.gs_file.specs.Keys.{top}
-use Rattle.gs_file.specs.Tables.{each, within}
-use Rattle.gs_file.specs.declared.fault.Key.TheVariants.{Bonus}
+use Rattle.gs_file.specs.{Keys.{top}, Tables.{each, within}, declared.fault.Key.TheVariants.{Bonus}}
 use Rattle.gs_file.proofs.Loop.{with_front}
 use Rattle.gs_file.proofs.ranges.each_bonus.Given as goal
 

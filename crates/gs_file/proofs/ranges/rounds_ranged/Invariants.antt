@@ -1,7 +1,5 @@
 use Rattle.std.proofs.Common.{◌≡◌, ◌+◌, map, drop, vec_len}
-use Rattle.gs_file.specs.Reading.{round_within}
-use Rattle.gs_file.specs.Tables.{each}
-use Rattle.gs_file.specs.Views.{round_view, ranged_view}
+use Rattle.gs_file.specs.{Reading.{round_within}, Tables.{each}, Views.{round_view, ranged_view}}
 use Rattle.gs_file.proofs.Loop.{with_front}
 use Rattle.gs_file.proofs.ranges.rounds_ranged.Given as goal
 

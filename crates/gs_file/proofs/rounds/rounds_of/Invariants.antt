@@ -1,8 +1,6 @@
 use Rattle.std.proofs.Common.{◌≡◌, ◌+◌, map, drop, vec_len}
 use Rattle.toml.specs.View.{table_view}
-use Rattle.gs_file.specs.Reading.{round_at}
-use Rattle.gs_file.specs.Tables.{each}
-use Rattle.gs_file.specs.Views.{round_view}
+use Rattle.gs_file.specs.{Reading.{round_at}, Tables.{each}, Views.{round_view}}
 use Rattle.gs_file.proofs.Loop.{with_front}
 use Rattle.gs_file.proofs.rounds.rounds_of.Given as goal
 

@@ -1,7 +1,6 @@
 use Rattle.std.proofs.Common.{arith}
 use Rattle.gs_model.specs.Rows.{rows}
-use Rattle.gs_filter.proofs.RowLaws.{length-rows}
-use Rattle.gs_filter.proofs.ApartLaws.{ready_at}
+use Rattle.gs_filter.proofs.{RowLaws.{length-rows}, ApartLaws.{ready_at}}
 use Rattle.gs_filter.proofs.apart.first_apart.Goals as goal
 
 pub first_apart_in-apart-requires : goal.first_apart_in-apart-requires

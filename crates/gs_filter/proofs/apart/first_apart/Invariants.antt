@@ -1,6 +1,5 @@
 use Rattle.std.proofs.Common.{◌<◌, ◌-◌, ℕ}
-use Rattle.gs_model.specs.Classes.{list_of}
-use Rattle.gs_model.specs.Rows.{rows}
+use Rattle.gs_model.specs.{Classes.{list_of}, Rows.{rows}}
 use Rattle.gs_filter.specs.Faults.{AreTogether}
 use Rattle.gs_filter.proofs.apart.first_apart.Given as goal
 

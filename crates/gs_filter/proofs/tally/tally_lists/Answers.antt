@@ -1,8 +1,5 @@
-use Rattle.std.proofs.Common.{◌≡◌, ◌≤◌, length, ◌∙◌, ap, arith, subst, ⊎_elim}
-use Rattle.std.proofs.lemmas.Bool.{cases_lt}
-use Rattle.gs_model.specs.Numbering.{IsNumbered}
-use Rattle.gs_model.specs.Classes.{list_of}
-use Rattle.gs_model.specs.Rows.{rows}
+use Rattle.std.proofs.{Common.{◌≡◌, ◌≤◌, length, ◌∙◌, ap, arith, subst, ⊎_elim}, lemmas.Bool.{cases_lt}}
+use Rattle.gs_model.specs.{Numbering.{IsNumbered}, Classes.{list_of}, Rows.{rows}}
 use Rattle.gs_filter.specs.Tallies.{tallies_of}
 use Rattle.gs_filter.proofs.RowLaws.{length-rows, made_more}
 use Rattle.gs_filter.proofs.tally.tally_lists.Goals as goal

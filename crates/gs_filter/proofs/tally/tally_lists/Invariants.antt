@@ -1,7 +1,5 @@
 use Rattle.std.proofs.Common.{◌≡◌, ◌<◌, ◌-◌, ℕ, map, take}
-use Rattle.gs_model.specs.Numbering.{IsNumbered}
-use Rattle.gs_model.specs.Classes.{list_of}
-use Rattle.gs_model.specs.Rows.{rows}
+use Rattle.gs_model.specs.{Numbering.{IsNumbered}, Classes.{list_of}, Rows.{rows}}
 use Rattle.gs_filter.specs.Tallies.{tallies_of}
 use Rattle.gs_filter.proofs.tally.tally_lists.Given as goal
 

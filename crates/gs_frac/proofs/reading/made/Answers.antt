@@ -1,11 +1,9 @@
-use Rattle.std.proofs.Common.{◌≡◌, inl, inr, ◌<◌, arith, ◌∙◌, sym, pos, to_z, of_z}
+use Rattle.std.proofs.{Common.{◌≡◌, inl, inr, ◌<◌, arith, ◌∙◌, sym, pos, to_z, of_z}, lemmas.Int.{ints}}
 use Rattle.std.specs.Int.{w128}
-use Rattle.std.proofs.lemmas.Int.{ints}
-use Rattle.gs_frac.specs.Texts.{number_of}
-use Rattle.gs_frac.specs.Gcd.{gcd_of}
+use Rattle.gs_frac.specs.{Texts.{number_of}, Gcd.{gcd_of}}
 use Rattle.gs_frac.proofs.Made.{wide, unreduced, reduces, fraction_is}
-use Rattle.gs_frac.proofs.reading.made.Goals as goal
 use Rattle.gs_frac.proofs.reading.made.Goals.{then-num-ge-LIMIT-via-then-num-ge-LIMIT, then-num-ge-LIMIT-via-else-num-ge-LIMIT+then-den-ge-LIMIT, then-den-eq0-via-then-den-eq0, then-den-eq0-via-else-den-eq0+then-gcd-ne1}
+use Rattle.gs_frac.proofs.reading.made.Goals as goal
 
 pub returns-then-num-ge-LIMIT : goal.returns-then-num-ge-LIMIT
 returns-then-num-ge-LIMIT c = wide c.args.negative c.args.num c.args.den (elim c.then-num-ge-LIMIT.branch [ then-num-ge-LIMIT-via-then-num-ge-LIMIT w ↦ inl w.if-num-ge-LIMIT.true | then-num-ge-LIMIT-via-else-num-ge-LIMIT+then-den-ge-LIMIT w ↦ inr w.if-den-ge-LIMIT.true ])

@@ -1,8 +1,7 @@
 use Rattle.std.proofs.Common.{◌≡◌, ◌∙◌, arith}
 use Rattle.gs_model.specs.Betting.{act}
-use Rattle.gs_bet.specs.TreeView.{plain, plain_moves}
+use Rattle.gs_bet.specs.{TreeView.{plain, plain_moves}, declared.shape.Act.{out-Act}}
 use Rattle.gs_bet.proofs.TreeLaws.{plain-act, plain_act-out}
-use Rattle.gs_bet.specs.declared.shape.Act.{out-Act}
 use Rattle.gs_game.proofs.betting.+count_ends.Goals as goal
 
 pub loop-next-init : goal.loop-next-init

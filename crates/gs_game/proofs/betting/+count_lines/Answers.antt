@@ -1,9 +1,7 @@
 use Rattle.std.proofs.Common.{◌-◌, ◌^◌, ◌∙◌, length, take, drop}
 use Rattle.gs_bet.specs.TreeView.{plain}
-use Rattle.gs_game.specs.Counts.{ends_in}
-use Rattle.gs_game.specs.Games.{plain_trees}
-use Rattle.gs_game.proofs.EndLaws.{cap_rest}
-use Rattle.gs_game.proofs.RoundSteps.{split_first}
+use Rattle.gs_game.specs.{Counts.{ends_in}, Games.{plain_trees}}
+use Rattle.gs_game.proofs.{EndLaws.{cap_rest}, RoundSteps.{split_first}}
 use Rattle.gs_game.proofs.betting.+count_lines.Goals as goal
 
 pub returns-in-len1-up : goal.returns-in-len1-up

@@ -1,10 +1,7 @@
-use Rattle.std.proofs.Common.{◌-◌, length, take, drop, arith}
-use Rattle.std.proofs.lemmas.Grind.{common_steps}
+use Rattle.std.proofs.{Common.{◌-◌, length, take, drop, arith}, lemmas.Grind.{common_steps}}
 use Rattle.gs_bet.specs.TreeView.{plain}
 use Rattle.gs_game.specs.Games.{plain_trees}
-use Rattle.gs_game.proofs.Evenly.{first_even, others_even, most_added}
-use Rattle.gs_game.proofs.MoneyLaws.{tree_sound}
-use Rattle.gs_game.proofs.RoundSteps.{split_first}
+use Rattle.gs_game.proofs.{Evenly.{first_even, others_even, most_added}, MoneyLaws.{tree_sound}, RoundSteps.{split_first}}
 use Rattle.gs_game.proofs.betting.+most_put.Goals as goal
 
 pub most_put-requires : goal.most_put-requires

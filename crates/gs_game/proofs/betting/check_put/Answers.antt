@@ -1,6 +1,5 @@
 use Rattle.std.proofs.Common.{◌≡◌, ◌+◌, ◌∙◌, arith}
-use Rattle.gs_game.specs.Games.{plain_trees}
-use Rattle.gs_game.specs.Money.{most_in}
+use Rattle.gs_game.specs.{Games.{plain_trees}, Money.{most_in}}
 use Rattle.gs_game.proofs.Deciding.{put_over, put_within}
 use Rattle.gs_game.proofs.betting.check_put.Goals as goal
 

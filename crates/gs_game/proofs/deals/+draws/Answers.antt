@@ -1,9 +1,6 @@
-use Rattle.std.proofs.Common.{◌≤◌, ◌*◌, ◌-◌, ℕ, suc, length, take, drop, get_or, sum, arith}
-use Rattle.std.proofs.lemmas.Grind.{common_steps}
-use Rattle.std.proofs.lemmas.List.Sums.{sum_by-cons}
+use Rattle.std.proofs.{Common.{◌≤◌, ◌*◌, ◌-◌, ℕ, suc, length, take, drop, get_or, sum, arith}, lemmas.Grind.{common_steps}, lemmas.List.Sums.{sum_by-cons}}
 use Rattle.gs_game.specs.Sequences.{power}
-use Rattle.gs_game.proofs.Powers.{draws_bound, power_fits}
-use Rattle.gs_game.proofs.RoundSteps.{split_number}
+use Rattle.gs_game.proofs.{Powers.{draws_bound, power_fits}, RoundSteps.{split_number}}
 use Rattle.gs_game.proofs.deals.+draws.Goals as goal
 
 pub draws-requires : goal.draws-requires

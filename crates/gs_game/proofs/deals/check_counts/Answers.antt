@@ -1,5 +1,4 @@
-use Rattle.std.proofs.Common.{◌∙◌}
-use Rattle.std.proofs.lemmas.Result.{err_from_is_err_and}
+use Rattle.std.proofs.{Common.{◌∙◌}, lemmas.Result.{err_from_is_err_and}}
 use Rattle.gs_game.proofs.DealChecks.{signals_fault, deals_over, deals_within}
 use Rattle.gs_game.proofs.deals.check_counts.Goals as goal
 

@@ -1,8 +1,5 @@
-use Rattle.std.proofs.Common.{◌≡◌, List, map, sum, ap, ◌∙◌, arith}
-use Rattle.std.proofs.lemmas.Result.{err_from_is_err_and}
-use Rattle.gs_game.specs.Games.{round_of}
-use Rattle.gs_game.specs.declared.game.Round.{Round}
-use Rattle.gs_game.specs.Sequences.{deal_sizes}
+use Rattle.std.proofs.{Common.{◌≡◌, List, map, sum, ap, ◌∙◌, arith}, lemmas.Result.{err_from_is_err_and}}
+use Rattle.gs_game.specs.{Games.{round_of}, declared.game.Round.{Round}, Sequences.{deal_sizes}}
 use Rattle.gs_game.proofs.DealChecks.{cards_pass, sizes_few, copies_few, weight_over, weight_within, counts_fault, counts_within}
 use Rattle.gs_game.proofs.deals.check_deals.Goals as goal
 

@@ -1,7 +1,5 @@
-use Rattle.std.proofs.Common.{◌≡◌, ◌+◌, ◌-◌, ◌*◌, ℕ, length, map, take, refl, sym, ap, ◌∙◌, arith, rules}
-use Rattle.std.proofs.lemmas.List.{length-map, length-take-le}
-use Rattle.gs_game.specs.Games.{game_of, round_of}
-use Rattle.gs_game.specs.Refusals.{signals_from, signals_refusal}
+use Rattle.std.proofs.{Common.{◌≡◌, ◌+◌, ◌-◌, ◌*◌, ℕ, length, map, take, refl, sym, ap, ◌∙◌, arith, rules}, lemmas.List.{length-map, length-take-le}}
+use Rattle.gs_game.specs.{Games.{game_of, round_of}, Refusals.{signals_from, signals_refusal}}
 use Rattle.gs_game.proofs.DealChecks.{sizes_length, signals_seen, signals_stop, signals_go}
 use Rattle.gs_game.proofs.deals.check_signals.Goals as goal
 

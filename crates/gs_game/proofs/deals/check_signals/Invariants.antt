@@ -1,6 +1,5 @@
 use Rattle.std.proofs.Common.{◌≡◌, ◌+◌, ◌-◌, length}
-use Rattle.gs_game.specs.Games.{game_of}
-use Rattle.gs_game.specs.Refusals.{signals_from}
+use Rattle.gs_game.specs.{Games.{game_of}, Refusals.{signals_from}}
 use Rattle.gs_game.proofs.deals.check_signals.Given as goal
 
 abbrev pub invariant-loop-round : goal.invariant-loop-round

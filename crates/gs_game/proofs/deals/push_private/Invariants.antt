@@ -1,6 +1,5 @@
 use Rattle.std.proofs.Common.{◌≡◌, ◌++◌, map, drop}
-use Rattle.gs_game.specs.Games.{round_of}
-use Rattle.gs_game.specs.Sequences.{privates}
+use Rattle.gs_game.specs.{Games.{round_of}, Sequences.{privates}}
 use Rattle.gs_game.proofs.deals.push_private.Given as goal
 
 abbrev pub invariant-loop-round : goal.invariant-loop-round

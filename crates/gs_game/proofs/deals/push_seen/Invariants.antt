@@ -1,6 +1,5 @@
 use Rattle.std.proofs.Common.{◌≡◌, ◌++◌, map, drop}
-use Rattle.gs_game.specs.Games.{round_of}
-use Rattle.gs_game.specs.Sequences.{seen_sizes}
+use Rattle.gs_game.specs.{Games.{round_of}, Sequences.{seen_sizes}}
 use Rattle.gs_game.proofs.deals.push_seen.Given as goal
 
 abbrev pub invariant-loop-round : goal.invariant-loop-round

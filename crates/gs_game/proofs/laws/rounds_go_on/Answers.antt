@@ -1,5 +1,4 @@
-use Rattle.gs_game.proofs.SomeWays.{some_ways}
-use Rattle.gs_game.proofs.StopLaws.{against_stopped}
+use Rattle.gs_game.proofs.{SomeWays.{some_ways}, StopLaws.{against_stopped}}
 use Rattle.gs_game.proofs.laws.rounds_go_on.Goals as goal
 
 pub returns-clause-alike : goal.returns-clause-alike

@@ -1,20 +1,12 @@
 use Rattle.std.proofs.Common.{◌≡◌, ◌-◌, ◌++◌, ◌∷◌, [], ◌∙◌, ℕ, ap, List, length, take, drop, arith}
-use Rattle.std.specs.Prelude.{encode_utf8}
-use Rattle.std.specs.String.{string_bytes}
+use Rattle.std.specs.{Prelude.{encode_utf8}, String.{string_bytes}}
 use Rattle.gs_model.specs.Betting.{Bet, act}
-use Rattle.gs_bet.specs.TreeView.{plain, plain_moves}
-use Rattle.gs_bet.specs.declared.shape.Act.{out-Act}
+use Rattle.gs_bet.specs.{TreeView.{plain, plain_moves}, declared.shape.Act.{out-Act}}
 use Rattle.gs_bet.proofs.TreeLaws.{plain-act, plain_act-out}
-use Rattle.gs_game.specs.Games.{plain_trees}
-use Rattle.gs_game.specs.Lines.{lines_from}
-use Rattle.gs_game.specs.Seen.{target_of}
-use Rattle.gs_game.specs.declared.game.Round.{Round}
+use Rattle.gs_game.specs.{Games.{plain_trees}, Lines.{lines_from}, Seen.{target_of}, declared.game.Round.{Round}}
 use Rattle.gs_game.proofs.EvenRounds.{behind_first, first_follows, move_follows}
 use Rattle.gs_game.proofs.LineWriting.{among_act, among_rest, act_text, act_room, others_room, text_here, text_further, small_letter}
-use Rattle.gs_game.proofs.MoneyLaws.{sound_act, sound_move, tree_sound}
-use Rattle.gs_game.proofs.RoundSteps.{split_first}
-use Rattle.gs_game.proofs.Sizes.{steps_of, steps_in}
-use Rattle.gs_game.proofs.TreeSteps.{moves_step}
+use Rattle.gs_game.proofs.{MoneyLaws.{sound_act, sound_move, tree_sound}, RoundSteps.{split_first}, Sizes.{steps_of, steps_in}, TreeSteps.{moves_step}}
 use Rattle.gs_game.proofs.line_texts.+writer.Goals as goal
 
 pub push_from-numbers_in-requires : goal.push_from-numbers_in-requires

@@ -1,12 +1,7 @@
 use Rattle.std.proofs.Common.{◌≡◌, ◌≤◌, ◌+◌, ℕ, true, drop}
 use Rattle.std.specs.String.{string_bytes}
-use Rattle.gs_bet.specs.Grammar.{are_sound}
-use Rattle.gs_bet.specs.TreeView.{plain, plain_moves}
-use Rattle.gs_bet.specs.declared.shape.Act.{out-Act}
-use Rattle.gs_game.specs.Counts.{move_points, move_ends}
-use Rattle.gs_game.specs.Games.{plain_trees}
-use Rattle.gs_game.specs.Lines.{IsAmong, MovesFollow, lines_from, move_lines, text_at}
-use Rattle.gs_game.specs.Seen.{target_of}
+use Rattle.gs_bet.specs.{Grammar.{are_sound}, TreeView.{plain, plain_moves}, declared.shape.Act.{out-Act}}
+use Rattle.gs_game.specs.{Counts.{move_points, move_ends}, Games.{plain_trees}, Lines.{IsAmong, MovesFollow, lines_from, move_lines, text_at}, Seen.{target_of}}
 use Rattle.gs_game.proofs.Sizes.{steps_of, moves_steps, steps_in}
 use Rattle.gs_game.proofs.line_texts.+writer.Given as goal
 

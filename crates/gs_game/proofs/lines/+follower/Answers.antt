@@ -1,13 +1,9 @@
 use Rattle.std.proofs.Common.{◌≡◌, ◌-◌, ◌∙◌, ap, List, length, take, drop, arith}
 use Rattle.gs_model.specs.Betting.{Bet, act}
-use Rattle.gs_bet.specs.TreeView.{plain, plain_moves}
-use Rattle.gs_bet.specs.declared.shape.Act.{out-Act}
+use Rattle.gs_bet.specs.{TreeView.{plain, plain_moves}, declared.shape.Act.{out-Act}}
 use Rattle.gs_bet.proofs.TreeLaws.{plain-act, plain_act-out}
-use Rattle.gs_game.specs.Games.{plain_trees}
-use Rattle.gs_game.specs.declared.game.Round.{Round}
-use Rattle.gs_game.proofs.EvenRounds.{behind_first, first_follows, moves_follow}
-use Rattle.gs_game.proofs.RoundSteps.{split_first, split_number}
-use Rattle.gs_game.proofs.Sizes.{steps_of, steps_in}
+use Rattle.gs_game.specs.{Games.{plain_trees}, declared.game.Round.{Round}}
+use Rattle.gs_game.proofs.{EvenRounds.{behind_first, first_follows, moves_follow}, RoundSteps.{split_first, split_number}, Sizes.{steps_of, steps_in}}
 use Rattle.gs_game.proofs.lines.+follower.Goals as goal
 
 pub follow_from-numbers_in-requires : goal.follow_from-numbers_in-requires

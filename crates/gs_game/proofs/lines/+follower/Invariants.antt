@@ -1,8 +1,6 @@
 use Rattle.std.proofs.Common.{◌≡◌, ◌≤◌, ◌+◌, drop}
-use Rattle.gs_bet.specs.TreeView.{plain, plain_moves}
-use Rattle.gs_bet.specs.declared.shape.Act.{out-Act}
-use Rattle.gs_game.specs.Games.{plain_trees}
-use Rattle.gs_game.specs.Lines.{follow_moves, follow_from, MovesFollow}
+use Rattle.gs_bet.specs.{TreeView.{plain, plain_moves}, declared.shape.Act.{out-Act}}
+use Rattle.gs_game.specs.{Games.{plain_trees}, Lines.{follow_moves, follow_from, MovesFollow}}
 use Rattle.gs_game.proofs.Sizes.{steps_of, moves_steps, steps_in}
 use Rattle.gs_game.proofs.lines.+follower.Given as goal
 

@@ -1,9 +1,7 @@
-use Rattle.std.proofs.Common.{◌-◌, length, take, drop, arith}
-use Rattle.std.proofs.lemmas.Grind.{common_steps}
+use Rattle.std.proofs.{Common.{◌-◌, length, take, drop, arith}, lemmas.Grind.{common_steps}}
 use Rattle.gs_bet.specs.TreeView.{plain}
 use Rattle.gs_game.specs.Games.{plain_trees}
-use Rattle.gs_game.proofs.EvenRounds.{behind_first}
-use Rattle.gs_game.proofs.RoundSteps.{split_first}
+use Rattle.gs_game.proofs.{EvenRounds.{behind_first}, RoundSteps.{split_first}}
 use Rattle.gs_game.proofs.lines.+numbers_in.Goals as goal
 
 pub numbers_in-requires : goal.numbers_in-requires

@@ -1,10 +1,8 @@
 use Rattle.std.proofs.Common.{◌≡◌, ◌∙◌, refl, arith}
-use Rattle.gs_bet.specs.TreeView.{plain, plain_moves}
+use Rattle.gs_bet.specs.{TreeView.{plain, plain_moves}, declared.shape.Act.{out-Act}}
 use Rattle.gs_model.specs.Betting.{act}
 use Rattle.gs_bet.proofs.TreeLaws.{plain-act, plain_act-out}
-use Rattle.gs_bet.specs.declared.shape.Act.{out-Act}
-use Rattle.gs_game.proofs.MoneyLaws.{fits_moves, fits_after}
-use Rattle.gs_game.proofs.TreeSteps.{moves_step}
+use Rattle.gs_game.proofs.{MoneyLaws.{fits_moves, fits_after}, TreeSteps.{moves_step}}
 use Rattle.gs_game.proofs.money.+find_uneven.Goals as goal
 
 pub loop-next-init : goal.loop-next-init

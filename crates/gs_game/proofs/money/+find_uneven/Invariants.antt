@@ -1,6 +1,5 @@
 use Rattle.std.proofs.Common.{◌≡◌, ◌<◌, drop}
-use Rattle.gs_bet.specs.TreeView.{plain, plain_moves}
-use Rattle.gs_bet.specs.declared.shape.Act.{out-Act}
+use Rattle.gs_bet.specs.{TreeView.{plain, plain_moves}, declared.shape.Act.{out-Act}}
 use Rattle.gs_game.specs.Money.{MovesFit, uneven_path, uneven_move}
 use Rattle.gs_game.proofs.Sizes.{bet_size, moves_size}
 use Rattle.gs_game.proofs.money.+find_uneven.Given as goal

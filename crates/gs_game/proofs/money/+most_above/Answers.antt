@@ -1,11 +1,9 @@
 use Rattle.std.proofs.Common.{◌≡◌, ◌∙◌, arith, rules}
-use Rattle.gs_bet.specs.TreeView.{plain, plain_moves}
+use Rattle.gs_bet.specs.{TreeView.{plain, plain_moves}, declared.shape.Act.{out-Act}}
 use Rattle.gs_model.specs.Betting.{act}
 use Rattle.gs_bet.proofs.TreeLaws.{plain-act, plain_act-out}
-use Rattle.gs_bet.specs.declared.shape.Act.{out-Act}
-use Rattle.gs_game.proofs.MoneyLaws.{fits_moves, fits_after, fits_behind, most_step}
+use Rattle.gs_game.proofs.{MoneyLaws.{fits_moves, fits_after, fits_behind, most_step}, TreeSteps.{moves_step}}
 use Rattle.gs_game.specs.Money.{put_above}
-use Rattle.gs_game.proofs.TreeSteps.{moves_step}
 use Rattle.gs_game.proofs.money.+most_above.Goals as goal
 
 pub loop-next-init : goal.loop-next-init

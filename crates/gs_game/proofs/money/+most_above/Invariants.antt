@@ -1,6 +1,5 @@
 use Rattle.std.proofs.Common.{◌≡◌, ◌≤◌, ◌+◌, ◌^◌, max, ◌<◌, drop}
-use Rattle.gs_bet.specs.TreeView.{plain, plain_moves}
-use Rattle.gs_bet.specs.declared.shape.Act.{out-Act}
+use Rattle.gs_bet.specs.{TreeView.{plain, plain_moves}, declared.shape.Act.{out-Act}}
 use Rattle.gs_game.specs.Money.{MovesFit, most_put, most_moved, put_above}
 use Rattle.gs_game.proofs.Sizes.{bet_size, moves_size}
 use Rattle.gs_game.proofs.money.+most_above.Given as goal

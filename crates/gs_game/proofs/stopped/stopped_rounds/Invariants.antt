@@ -1,9 +1,7 @@
 use Rattle.std.proofs.Common.{◌≡◌, ◌++◌, map, drop, take}
 use Rattle.std.specs.Prelude.{All}
 use Rattle.gs_model.specs.Game.{Round}
-use Rattle.gs_game.specs.Games.{HasFewCards, round_of}
-use Rattle.gs_game.specs.GoingOn.{unbet}
-use Rattle.gs_game.specs.Sequences.{seen_sizes}
+use Rattle.gs_game.specs.{Games.{HasFewCards, round_of}, GoingOn.{unbet}, Sequences.{seen_sizes}}
 use Rattle.gs_game.proofs.stopped.stopped_rounds.Given as goal
 
 abbrev pub invariant-loop-round : goal.invariant-loop-round

@@ -1,13 +1,9 @@
 use Rattle.std.proofs.Common.{◌≡◌, ◌∙◌, refl, ap, length, length-append, ◌+◌, arith, rules}
-use Rattle.gs_model.specs.Walk.{show_end, fold_end}
-use Rattle.gs_model.specs.Betting.{act}
-use Rattle.gs_bet.specs.TreeView.{plain, plain_act, plain_moves}
-use Rattle.gs_bet.specs.declared.shape.Act.{out-Act}
+use Rattle.gs_model.specs.{Walk.{show_end, fold_end}, Betting.{act}}
+use Rattle.gs_bet.specs.{TreeView.{plain, plain_act, plain_moves}, declared.shape.Act.{out-Act}}
 use Rattle.gs_bet.proofs.TreeLaws.{plain-fold, plain_act-out}
-use Rattle.gs_game.specs.Games.{plain_trees}
-use Rattle.gs_game.specs.Walks.{place_of}
-use Rattle.gs_game.proofs.ActWalk.{ended, empty_list, act_begins, act_goes_on, act_ends, few_moves}
-use Rattle.gs_game.proofs.WalkRoom.{move_fits, walkable_first, walkable_moves}
+use Rattle.gs_game.specs.{Games.{plain_trees}, Walks.{place_of}}
+use Rattle.gs_game.proofs.{ActWalk.{ended, empty_list, act_begins, act_goes_on, act_ends, few_moves}, WalkRoom.{move_fits, walkable_first, walkable_moves}}
 use Rattle.gs_game.proofs.TreeSteps.{moves_step, none_left}
 use Rattle.gs_game.proofs.walk.+walker.Goals as goal
 

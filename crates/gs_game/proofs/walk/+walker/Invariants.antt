@@ -1,9 +1,7 @@
 use Rattle.std.proofs.Common.{◌≡◌, ◌≤◌, ◌+◌, ◌-◌, length, drop}
-use Rattle.gs_bet.specs.TreeView.{plain, plain_act, plain_moves}
-use Rattle.gs_bet.specs.declared.shape.Act.{out-Act}
+use Rattle.gs_bet.specs.{TreeView.{plain, plain_act, plain_moves}, declared.shape.Act.{out-Act}}
 use Rattle.gs_game.specs.Games.{plain_trees}
-use Rattle.gs_game.proofs.Sizes.{steps_of, moves_steps, steps_in}
-use Rattle.gs_game.proofs.ActWalk.{ActGoing}
+use Rattle.gs_game.proofs.{Sizes.{steps_of, moves_steps, steps_in}, ActWalk.{ActGoing}}
 use Rattle.gs_game.proofs.walk.+walker.Given as goal
 
 abbrev pub decreases-walk_from : goal.decreases-walk_from

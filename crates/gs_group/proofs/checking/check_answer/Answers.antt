@@ -1,6 +1,5 @@
 use Rattle.std.proofs.lemmas.Result.{IfOk-weaker}
-use Rattle.gs_file.specs.Reading.{read_at}
-use Rattle.gs_file.specs.Views.{valid_view}
+use Rattle.gs_file.specs.{Reading.{read_at}, Views.{valid_view}}
 use Rattle.gs_group.specs.Checking.{ChecksGame}
 use Rattle.gs_reply.proofs.Refused.{not_stated, stated}
 use Rattle.gs_group.proofs.checking.check_answer.Goals as goal

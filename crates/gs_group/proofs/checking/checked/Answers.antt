@@ -1,10 +1,7 @@
-use Rattle.std.proofs.Common.{ap, subst}
-use Rattle.std.proofs.lemmas.Result.{IfOk-weaker}
+use Rattle.std.proofs.{Common.{ap, subst}, lemmas.Result.{IfOk-weaker}}
 use Rattle.gs_file.specs.Views.{valid_view}
-use Rattle.gs_game.specs.Games.{game_of}
-use Rattle.gs_game.specs.declared.valid.ValidGame.{ValidGame}
-use Rattle.gs_reply.specs.Replies.{Answers, Reply}
-use Rattle.gs_reply.specs.Troubles.{SaysUnlike}
+use Rattle.gs_game.specs.{Games.{game_of}, declared.valid.ValidGame.{ValidGame}}
+use Rattle.gs_reply.specs.{Replies.{Answers, Reply}, Troubles.{SaysUnlike}}
 use Rattle.gs_reply.proofs.Refused.{answers_more}
 use Rattle.gs_tree.specs.Trees.{deck_of, rules_of}
 use Rattle.gs_group.specs.Checking.{ChecksGame}

@@ -1,6 +1,4 @@
-use Rattle.std.proofs.Common.{◌≡◌, ◌≤◌, ◌++◌, ℕ, List, length, take, ◌∙◌, arith}
-use Rattle.std.proofs.lemmas.List.{length-append, length-take}
-use Rattle.std.proofs.KnownBytes.{Consumes-trans}
+use Rattle.std.proofs.{Common.{◌≡◌, ◌≤◌, ◌++◌, ℕ, List, length, take, ◌∙◌, arith}, lemmas.List.{length-append, length-take}, KnownBytes.{Consumes-trans}}
 use Rattle.gs_io.proofs.whole.read_all.Goals as goal
 
 -- a piece that was cut to the room has no more bytes than the room

@@ -1,6 +1,6 @@
 use Rattle.std.proofs.Common.{◌≡◌, ◌+◌, ◌-◌, ◌<◌, ◌++◌, ◌∷◌, [], ℕ, List, ap, ◌∙◌, sym, subst, arith, get_or, length, map, suc}
-use Rattle.std.specs.List.{range_with_len}
 use Rattle.std.proofs.lemmas.List.FromFn.{map-range_with_len_more}
+use Rattle.std.specs.List.{range_with_len}
 use Rattle.gs_model.specs.Signals.{signals}
 use Rattle.gs_model.proofs.SingleCards.{children_within}
 use Rattle.gs_tree.specs.Trees.{rules_of}

@@ -1,13 +1,9 @@
-use Rattle.std.proofs.Common.{◌≡◌, ◌+◌, ℕ, List, arith, length, subst, sym}
+use Rattle.std.proofs.{Common.{◌≡◌, ◌+◌, ℕ, List, arith, length, subst, sym}, lemmas.Bool.Decides.{Decides-eqb}}
 use Rattle.std.specs.Prelude.{nat_eq}
-use Rattle.std.proofs.lemmas.Bool.Decides.{Decides-eqb}
-use Rattle.gs_model.specs.Isomorphism.{Isomorphic}
-use Rattle.gs_model.specs.Signals.{signal_at, signals}
-use Rattle.gs_model.specs.Signatures.{IsSignature}
+use Rattle.gs_model.specs.{Isomorphism.{Isomorphic}, Signals.{signal_at, signals}, Signatures.{IsSignature}}
 use Rattle.gs_numbers.proofs.Numbered.{numbered_more, numbered_none, numbers_are}
 use Rattle.gs_tree.specs.Trees.{rules_of}
-use Rattle.gs_iso.specs.Numbers.{marks_under}
-use Rattle.gs_iso.specs.Orders.{mark_lt}
+use Rattle.gs_iso.specs.{Numbers.{marks_under}, Orders.{mark_lt}}
 use Rattle.gs_iso.proofs.Below.{mark_law_at}
 use Rattle.gs_iso.proofs.children.number_each.Goals as goal
 

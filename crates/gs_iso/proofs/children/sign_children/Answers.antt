@@ -1,6 +1,5 @@
 use Rattle.std.proofs.Common.{◌≡◌, ◌+◌, ◌++◌, ◌∙◌, ℕ, suc, List, ap, arith, length, subst}
-use Rattle.std.specs.Prelude.{IsPermutation}
-use Rattle.std.specs.List.{slice_range}
+use Rattle.std.specs.{Prelude.{IsPermutation}, List.{slice_range}}
 use Rattle.gs_model.specs.Signals.{child_count, first_child, signals}
 use Rattle.gs_model.proofs.SingleCards.{children_within}
 use Rattle.gs_tree.specs.Trees.{rules_of}

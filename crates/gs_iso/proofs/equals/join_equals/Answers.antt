@@ -1,7 +1,6 @@
 use Rattle.std.proofs.Common.{◌+◌, ◌∙◌, ℕ, Vec, Global, ap, arith, subst, sym}
-use Rattle.gs_iso.proofs.Pairs.{AreRowEdges, row_alike, row_apart}
+use Rattle.gs_iso.proofs.{Pairs.{AreRowEdges, row_alike, row_apart}, equals.join_equals.Goals.{then-eq+in_ok-push, else-eq}}
 use Rattle.gs_iso.proofs.equals.join_equals.Goals as goal
-use Rattle.gs_iso.proofs.equals.join_equals.Goals.{then-eq+in_ok-push, else-eq}
 
 pub loop-right-preserved : goal.loop-right-preserved
 loop-right-preserved g c =

@@ -1,6 +1,4 @@
-use Rattle.std.proofs.Common.{List, rules}
-use Rattle.std.proofs.lemmas.Iterator.{YieldsList-from_map, items_from_collect}
-use Rattle.std.proofs.lemmas.Iterator.Consumers.{YieldsList-from_first}
+use Rattle.std.proofs.{Common.{List, rules}, lemmas.Iterator.{YieldsList-from_map, items_from_collect}, lemmas.Iterator.Consumers.{YieldsList-from_first}}
 use Rattle.gs_model.specs.Deals.{Deal}
 use Rattle.gs_iso.specs.Orders.{leaf_of}
 use Rattle.gs_iso.proofs.leaves.leaves_of.Goals as goal

@@ -1,10 +1,6 @@
 use Rattle.std.proofs.Common.{ℕ, ℤ, List, ap, map, subst, sym, ◌≡◌, ◌∙◌}
-use Rattle.std.specs.Prelude.{IfOk}
-use Rattle.std.specs.Global.{Vec}
-use Rattle.gs_model.specs.Deals.{path_weight}
-use Rattle.gs_model.specs.Game.{round_count}
-use Rattle.gs_model.specs.Signals.{signal_at}
-use Rattle.gs_model.specs.ViewTree.{leaves}
+use Rattle.std.specs.{Prelude.{IfOk}, Global.{Vec}}
+use Rattle.gs_model.specs.{Deals.{path_weight}, Game.{round_count}, Signals.{signal_at}, ViewTree.{leaves}}
 use Rattle.gs_model.proofs.Facing.{leaves_are_deals}
 use Rattle.gs_tree.specs.Trees.{rules_of}
 use Rattle.gs_iso.specs.Orders.{leaf_of}

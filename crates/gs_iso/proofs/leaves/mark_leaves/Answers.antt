@@ -1,9 +1,7 @@
 use Rattle.std.proofs.Common.{◌≡◌, ◌==◌, ◌++◌, ◌<◌, ◌^◌, ◌∷◌, [], ℕ, ℤ, List, zero, suc, ap, map, refl, sym, ◌∙◌, subst, append_assoc, arith}
-use Rattle.std.specs.Prelude.{All, filter, unsigned_abs}
 use Rattle.std.proofs.lemmas.List.Elements.{All-map, All-tail}
-use Rattle.gs_model.specs.Deals.{Deal, deals, path_weight}
-use Rattle.gs_model.specs.Game.{round_count}
-use Rattle.gs_model.specs.Signals.{signal_at}
+use Rattle.std.specs.Prelude.{All, filter, unsigned_abs}
+use Rattle.gs_model.specs.{Deals.{Deal, deals, path_weight}, Game.{round_count}, Signals.{signal_at}}
 use Rattle.gs_model.proofs.Facing.{leaves_are_deals}
 use Rattle.gs_tree.specs.Trees.{rules_of}
 use Rattle.gs_iso.specs.Orders.{leaf_mark, leaf_of}

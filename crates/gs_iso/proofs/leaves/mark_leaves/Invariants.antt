@@ -1,9 +1,6 @@
 use Rattle.std.proofs.Common.{◌≡◌, ◌==◌, ◌++◌, ◌<◌, ◌^◌, map}
 use Rattle.std.specs.Prelude.{All, filter, unsigned_abs}
-use Rattle.gs_model.specs.Deals.{Deal, deals}
-use Rattle.gs_model.specs.Game.{round_count}
-use Rattle.gs_model.specs.Signals.{signal_at}
-use Rattle.gs_model.specs.ViewTree.{leaves}
+use Rattle.gs_model.specs.{Deals.{Deal, deals}, Game.{round_count}, Signals.{signal_at}, ViewTree.{leaves}}
 use Rattle.gs_tree.specs.Trees.{rules_of}
 use Rattle.gs_iso.specs.Orders.{leaf_mark, leaf_of}
 use Rattle.gs_iso.proofs.leaves.mark_leaves.Given as goal

@@ -1,9 +1,7 @@
-use Rattle.std.proofs.Common.{◌+◌, ◌∙◌, length, ap, arith}
-use Rattle.std.proofs.lemmas.Result.{IfOk-weaker}
+use Rattle.std.proofs.{Common.{◌+◌, ◌∙◌, length, ap, arith}, lemmas.Result.{IfOk-weaker}}
 use Rattle.gs_model.specs.Signals.{signal_at}
 use Rattle.gs_tree.specs.Trees.{rules_of}
-use Rattle.gs_iso.specs.Orders.{child_eq}
-use Rattle.gs_iso.specs.Pairings.{IsPaired, IsPairingAnswer}
+use Rattle.gs_iso.specs.{Orders.{child_eq}, Pairings.{IsPaired, IsPairingAnswer}}
 use Rattle.gs_iso.proofs.Paired.{child_answer, children_few}
 use Rattle.gs_iso.proofs.pairings.child_pairing.Goals as goal
 

@@ -1,12 +1,11 @@
 use Rattle.std.proofs.Common.{◌≡◌, ◌+◌, ◌-◌, ◌<◌, ◌∷◌, [], ◌∙◌, suc, ℕ, List, Vec, Global, ap, arith, get_or, length, length-append, subst, sym}
-use Rattle.gs_model.specs.Signals.{parents}
-use Rattle.gs_model.specs.Rows.{rows}
+use Rattle.gs_model.specs.{Signals.{parents}, Rows.{rows}}
 use Rattle.gs_filter.proofs.RowLaws.{length-rows, row_read}
 use Rattle.gs_tree.specs.Trees.{rules_of}
 use Rattle.gs_iso.specs.Numbers.{IsNumbering, classes_above}
 use Rattle.gs_iso.proofs.Listed.{AreClassesIn, AreReady, above_in, all_classes, classes_next, numbers_in, ready, rows_more}
-use Rattle.gs_iso.proofs.signal_classes.class_lists.Goals as goal
 use Rattle.gs_iso.proofs.signal_classes.class_lists.Goals.{After-deref-in-loop-done}
+use Rattle.gs_iso.proofs.signal_classes.class_lists.Goals as goal
 
 -- the classes of the round before
 above : (c : After-deref-in-loop-done) → AreClassesIn (rules_of c.args.signals.now) c.loop-done.done c.last_classes.result.now

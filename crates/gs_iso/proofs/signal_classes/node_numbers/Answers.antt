@@ -1,6 +1,5 @@
 use Rattle.std.proofs.Common.{◌≡◌, ◌+◌, ◌-◌, ◌<◌, ◌∷◌, [], ◌∙◌, ℕ, List, Vec, Global, ap, arith, get_or, length, length-append, subst, sym}
-use Rattle.gs_model.specs.Game.{round_count}
-use Rattle.gs_model.specs.Rows.{rows}
+use Rattle.gs_model.specs.{Game.{round_count}, Rows.{rows}}
 use Rattle.gs_filter.proofs.RowLaws.{length-rows, row_read}
 use Rattle.gs_tree.specs.Trees.{rules_of}
 use Rattle.gs_iso.specs.Numbers.{IsNumbering}

@@ -1,6 +1,5 @@
 use Rattle.std.proofs.Common.{◌≡◌, ◌-◌, ◌<◌, ℕ, [], get_or, length}
-use Rattle.gs_model.specs.Game.{round_count}
-use Rattle.gs_model.specs.Rows.{rows}
+use Rattle.gs_model.specs.{Game.{round_count}, Rows.{rows}}
 use Rattle.gs_tree.specs.Trees.{rules_of}
 use Rattle.gs_iso.specs.Numbers.{IsNumbering}
 use Rattle.gs_iso.proofs.signal_classes.node_numbers.Given as goal

@@ -1,7 +1,6 @@
 use Rattle.std.proofs.Common.{List, ℕ, subst, sym}
-use Rattle.gs_model.specs.Classes.{IsClasses}
+use Rattle.gs_model.specs.{Classes.{IsClasses}, Rows.{rows}}
 use Rattle.gs_filter.specs.Filter.{AreParents}
-use Rattle.gs_model.specs.Rows.{rows}
 use Rattle.gs_tree.specs.Trees.{rules_of}
 use Rattle.gs_iso.proofs.Whole.{are_classes, are_parents}
 use Rattle.gs_iso.proofs.signal_classes.shrink.Goals as goal

@@ -1,10 +1,8 @@
 use Rattle.std.proofs.Common.{◌<◌, List, ap, sym, subst, ◌∙◌, arith, map}
 use Rattle.std.specs.List.{AllByRecursion}
 use Rattle.gs_game.specs.declared.positions.Arrow.{Arrow}
-use Rattle.gs_seq.specs.Abstracts.{frame_of, lists_of}
-use Rattle.gs_seq.specs.Plans.{lifted}
-use Rattle.gs_lift.proofs.Mixed.{mixed_all, mixed_long, mixed_more, mixed_none}
-use Rattle.gs_lift.proofs.Moves.{moves_at, small_at}
+use Rattle.gs_seq.specs.{Abstracts.{frame_of, lists_of}, Plans.{lifted}}
+use Rattle.gs_lift.proofs.{Mixed.{mixed_all, mixed_long, mixed_more, mixed_none}, Moves.{moves_at, small_at}}
 use Rattle.gs_lift.proofs.mixture.mix.Goals as goal
 
 pub loop-choice-init : goal.loop-choice-init

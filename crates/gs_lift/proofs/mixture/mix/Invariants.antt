@@ -1,5 +1,4 @@
-use Rattle.gs_seq.specs.Abstracts.{frame_of, lists_of}
-use Rattle.gs_seq.specs.Plans.{lifted}
+use Rattle.gs_seq.specs.{Abstracts.{frame_of, lists_of}, Plans.{lifted}}
 use Rattle.gs_lift.proofs.Mixed.{IsMixtureOf}
 use Rattle.gs_lift.proofs.mixture.mix.Given as goal
 

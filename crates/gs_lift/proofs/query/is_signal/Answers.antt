@@ -1,6 +1,5 @@
-use Rattle.std.proofs.Common.{◌≡◌, ◌+◌, ◌≤◌, ℕ, true, false, inl, inr, sym, arith, subst, refl, Option, Some, None}
+use Rattle.std.proofs.{Common.{◌≡◌, ◌+◌, ◌≤◌, ℕ, true, false, inl, inr, sym, arith, subst, refl, Option, Some, None}, lemmas.Bool.{cases_eq, false≢true}}
 use Rattle.std.specs.Prelude.{IfSome, is_some}
-use Rattle.std.proofs.lemmas.Bool.{cases_eq, false≢true}
 use Rattle.gs_model.specs.Game.{round_count}
 use Rattle.gs_tree.specs.Trees.{rules_of}
 use Rattle.gs_lift.specs.Queries.{NamesSignal}

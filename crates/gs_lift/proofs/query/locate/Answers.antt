@@ -1,13 +1,9 @@
-use Rattle.std.proofs.Common.{◌≡◌, get_or, sym, ◌∙◌, subst, MatchResult}
-use Rattle.std.proofs.lemmas.Bool.{false≢true}
-use Rattle.std.proofs.lemmas.Result.{err_from_is_err_and}
+use Rattle.std.proofs.{Common.{◌≡◌, get_or, sym, ◌∙◌, subst, MatchResult}, lemmas.Bool.{false≢true}, lemmas.Result.{err_from_is_err_and}}
 use Rattle.gs_tree.specs.declared.signals.Signals.{Signals}
-use Rattle.gs_lift.specs.Queries.{IsFaultOf, IsSpot, NamesSignal, signals_of}
-use Rattle.gs_lift.specs.declared.fault.QueryFault.TheVariants.{Round, Signal}
-use Rattle.gs_lift.proofs.Held.{signals_held}
-use Rattle.gs_lift.proofs.Spots.{PointAt, line_fault, names_found, names_none, point_at}
-use Rattle.gs_lift.proofs.query.locate.Goals as goal
+use Rattle.gs_lift.specs.{Queries.{IsFaultOf, IsSpot, NamesSignal, signals_of}, declared.fault.QueryFault.TheVariants.{Round, Signal}}
+use Rattle.gs_lift.proofs.{Held.{signals_held}, Spots.{PointAt, line_fault, names_found, names_none, point_at}}
 use Rattle.gs_lift.proofs.query.locate.Goals.{After-index-points-point, After-signals-signals}
+use Rattle.gs_lift.proofs.query.locate.Goals as goal
 
 -- the signals that are read
 same : (c : After-signals-signals) → c.signals-signals.result.now ≡ signals_of c.args.a.now

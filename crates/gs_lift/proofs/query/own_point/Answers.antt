@@ -2,9 +2,8 @@ use Rattle.std.proofs.Common.{◌≡◌, ◌<◌, get_or, sym, ◌∙◌, arith}
 use Rattle.gs_model.specs.Frame.{player_at, point_count}
 use Rattle.gs_seq.specs.Games.{frame_in}
 use Rattle.gs_seq.proofs.Points.{length-points, place_reads}
-use Rattle.gs_lift.proofs.Spots.{point_in}
+use Rattle.gs_lift.proofs.{Spots.{point_in}, query.own_point.Goals.{After-index-points-point, In-Some}}
 use Rattle.gs_lift.proofs.query.own_point.Goals as goal
-use Rattle.gs_lift.proofs.query.own_point.Goals.{After-index-points-point, In-Some}
 
 inside : (c : In-Some) → c.in-Some.point < point_count (frame_in c.args.game.now)
 inside c = point_in c.args.game.now c.args.line.now c.in-Some.point c.in-Some.ensures

@@ -2,9 +2,8 @@ use Rattle.std.proofs.Common.{◌<◌, length, ap, sym, ◌∙◌, subst, arith}
 use Rattle.gs_game.specs.declared.positions.Point.{Point}
 use Rattle.gs_model.specs.Classes.{ClassLists, IsClass, class_of, list_of}
 use Rattle.gs_seq.specs.Abstracts.{lists_of}
-use Rattle.gs_lift.proofs.Classes.{InRound, in_round}
+use Rattle.gs_lift.proofs.{Classes.{InRound, in_round}, shares.class_at.Goals.{After-index-points-point}}
 use Rattle.gs_lift.proofs.shares.class_at.Goals as goal
-use Rattle.gs_lift.proofs.shares.class_at.Goals.{After-index-points-point}
 
 -- the round that is read, and the signal in it
 here : (c : After-index-points-point) → InRound c.args.a.now c.classes-classes.result.now c.args.point c.args.signal c.index-points-point.result.round

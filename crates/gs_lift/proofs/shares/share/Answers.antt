@@ -1,12 +1,8 @@
-use Rattle.std.proofs.Common.{◌≡◌, ◌*ℤ◌, ℤ, sym, ap, ◌∙◌, arith, to_z, of_z, cond}
+use Rattle.std.proofs.{Common.{◌≡◌, ◌*ℤ◌, ℤ, sym, ap, ◌∙◌, arith, to_z, of_z, cond}, lemmas.Bool.{eq-eqb, ne_eqb}, lemmas.Int.{ints, to_z_pos}}
 use Rattle.std.specs.Int.{w128}
-use Rattle.std.proofs.lemmas.Bool.{eq-eqb, ne_eqb}
-use Rattle.std.proofs.lemmas.Int.{ints, to_z_pos}
-use Rattle.gs_seq.specs.Abstracts.{frame_of, lists_of}
-use Rattle.gs_seq.specs.Plans.{lifted}
-use Rattle.gs_lift.proofs.Ratios.{share_none, share_of}
+use Rattle.gs_seq.specs.{Abstracts.{frame_of, lists_of}, Plans.{lifted}}
+use Rattle.gs_lift.proofs.{Ratios.{share_none, share_of}, shares.share.Goals.{then-choice-eq0, else-choice-eq0}}
 use Rattle.gs_lift.proofs.shares.share.Goals as goal
-use Rattle.gs_lift.proofs.shares.share.Goals.{then-choice-eq0, else-choice-eq0}
 
 pub returns-then-total-eq0 : goal.returns-then-total-eq0
 returns-then-total-eq0 c =

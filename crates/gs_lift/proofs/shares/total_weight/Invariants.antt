@@ -1,7 +1,6 @@
 use Rattle.std.proofs.Common.{◌≡◌, ◌*◌, ◌≤◌, ◌^◌, sum_by}
 use Rattle.std.specs.List.{range_with_len}
-use Rattle.gs_seq.specs.Abstracts.{frame_of, lists_of}
-use Rattle.gs_seq.specs.Plans.{lifted}
+use Rattle.gs_seq.specs.{Abstracts.{frame_of, lists_of}, Plans.{lifted}}
 use Rattle.gs_lift.proofs.shares.total_weight.Given as goal
 
 abbrev pub invariant-loop-choice : goal.invariant-loop-choice

@@ -1,13 +1,9 @@
 use Rattle.std.proofs.Common.{◌+◌, ◌≤◌, arith, subst}
-use Rattle.gs_model.specs.Frame.{frame_of}
-use Rattle.gs_model.specs.Game.{round_count}
-use Rattle.gs_model.proofs.Ranges.{signal_count_is}
-use Rattle.gs_model.proofs.Walked.{last_round_of}
+use Rattle.gs_model.specs.{Frame.{frame_of}, Game.{round_count}}
+use Rattle.gs_model.proofs.{Ranges.{signal_count_is}, Walked.{last_round_of}}
 use Rattle.gs_tree.specs.Trees.{rules_of}
 use Rattle.gs_lossless.specs.Stops.{MatchUnlike}
-use Rattle.gs_lossless.proofs.Descent.{list_long}
-use Rattle.gs_lossless.proofs.Scanned.{alike_more, first_unlike_from, not_single, refuted}
-use Rattle.gs_lossless.proofs.Settled.{lossless_by_firsts, over}
+use Rattle.gs_lossless.proofs.{Descent.{list_long}, Scanned.{alike_more, first_unlike_from, not_single, refuted}, Settled.{lossless_by_firsts, over}}
 use Rattle.gs_lossless.proofs.checking.first_unlike.Goals as goal
 
 pub class_of-class-requires-clause-within : goal.class_of-class-requires-clause-within

@@ -1,17 +1,10 @@
-use Rattle.std.proofs.Common.{◌≡◌, ℕ, ap, length, sym, ◌∙◌, subst, arith, ⊎_elim, Bool, true, false}
+use Rattle.std.proofs.{Common.{◌≡◌, ℕ, ap, length, sym, ◌∙◌, subst, arith, ⊎_elim, Bool, true, false}, lemmas.Bool.{cases_lt}}
 use Rattle.std.specs.Prelude.{is_some, not}
-use Rattle.std.proofs.lemmas.Bool.{cases_lt}
-use Rattle.gs_model.specs.Frame.{frame_of, last_round}
-use Rattle.gs_model.specs.Signals.{signals}
-use Rattle.gs_model.proofs.Ranges.{in_range, signal_count_is}
-use Rattle.gs_model.proofs.Walked.{last_round_of}
+use Rattle.gs_model.specs.{Frame.{frame_of, last_round}, Signals.{signals}}
+use Rattle.gs_model.proofs.{Ranges.{in_range, signal_count_is}, Walked.{last_round_of}}
 use Rattle.gs_tree.specs.Trees.{rules_of}
-use Rattle.gs_lossless.specs.Amounts.{AgreesWithFirst}
-use Rattle.gs_lossless.specs.Scans.{AgreeBelow}
-use Rattle.gs_lossless.specs.declared.sides.Side.TheVariants.{Children, Deals}
-use Rattle.gs_lossless.proofs.Descent.{count_last, playable}
-use Rattle.gs_lossless.proofs.Scanned.{none_apart}
-use Rattle.gs_lossless.proofs.Settled.{lossless_by_last, over}
+use Rattle.gs_lossless.specs.{Amounts.{AgreesWithFirst}, Scans.{AgreeBelow}, declared.sides.Side.TheVariants.{Children, Deals}}
+use Rattle.gs_lossless.proofs.{Descent.{count_last, playable}, Scanned.{none_apart}, Settled.{lossless_by_last, over}}
 use Rattle.gs_lossless.proofs.checking.settles.Goals as goal
 
 pub loop-round-preserved : goal.loop-round-preserved

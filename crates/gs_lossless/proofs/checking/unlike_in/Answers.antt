@@ -1,12 +1,9 @@
 use Rattle.std.proofs.Common.{◌≡◌, ◌<◌, ℕ, None, ap, arith, sym, ◌∙◌, subst, Option}
 use Rattle.std.specs.Prelude.{unwrap_or}
 use Rattle.gs_model.specs.Frame.{frame_of, last_round, signal_count}
-use Rattle.gs_model.proofs.Ranges.{signal_count_is}
-use Rattle.gs_model.proofs.Walked.{last_round_of}
+use Rattle.gs_model.proofs.{Ranges.{signal_count_is}, Walked.{last_round_of}}
 use Rattle.gs_tree.specs.Trees.{rules_of}
-use Rattle.gs_lossless.specs.Scans.{IsFirstApart}
-use Rattle.gs_lossless.specs.Stops.{MatchUnlike}
-use Rattle.gs_lossless.specs.declared.sides.Side.TheVariants.{Children}
+use Rattle.gs_lossless.specs.{Scans.{IsFirstApart}, Stops.{MatchUnlike}, declared.sides.Side.TheVariants.{Children}}
 use Rattle.gs_lossless.proofs.Scanned.{children_from, end_in, unlike_from}
 use Rattle.gs_lossless.proofs.checking.unlike_in.Goals as goal
 

@@ -1,9 +1,6 @@
-use Rattle.std.proofs.Common.{◌≡◌, ◌+◌, ℕ, List, [], ◌∷◌, ◌++◌, ap, length, map, sym, ◌∙◌, arith}
+use Rattle.std.proofs.{Common.{◌≡◌, ◌+◌, ℕ, List, [], ◌∷◌, ◌++◌, ap, length, map, sym, ◌∙◌, arith}, lemmas.List.FromFn.{map-range_with_len_more}}
 use Rattle.std.specs.List.{range_with_len}
-use Rattle.std.proofs.lemmas.List.FromFn.{map-range_with_len_more}
-use Rattle.gs_model.specs.Classes.{class_of}
-use Rattle.gs_model.specs.Frame.{at_round, frame_of, last_round, signal_count}
-use Rattle.gs_model.specs.Signals.{signals}
+use Rattle.gs_model.specs.{Classes.{class_of}, Frame.{at_round, frame_of, last_round, signal_count}, Signals.{signals}}
 use Rattle.gs_model.proofs.Walked.{last_round_of}
 use Rattle.gs_tree.specs.Trees.{rules_of}
 use Rattle.gs_lossless.proofs.Descent.{count_last, list_long, playable}

@@ -1,7 +1,6 @@
 use Rattle.std.proofs.Common.{◌≡◌, map}
 use Rattle.std.specs.List.{range_with_len}
-use Rattle.gs_model.specs.Classes.{class_of}
-use Rattle.gs_model.specs.Frame.{at_round, frame_of}
+use Rattle.gs_model.specs.{Classes.{class_of}, Frame.{at_round, frame_of}}
 use Rattle.gs_tree.specs.Trees.{rules_of}
 use Rattle.gs_lossless.proofs.keys.ancestor_classes.Given as goal
 

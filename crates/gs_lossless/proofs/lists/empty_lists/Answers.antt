@@ -1,6 +1,4 @@
-use Rattle.std.proofs.Common.{◌≡◌, [], All, length, ap, ◌∙◌, subst, sym, arith, Vec, Global}
-use Rattle.std.proofs.lemmas.List.{length_push}
-use Rattle.std.proofs.lemmas.List.Elements.{All-push}
+use Rattle.std.proofs.{Common.{◌≡◌, [], All, length, ap, ◌∙◌, subst, sym, arith, Vec, Global}, lemmas.List.{length_push}, lemmas.List.Elements.{All-push}}
 use Rattle.gs_lossless.proofs.lists.empty_lists.Goals as goal
 
 pub loop-n-preserved : goal.loop-n-preserved

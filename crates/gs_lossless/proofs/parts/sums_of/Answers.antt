@@ -1,8 +1,5 @@
-use Rattle.std.proofs.Common.{arith, ◌<◌, ◌≡◌, ap, sym, ◌∙◌, subst, IsPermutation, pos}
-use Rattle.std.proofs.lemmas.List.{take_all}
-use Rattle.std.proofs.lemmas.List.Sorted.{All-permutation}
-use Rattle.gs_lossless.specs.Sums.{AreSumsOf, merged}
-use Rattle.gs_lossless.specs.declared.parts.Part.{Part}
+use Rattle.std.proofs.{Common.{arith, ◌<◌, ◌≡◌, ap, sym, ◌∙◌, subst, IsPermutation, pos}, lemmas.List.{take_all}, lemmas.List.Sorted.{All-permutation}}
+use Rattle.gs_lossless.specs.{Sums.{AreSumsOf, merged}, declared.parts.Part.{Part}}
 use Rattle.gs_lossless.proofs.Merge.{fits_more, merge_more, sums_from}
 use Rattle.gs_lossless.proofs.parts.sums_of.Goals as goal
 

@@ -1,8 +1,6 @@
 use Rattle.std.proofs.Common.{◌≡◌, ◌-◌, ◌<◌, ℕ, List, ap, get_or, length, sym, ◌∙◌, subst, arith}
-use Rattle.gs_model.specs.Frame.{ancestor, frame_of}
-use Rattle.gs_model.specs.Signals.{signals}
-use Rattle.gs_model.proofs.Ranges.{length-parents}
-use Rattle.gs_model.proofs.Walked.{last_round_of}
+use Rattle.gs_model.specs.{Frame.{ancestor, frame_of}, Signals.{signals}}
+use Rattle.gs_model.proofs.{Ranges.{length-parents}, Walked.{last_round_of}}
 use Rattle.gs_tree.specs.Trees.{rules_of}
 use Rattle.gs_lossless.proofs.Descent.{climb, climb_in, playable, tabled}
 use Rattle.gs_lossless.proofs.runs.ancestor.Goals as goal

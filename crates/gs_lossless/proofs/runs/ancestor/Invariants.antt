@@ -1,7 +1,5 @@
 use Rattle.std.proofs.Common.{◌≡◌, ◌<◌, ◌≤◌, length}
-use Rattle.gs_model.specs.Frame.{ancestor, at_round, frame_of}
-use Rattle.gs_model.specs.Game.{round_count}
-use Rattle.gs_model.specs.Signals.{signals}
+use Rattle.gs_model.specs.{Frame.{ancestor, at_round, frame_of}, Game.{round_count}, Signals.{signals}}
 use Rattle.gs_tree.specs.Trees.{rules_of}
 use Rattle.gs_lossless.proofs.runs.ancestor.Given as goal
 

@@ -1,7 +1,5 @@
 use Rattle.std.proofs.Common.{◌≡◌, ◌+◌, ◌<◌, ◌≤◌, sym, subst, arith}
-use Rattle.gs_model.specs.Frame.{frame_of}
-use Rattle.gs_model.specs.Game.{round_count}
-use Rattle.gs_model.specs.Signals.{first_child}
+use Rattle.gs_model.specs.{Frame.{frame_of}, Game.{round_count}, Signals.{first_child}}
 use Rattle.gs_model.proofs.Ranges.{signal_count_is}
 use Rattle.gs_tree.specs.Trees.{rules_of}
 use Rattle.gs_lossless.specs.Amounts.{IsRunIn}

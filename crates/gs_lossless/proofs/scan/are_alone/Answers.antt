@@ -1,5 +1,4 @@
-use Rattle.std.proofs.Common.{◌≡◌, ◌∙◌, ℕ, ap, arith, subst, sym, ⊎_elim}
-use Rattle.std.proofs.lemmas.Bool.{cases_lt}
+use Rattle.std.proofs.{Common.{◌≡◌, ◌∙◌, ℕ, ap, arith, subst, sym, ⊎_elim}, lemmas.Bool.{cases_lt}}
 use Rattle.gs_model.specs.Classes.{class_of, class_size}
 use Rattle.gs_lossless.proofs.scan.are_alone.Goals as goal
 

@@ -1,20 +1,14 @@
 use Rattle.std.proofs.lemmas.List.{length-set}
 use Rattle.std.proofs.Common.{true, false, true≢false, rules, ◌≡◌, ◌≢◌, ◌+◌, ◌-◌, ◌<◌, ℕ, List, ap, get_or, length, set, sym, ◌∙◌, subst, arith, Vec, Global}
-use Rattle.gs_model.specs.Classes.{ClassLists, class_of, class_size, first_member, list_of}
-use Rattle.gs_model.specs.Frame.{frame_of}
-use Rattle.gs_model.specs.Numbering.{IsNumbered}
-use Rattle.gs_model.specs.Signals.{signals}
+use Rattle.gs_model.specs.{Classes.{ClassLists, class_of, class_size, first_member, list_of}, Frame.{frame_of}, Numbering.{IsNumbered}, Signals.{signals}}
 use Rattle.gs_model.proofs.Walked.{last_round_of}
 use Rattle.gs_tree.specs.Trees.{rules_of}
-use Rattle.gs_lossless.specs.Amounts.{Agree, AreAmounts, key_count, keys_of}
-use Rattle.gs_lossless.specs.Scans.{StandFor, StoredBelow}
-use Rattle.gs_lossless.specs.declared.parts.Part.{Part}
-use Rattle.gs_lossless.proofs.Alike.{last_keys}
-use Rattle.gs_lossless.proofs.Descent.{keys_long, list_long, playable}
+use Rattle.gs_lossless.specs.{Amounts.{Agree, AreAmounts, key_count, keys_of}, Scans.{StandFor, StoredBelow}, declared.parts.Part.{Part}}
+use Rattle.gs_lossless.proofs.{Alike.{last_keys}, Descent.{keys_long, list_long, playable}}
 use Rattle.gs_lossless.proofs.Scanned.{agree_more, agree_self, side_in, stored_first, stored_later, stored_single, stood_agrees, stood_later}
 use Rattle.gs_lossless.proofs.Settled.{first_le, agree_if_same, same_if_agree, single_agrees}
-use Rattle.gs_lossless.proofs.scan.first_apart.Goals as goal
 use Rattle.gs_lossless.proofs.scan.first_apart.Goals.{After-first, Start, In_ok-firsts, In_ok-keys, then-first-signal, else-first-signal+else-not-are_same}
+use Rattle.gs_lossless.proofs.scan.first_apart.Goals as goal
 
 -- the list of the round has a class for each signal, and numbers them as they are first seen
 module _ (c : Start) where

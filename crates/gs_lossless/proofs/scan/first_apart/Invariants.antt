@@ -1,9 +1,7 @@
 use Rattle.std.proofs.Common.{◌≡◌, length}
-use Rattle.gs_model.specs.Classes.{ClassLists, class_count}
-use Rattle.gs_model.specs.Frame.{frame_of}
+use Rattle.gs_model.specs.{Classes.{ClassLists, class_count}, Frame.{frame_of}}
 use Rattle.gs_tree.specs.Trees.{rules_of}
-use Rattle.gs_lossless.specs.Amounts.{keys_of}
-use Rattle.gs_lossless.specs.Scans.{AgreeBelow, StandFor, StoredBelow}
+use Rattle.gs_lossless.specs.{Amounts.{keys_of}, Scans.{AgreeBelow, StandFor, StoredBelow}}
 use Rattle.gs_lossless.proofs.scan.first_apart.Given as goal
 
 abbrev pub invariant-loop-signal : goal.invariant-loop-signal

@@ -1,8 +1,6 @@
-use Rattle.std.proofs.Common.{◌≡◌, ◌+◌, ◌-◌, ℕ, List, [], ◌∷◌, ◌++◌, ap, map, sym, ◌∙◌, arith}
+use Rattle.std.proofs.{Common.{◌≡◌, ◌+◌, ◌-◌, ℕ, List, [], ◌∷◌, ◌++◌, ap, map, sym, ◌∙◌, arith}, lemmas.List.FromFn.{map-range_with_len_more}}
 use Rattle.std.specs.List.{range_with_len}
-use Rattle.std.proofs.lemmas.List.FromFn.{map-range_with_len_more}
-use Rattle.gs_lossless.specs.Amounts.{child_part}
-use Rattle.gs_lossless.specs.declared.parts.Part.{Part}
+use Rattle.gs_lossless.specs.{Amounts.{child_part}, declared.parts.Part.{Part}}
 use Rattle.gs_lossless.proofs.sides.child_parts.Goals as goal
 
 pub loop-child-preserved : goal.loop-child-preserved

@@ -1,9 +1,7 @@
-use Rattle.std.proofs.Common.{◌≡◌, ◌<◌, ◌^◌, ◌++◌, ◌∷◌, [], List, ap, length, map, sym, ◌∙◌, subst, append_assoc}
+use Rattle.std.proofs.{Common.{◌≡◌, ◌<◌, ◌^◌, ◌++◌, ◌∷◌, [], List, ap, length, map, sym, ◌∙◌, subst, append_assoc}, lemmas.List.Elements.{All-tail}}
 use Rattle.std.specs.Prelude.{All}
-use Rattle.std.proofs.lemmas.List.Elements.{All-tail}
 use Rattle.gs_model.specs.Deals.{Deal}
-use Rattle.gs_lossless.specs.Amounts.{deal_part}
-use Rattle.gs_lossless.specs.declared.parts.Part.{Part}
+use Rattle.gs_lossless.specs.{Amounts.{deal_part}, declared.parts.Part.{Part}}
 use Rattle.gs_lossless.proofs.sides.push_parts.Goals as goal
 
 pub loop-deal-preserved : goal.loop-deal-preserved

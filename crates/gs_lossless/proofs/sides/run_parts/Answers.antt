@@ -1,12 +1,9 @@
-use Rattle.std.proofs.Common.{◌≡◌, ◌+◌, ◌-◌, ◌<◌, ◌^◌, ℕ, List, ◌++◌, ap, length, map, sym, ◌∙◌, subst, arith}
-use Rattle.std.specs.Prelude.{◌==◌, All, filter, flat_map}
-use Rattle.std.specs.List.{range_with_len}
-use Rattle.std.proofs.lemmas.List.Elements.{All-filter}
+use Rattle.std.proofs.{Common.{◌≡◌, ◌+◌, ◌-◌, ◌<◌, ◌^◌, ℕ, List, ◌++◌, ap, length, map, sym, ◌∙◌, subst, arith}, lemmas.List.Elements.{All-filter}}
+use Rattle.std.specs.{Prelude.{◌==◌, All, filter, flat_map}, List.{range_with_len}}
 use Rattle.gs_model.specs.Deals.{Deal, deals}
 use Rattle.gs_model.proofs.GroupSteps.{flat_map_range_more}
 use Rattle.gs_tree.specs.Trees.{rules_of}
-use Rattle.gs_lossless.specs.Amounts.{deal_part}
-use Rattle.gs_lossless.specs.declared.parts.Part.{Part}
+use Rattle.gs_lossless.specs.{Amounts.{deal_part}, declared.parts.Part.{Part}}
 use Rattle.gs_lossless.proofs.Descent.{deals_light, playable, twos_in}
 use Rattle.gs_lossless.proofs.sides.run_parts.Goals as goal
 

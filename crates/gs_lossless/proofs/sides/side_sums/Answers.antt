@@ -1,18 +1,12 @@
-use Rattle.std.proofs.Common.{◌≡◌, ◌+◌, suc, Vec, Global, ap, arith, length, sym, ◌∙◌}
+use Rattle.std.proofs.{Common.{◌≡◌, ◌+◌, suc, Vec, Global, ap, arith, length, sym, ◌∙◌}, lemmas.Result.{IfOk-weaker}}
 use Rattle.std.specs.Prelude.{◌==◌}
-use Rattle.std.proofs.lemmas.Result.{IfOk-weaker}
-use Rattle.gs_model.specs.Frame.{frame_of}
-use Rattle.gs_model.specs.Signals.{signals}
-use Rattle.gs_model.proofs.SingleCards.{children_within}
-use Rattle.gs_model.proofs.Walked.{last_round_of}
+use Rattle.gs_model.specs.{Frame.{frame_of}, Signals.{signals}}
+use Rattle.gs_model.proofs.{SingleCards.{children_within}, Walked.{last_round_of}}
 use Rattle.gs_tree.specs.Trees.{rules_of}
-use Rattle.gs_lossless.specs.Amounts.{key_count}
-use Rattle.gs_lossless.specs.declared.parts.Part.{Part}
-use Rattle.gs_lossless.proofs.Descent.{count_last, playable}
-use Rattle.gs_lossless.proofs.PartsOf.{ArePartsOf, amounts_from, before_last, of_children, of_deals}
-use Rattle.gs_lossless.proofs.Scanned.{side_in}
-use Rattle.gs_lossless.proofs.sides.side_sums.Goals as goal
+use Rattle.gs_lossless.specs.{Amounts.{key_count}, declared.parts.Part.{Part}}
+use Rattle.gs_lossless.proofs.{Descent.{count_last, playable}, PartsOf.{ArePartsOf, amounts_from, before_last, of_children, of_deals}, Scanned.{side_in}}
 use Rattle.gs_lossless.proofs.sides.side_sums.Goals.{Joined-side, in-Children+in_ok-parts-in-Children, in-Deals+in_ok-parts-in-Deals}
+use Rattle.gs_lossless.proofs.sides.side_sums.Goals as goal
 
 pub children-first-requires-clause-before_last : goal.children-first-requires-clause-before_last
 children-first-requires-clause-before_last c =

@@ -1,9 +1,7 @@
-use Rattle.std.proofs.Common.{◌∙◌}
-use Rattle.std.proofs.lemmas.Result.{IfOk-weaker}
+use Rattle.std.proofs.{Common.{◌∙◌}, lemmas.Result.{IfOk-weaker}}
 use Rattle.gs_tree.specs.Trees.{rules_of}
 use Rattle.gs_alike.specs.Alike.{AreStandIns}
-use Rattle.gs_lossless.proofs.Alike.{firsts_of_deals}
-use Rattle.gs_lossless.proofs.Descent.{playable}
+use Rattle.gs_lossless.proofs.{Alike.{firsts_of_deals}, Descent.{playable}}
 use Rattle.gs_lossless.proofs.standing.stand_ins_at.Goals as goal
 
 pub stand_ins-requires : goal.stand_ins-requires

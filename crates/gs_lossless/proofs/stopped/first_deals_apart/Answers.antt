@@ -1,23 +1,14 @@
 use Rattle.std.proofs.Common.{◌≡◌, ◌<◌, ◌≤◌, ℕ, List, Option, length, sym, ap, ◌∙◌, subst, arith}
 use Rattle.std.specs.Prelude.{IfOk, IfSome}
 use Rattle.gs_filter.specs.Filter.{Filter}
-use Rattle.gs_game.specs.Games.{game_of}
-use Rattle.gs_game.specs.GoingOn.{StopsAfter}
-use Rattle.gs_game.specs.declared.valid.ValidGame.{ValidGame}
+use Rattle.gs_game.specs.{Games.{game_of}, GoingOn.{StopsAfter}, declared.valid.ValidGame.{ValidGame}}
 use Rattle.gs_game.proofs.StopLaws.{stops_later, stops_signals}
-use Rattle.gs_model.specs.Classes.{list_of}
-use Rattle.gs_model.specs.Frame.{frame_of, signal_count}
-use Rattle.gs_model.specs.Game.{Game, round_count}
-use Rattle.gs_model.specs.Signals.{Signal, signals}
+use Rattle.gs_model.specs.{Classes.{list_of}, Frame.{frame_of, signal_count}, Game.{Game, round_count}, Signals.{Signal, signals}}
 use Rattle.gs_model.proofs.Walked.{last_round_of}
 use Rattle.gs_tree.specs.Trees.{rules_of}
-use Rattle.gs_lossless.specs.Scans.{IsFirstApart}
-use Rattle.gs_lossless.specs.declared.sides.Side.TheVariants.{Deals}
-use Rattle.gs_lossless.proofs.Scanned.{side_signals, side_top}
-use Rattle.gs_lossless.proofs.Settled.{if_ok}
-use Rattle.gs_lossless.proofs.Transfer.{apart_from}
+use Rattle.gs_lossless.specs.{Scans.{IsFirstApart}, declared.sides.Side.TheVariants.{Deals}}
+use Rattle.gs_lossless.proofs.{Scanned.{side_signals, side_top}, Settled.{if_ok}, Transfer.{apart_from}, stopped.first_deals_apart.Goals.{In_ok-stopped}}
 use Rattle.gs_lossless.proofs.stopped.first_deals_apart.Goals as goal
-use Rattle.gs_lossless.proofs.stopped.first_deals_apart.Goals.{In_ok-stopped}
 
 pub count-end-requires-clause-in_range : goal.count-end-requires-clause-in_range
 count-end-requires-clause-in_range c = side_top (rules_of c.args.grouped.now.signals.now) Deals c.args.round c.requires

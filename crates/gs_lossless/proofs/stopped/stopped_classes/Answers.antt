@@ -1,10 +1,7 @@
 use Rattle.std.proofs.Common.{List, ℕ, sym, subst}
-use Rattle.gs_filter.specs.Faults.{IsFaultOf}
-use Rattle.gs_filter.specs.Filter.{AreParents}
-use Rattle.gs_model.specs.Rows.{rows}
+use Rattle.gs_filter.specs.{Faults.{IsFaultOf}, Filter.{AreParents}}
+use Rattle.gs_model.specs.{Rows.{rows}, Classes.{ClassLists}, Frame.{frame_of}}
 use Rattle.gs_filter.proofs.Kept.{classes_kept}
-use Rattle.gs_model.specs.Classes.{ClassLists}
-use Rattle.gs_model.specs.Frame.{frame_of}
 use Rattle.gs_tree.specs.Trees.{rules_of}
 use Rattle.gs_lossless.specs.Stopped.{stopped_lists}
 use Rattle.gs_lossless.proofs.Descent.{are_parents}

@@ -1,5 +1,4 @@
-use Rattle.std.proofs.Common.{◌-◌, arith, refl}
-use Rattle.std.proofs.lemmas.Str.{IsCharBoundary-from_ascii}
+use Rattle.std.proofs.{Common.{◌-◌, arith, refl}, lemmas.Str.{IsCharBoundary-from_ascii}}
 use Rattle.gs_made.specs.declared.text.TheConstants.{RANKS}
 use Rattle.gs_made.proofs.Ascii.{ascii}
 use Rattle.gs_made.proofs.text.last_ranks.Goals as goal

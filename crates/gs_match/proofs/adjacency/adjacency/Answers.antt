@@ -1,10 +1,8 @@
 use Rattle.std.proofs.Common.{◌≡◌, ℕ, ◌+◌, ◌<◌, ◌++◌, [], ◌∷◌, List, length, take, get_or, set, arith, sym, ap, subst, ◌∙◌, Vec, Global}
 use Rattle.std.proofs.lemmas.List.{take_more, take_all, map-set, length-map}
-use Rattle.gs_model.specs.Matching.{Edges}
-use Rattle.gs_model.specs.Rows.{rows}
+use Rattle.gs_model.specs.{Matching.{Edges}, Rows.{rows}}
 use Rattle.gs_match.specs.Adjacency.{AreNeighbours, row_of}
-use Rattle.gs_match.proofs.AdjacencyLaws.{neighbours_none, neighbours_more}
-use Rattle.gs_match.proofs.RowLaws.{row_read}
+use Rattle.gs_match.proofs.{AdjacencyLaws.{neighbours_none, neighbours_more}, RowLaws.{row_read}}
 use Rattle.gs_match.proofs.adjacency.adjacency.Goals as goal
 
 pub loop-edge-init : goal.loop-edge-init

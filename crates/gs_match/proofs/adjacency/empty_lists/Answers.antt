@@ -1,5 +1,4 @@
-use Rattle.std.proofs.Common.{◌≡◌, ℕ, [], ap, ◌∙◌, subst, sym, List, Vec, Global, arith, length}
-use Rattle.std.proofs.lemmas.List.{length_push}
+use Rattle.std.proofs.{Common.{◌≡◌, ℕ, [], ap, ◌∙◌, subst, sym, List, Vec, Global, arith, length}, lemmas.List.{length_push}}
 use Rattle.gs_model.specs.Rows.{rows}
 use Rattle.gs_match.specs.Adjacency.{row_of}
 use Rattle.gs_match.proofs.AdjacencyLaws.{empty_more}

@@ -1,13 +1,8 @@
-use Rattle.std.proofs.Common.{◌≡◌, ℕ, set, arith, subst, sym, ◌∙◌, Some}
-use Rattle.std.proofs.lemmas.List.{get_or_default}
-use Rattle.gs_match.specs.declared.search.Visit.{Visit}
-use Rattle.gs_match.specs.declared.search.Found.{Found}
-use Rattle.gs_match.specs.declared.search.Found.TheVariants.{Free}
+use Rattle.std.proofs.{Common.{◌≡◌, ℕ, set, arith, subst, sym, ◌∙◌, Some}, lemmas.List.{get_or_default}}
+use Rattle.gs_match.specs.{declared.search.Visit.{Visit}, declared.search.Found.{Found}, declared.search.Found.TheVariants.{Free}, Search.{IsFound, visit}}
 use Rattle.gs_model.specs.Rows.{rows}
-use Rattle.gs_match.specs.Search.{IsFound, visit}
-use Rattle.gs_match.proofs.AugmentLaws.{IsShift, shift_start, shift_step, shift_end}
+use Rattle.gs_match.proofs.{AugmentLaws.{IsShift, shift_start, shift_step, shift_end}, augment.augment.Goals.{In-Free}}
 use Rattle.gs_match.proofs.augment.augment.Goals as goal
-use Rattle.gs_match.proofs.augment.augment.Goals.{In-Free}
 
 -- the search ended at a free place
 found : (c : In-Free) → IsFound (rows c.args.adjacent.now) c.args.holders.now c.args.root (Free c.in-Free.visits c.in-Free.place c.in-Free.right)

@@ -1,8 +1,6 @@
-use Rattle.std.proofs.Common.{◌+◌, ℕ, List, length, arith, ap, subst, sym, ◌∙◌, Vec, Global}
-use Rattle.std.proofs.lemmas.List.{length-set}
-use Rattle.gs_match.proofs.ByLeftLaws.{by_left-some, by_left-none, FoundBelow}
+use Rattle.std.proofs.{Common.{◌+◌, ℕ, List, length, arith, ap, subst, sym, ◌∙◌, Vec, Global}, lemmas.List.{length-set}}
+use Rattle.gs_match.proofs.{ByLeftLaws.{by_left-some, by_left-none, FoundBelow}, matching.by_left.Goals.{in-Some, in_default}}
 use Rattle.gs_match.proofs.matching.by_left.Goals as goal
-use Rattle.gs_match.proofs.matching.by_left.Goals.{in-Some, in_default}
 
 pub loop-right-preserved : goal.loop-right-preserved
 loop-right-preserved c = elim c.match-left.branch [

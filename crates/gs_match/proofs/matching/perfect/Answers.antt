@@ -1,12 +1,8 @@
 use Rattle.std.proofs.Common.{◌≡◌, ◌+◌, ◌<◌, ℕ, List, length, get_or, arith, ap, subst, sym, ◌∙◌, Some, Option, Vec, Global, IsPermutation, MatchOption, rules}
-use Rattle.gs_model.specs.Matching.{Edges, IsHall}
+use Rattle.gs_model.specs.{Matching.{Edges, IsHall}, Rows.{rows}}
 use Rattle.gs_model.proofs.Graph.{hall_excludes}
-use Rattle.gs_match.specs.declared.search.Visit.{Visit}
-use Rattle.gs_model.specs.Rows.{rows}
-use Rattle.gs_match.specs.Search.{IsMatching, HasClosed, holder, lefts}
-use Rattle.gs_match.proofs.SearchLaws.{held_not_last}
-use Rattle.gs_match.proofs.HallLaws.{hall_from}
-use Rattle.gs_match.proofs.PerfectLaws.{perfect_from}
+use Rattle.gs_match.specs.{declared.search.Visit.{Visit}, Search.{IsMatching, HasClosed, holder, lefts}}
+use Rattle.gs_match.proofs.{SearchLaws.{held_not_last}, HallLaws.{hall_from}, PerfectLaws.{perfect_from}}
 use Rattle.gs_match.proofs.matching.perfect.Goals as goal
 
 module _ (c : goal.After-drop-adjacent-in-Some) where

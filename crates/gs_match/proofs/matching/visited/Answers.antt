@@ -1,5 +1,4 @@
-use Rattle.std.proofs.Common.{rules}
-use Rattle.std.proofs.lemmas.List.Sorted.{IsNonDecreasingBy-from_sort}
+use Rattle.std.proofs.{Common.{rules}, lemmas.List.Sorted.{IsNonDecreasingBy-from_sort}}
 use Rattle.gs_match.proofs.matching.visited.Goals as goal
 
 pub returns-clause-sorted : goal.returns-clause-sorted

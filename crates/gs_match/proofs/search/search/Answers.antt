@@ -1,10 +1,7 @@
-use Rattle.std.proofs.Common.{◌≡◌, ◌+◌, ◌++◌, ℕ, Bool, List, length, take, drop, arith, subst, sym, ap, ◌∙◌, ⊎_elim, None, Option}
-use Rattle.std.proofs.lemmas.Bool.{cases_eq}
+use Rattle.std.proofs.{Common.{◌≡◌, ◌+◌, ◌++◌, ℕ, Bool, List, length, take, drop, arith, subst, sym, ap, ◌∙◌, ⊎_elim, None, Option}, lemmas.Bool.{cases_eq}}
 use Rattle.std.proofs.lemmas.List.{take_at}
-use Rattle.gs_match.specs.declared.search.Visit.{Visit}
+use Rattle.gs_match.specs.{declared.search.Visit.{Visit}, Adjacency.{Near}, Search.{IsTree, Extends, IsRowEnd, AreExplored, visit}}
 use Rattle.gs_model.specs.Rows.{rows}
-use Rattle.gs_match.specs.Adjacency.{Near}
-use Rattle.gs_match.specs.Search.{IsTree, Extends, IsRowEnd, AreExplored, visit}
 use Rattle.gs_match.proofs.SearchLaws.{explored_more}
 use Rattle.gs_match.proofs.search.search.Goals as goal
 

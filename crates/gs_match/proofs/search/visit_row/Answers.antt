@@ -1,9 +1,7 @@
 use Rattle.std.proofs.Common.{◌≡◌, true, List, get_or, set, arith, subst, sym, below_more}
-use Rattle.gs_match.specs.declared.search.Visit.{Visit}
+use Rattle.gs_match.specs.{declared.search.Visit.{Visit}, Search.{IsTree, Extends, is_reached}}
 use Rattle.gs_model.specs.Rows.{rows}
-use Rattle.gs_match.specs.Search.{IsTree, Extends, is_reached}
-use Rattle.gs_match.proofs.SearchLaws.{extends_refl}
-use Rattle.gs_match.proofs.RowLaws.{right_in, near_now, reached_in, all_seen, turn_tree, turn_extends, turn_seen}
+use Rattle.gs_match.proofs.{SearchLaws.{extends_refl}, RowLaws.{right_in, near_now, reached_in, all_seen, turn_tree, turn_extends, turn_seen}}
 use Rattle.gs_match.proofs.search.visit_row.Goals as goal
 
 pub loop-right-init : goal.loop-right-init

@@ -1,8 +1,7 @@
 use Rattle.std.proofs.Common.{◌≡◌, ◌+◌, ◌-◌, ◌++◌, ◌∙◌, Some, true, ap, arith, slice_get, subst, sym}
 use lib.Pointwise.{pointwise}
 use Rattle.gs_numbers.specs.Numbers.{same_parts}
-use Rattle.gs_numbers.proofs.Numbered.{find_passes, slice_get-insert}
-use Rattle.gs_numbers.proofs.Grown.{parts_insert, parts_stay}
+use Rattle.gs_numbers.proofs.{Numbered.{find_passes, slice_get-insert}, Grown.{parts_insert, parts_stay}}
 use Rattle.gs_numbers.proofs.numbers.number_of_list.Goals as goal
 
 pub returns-in-Some-clause-number : goal.returns-in-Some-clause-number

@@ -1,9 +1,7 @@
-use Rattle.std.proofs.Common.{◌≡◌, ℕ, ◌+◌, ◌*◌, ◌<◌, List, length, slice_index, sym, ap, subst, arith, rules}
-use Rattle.std.proofs.Math.Nat.{mul-le-mul_left}
-use Rattle.std.specs.Vec.{with_items}
+use Rattle.std.proofs.{Common.{◌≡◌, ℕ, ◌+◌, ◌*◌, ◌<◌, List, length, slice_index, sym, ap, subst, arith, rules}, Math.Nat.{mul-le-mul_left}}
 use Rattle.std.proofs.lemmas.List.{with_items_is}
-use Rattle.gs_seq.specs.Abstracts.{frame_of, lists_of}
-use Rattle.gs_seq.specs.Slots.{plan_of}
+use Rattle.std.specs.Vec.{with_items}
+use Rattle.gs_seq.specs.{Abstracts.{frame_of, lists_of}, Slots.{plan_of}}
 use Rattle.gs_best.proofs.Forms.{form_classes, form_in_range, form_walked}
 use Rattle.gs_totals.specs.PlanSums.{AreAlike, plus_times}
 use Rattle.gs_play.specs.Added.{AreAdded}

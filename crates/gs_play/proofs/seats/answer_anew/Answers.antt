@@ -1,17 +1,12 @@
 use Rattle.std.proofs.Common.{◌≡◌, ℕ, ◌≤◌, ◌++◌, List, length, take, drop, sym, ap, ◌∙◌, subst, arith, Vec}
-use Rattle.std.specs.Prelude.{ℤ}
-use Rattle.std.specs.declared.alloc.Global.{Global}
+use Rattle.std.specs.{Prelude.{ℤ}, declared.alloc.Global.{Global}}
 use Rattle.gs_model.specs.Frame.{point_count}
 use Rattle.gs_seq.specs.Slots.{IsPlan, slot_count}
-use Rattle.gs_best.specs.Puts.{ArePutBefore}
-use Rattle.gs_best.specs.Tables.{start_of}
+use Rattle.gs_best.specs.{Puts.{ArePutBefore}, Tables.{start_of}}
 use Rattle.gs_best.proofs.Forms.{form_classes, form_in_range, form_lossless, form_walked}
-use Rattle.gs_totals.specs.ClassTotals.{AreBestTotals}
-use Rattle.gs_totals.specs.Places.{AreEndSums}
-use Rattle.gs_totals.specs.Roles.{frame_in, lists_in, moves_in, plan_in, totals_in}
+use Rattle.gs_totals.specs.{ClassTotals.{AreBestTotals}, Places.{AreEndSums}, Roles.{frame_in, lists_in, moves_in, plan_in, totals_in}}
 use Rattle.gs_totals.proofs.Slices.{through}
-use Rattle.gs_play.proofs.Answering.{put_plan}
-use Rattle.gs_play.proofs.seats.answer_anew.Goals.{After-find, After-swap}
+use Rattle.gs_play.proofs.{Answering.{put_plan}, seats.answer_anew.Goals.{After-find, After-swap}}
 use Rattle.gs_play.proofs.seats.answer_anew.Goals as goal
 
 -- the moves as they were written, and the answer's weights after both lists changed places

@@ -1,9 +1,7 @@
 use Rattle.std.proofs.Common.{◌≤◌, List, ℕ, length, sym, subst}
 use Rattle.gs_model.specs.Frame.{point_count}
 use Rattle.gs_best.specs.Tables.{start_of}
-use Rattle.gs_totals.specs.ClassTotals.{AreBestTotals, IsFollowed}
-use Rattle.gs_totals.specs.Jumps.{AreBeforeChange}
-use Rattle.gs_totals.specs.Roles.{frame_in, lists_in, moves_in, plan_in, totals_in}
+use Rattle.gs_totals.specs.{ClassTotals.{AreBestTotals, IsFollowed}, Jumps.{AreBeforeChange}, Roles.{frame_in, lists_in, moves_in, plan_in, totals_in}}
 use Rattle.gs_play.proofs.seats.lasts.Goals as goal
 
 pub invariant_of-course : goal.invariant_of-course

@@ -1,7 +1,6 @@
 use Rattle.std.proofs.Common.{List, ℕ, length, sym, ap, ◌∙◌, subst}
 use Rattle.gs_seq.specs.Slots.{plan_of}
-use Rattle.gs_totals.specs.Places.{AreEndSums}
-use Rattle.gs_totals.specs.Roles.{frame_in, lists_in}
+use Rattle.gs_totals.specs.{Places.{AreEndSums}, Roles.{frame_in, lists_in}}
 use Rattle.gs_play.proofs.seats.renew.Goals as goal
 
 pub renew_ends-requires-clause-before : goal.renew_ends-requires-clause-before

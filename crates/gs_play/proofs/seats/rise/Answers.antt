@@ -1,11 +1,8 @@
 use Rattle.std.proofs.Common.{◌≤◌, List, ℕ, length, sym, subst, Vec}
-use Rattle.std.specs.Prelude.{ℤ}
-use Rattle.std.specs.declared.alloc.Global.{Global}
+use Rattle.std.specs.{Prelude.{ℤ}, declared.alloc.Global.{Global}}
 use Rattle.gs_model.specs.Frame.{point_count}
 use Rattle.gs_best.specs.Tables.{start_of}
-use Rattle.gs_totals.specs.ClassTotals.{IsFollowed}
-use Rattle.gs_totals.specs.Places.{AreEndSums}
-use Rattle.gs_totals.specs.Roles.{frame_in, lists_in, moves_in, plan_in, totals_in}
+use Rattle.gs_totals.specs.{ClassTotals.{IsFollowed}, Places.{AreEndSums}, Roles.{frame_in, lists_in, moves_in, plan_in, totals_in}}
 use Rattle.gs_play.proofs.seats.rise.Goals as goal
 
 pub follow-requires-clause-ready : goal.follow-requires-clause-ready

@@ -1,7 +1,6 @@
 use Rattle.std.proofs.Common.{◌≡◌, ◌-◌, sym, ◌∙◌, subst, arith, true≢false}
 use Rattle.gs_model.specs.Play.{IsFictitiousPlay}
-use Rattle.gs_seq.specs.Abstracts.{frame_of, lists_of}
-use Rattle.gs_seq.specs.Plans.{class_plan}
+use Rattle.gs_seq.specs.{Abstracts.{frame_of, lists_of}, Plans.{class_plan}}
 use Rattle.gs_play.proofs.turns.read_pays.Goals as goal
 
 pub returns-clause-playing : goal.returns-clause-playing

@@ -1,20 +1,13 @@
 use Rattle.std.proofs.Common.{◌≡◌, ◌+◌, ◌-◌, ◌<◌, sym, ap, ◌∙◌, subst, arith}
 use Rattle.gs_model.specs.Play.{IsFictitiousPlay}
 use Rattle.gs_model.proofs.PlanLaws.{played_are_plans}
-use Rattle.gs_seq.specs.Abstracts.{frame_of, lists_of}
-use Rattle.gs_seq.specs.Plans.{IsPlanOf, class_plan}
-use Rattle.gs_seq.specs.declared.plan.Plan.{Plan}
+use Rattle.gs_seq.specs.{Abstracts.{frame_of, lists_of}, Plans.{IsPlanOf, class_plan}, declared.plan.Plan.{Plan}}
 use Rattle.gs_best.proofs.Forms.{form_classes, form_in_range, form_walked}
 use Rattle.gs_best.specs.Tables.{moves_of}
-use Rattle.gs_totals.specs.Jumps.{AreBeforeChange}
-use Rattle.gs_totals.specs.PlanSums.{AreAlike, plus_times}
-use Rattle.gs_totals.specs.Places.{AreEndSums, totals_of}
+use Rattle.gs_totals.specs.{Jumps.{AreBeforeChange}, PlanSums.{AreAlike, plus_times}, Places.{AreEndSums, totals_of}}
 use Rattle.gs_totals.proofs.SmallEnds.{small_ends, small_points}
-use Rattle.gs_play.specs.Seats.{HasAnswered}
-use Rattle.gs_play.proofs.Answering.{known_on, paid_same}
-use Rattle.gs_play.specs.Staying.{AnswerStays}
-use Rattle.gs_play.proofs.Jumps.{jump}
-use Rattle.gs_play.proofs.Turned.{best_on, least_of, paid_on, stays_less}
+use Rattle.gs_play.specs.{Seats.{HasAnswered}, Staying.{AnswerStays}}
+use Rattle.gs_play.proofs.{Answering.{known_on, paid_same}, Jumps.{jump}, Turned.{best_on, least_of, paid_on, stays_less}}
 use Rattle.gs_play.proofs.turns.turn.Goals as goal
 
 pub look_ahead-first-requires-clause-answered : goal.look_ahead-first-requires-clause-answered

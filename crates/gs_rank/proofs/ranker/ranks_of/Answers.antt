@@ -1,6 +1,5 @@
-use Rattle.std.proofs.Common.{◌≡◌, ◌<◌, ℕ, List, length, ap, sym, ◌∙◌, subst, arith}
+use Rattle.std.proofs.{Common.{◌≡◌, ◌<◌, ℕ, List, length, ap, sym, ◌∙◌, subst, arith}, lemmas.List.Elements.{All-push}}
 use Rattle.std.specs.Prelude.{All}
-use Rattle.std.proofs.lemmas.List.Elements.{All-push}
 use Rattle.gs_card.specs.Decks.{kinds}
 use Rattle.gs_model.specs.Outcome.{rank_of}
 use Rattle.gs_rank.proofs.Kept.{kept_more, rank_small}

@@ -1,7 +1,5 @@
-use Rattle.std.proofs.Common.{◌≡◌, ℕ, ℤ, pos, [], ◌*◌, sym, ap, ◌∙◌, arith}
+use Rattle.std.proofs.{Common.{◌≡◌, ℕ, ℤ, pos, [], ◌*◌, sym, ap, ◌∙◌, arith}, Math.IntN.{*ℤ_comm}, lemmas.Int.{to_z-of_z}}
 use Rattle.std.specs.Prelude.{◌*ℤ◌, unsigned_abs}
-use Rattle.std.proofs.Math.IntN.{*ℤ_comm}
-use Rattle.std.proofs.lemmas.Int.{to_z-of_z}
 use mir.Syntax.{w128}
 use Rattle.gs_model.proofs.Total.{sum_z-mul}
 use Rattle.gs_best.proofs.Fractions.{bottom}

@@ -1,13 +1,10 @@
-use Rattle.std.proofs.Common.{◌≤◌, Global, List, Vec, sym, subst, true≢false, ◌∙◌}
-use Rattle.std.proofs.lemmas.Result.{err_from_is_err_and}
+use Rattle.std.proofs.{Common.{◌≤◌, Global, List, Vec, sym, subst, true≢false, ◌∙◌}, lemmas.Result.{err_from_is_err_and}}
 use Rattle.gs_frac.specs.declared.value.Fraction.{Fraction}
 use Rattle.gs_seq.specs.Games.{frame_in}
 use Rattle.gs_tree.specs.declared.signals.Signals.{Signals}
-use Rattle.gs_raw.specs.Answers.{AreHandValuesOf}
-use Rattle.gs_raw.specs.Cells.{raw_cell_count}
-use Rattle.gs_raw.proofs.Overs.{are_spread, hands_alike, judged_alike, stopped}
+use Rattle.gs_raw.specs.{Answers.{AreHandValuesOf}, Cells.{raw_cell_count}}
+use Rattle.gs_raw.proofs.{Overs.{are_spread, hands_alike, judged_alike, stopped}, judging.judged.Goals.{then-with_hands+in_ok-hands, else-with_hands}}
 use Rattle.gs_raw.proofs.judging.judged.Goals as goal
-use Rattle.gs_raw.proofs.judging.judged.Goals.{then-with_hands+in_ok-hands, else-with_hands}
 
 pub returns-in_err-form-clause-refused : goal.returns-in_err-form-clause-refused
 returns-in_err-form-clause-refused c =

@@ -1,8 +1,7 @@
 use Rattle.std.proofs.Common.{ap, sym, ◌∙◌, subst}
 use Rattle.gs_filter.specs.Filter.{Filter}
 use Rattle.gs_model.specs.Lossless.{IsLossless}
-use Rattle.gs_seq.specs.Cells.{cell_count}
-use Rattle.gs_seq.specs.Games.{frame_in}
+use Rattle.gs_seq.specs.{Cells.{cell_count}, Games.{frame_in}}
 use Rattle.gs_tree.specs.declared.signals.Signals.{Signals}
 use Rattle.gs_raw.proofs.judging.raw_stop.Goals as goal
 

@@ -2,9 +2,7 @@ use Rattle.std.proofs.Common.{◌≡◌, ℕ, sym, subst}
 use Rattle.gs_filter.specs.Filter.{single_classes}
 use Rattle.gs_game.specs.declared.valid.ValidGame.{ValidGame}
 use Rattle.gs_model.specs.Classes.{ClassLists}
-use Rattle.gs_seq.specs.Games.{frame_in}
-use Rattle.gs_seq.specs.Plans.{IsPlanOf, lifted}
-use Rattle.gs_seq.specs.declared.plan.Plan.{Plan}
+use Rattle.gs_seq.specs.{Games.{frame_in}, Plans.{IsPlanOf, lifted}, declared.plan.Plan.{Plan}}
 use Rattle.gs_raw.specs.Lifts.{AreSame}
 use Rattle.gs_raw.proofs.Same.{turned}
 use Rattle.gs_raw.proofs.judging.spread_both.Goals as goal

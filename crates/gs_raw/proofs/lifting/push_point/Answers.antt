@@ -1,14 +1,11 @@
 use Rattle.std.proofs.Common.{◌≡◌, ℕ, ◌+◌, ◌-◌, ◌*◌, ◌<◌, ◌≤◌, ◌^◌, ◌++◌, List, length, take, drop, ap, ◌∙◌, subst, arith}
-use Rattle.gs_model.specs.Classes.{IsClass, class_of}
-use Rattle.gs_model.specs.Frame.{point_count, round_of, signal_count}
-use Rattle.gs_model.specs.Positions.{at_point}
-use Rattle.gs_seq.specs.Games.{frame_in}
-use Rattle.gs_seq.specs.Slots.{slot_of}
+use Rattle.gs_model.specs.{Classes.{IsClass, class_of}, Frame.{point_count, round_of, signal_count}, Positions.{at_point}}
+use Rattle.gs_seq.specs.{Games.{frame_in}, Slots.{slot_of}}
 use Rattle.gs_seq.proofs.SlotLaws.{slots_few}
 use Rattle.gs_raw.specs.Lifts.{IsSpreadBehind}
 use Rattle.gs_raw.proofs.Spread.{PointFacts, RoomFacts, point_facts, room_facts, spread_more}
-use Rattle.gs_raw.proofs.lifting.push_point.Goals as goal
 use Rattle.gs_raw.proofs.lifting.push_point.Goals.{After-class_of-class, After-len-moves}
+use Rattle.gs_raw.proofs.lifting.push_point.Goals as goal
 
 -- the point that is read, and the room of the class's weights
 here : (c : After-len-moves) → PointFacts c.args.game.now c.args.classes.now c.args.point c.index-points-point.result.round (length c.index-points-point.result.moves.items)

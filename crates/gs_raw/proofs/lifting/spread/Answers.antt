@@ -1,15 +1,12 @@
 use Rattle.std.proofs.Common.{◌≡◌, ℕ, ◌+◌, ◌*◌, ◌<◌, ◌^◌, length, refl, ap, sym, ◌∙◌, subst, arith, Vec, Global}
 use Rattle.gs_game.specs.Games.{game_of}
-use Rattle.gs_model.specs.Classes.{class_count}
-use Rattle.gs_model.specs.Frame.{point_count}
+use Rattle.gs_model.specs.{Classes.{class_count}, Frame.{point_count}}
 use Rattle.gs_model.proofs.Ranges.{in_range}
-use Rattle.gs_seq.specs.Games.{frame_in}
-use Rattle.gs_seq.specs.Slots.{slots_before}
-use Rattle.gs_seq.proofs.Points.{Reads, few, length-points, playable, point_reads, walked}
-use Rattle.gs_seq.proofs.SlotLaws.{over, slots_few}
+use Rattle.gs_seq.specs.{Games.{frame_in}, Slots.{slots_before}}
+use Rattle.gs_seq.proofs.{Points.{Reads, few, length-points, playable, point_reads, walked}, SlotLaws.{over, slots_few}}
 use Rattle.gs_raw.proofs.Spread.{IsSpreadTo, PointFacts, before_none, other_point_more, own_point_more, point_facts, slots_here, spread_plan, spread_same}
-use Rattle.gs_raw.proofs.lifting.spread.Goals as goal
 use Rattle.gs_raw.proofs.lifting.spread.Goals.{After-index-points-point, After-len, After-loop-point, In-loop-point, then-here-plan+in_ok-push_point, else-here-plan}
+use Rattle.gs_raw.proofs.lifting.spread.Goals as goal
 
 pub overflow_cast-point-end : goal.overflow_cast-point-end
 overflow_cast-point-end c = record { fits = omega (arith, length-points c.args.game.now c.points.result.now c.points.ensures, (few c.args.game.now).points) }

@@ -3,15 +3,11 @@ use Rattle.std.specs.List.{range_with_len}
 use mir.Syntax.{w128}
 use mir.Val.{to_z}
 use Rattle.gs_best.proofs.Forms.{form_modest}
-use Rattle.gs_model.specs.Frame.{end_count}
-use Rattle.gs_model.specs.Sums.{sum_z}
-use Rattle.gs_seq.specs.Abstracts.{frame_of, lists_of}
-use Rattle.gs_seq.specs.Plans.{lifted}
+use Rattle.gs_model.specs.{Frame.{end_count}, Sums.{sum_z}}
+use Rattle.gs_seq.specs.{Abstracts.{frame_of, lists_of}, Plans.{lifted}}
 use Rattle.gs_raw.specs.Hands.{hand_pays_at}
-use Rattle.gs_raw.proofs.HandDeals.{all_ends}
-use Rattle.gs_raw.proofs.Running.{IsAdded, ends_added}
+use Rattle.gs_raw.proofs.{HandDeals.{all_ends}, Running.{IsAdded, ends_added}, paired.all_gain.Goals.{After-end_gain}}
 use Rattle.gs_raw.proofs.paired.all_gain.Goals as goal
-use Rattle.gs_raw.proofs.paired.all_gain.Goals.{After-end_gain}
 
 -- the sum with the end's part
 adding : (c : After-end_gain)

@@ -1,9 +1,7 @@
 use Rattle.std.proofs.Common.{◌≡◌, ◌*◌, ◌≤◌, ◌^◌}
-use Rattle.std.specs.Prelude.{unsigned_abs}
-use Rattle.std.specs.List.{range_with_len}
+use Rattle.std.specs.{Prelude.{unsigned_abs}, List.{range_with_len}}
 use Rattle.gs_model.specs.Sums.{sum_z}
-use Rattle.gs_seq.specs.Abstracts.{frame_of, lists_of}
-use Rattle.gs_seq.specs.Plans.{lifted}
+use Rattle.gs_seq.specs.{Abstracts.{frame_of, lists_of}, Plans.{lifted}}
 use Rattle.gs_raw.specs.Hands.{hand_pays_at}
 use Rattle.gs_raw.proofs.paired.all_gain.Given as goal
 

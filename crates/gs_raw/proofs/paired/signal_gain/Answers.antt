@@ -1,20 +1,13 @@
-use Rattle.std.proofs.Common.{◌≡◌, ℤ, pos, ◌+◌, ◌^◌, ap, sym, ◌∙◌, subst, arith, of_z}
+use Rattle.std.proofs.{Common.{◌≡◌, ℤ, pos, ◌+◌, ◌^◌, ap, sym, ◌∙◌, subst, arith, of_z}, lemmas.Int.{to_z-of_z}, Math.Nat.{mul-le-mul_left}}
 use Rattle.std.specs.Prelude.{unsigned_abs, ◌*ℤ◌}
-use Rattle.std.proofs.lemmas.Int.{to_z-of_z}
-use Rattle.std.proofs.Math.Nat.{mul-le-mul_left}
 use mir.Syntax.{w128}
 use mir.Val.{to_z}
 use Rattle.gs_best.proofs.Forms.{form_modest}
-use Rattle.gs_model.specs.BestAnswers.{end_worth}
-use Rattle.gs_model.specs.Pairs.{class_number}
-use Rattle.gs_model.specs.Payoff.{number_at_end}
-use Rattle.gs_seq.specs.Abstracts.{frame_of, lists_of}
-use Rattle.gs_seq.specs.Plans.{IsPlanOf, class_plan, lifted}
+use Rattle.gs_model.specs.{BestAnswers.{end_worth}, Pairs.{class_number}, Payoff.{number_at_end}}
+use Rattle.gs_seq.specs.{Abstracts.{frame_of, lists_of}, Plans.{IsPlanOf, class_plan, lifted}}
 use Rattle.gs_raw.specs.Hands.{signal_pays}
-use Rattle.gs_raw.proofs.Numbers.{abs_scaled}
-use Rattle.gs_raw.proofs.SignalPays.{signal_share, signal_weighs_le, single_end, small_of}
+use Rattle.gs_raw.proofs.{Numbers.{abs_scaled}, SignalPays.{signal_share, signal_weighs_le, single_end, small_of}, paired.signal_gain.Goals.{After-end_value}}
 use Rattle.gs_raw.proofs.paired.signal_gain.Goals as goal
-use Rattle.gs_raw.proofs.paired.signal_gain.Goals.{After-end_value}
 
 -- the number times what the end pays is what the signal's deals pay
 product : (c : After-end_value)

@@ -1,7 +1,6 @@
 use Rattle.std.proofs.Common.{◌≡◌, ◌-◌, ◌*◌, ◌≤◌, ◌^◌}
 use Rattle.std.specs.Prelude.{unsigned_abs}
-use Rattle.gs_seq.specs.Abstracts.{frame_of, lists_of}
-use Rattle.gs_seq.specs.Plans.{lifted}
+use Rattle.gs_seq.specs.{Abstracts.{frame_of, lists_of}, Plans.{lifted}}
 use Rattle.gs_raw.specs.Hands.{signals_pay, signals_weigh}
 use Rattle.gs_raw.proofs.paired.signals_gain.Given as goal
 

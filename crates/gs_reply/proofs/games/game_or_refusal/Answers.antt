@@ -1,6 +1,5 @@
 use Rattle.std.proofs.Common.{◌≢◌, rules}
-use Rattle.gs_file.specs.Reading.{read_at}
-use Rattle.gs_file.specs.declared.fault.FileFault.TheVariants.{Memory}
+use Rattle.gs_file.specs.{Reading.{read_at}, declared.fault.FileFault.TheVariants.{Memory}}
 use Rattle.gs_reply.proofs.Refused.{game_refused}
 use Rattle.gs_reply.proofs.games.game_or_refusal.Goals as goal
 

@@ -1,13 +1,10 @@
-use Rattle.std.proofs.Common.{refl}
-use Rattle.std.proofs.lemmas.Result.{IfOk-weaker}
+use Rattle.std.proofs.{Common.{refl}, lemmas.Result.{IfOk-weaker}}
 use Rattle.gs_file.specs.Views.{valid_view}
 use Rattle.gs_lossless.proofs.Unlike.{IsPairIn, pair_in}
-use Rattle.gs_reply.specs.Refusals.{Unlike_pair}
-use Rattle.gs_reply.specs.Troubles.{SaysUnlike}
-use Rattle.gs_reply.proofs.Refused.{tells_answer}
+use Rattle.gs_reply.specs.{Refusals.{Unlike_pair}, Troubles.{SaysUnlike}}
+use Rattle.gs_reply.proofs.{Refused.{tells_answer}, signals.not_lossless.Goals.{In-Unlike}}
 use Rattle.gs_tree.specs.Trees.{rules_of}
 use Rattle.gs_reply.proofs.signals.not_lossless.Goals as goal
-use Rattle.gs_reply.proofs.signals.not_lossless.Goals.{In-Unlike}
 
 -- the two signals of the first unlike pair are signals of the game
 pair : (c : In-Unlike) → IsPairIn (rules_of c.args.signals.now) c.in-Unlike.round c.in-Unlike.first c.in-Unlike.second

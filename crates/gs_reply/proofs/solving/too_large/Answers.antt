@@ -1,7 +1,5 @@
-use Rattle.std.proofs.Common.{refl}
-use Rattle.std.proofs.lemmas.Result.{IfOk-weaker}
-use Rattle.gs_reply.specs.Refusals.{Too_large, Sequences, Cells}
-use Rattle.gs_reply.specs.Troubles.{SaysLarge}
+use Rattle.std.proofs.{Common.{refl}, lemmas.Result.{IfOk-weaker}}
+use Rattle.gs_reply.specs.{Refusals.{Too_large, Sequences, Cells}, Troubles.{SaysLarge}}
 use Rattle.gs_reply.proofs.Refused.{tells_answer}
 use Rattle.gs_reply.proofs.solving.too_large.Goals as goal
 

@@ -1,6 +1,5 @@
 use Rattle.std.proofs.Common.{◌≢◌, rules}
-use Rattle.gs_strategy.specs.Checks.{Reads}
-use Rattle.gs_strategy.specs.declared.fault.StoreFault.TheVariants.{Memory}
+use Rattle.gs_strategy.specs.{Checks.{Reads}, declared.fault.StoreFault.TheVariants.{Memory}}
 use Rattle.gs_reply.proofs.Held.{some_fault, strategy_refused}
 use Rattle.gs_reply.proofs.strategies.stored_or_refusal.Goals as goal
 

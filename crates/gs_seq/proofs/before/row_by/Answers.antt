@@ -1,23 +1,13 @@
-use Rattle.std.proofs.Common.{◌≡◌, ◌*◌, ◌≤◌, sum_by, length, ap, sym, ◌∙◌, subst, arith}
+use Rattle.std.proofs.{Common.{◌≡◌, ◌*◌, ◌≤◌, sum_by, length, ap, sym, ◌∙◌, subst, arith}, Math.Nat.{mul-le-mul_right}, lemmas.List.{length-map}}
+use Rattle.std.proofs.{lemmas.List.FromFn.{length-range_with_len}, lemmas.List.Sums.{count_by-le-length}}
 use Rattle.std.specs.Prelude.{◌==◌}
-use Rattle.std.proofs.Math.Nat.{mul-le-mul_right}
-use Rattle.std.proofs.lemmas.List.{length-map}
-use Rattle.std.proofs.lemmas.List.FromFn.{length-range_with_len}
-use Rattle.std.proofs.lemmas.List.Sums.{count_by-le-length}
-use Rattle.gs_lossless.specs.Amounts.{AreAmounts}
-use Rattle.gs_lossless.specs.declared.parts.Part.{Part}
-use Rattle.gs_lossless.specs.declared.sides.Side.TheVariants.{Deals}
-use Rattle.gs_lossless.proofs.Descent.{count_last, list_long, playable}
-use Rattle.gs_lossless.proofs.Settled.{if_ok}
-use Rattle.gs_model.specs.Classes.{class_of, list_of}
-use Rattle.gs_model.specs.Frame.{at_round, last_round, signal_count, signals_in}
-use Rattle.gs_model.specs.Game.{round_count}
+use Rattle.gs_lossless.specs.{Amounts.{AreAmounts}, declared.parts.Part.{Part}, declared.sides.Side.TheVariants.{Deals}}
+use Rattle.gs_lossless.proofs.{Descent.{count_last, list_long, playable}, Settled.{if_ok}}
+use Rattle.gs_model.specs.{Classes.{class_of, list_of}, Frame.{at_round, last_round, signal_count, signals_in}, Game.{round_count}}
 use Rattle.gs_tree.specs.Trees.{rules_of}
-use Rattle.gs_seq.specs.Games.{frame_in}
-use Rattle.gs_seq.specs.Rows.{IsRow, gathered}
-use Rattle.gs_seq.proofs.Stopped.{in_stopped, row_fits, row_is, same_signals, ways_few}
+use Rattle.gs_seq.specs.{Games.{frame_in}, Rows.{IsRow, gathered}}
+use Rattle.gs_seq.proofs.{Stopped.{in_stopped, row_fits, row_is, same_signals, ways_few}, before.row_by.Goals.{After-deref, Start}}
 use Rattle.gs_seq.proofs.before.row_by.Goals as goal
-use Rattle.gs_seq.proofs.before.row_by.Goals.{After-deref, Start}
 
 top : (c : Start) → c.args.at.now.round ≤ round_count (rules_of c.args.at.now.signals.now)
 top c = omega (arith, c.args.at.now.before_last)

@@ -1,15 +1,9 @@
-use Rattle.std.proofs.Common.{◌≡◌, ◌+◌, ◌∙◌, ap, Vec, Global, length, sym, arith}
-use Rattle.std.proofs.lemmas.List.{length_push}
-use Rattle.gs_model.specs.Frame.{last_round}
-use Rattle.gs_model.specs.Lossless.{IsLossless}
+use Rattle.std.proofs.{Common.{◌≡◌, ◌+◌, ◌∙◌, ap, Vec, Global, length, sym, arith}, lemmas.List.{length_push}}
+use Rattle.gs_model.specs.{Frame.{last_round}, Lossless.{IsLossless}}
 use Rattle.gs_model.proofs.Walked.{last_round_of}
-use Rattle.gs_tree.specs.Trees.{rules_of}
-use Rattle.gs_tree.specs.declared.signals.Signals.{Signals}
-use Rattle.gs_seq.specs.Games.{frame_in}
-use Rattle.gs_seq.specs.Rows.{AreRowsIn}
-use Rattle.gs_seq.specs.declared.pair.Pair.{Pair}
-use Rattle.gs_seq.proofs.Carried.{held_by, read_of}
-use Rattle.gs_seq.proofs.CellLaws.{AreRowsOf, pushed_to}
+use Rattle.gs_tree.specs.{Trees.{rules_of}, declared.signals.Signals.{Signals}}
+use Rattle.gs_seq.specs.{Games.{frame_in}, Rows.{AreRowsIn}, declared.pair.Pair.{Pair}}
+use Rattle.gs_seq.proofs.{Carried.{held_by, read_of}, CellLaws.{AreRowsOf, pushed_to}}
 use Rattle.gs_seq.proofs.before.rows_before.Goals as goal
 
 pub rows_at-requires-clause-lossless : goal.rows_at-requires-clause-lossless

@@ -1,8 +1,6 @@
 use Rattle.std.proofs.Common.{◌≡◌, ◌+◌, ◌<◌, ℕ, get_or, length, Vec}
 use Rattle.std.specs.declared.alloc.Global.{Global}
-use Rattle.gs_seq.specs.Games.{frame_in}
-use Rattle.gs_seq.specs.Rows.{AreRowsIn}
-use Rattle.gs_seq.specs.declared.pair.Pair.{Pair}
+use Rattle.gs_seq.specs.{Games.{frame_in}, Rows.{AreRowsIn}, declared.pair.Pair.{Pair}}
 use Rattle.gs_seq.proofs.before.rows_before.Given as goal
 
 abbrev pub invariant-loop-before : goal.invariant-loop-before

@@ -1,12 +1,8 @@
 use Rattle.std.proofs.Common.{◌+◌, ◌∙◌, Vec, sym, arith}
 use Rattle.std.specs.declared.alloc.Global.{Global}
 use Rattle.gs_tree.specs.Trees.{rules_of}
-use Rattle.gs_seq.specs.Games.{frame_in}
-use Rattle.gs_seq.specs.Rows.{IsRow}
-use Rattle.gs_seq.specs.declared.pair.Pair.{Pair}
-use Rattle.gs_seq.proofs.CellLaws.{pushed_to}
-use Rattle.gs_seq.proofs.SlotLaws.{over}
-use Rattle.gs_seq.proofs.Stopped.{in_stopped}
+use Rattle.gs_seq.specs.{Games.{frame_in}, Rows.{IsRow}, declared.pair.Pair.{Pair}}
+use Rattle.gs_seq.proofs.{CellLaws.{pushed_to}, SlotLaws.{over}, Stopped.{in_stopped}}
 use Rattle.gs_seq.proofs.before.rows_by.Goals as goal
 use Rattle.gs_model.proofs.Walked.{last_round_of}
 

@@ -3,8 +3,7 @@ use Rattle.std.specs.Prelude.{◌/◌}
 use Rattle.gs_game.specs.declared.valid.ValidGame.{ValidGame}
 use Rattle.gs_model.specs.Frame.{total_weight}
 use Rattle.gs_seq.specs.Games.{frame_in}
-use Rattle.gs_seq.proofs.SomeDeal.{some_deal}
-use Rattle.gs_seq.proofs.Stopped.{quotient}
+use Rattle.gs_seq.proofs.{SomeDeal.{some_deal}, Stopped.{quotient}}
 use Rattle.gs_seq.proofs.before.ways_on.Goals as goal
 
 pub nonzero_div-result : goal.nonzero_div-result

@@ -1,7 +1,5 @@
-use Rattle.std.proofs.Common.{◌≡◌, ◌+◌, ◌++◌, ◌∷◌, [], map, take, get_or, pos, sym, ap, ◌∙◌, append_assoc}
-use Rattle.std.proofs.lemmas.List.{map_push, take_more}
-use Rattle.gs_seq.specs.Rows.{part_up}
-use Rattle.gs_seq.specs.declared.pair.Pair.{Pair}
+use Rattle.std.proofs.{Common.{◌≡◌, ◌+◌, ◌++◌, ◌∷◌, [], map, take, get_or, pos, sym, ap, ◌∙◌, append_assoc}, lemmas.List.{map_push, take_more}}
+use Rattle.gs_seq.specs.{Rows.{part_up}, declared.pair.Pair.{Pair}}
 use Rattle.gs_seq.proofs.earlier.push_above.Goals as goal
 
 pub loop-pair-preserved : goal.loop-pair-preserved

@@ -4,11 +4,9 @@ use Rattle.gs_filter.specs.Filter.{Filter}
 use Rattle.gs_lossless.proofs.Settled.{if_ok}
 use Rattle.gs_lossless.specs.declared.parts.Part.{Part}
 use Rattle.gs_model.specs.Classes.{class_count}
-use Rattle.gs_seq.specs.Games.{frame_in}
-use Rattle.gs_seq.specs.Rows.{HasPairsBelow, IsRow, below_class, gathered, part_up, row_at}
-use Rattle.gs_seq.proofs.EarlierRows.{classes_in, pairs_in, parts_fit, row_from}
+use Rattle.gs_seq.specs.{Games.{frame_in}, Rows.{HasPairsBelow, IsRow, below_class, gathered, part_up, row_at}}
+use Rattle.gs_seq.proofs.{EarlierRows.{classes_in, pairs_in, parts_fit, row_from}, earlier.row_above.Goals.{After-classes-classes, In_ok-parts}}
 use Rattle.gs_seq.proofs.earlier.row_above.Goals as goal
-use Rattle.gs_seq.proofs.earlier.row_above.Goals.{After-classes-classes, In_ok-parts}
 
 -- what holds of the classes
 parents : (c : After-classes-classes) → c.args.lossless.now.classes.now.parents ≡ (frame_in c.args.lossless.now.signals.now.game.now).parents

@@ -1,9 +1,7 @@
 use Rattle.std.proofs.Common.{◌≡◌, ◌+◌, ◌-◌, ◌∙◌, ℕ, Vec, Global, ap, get_or, sym, arith}
 use Rattle.gs_filter.specs.Filter.{Filter}
 use Rattle.gs_model.specs.Classes.{class_count}
-use Rattle.gs_seq.specs.Games.{frame_in}
-use Rattle.gs_seq.specs.Rows.{IsRow, below_class}
-use Rattle.gs_seq.specs.declared.pair.Pair.{Pair}
+use Rattle.gs_seq.specs.{Games.{frame_in}, Rows.{IsRow, below_class}, declared.pair.Pair.{Pair}}
 use Rattle.gs_seq.proofs.CellLaws.{pushed_to}
 use Rattle.gs_seq.proofs.earlier.rows_above.Goals as goal
 

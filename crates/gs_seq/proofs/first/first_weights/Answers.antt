@@ -1,19 +1,12 @@
-use Rattle.std.proofs.Common.{◌≡◌, ◌+◌, ◌<◌, ℕ, get_or, length, ap, sym, ◌∙◌, subst, arith, Vec, vec_len}
+use Rattle.std.proofs.{Common.{◌≡◌, ◌+◌, ◌<◌, ℕ, get_or, length, ap, sym, ◌∙◌, subst, arith, Vec, vec_len}, lemmas.List.{with_items_is}}
 use Rattle.std.specs.declared.alloc.Global.{Global}
-use Rattle.std.proofs.lemmas.List.{with_items_is}
 use Rattle.gs_game.specs.Games.{game_of}
 use Rattle.gs_model.specs.Frame.{player_at, point_count}
 use Rattle.gs_model.proofs.Ranges.{in_range}
-use Rattle.gs_seq.specs.Firsts.{Agree, AreFirstBefore, IsClear}
-use Rattle.gs_seq.specs.Games.{frame_in}
-use Rattle.gs_seq.specs.Slots.{slots_before}
-use Rattle.gs_seq.proofs.Firsts.{firsts_more, firsts_same}
-use Rattle.gs_seq.proofs.Leaks.{slots_none}
-use Rattle.gs_seq.proofs.Choices.{some_move}
-use Rattle.gs_seq.proofs.Points.{chooser, playable, walked_at}
-use Rattle.gs_seq.proofs.SlotLaws.{over}
-use Rattle.gs_seq.proofs.first.first_weights.Goals as goal
+use Rattle.gs_seq.specs.{Firsts.{Agree, AreFirstBefore, IsClear}, Games.{frame_in}, Slots.{slots_before}}
+use Rattle.gs_seq.proofs.{Firsts.{firsts_more, firsts_same}, Leaks.{slots_none}, Choices.{some_move}, Points.{chooser, playable, walked_at}, SlotLaws.{over}}
 use Rattle.gs_seq.proofs.first.first_weights.Goals.{After-index-points-point, then-points-point, else-points-point}
+use Rattle.gs_seq.proofs.first.first_weights.Goals as goal
 
 -- who chooses at the point
 whose : (c : After-index-points-point) → (get_or c.points.result.now c.loop-point.point c.index-points-point.result).player ≡ player_at (frame_in c.args.game.now) c.loop-point.point

@@ -1,7 +1,5 @@
 use Rattle.std.proofs.Common.{◌≡◌, vec_len}
-use Rattle.gs_seq.specs.Firsts.{AreFirstBefore, IsClear}
-use Rattle.gs_seq.specs.Games.{frame_in}
-use Rattle.gs_seq.specs.Slots.{slots_before}
+use Rattle.gs_seq.specs.{Firsts.{AreFirstBefore, IsClear}, Games.{frame_in}, Slots.{slots_before}}
 use Rattle.gs_seq.proofs.first.first_weights.Given as goal
 
 abbrev pub invariant-loop-point : goal.invariant-loop-point

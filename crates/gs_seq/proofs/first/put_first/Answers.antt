@@ -1,22 +1,13 @@
 use Rattle.std.proofs.Common.{◌≡◌, ◌+◌, ◌-◌, ◌*◌, ◌<◌, ◌≤◌, ◌^◌, length, get_or, set, ap, sym, ◌∙◌, subst, arith, ⊎_elim, get_or-set_other}
-use Rattle.std.proofs.Math.Nat.{mul-le-mul_right}
-use Rattle.std.proofs.lemmas.Bool.{cases_eq}
+use Rattle.std.proofs.{Math.Nat.{mul-le-mul_right}, lemmas.Bool.{cases_eq}}
 use Rattle.gs_game.specs.Games.{game_of}
-use Rattle.gs_model.specs.Classes.{class_count, first_member}
-use Rattle.gs_model.specs.Frame.{last_step, move_count, round_of}
-use Rattle.gs_model.specs.Plans.{lift, number_before}
-use Rattle.gs_model.specs.Positions.{at_point}
+use Rattle.gs_model.specs.{Classes.{class_count, first_member}, Frame.{last_step, move_count, round_of}, Plans.{lift, number_before}, Positions.{at_point}}
 use Rattle.gs_model.proofs.Ranges.{in_range}
-use Rattle.gs_seq.specs.Firsts.{Agree, IsClear, IsFirstAt}
-use Rattle.gs_seq.specs.Games.{frame_in}
-use Rattle.gs_seq.specs.Slots.{plan_of, slots_before}
-use Rattle.gs_seq.proofs.Choices.{some_move}
-use Rattle.gs_seq.proofs.Firsts.{first_kept, first_put, slots_own}
-use Rattle.gs_seq.proofs.Leaks.{RowAt, row_at}
-use Rattle.gs_seq.proofs.Points.{Reads, playable, point_reads, round_in, walked_at}
-use Rattle.gs_seq.proofs.SlotLaws.{over, slots_own_before}
-use Rattle.gs_seq.proofs.first.put_first.Goals as goal
+use Rattle.gs_seq.specs.{Firsts.{Agree, IsClear, IsFirstAt}, Games.{frame_in}, Slots.{plan_of, slots_before}}
+use Rattle.gs_seq.proofs.{Choices.{some_move}, Firsts.{first_kept, first_put, slots_own}, Leaks.{RowAt, row_at}}
+use Rattle.gs_seq.proofs.{Points.{Reads, playable, point_reads, round_in, walked_at}, SlotLaws.{over, slots_own_before}}
 use Rattle.gs_seq.proofs.first.put_first.Goals.{After-len-moves, In-loop-before}
+use Rattle.gs_seq.proofs.first.put_first.Goals as goal
 
 -- what the point says
 reads : (c : After-len-moves) → Reads (frame_in c.args.game.now) c.args.point c.index-points-point.result

@@ -1,8 +1,6 @@
 use Rattle.std.proofs.Common.{ℕ, ◌+◌, ◌*◌, ◌<◌, ◌≤◌}
 use Rattle.gs_model.specs.Frame.{move_count}
-use Rattle.gs_seq.specs.Firsts.{Agree, IsClear, IsFirstAt}
-use Rattle.gs_seq.specs.Games.{frame_in}
-use Rattle.gs_seq.specs.Slots.{slots_before}
+use Rattle.gs_seq.specs.{Firsts.{Agree, IsClear, IsFirstAt}, Games.{frame_in}, Slots.{slots_before}}
 use Rattle.gs_seq.proofs.first.put_first.Given as goal
 
 abbrev pub invariant-loop-before : goal.invariant-loop-before

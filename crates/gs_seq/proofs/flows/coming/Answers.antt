@@ -1,17 +1,11 @@
 use Rattle.std.proofs.Common.{◌≡◌, Some, get_or, sym, refl, subst, arith}
-use Rattle.gs_model.specs.Classes.{IsClass}
-use Rattle.gs_model.specs.Frame.{player_at, round_of}
-use Rattle.gs_model.specs.Positions.{at_point}
+use Rattle.gs_model.specs.{Classes.{IsClass}, Frame.{player_at, round_of}, Positions.{at_point}}
 use Rattle.gs_model.proofs.Ranges.{in_range}
 use Rattle.gs_game.specs.Games.{game_of}
-use Rattle.gs_seq.specs.Games.{frame_in}
-use Rattle.gs_seq.specs.Slots.{slots_before}
-use Rattle.gs_seq.specs.Sources.{MatchSource}
-use Rattle.gs_seq.proofs.Coming.{SourceFacts, number_above, source_facts}
-use Rattle.gs_seq.proofs.Points.{place_reads, playable, walked_at}
-use Rattle.gs_seq.proofs.SlotLaws.{over, slots_few}
-use Rattle.gs_seq.proofs.flows.coming.Goals as goal
+use Rattle.gs_seq.specs.{Games.{frame_in}, Slots.{slots_before}, Sources.{MatchSource}}
+use Rattle.gs_seq.proofs.{Coming.{SourceFacts, number_above, source_facts}, Points.{place_reads, playable, walked_at}, SlotLaws.{over, slots_few}}
 use Rattle.gs_seq.proofs.flows.coming.Goals.{After-index-points-point, In-Some}
+use Rattle.gs_seq.proofs.flows.coming.Goals as goal
 
 -- the step before the point
 source : (c : In-Some) → MatchSource (frame_in c.args.game.now) c.args.classes.now.lists (player_at (frame_in c.args.game.now) c.args.point) (at_point c.args.point) (Some c.in-Some.step)

@@ -1,12 +1,8 @@
 use Rattle.std.proofs.Common.{◌≡◌, ◌+◌, get_or, sym, ◌∙◌, arith}
 use Rattle.gs_model.specs.Frame.{player_at, point_count}
-use Rattle.gs_seq.specs.Games.{frame_in}
-use Rattle.gs_seq.specs.Slots.{plan_of}
-use Rattle.gs_seq.proofs.Leaks.{flows_more, slots_none}
-use Rattle.gs_seq.proofs.Points.{chooser}
-use Rattle.gs_seq.proofs.SlotLaws.{slots_le, slots_more}
+use Rattle.gs_seq.specs.{Games.{frame_in}, Slots.{plan_of}}
+use Rattle.gs_seq.proofs.{Leaks.{flows_more, slots_none}, Points.{chooser}, SlotLaws.{slots_le, slots_more}, flows.first_leak.Goals.{After-index-points-point}}
 use Rattle.gs_seq.proofs.flows.first_leak.Goals as goal
-use Rattle.gs_seq.proofs.flows.first_leak.Goals.{After-index-points-point}
 
 -- who chooses at the point
 whose : (c : After-index-points-point) → (get_or c.points.result.now c.loop-point.point c.index-points-point.result).player ≡ player_at (frame_in c.args.game.now) c.loop-point.point

@@ -1,7 +1,5 @@
 use Rattle.std.proofs.Common.{◌≡◌}
-use Rattle.gs_seq.specs.Faults.{FlowsBefore}
-use Rattle.gs_seq.specs.Games.{frame_in}
-use Rattle.gs_seq.specs.Slots.{plan_of, slots_before}
+use Rattle.gs_seq.specs.{Faults.{FlowsBefore}, Games.{frame_in}, Slots.{plan_of, slots_before}}
 use Rattle.gs_seq.proofs.flows.first_leak.Given as goal
 
 abbrev pub invariant-loop-point : goal.invariant-loop-point

@@ -1,18 +1,9 @@
-use Rattle.std.proofs.Common.{◌≡◌, ◌+◌, sum_by, ap, sym, ◌∙◌, subst, arith, ⊎_elim}
-use Rattle.std.proofs.lemmas.Bool.{cases_eq}
-use Rattle.gs_model.specs.Classes.{class_count, first_member}
-use Rattle.gs_model.specs.Frame.{choices_at, last_step, round_of}
-use Rattle.gs_model.specs.Plans.{lift, number_before}
-use Rattle.gs_model.specs.Positions.{at_point}
-use Rattle.gs_seq.specs.Faults.{FlowsAt}
-use Rattle.gs_seq.specs.Games.{frame_in}
-use Rattle.gs_seq.specs.Slots.{plan_of}
-use Rattle.gs_seq.specs.Sources.{MatchSource}
-use Rattle.gs_seq.proofs.Leaks.{RowAt, class_sum, row_at}
-use Rattle.gs_seq.proofs.Points.{Reads, point_reads, round_in}
-use Rattle.gs_seq.proofs.SlotLaws.{over, slots_own_before}
-use Rattle.gs_seq.proofs.flows.first_leak_at.Goals as goal
+use Rattle.std.proofs.{Common.{◌≡◌, ◌+◌, sum_by, ap, sym, ◌∙◌, subst, arith, ⊎_elim}, lemmas.Bool.{cases_eq}}
+use Rattle.gs_model.specs.{Classes.{class_count, first_member}, Frame.{choices_at, last_step, round_of}, Plans.{lift, number_before}, Positions.{at_point}}
+use Rattle.gs_seq.specs.{Faults.{FlowsAt}, Games.{frame_in}, Slots.{plan_of}, Sources.{MatchSource}}
+use Rattle.gs_seq.proofs.{Leaks.{RowAt, class_sum, row_at}, Points.{Reads, point_reads, round_in}, SlotLaws.{over, slots_own_before}}
 use Rattle.gs_seq.proofs.flows.first_leak_at.Goals.{After-len-moves, After-from, In-loop-before}
+use Rattle.gs_seq.proofs.flows.first_leak_at.Goals as goal
 
 -- what the point says
 reads : (c : After-len-moves) → Reads (frame_in c.args.game.now) c.args.point c.index-points-point.result

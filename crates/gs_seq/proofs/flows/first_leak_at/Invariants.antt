@@ -1,7 +1,5 @@
 use Rattle.std.proofs.Common.{ℕ, ◌<◌, ◌≤◌}
-use Rattle.gs_seq.specs.Faults.{FlowsAt}
-use Rattle.gs_seq.specs.Games.{frame_in}
-use Rattle.gs_seq.specs.Slots.{plan_of}
+use Rattle.gs_seq.specs.{Faults.{FlowsAt}, Games.{frame_in}, Slots.{plan_of}}
 use Rattle.gs_seq.proofs.flows.first_leak_at.Given as goal
 
 abbrev pub invariant-loop-before : goal.invariant-loop-before

@@ -1,11 +1,8 @@
 use Rattle.std.proofs.Common.{◌<◌, length, ap, sym, refl, ◌∙◌, subst, arith}
-use Rattle.gs_game.specs.Seen.{step_of}
-use Rattle.gs_game.specs.declared.positions.Point.{Point}
+use Rattle.gs_game.specs.{Seen.{step_of}, declared.positions.Point.{Point}}
 use Rattle.gs_model.specs.Positions.{at_point}
-use Rattle.gs_seq.specs.Games.{frame_in}
-use Rattle.gs_seq.specs.Sources.{MatchSource}
-use Rattle.gs_seq.proofs.Coming.{made, none_made}
-use Rattle.gs_seq.proofs.Points.{length-points, point_reads, walked_at}
+use Rattle.gs_seq.specs.{Games.{frame_in}, Sources.{MatchSource}}
+use Rattle.gs_seq.proofs.{Coming.{made, none_made}, Points.{length-points, point_reads, walked_at}}
 use Rattle.gs_seq.proofs.flows.source_of.Goals as goal
 
 pub returns-in_err-step : goal.returns-in_err-step

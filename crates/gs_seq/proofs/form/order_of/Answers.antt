@@ -1,17 +1,11 @@
-use Rattle.std.proofs.Common.{◌≡◌, ◌<◌, ap, ◌∙◌, refl, subst, arith}
+use Rattle.std.proofs.{Common.{◌≡◌, ◌<◌, ap, ◌∙◌, refl, subst, arith}, lemmas.Result.{IfOk-weaker}}
 use Rattle.std.specs.Prelude.{MatchOption, Option, Some}
-use Rattle.std.proofs.lemmas.Result.{IfOk-weaker}
 use Rattle.gs_boards.specs.declared.board_order.BoardOrder.{BoardOrder}
 use Rattle.gs_game.specs.Games.{game_of}
-use Rattle.gs_model.specs.Game.{round_count}
-use Rattle.gs_model.specs.Frame.{last_round}
+use Rattle.gs_model.specs.{Game.{round_count}, Frame.{last_round}}
 use Rattle.gs_model.proofs.Walked.{last_round_of}
-use Rattle.gs_tree.specs.Plain.{IsPlain}
-use Rattle.gs_tree.specs.Trees.{rules_of}
-use Rattle.gs_tree.specs.Walk.{last_count}
-use Rattle.gs_tree.specs.declared.signals.Signals.{Signals}
-use Rattle.gs_seq.specs.Games.{frame_in}
-use Rattle.gs_seq.specs.Singles.{HasSumsOf}
+use Rattle.gs_tree.specs.{Plain.{IsPlain}, Trees.{rules_of}, Walk.{last_count}, declared.signals.Signals.{Signals}}
+use Rattle.gs_seq.specs.{Games.{frame_in}, Singles.{HasSumsOf}}
 use Rattle.gs_seq.proofs.form.order_of.Goals as goal
 
 -- the signals of one game have the same sums

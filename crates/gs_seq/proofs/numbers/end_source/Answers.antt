@@ -2,12 +2,9 @@ use Rattle.std.proofs.Common.{ap, sym, ◌∙◌, subst}
 use Rattle.std.specs.Prelude.{option_map}
 use Rattle.gs_game.specs.Seen.{step_of}
 use Rattle.gs_model.specs.Positions.{at_end}
-use Rattle.gs_seq.specs.Games.{frame_in}
-use Rattle.gs_seq.specs.Slots.{slots_before}
-use Rattle.gs_seq.specs.Sources.{MatchSource}
-use Rattle.gs_seq.proofs.Points.{IsStepBefore, step_before, walked}
+use Rattle.gs_seq.specs.{Games.{frame_in}, Slots.{slots_before}, Sources.{MatchSource}}
+use Rattle.gs_seq.proofs.{Points.{IsStepBefore, step_before, walked}, numbers.end_source.Goals.{In_ok-step}}
 use Rattle.gs_seq.proofs.numbers.end_source.Goals as goal
-use Rattle.gs_seq.proofs.numbers.end_source.Goals.{In_ok-step}
 
 -- the step, which is made at a point of the game
 before : (c : In_ok-step) → IsStepBefore c.args.game.now c.args.player c.args.end c.in_ok-step.step

@@ -1,19 +1,11 @@
 use Rattle.std.proofs.Common.{◌≡◌, length, get_or, ap, sym, subst, arith, Some}
 use Rattle.gs_game.specs.Games.{game_of}
-use Rattle.gs_model.specs.Classes.{IsClass}
-use Rattle.gs_model.specs.Frame.{point_count, round_of}
-use Rattle.gs_model.specs.Positions.{at_end}
+use Rattle.gs_model.specs.{Classes.{IsClass}, Frame.{point_count, round_of}, Positions.{at_end}}
 use Rattle.gs_model.proofs.Ranges.{in_range}
-use Rattle.gs_seq.specs.Games.{frame_in}
-use Rattle.gs_seq.specs.Plans.{class_plan}
-use Rattle.gs_seq.specs.Slots.{slot_count}
-use Rattle.gs_seq.specs.Sources.{IsWeightAbove, MatchSource}
-use Rattle.gs_seq.proofs.Coming.{SourceFacts, end_facts, number_above}
-use Rattle.gs_seq.proofs.Ends.{end_reads, end_round, no_end, number_few}
-use Rattle.gs_seq.proofs.Points.{playable, walked}
-use Rattle.gs_seq.proofs.SlotLaws.{over, slots_few}
+use Rattle.gs_seq.specs.{Games.{frame_in}, Plans.{class_plan}, Slots.{slot_count}, Sources.{IsWeightAbove, MatchSource}}
+use Rattle.gs_seq.proofs.{Coming.{SourceFacts, end_facts, number_above}, Ends.{end_reads, end_round, no_end, number_few}, Points.{playable, walked}}
+use Rattle.gs_seq.proofs.{SlotLaws.{over, slots_few}, numbers.number_by.Goals.{After-ends, In-Some}}
 use Rattle.gs_seq.proofs.numbers.number_by.Goals as goal
-use Rattle.gs_seq.proofs.numbers.number_by.Goals.{After-ends, In-Some}
 
 -- the step before the end
 source : (c : In-Some) → MatchSource (frame_in c.args.game.now) c.args.classes.now.lists c.args.plan.now.player (at_end c.args.end) (Some c.in-Some.step)

@@ -1,15 +1,9 @@
 use Rattle.std.proofs.Common.{◌≡◌, Some, ap, sym, refl, ◌∙◌, subst, arith}
-use Rattle.gs_game.specs.Seen.{step_of}
-use Rattle.gs_game.specs.declared.positions.Point.{Point}
-use Rattle.gs_model.specs.Frame.{last_step, player_at}
-use Rattle.gs_model.specs.Positions.{at_point}
-use Rattle.gs_seq.specs.Games.{frame_in}
-use Rattle.gs_seq.specs.Slots.{slots_before}
-use Rattle.gs_seq.specs.Sources.{MatchSource}
-use Rattle.gs_seq.proofs.Coming.{made, none_made}
-use Rattle.gs_seq.proofs.Points.{Reads, point_reads, walked_at}
+use Rattle.gs_game.specs.{Seen.{step_of}, declared.positions.Point.{Point}}
+use Rattle.gs_model.specs.{Frame.{last_step, player_at}, Positions.{at_point}}
+use Rattle.gs_seq.specs.{Games.{frame_in}, Slots.{slots_before}, Sources.{MatchSource}}
+use Rattle.gs_seq.proofs.{Coming.{made, none_made}, Points.{Reads, point_reads, walked_at}, numbers.point_source.Goals.{After-index-points-point, In_ok-step}}
 use Rattle.gs_seq.proofs.numbers.point_source.Goals as goal
-use Rattle.gs_seq.proofs.numbers.point_source.Goals.{After-index-points-point, In_ok-step}
 
 -- what the point says
 reads : (c : After-index-points-point) → Reads (frame_in c.args.game.now) c.args.point c.index-points-point.result

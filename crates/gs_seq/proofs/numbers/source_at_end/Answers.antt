@@ -2,12 +2,9 @@ use Rattle.std.proofs.Common.{◌≡◌, ◌<◌, length, ap, sym, refl, ◌∙�
 use Rattle.std.specs.Prelude.{option_map}
 use Rattle.gs_game.specs.Seen.{step_of}
 use Rattle.gs_model.specs.Positions.{at_end}
-use Rattle.gs_seq.specs.Games.{frame_in}
-use Rattle.gs_seq.specs.Slots.{slots_before}
-use Rattle.gs_seq.specs.Sources.{MatchSource}
-use Rattle.gs_seq.proofs.Points.{IsStepBefore, length-points, point_reads, step_before}
+use Rattle.gs_seq.specs.{Games.{frame_in}, Slots.{slots_before}, Sources.{MatchSource}}
+use Rattle.gs_seq.proofs.{Points.{IsStepBefore, length-points, point_reads, step_before}, numbers.source_at_end.Goals.{In_ok-step}}
 use Rattle.gs_seq.proofs.numbers.source_at_end.Goals as goal
-use Rattle.gs_seq.proofs.numbers.source_at_end.Goals.{In_ok-step}
 
 -- the step, which is made at a point of the game
 before : (c : In_ok-step) → IsStepBefore c.args.game.now c.args.player c.args.end c.in_ok-step.step

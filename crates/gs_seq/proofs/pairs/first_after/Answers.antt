@@ -1,5 +1,4 @@
-use Rattle.std.proofs.Common.{◌≡◌, ◌<◌, ◌≤◌, List, get_or, ap, ◌∙◌, arith, ⊎_elim}
-use Rattle.std.proofs.lemmas.Bool.{cases_lt}
+use Rattle.std.proofs.{Common.{◌≡◌, ◌<◌, ◌≤◌, List, get_or, ap, ◌∙◌, arith, ⊎_elim}, lemmas.Bool.{cases_lt}}
 use Rattle.gs_seq.specs.declared.pair.Pair.{Pair}
 use Rattle.gs_seq.proofs.Turns.{all_passed, begun, none_passed, passed, turn}
 use Rattle.gs_seq.proofs.pairs.first_after.Goals as goal

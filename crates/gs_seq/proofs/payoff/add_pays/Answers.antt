@@ -1,13 +1,9 @@
-use Rattle.std.proofs.Common.{rules, ◌≡◌, ◌*◌, ◌≤◌, ap, refl, ◌∙◌, arith, of_z, to_z}
-use Rattle.std.specs.Int.{w128}
-use Rattle.std.specs.Prelude.{◌+ℤ◌, ◌*ℤ◌, pos, unsigned_abs}
-use Rattle.std.proofs.Math.Nat.{mul-le-mul_right}
+use Rattle.std.proofs.{Common.{rules, ◌≡◌, ◌*◌, ◌≤◌, ap, refl, ◌∙◌, arith, of_z, to_z}, Math.Nat.{mul-le-mul_right}}
+use Rattle.std.specs.{Int.{w128}, Prelude.{◌+ℤ◌, ◌*ℤ◌, pos, unsigned_abs}}
 use Rattle.gs_game.specs.Seen.{end_of}
 use Rattle.gs_seq.specs.Payoffs.{pair_pays}
-use Rattle.gs_seq.proofs.EndSums.{pays_size}
-use Rattle.gs_seq.proofs.Signed.{read_back}
+use Rattle.gs_seq.proofs.{EndSums.{pays_size}, Signed.{read_back}, payoff.add_pays.Goals.{After-pays, After-scaled}}
 use Rattle.gs_seq.proofs.payoff.add_pays.Goals as goal
-use Rattle.gs_seq.proofs.payoff.add_pays.Goals.{After-pays, After-scaled}
 
 -- what the end pays, and its product with the number, as they were computed
 pays_is : (c : After-pays) → to_z w128 (of_z w128 c.pays.result) ≡ pair_pays c.args.player (end_of c.args.end) c.args.pair

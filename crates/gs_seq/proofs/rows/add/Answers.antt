@@ -1,8 +1,7 @@
 use Rattle.std.proofs.Common.{◌≡◌, ◌-◌, ◌∷◌, ◌++◌, [], length, get_or, reverse, set, ap, sym, ◌∙◌, subst, refl, List, arith}
 use Rattle.gs_seq.specs.Rows.{join}
-use Rattle.gs_seq.proofs.Gathered.{join_last, join_next, join_none}
+use Rattle.gs_seq.proofs.{Gathered.{join_last, join_next, join_none}, rows.add.Goals.{then-count-gt0+else-last-pair, else-count-gt0}}
 use Rattle.gs_seq.proofs.rows.add.Goals as goal
-use Rattle.gs_seq.proofs.rows.add.Goals.{then-count-gt0+else-last-pair, else-count-gt0}
 
 pub returns-then-last-pair-clause-row : goal.returns-then-last-pair-clause-row
 returns-then-last-pair-clause-row c =

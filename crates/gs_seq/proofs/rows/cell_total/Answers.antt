@@ -2,9 +2,7 @@ use Rattle.std.proofs.Common.{◌≡◌, ap, sym, ◌∙◌, subst}
 use Rattle.std.specs.Prelude.{IfOk}
 use Rattle.gs_game.specs.declared.valid.ValidGame.{ValidGame}
 use Rattle.gs_tree.specs.declared.signals.Signals.{Signals}
-use Rattle.gs_seq.specs.Cells.{cell_count}
-use Rattle.gs_seq.specs.Games.{frame_in}
-use Rattle.gs_seq.specs.Rows.{AreRows}
+use Rattle.gs_seq.specs.{Cells.{cell_count}, Games.{frame_in}, Rows.{AreRows}}
 use Rattle.gs_seq.proofs.Carried.{carried}
 use Rattle.gs_seq.proofs.rows.cell_total.Goals as goal
 

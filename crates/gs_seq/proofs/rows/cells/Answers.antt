@@ -1,11 +1,7 @@
-use Rattle.std.proofs.Common.{◌∙◌, ap, sum_by, arith}
+use Rattle.std.proofs.{Common.{◌∙◌, ap, sum_by, arith}, lemmas.List.{take_all}}
 use Rattle.gs_game.specs.declared.positions.End.{End}
-use Rattle.gs_seq.specs.Cells.{pair_count}
-use Rattle.gs_seq.specs.Games.{frame_in}
-use Rattle.std.proofs.lemmas.List.{take_all}
-use Rattle.gs_seq.proofs.CellLaws.{all_ends, end_few, end_inside, end_more, end_round_in}
-use Rattle.gs_seq.proofs.Ends.{length-ends}
-use Rattle.gs_seq.proofs.Sizes.{modest}
+use Rattle.gs_seq.specs.{Cells.{pair_count}, Games.{frame_in}}
+use Rattle.gs_seq.proofs.{CellLaws.{all_ends, end_few, end_inside, end_more, end_round_in}, Ends.{length-ends}, Sizes.{modest}}
 use Rattle.gs_seq.proofs.rows.cells.Goals as goal
 
 pub overflow_sub-from : goal.overflow_sub-from

@@ -1,7 +1,6 @@
 use Rattle.std.proofs.Common.{◌≡◌, ◌*◌, ◌≤◌, sum_by, take}
 use Rattle.gs_game.specs.declared.positions.End.{End}
-use Rattle.gs_seq.specs.Cells.{pair_count}
-use Rattle.gs_seq.specs.Games.{frame_in}
+use Rattle.gs_seq.specs.{Cells.{pair_count}, Games.{frame_in}}
 use Rattle.gs_seq.proofs.rows.cells.Given as goal
 
 abbrev pub invariant-loop-end : goal.invariant-loop-end

@@ -1,11 +1,8 @@
 use Rattle.std.proofs.Common.{◌≡◌, length, ap, sym, ◌∙◌, subst, arith}
-use Rattle.gs_lossless.specs.Amounts.{AreAmounts}
-use Rattle.gs_lossless.specs.declared.sides.Side.TheVariants.{Deals}
-use Rattle.gs_lossless.proofs.Descent.{keys_long, list_long, playable}
-use Rattle.gs_lossless.proofs.Settled.{if_ok}
+use Rattle.gs_lossless.specs.{Amounts.{AreAmounts}, declared.sides.Side.TheVariants.{Deals}}
+use Rattle.gs_lossless.proofs.{Descent.{keys_long, list_long, playable}, Settled.{if_ok}}
 use Rattle.gs_tree.specs.Trees.{rules_of}
-use Rattle.gs_seq.specs.Games.{frame_in}
-use Rattle.gs_seq.specs.Rows.{IsRow, gathered}
+use Rattle.gs_seq.specs.{Games.{frame_in}, Rows.{IsRow, gathered}}
 use Rattle.gs_seq.proofs.RowRoom.{row_fits, row_is}
 use Rattle.gs_seq.proofs.rows.class_row.Goals as goal
 use Rattle.gs_model.proofs.Walked.{last_round_of}

@@ -1,12 +1,9 @@
 use Rattle.std.proofs.Common.{◌≤◌, ◌<◌, ◌∙◌, List, ℕ, Vec, length, sym, ap, subst, arith}
 use Rattle.std.specs.declared.alloc.Global.{Global}
 use Rattle.gs_model.specs.Frame.{last_round}
-use Rattle.gs_seq.specs.Cells.{AreCounts}
-use Rattle.gs_seq.specs.Games.{frame_in}
-use Rattle.gs_seq.proofs.CellLaws.{all_listed, one_more, rows_fit}
-use Rattle.gs_seq.proofs.SlotLaws.{over}
+use Rattle.gs_seq.specs.{Cells.{AreCounts}, Games.{frame_in}}
+use Rattle.gs_seq.proofs.{CellLaws.{all_listed, one_more, rows_fit}, SlotLaws.{over}, rows.pair_counts.Goals.{then-len-from+in_ok-push, else-len-from}}
 use Rattle.gs_seq.proofs.rows.pair_counts.Goals as goal
-use Rattle.gs_seq.proofs.rows.pair_counts.Goals.{then-len-from+in_ok-push, else-len-from}
 
 pub listed_counts-requires : goal.listed_counts-requires
 listed_counts-requires c = rows_fit c.args.game.now c.args.classes.now c.requires.parents c.args.rows.now c.requires.rows

@@ -1,7 +1,6 @@
 use Rattle.std.proofs.Common.{ap, arith, pos, reverse, ◌∙◌}
 use Rattle.gs_lossless.specs.declared.parts.Part.{Part}
-use Rattle.gs_seq.specs.Rows.{join}
-use Rattle.gs_seq.specs.declared.pair.Pair.{Pair}
+use Rattle.gs_seq.specs.{Rows.{join}, declared.pair.Pair.{Pair}}
 use Rattle.gs_seq.proofs.Gathered.{gathered_few, gathered_more}
 use Rattle.gs_seq.proofs.rows.row_of.Goals as goal
 

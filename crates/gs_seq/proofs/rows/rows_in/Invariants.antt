@@ -1,8 +1,6 @@
 use Rattle.std.proofs.Common.{◌≡◌, ◌+◌, ◌<◌, ℕ, get_or, Vec, vec_len}
 use Rattle.std.specs.declared.alloc.Global.{Global}
-use Rattle.gs_seq.specs.Games.{frame_in}
-use Rattle.gs_seq.specs.Rows.{IsRow}
-use Rattle.gs_seq.specs.declared.pair.Pair.{Pair}
+use Rattle.gs_seq.specs.{Games.{frame_in}, Rows.{IsRow}, declared.pair.Pair.{Pair}}
 use Rattle.gs_seq.proofs.rows.rows_in.Given as goal
 
 abbrev pub invariant-loop-before : goal.invariant-loop-before

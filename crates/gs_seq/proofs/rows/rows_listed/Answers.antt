@@ -1,14 +1,9 @@
 use Rattle.std.proofs.Common.{◌≡◌, ◌+◌, ◌-◌, ◌++◌, ◌∷◌, [], ℕ, List, Vec, Global, ap, get_or, length, sym, ◌∙◌, subst, arith}
-use Rattle.gs_model.specs.Frame.{last_round}
-use Rattle.gs_model.specs.Lossless.{IsLossless}
+use Rattle.gs_model.specs.{Frame.{last_round}, Lossless.{IsLossless}}
 use Rattle.gs_model.proofs.Walked.{last_round_of}
-use Rattle.gs_tree.specs.Trees.{rules_of}
-use Rattle.gs_tree.specs.declared.signals.Signals.{Signals}
-use Rattle.gs_seq.specs.Games.{frame_in}
-use Rattle.gs_seq.specs.Rows.{AreRowsIn}
-use Rattle.gs_seq.specs.declared.pair.Pair.{Pair}
-use Rattle.gs_seq.proofs.Carried.{held_by, read_of}
-use Rattle.gs_seq.proofs.CellLaws.{AreRowsOf, put_before}
+use Rattle.gs_tree.specs.{Trees.{rules_of}, declared.signals.Signals.{Signals}}
+use Rattle.gs_seq.specs.{Games.{frame_in}, Rows.{AreRowsIn}, declared.pair.Pair.{Pair}}
+use Rattle.gs_seq.proofs.{Carried.{held_by, read_of}, CellLaws.{AreRowsOf, put_before}}
 use Rattle.gs_seq.proofs.rows.rows_listed.Goals as goal
 
 pub rows_in-requires-clause-lossless : goal.rows_in-requires-clause-lossless

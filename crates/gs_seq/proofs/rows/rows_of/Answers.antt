@@ -1,8 +1,7 @@
 use Rattle.std.proofs.Common.{◌≡◌, ◌+◌, ◌-◌, ap, get_or, subst, arith}
 use Rattle.gs_model.specs.Frame.{last_round}
 use Rattle.gs_tree.specs.declared.signals.Signals.{Signals}
-use Rattle.gs_seq.specs.Games.{frame_in}
-use Rattle.gs_seq.specs.Rows.{AreRowsIn, IsSingleIn}
+use Rattle.gs_seq.specs.{Games.{frame_in}, Rows.{AreRowsIn, IsSingleIn}}
 use Rattle.gs_seq.proofs.Carried.{carried}
 use Rattle.gs_seq.proofs.rows.rows_of.Goals as goal
 

@@ -1,6 +1,5 @@
 use Rattle.std.proofs.Common.{rules, pos, ◌∙◌, ◌≡◌, ◌*◌, ◌≤◌, sym, subst, FitsSigned, of_z, to_z, to_z-of_z}
-use Rattle.std.specs.Int.{w8, w64}
-use Rattle.std.specs.Prelude.{unsigned_abs, ◌*ℤ◌}
+use Rattle.std.specs.{Int.{w8, w64}, Prelude.{unsigned_abs, ◌*ℤ◌}}
 use Rattle.gs_seq.proofs.Gathered.{scaled_size}
 use Rattle.gs_seq.proofs.rows.weighed_outcome.Goals as goal
 

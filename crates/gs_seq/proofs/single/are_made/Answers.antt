@@ -2,8 +2,7 @@ use Rattle.std.proofs.Common.{◌≡◌, ◌∙◌, sym, subst, arith}
 use Rattle.gs_model.specs.Frame.{last_round}
 use Rattle.gs_model.proofs.Walked.{last_round_of}
 use Rattle.gs_tree.specs.Trees.{rules_of}
-use Rattle.gs_seq.specs.Games.{frame_in}
-use Rattle.gs_seq.specs.Rows.{IsSingleIn}
+use Rattle.gs_seq.specs.{Games.{frame_in}, Rows.{IsSingleIn}}
 use Rattle.gs_seq.proofs.SlotLaws.{over}
 use Rattle.gs_seq.proofs.single.are_made.Goals as goal
 

@@ -1,13 +1,9 @@
-use Rattle.std.proofs.Common.{◌≡◌, ◌+◌, ◌<◌, ap, sym, ◌∙◌, ⊎_elim, arith, below_more}
-use Rattle.std.proofs.lemmas.Grind.{common_steps}
+use Rattle.std.proofs.{Common.{◌≡◌, ◌+◌, ◌<◌, ap, sym, ◌∙◌, ⊎_elim, arith, below_more}, lemmas.Grind.{common_steps}}
 use Rattle.gs_game.specs.declared.positions.Point.{Point}
 use Rattle.gs_model.specs.Frame.{player_at, point_count}
-use Rattle.gs_seq.specs.Games.{frame_in}
-use Rattle.gs_seq.specs.Slots.{slots_before}
-use Rattle.gs_seq.proofs.Points.{players, point_reads}
-use Rattle.gs_seq.proofs.SlotLaws.{slots_le, slots_more}
+use Rattle.gs_seq.specs.{Games.{frame_in}, Slots.{slots_before}}
+use Rattle.gs_seq.proofs.{Points.{players, point_reads}, SlotLaws.{slots_le, slots_more}, slots.offsets_of.Goals.{then-player-eq1, else-player-eq1}}
 use Rattle.gs_seq.proofs.slots.offsets_of.Goals as goal
-use Rattle.gs_seq.proofs.slots.offsets_of.Goals.{then-player-eq1, else-player-eq1}
 
 pub overflow_cast-one : goal.overflow_cast-one
 overflow_cast-one c =

@@ -1,7 +1,6 @@
 use Rattle.std.proofs.Common.{◌≡◌, ℕ, ◌<◌, get_or, vec_len}
 use Rattle.gs_model.specs.Frame.{player_at}
-use Rattle.gs_seq.specs.Games.{frame_in}
-use Rattle.gs_seq.specs.Slots.{slots_before}
+use Rattle.gs_seq.specs.{Games.{frame_in}, Slots.{slots_before}}
 use Rattle.gs_seq.proofs.slots.offsets_of.Given as goal
 
 abbrev pub invariant-loop-point : goal.invariant-loop-point

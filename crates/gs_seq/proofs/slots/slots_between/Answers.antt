@@ -1,6 +1,5 @@
 use Rattle.std.proofs.Common.{◌≡◌, ◌+◌, ap, ◌∙◌, arith}
-use Rattle.gs_seq.specs.Games.{frame_in}
-use Rattle.gs_seq.specs.Slots.{slots_before}
+use Rattle.gs_seq.specs.{Games.{frame_in}, Slots.{slots_before}}
 use Rattle.gs_seq.proofs.SlotLaws.{slots_few, slots_more}
 use Rattle.gs_seq.proofs.slots.slots_between.Goals as goal
 

@@ -1,6 +1,5 @@
 use Rattle.std.proofs.Common.{◌≡◌, ◌+◌}
-use Rattle.gs_seq.specs.Games.{frame_in}
-use Rattle.gs_seq.specs.Slots.{slots_before}
+use Rattle.gs_seq.specs.{Games.{frame_in}, Slots.{slots_before}}
 use Rattle.gs_seq.proofs.slots.slots_between.Given as goal
 
 abbrev pub invariant-loop-point : goal.invariant-loop-point

@@ -1,11 +1,9 @@
 use Rattle.std.proofs.Common.{◌∙◌, sym, subst, ap}
 use Rattle.gs_rows.specs.Program.{Listing}
-use Rattle.gs_simplex.specs.Answer.{IsStop}
-use Rattle.gs_simplex.specs.Trace.{IsTrace}
+use Rattle.gs_simplex.specs.{Answer.{IsStop}, Trace.{IsTrace}}
 use Rattle.gs_solve.specs.Solutions.{most_pivots}
 use Rattle.gs_seq.specs.Abstracts.{frame_of, lists_of}
-use Rattle.gs_solve.proofs.EndSteps.{form_is}
-use Rattle.gs_solve.proofs.Solved.{stop_is_met}
+use Rattle.gs_solve.proofs.{EndSteps.{form_is}, Solved.{stop_is_met}}
 use Rattle.gs_settle.proofs.paths.shown.Goals as goal
 
 pub returns-in-Ok-trace : goal.returns-in-Ok-trace

@@ -1,8 +1,7 @@
 use Rattle.std.proofs.lemmas.Result.{IfOk-weaker}
 use Rattle.gs_reply.specs.Refusals.{Too_large, Table_numbers}
 use Rattle.gs_seq.specs.Abstracts.{lists_of}
-use Rattle.gs_settle.specs.Paths.{ShowsPath}
-use Rattle.gs_settle.specs.Settling.{game_in}
+use Rattle.gs_settle.specs.{Paths.{ShowsPath}, Settling.{game_in}}
 use Rattle.gs_reply.proofs.Refused.{tells_answer}
 use Rattle.gs_settle.proofs.paths.unmade.Goals as goal
 

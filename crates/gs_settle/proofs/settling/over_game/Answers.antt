@@ -1,13 +1,10 @@
-use Rattle.std.proofs.Common.{inl, subst}
-use Rattle.std.proofs.lemmas.Result.{IfOk-weaker}
+use Rattle.std.proofs.{Common.{inl, subst}, lemmas.Result.{IfOk-weaker}}
 use Rattle.gs_file.specs.Views.{valid_view}
 use Rattle.gs_game.specs.declared.valid.ValidGame.{ValidGame}
 use Rattle.gs_group.proofs.Checked.{unlike_so}
-use Rattle.gs_reply.specs.Replies.{Answers, Reply}
-use Rattle.gs_reply.specs.Troubles.{SaysUnlike}
+use Rattle.gs_reply.specs.{Replies.{Answers, Reply}, Troubles.{SaysUnlike}}
 use Rattle.gs_reply.proofs.Refused.{answers_more}
-use Rattle.gs_settle.specs.Settling.{OfGrouping}
-use Rattle.gs_settle.specs.Tasks.{Says}
+use Rattle.gs_settle.specs.{Settling.{OfGrouping}, Tasks.{Says}}
 use Rattle.gs_settle.proofs.Said.{classes_said}
 use Rattle.gs_settle.proofs.settling.over_game.Goals as goal
 

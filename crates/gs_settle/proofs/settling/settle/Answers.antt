@@ -1,9 +1,7 @@
 use Rattle.std.proofs.lemmas.Result.{IfOk-weaker}
-use Rattle.gs_file.specs.Reading.{read_at}
-use Rattle.gs_file.specs.Views.{valid_view}
+use Rattle.gs_file.specs.{Reading.{read_at}, Views.{valid_view}}
 use Rattle.gs_reply.proofs.Refused.{not_stated, stated}
-use Rattle.gs_settle.specs.Settling.{OfGrouping}
-use Rattle.gs_settle.specs.Tasks.{Says}
+use Rattle.gs_settle.specs.{Settling.{OfGrouping}, Tasks.{Says}}
 use Rattle.gs_settle.proofs.settling.settle.Goals as goal
 
 pub returns-in-Ok : goal.returns-in-Ok

@@ -1,9 +1,7 @@
-use Rattle.std.proofs.Common.{rules}
-use Rattle.std.proofs.lemmas.Result.{IfOk-weaker}
+use Rattle.std.proofs.{Common.{rules}, lemmas.Result.{IfOk-weaker}}
 use Rattle.gs_reply.specs.Refusals.{Overflows, At_total, Many_pivots, Too_large, Table_numbers}
 use Rattle.gs_seq.specs.Abstracts.{lists_of}
-use Rattle.gs_settle.specs.Settling.{game_in}
-use Rattle.gs_settle.specs.Solving.{Solves}
+use Rattle.gs_settle.specs.{Settling.{game_in}, Solving.{Solves}}
 use Rattle.gs_reply.proofs.Refused.{tells_answer}
 use Rattle.gs_settle.proofs.Answering.{overflow_answers}
 use Rattle.gs_settle.proofs.solving.unsolved.Goals as goal

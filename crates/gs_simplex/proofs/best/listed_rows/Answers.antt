@@ -1,6 +1,5 @@
 use Rattle.std.proofs.Common.{◌≡◌, ℕ, List, length, drop, replicate, inl, inr, rules, slice_index, sym, ap, subst, ◌∙◌, arith}
-use Rattle.std.proofs.lemmas.List.{take_at, get_or-replicate, get_or_past, length-replicate}
-use Rattle.std.proofs.lemmas.Bool.{cases_lt}
+use Rattle.std.proofs.{lemmas.List.{take_at, get_or-replicate, get_or_past, length-replicate}, lemmas.Bool.{cases_lt}}
 use Rattle.gs_simplex.specs.Values.{IsRowIndex}
 use Rattle.gs_simplex.proofs.best.listed_rows.Goals as goal
 

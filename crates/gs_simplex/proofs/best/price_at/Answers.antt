@@ -1,9 +1,7 @@
 use Rattle.std.proofs.Common.{◌≡◌, ◌+◌, pos, neg_ℤ, ◌-ℤ◌, ◌*ℤ◌, to_z, of_z, sym, ap, ◌∙◌, arith}
 use mir.Syntax.{w128}
-use Rattle.gs_simplex.specs.Numbers.{cell}
-use Rattle.gs_simplex.specs.Table.{table_aim}
-use Rattle.gs_simplex.proofs.Fits.{widened, negated}
-use Rattle.gs_simplex.proofs.Tables.{flipped_other}
+use Rattle.gs_simplex.specs.{Numbers.{cell}, Table.{table_aim}}
+use Rattle.gs_simplex.proofs.{Fits.{widened, negated}, Tables.{flipped_other}}
 use Rattle.gs_simplex.proofs.best.price_at.Goals as goal
 
 pub returns : goal.returns

@@ -1,7 +1,6 @@
 use Rattle.std.proofs.Common.{◌≡◌, ℕ, ◌<◌, length, slice_index}
 use Rattle.std.specs.List.{HoldsAt}
-use Rattle.gs_simplex.specs.Table.{table_rows}
-use Rattle.gs_simplex.specs.Values.{IsValue}
+use Rattle.gs_simplex.specs.{Table.{table_rows}, Values.{IsValue}}
 use Rattle.gs_simplex.proofs.best.values.Given as goal
 
 abbrev pub invariant-loop-j : goal.invariant-loop-j

@@ -1,14 +1,12 @@
 use Rattle.std.proofs.Common.{◌≡◌, inl, inr, ℕ, ◌<◌, ◌^◌, Bool, true, false, MatchBool, ℤ, ◌*ℤ◌, ◌≤ℤ◌, unsigned_abs, to_z, of_z, w64, nat_eq, refl, sym, ap, subst, ◌∙◌, arith}
+use Rattle.std.proofs.lemmas.Bool.{ltb-true, ltb-false}
 use mir.Syntax.{w128}
 use Rattle.std.specs.Int.Signed.{lt_z}
 use lib.Dec.{ltb}
-use Rattle.std.proofs.lemmas.Bool.{ltb-true, ltb-false}
 use Rattle.gs_rows.proofs.Ring.{linear}
-use Rattle.gs_simplex.specs.declared.choice.Ratio.{Ratio}
-use Rattle.gs_simplex.specs.Choice.{Before, NotAfter}
-use Rattle.gs_simplex.proofs.Fits.{kept_64, narrow_passed, kept_128, lt_true, lt_false}
+use Rattle.gs_simplex.specs.{declared.choice.Ratio.{Ratio}, Choice.{Before, NotAfter}}
+use Rattle.gs_simplex.proofs.{Fits.{kept_64, narrow_passed, kept_128, lt_true, lt_false}, choice.is_before.Goals.{After-product-right}}
 use Rattle.gs_simplex.proofs.choice.is_before.Goals as goal
-use Rattle.gs_simplex.proofs.choice.is_before.Goals.{After-product-right}
 
 not_equal : (x y : ℕ) → (x ≡ y → ⊥) → nat_eq x y ≡ false
 not_equal x y ne = grind (arith, Rattle.std.proofs.lemmas.Bool.Decides.nat_tests)

@@ -1,7 +1,5 @@
 use Rattle.std.proofs.Common.{◌≡◌, ℕ, Option, Some, None, length, sym, subst, arith}
-use Rattle.gs_simplex.specs.declared.choice.Ratio.{Ratio}
-use Rattle.gs_simplex.specs.Table.{table_rows}
-use Rattle.gs_simplex.specs.Choice.{IsLeastSoFar, IsLeaving}
+use Rattle.gs_simplex.specs.{declared.choice.Ratio.{Ratio}, Table.{table_rows}, Choice.{IsLeastSoFar, IsLeaving}}
 use Rattle.gs_simplex.proofs.Choosing.{one_more, none_leaves_from, leaves_from}
 use Rattle.gs_simplex.proofs.choice.leaving.Goals as goal
 

@@ -1,5 +1,4 @@
-use Rattle.gs_simplex.specs.Table.{table_rows}
-use Rattle.gs_simplex.specs.Choice.{IsLeastSoFar}
+use Rattle.gs_simplex.specs.{Table.{table_rows}, Choice.{IsLeastSoFar}}
 use Rattle.gs_simplex.proofs.choice.leaving.Given as goal
 
 abbrev pub invariant-loop-place : goal.invariant-loop-place

@@ -1,8 +1,6 @@
-use Rattle.std.proofs.Common.{◌≡◌, arith, ◌≤◌, ◌^◌, length, subst, unsigned_abs, ap, ◌∙◌}
-use Rattle.std.proofs.lemmas.Nat.Gcd.{dvd-zero}
+use Rattle.std.proofs.{Common.{◌≡◌, arith, ◌≤◌, ◌^◌, length, subst, unsigned_abs, ap, ◌∙◌}, lemmas.Nat.Gcd.{dvd-zero}}
 use Rattle.gs_simplex.specs.Numbers.{at, IsDivisor}
-use Rattle.gs_simplex.proofs.Reduce.{one_more, one_of_all}
-use Rattle.gs_simplex.proofs.Fits.{kept_128}
+use Rattle.gs_simplex.proofs.{Reduce.{one_more, one_of_all}, Fits.{kept_128}}
 use Rattle.gs_simplex.proofs.row.divisor.Goals as goal
 
 pub loop-number-init : goal.loop-number-init

@@ -1,7 +1,6 @@
 use Rattle.std.proofs.Common.{◌≡◌, ◌<◌, ◌^◌, ℤ, pos, ◌*ℤ◌, unsigned_abs, refl, sym, ap, subst, ◌∙◌}
 use Prim.Native.Nat.{◌∣◌}
-use Rattle.gs_simplex.proofs.Fits.{kept_64}
-use Rattle.gs_simplex.proofs.Guesses.{quotient_narrow}
+use Rattle.gs_simplex.proofs.{Fits.{kept_64}, Guesses.{quotient_narrow}}
 use Rattle.gs_simplex.proofs.row.guessed_quotient.Goals as goal
 
 pub narrow_quotient-requires-clause-divides : goal.narrow_quotient-requires-clause-divides

@@ -1,5 +1,4 @@
-use Rattle.std.proofs.Common.{pos, ◌*ℤ◌, sym, ap, ◌∙◌, arith}
-use Rattle.std.proofs.lemmas.Int.{ints}
+use Rattle.std.proofs.{Common.{pos, ◌*ℤ◌, sym, ap, ◌∙◌, arith}, lemmas.Int.{ints}}
 use Rattle.gs_simplex.proofs.Fits.{kept_64}
 use Rattle.gs_simplex.proofs.row.multipliers.Goals as goal
 

@@ -1,9 +1,7 @@
-use Rattle.std.proofs.Common.{◌≡◌, ◌≢◌, ℕ, ◌<◌, ◌^◌, ℤ, pos, unsigned_abs, w64, to_z, refl, sym, ap, subst, ◌∙◌, arith}
-use Rattle.std.specs.Int.{IsGcd}
-use Rattle.std.proofs.lemmas.Int.{ints, to_z_pos}
+use Rattle.std.proofs.{Common.{◌≡◌, ◌≢◌, ℕ, ◌<◌, ◌^◌, ℤ, pos, unsigned_abs, w64, to_z, refl, sym, ap, subst, ◌∙◌, arith}, lemmas.Int.{ints, to_z_pos}}
 use Rattle.std.proofs.lemmas.Nat.Gcd.{dvd_refl}
-use Rattle.gs_simplex.proofs.Fits.{kept_64}
-use Rattle.gs_simplex.proofs.Guesses.{quotient_divides, divisor_narrow}
+use Rattle.std.specs.Int.{IsGcd}
+use Rattle.gs_simplex.proofs.{Fits.{kept_64}, Guesses.{quotient_divides, divisor_narrow}}
 use Rattle.gs_simplex.proofs.row.narrow_common_divisor.Goals as goal
 
 some_size : (z : ℤ) → z ≢ pos 0 → 0 < unsigned_abs z

@@ -1,14 +1,10 @@
 use Rattle.std.proofs.Common.{◌≡◌, arith, ◌+◌, ◌<◌, ◌-◌, ◌^◌, ℕ, ℤ, List, pos, length, slice_index, subst, unsigned_abs, sym, ap, ◌∙◌, to_z, of_z, w64}
+use Rattle.std.proofs.{lemmas.Int.{to_z_pos}, lemmas.Nat.Gcd.{dvd-zero}}
 use Prim.Native.Nat.{◌∣◌}
-use Rattle.std.proofs.lemmas.Int.{to_z_pos}
-use Rattle.std.proofs.lemmas.Nat.Gcd.{dvd-zero}
-use Rattle.gs_simplex.specs.Live.{IsSupport}
-use Rattle.gs_simplex.specs.Numbers.{at, IsDivisor}
-use Rattle.gs_simplex.proofs.Reduce.{nothing_common, one_more, one_of_all, one_zero}
-use Rattle.gs_simplex.proofs.Fits.{kept_64}
-use Rattle.gs_simplex.proofs.Lives.{everywhere}
-use Rattle.gs_simplex.proofs.row.narrow_divisor.Goals as goal
+use Rattle.gs_simplex.specs.{Live.{IsSupport}, Numbers.{at, IsDivisor}}
+use Rattle.gs_simplex.proofs.{Reduce.{nothing_common, one_more, one_of_all, one_zero}, Fits.{kept_64}, Lives.{everywhere}}
 use Rattle.gs_simplex.proofs.row.narrow_divisor.Goals.{After-narrow_common_divisor-common, In-loop-k}
+use Rattle.gs_simplex.proofs.row.narrow_divisor.Goals as goal
 
 -- the number at a place, from the last one on
 abbrev from_last : List ℤ → List ℕ → ℕ → ℕ → ℤ

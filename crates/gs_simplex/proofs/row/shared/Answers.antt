@@ -1,7 +1,5 @@
-use Rattle.std.proofs.Common.{◌≡◌, ℕ, unsigned_abs, w64, ap, subst, ◌∙◌, arith}
+use Rattle.std.proofs.{Common.{◌≡◌, ℕ, unsigned_abs, w64, ap, subst, ◌∙◌, arith}, Math.Nat.{one-dvd}, lemmas.Int.{ints, to_z-of_z}}
 use Prim.Native.Nat.{◌∣◌}
-use Rattle.std.proofs.Math.Nat.{one-dvd}
-use Rattle.std.proofs.lemmas.Int.{ints, to_z-of_z}
 use Rattle.gs_simplex.proofs.Reduce.{divisor_bounds}
 use Rattle.gs_simplex.proofs.row.shared.Goals as goal
 

@@ -1,5 +1,4 @@
-use Rattle.std.proofs.Common.{to_z, w64, sym, ap, ◌∙◌}
-use Rattle.std.proofs.lemmas.Int.{to_z-of_z}
+use Rattle.std.proofs.{Common.{to_z, w64, sym, ap, ◌∙◌}, lemmas.Int.{to_z-of_z}}
 use Rattle.gs_simplex.specs.Numbers.{at}
 use Rattle.gs_simplex.proofs.Lives.{change_of_row, change_of_lead}
 use Rattle.gs_simplex.proofs.row.touched.Goals as goal

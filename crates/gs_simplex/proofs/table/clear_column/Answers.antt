@@ -1,7 +1,6 @@
 use Rattle.std.proofs.Common.{◌≡◌, ◌≢◌, ◌⊎◌, ℕ, ◌+◌, ◌*◌, ◌<◌, ◌≤◌, ℤ, List, length, slice_index, refl, sym, subst, ◌∙◌, arith, below_more, get_or-set_other}
 use Rattle.gs_simplex.specs.Numbers.{at, cell, IsAtMost, IsMixed, IsReducedTo, IsClearedTo}
-use Rattle.gs_simplex.proofs.Fits.{kept_128}
-use Rattle.gs_simplex.proofs.Lives.{support_same, support_of}
+use Rattle.gs_simplex.proofs.{Fits.{kept_128}, Lives.{support_same, support_of}}
 use Rattle.gs_simplex.proofs.Places.{mixed_same, at_most_same, reduced_to_same, row_stays, rows_left, tops_more, tops_left_more}
 use Rattle.gs_simplex.proofs.table.clear_column.Goals as goal
 

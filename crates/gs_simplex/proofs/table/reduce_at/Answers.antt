@@ -1,7 +1,6 @@
 use Rattle.std.proofs.Common.{◌≡◌, MatchResult, Result, Ok, Err, ℕ, ◌+◌, ◌-◌, ◌<◌, ◌≤◌, ℤ, length, List, take, drop, refl, sym, subst, arith}
 use borrow.Rule.Slice.PartMut.{put_mid}
-use Rattle.gs_simplex.specs.declared.row.WideNumber.{WideNumber}
-use Rattle.gs_simplex.specs.Numbers.{at, AllNarrow, AllAtMost, IsAtMost, IsMixed, IsReducedTo}
+use Rattle.gs_simplex.specs.{declared.row.WideNumber.{WideNumber}, Numbers.{at, AllNarrow, AllAtMost, IsAtMost, IsMixed, IsReducedTo}}
 use Rattle.gs_simplex.proofs.Lives.{support_same}
 use Rattle.gs_simplex.proofs.Places.{at_part, part_long, length_put, at_put_inside, narrow_put, mixed_same, at_most_same, reduced_to_same, others_put}
 use Rattle.gs_simplex.proofs.table.reduce_at.Goals as goal

@@ -1,10 +1,7 @@
 use Rattle.std.proofs.Common.{ℕ, length, subst}
-use Rattle.gs_simplex.specs.Live.{IsSupport}
-use Rattle.gs_simplex.specs.Numbers.{at, IsDivided}
-use Rattle.gs_simplex.proofs.Lives.{support_divided}
-use Rattle.gs_simplex.proofs.Places.{lead_of}
+use Rattle.gs_simplex.specs.{Live.{IsSupport}, Numbers.{at, IsDivided}}
+use Rattle.gs_simplex.proofs.{Lives.{support_divided}, Places.{lead_of}, table.take_row.Goals.{After-divide_row}}
 use Rattle.gs_simplex.proofs.table.take_row.Goals as goal
-use Rattle.gs_simplex.proofs.table.take_row.Goals.{After-divide_row}
 
 -- the row divided, at its width
 divided : (c : After-divide_row) → IsDivided (length c.args.row.now) (at c.turn_row.new.row) (at c.divide_row.new.row)

@@ -1,6 +1,5 @@
 use Rattle.std.proofs.Common.{List, ℤ, refl, subst}
-use Rattle.gs_simplex.specs.Table.{table_rows}
-use Rattle.gs_simplex.specs.Conditions.{HasFeasibleSides}
+use Rattle.gs_simplex.specs.{Table.{table_rows}, Conditions.{HasFeasibleSides}}
 use Rattle.gs_simplex.proofs.Checks.{whole_pairs, opening_from}
 use Rattle.gs_simplex.proofs.tests.meets.Goals as goal
 

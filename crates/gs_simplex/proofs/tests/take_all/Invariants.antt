@@ -1,6 +1,4 @@
-use Rattle.gs_simplex.specs.State.{HasRoom}
-use Rattle.gs_simplex.specs.Table.{HasTops}
-use Rattle.gs_simplex.specs.Conditions.{IsTaken}
+use Rattle.gs_simplex.specs.{State.{HasRoom}, Table.{HasTops}, Conditions.{IsTaken}}
 use Rattle.gs_simplex.proofs.tests.take_all.Given as goal
 
 abbrev pub invariant-loop-step : goal.invariant-loop-step

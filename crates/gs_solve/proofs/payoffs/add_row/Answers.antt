@@ -1,25 +1,15 @@
 use Rattle.std.proofs.Common.{◌≡◌, ◌+◌, ◌*◌, ◌^◌, ◌<◌, List, length, get_or, take, refl, ap, ◌∙◌, arith, rules, pos, ◌*ℤ◌, unsigned_abs, FitsSigned, of_z, to_z, to_z-of_z}
+use Rattle.std.proofs.{lemmas.Nat.{mul-add-lt}, Math.Nat.{mul_comm}}
 use Rattle.std.specs.Int.{w64}
-use Rattle.std.proofs.lemmas.Nat.{mul-add-lt}
-use Rattle.std.proofs.Math.Nat.{mul_comm}
-use Rattle.gs_model.specs.Frame.{end_at}
-use Rattle.gs_model.specs.Sums.{sum_z}
+use Rattle.gs_model.specs.{Frame.{end_at}, Sums.{sum_z}}
 use Rattle.gs_model.proofs.Sparse.{abs_sum}
 use Rattle.gs_best.specs.Forms.{game_in}
-use Rattle.gs_seq.specs.Abstracts.{frame_of, lists_of}
-use Rattle.gs_seq.specs.Payoffs.{pair_pays}
-use Rattle.gs_seq.specs.declared.pair.Pair.{Pair}
-use Rattle.gs_seq.proofs.Sizes.{modest}
-use Rattle.gs_seq.proofs.Turns.{IsKnown, IsTurn, begun, known, none_passed, passed, sum_ended, sum_turned, turn}
-use Rattle.gs_solve.specs.Laws.{IsForm}
-use Rattle.gs_solve.specs.Layout.{cell_at, class_adds, end_sequence}
-use Rattle.gs_solve.specs.Programs.{unit}
-use Rattle.gs_solve.specs.Sequences.{form_sizes}
-use Rattle.gs_solve.proofs.AddedCells.{added_none, added_same, added_then, added_within}
-use Rattle.gs_solve.proofs.Cells.{first_in, pair_adds, prefix_small, row_adds, second_in}
-use Rattle.gs_solve.proofs.EndSteps.{form_is}
+use Rattle.gs_seq.specs.{Abstracts.{frame_of, lists_of}, Payoffs.{pair_pays}, declared.pair.Pair.{Pair}}
+use Rattle.gs_seq.proofs.{Sizes.{modest}, Turns.{IsKnown, IsTurn, begun, known, none_passed, passed, sum_ended, sum_turned, turn}}
+use Rattle.gs_solve.specs.{Laws.{IsForm}, Layout.{cell_at, class_adds, end_sequence}, Programs.{unit}, Sequences.{form_sizes}}
+use Rattle.gs_solve.proofs.{AddedCells.{added_none, added_same, added_then, added_within}, Cells.{first_in, pair_adds, prefix_small, row_adds, second_in}}
+use Rattle.gs_solve.proofs.{EndSteps.{form_is}, payoffs.add_row.Goals.{After-pays, After-round_total-rounds, After-sequence_at-two, In-Some}}
 use Rattle.gs_solve.proofs.payoffs.add_row.Goals as goal
-use Rattle.gs_solve.proofs.payoffs.add_row.Goals.{After-pays, After-round_total-rounds, After-sequence_at-two, In-Some}
 
 form : (c : After-round_total-rounds) → IsForm (frame_of c.args.form.now) (lists_of c.args.form.now)
 form c = form_is c.args.form.now

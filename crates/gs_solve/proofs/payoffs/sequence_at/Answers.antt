@@ -1,16 +1,11 @@
 use Rattle.std.proofs.Common.{◌≡◌, ◌<◌, sym, ap, subst, ◌∙◌}
 use Rattle.std.specs.Prelude.{option_map}
 use Rattle.gs_game.specs.Seen.{step_of}
-use Rattle.gs_model.specs.Classes.{IsClass, first_member}
-use Rattle.gs_model.specs.Frame.{end_count, last_step}
-use Rattle.gs_model.specs.Positions.{at_end}
-use Rattle.gs_seq.specs.Abstracts.{frame_of, lists_of}
-use Rattle.gs_seq.specs.Games.{frame_in}
-use Rattle.gs_solve.specs.Layout.{StepFits}
-use Rattle.gs_solve.specs.Sequences.{sequence_by}
-use Rattle.gs_solve.proofs.EndSteps.{end_fits}
+use Rattle.gs_model.specs.{Classes.{IsClass, first_member}, Frame.{end_count, last_step}, Positions.{at_end}}
+use Rattle.gs_seq.specs.{Abstracts.{frame_of, lists_of}, Games.{frame_in}}
+use Rattle.gs_solve.specs.{Layout.{StepFits}, Sequences.{sequence_by}}
+use Rattle.gs_solve.proofs.{EndSteps.{end_fits}, payoffs.sequence_at.Goals.{After-end_step-step}}
 use Rattle.gs_solve.proofs.payoffs.sequence_at.Goals as goal
-use Rattle.gs_solve.proofs.payoffs.sequence_at.Goals.{After-end_step-step}
 
 -- the step is the last one of the form's game
 step_is : (c : After-end_step-step) → last_step (frame_of c.args.form.now) c.args.player (at_end c.args.end) ≡ option_map step_of c.end_step-step.result

@@ -1,11 +1,8 @@
 use Rattle.std.proofs.Common.{◌≡◌, List, ℕ, subst, sym}
-use Rattle.gs_model.specs.Classes.{ClassLists, IsClasses}
-use Rattle.gs_model.specs.Frame.{frame_of}
+use Rattle.gs_model.specs.{Classes.{ClassLists, IsClasses}, Frame.{frame_of}, Rows.{rows}}
 use Rattle.gs_filter.specs.Filter.{AreParents, Filter}
-use Rattle.gs_model.specs.Rows.{rows}
 use Rattle.gs_tree.specs.Trees.{rules_of}
-use Rattle.gs_lossless.proofs.Descent.{are_parents}
-use Rattle.gs_lossless.proofs.Settled.{if_ok}
+use Rattle.gs_lossless.proofs.{Descent.{are_parents}, Settled.{if_ok}}
 use Rattle.gs_split.specs.Turns.{AreParted}
 use Rattle.gs_split.proofs.Turned.{classes_of}
 use Rattle.gs_split.proofs.parting.parted.Goals as goal

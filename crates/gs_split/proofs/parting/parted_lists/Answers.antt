@@ -1,8 +1,6 @@
 use Rattle.std.proofs.Common.{◌≡◌, ◌+◌, ◌-◌, ◌≤◌, ◌++◌, ◌∷◌, ℕ, suc, List, [], ap, arith, length, length-append, subst, sym, ◌∙◌, Vec, Global}
 use Rattle.std.proofs.lemmas.List.{map-append}
-use Rattle.gs_model.specs.Classes.{ClassLists, list_of}
-use Rattle.gs_model.specs.Frame.{frame_of, last_round, signal_count}
-use Rattle.gs_model.specs.Rows.{rows}
+use Rattle.gs_model.specs.{Classes.{ClassLists, list_of}, Frame.{frame_of, last_round, signal_count}, Rows.{rows}}
 use Rattle.gs_model.proofs.Walked.{last_round_of}
 use Rattle.gs_filter.proofs.RowLaws.{length-rows, round_read}
 use Rattle.gs_tree.specs.Trees.{rules_of}

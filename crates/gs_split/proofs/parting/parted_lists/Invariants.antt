@@ -1,6 +1,5 @@
 use Rattle.std.proofs.Common.{◌≡◌, length}
-use Rattle.gs_model.specs.Frame.{frame_of}
-use Rattle.gs_model.specs.Rows.{rows}
+use Rattle.gs_model.specs.{Frame.{frame_of}, Rows.{rows}}
 use Rattle.gs_tree.specs.Trees.{rules_of}
 use Rattle.gs_split.proofs.Turned.{ArePartedTo}
 use Rattle.gs_split.proofs.parting.parted_lists.Given as goal

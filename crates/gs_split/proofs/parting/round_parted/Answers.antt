@@ -1,17 +1,13 @@
 use Rattle.std.proofs.Common.{◌≡◌, ◌<◌, ◌≤◌, ℕ, List, ap, arith, length, subst, sym, ◌∙◌, Vec, Global}
 use Rattle.std.specs.List.{All}
-use Rattle.gs_model.specs.Classes.{list_of}
-use Rattle.gs_model.specs.Frame.{frame_of}
-use Rattle.gs_model.specs.Game.{round_count}
-use Rattle.gs_model.proofs.Ranges.{length-parents, parents_at, signal_count_is}
-use Rattle.gs_model.proofs.Walked.{last_round_of}
+use Rattle.gs_model.specs.{Classes.{list_of}, Frame.{frame_of}, Game.{round_count}}
+use Rattle.gs_model.proofs.{Ranges.{length-parents, parents_at, signal_count_is}, Walked.{last_round_of}}
 use Rattle.gs_tree.specs.Trees.{rules_of}
 use Rattle.gs_lossless.proofs.Descent.{list_long}
 use Rattle.gs_numbers.specs.Numbers.{IsKeyClasses}
 use Rattle.gs_split.specs.Turns.{IsRoundParted, turn_key}
-use Rattle.gs_split.proofs.Turned.{both_ok, first_parents, list_read, parents_under, round_made}
+use Rattle.gs_split.proofs.{Turned.{both_ok, first_parents, list_read, parents_under, round_made}, parting.round_parted.Goals.{After-deref}}
 use Rattle.gs_split.proofs.parting.round_parted.Goals as goal
-use Rattle.gs_split.proofs.parting.round_parted.Goals.{After-deref}
 
 pub parents_in-requires-clause-last : goal.parents_in-requires-clause-last
 parents_in-requires-clause-last c = omega (arith, c.requires.top, last_round_of (rules_of c.args.grouped.now.signals.now))

@@ -1,6 +1,5 @@
 use Rattle.std.proofs.Common.{◌≡◌, ◌+◌, ◌-◌, ◌++◌, ◌∷◌, ℕ, List, [], ap, arith, get_or, length, subst, sym, ◌∙◌, Vec, Global}
-use Rattle.gs_model.specs.Frame.{frame_of, last_round}
-use Rattle.gs_model.specs.Rows.{rows}
+use Rattle.gs_model.specs.{Frame.{frame_of, last_round}, Rows.{rows}}
 use Rattle.gs_model.proofs.Walked.{last_round_of}
 use Rattle.gs_filter.proofs.RowLaws.{length-rows}
 use Rattle.gs_tree.specs.Trees.{rules_of}

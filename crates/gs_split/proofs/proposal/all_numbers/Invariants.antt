@@ -1,6 +1,5 @@
 use Rattle.std.proofs.Common.{◌≤◌}
-use Rattle.gs_model.specs.Frame.{frame_of, last_round}
-use Rattle.gs_model.specs.Rows.{rows}
+use Rattle.gs_model.specs.{Frame.{frame_of, last_round}, Rows.{rows}}
 use Rattle.gs_tree.specs.Trees.{rules_of}
 use Rattle.gs_split.specs.Proposal.{AreFairFrom}
 use Rattle.gs_split.proofs.proposal.all_numbers.Given as goal

@@ -1,6 +1,5 @@
-use Rattle.std.proofs.Common.{◌≡◌, ◌<◌, ℕ, List, arith, get_or, length, refl, slice_set, subst, ◌∙◌}
+use Rattle.std.proofs.{Common.{◌≡◌, ◌<◌, ℕ, List, arith, get_or, length, refl, slice_set, subst, ◌∙◌}, lemmas.List.{length-set}}
 use Rattle.std.specs.Prelude.{◌+◌, ◌%◌, ◌^◌}
-use Rattle.std.proofs.lemmas.List.{length-set}
 use Rattle.gs_split.proofs.Proposed.{child_more, terms_to}
 use Rattle.gs_split.proofs.proposal.child_numbers.Goals as goal
 use Rattle.gs_alike.proofs.Items.{get_or-in}

@@ -1,17 +1,13 @@
 use Rattle.std.proofs.Common.{◌≡◌, ◌+◌, ◌-◌, ◌<◌, ℕ, List, ap, arith, get_or, length, subst, sym, ◌∙◌, Vec, Global}
 use Rattle.std.specs.List.{All}
-use Rattle.gs_model.specs.Classes.{list_of}
-use Rattle.gs_model.specs.Frame.{frame_of, signal_count}
-use Rattle.gs_model.specs.Signals.{parents, signals}
-use Rattle.gs_model.proofs.Ranges.{length-parents, signal_count_is}
-use Rattle.gs_model.proofs.Walked.{last_round_of}
+use Rattle.gs_model.specs.{Classes.{list_of}, Frame.{frame_of, signal_count}, Signals.{parents, signals}}
+use Rattle.gs_model.proofs.{Ranges.{length-parents, signal_count_is}, Walked.{last_round_of}}
 use Rattle.gs_tree.specs.Trees.{rules_of}
 use Rattle.gs_lossless.proofs.Descent.{list_long, playable}
 use Rattle.gs_split.specs.Proposal.{AreFair, child_number}
-use Rattle.gs_split.proofs.Proposed.{children_fair}
-use Rattle.gs_split.proofs.Turned.{both_ok, list_next, parents_under}
-use Rattle.gs_split.proofs.proposal.fair_numbers.Goals as goal
+use Rattle.gs_split.proofs.{Proposed.{children_fair}, Turned.{both_ok, list_next, parents_under}}
 use Rattle.gs_split.proofs.proposal.fair_numbers.Goals.{After-count, After-deref, After-parents_in-parents}
+use Rattle.gs_split.proofs.proposal.fair_numbers.Goals as goal
 
 pub parents_in-parents-requires-clause-last : goal.parents_in-parents-requires-clause-last
 parents_in-parents-requires-clause-last c = omega (arith, c.requires.before_last, last_round_of (rules_of c.args.grouped.now.signals.now))

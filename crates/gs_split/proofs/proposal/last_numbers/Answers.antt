@@ -1,9 +1,7 @@
 use Rattle.std.proofs.Common.{◌≡◌, Option, subst}
 use Rattle.std.specs.Prelude.{MatchOption}
 use Rattle.gs_boards.specs.declared.board_order.BoardOrder.{BoardOrder}
-use Rattle.gs_tree.specs.Plain.{IsPlain}
-use Rattle.gs_tree.specs.Trees.{rules_of}
-use Rattle.gs_tree.specs.Walk.{last_count}
+use Rattle.gs_tree.specs.{Plain.{IsPlain}, Trees.{rules_of}, Walk.{last_count}}
 use Rattle.gs_split.proofs.proposal.last_numbers.Goals as goal
 
 pub order_numbers-requires : goal.order_numbers-requires

@@ -1,17 +1,11 @@
 use Rattle.std.proofs.Common.{◌≡◌, ◌<◌, ◌≤◌, ℕ, List, ap, arith, get_or, length, pos, subst, sym, ◌∙◌, Vec, Global}
-use Rattle.gs_model.specs.Classes.{list_of}
-use Rattle.gs_model.specs.Frame.{frame_of, last_round, signal_count}
-use Rattle.gs_model.specs.Game.{Game, round_count}
-use Rattle.gs_model.proofs.Ranges.{signal_count_is}
-use Rattle.gs_model.proofs.Walked.{last_round_of}
+use Rattle.gs_model.specs.{Classes.{list_of}, Frame.{frame_of, last_round, signal_count}, Game.{Game, round_count}}
+use Rattle.gs_model.proofs.{Ranges.{signal_count_is}, Walked.{last_round_of}}
 use Rattle.gs_filter.proofs.RowLaws.{length-rows}
-use Rattle.gs_tree.specs.Trees.{rules_of}
-use Rattle.gs_tree.specs.Walk.{last_count}
-use Rattle.gs_tree.specs.declared.signals.Signals.{Signals}
+use Rattle.gs_tree.specs.{Trees.{rules_of}, Walk.{last_count}, declared.signals.Signals.{Signals}}
 use Rattle.gs_lossless.proofs.Descent.{list_long, playable}
 use Rattle.gs_split.specs.Proposal.{AreFair, deal_number}
-use Rattle.gs_split.proofs.Proposed.{deals_fair}
-use Rattle.gs_split.proofs.Turned.{both_ok, list_read}
+use Rattle.gs_split.proofs.{Proposed.{deals_fair}, Turned.{both_ok, list_read}}
 use Rattle.gs_split.proofs.proposal.order_numbers.Goals as goal
 
 pub deal_numbers-requires : goal.deal_numbers-requires

@@ -1,14 +1,12 @@
 use Rattle.std.proofs.Common.{List, Option, ℕ, subst, sym, Vec, Global}
 use Rattle.std.specs.Prelude.{IfSome}
-use Rattle.gs_model.specs.Frame.{frame_of, last_round}
+use Rattle.gs_model.specs.{Frame.{frame_of, last_round}, Rows.{rows}}
 use Rattle.gs_model.proofs.Ranges.{in_range}
-use Rattle.gs_model.specs.Rows.{rows}
 use Rattle.gs_tree.specs.Trees.{rules_of}
 use Rattle.gs_lossless.proofs.Descent.{playable}
 use Rattle.gs_split.specs.Proposal.{AreFair, AreFairFrom}
-use Rattle.gs_split.proofs.Proposed.{fair_have, parted_proposal}
+use Rattle.gs_split.proofs.{Proposed.{fair_have, parted_proposal}, proposal.proposal.Goals.{After-deref}}
 use Rattle.gs_split.proofs.proposal.proposal.Goals as goal
-use Rattle.gs_split.proofs.proposal.proposal.Goals.{After-deref}
 
 pub all_numbers-requires : goal.all_numbers-requires
 all_numbers-requires c =

@@ -1,18 +1,13 @@
-use Rattle.std.proofs.Common.{◌≡◌, ◌-◌, ◌<◌, ◌∙◌, ℕ, List, false, ap, arith, get_or, length, subst, sym, Vec, Global}
-use Rattle.std.proofs.lemmas.List.{get_or_read}
-use Rattle.gs_model.specs.Classes.{class_of}
-use Rattle.gs_model.specs.Frame.{frame_of, signal_count}
+use Rattle.std.proofs.{Common.{◌≡◌, ◌-◌, ◌<◌, ◌∙◌, ℕ, List, false, ap, arith, get_or, length, subst, sym, Vec, Global}, lemmas.List.{get_or_read}}
+use Rattle.gs_model.specs.{Classes.{class_of}, Frame.{frame_of, signal_count}}
 use Rattle.gs_numbers.proofs.Numbered.{numbered_again, numbered_more, numbers_are}
 use Rattle.gs_tree.specs.Trees.{rules_of}
-use Rattle.gs_lossless.specs.Amounts.{Agree, AreAmounts, AreSideFirsts, key_count}
-use Rattle.gs_lossless.specs.declared.parts.Part.{Part}
-use Rattle.gs_lossless.proofs.Descent.{keys_long, playable}
-use Rattle.gs_lossless.proofs.Merge.{part_decides}
-use Rattle.gs_lossless.proofs.Scanned.{side_classes, side_signals, side_top}
+use Rattle.gs_lossless.specs.{Amounts.{Agree, AreAmounts, AreSideFirsts, key_count}, declared.parts.Part.{Part}}
+use Rattle.gs_lossless.proofs.{Descent.{keys_long, playable}, Merge.{part_decides}, Scanned.{side_classes, side_signals, side_top}}
 use Rattle.gs_split.specs.Turns.{AreClassSums, AreSettled, part_eq}
 use Rattle.gs_split.proofs.Agreed.{sums_again, sums_law, sums_made, sums_none}
-use Rattle.gs_split.proofs.sides.side_numbers.Goals as goal
 use Rattle.gs_split.proofs.sides.side_numbers.Goals.{In_ok-firsts, In_ok-keys, In_ok-settled, Joined-index, else-index+in_ok-sums, then-index}
+use Rattle.gs_split.proofs.sides.side_numbers.Goals as goal
 
 pub count-count-requires-clause-in_range : goal.count-count-requires-clause-in_range
 count-count-requires-clause-in_range c = side_top (rules_of c.args.grouped.now.signals.now) c.side_at-side.result c.args.round c.side_at-side.ensures.side

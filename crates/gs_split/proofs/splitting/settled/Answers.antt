@@ -1,13 +1,10 @@
 use Rattle.std.proofs.Common.{◌∙◌, Bool, List, arith, rules, subst, sym}
 use Rattle.gs_model.specs.Frame.{frame_of}
-use Rattle.gs_model.proofs.Ranges.{in_range}
-use Rattle.gs_model.proofs.Walked.{last_round_of}
+use Rattle.gs_model.proofs.{Ranges.{in_range}, Walked.{last_round_of}}
 use Rattle.gs_tree.specs.Trees.{rules_of}
-use Rattle.gs_lossless.proofs.Descent.{playable}
-use Rattle.gs_lossless.proofs.Settled.{over}
+use Rattle.gs_lossless.proofs.{Descent.{playable}, Settled.{over}}
 use Rattle.gs_split.specs.Turns.{AreKnown}
-use Rattle.gs_split.proofs.Known.{none_known}
-use Rattle.gs_split.proofs.Splits.{ended, one_more}
+use Rattle.gs_split.proofs.{Known.{none_known}, Splits.{ended, one_more}}
 use Rattle.gs_split.proofs.splitting.settled.Goals as goal
 
 pub turn-requires-clause-known : goal.turn-requires-clause-known

@@ -1,8 +1,7 @@
 use Rattle.std.proofs.Common.{◌≡◌, Option, subst}
 use Rattle.std.specs.Prelude.{IfSome}
 use Rattle.gs_filter.specs.Filter.{Filter}
-use Rattle.gs_model.specs.Frame.{frame_of}
-use Rattle.gs_model.specs.Refinement.{IsCoarsestLossless}
+use Rattle.gs_model.specs.{Frame.{frame_of}, Refinement.{IsCoarsestLossless}}
 use Rattle.gs_tree.specs.Trees.{rules_of}
 use Rattle.gs_lossless.proofs.Settled.{if_ok}
 use Rattle.gs_split.specs.Proposal.{IsProposal}

@@ -1,8 +1,6 @@
-use Rattle.std.proofs.Common.{◌∙◌, arith, rules, sym}
-use Rattle.std.proofs.lemmas.Result.{IfOk-weaker}
+use Rattle.std.proofs.{Common.{◌∙◌, arith, rules, sym}, lemmas.Result.{IfOk-weaker}}
 use Rattle.gs_model.specs.Frame.{frame_of}
-use Rattle.gs_model.proofs.Ranges.{signal_count_is}
-use Rattle.gs_model.proofs.Walked.{last_round_of}
+use Rattle.gs_model.proofs.{Ranges.{signal_count_is}, Walked.{last_round_of}}
 use Rattle.gs_tree.specs.Trees.{rules_of}
 use Rattle.gs_split.proofs.Known.{known_numbers}
 use Rattle.gs_split.proofs.turns.round_numbers.Goals as goal

@@ -1,14 +1,11 @@
 use Rattle.std.proofs.Common.{List, Vec, ℕ, Global, subst, sym}
-use Rattle.gs_model.specs.Frame.{frame_of}
-use Rattle.gs_model.specs.RefinementTurn.{IsTurn}
+use Rattle.gs_model.specs.{Frame.{frame_of}, RefinementTurn.{IsTurn}, Rows.{rows}}
 use Rattle.gs_filter.specs.Filter.{Filter}
-use Rattle.gs_model.specs.Rows.{rows}
 use Rattle.gs_tree.specs.Trees.{rules_of}
 use Rattle.gs_lossless.proofs.Settled.{if_ok}
 use Rattle.gs_split.specs.Turns.{AreExact, AreParted}
-use Rattle.gs_split.proofs.Turned.{exact_have, turn_of}
+use Rattle.gs_split.proofs.{Turned.{exact_have, turn_of}, turns.turn.Goals.{After-deref}}
 use Rattle.gs_split.proofs.turns.turn.Goals as goal
-use Rattle.gs_split.proofs.turns.turn.Goals.{After-deref}
 
 exact : (c : After-deref) → AreExact (frame_of (rules_of c.args.signals.now)) c.args.classes.now.lists (rows c.deref.result.now)
 exact c = subst (λ (vs : List (Vec ℕ Global)). AreExact (frame_of (rules_of c.args.signals.now)) c.args.classes.now.lists (rows vs)) (sym c.deref.ensures.value) c.in_ok-numbers.ensures

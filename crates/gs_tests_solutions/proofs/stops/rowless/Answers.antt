@@ -1,6 +1,5 @@
 use Rattle.std.proofs.Common.{◌≡◌, ℕ, List, false, pos, length, slice_index_or, replicate, inl, inr, rules, refl, ap, ◌∙◌, arith}
-use Rattle.std.proofs.lemmas.List.{get_or-replicate, get_or_past, length-replicate}
-use Rattle.std.proofs.lemmas.Bool.{cases_lt}
+use Rattle.std.proofs.{lemmas.List.{get_or-replicate, get_or_past, length-replicate}, lemmas.Bool.{cases_lt}}
 use Rattle.gs_tests_solutions.proofs.stops.rowless.Goals as goal
 
 same_all : {X : Type 0} (xs : List X) (n : ℕ) (x : X) (j : ℕ) → xs ≡ replicate n x → slice_index_or xs j x ≡ x

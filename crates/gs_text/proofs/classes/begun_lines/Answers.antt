@@ -1,5 +1,4 @@
-use Rattle.std.proofs.Common.{◌++◌, [], ◌∷◌, map, string_bytes, ◌+◌, ap, sym, ◌∙◌, arith}
-use Rattle.std.proofs.lemmas.List.{map_push}
+use Rattle.std.proofs.{Common.{◌++◌, [], ◌∷◌, map, string_bytes, ◌+◌, ap, sym, ◌∙◌, arith}, lemmas.List.{map_push}}
 use Rattle.std.proofs.lemmas.List.FromFn.{map-range_with_len_more}
 use Rattle.std.specs.List.{range_with_len}
 use Rattle.gs_text.specs.ClassText.{begin_line}

@@ -1,6 +1,5 @@
 use Rattle.std.proofs.Common.{◌≡◌, string_bytes}
-use Rattle.std.specs.Prelude.{flat_map}
-use Rattle.std.specs.List.{range_with_len}
+use Rattle.std.specs.{Prelude.{flat_map}, List.{range_with_len}}
 use Rattle.gs_model.specs.Classes.{list_of}
 use Rattle.gs_tree.specs.Trees.{rules_of, deck_of}
 use Rattle.gs_text.specs.ClassText.{round_text, signal_texts}

@@ -1,12 +1,10 @@
 use Rattle.std.proofs.Common.{◌≡◌, ◌-◌, ◌<◌, ℕ, List, [], get_or, length, string_bytes, take, sym, ap, ◌∙◌, arith, ◌++◌, codes}
-use Rattle.std.specs.List.{zip}
 use Rattle.std.proofs.lemmas.List.{append_assoc, get_or-map, length-map}
+use Rattle.std.specs.List.{zip}
 use Rattle.gs_card.specs.Decks.{DeckValue}
-use Rattle.gs_model.specs.Game.{Game}
-use Rattle.gs_model.specs.Signals.{parents, signal_at, signals}
+use Rattle.gs_model.specs.{Game.{Game}, Signals.{parents, signal_at, signals}}
 use Rattle.gs_model.proofs.Ranges.{length-parents}
-use Rattle.gs_tree.specs.Texts.{signal_text}
-use Rattle.gs_tree.specs.Trees.{deck_of, rules_of}
+use Rattle.gs_tree.specs.{Texts.{signal_text}, Trees.{deck_of, rules_of}}
 use Rattle.gs_tree.proofs.Lookups.{is_child}
 use Rattle.gs_text.specs.ClassText.{open_line, signal_texts}
 use Rattle.gs_text.proofs.Lines.{lines-count, lines-told}

@@ -1,8 +1,6 @@
-use Rattle.std.proofs.Common.{◌≡◌, ℕ, List, map, string_bytes, length, sym, ◌∙◌}
-use Rattle.std.proofs.lemmas.List.{length-map}
+use Rattle.std.proofs.{Common.{◌≡◌, ℕ, List, map, string_bytes, length, sym, ◌∙◌}, lemmas.List.{length-map}}
 use Rattle.gs_model.specs.Signals.{signals}
-use Rattle.gs_tree.specs.Texts.{signal_text}
-use Rattle.gs_tree.specs.Trees.{deck_of, rules_of}
+use Rattle.gs_tree.specs.{Texts.{signal_text}, Trees.{deck_of, rules_of}}
 use Rattle.gs_text.specs.ClassText.{signal_texts}
 use Rattle.gs_text.proofs.Lines.{in_range, round_told}
 use Rattle.gs_text.proofs.classes.push_round.Goals as goal

@@ -1,7 +1,6 @@
 use Rattle.std.proofs.Common.{◌≡◌, map, take, string_bytes}
 use Rattle.gs_model.specs.Signals.{signals}
-use Rattle.gs_tree.specs.Texts.{signal_text}
-use Rattle.gs_tree.specs.Trees.{rules_of, deck_of}
+use Rattle.gs_tree.specs.{Texts.{signal_text}, Trees.{rules_of, deck_of}}
 use Rattle.gs_text.proofs.classes.signal_texts.Given as goal
 
 abbrev pub invariant-loop-signal : goal.invariant-loop-signal

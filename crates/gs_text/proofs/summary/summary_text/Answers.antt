@@ -1,8 +1,5 @@
 use Rattle.std.proofs.Common.{◌≡◌, ◌++◌, ◌+◌, ℕ, List, length, rules, string_bytes}
-use Rattle.gs_model.specs.Classes.{class_count}
-use Rattle.gs_model.specs.Deals.{deals}
-use Rattle.gs_model.specs.Frame.{frame_of, total_weight}
-use Rattle.gs_model.specs.Signals.{signals}
+use Rattle.gs_model.specs.{Classes.{class_count}, Deals.{deals}, Frame.{frame_of, total_weight}, Signals.{signals}}
 use Rattle.gs_tree.specs.Trees.{rules_of}
 use Rattle.gs_text.specs.ClassText.{deals_line, round_line}
 use Rattle.gs_text.proofs.Lines.{rounds-more}

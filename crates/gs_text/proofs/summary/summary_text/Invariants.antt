@@ -1,10 +1,6 @@
 use Rattle.std.proofs.Common.{◌≡◌, ◌++◌, length, string_bytes}
-use Rattle.std.specs.Prelude.{flat_map}
-use Rattle.std.specs.List.{range_with_len}
-use Rattle.gs_model.specs.Classes.{class_count}
-use Rattle.gs_model.specs.Deals.{deals}
-use Rattle.gs_model.specs.Frame.{frame_of, total_weight}
-use Rattle.gs_model.specs.Signals.{signals}
+use Rattle.std.specs.{Prelude.{flat_map}, List.{range_with_len}}
+use Rattle.gs_model.specs.{Classes.{class_count}, Deals.{deals}, Frame.{frame_of, total_weight}, Signals.{signals}}
 use Rattle.gs_tree.specs.Trees.{rules_of}
 use Rattle.gs_text.specs.ClassText.{deals_line, round_line}
 use Rattle.gs_text.proofs.summary.summary_text.Given as goal

@@ -1,12 +1,10 @@
 use Rattle.std.proofs.Common.{◌++◌, List, drop, length, take, ap, arith}
 use Rattle.std.specs.Prelude.{ℤ}
 use Rattle.gs_model.specs.Frame.{end_count, point_count}
-use Rattle.gs_seq.specs.Abstracts.{frame_of, lists_of}
-use Rattle.gs_seq.specs.Payoffs.{end_classes}
+use Rattle.gs_seq.specs.{Abstracts.{frame_of, lists_of}, Payoffs.{end_classes}}
 use Rattle.gs_best.specs.Tables.{classes_at}
 use Rattle.gs_totals.specs.Places.{AreEndLines}
-use Rattle.gs_totals.proofs.Lines.{lines_written, small_places}
-use Rattle.gs_totals.proofs.advancing.advance.Goals.{After-advance_first}
+use Rattle.gs_totals.proofs.{Lines.{lines_written, small_places}, advancing.advance.Goals.{After-advance_first}}
 use Rattle.gs_totals.proofs.advancing.advance.Goals as goal
 
 -- what ends pay, as it was written

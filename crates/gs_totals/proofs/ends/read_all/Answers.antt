@@ -3,8 +3,7 @@ use Rattle.gs_model.specs.Frame.{end_count}
 use Rattle.gs_seq.specs.Payoffs.{end_classes}
 use Rattle.gs_best.proofs.Placed.{IsRow}
 use Rattle.gs_totals.specs.Roles.{frame_in, lists_in}
-use Rattle.gs_totals.proofs.PlacedRows.{paid_more, row_of_end}
-use Rattle.gs_totals.proofs.ends.read_all.Goals.{After-index}
+use Rattle.gs_totals.proofs.{PlacedRows.{paid_more, row_of_end}, ends.read_all.Goals.{After-index}}
 use Rattle.gs_totals.proofs.ends.read_all.Goals as goal
 
 -- the row of the end at hand

@@ -1,5 +1,4 @@
-use Rattle.gs_totals.specs.Places.{AreEndSums}
-use Rattle.gs_totals.specs.Roles.{frame_in, lists_in, plan_in}
+use Rattle.gs_totals.specs.{Places.{AreEndSums}, Roles.{frame_in, lists_in, plan_in}}
 use Rattle.gs_totals.proofs.Slices.{kept_through}
 use Rattle.gs_totals.proofs.ends.read_ends.Goals as goal
 

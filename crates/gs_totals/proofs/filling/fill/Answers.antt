@@ -1,6 +1,5 @@
 use Rattle.std.proofs.Common.{◌≡◌, ◌+◌, ◌-◌, sym, subst, arith}
-use Rattle.gs_totals.specs.Ledgers.{AreBestIn}
-use Rattle.gs_totals.specs.Roles.{frame_in, lists_in, moves_in, plan_in}
+use Rattle.gs_totals.specs.{Ledgers.{AreBestIn}, Roles.{frame_in, lists_in, moves_in, plan_in}}
 use Rattle.gs_totals.proofs.Stepping.{all_best}
 use Rattle.gs_totals.proofs.filling.fill.Goals as goal
 

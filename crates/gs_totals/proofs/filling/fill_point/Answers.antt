@@ -1,17 +1,11 @@
 use Rattle.std.proofs.Common.{◌≡◌, ℕ, ◌+◌, ◌-◌, ◌≤◌, ◌++◌, List, length, get_or, drop, take, sym, ap, ◌∙◌, subst, arith}
 use Rattle.std.specs.Prelude.{ℤ, pos}
 use Rattle.gs_model.specs.Frame.{point_count}
-use Rattle.gs_best.specs.Rows.{IsCopied, IsMerged}
-use Rattle.gs_best.specs.Tables.{classes_at, start_of}
+use Rattle.gs_best.specs.{Rows.{IsCopied, IsMerged}, Tables.{classes_at, start_of}}
 use Rattle.gs_best.proofs.Placed.{IsRow, row_later}
-use Rattle.gs_totals.specs.ClassTotals.{total_worth}
-use Rattle.gs_totals.specs.Roles.{frame_in, lists_in, moves_in, plan_in, totals_in}
-use Rattle.gs_totals.specs.Places.{AreBestFrom}
-use Rattle.gs_totals.proofs.Known.{known_modest}
-use Rattle.gs_totals.proofs.PointRows.{carried, row_of, wide_of}
-use Rattle.gs_totals.proofs.Sides.{walked}
-use Rattle.gs_totals.proofs.Slices.{kept_through, long_through, through, wide_through}
-use Rattle.gs_totals.proofs.Stepping.{best_back}
+use Rattle.gs_totals.specs.{ClassTotals.{total_worth}, Roles.{frame_in, lists_in, moves_in, plan_in, totals_in}, Places.{AreBestFrom}}
+use Rattle.gs_totals.proofs.{Known.{known_modest}, PointRows.{carried, row_of, wide_of}, Sides.{walked}}
+use Rattle.gs_totals.proofs.{Slices.{kept_through, long_through, through, wide_through}, Stepping.{best_back}}
 use Rattle.gs_totals.proofs.filling.fill_point.Goals.{After-of-at, After-merge_moves}
 use Rattle.gs_totals.proofs.filling.fill_point.Goals as goal
 

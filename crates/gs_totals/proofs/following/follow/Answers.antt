@@ -1,6 +1,5 @@
 use Rattle.std.proofs.Common.{◌≡◌, ◌+◌, ◌-◌, sym, subst, arith}
-use Rattle.gs_totals.specs.Ledgers.{AreFollowedIn}
-use Rattle.gs_totals.specs.Roles.{frame_in, lists_in, moves_in, plan_in}
+use Rattle.gs_totals.specs.{Ledgers.{AreFollowedIn}, Roles.{frame_in, lists_in, moves_in, plan_in}}
 use Rattle.gs_totals.proofs.Stepping.{all_followed}
 use Rattle.gs_totals.proofs.following.follow.Goals as goal
 

@@ -1,17 +1,11 @@
 use Rattle.std.proofs.Common.{◌≡◌, ◌+◌, ◌≤◌, ◌++◌, List, length, drop, take, refl, sym, ap, ◌∙◌, subst, arith}
 use Rattle.std.specs.Prelude.{ℤ, pos}
 use Rattle.gs_model.specs.Frame.{point_count}
-use Rattle.gs_best.specs.Rows.{IsCopied}
-use Rattle.gs_best.specs.Tables.{classes_at}
+use Rattle.gs_best.specs.{Rows.{IsCopied}, Tables.{classes_at}}
 use Rattle.gs_best.proofs.Placed.{IsRow}
-use Rattle.gs_totals.specs.Roles.{frame_in, lists_in, moves_in, plan_in, totals_in}
-use Rattle.gs_totals.specs.Merged.{IsFollowing}
-use Rattle.gs_totals.specs.Places.{IsFollowedFrom}
-use Rattle.gs_totals.proofs.Known.{known_modest}
-use Rattle.gs_totals.proofs.PointRows.{carried, row_of, wide_of}
-use Rattle.gs_totals.proofs.Sides.{walked}
-use Rattle.gs_totals.proofs.Slices.{kept_through, long_through, through, wide_through}
-use Rattle.gs_totals.proofs.Stepping.{following_back}
+use Rattle.gs_totals.specs.{Roles.{frame_in, lists_in, moves_in, plan_in, totals_in}, Merged.{IsFollowing}, Places.{IsFollowedFrom}}
+use Rattle.gs_totals.proofs.{Known.{known_modest}, PointRows.{carried, row_of, wide_of}, Sides.{walked}}
+use Rattle.gs_totals.proofs.{Slices.{kept_through, long_through, through, wide_through}, Stepping.{following_back}}
 use Rattle.gs_totals.proofs.following.follow_point.Goals.{After-of-at, After-follow_moves}
 use Rattle.gs_totals.proofs.following.follow_point.Goals as goal
 

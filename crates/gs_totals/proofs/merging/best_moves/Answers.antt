@@ -2,9 +2,7 @@ use Rattle.std.proofs.Common.{◌≡◌, ◌<◌, subst, arith}
 use Rattle.gs_model.specs.Frame.{move_count}
 use Rattle.gs_best.specs.Rows.{AreGreatest}
 use Rattle.gs_best.proofs.Greatest.{greatest_step}
-use Rattle.gs_totals.specs.ClassTotals.{total_worth}
-use Rattle.gs_totals.specs.Roles.{frame_in, lists_in}
-use Rattle.gs_totals.specs.PointRows.{totals_at}
+use Rattle.gs_totals.specs.{ClassTotals.{total_worth}, Roles.{frame_in, lists_in}, PointRows.{totals_at}}
 use Rattle.gs_totals.proofs.merging.best_moves.Goals as goal
 
 pub read_worths-read-requires-clause-wide : goal.read_worths-read-requires-clause-wide

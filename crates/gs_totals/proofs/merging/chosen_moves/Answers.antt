@@ -1,8 +1,6 @@
 use Rattle.std.proofs.Common.{arith}
-use Rattle.gs_totals.specs.Roles.{frame_in, lists_in}
-use Rattle.gs_totals.proofs.Chosen.{chosen_step}
-use Rattle.gs_totals.specs.PointRows.{totals_at}
-use Rattle.gs_totals.proofs.PointRows.{row_at}
+use Rattle.gs_totals.specs.{Roles.{frame_in, lists_in}, PointRows.{totals_at}}
+use Rattle.gs_totals.proofs.{Chosen.{chosen_step}, PointRows.{row_at}}
 use Rattle.gs_totals.proofs.merging.chosen_moves.Goals as goal
 
 pub read_worths-read-requires-clause-wide : goal.read_worths-read-requires-clause-wide

@@ -1,6 +1,4 @@
-use Rattle.gs_totals.specs.Roles.{frame_in, lists_in, moves_in}
-use Rattle.gs_totals.specs.Merged.{AreChosen}
-use Rattle.gs_totals.specs.PointRows.{totals_at}
+use Rattle.gs_totals.specs.{Roles.{frame_in, lists_in, moves_in}, Merged.{AreChosen}, PointRows.{totals_at}}
 use Rattle.gs_totals.proofs.merging.chosen_moves.Given as goal
 
 abbrev pub invariant-loop-choice : goal.invariant-loop-choice

@@ -1,10 +1,8 @@
 use Rattle.std.proofs.Common.{◌*◌, ◌^◌, ◌<◌, arith}
 use Rattle.gs_model.specs.Frame.{move_count}
 use Rattle.gs_best.proofs.Greatest.{sum_fits, sum_step}
-use Rattle.gs_totals.specs.ClassTotals.{total_worth}
-use Rattle.gs_totals.specs.Roles.{frame_in, lists_in}
+use Rattle.gs_totals.specs.{ClassTotals.{total_worth}, Roles.{frame_in, lists_in}, PointRows.{totals_at}}
 use Rattle.gs_totals.proofs.Known.{worth_modest, worths_modest}
-use Rattle.gs_totals.specs.PointRows.{totals_at}
 use Rattle.gs_totals.proofs.merging.sum_moves.Goals as goal
 
 pub read_worths-read-requires-clause-wide : goal.read_worths-read-requires-clause-wide

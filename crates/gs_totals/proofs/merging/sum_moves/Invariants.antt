@@ -1,8 +1,6 @@
 use Rattle.std.proofs.Common.{◌<◌}
 use Rattle.gs_best.specs.Rows.{AreSums}
-use Rattle.gs_totals.specs.ClassTotals.{total_worth}
-use Rattle.gs_totals.specs.Roles.{frame_in, lists_in}
-use Rattle.gs_totals.specs.PointRows.{totals_at}
+use Rattle.gs_totals.specs.{ClassTotals.{total_worth}, Roles.{frame_in, lists_in}, PointRows.{totals_at}}
 use Rattle.gs_totals.proofs.merging.sum_moves.Given as goal
 
 abbrev pub invariant-loop-choice : goal.invariant-loop-choice

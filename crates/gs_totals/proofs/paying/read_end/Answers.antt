@@ -1,5 +1,4 @@
-use Rattle.gs_model.specs.Frame.{round_of}
-use Rattle.gs_model.specs.Positions.{at_end}
+use Rattle.gs_model.specs.{Frame.{round_of}, Positions.{at_end}}
 use Rattle.gs_totals.specs.Roles.{frame_in}
 use Rattle.gs_totals.proofs.Sides.{walked}
 use Rattle.gs_totals.proofs.paying.read_end.Goals as goal

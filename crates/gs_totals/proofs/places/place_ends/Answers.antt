@@ -1,12 +1,9 @@
 use Rattle.std.proofs.Common.{◌≡◌, ◌+◌, ap, ◌∙◌, arith}
 use Rattle.gs_model.specs.Classes.{class_count}
-use Rattle.gs_seq.specs.Abstracts.{frame_of, lists_of}
-use Rattle.gs_seq.specs.Payoffs.{end_classes}
-use Rattle.gs_best.proofs.Filled.{row_more}
-use Rattle.gs_best.proofs.Placed.{row_next}
+use Rattle.gs_seq.specs.{Abstracts.{frame_of, lists_of}, Payoffs.{end_classes}}
+use Rattle.gs_best.proofs.{Filled.{row_more}, Placed.{row_next}}
 use Rattle.gs_totals.specs.Places.{end_start}
-use Rattle.gs_totals.proofs.EndStarts.{end_starts_few}
-use Rattle.gs_totals.proofs.places.place_ends.Goals.{After-class_total-start}
+use Rattle.gs_totals.proofs.{EndStarts.{end_starts_few}, places.place_ends.Goals.{After-class_total-start}}
 use Rattle.gs_totals.proofs.places.place_ends.Goals as goal
 
 next : (c : After-class_total-start) → c.loop-end.start + c.class_total-start.result ≡ end_start (frame_of c.args.form.now) (lists_of c.args.form.now) (c.loop-end.end + 1)

@@ -1,9 +1,6 @@
 use Rattle.std.proofs.Common.{◌≡◌, ℕ, ◌+◌, ◌-◌, get_or, refl, sym, ap, ◌∙◌, subst, arith}
-use Rattle.gs_model.specs.Classes.{IsClass, class_count}
-use Rattle.gs_model.specs.Frame.{round_of}
-use Rattle.gs_model.specs.Positions.{at_point}
-use Rattle.gs_seq.specs.Abstracts.{frame_of, lists_of}
-use Rattle.gs_seq.specs.Slots.{slot_of}
+use Rattle.gs_model.specs.{Classes.{IsClass, class_count}, Frame.{round_of}, Positions.{at_point}}
+use Rattle.gs_seq.specs.{Abstracts.{frame_of, lists_of}, Slots.{slot_of}}
 use Rattle.gs_totals.proofs.renewing.agree_at.Goals as goal
 
 pub returns-then-first-second : goal.returns-then-first-second

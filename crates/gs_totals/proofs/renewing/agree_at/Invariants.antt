@@ -1,6 +1,5 @@
 use Rattle.std.proofs.Common.{◌≡◌, ℕ, ◌+◌, ◌<◌, get_or}
-use Rattle.gs_seq.specs.Abstracts.{frame_of, lists_of}
-use Rattle.gs_seq.specs.Slots.{slot_of}
+use Rattle.gs_seq.specs.{Abstracts.{frame_of, lists_of}, Slots.{slot_of}}
 use Rattle.gs_totals.proofs.renewing.agree_at.Given as goal
 
 abbrev pub invariant-loop-class : goal.invariant-loop-class

@@ -3,11 +3,8 @@ use Rattle.std.specs.Prelude.{pos}
 use Rattle.gs_model.specs.Frame.{end_count}
 use Rattle.gs_seq.specs.Payoffs.{end_classes}
 use Rattle.gs_best.proofs.Placed.{IsRow}
-use Rattle.gs_totals.specs.Places.{end_start}
-use Rattle.gs_totals.specs.Roles.{frame_in, lists_in}
-use Rattle.gs_totals.proofs.EndStarts.{end_starts_le, end_starts_more}
-use Rattle.gs_totals.proofs.PlacedRows.{paid_more, row_of_end}
-use Rattle.gs_totals.proofs.renewing.renew_all.Goals.{After-index}
+use Rattle.gs_totals.specs.{Places.{end_start}, Roles.{frame_in, lists_in}}
+use Rattle.gs_totals.proofs.{EndStarts.{end_starts_le, end_starts_more}, PlacedRows.{paid_more, row_of_end}, renewing.renew_all.Goals.{After-index}}
 use Rattle.gs_totals.proofs.renewing.renew_all.Goals as goal
 
 -- the row of the end at hand

@@ -1,12 +1,8 @@
 use Rattle.std.proofs.Common.{◌≡◌, ℕ, ◌+◌, ◌-◌, ◌<◌, ◌≤◌, get_or}
 use Rattle.std.specs.Prelude.{pos}
-use Rattle.gs_model.specs.Classes.{IsClass}
-use Rattle.gs_model.specs.Frame.{end_count, round_of}
-use Rattle.gs_model.specs.Positions.{at_end}
-use Rattle.gs_seq.specs.Payoffs.{end_sum}
-use Rattle.gs_seq.specs.Slots.{plan_of}
-use Rattle.gs_totals.specs.Places.{end_start}
-use Rattle.gs_totals.specs.Roles.{frame_in, lists_in, plan_in}
+use Rattle.gs_model.specs.{Classes.{IsClass}, Frame.{end_count, round_of}, Positions.{at_end}}
+use Rattle.gs_seq.specs.{Payoffs.{end_sum}, Slots.{plan_of}}
+use Rattle.gs_totals.specs.{Places.{end_start}, Roles.{frame_in, lists_in, plan_in}}
 use Rattle.gs_totals.proofs.renewing.renew_all.Given as goal
 
 abbrev pub invariant-loop-end : goal.invariant-loop-end

@@ -1,7 +1,6 @@
 use Rattle.std.proofs.Common.{sym, subst}
 use Rattle.gs_seq.specs.Slots.{plan_of}
-use Rattle.gs_totals.specs.Places.{AreEndSums}
-use Rattle.gs_totals.specs.Roles.{frame_in, lists_in, plan_in}
+use Rattle.gs_totals.specs.{Places.{AreEndSums}, Roles.{frame_in, lists_in, plan_in}}
 use Rattle.gs_totals.proofs.Slices.{kept_through}
 use Rattle.gs_totals.proofs.renewing.renew_ends.Goals as goal
 

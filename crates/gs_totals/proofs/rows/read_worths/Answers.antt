@@ -1,8 +1,6 @@
 use Rattle.std.proofs.Common.{sym, subst}
-use Rattle.gs_totals.specs.Roles.{frame_in, lists_in}
-use Rattle.gs_totals.specs.Rows.{IsLaterRow}
+use Rattle.gs_totals.specs.{Roles.{frame_in, lists_in}, Rows.{IsLaterRow}, PointRows.{totals_at}}
 use Rattle.gs_totals.proofs.Targets.{worths_by}
-use Rattle.gs_totals.specs.PointRows.{totals_at}
 use Rattle.gs_totals.proofs.rows.read_worths.Goals as goal
 
 pub read_row-requires-clause-row : goal.read_row-requires-clause-row

@@ -1,17 +1,12 @@
 use Rattle.std.proofs.Common.{◌≡◌, List, length, sym, ap, ◌∙◌, arith}
 use Rattle.std.specs.Prelude.{ℤ}
 use Rattle.gs_game.specs.Seen.{target_of}
-use Rattle.gs_model.specs.Classes.{class_count}
-use Rattle.gs_model.specs.Frame.{end_count, leads_to, point_count}
-use Rattle.gs_model.specs.Positions.{at_end, at_point}
+use Rattle.gs_model.specs.{Classes.{class_count}, Frame.{end_count, leads_to, point_count}, Positions.{at_end, at_point}}
 use Rattle.gs_seq.specs.Payoffs.{end_classes}
 use Rattle.gs_best.specs.Tables.{classes_at}
-use Rattle.gs_best.proofs.Placed.{IsRow}
-use Rattle.gs_best.proofs.Sides.{IsNextEnd, IsNextPoint, next_end, next_point}
+use Rattle.gs_best.proofs.{Placed.{IsRow}, Sides.{IsNextEnd, IsNextPoint, next_end, next_point}}
 use Rattle.gs_totals.specs.Roles.{frame_in, lists_in}
-use Rattle.gs_totals.proofs.PlacedRows.{end_row, point_row}
-use Rattle.gs_totals.proofs.PointRows.{held_at_end, held_at_point, later_row}
-use Rattle.gs_totals.proofs.Sides.{deviator}
+use Rattle.gs_totals.proofs.{PlacedRows.{end_row, point_row}, PointRows.{held_at_end, held_at_point, later_row}, Sides.{deviator}}
 use Rattle.gs_totals.proofs.rows.target_row.Goals.{In-Point, In-End, After-index, After-index-in-End}
 use Rattle.gs_totals.proofs.rows.target_row.Goals as goal
 

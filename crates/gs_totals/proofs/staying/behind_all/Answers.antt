@@ -1,12 +1,10 @@
-use Rattle.std.proofs.Common.{ℕ, ◌+◌, ◌<◌, ◌≤◌, get_or, sym, subst, arith, rules}
-use Rattle.std.specs.Prelude.{pos, nat_lt}
-use Rattle.std.specs.Int.RustNames.{FitsSigned}
-use Rattle.std.proofs.lemmas.Int.{to_z-of_z}
+use Rattle.std.proofs.{Common.{ℕ, ◌+◌, ◌<◌, ◌≤◌, get_or, sym, subst, arith, rules}, lemmas.Int.{to_z-of_z}}
+use Rattle.std.specs.{Prelude.{pos, nat_lt}, Int.RustNames.{FitsSigned}}
 use mir.Syntax.{w128}
 use Rattle.gs_totals.specs.Lasting.{AreBehind}
 use Rattle.gs_totals.proofs.Behind.{BehindAt, behind_fewer, behind_more, behind_same, greatest_with}
-use Rattle.gs_totals.proofs.staying.behind_all.Goals as goal
 use Rattle.gs_totals.proofs.staying.behind_all.Goals.{then-pick-choice, else-pick-choice}
+use Rattle.gs_totals.proofs.staying.behind_all.Goals as goal
 
 pub loop-class-preserved : goal.loop-class-preserved
 loop-class-preserved c =

@@ -1,12 +1,8 @@
-use Rattle.std.proofs.Common.{◌≡◌, ℕ, ◌+◌, ◌<◌, sym, ◌∙◌, subst, arith, ⊎_elim}
-use Rattle.std.proofs.lemmas.Bool.{cases_eq}
+use Rattle.std.proofs.{Common.{◌≡◌, ℕ, ◌+◌, ◌<◌, sym, ◌∙◌, subst, arith, ⊎_elim}, lemmas.Bool.{cases_eq}}
 use Rattle.gs_model.specs.Frame.{player_at, point_count}
-use Rattle.gs_totals.specs.Courses.{LastsAt}
-use Rattle.gs_totals.specs.Roles.{frame_in, lists_in}
-use Rattle.gs_totals.specs.Room.{HasScratch}
-use Rattle.gs_totals.proofs.Behind.{greatest_with, lasts_less}
+use Rattle.gs_totals.specs.{Courses.{LastsAt}, Roles.{frame_in, lists_in}, Room.{HasScratch}}
+use Rattle.gs_totals.proofs.{Behind.{greatest_with, lasts_less}, staying.lasting.Goals.{then-chooser-course, else-chooser-course}}
 use Rattle.gs_totals.proofs.staying.lasting.Goals as goal
-use Rattle.gs_totals.proofs.staying.lasting.Goals.{then-chooser-course, else-chooser-course}
 
 pub loop-point-preserved : goal.loop-point-preserved
 loop-point-preserved c =

@@ -1,8 +1,6 @@
 use Rattle.std.proofs.Common.{◌≡◌, ℕ, ◌+◌, ◌<◌, ◌≤◌}
 use Rattle.gs_model.specs.Frame.{player_at}
-use Rattle.gs_totals.specs.Courses.{LastsAt}
-use Rattle.gs_totals.specs.Roles.{frame_in, lists_in}
-use Rattle.gs_totals.specs.Room.{HasScratch}
+use Rattle.gs_totals.specs.{Courses.{LastsAt}, Roles.{frame_in, lists_in}, Room.{HasScratch}}
 use Rattle.gs_totals.proofs.staying.lasting.Given as goal
 
 abbrev pub invariant-loop-point : goal.invariant-loop-point

@@ -1,10 +1,7 @@
-use Rattle.std.proofs.Common.{◌≡◌, ℕ, ◌+◌, ◌<◌, sym, subst, arith, ⊎_elim}
-use Rattle.std.proofs.lemmas.Bool.{cases_eq}
+use Rattle.std.proofs.{Common.{◌≡◌, ℕ, ◌+◌, ◌<◌, sym, subst, arith, ⊎_elim}, lemmas.Bool.{cases_eq}}
 use Rattle.gs_model.specs.Frame.{move_count}
-use Rattle.gs_totals.specs.Courses.{StaysBehind}
-use Rattle.gs_totals.specs.Roles.{frame_in, lists_in}
-use Rattle.gs_totals.proofs.Behind.{greatest_with, lasts_by, stays_by, stays_less}
-use Rattle.gs_totals.proofs.Slices.{wide_through}
+use Rattle.gs_totals.specs.{Courses.{StaysBehind}, Roles.{frame_in, lists_in}}
+use Rattle.gs_totals.proofs.{Behind.{greatest_with, lasts_by, stays_by, stays_less}, Slices.{wide_through}}
 use Rattle.gs_totals.proofs.staying.lasting_point.Goals as goal
 
 pub loop-choice-preserved : goal.loop-choice-preserved

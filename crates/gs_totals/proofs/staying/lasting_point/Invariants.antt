@@ -1,7 +1,5 @@
 use Rattle.std.proofs.Common.{ℕ, ◌+◌, ◌<◌, ◌≤◌}
-use Rattle.gs_totals.specs.Courses.{StaysBehind}
-use Rattle.gs_totals.specs.Roles.{frame_in, lists_in}
-use Rattle.gs_totals.specs.Room.{HasScratch}
+use Rattle.gs_totals.specs.{Courses.{StaysBehind}, Roles.{frame_in, lists_in}, Room.{HasScratch}}
 use Rattle.gs_totals.proofs.staying.lasting_point.Given as goal
 
 abbrev pub invariant-loop-choice : goal.invariant-loop-choice

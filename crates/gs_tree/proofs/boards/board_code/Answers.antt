@@ -1,13 +1,10 @@
 use Rattle.std.proofs.Common.{◌≡◌, ◌+◌, ◌*◌, ◌<◌, ◌≤◌, ℕ, List, All, arith, length, drop, take, refl, sym, ap, ◌∙◌, subst}
 use Rattle.gs_card.specs.Decks.{DeckValue, kinds}
 use Rattle.gs_game.specs.Games.{game_of}
-use Rattle.gs_model.specs.Game.{Game, round_count}
-use Rattle.gs_model.specs.Signals.{public_cards, signal_at}
+use Rattle.gs_model.specs.{Game.{Game, round_count}, Signals.{public_cards, signal_at}}
 use Rattle.gs_tree.specs.Boards.{code_behind}
-use Rattle.gs_tree.proofs.Coded.{shown_board}
-use Rattle.gs_tree.proofs.Parts.{public_part, public_room}
+use Rattle.gs_tree.proofs.{Coded.{shown_board}, Parts.{public_part, public_room}, boards.board_code.Goals.{After-part}}
 use Rattle.gs_tree.proofs.boards.board_code.Goals as goal
-use Rattle.gs_tree.proofs.boards.board_code.Goals.{After-part}
 
 pub part-requires : goal.part-requires
 part-requires c =

@@ -1,9 +1,7 @@
-use Rattle.std.proofs.Common.{◌≡◌, ◌+◌, ◌*◌, ◌≤◌, ℕ, List, [], ◌∷◌, ◌++◌, take, take_all, sym, ap, ◌∙◌, arith}
-use Rattle.std.proofs.lemmas.List.{take_more}
+use Rattle.std.proofs.{Common.{◌≡◌, ◌+◌, ◌*◌, ◌≤◌, ℕ, List, [], ◌∷◌, ◌++◌, take, take_all, sym, ap, ◌∙◌, arith}, lemmas.List.{take_more}}
 use Rattle.gs_tree.specs.Boards.{code_behind}
-use Rattle.gs_tree.proofs.Coded.{code_fits, code_push}
+use Rattle.gs_tree.proofs.{Coded.{code_fits, code_push}, boards.code.Goals.{In-loop-card}}
 use Rattle.gs_tree.proofs.boards.code.Goals as goal
-use Rattle.gs_tree.proofs.boards.code.Goals.{In-loop-card}
 use Rattle.gs_model.proofs.Basics.{product_le}
 
 -- the code so far leaves room for one more card

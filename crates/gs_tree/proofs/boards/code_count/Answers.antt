@@ -1,5 +1,4 @@
-use Rattle.std.proofs.Common.{◌≡◌, ◌+◌, ◌*◌, ◌^◌, ◌≤◌, suc, sym, ap, ◌∙◌, arith}
-use Rattle.std.proofs.Math.Nat.{pow-suc}
+use Rattle.std.proofs.{Common.{◌≡◌, ◌+◌, ◌*◌, ◌^◌, ◌≤◌, suc, sym, ap, ◌∙◌, arith}, Math.Nat.{pow-suc}}
 use Rattle.gs_tree.proofs.Coded.{power_small}
 use Rattle.gs_tree.proofs.boards.code_count.Goals as goal
 use Rattle.gs_model.proofs.Basics.{product_le}

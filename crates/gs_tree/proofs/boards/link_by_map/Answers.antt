@@ -2,13 +2,10 @@ use Rattle.std.proofs.Common.{◌≡◌, suc, ◌+◌, ℕ, List, Option, Some, 
 use Rattle.std.specs.Prelude.{nat_eq}
 use lib.Pointwise.{pointwise}
 use Rattle.gs_game.specs.Games.{game_of}
-use Rattle.gs_model.specs.Game.{Game, round_count}
-use Rattle.gs_model.specs.Signals.{public_cards, signal_at}
+use Rattle.gs_model.specs.{Game.{Game, round_count}, Signals.{public_cards, signal_at}}
 use Rattle.gs_tree.specs.Walk.{last_count}
-use Rattle.gs_tree.proofs.Linked.{are_boards, last_in, last_place, linked_more}
-use Rattle.gs_tree.proofs.Parts.{paths_long}
+use Rattle.gs_tree.proofs.{Linked.{are_boards, last_in, last_place, linked_more}, Parts.{paths_long}, boards.link_by_map.Goals.{After-len-count}}
 use Rattle.gs_tree.proofs.boards.link_by_map.Goals as goal
-use Rattle.gs_tree.proofs.boards.link_by_map.Goals.{After-len-count}
 
 -- a place for each signal
 counted : (c : After-len-count) → c.len-count.result ≡ last_count (game_of c.args.game.now)

@@ -1,11 +1,8 @@
 use Rattle.std.proofs.Common.{◌≡◌, ℕ}
-use Rattle.std.specs.HashMap.{get}
-use Rattle.std.specs.Global.{Vec}
-use Rattle.std.specs.Prelude.{nat_eq}
+use Rattle.std.specs.{HashMap.{get}, Global.{Vec}, Prelude.{nat_eq}}
 use lib.Pointwise.{pointwise}
 use Rattle.gs_game.specs.Games.{game_of}
-use Rattle.gs_model.specs.Game.{round_count}
-use Rattle.gs_model.specs.Signals.{public_cards, signal_at}
+use Rattle.gs_model.specs.{Game.{round_count}, Signals.{public_cards, signal_at}}
 use Rattle.gs_tree.proofs.Linked.{AreBegun, last_place}
 use Rattle.gs_tree.proofs.boards.link_by_map.Given as goal
 

@@ -1,14 +1,12 @@
 use Rattle.std.proofs.Common.{◌≡◌, ◌+◌, ◌<◌, ◌^◌, ℕ, List, set, length, refl, sym, ap, ◌∙◌, subst, arith}
 use Rattle.gs_card.specs.Decks.{kinds}
 use Rattle.gs_game.specs.Games.{game_of}
-use Rattle.gs_model.specs.Game.{Game, round_count}
-use Rattle.gs_model.specs.Signals.{public_cards, signal_at}
+use Rattle.gs_model.specs.{Game.{Game, round_count}, Signals.{public_cards, signal_at}}
 use Rattle.gs_tree.specs.Walk.{last_count}
 use Rattle.gs_tree.proofs.Coded.{IsBoardOf, IsTableOf, board_in, none_in_table, shown_board, table_more, table_read}
-use Rattle.gs_tree.proofs.Linked.{are_boards, last_in, last_place, linked_more, start_linked}
-use Rattle.gs_tree.proofs.Parts.{paths_long}
-use Rattle.gs_tree.proofs.boards.link_by_table.Goals as goal
+use Rattle.gs_tree.proofs.{Linked.{are_boards, last_in, last_place, linked_more, start_linked}, Parts.{paths_long}}
 use Rattle.gs_tree.proofs.boards.link_by_table.Goals.{After-board_code-code, After-len-count, After-seen_last-before, In-loop-signal}
+use Rattle.gs_tree.proofs.boards.link_by_table.Goals as goal
 
 -- the public cards of a signal
 abbrev board : Game → ℕ → List ℕ

@@ -1,9 +1,7 @@
 use Rattle.gs_card.specs.Decks.{kinds}
 use Rattle.gs_game.specs.Games.{game_of}
-use Rattle.gs_model.specs.Game.{round_count}
-use Rattle.gs_model.specs.Signals.{public_cards, signal_at}
-use Rattle.gs_tree.proofs.Coded.{IsTableOf}
-use Rattle.gs_tree.proofs.Linked.{AreBegun}
+use Rattle.gs_model.specs.{Game.{round_count}, Signals.{public_cards, signal_at}}
+use Rattle.gs_tree.proofs.{Coded.{IsTableOf}, Linked.{AreBegun}}
 use Rattle.gs_tree.proofs.boards.link_by_table.Given as goal
 
 abbrev pub invariant-loop-signal : goal.invariant-loop-signal

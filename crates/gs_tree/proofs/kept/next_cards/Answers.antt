@@ -1,20 +1,12 @@
 use Rattle.std.proofs.Common.{◌≡◌, ◌*◌, ◌<◌, ◌++◌, ℕ, List, [], suc, length, map, drop, take, take_all, get_or, slice_index, refl, sym, ap, ◌∙◌, subst, append_assoc, arith}
+use Rattle.std.proofs.{lemmas.Grind.{get_or_default_zero}, lemmas.List.{length-map}}
 use Rattle.std.specs.Prelude.{flat_map, IfOk}
-use Rattle.std.proofs.lemmas.Grind.{get_or_default_zero}
-use Rattle.std.proofs.lemmas.List.{length-map}
-use Rattle.gs_game.specs.Games.{game_of, round_of}
-use Rattle.gs_game.specs.declared.game.Round.{Round}
-use Rattle.gs_model.specs.Game.{Game}
-use Rattle.gs_model.specs.Signals.{Seen, Signal, signal_at, signals}
-use Rattle.gs_tree.specs.Layers.{last_seen}
-use Rattle.gs_tree.specs.Shown.{cards_on, seen_of, seen_on}
-use Rattle.gs_tree.specs.declared.layer.Shown.{Shown}
-use Rattle.gs_tree.proofs.Parts.{kept_long, kept_part, kept_room}
-use Rattle.gs_tree.proofs.Pushed.{joined_more}
-use Rattle.gs_tree.proofs.Rounds.{IsTold, layer_long, row_covers, row_is_long, told, told_at}
-use Rattle.gs_tree.proofs.Sides.{alone, hand_on, parents_alone, shows_many}
+use Rattle.gs_game.specs.{Games.{game_of, round_of}, declared.game.Round.{Round}}
+use Rattle.gs_model.specs.{Game.{Game}, Signals.{Seen, Signal, signal_at, signals}}
+use Rattle.gs_tree.specs.{Layers.{last_seen}, Shown.{cards_on, seen_of, seen_on}, declared.layer.Shown.{Shown}}
+use Rattle.gs_tree.proofs.{Parts.{kept_long, kept_part, kept_room}, Pushed.{joined_more}, Rounds.{IsTold, layer_long, row_covers, row_is_long, told, told_at}}
+use Rattle.gs_tree.proofs.{Sides.{alone, hand_on, parents_alone, shows_many}, kept.next_cards.Goals.{After-cards_shown-more, After-index-in-loop-signal}}
 use Rattle.gs_tree.proofs.kept.next_cards.Goals as goal
-use Rattle.gs_tree.proofs.kept.next_cards.Goals.{After-cards_shown-more, After-index-in-loop-signal}
 
 -- each signal shows so many cards more
 shows_more : (c : After-cards_shown-more) (i : ℕ) → i < length (signals (game_of c.args.game.now) (suc c.args.round)) → length (seen_on c.args.side (last_seen (signal_at (game_of c.args.game.now) (suc c.args.round) i))) ≡ c.cards_shown-more.result

@@ -1,13 +1,9 @@
-use Rattle.std.proofs.Common.{◌≡◌, ◌*◌, ◌<◌, ℕ, List, [], suc, length, get_or, sym, ap, ◌∙◌, arith}
-use Rattle.std.proofs.lemmas.List.{get_or-map, length-map}
+use Rattle.std.proofs.{Common.{◌≡◌, ◌*◌, ◌<◌, ℕ, List, [], suc, length, get_or, sym, ap, ◌∙◌, arith}, lemmas.List.{get_or-map, length-map}}
 use Rattle.gs_game.specs.Games.{game_of}
-use Rattle.gs_model.specs.Deals.{path_weight}
-use Rattle.gs_model.specs.Game.{Game}
-use Rattle.gs_model.specs.Signals.{signal_at, signals}
-use Rattle.gs_tree.proofs.Pushed.{mapped_more}
-use Rattle.gs_tree.proofs.Rounds.{IsTold, layer_long, one_way, path_fits, row_covers, told_at}
-use Rattle.gs_tree.proofs.kept.next_paths.Goals as goal
+use Rattle.gs_model.specs.{Deals.{path_weight}, Game.{Game}, Signals.{signal_at, signals}}
+use Rattle.gs_tree.proofs.{Pushed.{mapped_more}, Rounds.{IsTold, layer_long, one_way, path_fits, row_covers, told_at}}
 use Rattle.gs_tree.proofs.kept.next_paths.Goals.{After-index-in-loop-signal, After-of-path, In-loop-signal}
+use Rattle.gs_tree.proofs.kept.next_paths.Goals as goal
 
 -- the signal is one of the layer
 within : (c : In-loop-signal) → c.loop-signal.signal < length c.index.result.now.shown.items

@@ -1,7 +1,6 @@
 use Rattle.std.proofs.Common.{◌≡◌, suc, map, take}
 use Rattle.gs_game.specs.Games.{game_of}
-use Rattle.gs_model.specs.Deals.{path_weight}
-use Rattle.gs_model.specs.Signals.{signals}
+use Rattle.gs_model.specs.{Deals.{path_weight}, Signals.{signals}}
 use Rattle.gs_tree.proofs.kept.next_paths.Given as goal
 
 abbrev pub invariant-loop-signal : goal.invariant-loop-signal

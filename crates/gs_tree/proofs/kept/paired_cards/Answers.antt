@@ -1,18 +1,12 @@
 use Rattle.std.proofs.Common.{◌≡◌, ◌<◌, ◌++◌, ◌∷◌, ℕ, List, [], suc, length, take_all, get_or, ap, ◌∙◌, append_assoc, arith}
-use Rattle.std.specs.Prelude.{flat_map}
 use Rattle.std.proofs.lemmas.Grind.{get_or_default_zero}
+use Rattle.std.specs.Prelude.{flat_map}
 use Rattle.gs_game.specs.Games.{game_of}
-use Rattle.gs_model.specs.Game.{Game}
-use Rattle.gs_model.specs.Signals.{Seen, Signal, signal_at, signals}
-use Rattle.gs_tree.specs.Layers.{last_seen}
-use Rattle.gs_tree.specs.Shown.{cards_on, seen_of, seen_on}
-use Rattle.gs_tree.specs.declared.layer.Shown.{Shown}
-use Rattle.gs_tree.proofs.Parts.{kept_long, kept_part}
-use Rattle.gs_tree.proofs.Pushed.{joined_more}
-use Rattle.gs_tree.proofs.Rounds.{IsTold, layer_long, row_covers, shown_at, told_at}
-use Rattle.gs_tree.proofs.Sides.{paired}
-use Rattle.gs_tree.proofs.kept.paired_cards.Goals as goal
+use Rattle.gs_model.specs.{Game.{Game}, Signals.{Seen, Signal, signal_at, signals}}
+use Rattle.gs_tree.specs.{Layers.{last_seen}, Shown.{cards_on, seen_of, seen_on}, declared.layer.Shown.{Shown}}
+use Rattle.gs_tree.proofs.{Parts.{kept_long, kept_part}, Pushed.{joined_more}, Rounds.{IsTold, layer_long, row_covers, shown_at, told_at}, Sides.{paired}}
 use Rattle.gs_tree.proofs.kept.paired_cards.Goals.{After-index-in-loop-signal, After-on}
+use Rattle.gs_tree.proofs.kept.paired_cards.Goals as goal
 
 -- what the tables tell of the signal
 known : (c : After-index-in-loop-signal) → IsTold (game_of c.args.game.now) c.args.round c.loop-signal.signal c.index-in-loop-signal.result.now c.index-parents.result.now.items c.index.result.now

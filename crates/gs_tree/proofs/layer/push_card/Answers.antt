@@ -1,9 +1,6 @@
-use Rattle.std.proofs.Common.{◌≡◌, ◌<◌, ◌++◌, ◌∷◌, ◌*◌, ◌∙◌, [], ℕ, List, ap, arith, get_or, map, refl, sym}
-use Rattle.std.proofs.lemmas.List.{map-append}
+use Rattle.std.proofs.{Common.{◌≡◌, ◌<◌, ◌++◌, ◌∷◌, ◌*◌, ◌∙◌, [], ℕ, List, ap, arith, get_or, map, refl, sym}, lemmas.List.{map-append}}
 use Rattle.gs_model.specs.Cards.{ways}
-use Rattle.gs_tree.specs.Layers.{showing}
-use Rattle.gs_tree.specs.Shown.{cards_of, seen_of}
-use Rattle.gs_tree.specs.declared.layer.Shown.{Shown}
+use Rattle.gs_tree.specs.{Layers.{showing}, Shown.{cards_of, seen_of}, declared.layer.Shown.{Shown}}
 use Rattle.gs_tree.proofs.OneCard.{ways_card, with_some}
 use Rattle.gs_tree.proofs.layer.push_card.Goals as goal
 

@@ -1,7 +1,6 @@
 use Rattle.std.proofs.Common.{◌≡◌, ◌++◌, ◌*◌, map}
 use Rattle.gs_model.specs.Cards.{ways}
-use Rattle.gs_tree.specs.Layers.{showing}
-use Rattle.gs_tree.specs.Shown.{cards_of, seen_of}
+use Rattle.gs_tree.specs.{Layers.{showing}, Shown.{cards_of, seen_of}}
 use Rattle.gs_tree.proofs.OneCard.{cards_to}
 use Rattle.gs_tree.proofs.layer.push_cards.Given as goal
 

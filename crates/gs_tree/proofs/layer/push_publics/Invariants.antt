@@ -1,7 +1,6 @@
 use Rattle.std.proofs.Common.{◌≡◌, ◌++◌, ◌*◌, map, take}
 use Rattle.gs_model.specs.Cards.{groups, ways}
-use Rattle.gs_tree.specs.Layers.{showing}
-use Rattle.gs_tree.specs.Shown.{cards_of, seen_of}
+use Rattle.gs_tree.specs.{Layers.{showing}, Shown.{cards_of, seen_of}}
 use Rattle.gs_tree.proofs.layer.push_publics.Given as goal
 
 abbrev pub invariant-loop-public : goal.invariant-loop-public

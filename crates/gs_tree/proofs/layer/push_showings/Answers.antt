@@ -1,9 +1,7 @@
 use Rattle.std.proofs.Common.{◌≡◌, ◌++◌, ◌*◌, ℕ, List, map, length, ◌<◌, ◌≤◌, get_or, take_all, ap, sym, ◌∙◌, arith}
 use Rattle.std.specs.Prelude.{flat_map}
-use Rattle.gs_model.specs.Cards.{groups, ways, left_after}
-use Rattle.gs_model.specs.Signals.{Seen}
-use Rattle.gs_tree.specs.Layers.{showing}
-use Rattle.gs_tree.specs.Shown.{seen_of, cards_of}
+use Rattle.gs_model.specs.{Cards.{groups, ways, left_after}, Signals.{Seen}}
+use Rattle.gs_tree.specs.{Layers.{showing}, Shown.{seen_of, cards_of}}
 use Rattle.gs_tree.proofs.Pushed.{joined_more, edges_of}
 use Rattle.gs_tree.proofs.layer.push_showings.Goals as goal
 

@@ -1,8 +1,7 @@
 use Rattle.std.proofs.Common.{◌≡◌, ◌++◌, ◌*◌, map, take}
 use Rattle.std.specs.Prelude.{flat_map}
 use Rattle.gs_model.specs.Cards.{groups, ways, left_after}
-use Rattle.gs_tree.specs.Layers.{showing}
-use Rattle.gs_tree.specs.Shown.{seen_of}
+use Rattle.gs_tree.specs.{Layers.{showing}, Shown.{seen_of}}
 use Rattle.gs_tree.proofs.layer.push_showings.Given as goal
 
 abbrev pub invariant-loop-own : goal.invariant-loop-own

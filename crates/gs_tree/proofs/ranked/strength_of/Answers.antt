@@ -1,15 +1,10 @@
 use Rattle.std.proofs.Common.{◌≡◌, ◌+◌, ◌*◌, ◌≤◌, ℕ, List, length, drop, take, sym, ap, ◌∙◌, subst}
-use Rattle.gs_card.specs.Decks.{DeckValue}
-use Rattle.gs_card.specs.Rankings.{ranking_of}
+use Rattle.gs_card.specs.{Decks.{DeckValue}, Rankings.{ranking_of}}
 use Rattle.gs_game.specs.Games.{game_of}
-use Rattle.gs_model.specs.Game.{Game, round_count}
-use Rattle.gs_model.specs.Outcome.{strength}
-use Rattle.gs_model.specs.Signals.{signal_at, own_cards, public_cards}
+use Rattle.gs_model.specs.{Game.{Game, round_count}, Outcome.{strength}, Signals.{signal_at, own_cards, public_cards}}
 use Rattle.gs_rank.specs.Hands.{IsHand}
-use Rattle.gs_tree.proofs.Hands.{is_hand}
-use Rattle.gs_tree.proofs.Parts.{own_part, own_room, public_part, public_room}
+use Rattle.gs_tree.proofs.{Hands.{is_hand}, Parts.{own_part, own_room, public_part, public_room}, ranked.strength_of.Goals.{After-part-own, After-part-public}}
 use Rattle.gs_tree.proofs.ranked.strength_of.Goals as goal
-use Rattle.gs_tree.proofs.ranked.strength_of.Goals.{After-part-own, After-part-public}
 
 pub part-own-requires : goal.part-own-requires
 part-own-requires c =

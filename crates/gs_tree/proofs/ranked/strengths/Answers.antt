@@ -1,15 +1,11 @@
-use Rattle.std.proofs.Common.{◌≡◌, [], ◌<◌, ℕ, List, length, sym, ◌∙◌, subst, arith}
+use Rattle.std.proofs.{Common.{◌≡◌, [], ◌<◌, ℕ, List, length, sym, ◌∙◌, subst, arith}, lemmas.List.Elements.{All-push}}
 use Rattle.std.specs.Prelude.{All}
-use Rattle.std.proofs.lemmas.List.Elements.{All-push}
 use Rattle.gs_card.specs.Rankings.{ranking_of}
 use Rattle.gs_rank.specs.Hands.{IsStrength}
 use Rattle.gs_game.specs.Games.{game_of}
-use Rattle.gs_model.specs.Game.{Game, round_count}
-use Rattle.gs_model.specs.Signals.{Signal, signals}
-use Rattle.gs_model.specs.ViewTree.{signal_strength}
+use Rattle.gs_model.specs.{Game.{Game, round_count}, Signals.{Signal, signals}, ViewTree.{signal_strength}}
 use Rattle.gs_tree.specs.Walk.{last_count}
-use Rattle.gs_tree.proofs.Parts.{paths_long}
-use Rattle.gs_tree.proofs.Pushed.{mapped_more}
+use Rattle.gs_tree.proofs.{Parts.{paths_long}, Pushed.{mapped_more}}
 use Rattle.gs_tree.proofs.ranked.strengths.Goals as goal
 
 pub strength_of-requires-clause-signal_in : goal.strength_of-requires-clause-signal_in

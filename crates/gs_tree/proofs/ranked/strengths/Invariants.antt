@@ -2,9 +2,7 @@ use Rattle.std.proofs.Common.{◌≡◌, All, map, take}
 use Rattle.gs_card.specs.Rankings.{ranking_of}
 use Rattle.gs_rank.specs.Hands.{IsStrength}
 use Rattle.gs_game.specs.Games.{game_of}
-use Rattle.gs_model.specs.Game.{round_count}
-use Rattle.gs_model.specs.Signals.{signals}
-use Rattle.gs_model.specs.ViewTree.{signal_strength}
+use Rattle.gs_model.specs.{Game.{round_count}, Signals.{signals}, ViewTree.{signal_strength}}
 use Rattle.gs_tree.proofs.ranked.strengths.Given as goal
 
 abbrev pub invariant-loop-signal : goal.invariant-loop-signal

@@ -1,13 +1,9 @@
 use Rattle.std.proofs.Common.{◌≡◌, ◌++◌, ◌∷◌, [], ◌-◌, ℕ, List, None, Option, Some, Bor, sym, subst, arith}
 use Rattle.gs_card.specs.Decks.{DeckValue, kinds}
 use Rattle.gs_game.specs.Games.{game_of}
-use Rattle.gs_model.specs.Game.{Game}
-use Rattle.gs_model.specs.Signals.{signal_at}
-use Rattle.gs_tree.specs.Layers.{last_seen}
-use Rattle.gs_tree.specs.Shown.{seen_of}
-use Rattle.gs_tree.specs.Texts.{IsRest, signal_text, seen_text}
-use Rattle.gs_tree.proofs.Lookups.{IsParent, IsSeen, parent_is, row_within, seen_read, shown_first}
-use Rattle.gs_tree.proofs.Rests.{rest_both, rest_none, text_grown}
+use Rattle.gs_model.specs.{Game.{Game}, Signals.{signal_at}}
+use Rattle.gs_tree.specs.{Layers.{last_seen}, Shown.{seen_of}, Texts.{IsRest, signal_text, seen_text}}
+use Rattle.gs_tree.proofs.{Lookups.{IsParent, IsSeen, parent_is, row_within, seen_read, shown_first}, Rests.{rest_both, rest_none, text_grown}}
 use Rattle.gs_tree.proofs.reading.+after_signal.Goals as goal
 use Rattle.gs_tree.proofs.reading.+after_signal.Goals.{After-index-parent, After-index-shown}
 

@@ -1,10 +1,8 @@
 use Rattle.std.proofs.Common.{◌++◌, [], ◌∷◌, ℕ, List, None, Option, Bor, subst, sym}
 use Rattle.gs_card.specs.Decks.{DeckValue}
-use Rattle.gs_tree.specs.Shown.{cards_of, seen_of}
-use Rattle.gs_tree.specs.Texts.{IsRest, group_text, public_text, seen_text}
-use Rattle.gs_tree.proofs.Rests.{public_shown, rest_both, rest_none}
+use Rattle.gs_tree.specs.{Shown.{cards_of, seen_of}, Texts.{IsRest, group_text, public_text, seen_text}}
+use Rattle.gs_tree.proofs.{Rests.{public_shown, rest_both, rest_none}, reading.after_seen.Goals.{Else-is_empty}}
 use Rattle.gs_tree.proofs.reading.after_seen.Goals as goal
-use Rattle.gs_tree.proofs.reading.after_seen.Goals.{Else-is_empty}
 
 -- what is behind the groups is behind what the signal shows
 seen : (c : Else-is_empty) (o : Option (Bor (List ℕ))) → let d = c.args.deck.now in

@@ -1,5 +1,4 @@
-use Rattle.std.proofs.Common.{[], sym, ◌∙◌, append-nil}
-use Rattle.std.proofs.lemmas.Bool.{true≢false}
+use Rattle.std.proofs.{Common.{[], sym, ◌∙◌, append-nil}, lemmas.Bool.{true≢false}}
 use Rattle.gs_game.specs.Games.{game_of}
 use Rattle.gs_model.specs.Signals.{signal_at}
 use Rattle.gs_tree.specs.Texts.{signal_text}

@@ -2,8 +2,7 @@ use Rattle.std.proofs.Common.{◌≡◌, ◌-◌, ◌<◌, ◌≤◌, ℕ, List,
 use Rattle.gs_model.specs.Cards.{left_after}
 use Rattle.gs_model.proofs.Listed.{length-after}
 use Rattle.gs_card.proofs.TakenCards.{ways_more, few_ways, ways-none}
-use Rattle.gs_tree.proofs.Beside.{beside_read}
-use Rattle.gs_tree.proofs.Paths.{at_three, few_product}
+use Rattle.gs_tree.proofs.{Beside.{beside_read}, Paths.{at_three, few_product}}
 use Rattle.gs_tree.proofs.tables.ways_beside.Goals as goal
 
 pub loop-i-init : goal.loop-i-init

@@ -1,9 +1,6 @@
-use Rattle.std.proofs.Common.{◌∙◌, [], ◌∷◌, true, codes, ap, subst, sym}
+use Rattle.std.proofs.{Common.{◌∙◌, [], ◌∷◌, true, codes, ap, subst, sym}, lemmas.Result.{IfOk-weaker}}
 use Rattle.std.specs.Prelude.{IfOk}
-use Rattle.std.proofs.lemmas.Result.{IfOk-weaker}
-use Rattle.gs_words.specs.Commands.{command_word, required, summary}
-use Rattle.gs_words.specs.Program.{Is, app_for, with_options}
-use Rattle.gs_words.specs.declared.names.CommandName.{CommandName}
+use Rattle.gs_words.specs.{Commands.{command_word, required, summary}, Program.{Is, app_for, with_options}, declared.names.CommandName.{CommandName}}
 use Rattle.gs_words.proofs.Added.{with_one}
 use Rattle.gs_words.proofs.command.command_for.Goals as goal
 

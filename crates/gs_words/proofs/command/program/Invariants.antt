@@ -1,6 +1,5 @@
 use Rattle.std.proofs.Common.{◌≡◌, take}
-use Rattle.gs_words.specs.Commands.{commands}
-use Rattle.gs_words.specs.Program.{Is, with_commands}
+use Rattle.gs_words.specs.{Commands.{commands}, Program.{Is, with_commands}}
 use Rattle.gs_words.proofs.command.program.Given as goal
 
 abbrev pub invariant-loop-name : goal.invariant-loop-name

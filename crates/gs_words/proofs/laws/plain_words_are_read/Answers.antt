@@ -1,6 +1,5 @@
 use Rattle.std.proofs.Common.{[], ◌∷◌, codes, refl}
-use Rattle.gs_words.specs.Plain.{flagged, valued}
-use Rattle.gs_words.specs.declared.names.CommandName.TheVariants.{Check}
+use Rattle.gs_words.specs.{Plain.{flagged, valued}, declared.names.CommandName.TheVariants.{Check}}
 use Rattle.gs_words.proofs.Plain.{plain_meant, plain_read}
 use Rattle.gs_words.proofs.laws.plain_words_are_read.Goals as goal
 

@@ -1,6 +1,5 @@
 use Rattle.std.proofs.Common.{◌≡◌, drop}
-use Rattle.std.specs.Prelude.{find}
-use Rattle.std.specs.Str.{bytes_eq}
+use Rattle.std.specs.{Prelude.{find}, Str.{bytes_eq}}
 use Rattle.gs_words.specs.Commands.{command_word}
 use Rattle.gs_words.proofs.names.named_in.Given as goal
 

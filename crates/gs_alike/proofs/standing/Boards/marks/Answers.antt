@@ -1,19 +1,13 @@
 use Rattle.std.proofs.Common.{◌≡◌, ◌≤◌, ◌<◌, ◌∙◌, ◌++◌, ℕ, List, ap, arith, drop, get_or, length, replicate, rules, subst, sym, take}
-use Rattle.std.specs.List.{All}
 use Rattle.std.proofs.lemmas.List.Elements.{All-nil}
-use Rattle.gs_model.specs.Game.{Game, round_count}
-use Rattle.gs_model.specs.Signals.{signals}
-use Rattle.gs_tree.specs.Trees.{rules_of}
-use Rattle.gs_tree.specs.Walk.{last_count}
-use Rattle.gs_alike.specs.Firsts.{AreMarks}
-use Rattle.gs_alike.specs.Boards.{signals_in}
-use Rattle.gs_alike.specs.Hands.{AreHands, IsKindOf}
-use Rattle.gs_alike.specs.declared.board.Board.{Board}
-use Rattle.gs_alike.specs.declared.board.Seat.{Seat}
+use Rattle.std.specs.List.{All}
+use Rattle.gs_model.specs.{Game.{Game, round_count}, Signals.{signals}}
+use Rattle.gs_tree.specs.{Trees.{rules_of}, Walk.{last_count}}
+use Rattle.gs_alike.specs.{Firsts.{AreMarks}, Boards.{signals_in}, Hands.{AreHands, IsKindOf}, declared.board.Board.{Board}, declared.board.Seat.{Seat}}
 use Rattle.gs_alike.specs.declared.kinds.Kind.{Kind}
 use Rattle.gs_alike.proofs.Marked.{IsKnown, MayMark, known_after, like_known, marks_after, may_read, unmarked, whole}
-use Rattle.gs_alike.proofs.standing.Boards.marks.Goals as goal
 use Rattle.gs_alike.proofs.standing.Boards.marks.Goals.{After-index-like, In_ok-kind}
+use Rattle.gs_alike.proofs.standing.Boards.marks.Goals as goal
 
 -- the kinds are those of boards, the new one too
 known : (c : In_ok-kind) → All (IsKnown c.args.self.now.list.items c.args.keys.now) c.kind_of.new.kinds.list.items

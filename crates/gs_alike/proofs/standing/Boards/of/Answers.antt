@@ -1,7 +1,6 @@
 use Rattle.std.proofs.Common.{◌≡◌, ◌∙◌, ap}
 use Rattle.gs_model.specs.Game.{Game}
-use Rattle.gs_game.specs.declared.game.Game.{Game as Described}
-use Rattle.gs_game.specs.declared.valid.ValidGame.{ValidGame}
+use Rattle.gs_game.specs.{declared.game.Game.{Game as Described}, declared.valid.ValidGame.{ValidGame}}
 use Rattle.gs_tree.specs.Trees.{rules_of}
 use Rattle.gs_alike.proofs.Ranks.{once_is}
 use Rattle.gs_alike.proofs.standing.Boards.of.Goals as goal

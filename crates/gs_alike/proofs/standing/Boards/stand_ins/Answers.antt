@@ -1,10 +1,8 @@
-use Rattle.std.proofs.Common.{ℕ, List}
+use Rattle.std.proofs.{Common.{ℕ, List}, lemmas.Result.{IfOk-weaker}}
 use Rattle.std.specs.Global.{Vec}
-use Rattle.std.proofs.lemmas.Result.{IfOk-weaker}
 use Rattle.gs_model.specs.Game.{Game}
 use Rattle.gs_tree.specs.Trees.{rules_of}
-use Rattle.gs_alike.specs.Alike.{AreStandIns}
-use Rattle.gs_alike.specs.Firsts.{AreFirsts}
+use Rattle.gs_alike.specs.{Alike.{AreStandIns}, Firsts.{AreFirsts}}
 use Rattle.gs_alike.proofs.Items.{firsts_stand}
 use Rattle.gs_alike.proofs.standing.Boards.stand_ins.Goals as goal
 

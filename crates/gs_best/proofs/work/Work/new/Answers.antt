@@ -1,8 +1,7 @@
 use Rattle.std.proofs.Common.{sym, subst, arith}
 use Rattle.gs_seq.specs.Abstracts.{frame_of, lists_of}
 use Rattle.gs_best.specs.Sizes.{IsRoomy}
-use Rattle.gs_best.proofs.Forms.{form_walked}
-use Rattle.gs_best.proofs.Rooms.{roomy}
+use Rattle.gs_best.proofs.{Forms.{form_walked}, Rooms.{roomy}}
 use Rattle.gs_best.proofs.work.Work.new.Goals as goal
 
 pub invariant_of-result : goal.invariant_of-result

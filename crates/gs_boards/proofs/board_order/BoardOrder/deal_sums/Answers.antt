@@ -1,8 +1,7 @@
 use Rattle.std.proofs.Common.{ℕ, List, subst, sym}
 use Rattle.gs_model.specs.Game.{Game}
 use Rattle.gs_tree.specs.Trees.{rules_of}
-use Rattle.gs_boards.specs.Places.{AreApart}
-use Rattle.gs_boards.specs.declared.place.Place.{Place}
+use Rattle.gs_boards.specs.{Places.{AreApart}, declared.place.Place.{Place}}
 use Rattle.gs_boards.proofs.Deals.{ArePaidBefore, ArePaidBehind, are_apart, both_ways}
 use Rattle.gs_boards.proofs.board_order.BoardOrder.deal_sums.Goals as goal
 

@@ -3,8 +3,8 @@ use Rattle.std.specs.Int.{w32}
 use mir.Val.{SFits}
 use Rattle.gs_boards.specs.Runs.{lost_by}
 use Rattle.gs_boards.proofs.Chips.{stake_small, stake_fits, stake_is, product_of_two, counts_fit, loss_fits, loss_is, loss_size}
-use Rattle.gs_boards.proofs.pays.Pays.lost.Goals as goal
 use Rattle.gs_boards.proofs.pays.Pays.lost.Goals.{After-from-in-Showdown}
+use Rattle.gs_boards.proofs.pays.Pays.lost.Goals as goal
 
 pub overflow_mul-result : goal.overflow_mul-result
 overflow_mul-result c =

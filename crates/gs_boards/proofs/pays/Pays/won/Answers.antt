@@ -2,9 +2,8 @@ use Rattle.std.proofs.Common.{◌-◌, ◌*◌, ◌<◌, ◌≤◌, ◌^◌, ◌
 use Rattle.std.specs.Int.{w32}
 use mir.Val.{SFits}
 use Rattle.gs_boards.specs.Runs.{won_by}
-use Rattle.gs_boards.proofs.Chips.{stake_small, stake_fits, stake_is, product_of_three, counts, counts_fit}
+use Rattle.gs_boards.proofs.{Chips.{stake_small, stake_fits, stake_is, product_of_three, counts, counts_fit}, pays.Pays.won.Goals.{After-from-in-Showdown-2}}
 use Rattle.gs_boards.proofs.pays.Pays.won.Goals as goal
-use Rattle.gs_boards.proofs.pays.Pays.won.Goals.{After-from-in-Showdown-2}
 
 pub overflow_mul-result : goal.overflow_mul-result
 overflow_mul-result c =

@@ -1,5 +1,4 @@
-use Rattle.std.proofs.Common.{ℕ, List, Vec, Global}
-use Rattle.std.proofs.lemmas.Result.{IfOk-weaker}
+use Rattle.std.proofs.{Common.{ℕ, List, Vec, Global}, lemmas.Result.{IfOk-weaker}}
 use Rattle.gs_card.proofs.GroupLaws.{each_is_group, each_within}
 use Rattle.gs_card.proofs.decks.Deck.groups.Goals as goal
 

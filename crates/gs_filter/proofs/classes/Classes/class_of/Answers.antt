@@ -1,7 +1,6 @@
 use Rattle.std.proofs.Common.{◌≡◌, ◌<◌, ◌≤◌, ℕ, List, get_or, sym, ◌∙◌, ap, subst, Vec, Global}
-use Rattle.gs_model.specs.Classes.{list_of, class_count}
+use Rattle.gs_model.specs.{Classes.{list_of, class_count}, Rows.{rows}}
 use Rattle.gs_filter.specs.Filter.{Filter}
-use Rattle.gs_model.specs.Rows.{rows}
 use Rattle.gs_filter.proofs.ClassLaws.{class_at}
 use Rattle.gs_filter.proofs.classes.Classes.class_of.Goals as goal
 

@@ -1,10 +1,7 @@
 use Rattle.std.proofs.Common.{◌≡◌, length, map, ◌∙◌, ap, subst, arith}
-use Rattle.gs_model.specs.Classes.{list_of, class_count}
-use Rattle.gs_filter.specs.Filter.{Filter}
-use Rattle.gs_model.specs.Rows.{rows}
-use Rattle.gs_filter.specs.Tallies.{tallies_of}
-use Rattle.gs_filter.proofs.TallyLaws.{round_tallies, length-tallies_of}
-use Rattle.gs_filter.proofs.ClassLaws.{count_fits}
+use Rattle.gs_model.specs.{Classes.{list_of, class_count}, Rows.{rows}}
+use Rattle.gs_filter.specs.{Filter.{Filter}, Tallies.{tallies_of}}
+use Rattle.gs_filter.proofs.{TallyLaws.{round_tallies, length-tallies_of}, ClassLaws.{count_fits}}
 use Rattle.gs_filter.proofs.classes.Classes.classes.Goals as goal
 
 module _ (c : goal.After-len) where

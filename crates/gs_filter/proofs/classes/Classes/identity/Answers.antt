@@ -1,6 +1,5 @@
 use Rattle.std.proofs.Common.{sym, subst}
-use Rattle.gs_model.specs.Classes.{IsClasses}
-use Rattle.gs_model.specs.Rows.{rows}
+use Rattle.gs_model.specs.{Classes.{IsClasses}, Rows.{rows}}
 use Rattle.gs_filter.proofs.ClassLaws.{single_are_classes}
 use Rattle.gs_filter.proofs.classes.Classes.identity.Goals as goal
 

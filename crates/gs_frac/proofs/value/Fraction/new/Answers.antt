@@ -1,12 +1,7 @@
-use Rattle.std.proofs.Common.{◌≡◌, ◌/◌, ◌<◌, arith, ◌∙◌, ap, pos, to_z, of_z}
-use Rattle.std.specs.Prelude.{int_lt}
-use Rattle.std.specs.Int.RustNames.{unsigned_abs}
-use Rattle.std.specs.Int.{w128}
-use Rattle.std.proofs.lemmas.Int.{ints}
+use Rattle.std.proofs.{Common.{◌≡◌, ◌/◌, ◌<◌, arith, ◌∙◌, ap, pos, to_z, of_z}, lemmas.Int.{ints}}
+use Rattle.std.specs.{Prelude.{int_lt}, Int.RustNames.{unsigned_abs}, Int.{w128}}
 use Rattle.gs_frac.specs.Texts.{number_of}
-use Rattle.gs_frac.proofs.GcdLaws.{Reduced, reduced_by}
-use Rattle.gs_frac.proofs.Made.{fraction_is}
-use Rattle.gs_frac.proofs.Signs.{crossed}
+use Rattle.gs_frac.proofs.{GcdLaws.{Reduced, reduced_by}, Made.{fraction_is}, Signs.{crossed}}
 use Rattle.gs_frac.proofs.value.Fraction.new.Goals as goal
 
 module _ (c : goal.After-with_sign-2) where

@@ -1,5 +1,4 @@
-use Rattle.std.proofs.Common.{refl}
-use Rattle.std.proofs.lemmas.Result.{err_from_is_err_and}
+use Rattle.std.proofs.{Common.{refl}, lemmas.Result.{err_from_is_err_and}}
 use Rattle.gs_card.specs.Rankings.{ranking_of}
 use Rattle.gs_game.specs.Games.{game_of}
 use Rattle.gs_game.proofs.Checked.{cards_fault, betting_fault, deals_fault, no_refusal, bonus_most, walkable, limits, is_dealable, is_walk}

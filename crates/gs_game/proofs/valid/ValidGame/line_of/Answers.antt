@@ -1,9 +1,6 @@
-use Rattle.std.proofs.Common.{arith}
-use Rattle.std.proofs.lemmas.List.{length-map}
+use Rattle.std.proofs.{Common.{arith}, lemmas.List.{length-map}}
 use Rattle.gs_game.specs.Games.{round_of}
-use Rattle.gs_game.proofs.Checked.{lines_follow}
-use Rattle.gs_game.proofs.Deciding.{trees_are}
-use Rattle.gs_game.proofs.LineLaws.{line_found, line_only}
+use Rattle.gs_game.proofs.{Checked.{lines_follow}, Deciding.{trees_are}, LineLaws.{line_found, line_only}}
 use Rattle.gs_game.proofs.valid.ValidGame.line_of.Goals as goal
 
 pub follow_from-requires : goal.follow_from-requires

@@ -1,10 +1,6 @@
-use Rattle.std.proofs.Common.{arith}
-use Rattle.std.proofs.lemmas.List.{length-map}
-use Rattle.gs_game.specs.Games.{round_of}
-use Rattle.gs_game.specs.Seen.{target_of}
-use Rattle.gs_game.proofs.Checked.{lines_follow}
-use Rattle.gs_game.proofs.Deciding.{trees_are}
-use Rattle.gs_game.proofs.LineWriting.{among_lines}
+use Rattle.std.proofs.{Common.{arith}, lemmas.List.{length-map}}
+use Rattle.gs_game.specs.{Games.{round_of}, Seen.{target_of}}
+use Rattle.gs_game.proofs.{Checked.{lines_follow}, Deciding.{trees_are}, LineWriting.{among_lines}}
 use Rattle.gs_game.proofs.valid.ValidGame.line_text.Goals as goal
 
 pub push_from-requires-clause-room : goal.push_from-requires-clause-room

@@ -1,21 +1,12 @@
 use Rattle.std.proofs.Common.{length, refl, ◌≡◌, ◌≤◌, ◌++◌, ◌∷◌, ℕ, [], List, length-take, map, take, ap, sym, ◌∙◌, subst, arith, rules}
-use Rattle.std.specs.Prelude.{All, IfOk, MatchOption, Option, Result, None, ◌≢◌}
-use Rattle.std.specs.declared.alloc.AllocError.{AllocError}
-use Rattle.std.specs.List.{AllByRecursion}
-use Rattle.std.proofs.lemmas.List.{get_or-take, take-map}
-use Rattle.std.proofs.lemmas.List.Elements.{All-from_recursion, recursion_from_All}
+use Rattle.std.proofs.{lemmas.List.{get_or-take, take-map}, lemmas.List.Elements.{All-from_recursion, recursion_from_All}}
+use Rattle.std.specs.{Prelude.{All, IfOk, MatchOption, Option, Result, None, ◌≢◌}, declared.alloc.AllocError.{AllocError}, List.{AllByRecursion}}
 use Rattle.gs_card.specs.Decks.{DeckValue}
 use Rattle.gs_model.specs.Game.{Game as Rules, Round as RoundRules, High}
-use Rattle.gs_game.specs.FaultOf.{IsFaultOf}
-use Rattle.gs_game.specs.Games.{HasFewCards, game_of, round_of}
-use Rattle.gs_game.specs.GoingOn.{stopped_game, unbet}
-use Rattle.gs_game.specs.Refusals.{Refusal, first_refusal}
-use Rattle.gs_game.specs.Sequences.{seen_sizes}
-use Rattle.gs_game.specs.declared.faults.GameFault.{GameFault}
-use Rattle.gs_game.specs.declared.faults.GameFault.TheVariants as faults
-use Rattle.gs_game.specs.declared.game.Game.{Game}
-use Rattle.gs_game.specs.declared.game.Round.{Round}
+use Rattle.gs_game.specs.{FaultOf.{IsFaultOf}, Games.{HasFewCards, game_of, round_of}, GoingOn.{stopped_game, unbet}, Refusals.{Refusal, first_refusal}}
+use Rattle.gs_game.specs.{Sequences.{seen_sizes}, declared.faults.GameFault.{GameFault}, declared.game.Game.{Game}, declared.game.Round.{Round}}
 use Rattle.gs_game.specs.declared.valid.ValidGame.{ValidGame}
+use Rattle.gs_game.specs.declared.faults.GameFault.TheVariants as faults
 use Rattle.gs_game.proofs.valid.ValidGame.stopped.Goals as goal
 use Rattle.gs_game.proofs.valid.ValidGame.stopped.Goals.{in-Memory, in_default}
 

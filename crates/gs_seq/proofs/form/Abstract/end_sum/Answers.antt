@@ -1,10 +1,6 @@
 use Rattle.std.proofs.Common.{sym, subst}
-use Rattle.gs_model.specs.Classes.{IsClass}
-use Rattle.gs_model.specs.Positions.{at_end}
-use Rattle.gs_seq.specs.Abstracts.{frame_of, lists_of}
-use Rattle.gs_seq.specs.Rows.{IsRow}
-use Rattle.gs_seq.specs.Slots.{AreOffsets}
-use Rattle.gs_seq.specs.Sources.{MatchSource}
+use Rattle.gs_model.specs.{Classes.{IsClass}, Positions.{at_end}}
+use Rattle.gs_seq.specs.{Abstracts.{frame_of, lists_of}, Rows.{IsRow}, Slots.{AreOffsets}, Sources.{MatchSource}}
 use Rattle.gs_seq.proofs.form.Abstract.end_sum.Goals as goal
 
 pub pairs-row-requires-clause-class : goal.pairs-row-requires-clause-class

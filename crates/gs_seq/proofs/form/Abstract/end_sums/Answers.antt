@@ -1,7 +1,5 @@
 use Rattle.std.proofs.Common.{◌∙◌, subst}
-use Rattle.gs_seq.specs.Abstracts.{frame_of, lists_of}
-use Rattle.gs_seq.specs.Payoffs.{AreNumbersAt}
-use Rattle.gs_seq.specs.Plans.{class_plan}
+use Rattle.gs_seq.specs.{Abstracts.{frame_of, lists_of}, Payoffs.{AreNumbersAt}, Plans.{class_plan}}
 use Rattle.gs_seq.proofs.EndSums.{by_numbers}
 use Rattle.gs_seq.proofs.form.Abstract.end_sums.Goals as goal
 

@@ -1,10 +1,8 @@
 use Rattle.std.proofs.Common.{◌≡◌, ◌∙◌, length, ap, arith}
 use Rattle.gs_model.specs.Frame.{end_count}
 use Rattle.gs_seq.specs.Abstracts.{frame_of, lists_of}
-use Rattle.gs_seq.proofs.Ends.{length-ends}
-use Rattle.gs_seq.proofs.Forms.{given}
+use Rattle.gs_seq.proofs.{Ends.{length-ends}, Forms.{given}, form.Abstract.end_total.Goals.{After-ends}}
 use Rattle.gs_seq.proofs.form.Abstract.end_total.Goals as goal
-use Rattle.gs_seq.proofs.form.Abstract.end_total.Goals.{After-ends}
 
 count : (c : After-ends) → length c.ends.result.now ≡ end_count (frame_of c.args.self.now)
 count c = length-ends c.game.result.now c.ends.result.now c.ends.ensures ∙ ap end_count c.game.ensures.held

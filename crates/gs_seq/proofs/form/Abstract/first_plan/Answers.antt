@@ -1,12 +1,7 @@
 use Rattle.std.proofs.Common.{refl, arith}
-use Rattle.gs_model.specs.Frame.{point_count}
-use Rattle.gs_seq.specs.Firsts.{AreFirstBefore}
-use Rattle.gs_seq.specs.Games.{frame_in}
-use Rattle.gs_model.specs.Plans.{IsClassPlan}
-use Rattle.gs_seq.specs.Slots.{plan_of}
-use Rattle.gs_seq.proofs.Firsts.{first_plan_is}
-use Rattle.gs_seq.proofs.Forms.{carried}
-use Rattle.gs_seq.proofs.Choices.{some_move}
+use Rattle.gs_model.specs.{Frame.{point_count}, Plans.{IsClassPlan}}
+use Rattle.gs_seq.specs.{Firsts.{AreFirstBefore}, Games.{frame_in}, Slots.{plan_of}}
+use Rattle.gs_seq.proofs.{Firsts.{first_plan_is}, Forms.{carried}, Choices.{some_move}}
 use Rattle.gs_seq.proofs.form.Abstract.first_plan.Goals as goal
 
 pub returns-clause-plan : goal.returns-clause-plan

@@ -1,7 +1,6 @@
 use Rattle.std.proofs.Common.{◌≡◌, sym}
 use Rattle.gs_model.specs.Pairs.{class_number}
-use Rattle.gs_seq.specs.Plans.{IsPlanOf, class_plan}
-use Rattle.gs_seq.specs.Slots.{AreOffsets}
+use Rattle.gs_seq.specs.{Plans.{IsPlanOf, class_plan}, Slots.{AreOffsets}}
 use Rattle.gs_seq.proofs.Forms.{carried}
 use Rattle.gs_seq.proofs.form.Abstract.number_at_end.Goals as goal
 

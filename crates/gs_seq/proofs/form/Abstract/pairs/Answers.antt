@@ -3,20 +3,12 @@ use Rattle.std.specs.Prelude.{◌==◌, All, filter}
 use Rattle.gs_filter.specs.Filter.{Filter}
 use Rattle.gs_filter.proofs.ClassLaws.{greatest_within}
 use Rattle.gs_game.specs.Games.{game_of}
-use Rattle.gs_model.specs.Classes.{class_count, list_of}
-use Rattle.gs_model.specs.Deals.{Deal, deals}
-use Rattle.gs_model.specs.Frame.{last_round}
-use Rattle.gs_tree.specs.Trees.{rules_of}
-use Rattle.gs_tree.specs.Walk.{last_count}
-use Rattle.gs_tree.specs.declared.signals.Signals.{Signals}
-use Rattle.gs_seq.specs.Abstracts.{frame_of, lists_of}
-use Rattle.gs_seq.specs.Rows.{IsRow, IsSingleIn}
-use Rattle.gs_seq.specs.Singles.{IsSlight, deal_pair}
-use Rattle.gs_seq.specs.declared.pair.Pair.{Pair}
-use Rattle.gs_seq.proofs.Singles.{count_is, made_row, slight}
-use Rattle.gs_seq.proofs.SlotLaws.{over}
-use Rattle.gs_seq.proofs.form.Abstract.pairs.Goals as goal
+use Rattle.gs_model.specs.{Classes.{class_count, list_of}, Deals.{Deal, deals}, Frame.{last_round}}
+use Rattle.gs_tree.specs.{Trees.{rules_of}, Walk.{last_count}, declared.signals.Signals.{Signals}}
+use Rattle.gs_seq.specs.{Abstracts.{frame_of, lists_of}, Rows.{IsRow, IsSingleIn}, Singles.{IsSlight, deal_pair}, declared.pair.Pair.{Pair}}
+use Rattle.gs_seq.proofs.{Singles.{count_is, made_row, slight}, SlotLaws.{over}}
 use Rattle.gs_seq.proofs.form.Abstract.pairs.Goals.{After-deals_of, After-classes-classes, After-signals}
+use Rattle.gs_seq.proofs.form.Abstract.pairs.Goals as goal
 
 -- what holds of the classes, and of a round with no rows
 parents : (c : After-classes-classes) → c.args.self.now.lossless.now.classes.now.parents ≡ (frame_of c.args.self.now).parents

@@ -1,7 +1,6 @@
 use Rattle.std.proofs.Common.{◌≡◌, ℕ, ◌+◌, ◌<◌, ◌≤◌, get_or}
 use Rattle.std.specs.Prelude.{pos}
-use Rattle.gs_seq.specs.Abstracts.{frame_of, lists_of}
-use Rattle.gs_seq.specs.Payoffs.{number_sum}
+use Rattle.gs_seq.specs.{Abstracts.{frame_of, lists_of}, Payoffs.{number_sum}}
 use Rattle.gs_seq.proofs.form.Abstract.pay_all.Given as goal
 
 abbrev pub invariant-loop-before : goal.invariant-loop-before

@@ -1,22 +1,15 @@
 use Rattle.std.proofs.Common.{◌≡◌, ◌+◌, ◌-◌, ◌<◌, ◌++◌, List, ℤ, length, take, get_or, pos, ap, ◌∙◌, refl, subst, arith}
+use Rattle.std.proofs.lemmas.List.{get_or_append_left, get_or-append_right, length-take-le}
 use Rattle.std.specs.Prelude.{◌*ℤ◌}
 use borrow.Rule.Slice.PartMut.{mid_len, post_of}
-use Rattle.std.proofs.lemmas.List.{get_or_append_left, get_or-append_right, length-take-le}
 use Rattle.gs_boards.specs.Boards.{paid}
 use Rattle.gs_filter.specs.Filter.{Filter}
 use Rattle.gs_game.specs.Games.{game_of}
 use Rattle.gs_lossless.specs.declared.checking.Lossless.{Lossless}
-use Rattle.gs_model.specs.Classes.{class_count}
-use Rattle.gs_model.specs.Deals.{Deal}
-use Rattle.gs_model.specs.Frame.{end_at}
+use Rattle.gs_model.specs.{Classes.{class_count}, Deals.{Deal}, Frame.{end_at}}
 use Rattle.gs_tree.specs.Walk.{last_count}
-use Rattle.gs_seq.specs.Abstracts.{frame_of, lists_of}
-use Rattle.gs_seq.specs.Games.{frame_in}
-use Rattle.gs_seq.specs.Payoffs.{pair_pays}
-use Rattle.gs_seq.specs.Singles.{deal_pair}
-use Rattle.gs_seq.specs.declared.form.Abstract.{Abstract}
-use Rattle.gs_seq.proofs.AlongBoards.{by_deals, single_count}
-use Rattle.gs_seq.proofs.Forms.{given, one_or_two}
+use Rattle.gs_seq.specs.{Abstracts.{frame_of, lists_of}, Games.{frame_in}, Payoffs.{pair_pays}, Singles.{deal_pair}, declared.form.Abstract.{Abstract}}
+use Rattle.gs_seq.proofs.{AlongBoards.{by_deals, single_count}, Forms.{given, one_or_two}}
 use Rattle.gs_seq.proofs.form.Abstract.pay_along.Goals as goal
 
 -- the parents of a form's classes, by what its calls give

@@ -1,7 +1,5 @@
 use Rattle.std.proofs.Common.{rules, ◌∙◌, arith}
-use Rattle.gs_seq.proofs.EndTotals.{end_within, ends_are_all, range_begun}
-use Rattle.gs_seq.proofs.Forms.{given_in}
-use Rattle.gs_seq.proofs.Signed.{read_back}
+use Rattle.gs_seq.proofs.{EndTotals.{end_within, ends_are_all, range_begun}, Forms.{given_in}, Signed.{read_back}}
 use Rattle.gs_seq.proofs.form.Abstract.payoff.Goals as goal
 
 pub plus-sum-requires : goal.plus-sum-requires

@@ -1,13 +1,10 @@
 use Rattle.std.proofs.Common.{rules, ◌≡◌, ◌+◌, ◌∙◌, arith, of_z, subst, to_z}
 use Rattle.std.specs.Int.{w128}
 use Rattle.gs_model.specs.Pairs.{class_number}
-use Rattle.gs_seq.specs.Abstracts.{frame_of, lists_of}
-use Rattle.gs_seq.specs.Plans.{class_plan}
-use Rattle.gs_seq.proofs.EndTotals.{IsNext, next_fits, next_put, next_within}
-use Rattle.gs_seq.proofs.Forms.{given_in}
-use Rattle.gs_seq.proofs.Signed.{read_back}
-use Rattle.gs_seq.proofs.form.Abstract.payoff_at.Goals as goal
+use Rattle.gs_seq.specs.{Abstracts.{frame_of, lists_of}, Plans.{class_plan}}
+use Rattle.gs_seq.proofs.{EndTotals.{IsNext, next_fits, next_put, next_within}, Forms.{given_in}, Signed.{read_back}}
 use Rattle.gs_seq.proofs.form.Abstract.payoff_at.Goals.{After-end_sum-worth}
+use Rattle.gs_seq.proofs.form.Abstract.payoff_at.Goals as goal
 
 -- the class, its number and what the end pays there
 next : (c : After-end_sum-worth) → let f = frame_of c.args.self.now in let ls = lists_of c.args.self.now in

@@ -1,9 +1,7 @@
 use Rattle.std.proofs.Common.{◌≡◌}
 use Rattle.std.specs.List.{range_with_len}
 use Rattle.gs_model.specs.Sums.{sum_z}
-use Rattle.gs_seq.specs.Abstracts.{frame_of, lists_of}
-use Rattle.gs_seq.specs.Payoffs.{payoff_at}
-use Rattle.gs_seq.specs.Plans.{class_plan}
+use Rattle.gs_seq.specs.{Abstracts.{frame_of, lists_of}, Payoffs.{payoff_at}, Plans.{class_plan}}
 use Rattle.gs_seq.proofs.form.Abstract.payoff_in.Given as goal
 
 abbrev pub invariant-loop-end : goal.invariant-loop-end

@@ -1,17 +1,10 @@
 use Rattle.std.proofs.Common.{rules, ◌≡◌, ◌+◌, ◌-◌, ℕ, List, ap, ◌∙◌, arith, get_or, pos, FitsSigned, of_z, subst, to_z}
-use Rattle.std.specs.Int.{w128}
-use Rattle.std.specs.Prelude.{ℤ}
-use Rattle.gs_model.specs.Classes.{IsClass}
-use Rattle.gs_model.specs.Frame.{round_of}
-use Rattle.gs_model.specs.Pairs.{class_number}
-use Rattle.gs_model.specs.Positions.{at_end}
-use Rattle.gs_seq.specs.Abstracts.{frame_of, lists_of}
-use Rattle.gs_seq.specs.Plans.{class_plan}
-use Rattle.gs_seq.proofs.EndTotals.{IsNext, next_fits, next_put, next_within}
-use Rattle.gs_seq.proofs.Forms.{given_in}
-use Rattle.gs_seq.proofs.Signed.{read_back}
-use Rattle.gs_seq.proofs.form.Abstract.payoff_read.Goals as goal
+use Rattle.std.specs.{Int.{w128}, Prelude.{ℤ}}
+use Rattle.gs_model.specs.{Classes.{IsClass}, Frame.{round_of}, Pairs.{class_number}, Positions.{at_end}}
+use Rattle.gs_seq.specs.{Abstracts.{frame_of, lists_of}, Plans.{class_plan}}
+use Rattle.gs_seq.proofs.{EndTotals.{IsNext, next_fits, next_put, next_within}, Forms.{given_in}, Signed.{read_back}}
 use Rattle.gs_seq.proofs.form.Abstract.payoff_read.Goals.{After-number_at_end-number}
+use Rattle.gs_seq.proofs.form.Abstract.payoff_read.Goals as goal
 
 -- what the list has of a class
 read_at : (sums : List ℤ) (n : ℕ) (w : ℤ) → get_or sums (0 + (n + 1 - 1)) (pos 0) ≡ w → get_or sums n (pos 0) ≡ w

@@ -2,10 +2,7 @@ use Rattle.std.proofs.Common.{ap, refl, subst, ◌∙◌}
 use Rattle.gs_filter.specs.Filter.{Filter}
 use Rattle.gs_game.specs.declared.valid.ValidGame.{ValidGame}
 use Rattle.gs_tree.specs.declared.signals.Signals.{Signals}
-use Rattle.gs_seq.specs.Abstracts.{frame_of, lists_of}
-use Rattle.gs_seq.specs.Faults.{IsFaultOf}
-use Rattle.gs_seq.specs.Games.{frame_in}
-use Rattle.gs_seq.specs.Slots.{IsPlan}
+use Rattle.gs_seq.specs.{Abstracts.{frame_of, lists_of}, Faults.{IsFaultOf}, Games.{frame_in}, Slots.{IsPlan}}
 use Rattle.gs_seq.proofs.form.Abstract.plan.Goals as goal
 
 pub returns-in-None-clause-plan : goal.returns-in-None-clause-plan

@@ -1,7 +1,6 @@
 use Rattle.std.proofs.Common.{◌≡◌, ℕ, ◌+◌, ◌^◌, ◌<◌, ◌≤◌, get_or}
 use Rattle.gs_model.specs.Pairs.{class_number}
-use Rattle.gs_seq.specs.Abstracts.{frame_of, lists_of}
-use Rattle.gs_seq.specs.Plans.{class_plan}
+use Rattle.gs_seq.specs.{Abstracts.{frame_of, lists_of}, Plans.{class_plan}}
 use Rattle.gs_seq.proofs.form.Abstract.read_numbers.Given as goal
 
 abbrev pub invariant-loop-before : goal.invariant-loop-before

@@ -1,18 +1,11 @@
 use Rattle.std.proofs.Common.{rules, ◌≡◌, ◌≤◌, ◌-◌, ◌^◌, arith, ℕ, List, get_or, pos, to_z}
-use Rattle.std.specs.Int.{w128}
-use Rattle.std.specs.Prelude.{◌*ℤ◌}
+use Rattle.std.specs.{Int.{w128}, Prelude.{◌*ℤ◌}}
 use Rattle.gs_game.specs.Seen.{end_of}
-use Rattle.gs_model.specs.Classes.{IsClass}
-use Rattle.gs_model.specs.Frame.{round_of}
-use Rattle.gs_model.specs.Positions.{at_end}
-use Rattle.gs_seq.specs.Abstracts.{frame_of, lists_of}
-use Rattle.gs_seq.specs.Payoffs.{pair_pays}
-use Rattle.gs_seq.specs.declared.pair.Pair.{Pair}
-use Rattle.gs_seq.proofs.EndSums.{number_term}
-use Rattle.gs_seq.proofs.Signed.{read_back}
-use Rattle.gs_seq.proofs.Turns.{IsAlong, IsHere, come_begun, here_in, paid, paid_as, sum_is_all}
-use Rattle.gs_seq.proofs.form.Abstract.row_paid.Goals as goal
+use Rattle.gs_model.specs.{Classes.{IsClass}, Frame.{round_of}, Positions.{at_end}}
+use Rattle.gs_seq.specs.{Abstracts.{frame_of, lists_of}, Payoffs.{pair_pays}, declared.pair.Pair.{Pair}}
+use Rattle.gs_seq.proofs.{EndSums.{number_term}, Signed.{read_back}, Turns.{IsAlong, IsHere, come_begun, here_in, paid, paid_as, sum_is_all}}
 use Rattle.gs_seq.proofs.form.Abstract.row_paid.Goals.{After-game-game, After-number_of-number, In-Some}
+use Rattle.gs_seq.proofs.form.Abstract.row_paid.Goals as goal
 
 -- the number of a class
 abbrev number_in : List ℕ → ℕ → ℕ

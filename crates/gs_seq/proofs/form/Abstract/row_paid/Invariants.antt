@@ -1,6 +1,5 @@
 use Rattle.gs_seq.specs.Abstracts.{frame_of}
-use Rattle.gs_seq.proofs.EndSums.{number_term}
-use Rattle.gs_seq.proofs.Turns.{IsCome}
+use Rattle.gs_seq.proofs.{EndSums.{number_term}, Turns.{IsCome}}
 use Rattle.gs_seq.proofs.form.Abstract.row_paid.Given as goal
 
 abbrev pub invariant-loop-pair : goal.invariant-loop-pair

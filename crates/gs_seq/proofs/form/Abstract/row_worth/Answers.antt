@@ -1,25 +1,13 @@
 use Rattle.std.proofs.Common.{rules, ◌≡◌, ◌≤◌, ◌^◌, ap, sym, ◌∙◌, arith, subst, ℕ, List, pos, to_z}
-use Rattle.std.specs.Int.{w128}
-use Rattle.std.specs.Prelude.{◌*ℤ◌}
+use Rattle.std.specs.{Int.{w128}, Prelude.{◌*ℤ◌}}
 use Rattle.gs_game.specs.Seen.{end_of}
-use Rattle.gs_model.specs.Classes.{IsClass}
-use Rattle.gs_model.specs.Frame.{other_player, round_of}
-use Rattle.gs_model.specs.Pairs.{class_number}
-use Rattle.gs_model.specs.Positions.{at_end}
-use Rattle.gs_seq.specs.Abstracts.{frame_of, lists_of}
-use Rattle.gs_seq.specs.Payoffs.{pair_pays}
-use Rattle.gs_seq.specs.Plans.{IsPlanOf, class_plan}
-use Rattle.gs_seq.specs.Sources.{MatchSource}
-use Rattle.gs_seq.specs.declared.form.Abstract.{Abstract}
-use Rattle.gs_seq.specs.declared.pair.Pair.{Pair}
-use Rattle.gs_seq.specs.declared.plan.Plan.{Plan}
-use Rattle.gs_seq.proofs.EndSums.{pair_term}
-use Rattle.gs_seq.proofs.Ends.{number_few}
-use Rattle.gs_seq.proofs.Forms.{carried, given_in}
-use Rattle.gs_seq.proofs.Signed.{read_back}
+use Rattle.gs_model.specs.{Classes.{IsClass}, Frame.{other_player, round_of}, Pairs.{class_number}, Positions.{at_end}}
+use Rattle.gs_seq.specs.{Abstracts.{frame_of, lists_of}, Payoffs.{pair_pays}, Plans.{IsPlanOf, class_plan}, Sources.{MatchSource}}
+use Rattle.gs_seq.specs.{declared.form.Abstract.{Abstract}, declared.pair.Pair.{Pair}, declared.plan.Plan.{Plan}}
+use Rattle.gs_seq.proofs.{EndSums.{pair_term}, Ends.{number_few}, Forms.{carried, given_in}, Signed.{read_back}}
 use Rattle.gs_seq.proofs.Turns.{IsAlong, IsHere, come_begun, here_in, paid, paid_as, sum_is_all}
-use Rattle.gs_seq.proofs.form.Abstract.row_worth.Goals as goal
 use Rattle.gs_seq.proofs.form.Abstract.row_worth.Goals.{After-game-game, After-number_by-number, In-Some}
+use Rattle.gs_seq.proofs.form.Abstract.row_worth.Goals as goal
 
 -- the other player's number at a class
 abbrev number_at : Abstract → ℕ → Plan → ℕ → ℕ → ℕ

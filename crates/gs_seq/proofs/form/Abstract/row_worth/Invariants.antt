@@ -1,7 +1,5 @@
-use Rattle.gs_seq.specs.Abstracts.{frame_of, lists_of}
-use Rattle.gs_seq.specs.Plans.{class_plan}
-use Rattle.gs_seq.proofs.EndSums.{pair_term}
-use Rattle.gs_seq.proofs.Turns.{IsCome}
+use Rattle.gs_seq.specs.{Abstracts.{frame_of, lists_of}, Plans.{class_plan}}
+use Rattle.gs_seq.proofs.{EndSums.{pair_term}, Turns.{IsCome}}
 use Rattle.gs_seq.proofs.form.Abstract.row_worth.Given as goal
 
 abbrev pub invariant-loop-pair : goal.invariant-loop-pair

@@ -1,11 +1,9 @@
-use Rattle.std.proofs.Common.{◌≡◌, ℕ, get_or, refl, ap, ◌∙◌, arith, vec_len}
+use Rattle.std.proofs.{Common.{◌≡◌, ℕ, get_or, refl, ap, ◌∙◌, arith, vec_len}, lemmas.Grind.{get_or_default_zero}}
 use Rattle.gs_game.specs.declared.positions.Point.{Point}
 use Rattle.gs_tree.specs.declared.signals.Signals.{Signals}
-use Rattle.std.proofs.lemmas.Grind.{get_or_default_zero}
 use Rattle.gs_seq.specs.Abstracts.{frame_of, lists_of}
-use Rattle.gs_seq.proofs.Moves.{SlotFacts, slot_at}
+use Rattle.gs_seq.proofs.{Moves.{SlotFacts, slot_at}, form.Abstract.slot.Goals.{After-index, After-len-moves}}
 use Rattle.gs_seq.proofs.form.Abstract.slot.Goals as goal
-use Rattle.gs_seq.proofs.form.Abstract.slot.Goals.{After-index, After-len-moves}
 
 -- where a slot stands that counts from a base
 from_base : (c : After-len-moves) → (base : ℕ) → base ≡ get_or c.args.self.now.offsets.items c.args.point 0

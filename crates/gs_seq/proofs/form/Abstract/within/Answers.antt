@@ -1,20 +1,12 @@
-use Rattle.std.proofs.Common.{◌≡◌, ap, sym, ◌∙◌, subst, arith, ⊎_elim}
+use Rattle.std.proofs.{Common.{◌≡◌, ap, sym, ◌∙◌, subst, arith, ⊎_elim}, lemmas.Result.{err_from_is_err_and}}
 use Rattle.std.specs.Prelude.{IfErr}
-use Rattle.std.proofs.lemmas.Result.{err_from_is_err_and}
-use Rattle.gs_model.specs.Classes.{ClassLists}
-use Rattle.gs_model.specs.Frame.{Frame}
+use Rattle.gs_model.specs.{Classes.{ClassLists}, Frame.{Frame}}
 use Rattle.gs_tree.specs.declared.signals.Signals.{Signals}
-use Rattle.gs_seq.specs.Cells.{cell_count}
-use Rattle.gs_seq.specs.Games.{frame_in}
-use Rattle.gs_seq.specs.Rows.{AreRows}
-use Rattle.gs_seq.specs.Slots.{AreOffsets, slot_count}
-use Rattle.gs_seq.specs.Stops.{HasSequencesWithin, IsStopAt, IsTooLong}
-use Rattle.gs_seq.specs.declared.limits.Limits.{Limits}
-use Rattle.gs_seq.specs.declared.stop.SeqStop.{SeqStop}
+use Rattle.gs_seq.specs.{Cells.{cell_count}, Games.{frame_in}, Rows.{AreRows}, Slots.{AreOffsets, slot_count}, Stops.{HasSequencesWithin, IsStopAt, IsTooLong}}
+use Rattle.gs_seq.specs.{declared.limits.Limits.{Limits}, declared.stop.SeqStop.{SeqStop}}
 use Rattle.gs_seq.specs.declared.stop.SeqStop.TheVariants.{TooManySequences, TooManyCells, Memory}
-use Rattle.gs_seq.proofs.Carried.{carried}
+use Rattle.gs_seq.proofs.{Carried.{carried}, form.Abstract.within.Goals.{After-game-game, In_ok-count}}
 use Rattle.gs_seq.proofs.form.Abstract.within.Goals as goal
-use Rattle.gs_seq.proofs.form.Abstract.within.Goals.{After-game-game, In_ok-count}
 
 too_long : (most : Limits) (f : Frame) (lists : ClassLists) (e : SeqStop) → IsTooLong most.sequences f lists e → IsStopAt most f lists e
 too_long most f lists (TooManySequences player count) h = h

@@ -1,6 +1,5 @@
-use Rattle.std.proofs.Common.{◌≡◌, ◌∷◌, List, ap, ◌∙◌, subst}
+use Rattle.std.proofs.{Common.{◌≡◌, ◌∷◌, List, ap, ◌∙◌, subst}, lemmas.List.Elements.{All-tail}}
 use Rattle.std.specs.Prelude.{All}
-use Rattle.std.proofs.lemmas.List.Elements.{All-tail}
 use Rattle.gs_model.specs.Deals.{Deal}
 use Rattle.gs_seq.specs.Singles.{IsSlight, deals_left}
 use Rattle.gs_seq.proofs.pairs.PairsIterator.next.Goals as goal

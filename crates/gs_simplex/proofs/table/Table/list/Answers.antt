@@ -1,18 +1,11 @@
 use Rattle.std.proofs.Common.{◌≡◌, ◌≢◌, IfNone, MatchOption, Option, Some, None, ◌⊎◌, inl, inr, ℕ, ◌+◌, ◌-◌, ◌*◌, ◌<◌, ◌≤◌, ℤ, pos, ◌<ℤ◌, List, ◌++◌, length, slice_index, take, drop, sym, ap, subst, ◌∙◌, arith}
-use Rattle.std.proofs.lemmas.List.{take_at}
-use Rattle.std.proofs.lemmas.Bool.{cases_lt}
-use Rattle.gs_rows.specs.declared.Program.{Program}
-use Rattle.gs_rows.specs.Rows.{IsNarrow}
-use Rattle.gs_simplex.specs.declared.table.WideCell.{WideCell}
-use Rattle.gs_simplex.specs.Numbers.{at, cell, AllNarrow, IsAtMost, AreTops, IsLeadOf, IsCleared, IsClearedTo}
-use Rattle.gs_simplex.specs.Table.{table_rows, IsTable, IsTableOf, HasTops, IsTableAfter, IsWideAfter}
-use Rattle.gs_simplex.proofs.Places.{row_apart, at_most_same}
-use Rattle.gs_simplex.proofs.Tables.{own, zero_lead, table_after, wide_from}
-use Rattle.gs_rows.specs.Program.{Listing, IsPairList}
-use Rattle.gs_simplex.specs.Live.{IsFound, IsSupport, IsLive}
-use Rattle.gs_simplex.proofs.Lives.{live_of}
-use Rattle.gs_simplex.proofs.table.Table.list.Goals as goal
+use Rattle.std.proofs.{lemmas.List.{take_at}, lemmas.Bool.{cases_lt}}
+use Rattle.gs_rows.specs.{declared.Program.{Program}, Rows.{IsNarrow}, Program.{Listing, IsPairList}}
+use Rattle.gs_simplex.specs.{declared.table.WideCell.{WideCell}, Numbers.{at, cell, AllNarrow, IsAtMost, AreTops, IsLeadOf, IsCleared, IsClearedTo}}
+use Rattle.gs_simplex.specs.{Table.{table_rows, IsTable, IsTableOf, HasTops, IsTableAfter, IsWideAfter}, Live.{IsFound, IsSupport, IsLive}}
+use Rattle.gs_simplex.proofs.{Places.{row_apart, at_most_same}, Tables.{own, zero_lead, table_after, wide_from}, Lives.{live_of}}
 use Rattle.gs_simplex.proofs.table.Table.list.Goals.{After-deref, After-deref-numbers, After-deref_mut-3, After-take_lead-count}
+use Rattle.gs_simplex.proofs.table.Table.list.Goals as goal
 
 -- what take_lead leaves
 record IsTaken (p : Program) (old mid lead : List ℤ) (r c : ℕ) : Type 0 where

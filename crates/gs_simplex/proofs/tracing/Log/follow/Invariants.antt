@@ -1,6 +1,5 @@
 use Rattle.std.proofs.Common.{◌+◌, ◌≤◌, length}
-use Rattle.gs_simplex.specs.State.{IsState}
-use Rattle.gs_simplex.specs.Trace.{IsLog}
+use Rattle.gs_simplex.specs.{State.{IsState}, Trace.{IsLog}}
 use Rattle.gs_simplex.proofs.tracing.Log.follow.Given as goal
 
 abbrev pub invariant-loop-made : goal.invariant-loop-made

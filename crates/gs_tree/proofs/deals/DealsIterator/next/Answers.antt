@@ -1,7 +1,6 @@
 use Rattle.std.proofs.Common.{◌≡◌, ◌*◌, ◌<◌, ◌≤◌, ◌∷◌, [], ap, arith, length, sym, ◌∙◌}
 use Rattle.gs_model.specs.Deals.{Deal}
-use Rattle.gs_tree.specs.Trees.{rules_of}
-use Rattle.gs_tree.specs.Walk.{deals_between, last_count, number_of}
+use Rattle.gs_tree.specs.{Trees.{rules_of}, Walk.{deals_between, last_count, number_of}}
 use Rattle.gs_tree.proofs.Steps.{step_none, step_some, walk_within, walked}
 use Rattle.gs_tree.proofs.deals.DealsIterator.next.Goals as goal
 

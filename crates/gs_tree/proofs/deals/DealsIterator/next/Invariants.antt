@@ -1,6 +1,5 @@
 use Rattle.std.proofs.Common.{◌≡◌, ◌-◌, ◌*◌}
-use Rattle.gs_tree.specs.Trees.{rules_of}
-use Rattle.gs_tree.specs.Walk.{deals_between, last_count, number_of, IsOnWalk}
+use Rattle.gs_tree.specs.{Trees.{rules_of}, Walk.{deals_between, last_count, number_of, IsOnWalk}}
 use Rattle.gs_tree.proofs.deals.DealsIterator.next.Given as goal
 
 abbrev pub invariant-loop-self : goal.invariant-loop-self

@@ -1,12 +1,9 @@
-use Rattle.std.proofs.Common.{◌≡◌, ◌+◌, ◌<◌, ℕ, List, length, map, get_or, vec_len, ap, ◌∙◌, arith}
+use Rattle.std.proofs.{Common.{◌≡◌, ◌+◌, ◌<◌, ℕ, List, length, map, get_or, vec_len, ap, ◌∙◌, arith}, lemmas.List.FromFn.{length-map-range_with_len}}
 use Rattle.std.specs.List.{range_with_len}
-use Rattle.std.proofs.lemmas.List.FromFn.{length-map-range_with_len}
 use Rattle.gs_model.specs.Signals.{signals, first_child}
-use Rattle.gs_tree.specs.Trees.{rules_of}
-use Rattle.gs_tree.specs.declared.layer.Layer.{Layer}
-use Rattle.gs_tree.proofs.Readers.{firsts_of, first_at, first_next}
+use Rattle.gs_tree.specs.{Trees.{rules_of}, declared.layer.Layer.{Layer}}
+use Rattle.gs_tree.proofs.{Readers.{firsts_of, first_at, first_next}, signals.Signals.children.Goals.{After-index}}
 use Rattle.gs_tree.proofs.signals.Signals.children.Goals as goal
-use Rattle.gs_tree.proofs.signals.Signals.children.Goals.{After-index}
 
 -- where each signal's children begin
 begins : (c : After-index) → c.index.result.now.firsts.items ≡ map (first_child (rules_of c.args.self.now) c.args.round) (range_with_len 0 (length (signals (rules_of c.args.self.now) c.args.round) + 1))

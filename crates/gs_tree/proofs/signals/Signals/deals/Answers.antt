@@ -1,6 +1,5 @@
 use Rattle.std.proofs.Common.{◌≡◌, ◌*◌, ap, ◌∙◌, arith}
-use Rattle.gs_tree.specs.Trees.{rules_of}
-use Rattle.gs_tree.specs.Walk.{deals_between, last_count}
+use Rattle.gs_tree.specs.{Trees.{rules_of}, Walk.{deals_between, last_count}}
 use Rattle.gs_tree.proofs.Pairs.{all_pairs}
 use Rattle.gs_tree.proofs.signals.Signals.deals.Goals as goal
 

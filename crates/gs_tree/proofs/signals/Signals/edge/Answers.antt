@@ -1,7 +1,6 @@
 use Rattle.std.proofs.Common.{◌≡◌, ◌-◌, List, get_or, ap, ◌∙◌, arith}
 use Rattle.gs_model.specs.Game.{Game}
-use Rattle.gs_tree.specs.Trees.{rules_of}
-use Rattle.gs_tree.specs.declared.layer.Layer.{Layer}
+use Rattle.gs_tree.specs.{Trees.{rules_of}, declared.layer.Layer.{Layer}}
 use Rattle.gs_tree.proofs.Lookups.{layer_of}
 use Rattle.gs_tree.proofs.signals.Signals.edge.Goals as goal
 

@@ -1,7 +1,6 @@
 use Rattle.std.proofs.Common.{ℕ, List, ◌∙◌, arith}
 use Rattle.gs_tree.specs.Trees.{rules_of}
-use Rattle.gs_tree.proofs.Lookups.{same_read}
-use Rattle.gs_tree.proofs.Steps.{row_start}
+use Rattle.gs_tree.proofs.{Lookups.{same_read}, Steps.{row_start}}
 use Rattle.gs_tree.proofs.signals.Signals.first_beside.Goals as goal
 
 pub returns-then-one-last_count : goal.returns-then-one-last_count

@@ -1,10 +1,7 @@
 use Rattle.std.proofs.Common.{◌≡◌, ◌<◌, ℕ, Some, length, sym, ap, ◌∙◌, arith}
-use Rattle.gs_game.specs.Games.{game_of}
-use Rattle.gs_game.specs.declared.game.Game.{Game as Described}
-use Rattle.gs_model.specs.Game.{Game}
-use Rattle.gs_model.specs.Signals.{signal_at, signals}
-use Rattle.gs_tree.specs.Texts.{signal_text}
-use Rattle.gs_tree.specs.Trees.{deck_of, rules_of}
+use Rattle.gs_game.specs.{Games.{game_of}, declared.game.Game.{Game as Described}}
+use Rattle.gs_model.specs.{Game.{Game}, Signals.{signal_at, signals}}
+use Rattle.gs_tree.specs.{Texts.{signal_text}, Trees.{deck_of, rules_of}}
 use Rattle.gs_tree.proofs.Named.{text_once}
 use Rattle.gs_tree.proofs.signals.Signals.index_of.Goals as goal
 

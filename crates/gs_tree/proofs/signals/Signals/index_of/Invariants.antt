@@ -1,7 +1,6 @@
 use Rattle.std.proofs.Common.{ℕ, ◌<◌, ◌≢◌}
 use Rattle.gs_model.specs.Signals.{signal_at}
-use Rattle.gs_tree.specs.Texts.{signal_text}
-use Rattle.gs_tree.specs.Trees.{rules_of, deck_of}
+use Rattle.gs_tree.specs.{Texts.{signal_text}, Trees.{rules_of, deck_of}}
 use Rattle.gs_tree.proofs.signals.Signals.index_of.Given as goal
 
 abbrev pub invariant-loop-signal : goal.invariant-loop-signal

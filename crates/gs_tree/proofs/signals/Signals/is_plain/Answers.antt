@@ -1,9 +1,7 @@
 use Rattle.std.proofs.Common.{◌≡◌, Bool, true, false, refl, subst}
 use Rattle.std.specs.Prelude.{MatchBool}
-use Rattle.gs_game.specs.Games.{game_of}
-use Rattle.gs_game.specs.declared.game.Game.{Game as Described}
-use Rattle.gs_tree.specs.Plain.{IsPlain}
-use Rattle.gs_tree.specs.Walk.{last_count}
+use Rattle.gs_game.specs.{Games.{game_of}, declared.game.Game.{Game as Described}}
+use Rattle.gs_tree.specs.{Plain.{IsPlain}, Walk.{last_count}}
 use Rattle.gs_tree.proofs.signals.Signals.is_plain.Goals as goal
 
 -- what a test says of two facts

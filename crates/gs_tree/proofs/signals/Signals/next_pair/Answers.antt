@@ -1,9 +1,7 @@
 use Rattle.std.proofs.Common.{◌≡◌, get_or, ◌∙◌, arith}
 use Rattle.gs_tree.specs.Trees.{rules_of}
-use Rattle.gs_tree.proofs.Lookups.{same_read}
-use Rattle.gs_tree.proofs.Steps.{next_in_row, next_row}
+use Rattle.gs_tree.proofs.{Lookups.{same_read}, Steps.{next_in_row, next_row}, signals.Signals.next_pair.Goals.{After-index-next}}
 use Rattle.gs_tree.proofs.signals.Signals.next_pair.Goals as goal
-use Rattle.gs_tree.proofs.signals.Signals.next_pair.Goals.{After-index-next}
 
 -- the next signal beside the second, as the list has it
 at_next : (c : After-index-next) → c.index-next.result.now ≡ get_or c.args.self.now.boards.nexts.items c.args.two 0

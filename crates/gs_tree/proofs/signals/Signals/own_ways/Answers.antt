@@ -1,21 +1,14 @@
 use Rattle.std.proofs.Common.{◌≡◌, ◌+◌, ◌*◌, ◌<◌, ◌≤◌, ℕ, List, [], All, length, map, take, take_all, get_or, sym, ap, ◌∙◌, subst, arith}
+use Rattle.std.proofs.{lemmas.List.{length-map, length-take-le}, lemmas.Slice.{between_from_start}}
 use Rattle.std.specs.List.{between}
-use Rattle.std.proofs.lemmas.List.{length-map, length-take-le}
-use Rattle.std.proofs.lemmas.Slice.{between_from_start}
 use Rattle.gs_card.specs.Decks.{DeckValue, kinds}
-use Rattle.gs_game.specs.Games.{round_of}
-use Rattle.gs_game.specs.declared.game.Game.{Game as Described}
-use Rattle.gs_model.specs.Cards.{ways, left_after}
-use Rattle.gs_model.specs.Deals.{own_ways}
-use Rattle.gs_model.specs.Game.{Game, Round, round_count}
+use Rattle.gs_game.specs.{Games.{round_of}, declared.game.Game.{Game as Described}}
+use Rattle.gs_model.specs.{Cards.{ways, left_after}, Deals.{own_ways}, Game.{Game, Round, round_count}}
 use Rattle.gs_model.specs.Signals.{Seen, Signal, signal_at, signals, left_by, own_cards}
 use Rattle.gs_tree.specs.Trees.{rules_of}
-use Rattle.gs_tree.proofs.Beside.{left_by_cards}
-use Rattle.gs_tree.proofs.Paths.{power_fits}
-use Rattle.gs_tree.proofs.Rows.{IsTurn, has_rounds, part_in, parts_length, power_more, turn}
+use Rattle.gs_tree.proofs.{Beside.{left_by_cards}, Paths.{power_fits}, Rows.{IsTurn, has_rounds, part_in, parts_length, power_more, turn}}
+use Rattle.gs_tree.proofs.{signals.Signals.own_ways.Goals.{After-deref-round-items, After-from}, Grown.{nothing_seen}}
 use Rattle.gs_tree.proofs.signals.Signals.own_ways.Goals as goal
-use Rattle.gs_tree.proofs.signals.Signals.own_ways.Goals.{After-deref-round-items, After-from}
-use Rattle.gs_tree.proofs.Grown.{nothing_seen}
 
 -- the rounds of the loop are the game's
 all_rounds : (c : After-deref-round-items) → (rules_of c.args.self.now).rounds ≡ map round_of c.deref-round-items.result.now

@@ -1,7 +1,5 @@
 use Rattle.std.proofs.Common.{◌≡◌, ◌≤◌, ◌^◌, length, take}
-use Rattle.gs_model.specs.Deals.{own_ways}
-use Rattle.gs_model.specs.Game.{round_count}
-use Rattle.gs_model.specs.Signals.{left_by, own_cards, signal_at}
+use Rattle.gs_model.specs.{Deals.{own_ways}, Game.{round_count}, Signals.{left_by, own_cards, signal_at}}
 use Rattle.gs_tree.specs.Trees.{rules_of}
 use Rattle.gs_tree.proofs.signals.Signals.own_ways.Given as goal
 

@@ -1,8 +1,5 @@
-use Rattle.std.proofs.Common.{◌≡◌, ℕ, List, [], get_or, ap, ◌∙◌, arith}
-use Rattle.std.proofs.lemmas.List.{get_or-map}
-use Rattle.gs_model.specs.Deals.{path_weight}
-use Rattle.gs_model.specs.Game.{Game, round_count}
-use Rattle.gs_model.specs.Signals.{signal_at, signals}
+use Rattle.std.proofs.{Common.{◌≡◌, ℕ, List, [], get_or, ap, ◌∙◌, arith}, lemmas.List.{get_or-map}}
+use Rattle.gs_model.specs.{Deals.{path_weight}, Game.{Game, round_count}, Signals.{signal_at, signals}}
 use Rattle.gs_model.proofs.Facing.{leaves_are_deals}
 use Rattle.gs_tree.specs.Trees.{rules_of}
 use Rattle.gs_tree.proofs.signals.Signals.path_weight.Goals as goal

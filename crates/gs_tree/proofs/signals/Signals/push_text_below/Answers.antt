@@ -1,15 +1,11 @@
 use Rattle.std.proofs.Common.{◌≡◌, ◌++◌, ◌∷◌, [], ◌-◌, ℕ, List, get_or, refl, sym, ap, ◌∙◌, subst, arith}
 use Rattle.std.specs.Prelude.{OnOk, string_bytes}
 use Rattle.gs_card.specs.Decks.{DeckValue, kinds}
-use Rattle.gs_model.specs.Game.{Game}
-use Rattle.gs_model.specs.Signals.{signal_at, parents}
-use Rattle.gs_tree.specs.Shown.{seen_of}
-use Rattle.gs_tree.specs.Texts.{signal_text, seen_text}
-use Rattle.gs_tree.specs.Trees.{deck_of, rules_of}
-use Rattle.gs_tree.proofs.Lookups.{IsSeen, seen_read, shown_long}
-use Rattle.gs_tree.proofs.Rests.{text_behind, text_grown}
-use Rattle.gs_tree.proofs.signals.Signals.push_text_below.Goals as goal
+use Rattle.gs_model.specs.{Game.{Game}, Signals.{signal_at, parents}}
+use Rattle.gs_tree.specs.{Shown.{seen_of}, Texts.{signal_text, seen_text}, Trees.{deck_of, rules_of}}
+use Rattle.gs_tree.proofs.{Lookups.{IsSeen, seen_read, shown_long}, Rests.{text_behind, text_grown}}
 use Rattle.gs_tree.proofs.signals.Signals.push_text_below.Goals.{After-index-layer, After-index-shown}
+use Rattle.gs_tree.proofs.signals.Signals.push_text_below.Goals as goal
 
 -- the layer of the round
 at_layer : (c : After-index-layer) → c.index-layer.result.now ≡ get_or c.args.self.now.tables.layers.items (c.args.round - 1) c.index-layer.result.now

@@ -1,11 +1,7 @@
 use Rattle.std.proofs.Common.{◌≡◌, ◌*◌, ℕ, true, sym, ap, ◌∙◌, arith, cond}
-use Rattle.gs_model.specs.Deals.{path_weight, own_ways, same_public}
-use Rattle.gs_model.specs.Game.{Game, round_count}
-use Rattle.gs_model.specs.Signals.{signal_at, left_by}
-use Rattle.gs_tree.specs.Trees.{rules_of}
-use Rattle.gs_tree.specs.Walk.{deal_at}
-use Rattle.gs_tree.proofs.Weighed.{pair_weight_is}
-use Rattle.gs_tree.proofs.Weights.{deal_small}
+use Rattle.gs_model.specs.{Deals.{path_weight, own_ways, same_public}, Game.{Game, round_count}, Signals.{signal_at, left_by}}
+use Rattle.gs_tree.specs.{Trees.{rules_of}, Walk.{deal_at}}
+use Rattle.gs_tree.proofs.{Weighed.{pair_weight_is}, Weights.{deal_small}}
 use Rattle.gs_tree.proofs.signals.Signals.weight.Goals as goal
 
 pub overflow_mul-result : goal.overflow_mul-result

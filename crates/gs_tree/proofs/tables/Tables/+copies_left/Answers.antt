@@ -1,14 +1,9 @@
 use Rattle.std.proofs.Common.{◌≡◌, ℕ, List, length, get_or, ap, ◌∙◌, subst, arith}
-use Rattle.std.specs.Prelude.{IfOk}
-use Rattle.std.specs.Global.{Vec}
+use Rattle.std.specs.{Prelude.{IfOk}, Global.{Vec}}
 use Rattle.gs_game.specs.Games.{game_of}
-use Rattle.gs_model.specs.Cards.{left_after}
-use Rattle.gs_model.specs.Game.{Game}
-use Rattle.gs_model.specs.Signals.{parents, signal_at, left_by}
+use Rattle.gs_model.specs.{Cards.{left_after}, Game.{Game}, Signals.{parents, signal_at, left_by}}
 use Rattle.gs_model.proofs.Ranges.{length-parents}
-use Rattle.gs_tree.specs.Layers.{last_seen}
-use Rattle.gs_tree.specs.Shown.{seen_of, cards_of}
-use Rattle.gs_tree.specs.declared.layer.Layer.{Layer}
+use Rattle.gs_tree.specs.{Layers.{last_seen}, Shown.{seen_of, cards_of}, declared.layer.Layer.{Layer}}
 use Rattle.gs_tree.proofs.Lookups.{layer_of, parents_of, is_child, left_step, parent_read}
 use Rattle.gs_tree.proofs.tables.Tables.+copies_left.Goals as goal
 use Rattle.gs_tree.proofs.tables.Tables.+copies_left.Goals.{After-index-2}

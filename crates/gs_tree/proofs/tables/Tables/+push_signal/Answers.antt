@@ -2,12 +2,9 @@ use Rattle.std.proofs.Common.{◌≡◌, ◌++◌, ◌∷◌, [], ◌-◌, ℕ, 
 use Rattle.std.specs.Prelude.{OnOk, string_bytes}
 use Rattle.gs_card.specs.Decks.{DeckValue, kinds}
 use Rattle.gs_game.specs.Games.{game_of}
-use Rattle.gs_model.specs.Game.{Game}
-use Rattle.gs_model.specs.Signals.{signal_at}
-use Rattle.gs_tree.specs.Shown.{seen_of}
-use Rattle.gs_tree.specs.Texts.{signal_text, seen_text}
-use Rattle.gs_tree.proofs.Lookups.{IsParent, IsSeen, parent_is, row_within, seen_read, shown_first, shown_long}
-use Rattle.gs_tree.proofs.Rests.{text_behind, text_grown}
+use Rattle.gs_model.specs.{Game.{Game}, Signals.{signal_at}}
+use Rattle.gs_tree.specs.{Shown.{seen_of}, Texts.{signal_text, seen_text}}
+use Rattle.gs_tree.proofs.{Lookups.{IsParent, IsSeen, parent_is, row_within, seen_read, shown_first, shown_long}, Rests.{text_behind, text_grown}}
 use Rattle.gs_tree.proofs.tables.Tables.+push_signal.Goals as goal
 use Rattle.gs_tree.proofs.tables.Tables.+push_signal.Goals.{After-index-parent, After-index-shown}
 

@@ -1,9 +1,7 @@
 use Rattle.std.proofs.Common.{◌≡◌, suc, length, map, take}
-use Rattle.std.specs.Prelude.{flat_map}
-use Rattle.std.specs.List.{range_with_len}
+use Rattle.std.specs.{Prelude.{flat_map}, List.{range_with_len}}
 use Rattle.gs_game.specs.Games.{game_of}
-use Rattle.gs_model.specs.Game.{round_at}
-use Rattle.gs_model.specs.Signals.{signals, children, owners, showings, edge, left_by, first_child}
+use Rattle.gs_model.specs.{Game.{round_at}, Signals.{signals, children, owners, showings, edge, left_by, first_child}}
 use Rattle.gs_tree.specs.Tables.{shown_in}
 use Rattle.gs_tree.proofs.tables.Tables.grow.Given as goal
 

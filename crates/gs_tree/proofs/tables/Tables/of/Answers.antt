@@ -1,13 +1,9 @@
-use Rattle.std.proofs.Common.{◌≡◌, ◌+◌, ◌++◌, ◌∷◌, [], ℕ, suc, List, length, length-append, get_or, sym, ap, ◌∙◌, subst, arith}
-use Rattle.std.proofs.lemmas.List.{length-map}
+use Rattle.std.proofs.{Common.{◌≡◌, ◌+◌, ◌++◌, ◌∷◌, [], ℕ, suc, List, length, length-append, get_or, sym, ap, ◌∙◌, subst, arith}, lemmas.List.{length-map}}
 use Rattle.std.specs.Global.{Vec}
-use Rattle.gs_game.specs.Games.{game_of, round_of}
-use Rattle.gs_game.specs.declared.game.Round.{Round}
-use Rattle.gs_model.specs.Game.{Game}
-use Rattle.gs_model.specs.Signals.{signals, parents}
+use Rattle.gs_game.specs.{Games.{game_of, round_of}, declared.game.Round.{Round}}
+use Rattle.gs_model.specs.{Game.{Game}, Signals.{signals, parents}}
 use Rattle.gs_model.proofs.Ranges.{length-parents}
-use Rattle.gs_tree.specs.Tables.{AreTables, IsLayer}
-use Rattle.gs_tree.specs.declared.layer.Layer.{Layer}
+use Rattle.gs_tree.specs.{Tables.{AreTables, IsLayer}, declared.layer.Layer.{Layer}}
 use Rattle.gs_tree.proofs.Lookups.{tables_push, small_round}
 use Rattle.gs_tree.proofs.tables.Tables.of.Goals as goal
 
